@@ -1,0 +1,15 @@
+-- Counts of faults, and what an answer says of them. A count is kept in 64 bits, and stands still at the greatest.
+use Rattle.std.specs.Prelude.{ℕ, ◌+◌, ◌-◌, ◌^◌, ◌≤◌, min, Result, OnErr}
+
+-- the count after one fault more
+abbrev pub risen : ℕ → ℕ
+risen count = min (count + 1) (2 ^ 64 - 1)
+
+-- the count rose in between, or stands at its greatest value
+abbrev pub Rose : ℕ → ℕ → Type 0
+Rose before now = risen before ≤ now
+
+-- a call whose only error is a fault: the count never falls, and an error is answered only where it rose
+pub record HasCause {T E : Type 0} (before now : ℕ) (result : Result T E) : Type 0 where
+  pub later : before ≤ now
+  pub failed : OnErr result (Rose before now)

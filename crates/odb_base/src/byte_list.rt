@@ -1,0 +1,112 @@
+ghost use Rattle.std.specs.Prelude.{◌≡◌, ◌==◌, ◌↔◌, List, ℕ, [], ◌∷◌, ◌++◌, length, IfOk, OnOk, OnErr, IsTrue, nat_eq};
+ghost use Rattle.std.specs.Cmp.Lexicographic.{nat_list_eq_equiv};
+ghost use Rattle.std.specs.Cmp.{partial_equiv_from_equiv};
+ghost use lib.Pointwise.{pointwise};
+
+use crate::NoMemory;
+use std::alloc::Global;
+use std::marker::Model;
+
+/// A list of bytes, as the contents of a file.
+///
+/// It wraps a `Vec<u8>` and is seen as the list of its bytes: two lists with the same bytes are equal.
+#[derive(Debug, Drop)]
+pub struct ByteList {
+    bytes: Vec<u8>,
+}
+
+impl Model for ByteList {
+    ghost Value = { List ℕ };
+
+    ghost view = { λ list. list.bytes.items };
+}
+
+impl ByteList {
+    /// An empty list, which takes no memory.
+    pub fn new(alloc: Global) -> ByteList
+        ensures { result ≡ [] }
+    {
+        ByteList {
+            bytes: Vec::new(alloc),
+        }
+    }
+
+    /// The bytes of a vector, which becomes the list.
+    pub fn from_vec(bytes: Vec<u8>) -> ByteList
+        ensures { result ≡ bytes.items }
+    {
+        ByteList { bytes }
+    }
+
+    /// A copy of the bytes of a slice.
+    pub fn from_slice(alloc: Global, bytes: &[u8]) -> Result<ByteList, NoMemory>
+        ensures { IfOk result (λ list. list ≡ bytes.now) }
+    {
+        let bytes = bytes.to_vec(alloc)?;
+        Ok(ByteList { bytes })
+    }
+
+    /// The vector of the bytes.
+    pub fn into_vec(self) -> Vec<u8>
+        ensures { result.items ≡ self }
+    {
+        self.bytes
+    }
+
+    pub fn as_slice(&self) -> &[u8]
+        ensures { result.now ≡ self.now }
+    {
+        &self.bytes
+    }
+
+    pub fn len(&self) -> usize
+        ensures { result ≡ length self.now }
+    {
+        self.bytes.len()
+    }
+
+    pub fn is_empty(&self) -> bool
+        ensures { IsTrue result ↔ (self.now ≡ []) }
+    {
+        self.bytes.is_empty()
+    }
+
+    /// Adds a byte at the end. A refused push changes nothing.
+    pub fn push(&mut self, byte: u8) -> Result<(), NoMemory>
+        ensures ok { OnOk result (self.new ≡ self.old ++ byte ∷ []) }
+        ensures err { OnErr result (self.new ≡ self.old) }
+    {
+        self.bytes.push(byte)?;
+        Ok(())
+    }
+
+    /// Adds bytes at the end. A refused call changes nothing.
+    pub fn extend_from_slice(&mut self, bytes: &[u8]) -> Result<(), NoMemory>
+        ensures ok { OnOk result (self.new ≡ self.old ++ bytes.now) }
+        ensures err { OnErr result (self.new ≡ self.old) }
+    {
+        self.bytes.extend_from_slice(bytes)?;
+        Ok(())
+    }
+
+    /// A copy of the list.
+    pub fn try_clone(&self, alloc: Global) -> Result<ByteList, NoMemory>
+        ensures { IfOk result (λ list. list ≡ self.now) }
+    {
+        ByteList::from_slice(alloc, &self.bytes)
+    }
+}
+
+impl PartialEq for ByteList {
+    ghost eq = { pointwise nat_eq };
+
+    fn eq(&self, other: &ByteList) -> bool {
+        self.bytes.as_slice() == other.bytes.as_slice()
+    }
+
+    ghost laws = { partial_equiv_from_equiv nat_list_eq_equiv };
+}
+
+impl Eq for ByteList {
+    ghost laws = { nat_list_eq_equiv };
+}

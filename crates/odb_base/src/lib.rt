@@ -1,0 +1,16 @@
+//! What every crate of the object database stands on: the error for want of memory, lists of bytes,
+//! and the words that tie an answer to a count of faults.
+//!
+//! A call that takes memory is passed the allocator, and answers `NoMemory` where there is none left.
+//! A list of bytes is seen by a contract as that list, whatever room it has.
+//! ```rust
+//! let mut bytes = ByteList::from_slice(alloc, b"blob 0\0")?;
+//! bytes.extend_from_slice(b"more")?;
+//! ```
+#![tactic(auto)]
+
+mod byte_list;
+mod no_memory;
+
+pub use byte_list::ByteList;
+pub use no_memory::NoMemory;
