@@ -11,6 +11,8 @@
 
 mod byte_list;
 mod no_memory;
+mod sequence;
 
 pub use byte_list::ByteList;
 pub use no_memory::NoMemory;
+pub use sequence::Sequence;
