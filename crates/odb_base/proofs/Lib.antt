@@ -1,0 +1,2 @@
+pub mod DecimalLemmas
+mod ParseLemmas

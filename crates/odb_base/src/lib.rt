@@ -1,5 +1,5 @@
-//! What every crate of the object database stands on: the error for want of memory, lists of bytes,
-//! and the words that tie an answer to a count of faults.
+//! What every crate of the object database stands on: the error for want of memory, lists of bytes and of
+//! other items, numbers as texts, and the words that tie an answer to a count of faults.
 //!
 //! A call that takes memory is passed the allocator, and answers `NoMemory` where there is none left.
 //! A list of bytes is seen by a contract as that list, whatever room it has.
@@ -10,9 +10,13 @@
 #![tactic(auto)]
 
 mod byte_list;
+mod decimal;
 mod no_memory;
 mod sequence;
+#[cfg(test)]
+mod tests;
 
 pub use byte_list::ByteList;
+pub use decimal::{parse_decimal, parse_decimal_below};
 pub use no_memory::NoMemory;
 pub use sequence::Sequence;
