@@ -1,0 +1,2 @@
+pub mod ObjectIdLemmas
+mod CallLemmas

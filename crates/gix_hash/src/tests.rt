@@ -1,0 +1,137 @@
+ghost use Rattle.std.specs.Prelude.{◌≡◌};
+ghost use Rattle.gix_hash.specs.ObjectId.{id_cmp};
+
+use crate::{HexError, Kind, ObjectId};
+use std::cmp::Ordering;
+use std::test::Fail;
+
+// Git's ids of the empty blob.
+const SHA1: &[u8; 40] = b"e69de29bb2d1d6434b8b29ae775ad8c2e48c5391";
+
+const SHA256: &[u8; 64] = b"473a0f4c3be8a93681a267e3b1e9a7dcda1185436fe141f7749120a303721813";
+
+// A reader that swaps the digits of a byte, or starts at the wrong end.
+#[test]
+fn reads_and_writes_ids_of_git(rt: HostRuntime) -> Result<(), Fail> {
+    let rows: [(&str, &[u8], Kind, u8, u8); 2] = [
+        ("SHA-1", SHA1, Kind::Sha1, 0xe6, 0x91),
+        ("SHA-256", SHA256, Kind::Sha256, 0x47, 0x13),
+    ];
+    for (name, text, kind, first, last) in rows {
+        let id = ObjectId::from_hex(text).expect(&rt, name);
+        assert_eq!(rt; id.kind(), kind, "{name}: kind");
+        let bytes = id.as_bytes();
+        assert_eq!(rt; bytes.len(), kind.len_in_bytes(), "{name}: length");
+        assert_eq!(rt; bytes.first(), Some(&first), "{name}: first byte");
+        assert_eq!(rt; bytes.last(), Some(&last), "{name}: last byte");
+        assert!(rt; id.to_hex(rt.alloc())?.as_bytes() == text, "{name}: text");
+        assert!(rt;
+            format!(in rt.alloc(); "{id}")?.as_bytes() == text,
+            "{name}: printed"
+        );
+    }
+    Ok(())
+}
+
+// A length that is tested after the digits, or a digit that is not tested at an end.
+#[test]
+fn refuses_other_texts(rt: HostRuntime) {
+    let rows: [(&str, &[u8], HexError); 11] = [
+        ("no digits", b"", HexError::Length),
+        ("39 digits", &SHA1[..39], HexError::Length),
+        ("41 digits", &SHA256[..41], HexError::Length),
+        ("63 digits", &SHA256[..63], HexError::Length),
+        (
+            "65 bytes",
+            b"473a0f4c3be8a93681a267e3b1e9a7dcda1185436fe141f7749120a303721813\n",
+            HexError::Length,
+        ),
+        (
+            "39 bytes, one bad",
+            b"g69de29bb2d1d6434b8b29ae775ad8c2e48c539",
+            HexError::Length,
+        ),
+        (
+            "upper case",
+            b"E69DE29BB2D1D6434B8B29AE775AD8C2E48C5391",
+            HexError::Invalid,
+        ),
+        (
+            "one digit in upper case",
+            b"e69de29bb2d1d6434b8b29ae775ad8C2e48c5391",
+            HexError::Invalid,
+        ),
+        (
+            "bad first digit",
+            b"g69de29bb2d1d6434b8b29ae775ad8c2e48c5391",
+            HexError::Invalid,
+        ),
+        (
+            "bad last digit",
+            b"e69de29bb2d1d6434b8b29ae775ad8c2e48c539:",
+            HexError::Invalid,
+        ),
+        (
+            "bad last digit of 64",
+            b"473a0f4c3be8a93681a267e3b1e9a7dcda1185436fe141f7749120a30372181/",
+            HexError::Invalid,
+        ),
+    ];
+    for (name, text, error) in rows {
+        assert_eq!(rt; ObjectId::from_hex(text), Err(error), "{name}");
+    }
+}
+
+// The order that the derive makes: of the kinds, and then of the bytes.
+fn order(a: &ObjectId, b: &ObjectId) -> Ordering
+    ensures { result ≡ id_cmp a.now b.now }
+{
+    a.cmp(b)
+}
+
+// Variants in the other order, or bytes that are compared from the end.
+#[test]
+fn orders_by_kind_and_then_bytes(rt: HostRuntime) {
+    let low = ObjectId::Sha1([1; 20]);
+    let mut later = [1; 20];
+    later[19] = 2;
+    let mut first = [1; 20];
+    first[0] = 2;
+    first[19] = 0;
+    let rows = [
+        ("same", low, low, Ordering::Equal),
+        ("last byte", low, ObjectId::Sha1(later), Ordering::Less),
+        (
+            "first byte before last",
+            ObjectId::Sha1(first),
+            ObjectId::Sha1(later),
+            Ordering::Greater,
+        ),
+        (
+            "kind before bytes",
+            ObjectId::null(Kind::Sha256),
+            low,
+            Ordering::Greater,
+        ),
+    ];
+    for (name, a, b, want) in rows {
+        assert_eq!(rt; order(&a, &b), want, "{name}");
+    }
+}
+
+#[test]
+fn prints_kinds(rt: HostRuntime) -> Result<(), Fail> {
+    for (kind, name, digits) in [(Kind::Sha1, "sha1", 40), (Kind::Sha256, "sha256", 64)] {
+        assert!(rt;
+            format!(in rt.alloc(); "{kind}")?.as_str() == name,
+            "{name}: printed"
+        );
+        assert_eq!(rt; kind.len_in_hex(), digits, "{name}: digits");
+        let null = ObjectId::null(kind);
+        assert!(rt;
+            null.as_bytes().iter().all(|byte| *byte == 0),
+            "{name}: null"
+        );
+    }
+    Ok(())
+}
