@@ -1,0 +1,11 @@
+pub mod PathLemmas
+pub mod TreeLemmas
+pub mod MemDiskLemmas
+mod TreeNumbersLemmas
+mod TreeCallsLemmas
+mod NamesLemmas
+mod AskLemmas
+mod NodeMapLemmas
+mod CallsLemmas
+pub mod SourceLemmas
+mod FollowExamples

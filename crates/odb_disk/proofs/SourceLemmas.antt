@@ -1,0 +1,31 @@
+-- What a loop that reads a source to its end has read so far.
+use Rattle.std.proofs.Common.{◌≡◌, ℕ, ◌<◌, List, [], ◌++◌, length, take, drop, append-nil, append_assoc, Option, Some, None, Ok, refl, sym, ap, ◌∙◌, take-append-drop}
+use Rattle.std.specs.Prelude.{IfSome}
+use Rattle.odb_disk.specs.Source.{Reads, Takes}
+
+-- What was read is `bytes` less `before`, where the source tells that. It had `first` left, and has `now`.
+abbrev pub HasRead : Option (List ℕ) → Option (List ℕ) → List ℕ → List ℕ → Type 0
+HasRead None now before bytes = Unit {0}
+HasRead (Some left) None before bytes = ⊥
+HasRead (Some left) (Some rest) before bytes = bytes ++ rest ≡ before ++ left
+
+pub HasRead-none : (left : Option (List ℕ)) (before : List ℕ) → HasRead left left before before
+HasRead-none None before = tt
+HasRead-none (Some left) before = refl
+
+-- one read more, whose bytes are added
+pub HasRead-more : (first now next : Option (List ℕ)) (before bytes after buffer : List ℕ) (n : ℕ) → HasRead first now before bytes → Reads now next buffer (Ok n) → after ≡ bytes ++ take n buffer → HasRead first next before after
+HasRead-more None now next before bytes after buffer n h r e = tt
+HasRead-more (Some left) None next before bytes after buffer n h r e = absurd h
+HasRead-more (Some left) (Some rest) None before bytes after buffer n h r e = absurd r
+HasRead-more (Some left) (Some rest) (Some last) before bytes after buffer n h r e =
+    let whole : take n buffer ++ last ≡ rest = rw (r.front, r.rest_is) (take-append-drop n rest) in
+    ap (λ b. b ++ last) e ∙ append_assoc bytes (take n buffer) last ∙ ap (λ b. bytes ++ b) whole ∙ h
+
+-- a read of nothing into a buffer that has room
+pub HasRead-all : (first now next : Option (List ℕ)) (before bytes buffer : List ℕ) → HasRead first now before bytes → Reads now next buffer (Ok 0) → 0 < length buffer → IfSome first (λ left. bytes ≡ before ++ left)
+HasRead-all None now next before bytes buffer h r l = tt
+HasRead-all (Some left) None next before bytes buffer h r l = absurd h
+HasRead-all (Some left) (Some rest) None before bytes buffer h r l = absurd r
+HasRead-all (Some left) (Some rest) (Some last) before bytes buffer h r l =
+    let none : rest ≡ [] = r.at_end refl l in sym (append-nil bytes) ∙ ap (λ b. bytes ++ b) (sym none) ∙ h

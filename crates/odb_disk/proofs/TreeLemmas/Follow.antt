@@ -1,0 +1,149 @@
+-- Laws of following a path: one pass along its names, and where the links lead.
+use Rattle.std.proofs.Common.{◌≡◌, ℕ, suc, ◌+◌, ◌-◌, ◌<◌, ◌≤◌, take, Bool, true, false, List, [], ◌∷◌, ◌++◌, length, get_or, drop, Option, Some, None, Result, Ok, Err, zero, ◌≢◌, refl, sym, ap, ◌∙◌, append_assoc, append-nil, arith}
+use Rattle.std.specs.List.{list_all}
+use Rattle.std.proofs.lemmas.Bool.{and_parts}
+use Rattle.std.proofs.Math.Seq.{take-length}
+use Rattle.odb_disk.specs.Path.{Name, Path, is_name}
+use Rattle.odb_disk.specs.Tree.{Tree, IsTree, node_at, is_directory, is_directory_content}
+use Rattle.odb_disk.specs.Tree.Follow.{Pass, Reached, Onward, Missing, Blocked, pass, past, beyond, at_last, ending, Place, Refusal, Absent, WrongKind, LinkLoop, arrives, followed_within}
+use Rattle.odb_disk.specs.declared.node.Node.{Node}
+use Rattle.odb_disk.specs.declared.node.Content.{Content}
+use Rattle.odb_disk.specs.declared.node.Content.TheVariants.{File, Dir, Link}
+
+-- ---- a step of a pass, with names still to come
+
+module _ (t : Tree) (follow : Bool) (way : Path) where
+  pub pass_missing : (names : Path) → 0 < length names → node_at t way ≡ None → pass t follow way names ≡ Missing
+  unfolding pass
+  pass_missing [] some none = absurd (omega arith)
+  pass_missing (name ∷ names) some none = ap (λ o. beyond o (name ∷ names) (pass t follow (way ++ name ∷ []) names)) none
+
+  pub pass_blocked : (names : Path) (n : Node) (bytes : List ℕ) (time : ℕ) → 0 < length names → node_at t way ≡ Some n → n.content ≡ File bytes time → pass t follow way names ≡ Blocked
+  unfolding pass
+  pass_blocked [] n bytes time some at is = absurd (omega arith)
+  pass_blocked (name ∷ names) n bytes time some at is =
+      ap (λ o. beyond o (name ∷ names) (pass t follow (way ++ name ∷ []) names)) at ∙ ap (λ c. past c (name ∷ names) (pass t follow (way ++ name ∷ []) names)) is
+
+  pub pass_led : (names : Path) (n : Node) (target : Path) → 0 < length names → node_at t way ≡ Some n → n.content ≡ Link target → pass t follow way names ≡ Onward (target ++ names)
+  unfolding pass
+  pass_led [] n target some at is = absurd (omega arith)
+  pass_led (name ∷ names) n target some at is =
+      ap (λ o. beyond o (name ∷ names) (pass t follow (way ++ name ∷ []) names)) at ∙ ap (λ c. past c (name ∷ names) (pass t follow (way ++ name ∷ []) names)) is
+
+  pub pass_further : (names : Path) (n : Node) (d : Name) → 0 < length names → node_at t way ≡ Some n → n.content ≡ Dir → pass t follow way names ≡ pass t follow (way ++ get_or names 0 d ∷ []) (drop 1 names)
+  unfolding pass
+  pass_further [] n d some at is = absurd (omega arith)
+  pass_further (name ∷ names) n d some at is =
+      ap (λ o. beyond o (name ∷ names) (pass t follow (way ++ name ∷ []) names)) at ∙ ap (λ c. past c (name ∷ names) (pass t follow (way ++ name ∷ []) names)) is
+
+  pub pass_ends : pass t follow way [] ≡ ending follow way (node_at t way)
+  unfolding pass
+  pass_ends = refl
+
+-- ---- where a node stands, its way is directories
+
+is_Dir : (c : Content) → is_directory_content c ≡ true → c ≡ Dir
+is_Dir (File bytes time) e = cc
+is_Dir Dir e = refl
+is_Dir (Link target) e = cc
+
+-- a directory
+pub record IsDir (t : Tree) (path : Path) : Type 0 where
+  pub node : Node
+  pub at : node_at t path ≡ Some node
+  pub content : node.content ≡ Dir
+
+pub IsDir-from : (t : Tree) (path : Path) → is_directory (node_at t path) ≡ true → IsDir t path
+IsDir-from t path e =
+    elim (node_at t path) as (λ o. node_at t path ≡ o → is_directory o ≡ true → IsDir t path) [
+      | None ↦ λ _ no. cc
+      | Some n ↦ λ at yes. record { node = n; at = at; content = is_Dir n.content yes }
+    ] refl e
+
+module _ (t : Tree) (is_tree : IsTree t) where
+  -- each directory on the way of a node
+  pub way_is_directory : (way : Path) (name : Name) (names : Path) (n : Node) → node_at t (way ++ name ∷ names) ≡ Some n → is_directory (node_at t way) ≡ true
+  way_is_directory way name [] n at = is_tree.ways way name n at
+  way_is_directory way name (next ∷ names) n at =
+      let regroup : (way ++ name ∷ []) ++ next ∷ names ≡ way ++ name ∷ next ∷ names = append_assoc way (name ∷ []) (next ∷ names) in
+      let below = way_is_directory (way ++ name ∷ []) next names n (ap (node_at t) regroup ∙ at) in
+      let d = IsDir-from t (way ++ name ∷ []) below in
+      is_tree.ways way name d.node d.at
+
+  -- a pass along the names of a node comes to the node
+  pub pass_to : (follow : Bool) (way names : Path) (n : Node) → node_at t (way ++ names) ≡ Some n → pass t follow way names ≡ ending follow (way ++ names) (Some n)
+  pass_to follow way [] n at =
+      let whole : way ++ [] ≡ way = append-nil way in
+      pass_ends t follow way ∙ ap (ending follow way) (ap (node_at t) (sym whole) ∙ at) ∙ ap (λ w. ending follow w (Some n)) (sym whole)
+  pass_to follow way (name ∷ names) n at =
+      let d = IsDir-from t way (way_is_directory way name names n at) in
+      let regroup : (way ++ name ∷ []) ++ names ≡ way ++ name ∷ names = append_assoc way (name ∷ []) names in
+      pass_further t follow way (name ∷ names) d.node [] (omega arith) d.at d.content
+      ∙ pass_to follow (way ++ name ∷ []) names n (ap (node_at t) regroup ∙ at)
+      ∙ ap (λ w. ending follow w (Some n)) regroup
+
+-- ---- the names that are left after a step
+
+pub rest_after : (rest : Path) → take (length rest - 1) (drop 1 rest) ≡ drop 1 rest
+rest_after [] = refl
+rest_after (name ∷ names) = let e : length (name ∷ names) - 1 ≡ length names = omega arith in ap (λ n. take n names) e ∙ take-length names
+
+pub names_after : (rest : Path) → list_all is_name rest ≡ true → list_all is_name (drop 1 rest) ≡ true
+names_after [] all = refl
+names_after (name ∷ names) all = (and_parts _ _ all).1
+
+pub whole_after : (way rest : Path) (name : Name) → 0 < length rest → name ≡ get_or rest 0 name → (way ++ name ∷ []) ++ drop 1 rest ≡ way ++ rest
+whole_after way [] name some is = absurd (omega arith)
+whole_after way (first ∷ rest) name some is = append_assoc way (name ∷ []) rest ∙ ap (λ n. way ++ n ∷ rest) is
+
+-- at the end of a path that has no node
+pub absent_at_end : (t : Tree) (follow : Bool) (way rest path : Path) → length rest < 1 → way ++ rest ≡ path → node_at t path ≡ None → pass t follow way rest ≡ Missing
+absent_at_end t follow way [] path none whole at = pass_ends t follow way ∙ ap (ending follow way) (ap (node_at t) (sym (append-nil way) ∙ whole) ∙ at)
+absent_at_end t follow way (name ∷ names) path none whole at = absurd (omega arith)
+
+pub step_ahead : (t : Tree) (follow : Bool) (way rest : Path) (name : Name) (n : Node) → 0 < length rest → name ≡ get_or rest 0 name → node_at t way ≡ Some n → n.content ≡ Dir → pass t follow (way ++ name ∷ []) (drop 1 rest) ≡ pass t follow way rest
+step_ahead t follow way rest name n some is at dir = ap (λ x. pass t follow (way ++ x ∷ []) (drop 1 rest)) is ∙ sym (pass_further t follow way rest n name some at dir)
+
+-- ---- a pass to a node of a tree, from the root on
+
+module _ (t : Tree) (is_tree : IsTree t) (path : Path) (n : Node) (at : node_at t path ≡ Some n) where
+  pub pass_to_link : (follow : Bool) (target : Path) → follow ≡ true → n.content ≡ Link target → pass t follow [] path ≡ Onward target
+  pass_to_link follow target followed is = pass_to t is_tree follow [] path n at ∙ ap (λ f. at_last f path n n.content) followed ∙ ap (at_last true path n) is
+
+  pub pass_to_unfollowed : (follow : Bool) → follow ≡ false → pass t follow [] path ≡ Reached path n
+  pass_to_unfollowed follow kept = pass_to t is_tree follow [] path n at ∙ ap (λ f. at_last f path n n.content) kept
+
+  stays : (follow : Bool) (content : Content) → ((target : Path) → content ≢ Link target) → at_last follow path n content ≡ Reached path n
+  stays true (File bytes time) other = refl
+  stays true Dir other = refl
+  stays true (Link target) other = absurd (other target refl)
+  stays false content other = refl
+
+  pub pass_to_other : (follow : Bool) → ((target : Path) → n.content ≢ Link target) → pass t follow [] path ≡ Reached path n
+  pass_to_other follow other = pass_to t is_tree follow [] path n at ∙ stays follow n.content other
+
+-- ---- where a path leads, by its first pass
+
+module _ (t : Tree) (follow : Bool) (path : Path) where
+  -- what a pass says by itself, with any number of links left
+  arrives_alike : (links : ℕ) (p : Pass) (told : Result Place Refusal) → ((further : Path → Result Place Refusal) → arrives further p ≡ told) → pass t follow [] path ≡ p → followed_within links t follow path ≡ told
+  unfolding followed_within
+  arrives_alike zero p told alike is = ap (arrives (λ _. Err LinkLoop)) is ∙ alike (λ _. Err LinkLoop)
+  arrives_alike (suc links) p told alike is = ap (arrives (followed_within links t follow)) is ∙ alike (followed_within links t follow)
+
+  pub followed_reached : (links : ℕ) (at : Path) (n : Node) → pass t follow [] path ≡ Reached at n → followed_within links t follow path ≡ Ok (record { path = at; node = n })
+  followed_reached links at n is = arrives_alike links (Reached at n) _ (λ _. refl) is
+
+  pub followed_missing : (links : ℕ) → pass t follow [] path ≡ Missing → followed_within links t follow path ≡ Err Absent
+  followed_missing links is = arrives_alike links Missing _ (λ _. refl) is
+
+  pub followed_blocked : (links : ℕ) → pass t follow [] path ≡ Blocked → followed_within links t follow path ≡ Err WrongKind
+  followed_blocked links is = arrives_alike links Blocked _ (λ _. refl) is
+
+  pub followed_loop : (onward : Path) → pass t follow [] path ≡ Onward onward → followed_within 0 t follow path ≡ Err LinkLoop
+  unfolding followed_within
+  followed_loop onward is = ap (arrives (λ _. Err LinkLoop)) is
+
+  pub followed_onward : (links less : ℕ) (onward : Path) → links ≡ suc less → pass t follow [] path ≡ Onward onward → followed_within links t follow path ≡ followed_within less t follow onward
+  unfolding followed_within
+  followed_onward links less onward one is = ap (λ l. followed_within l t follow path) one ∙ ap (arrives (followed_within less t follow)) is

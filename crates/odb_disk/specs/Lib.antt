@@ -1,0 +1,13 @@
+pub use Rattle.odb_base.specs.Faults
+pub mod Path
+pub mod Node
+pub mod Tree
+pub mod Disk
+pub mod MemDisk
+pub mod Ask
+pub mod Source
+pub mod MemStream
+pub mod Calls
+pub mod HostDisk
+pub mod TreeNumbers
+pub mod TreeCalls

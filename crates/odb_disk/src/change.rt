@@ -1,0 +1,84 @@
+ghost use Rattle.std.specs.Prelude.{◌≡◌};
+ghost use Rattle.odb_disk.specs.declared.change.Impossible.TheVariants.{NoMemory as out_of_memory};
+
+use crate::{ByteList, NoMemory, PathText};
+use std::alloc::{AllocError, AllocFailed, Global};
+use thiserror::Error;
+
+/// A change that another program makes to a disk.
+#[derive(Debug, Drop)]
+pub enum Change {
+    /// Puts a file where none is, or new bytes and a new time into the one that is there.
+    PutFile {
+        path: PathText,
+        time: u64,
+        bytes: ByteList,
+    },
+    /// Makes a directory, on a device of its own.
+    MakeDir {
+        path: PathText,
+        dev: u64,
+    },
+    /// Removes a file, a link or an empty directory.
+    Remove {
+        path: PathText,
+    },
+}
+
+impl Change {
+    ghost use Rattle.std.specs.Prelude.{◌≡◌, IfOk};
+
+    /// A copy of the change.
+    pub fn try_clone(&self, alloc: Global) -> Result<Change, NoMemory>
+        ensures { IfOk result (λ copy. copy ≡ self.now) }
+    {
+        match self {
+            Change::PutFile { path, time, bytes } => Ok(Change::PutFile {
+                path: path.try_clone(alloc)?,
+                time: *time,
+                bytes: bytes.try_clone(alloc)?,
+            }),
+            Change::MakeDir { path, dev } => Ok(Change::MakeDir {
+                path: path.try_clone(alloc)?,
+                dev: *dev,
+            }),
+            Change::Remove { path } => Ok(Change::Remove {
+                path: path.try_clone(alloc)?,
+            }),
+        }
+    }
+}
+
+/// Why a change wasn't made. Nothing has changed then.
+#[derive(Clone, Copy, Debug, PartialEq, Eq, Error)]
+pub enum Impossible {
+    /// The tree has no place for the change: its path doesn't lie in a directory, or what stands there forbids it.
+    #[error("impossible change")]
+    Impossible,
+    #[error("out of memory")]
+    NoMemory,
+}
+
+impl From<NoMemory> for Impossible {
+    ghost from_gives = { λ _ e. e ≡ out_of_memory };
+
+    fn from(_: NoMemory) -> Self {
+        Impossible::NoMemory
+    }
+}
+
+impl From<AllocError> for Impossible {
+    ghost from_gives = { λ _ e. e ≡ out_of_memory };
+
+    fn from(_: AllocError) -> Self {
+        Impossible::NoMemory
+    }
+}
+
+impl<T: Drop> From<AllocFailed<T>> for Impossible {
+    ghost from_gives = { λ _ e. e ≡ out_of_memory };
+
+    fn from(_: AllocFailed<T>) -> Self {
+        Impossible::NoMemory
+    }
+}

@@ -1,0 +1,36 @@
+//! Paths, the tree of a disk, the trait of a disk, a disk in memory and a real one, sources and sinks.
+//!
+//! Each call of a disk answers by its tree, where the disk tells it, and fails only where the disk's count
+//! of faults rose. Read `disk` first, then `mem_disk`; `specs/Tree.antt` says what a tree is.
+//! ```rust
+//! let mut disk = MemDisk::new(alloc)?;
+//! let path = PathText::parse(alloc, "/o")?;
+//! disk.change(alloc, &Change::MakeDir { path, dev: 0 })?;
+//! ```
+#![tactic(auto)]
+
+mod ask;
+mod calls;
+mod change;
+mod disk;
+mod host_disk;
+mod mem_disk;
+mod node;
+mod node_map;
+mod path;
+mod source;
+mod std_stream;
+#[cfg(test)]
+mod tests;
+mod tree;
+
+pub use ask::{DiskAnswer, DiskAsk, Op};
+pub use change::{Change, Impossible};
+pub use disk::{Disk, DiskError, Kind, Meta};
+pub use host_disk::HostDisk;
+pub use mem_disk::MemDisk;
+pub use odb_base::{ByteList, NoMemory};
+pub use path::{BadPath, PathName, PathText};
+pub use source::{Failed, MemSink, MemSource, Sink, Source};
+pub use std_stream::{StdSink, StdSource};
+pub use tree::Tree;

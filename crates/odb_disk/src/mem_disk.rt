@@ -1,0 +1,181 @@
+ghost use Rattle.std.specs.Prelude.{◌≡◌, IfOk};
+ghost use Rattle.std.specs.Ordering.{nat_cmp};
+ghost use Rattle.std.specs.FinSet as set;
+
+use crate::change::{Change, Impossible};
+use crate::disk::{Disk, DiskError, Meta};
+use crate::node_map::copied_numbers;
+use crate::tree::Tree;
+use crate::{ByteList, NoMemory, PathText};
+use std::alloc::Global;
+use std::collections::BTreeSet;
+use std::marker::Model;
+
+/// A disk in memory.
+///
+/// It numbers its calls from 1. A call whose number is listed fails and changes nothing.
+#[derive(Debug, Drop)]
+pub struct MemDisk {
+    tree: Tree,
+    calls: u64,
+    listed: BTreeSet<u64>,
+    faults: u64,
+}
+
+impl Model for MemDisk {
+    ghost use Rattle.odb_disk.specs.MemDisk.{Volume, coded_volume};
+
+    ghost Value = { Volume };
+
+    ghost coded = { coded_volume };
+
+    ghost use Rattle.std.specs.FinSet as set;
+    ghost use Rattle.odb_disk.specs.Tree.{IsTree, state_of};
+
+    ghost view = { λ d. record { state = state_of d.tree; calls = d.calls; listed = set.from_list d.listed.keys; faults = d.faults } };
+
+    ghost invariant = { λ d. IsTree d.tree };
+}
+
+impl MemDisk {
+    ghost use Rattle.std.specs.Prelude.{◌≡◌, ◌≤◌, true, false, IsTrue, IfOk, OnOk, OnErr, IsErrOf};
+    ghost use Rattle.odb_base.specs.Faults.{Rose};
+    ghost use Rattle.std.specs.FinSet as set;
+    ghost use Rattle.odb_disk.specs.Tree.{IsTree, tree_of};
+    ghost use Rattle.odb_disk.specs.Tree.Change.{is_possible};
+    ghost use Rattle.odb_disk.specs.MemDisk.{new_volume, after_outside_change, after_call, next_fails};
+
+    /// The root alone, device 0, inode number 1, and no call that is to fail.
+    pub fn new(alloc: Global) -> Result<MemDisk, NoMemory>
+        ensures { IfOk result (λ disk. disk ≡ new_volume set.empty) }
+    {
+        MemDisk::with_faults(alloc, &[])
+    }
+
+    /// A new disk whose calls with these numbers, counted from 1, fail.
+    pub fn with_faults(alloc: Global, calls: &[u64]) -> Result<MemDisk, NoMemory>
+        ensures { IfOk result (λ disk. disk ≡ new_volume (set.from_list calls.now)) }
+    {
+        Ok(MemDisk {
+            tree: Tree::bare(alloc)?,
+            calls: 0,
+            listed: numbers(alloc, calls)?,
+            faults: 0,
+        })
+    }
+
+    /// Makes a change that another program makes, which is no call of the disk. A refused one changes nothing.
+    pub fn change(&mut self, alloc: Global, change: &Change) -> Result<(), Impossible>
+        ensures made { OnOk result (self.new ≡ after_outside_change self.old change.now) }
+        ensures possible { OnOk result (is_possible self.old.state change.now ≡ true) }
+        ensures impossible { IsErrOf result Impossible.Impossible → is_possible self.old.state change.now ≡ false }
+        ensures kept { OnErr result (self.new ≡ self.old) }
+    {
+        self.tree.change(alloc, change)
+    }
+
+    /// Whether a change is possible now.
+    pub fn is_possible(&self, alloc: Global, change: &Change) -> Result<bool, NoMemory>
+        ensures { IfOk result (λ possible. possible ≡ is_possible self.now.state change.now) }
+    {
+        self.tree.is_possible(alloc, change)
+    }
+
+    /// The tree that the disk shows now.
+    pub fn tree(&self) -> &Tree
+        ensures shown { result.now ≡ tree_of self.now.state }
+        ensures is_tree { IsTree (tree_of self.now.state) }
+    {
+        &self.tree
+    }
+
+    /// The number of calls so far, which stands still at its greatest value.
+    pub fn calls(&self) -> u64
+        ensures { result ≡ self.now.calls }
+    {
+        self.calls
+    }
+
+    /// How many calls have failed so far.
+    pub fn faults(&self) -> u64
+        ensures { result ≡ self.now.faults }
+    {
+        self.faults
+    }
+
+    /// A copy of the disk: its tree, its counts and the calls that are to fail.
+    pub fn try_clone(&self, alloc: Global) -> Result<MemDisk, NoMemory>
+        ensures { IfOk result (λ disk. disk ≡ self.now) }
+    {
+        Ok(MemDisk {
+            tree: self.tree.try_clone(alloc)?,
+            calls: self.calls,
+            listed: copied_numbers(&self.listed)?,
+            faults: self.faults,
+        })
+    }
+
+    /// Counts a call, and answers whether it fails.
+    fn count(&mut self) -> bool
+        ensures counted { self.new ≡ after_call self.old }
+        ensures fails { result ≡ next_fails self.old }
+        ensures later { self.old.faults ≤ self.new.faults }
+        ensures rose { IsTrue result → Rose self.old.faults self.new.faults }
+    {
+        self.calls = self.calls.saturating_add(1);
+        let fails = self.listed.contains(&self.calls);
+        if fails {
+            self.faults = self.faults.saturating_add(1);
+        }
+        fails
+    }
+}
+
+impl Disk for MemDisk {
+    ghost use Rattle.std.specs.Prelude.{◌≡◌, ◌↔◌, true, Some, Err, IfSome};
+    ghost use Rattle.odb_disk.specs.Tree.{State, tree_of};
+    ghost use Rattle.odb_disk.specs.Tree.Follow.{looked, read_of};
+    ghost use Rattle.odb_disk.specs.Disk.{Answers, FailsOnlyByFault};
+    ghost use Rattle.odb_disk.specs.MemDisk.{after_call, next_fails};
+
+    ghost state = { λ disk. Some disk.state };
+
+    ghost faults = { λ disk. disk.faults };
+
+    fn look(&mut self, alloc: Global, path: &PathText, follow: bool) -> Result<Meta, DiskError>
+        ensures answer { Answers result (looked (tree_of self.old.state) path.now follow) }
+        ensures kept { Some self.new.state ≡ Some self.old.state }
+        ensures cause { FailsOnlyByFault self.old.faults self.new.faults result }
+        ensures counted { self.new ≡ after_call self.old }
+        ensures failed { (result ≡ Err DiskError.Failed) ↔ (next_fails self.old ≡ true) }
+    {
+        if self.count() {
+            return Err(DiskError::Failed);
+        }
+        self.tree.look(alloc, path, follow)
+    }
+
+    fn read(&mut self, alloc: Global, path: &PathText) -> Result<(ByteList, u64), DiskError>
+        ensures answer { Answers result (read_of (tree_of self.old.state) path.now) }
+        ensures kept { Some self.new.state ≡ Some self.old.state }
+        ensures cause { FailsOnlyByFault self.old.faults self.new.faults result }
+        ensures counted { self.new ≡ after_call self.old }
+        ensures failed { (result ≡ Err DiskError.Failed) ↔ (next_fails self.old ≡ true) }
+    {
+        if self.count() {
+            return Err(DiskError::Failed);
+        }
+        self.tree.read(alloc, path)
+    }
+}
+
+/// A set of numbers.
+fn numbers(alloc: Global, listed: &[u64]) -> Result<BTreeSet<u64>, NoMemory>
+    ensures { IfOk result (λ numbers. set.from_list {R = nat_cmp} numbers.keys ≡ set.from_list listed.now) }
+{
+    let mut numbers = BTreeSet::new(alloc);
+    for number in listed {
+        numbers.insert(*number)?;
+    }
+    Ok(numbers)
+}

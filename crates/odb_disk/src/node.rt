@@ -1,0 +1,78 @@
+use crate::disk::{Kind, Meta};
+use crate::{ByteList, NoMemory, PathText};
+use std::alloc::Global;
+
+/// What a node holds.
+#[derive(Debug, Drop)]
+pub enum Content {
+    File { bytes: ByteList, time: u64 },
+    Dir,
+    Link(PathText),
+}
+
+/// A file, a directory or a link, with the numbers of its device and of its inode.
+#[derive(Debug, Drop)]
+pub struct Node {
+    pub dev: u64,
+    pub ino: u64,
+    pub content: Content,
+}
+
+impl Content {
+    ghost use Rattle.std.specs.Prelude.{◌≡◌, IfOk};
+
+    /// A copy of the contents.
+    pub(crate) fn try_clone(&self, alloc: Global) -> Result<Content, NoMemory>
+        ensures { IfOk result (λ content. content ≡ self.now) }
+    {
+        match self {
+            Content::File { bytes, time } => Ok(Content::File {
+                bytes: bytes.try_clone(alloc)?,
+                time: *time,
+            }),
+            Content::Dir => Ok(Content::Dir),
+            Content::Link(target) => Ok(Content::Link(target.try_clone(alloc)?)),
+        }
+    }
+}
+
+impl Node {
+    ghost use Rattle.std.specs.Prelude.{◌≡◌, IfOk, Some};
+    ghost use Rattle.odb_disk.specs.Tree.{is_directory};
+    ghost use Rattle.odb_disk.specs.Tree.Follow.{meta_of};
+
+    /// What a look at the node tells.
+    pub fn meta(&self) -> Meta
+        ensures { result ≡ meta_of self.now }
+    {
+        let (kind, len, time) = match &self.content {
+            Content::File { bytes, time } => (Kind::File, bytes.len() as u64, *time),
+            Content::Dir => (Kind::Dir, 0, 0),
+            Content::Link(_) => (Kind::Link, 0, 0),
+        };
+        Meta {
+            kind,
+            dev: self.dev,
+            ino: self.ino,
+            len,
+            time,
+        }
+    }
+
+    pub fn is_dir(&self) -> bool
+        ensures { result ≡ is_directory (Some self.now) }
+    {
+        matches!(&self.content, Content::Dir)
+    }
+
+    /// A copy of the node.
+    pub(crate) fn try_clone(&self, alloc: Global) -> Result<Node, NoMemory>
+        ensures { IfOk result (λ node. node ≡ self.now) }
+    {
+        Ok(Node {
+            dev: self.dev,
+            ino: self.ino,
+            content: self.content.try_clone(alloc)?,
+        })
+    }
+}

@@ -1,0 +1,102 @@
+ghost use Rattle.std.specs.Prelude.{◌≡◌, None};
+
+use crate::{Failed, Sink, Source};
+use std::io::{ErrorKind, Read, Write};
+
+/// How often a read or a write is tried that is interrupted each time.
+const TRIES: u32 = 1_000_000;
+
+/// A source over a reader of std. It doesn't tell its bytes.
+#[derive(Debug, Drop)]
+pub struct StdSource<R> {
+    inner: R,
+    faults: u64,
+}
+
+impl<R: Read> StdSource<R> {
+    pub fn new(inner: R) -> StdSource<R>
+        ensures inner { result.inner ≡ inner }
+        ensures faults { result.faults ≡ 0 }
+    {
+        StdSource { inner, faults: 0 }
+    }
+
+    pub fn into_inner(self) -> R
+        ensures { result ≡ self.inner }
+    {
+        self.inner
+    }
+
+    /// How many reads have failed so far.
+    pub fn faults(&self) -> u64
+        ensures { result ≡ self.now.faults }
+    {
+        self.faults
+    }
+}
+
+impl<R: Read> Source for StdSource<R> {
+    ghost left = { λ _. None };
+
+    ghost faults = { λ s. s.faults };
+
+    fn read(&mut self, out: &mut [u8]) -> Result<usize, Failed> {
+        for _ in 0..TRIES {
+            match self.inner.read(out) {
+                Ok(count) => return Ok(count),
+                Err(e) if e.kind() == ErrorKind::Interrupted => {}
+                Err(_) => break,
+            }
+        }
+        self.faults = self.faults.saturating_add(1);
+        Err(Failed)
+    }
+}
+
+/// A sink over a writer of std. It doesn't tell its bytes.
+#[derive(Debug, Drop)]
+pub struct StdSink<W> {
+    inner: W,
+    faults: u64,
+}
+
+impl<W: Write> StdSink<W> {
+    pub fn new(inner: W) -> StdSink<W>
+        ensures inner { result.inner ≡ inner }
+        ensures faults { result.faults ≡ 0 }
+    {
+        StdSink { inner, faults: 0 }
+    }
+
+    pub fn into_inner(self) -> W
+        ensures { result ≡ self.inner }
+    {
+        self.inner
+    }
+
+    /// How many writes have failed so far.
+    pub fn faults(&self) -> u64
+        ensures { result ≡ self.now.faults }
+    {
+        self.faults
+    }
+}
+
+impl<W: Write> Sink for StdSink<W> {
+    ghost held = { λ _. None };
+
+    ghost faults = { λ s. s.faults };
+
+    fn write(&mut self, bytes: &[u8]) -> Result<usize, Failed> {
+        for _ in 0..TRIES {
+            match self.inner.write(bytes) {
+                Ok(0) if !bytes.is_empty() => break,
+                Ok(count) => return Ok(count),
+                Err(e) if e.kind() == ErrorKind::Interrupted => {}
+                Err(_) => break,
+            }
+        }
+        self.faults = self.faults.saturating_add(1);
+        Err(Failed)
+    }
+}

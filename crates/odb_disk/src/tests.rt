@@ -1,0 +1,4 @@
+mod disk;
+mod host;
+mod paths;
+mod streams;

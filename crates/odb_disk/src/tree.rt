@@ -1,0 +1,390 @@
+use crate::change::{Change, Impossible};
+use crate::disk::{DiskError, Meta};
+use crate::node::{Content, Node};
+use crate::node_map::{
+    copied, copied_numbers, free_number, has_names, least_number, put, put_content, take,
+    use_number,
+};
+use crate::{ByteList, NoMemory, PathText};
+use std::alloc::Global;
+use std::collections::{BTreeMap, BTreeSet};
+use std::marker::Model;
+
+/// The tree of a disk in memory: what stands at each path.
+///
+/// Nodes are kept by their paths, so a look-up is a search in a map. The least inode number that no node has
+/// is the least of `free_inos`, else `next_ino`: each number from 1 below `next_ino` is a node's or free.
+#[derive(Debug, Drop)]
+pub struct Tree {
+    nodes: BTreeMap<PathText, Node>,
+    next_ino: u64,
+    free_inos: BTreeSet<u64>,
+}
+
+impl Model for Tree {
+    ghost use Rattle.odb_disk.specs.Tree.{Tree as TreeValue, coded_tree, tree_of_entries};
+
+    ghost Value = { TreeValue };
+
+    ghost coded = { coded_tree };
+
+    ghost use Rattle.odb_disk.specs.TreeNumbers.{IsWellKept};
+
+    ghost view = { λ t. tree_of_entries t.nodes.entries };
+
+    ghost invariant = { IsWellKept };
+}
+
+/// Links that a path is followed through.
+const MAX_LINKS: u8 = 40;
+
+/// Where one pass along the names of a path comes.
+#[derive(Debug, Drop)]
+enum Way<'a> {
+    Reached(&'a Node),
+    Onward(PathText),
+}
+
+/// What stands where a file is put: a file keeps its node, a directory forbids it, and a new node takes the
+/// place of anything else.
+#[derive(Clone, Copy, Debug, PartialEq, Eq)]
+enum Standing {
+    File,
+    Dir,
+    Other,
+}
+
+impl Tree {
+    ghost use Rattle.std.specs.Prelude.{◌≡◌, ◌≢◌, Bool, [], ◌↔◌, true, false, IfOk, OnOk, OnErr, IsErrOf, IsSome, Some, None, Err};
+    ghost use Rattle.std.specs.Option.{option_copied};
+    ghost use Rattle.odb_disk.specs.Tree.{IsTree, node_at, with_node, without, bare_tree, is_directory};
+    ghost use Rattle.odb_disk.specs.Tree.Follow.{looked, read_of, pass, followed_within};
+    ghost use Rattle.odb_disk.specs.Tree.Change.{changed, is_possible_in, parent_node, lies_in_directory, least_free};
+    ghost use Rattle.odb_disk.specs.declared.node.Node.{Node as NodeValue};
+    ghost use Rattle.odb_disk.specs.Disk.{Answers};
+    ghost use Rattle.odb_disk.specs.TreeCalls.{Comes, LedOn, Leads, device_in, standing_of};
+
+    /// The root alone, on device 0, with inode number 1.
+    pub(crate) fn bare(alloc: Global) -> Result<Tree, NoMemory>
+        ensures { IfOk result (λ tree. tree ≡ bare_tree) }
+    {
+        let root = Node {
+            dev: 0,
+            ino: 1,
+            content: Content::Dir,
+        };
+        let mut nodes = BTreeMap::new(alloc);
+        nodes.insert(PathText::root(alloc), root)?;
+        Ok(Tree {
+            nodes,
+            next_ino: 2,
+            free_inos: BTreeSet::new(alloc),
+        })
+    }
+
+    /// What a look at a path gives. A link in the last place is followed where `follow` is set.
+    pub fn look(&self, alloc: Global, path: &PathText, follow: bool) -> Result<Meta, DiskError>
+        ensures answer { Answers result (looked self.now path.now follow) }
+        ensures never_fails { result ≢ Err DiskError.Failed }
+    {
+        let node = self.follow(alloc, path, follow, MAX_LINKS)?;
+        Ok(node.meta())
+    }
+
+    /// The bytes and the time of a file, links followed.
+    pub fn read(&self, alloc: Global, path: &PathText) -> Result<(ByteList, u64), DiskError>
+        ensures answer { Answers result (read_of self.now path.now) }
+        ensures never_fails { result ≢ Err DiskError.Failed }
+    {
+        let node = self.follow(alloc, path, true, MAX_LINKS)?;
+        match &node.content {
+            Content::File { bytes, time } => Ok((bytes.try_clone(alloc)?, *time)),
+            Content::Dir | Content::Link(_) => Err(DiskError::WrongKind),
+        }
+    }
+
+    /// The node that a path leads to, with so many links left to follow.
+    fn follow<'a>(
+        &'a self,
+        alloc: Global,
+        path: &PathText,
+        follow: bool,
+        links: u8,
+    ) -> Result<&'a Node, DiskError>
+        ensures { Leads result (followed_within links self.now follow path.now) }
+    {
+        match self.pass(alloc, path, follow)? {
+            Way::Reached(node) => Ok(node),
+            Way::Onward(onward) => {
+                if links == 0 {
+                    return Err(DiskError::LinkLoop);
+                }
+                self.follow(alloc, &onward, follow, links - 1)
+            }
+        }
+    }
+
+    /// Where one pass along the names of a path comes: to its node, or to the first link that has to be followed.
+    fn pass<'a>(
+        &'a self,
+        alloc: Global,
+        path: &PathText,
+        follow: bool,
+    ) -> Result<Way<'a>, DiskError>
+        ensures { Comes path.now result (pass self.now follow [] path.now) }
+    {
+        let Some(node) = self.node(path) else {
+            return Ok(Way::Onward(self.led_on(alloc, path)?));
+        };
+        match &node.content {
+            Content::Link(target) if follow => Ok(Way::Onward(target.try_clone(alloc)?)),
+            _ => Ok(Way::Reached(node)),
+        }
+    }
+
+    /// Where the first link on the way of a path leads that has no node.
+    fn led_on(&self, alloc: Global, path: &PathText) -> Result<PathText, DiskError>
+        requires { node_at self.now path.now ≡ None }
+        ensures { (follow : Bool) → LedOn result (pass self.now follow [] path.now) }
+    {
+        let mut way = PathText::root(alloc);
+        let mut rest = path.names();
+        while let [name, more @ ..] = rest {
+            let Some(node) = self.node(&way) else {
+                return Err(DiskError::Absent);
+            };
+            match &node.content {
+                Content::File { .. } => return Err(DiskError::WrongKind),
+                Content::Link(target) => return Ok(target.followed_by(alloc, rest)?),
+                Content::Dir => {}
+            }
+            way.push(alloc, name)?;
+            rest = more;
+        }
+        Err(DiskError::Absent)
+    }
+
+    /// The node that stands at a path, by its names alone.
+    fn node(&self, path: &PathText) -> Option<&Node>
+        ensures value { option_copied result ≡ node_at self.now path.now }
+        ensures is_tree { IsTree self.now }
+    {
+        self.nodes.get(path)
+    }
+
+    /// A copy of the tree.
+    pub fn try_clone(&self, alloc: Global) -> Result<Tree, NoMemory>
+        ensures { IfOk result (λ tree. tree ≡ self.now) }
+    {
+        Ok(Tree {
+            nodes: copied(alloc, &self.nodes)?,
+            next_ino: self.next_ino,
+            free_inos: copied_numbers(&self.free_inos)?,
+        })
+    }
+
+    /// Makes a change that another program makes. A refused one changes nothing.
+    pub(crate) fn change(&mut self, alloc: Global, change: &Change) -> Result<(), Impossible>
+        ensures made { OnOk result (self.new ≡ changed self.old change.now) }
+        ensures possible { OnOk result (is_possible_in self.old change.now ≡ true) }
+        ensures impossible { IsErrOf result Impossible.Impossible → is_possible_in self.old change.now ≡ false }
+        ensures kept { OnErr result (self.new ≡ self.old) }
+    {
+        match change {
+            Change::PutFile { path, time, bytes } => self.put_file(alloc, path, *time, bytes),
+            Change::MakeDir { path, dev } => self.make_dir(alloc, path, *dev),
+            Change::Remove { path } => self.remove(path),
+        }
+    }
+
+    /// Whether a change is possible now.
+    #[tactic(auto, unfolding(crate::specs::Tree::Change::is_possible_in))]
+    pub(crate) fn is_possible(&self, alloc: Global, change: &Change) -> Result<bool, NoMemory>
+        ensures { IfOk result (λ possible. possible ≡ is_possible_in self.now change.now) }
+    {
+        match change {
+            Change::PutFile { path, .. } => Ok(
+                self.lies_in_directory(alloc, path)? && !self.stands_directory(path),
+            ),
+            Change::MakeDir { path, .. } => Ok(
+                self.lies_in_directory(alloc, path)? && self.node(path).is_none(),
+            ),
+            Change::Remove { path } => Ok(self.can_remove(path)),
+        }
+    }
+
+    fn lies_in_directory(&self, alloc: Global, path: &PathText) -> Result<bool, NoMemory>
+        ensures { IfOk result (λ lies. lies ≡ lies_in_directory self.now path.now) }
+    {
+        let Some(parent) = path.parent(alloc)? else {
+            return Ok(false);
+        };
+        Ok(self.stands_directory(&parent))
+    }
+
+    fn stands_directory(&self, path: &PathText) -> bool
+        ensures { result ≡ is_directory (node_at self.now path.now) }
+    {
+        match self.node(path) {
+            None => false,
+            Some(node) => node.is_dir(),
+        }
+    }
+
+    fn put_file(
+        &mut self,
+        alloc: Global,
+        path: &PathText,
+        time: u64,
+        bytes: &ByteList,
+    ) -> Result<(), Impossible>
+        ensures made { OnOk result (self.new ≡ changed self.old (Change.PutFile path.now time bytes.now)) }
+        ensures possible { OnOk result (is_possible_in self.old (Change.PutFile path.now time bytes.now) ≡ true) }
+        ensures impossible { IsErrOf result Impossible.Impossible → is_possible_in self.old (Change.PutFile path.now time bytes.now) ≡ false }
+        ensures kept { OnErr result (self.new ≡ self.old) }
+    {
+        let Some(dev) = self.directory_device(alloc, path)? else {
+            return Err(Impossible::Impossible);
+        };
+        let bytes = bytes.try_clone(alloc)?;
+        let content = Content::File { bytes, time };
+        match self.standing(path) {
+            Standing::Dir => return Err(Impossible::Impossible),
+            Standing::File => self.put_content(path, content),
+            Standing::Other => self.put_new(alloc, path, dev, content)?,
+        }
+        Ok(())
+    }
+
+    fn make_dir(&mut self, alloc: Global, path: &PathText, dev: u64) -> Result<(), Impossible>
+        ensures made { OnOk result (self.new ≡ changed self.old (Change.MakeDir path.now dev)) }
+        ensures possible { OnOk result (is_possible_in self.old (Change.MakeDir path.now dev) ≡ true) }
+        ensures impossible { IsErrOf result Impossible.Impossible → is_possible_in self.old (Change.MakeDir path.now dev) ≡ false }
+        ensures kept { OnErr result (self.new ≡ self.old) }
+    {
+        let Some(_) = self.directory_device(alloc, path)? else {
+            return Err(Impossible::Impossible);
+        };
+        let None = self.node(path) else {
+            return Err(Impossible::Impossible);
+        };
+        self.put_new(alloc, path, dev, Content::Dir)?;
+        Ok(())
+    }
+
+    fn remove(&mut self, path: &PathText) -> Result<(), Impossible>
+        ensures made { OnOk result (self.new ≡ changed self.old (Change.Remove path.now)) }
+        ensures possible { OnOk result (is_possible_in self.old (Change.Remove path.now) ≡ true) }
+        ensures impossible { IsErrOf result Impossible.Impossible → is_possible_in self.old (Change.Remove path.now) ≡ false }
+        ensures kept { OnErr result (self.new ≡ self.old) }
+    {
+        if !self.can_remove(path) {
+            return Err(Impossible::Impossible);
+        }
+        self.take(path)?;
+        Ok(())
+    }
+
+    /// Whether a node stands at a path that has no names in it. The root is never removed.
+    fn can_remove(&self, path: &PathText) -> bool
+        ensures { result ≡ is_possible_in self.now (Change.Remove path.now) }
+    {
+        if path.names().is_empty() {
+            return false;
+        }
+        let Some(_) = self.node(path) else {
+            return false;
+        };
+        !has_names(&self.nodes, path)
+    }
+
+    /// The device of the directory that a path lies in, where it lies in one.
+    fn directory_device(&self, alloc: Global, path: &PathText) -> Result<Option<u64>, NoMemory>
+        ensures { IfOk result (λ dev. dev ≡ device_in (parent_node self.now path.now)) }
+    {
+        let Some(parent) = path.parent(alloc)? else {
+            return Ok(None);
+        };
+        match self.node(&parent) {
+            Some(node) if node.is_dir() => Ok(Some(node.dev)),
+            _ => Ok(None),
+        }
+    }
+
+    /// What stands where a file is put.
+    fn standing(&self, path: &PathText) -> Standing
+        ensures { result ≡ standing_of (node_at self.now path.now) }
+    {
+        match self.node(path) {
+            None => Standing::Other,
+            Some(node) => match &node.content {
+                Content::File { .. } => Standing::File,
+                Content::Dir => Standing::Dir,
+                Content::Link(_) => Standing::Other,
+            },
+        }
+    }
+
+    /// Puts a new node at a path, with the least inode number that is free. A refused call changes nothing.
+    fn put_new(
+        &mut self,
+        alloc: Global,
+        path: &PathText,
+        dev: u64,
+        content: Content,
+    ) -> Result<(), NoMemory>
+        requires lies { lies_in_directory self.old path.now ≡ true }
+        requires no_directory { is_directory (node_at self.old path.now) ≡ false }
+        ensures made { OnOk result (self.new ≡ with_node self.old path.now (record { dev = dev; ino = least_free self.old; content = content })) }
+        ensures kept { OnErr result (self.new ≡ self.old) }
+    {
+        let key = path.try_clone(alloc)?;
+        let ino = least_number(&self.free_inos, self.next_ino)?;
+        free_number(&self.nodes, path, &mut self.free_inos)?;
+        put(&mut self.nodes, key, Node { dev, ino, content })?;
+        use_number(ino, &mut self.free_inos, &mut self.next_ino);
+        Ok(())
+    }
+
+    /// Puts other contents into the node at a path.
+    fn put_content(&mut self, path: &PathText, content: Content)
+        requires lies { lies_in_directory self.old path.now ≡ true }
+        requires no_directory { is_directory (node_at self.old path.now) ≡ false }
+        requires stands { IsSome (node_at self.old path.now) }
+        ensures { (node : NodeValue) → node_at self.old path.now ≡ Some node → self.new ≡ with_node self.old path.now (record node { content = content }) }
+    {
+        put_content(&mut self.nodes, path, content);
+    }
+
+    /// Takes out the node at a path, which can be removed. A refused call changes nothing.
+    fn take(&mut self, path: &PathText) -> Result<(), NoMemory>
+        requires { is_possible_in self.old (Change.Remove path.now) ≡ true }
+        ensures made { OnOk result (self.new ≡ without self.old path.now) }
+        ensures kept { OnErr result (self.new ≡ self.old) }
+    {
+        free_number(&self.nodes, path, &mut self.free_inos)?;
+        take(&mut self.nodes, path);
+        Ok(())
+    }
+}
+
+#[cfg(test)]
+impl Tree {
+    /// Puts a link where no directory stands.
+    pub(crate) fn put_link(
+        &mut self,
+        alloc: Global,
+        path: &PathText,
+        target: PathText,
+    ) -> Result<(), Impossible> {
+        let Some(dev) = self.directory_device(alloc, path)? else {
+            return Err(Impossible::Impossible);
+        };
+        match self.standing(path) {
+            Standing::Dir => return Err(Impossible::Impossible),
+            Standing::File | Standing::Other => {}
+        }
+        self.put_new(alloc, path, dev, Content::Link(target))?;
+        Ok(())
+    }
+}
