@@ -1,0 +1,23 @@
+-- What a store held at some moment, and what lay still in it, over any family of trees numbered by moments.
+use Rattle.std.specs.Prelude.{ℕ, ◌≤◌, Contains}
+use Rattle.odb_disk.specs.Path.{Path}
+use Rattle.odb_disk.specs.Tree.{Tree}
+use Rattle.gix_odb_world.specs.declared.call.Call.{Call}
+use Rattle.gix_odb_world.specs.Contents.{StoreData, folder_list, Contents, Answer, sought, Shows, Holds, IsSound}
+
+-- In one folder, at some moment from `begun` to `now`, contents were shown that hold the answer.
+pub record Held (trees : ℕ → Tree) (store : StoreData) (begun now : ℕ) (call : Call) (answer : Answer) : Type 0 where
+  pub folder : Path
+  pub among : Contains (folder_list store) folder
+  pub moment : ℕ
+  pub from : begun ≤ moment
+  pub to : moment ≤ now
+  pub contents : Contents
+  pub shown : Shows (trees moment) folder (sought store call) contents
+  pub holds : Holds store call contents answer
+
+-- In one folder, at every moment from `begun` to `now`, contents that are sound for the call were shown.
+pub record Still (trees : ℕ → Tree) (store : StoreData) (begun now : ℕ) (call : Call) : Type 0 where
+  pub folder : Path
+  pub among : Contains (folder_list store) folder
+  pub always : (moment : ℕ) → begun ≤ moment → moment ≤ now → (contents : Contents) × Shows (trees moment) folder (sought store call) contents × IsSound store call contents

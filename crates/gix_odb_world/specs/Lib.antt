@@ -1,0 +1,14 @@
+pub mod Loose
+pub mod Contents
+pub mod Held
+pub mod Event
+pub mod Run
+pub mod Valid
+pub mod Bound
+pub mod Causes
+pub mod Headline
+pub mod Play
+pub mod Order
+pub mod World
+pub mod Table
+pub mod Played

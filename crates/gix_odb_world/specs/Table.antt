@@ -1,0 +1,70 @@
+-- What the code of a world does with its table of handles and its lists. No public clause cites this.
+use Rattle.std.specs.Prelude.{◌≡◌, ℕ, ◌==◌, Bool, true, false, [], ◌∷◌, ◌++◌, Option, Some, None, if◌then◌else◌}
+use Rattle.odb_disk.specs.Ask.{op_of, path_asked}
+use Rattle.odb_disk.specs.declared.ask.DiskAsk.{DiskAsk}
+use Rattle.odb_disk.specs.declared.ask.DiskAnswer.{DiskAnswer}
+use Rattle.odb_disk.specs.declared.ask.DiskAnswer.TheVariants as answers
+use Rattle.odb_disk.specs.declared.change.Change.{Change}
+use Rattle.odb_disk.specs.declared.disk.DiskError.TheVariants as disk_errors
+use Rattle.gix_odb_world.specs.declared.call.Reply.{Reply}
+use Rattle.gix_odb_world.specs.declared.call.Reply.TheVariants as replies
+use Rattle.gix_odb_world.specs.declared.step.Step.{Step}
+use Rattle.gix_odb_world.specs.declared.step.Outcome.{Outcome}
+use Rattle.gix_odb_world.specs.declared.step.Why.{Why}
+use Rattle.gix_odb_world.specs.declared.record.Did.{Did}
+use Rattle.gix_odb_world.specs.declared.record.Did.TheVariants as done
+use Rattle.gix_odb_world.specs.declared.handle.Handle.{Handle}
+use Rattle.gix_odb_world.specs.declared.handle.Work.{Work}
+use Rattle.gix_odb_world.specs.declared.handle.Work.TheVariants as works
+use Rattle.gix_odb_world.specs.declared.world.World.{World}
+use Rattle.gix_odb_world.specs.World.{handle_at}
+use Rattle.gix_odb_world.specs.Valid.{Phase, NoneThere, Idle, Running, why_not}
+
+abbrev pub phase_of_work : Option Work → Phase
+phase_of_work None = Idle
+phase_of_work (Some work) = Running
+
+-- what counts of a handle of the code for validity
+abbrev pub phase_of_handle : Option Handle → Phase
+phase_of_handle None = NoneThere
+phase_of_handle (Some handle) = phase_of_work handle.work
+
+-- the first reason why a step isn't valid, by the world's own table and disk
+abbrev pub why_not_now : World → Step → Option Why
+why_not_now world step = why_not (λ number. phase_of_handle (handle_at world number)) world.disk.state step
+
+-- a handle with other work
+abbrev pub with_work : Option Work → Option Handle → Option Handle
+with_work work None = None
+with_work work (Some handle) = Some (record handle { work = work })
+
+-- a handle after the reply to its work: none after a refused opening, else at rest
+abbrev pub after_reply : Work → Reply → Option Handle → Option Handle
+after_reply works.Opening (replies.Refused error) handle = None
+after_reply work reply handle = with_work None handle
+
+-- the world differs from another in the handle that has a number, and in nothing else
+pub record SetsHandle (old new : World) (number : ℕ) (handle : Option Handle) : Type 0 where
+  pub table : (other : ℕ) → handle_at new other ≡ (if other == number then handle else handle_at old other)
+  pub disk : new.disk ≡ old.disk
+  pub outcomes : new.outcomes ≡ old.outcomes
+  pub records : new.records ≡ old.records
+
+-- the world has one outcome and one record more, with its disk's count of faults, and differs in nothing else
+pub record Notes (old new : World) (outcome : Outcome) (did : Did) (change : Option Change) : Type 0 where
+  pub outcomes : new.outcomes ≡ old.outcomes ++ outcome ∷ []
+  pub records : new.records ≡ old.records ++ record { did = did; change = change; faults = old.disk.faults } ∷ []
+  pub disk : new.disk ≡ old.disk
+  pub handles : new.handles ≡ old.handles
+
+-- the world has one outcome more than another
+abbrev pub HasOneMore : World → World → Type 0
+HasOneMore old new = (outcome : Outcome) × (new.outcomes ≡ old.outcomes ++ outcome ∷ [])
+
+abbrev pub has_failed : DiskAnswer → Bool
+has_failed (answers.Refused disk_errors.Failed) = true
+has_failed answer = false
+
+-- the record of a call of the disk
+abbrev pub did_of : DiskAsk → DiskAnswer → Did
+did_of ask answer = done.Disk (op_of ask) (path_asked ask) (has_failed answer)

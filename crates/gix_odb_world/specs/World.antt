@@ -1,0 +1,59 @@
+-- How the code of a world stands for a history. No public clause needs more of it than its name.
+use Rattle.std.specs.Prelude.{◌≡◌, ℕ, ◌≤◌, slice_get, List, [], ◌∷◌, ◌++◌, map, length, Option, Some, None}
+use Rattle.std.specs.Ordering.{nat_cmp}
+use Rattle.std.specs.BTreeMap.{get}
+use Rattle.odb_disk.specs.MemDisk.{Volume}
+use Rattle.gix_odb_world.specs.declared.step.Step.{Step}
+use Rattle.gix_odb_world.specs.declared.step.Outcome.{Outcome}
+use Rattle.gix_odb_world.specs.declared.handle.Handle.{Handle}
+use Rattle.gix_odb_world.specs.declared.world.World.{World}
+use Rattle.gix_odb_world.specs.Event.{Event, Status, Free, Resting, Working, status_of}
+use Rattle.gix_odb_world.specs.Run.{disk_after, IsTurnOf}
+use Rattle.gix_odb_world.specs.Headline.{Law, IsLawful}
+
+-- the handle of a world that has a number
+abbrev pub handle_at : World → ℕ → Option Handle
+handle_at world number = get nat_cmp world.handles number
+
+-- a handle of the code does what a status says
+abbrev pub Matches : Status → Option Handle → Type 0
+Matches Free None = Unit {0}
+Matches Free (Some handle) = ⊥
+Matches (Resting store) None = ⊥
+Matches (Resting store) (Some handle) = (handle.store.path ≡ store.objects) × (handle.store.slots ≡ store.slots) × (handle.work ≡ None)
+Matches (Working store begun turns work) None = ⊥
+Matches (Working store begun turns work) (Some handle) = (handle.store.path ≡ store.objects) × (handle.store.slots ≡ store.slots) × (handle.work ≡ Some work)
+
+-- what holds of a handle at work: its call began in one of the events, and it hasn't had a turn since
+abbrev pub Runs : List Event → ℕ → Status → Type 0
+Runs events handle Free = Unit {0}
+Runs events handle (Resting store) = Unit {0}
+Runs events handle (Working store begun turns work) =
+    (begun ≤ length events) × ((place : ℕ) (e : Event) → begun ≤ place → slice_get events place ≡ Some e → ¬ IsTurnOf handle e.step)
+
+-- these events from this first disk lead to the world
+pub record Explains (first : Volume) (events : List Event) (world : World) : Type 0 where
+  pub outcomes : map (λ e. e.outcome) events ≡ world.outcomes
+  pub records : map (λ e. e.entry) events ≡ world.records
+  pub disk : world.disk ≡ disk_after first events
+  pub handles : (handle : ℕ) → Matches (status_of events handle) (handle_at world handle)
+  pub running : (handle : ℕ) → Runs events handle (status_of events handle)
+  pub lawful : IsLawful first events
+
+-- a step takes the history one event on
+pub record GoesOn (first : Volume) (events : List Event) (step : Step) (outcome : Outcome) (world : World) : Type 0 where
+  pub event : Event
+  pub step_is : event.step ≡ step
+  pub outcome_is : event.outcome ≡ outcome
+  pub law : Law first events event
+  pub explains : Explains first (events ++ event ∷ []) world
+
+-- Every history that leads to the old world goes on by the step to the new one.
+abbrev pub Continues : World → Step → World → Type 0
+Continues old step new = (first : Volume) (events : List Event) → Explains first events old → (outcome : Outcome) × GoesOn first events step outcome new
+
+-- some events have these steps, and lead to the world
+pub record IsRunOf (first : Volume) (made : List Step) (world : World) : Type 0 where
+  pub events : List Event
+  pub steps_are : map (λ e. e.step) events ≡ made
+  pub explains : Explains first events world

@@ -1,0 +1,44 @@
+//! Opening a store: its options, and why an opening was refused.
+ghost use Rattle.std.specs.Prelude.{◌≡◌};
+ghost use Rattle.gix_odb_world.specs.Event.{given_slots};
+
+use thiserror::Error;
+
+/// How many slots for indices a store has.
+#[derive(Clone, Copy, Debug, PartialEq, Eq, Hash)]
+pub enum Slots {
+    Given(u16),
+}
+
+impl Slots {
+    /// How many slots those are.
+    pub(crate) fn count(self) -> u16
+        ensures { result ≡ given_slots self }
+    {
+        match self {
+            Slots::Given(slots) => slots,
+        }
+    }
+}
+
+/// The options of a store.
+#[derive(Clone, Copy, Debug, PartialEq, Eq, Hash)]
+pub struct Options {
+    pub slots: Slots,
+}
+
+/// Why an opening was refused.
+#[derive(Clone, Copy, Debug, PartialEq, Eq, Hash, Error)]
+pub enum Error {
+    /// The objects directory is no directory, links followed.
+    #[error("the objects directory is not a directory")]
+    NotADirectory,
+    /// More slots than 32,767.
+    #[error("{asked} slots are too many")]
+    TooManySlots { asked: u64 },
+    /// A call of the disk failed.
+    #[error("the objects directory could not be looked at")]
+    Io,
+    #[error("out of memory")]
+    NoMemory,
+}

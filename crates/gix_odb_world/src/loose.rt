@@ -1,0 +1,2 @@
+//! Loose objects: a file for each.
+pub mod find;

@@ -1,0 +1,96 @@
+ghost use Rattle.std.specs.Prelude.{◌≡◌, ◌≢◌, ◌↔◌, ◌++◌, ◌∷◌, [], List, IfOk, OnOk, IsTrue};
+ghost use Rattle.gix_odb_world.specs.Headline.{Headline};
+ghost use Rattle.gix_odb_world.specs.Play.{Plays, StandsFor, made_of};
+ghost use Rattle.gix_odb_world.specs.Played.{MakesOne, PlaysLine, PlaysTurns};
+
+use crate::record::Run;
+use crate::step::Step;
+use crate::world::World;
+use odb_base::{NoMemory, Sequence};
+use odb_disk::MemDisk;
+use std::alloc::Global;
+
+/// A line of a script.
+#[derive(Debug, Drop)]
+pub enum Line {
+    One(Step),
+    /// All turns of a handle up to and including the first whose outcome isn't pending.
+    Finish { handle: u32 },
+}
+
+/// What lines came to: the run, the steps that were made, and for each line the place of its last step.
+#[derive(Debug, Drop)]
+pub struct Play {
+    pub run: Run,
+    pub steps: Sequence<Step>,
+    /// From 0, in the run's outcomes.
+    pub last: Sequence<usize>,
+}
+
+impl World {
+    /// Makes the steps that lines stand for, line after line.
+    pub fn play(alloc: Global, disk: MemDisk, lines: &[Line]) -> Result<Play, NoMemory>
+        ensures headline { IfOk result (λ play. Headline disk play.steps play.run) }
+        ensures plays { IfOk result (λ play. Plays 0 lines.now (made_of play.steps play.run.outcomes) play.last) }
+    {
+        let mut world = World::new(alloc, disk);
+        let mut steps = Sequence::new(alloc);
+        let mut last = Sequence::new(alloc);
+        for line in lines {
+            play_line(alloc, &mut world, &mut steps, line)?;
+            last.push(steps.len() - 1)?;
+        }
+        let run = world.into_run();
+        Ok(Play { run, steps, last })
+    }
+}
+
+/// Makes the steps that a line stands for.
+fn play_line(
+    alloc: Global,
+    world: &mut World,
+    steps: &mut Sequence<Step>,
+    line: &Line,
+) -> Result<(), NoMemory>
+    ensures plays { OnOk result (PlaysLine world.old world.new steps.old steps.new line.now) }
+{
+    match line {
+        Line::One(step) => {
+            let step = step.try_clone(alloc)?;
+            make(alloc, world, steps, step)
+        }
+        Line::Finish { handle } => play_turns(alloc, world, steps, *handle),
+    }
+}
+
+/// Turns a handle until its outcome isn't pending.
+fn play_turns(
+    alloc: Global,
+    world: &mut World,
+    steps: &mut Sequence<Step>,
+    handle: u32,
+) -> Result<(), NoMemory>
+    ensures plays { OnOk result (PlaysLine world.old world.new steps.old steps.new (Line.Finish handle)) }
+{
+    for _ in 0..u64::MAX {
+        make(alloc, world, steps, Step::Turn { handle })?;
+        if !world.is_pending() {
+            return Ok(());
+        }
+    }
+    Err(NoMemory)
+}
+
+/// Makes one step, and adds it to the steps.
+fn make(
+    alloc: Global,
+    world: &mut World,
+    steps: &mut Sequence<Step>,
+    step: Step,
+) -> Result<(), NoMemory>
+    ensures makes { OnOk result (MakesOne world.old world.new steps.old steps.new step) }
+{
+    world.advance(alloc, &step)?;
+    steps.push(step)?;
+    Ok(())
+}

@@ -1,0 +1,56 @@
+ghost use Rattle.std.specs.Prelude.{◌≡◌, IfOk};
+ghost use Rattle.gix_odb_world.specs.Table.{did_of};
+
+use crate::step::Outcome;
+use odb_base::{NoMemory, Sequence};
+use odb_disk::{Change, DiskAnswer, DiskAsk, DiskError, MemDisk, Op, PathText};
+use std::alloc::Global;
+
+/// What a step did beside its outcome.
+#[derive(Debug, Drop, PartialEq, Eq)]
+pub enum Did {
+    Nothing,
+    /// One call of the disk, at a path; it failed where its number was listed.
+    Disk {
+        op: Op,
+        path: PathText,
+        failed: bool,
+    },
+}
+
+impl Did {
+    /// What a turn did that made a call of the disk.
+    pub(crate) fn of(alloc: Global, ask: &DiskAsk, answer: &DiskAnswer) -> Result<Did, NoMemory>
+        ensures { IfOk result (λ did. did ≡ did_of ask.now answer.now) }
+    {
+        Ok(Did::Disk {
+            op: ask.op(),
+            path: ask.path().try_clone(alloc)?,
+            failed: matches!(answer, DiskAnswer::Refused(DiskError::Failed)),
+        })
+    }
+}
+
+/// The record of a step.
+#[derive(Debug, Drop)]
+pub struct Record {
+    pub did: Did,
+    /// The change of the tree, if the step made one.
+    pub change: Option<Change>,
+    /// The disk's count of faults after the step.
+    pub faults: u64,
+}
+
+/// The outcomes of a run, one for each step.
+pub type OutcomeList = Sequence<Outcome>;
+
+/// The records of a run, one for each step.
+pub type RecordList = Sequence<Record>;
+
+/// A whole run: what each step came to, and the disk after the last one.
+#[derive(Debug, Drop)]
+pub struct Run {
+    pub outcomes: OutcomeList,
+    pub records: RecordList,
+    pub disk: MemDisk,
+}

@@ -1,0 +1,99 @@
+ghost use Rattle.std.specs.Prelude.{◌≡◌, IfOk};
+
+use crate::call::{Call, Reply};
+use crate::init::Options;
+use odb_base::NoMemory;
+use odb_disk::{Change, PathText};
+use std::alloc::Global;
+
+/// A step of a world.
+#[derive(Debug, Drop)]
+pub enum Step {
+    /// Begins the opening of a store, by its objects directory, under a free handle number.
+    Open {
+        handle: u32,
+        path: PathText,
+        options: Options,
+    },
+    /// Closes an idle handle, whose number is free then.
+    Close {
+        handle: u32,
+    },
+    /// Begins a call on an idle handle.
+    Start {
+        handle: u32,
+        call: Call,
+    },
+    /// Lets a handle that runs a call, or is opening, make one call of the disk.
+    Turn {
+        handle: u32,
+    },
+    /// Makes a change that another program makes.
+    Disk(Change),
+}
+
+impl Step {
+    /// A copy of the step.
+    pub fn try_clone(&self, alloc: Global) -> Result<Step, NoMemory>
+        ensures { IfOk result (λ copy. copy ≡ self.now) }
+    {
+        match self {
+            Step::Open {
+                handle,
+                path,
+                options,
+            } => Ok(Step::Open {
+                handle: *handle,
+                path: path.try_clone(alloc)?,
+                options: *options,
+            }),
+            Step::Close { handle } => Ok(Step::Close { handle: *handle }),
+            Step::Start { handle, call } => Ok(Step::Start {
+                handle: *handle,
+                call: *call,
+            }),
+            Step::Turn { handle } => Ok(Step::Turn { handle: *handle }),
+            Step::Disk(change) => Ok(Step::Disk(change.try_clone(alloc)?)),
+        }
+    }
+}
+
+/// What a step comes to.
+#[derive(Debug, Drop, PartialEq, Eq)]
+pub enum Outcome {
+    Applied,
+    /// The call goes on.
+    Pending,
+    Reply(Reply),
+    /// The step wasn't valid, and changed nothing.
+    Misuse(Why),
+}
+
+impl Outcome {
+    /// A copy of the outcome.
+    pub fn try_clone(&self, alloc: Global) -> Result<Outcome, NoMemory>
+        ensures { IfOk result (λ copy. copy ≡ self.now) }
+    {
+        match self {
+            Outcome::Applied => Ok(Outcome::Applied),
+            Outcome::Pending => Ok(Outcome::Pending),
+            Outcome::Reply(reply) => Ok(Outcome::Reply(reply.try_clone(alloc)?)),
+            Outcome::Misuse(why) => Ok(Outcome::Misuse(*why)),
+        }
+    }
+}
+
+/// The first reason why a step isn't valid.
+#[derive(Clone, Copy, Debug, PartialEq, Eq, PartialOrd, Ord, Hash)]
+pub enum Why {
+    /// The handle number isn't free.
+    HandleTaken,
+    /// No handle has the number.
+    NoHandle,
+    /// The handle runs no call.
+    NotRunning,
+    /// The handle runs a call.
+    Busy,
+    /// The tree has no place for the change.
+    ImpossibleChange,
+}
