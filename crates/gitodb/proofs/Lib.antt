@@ -1,0 +1,8 @@
+pub mod LineLemmas
+pub mod ScriptLemmas
+pub mod SplitLemmas
+mod TextLemmas
+mod OpeningLemmas
+mod PrintLemmas
+mod StreamLemmas
+mod SessionLemmas

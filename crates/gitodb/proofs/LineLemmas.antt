@@ -1,0 +1,219 @@
+-- Laws of lines: what is spelled is read.
+use Rattle.std.proofs.Common.{◌≡◌, ℕ, zero, suc, ◌^◌, ◌<◌, ◌≤◌, ◌==◌, ◌&&◌, Bool, true, false, not, List, [], ◌∷◌, ◌++◌, length, codes, slice_index, ◌/◌, nat_lt, nat_le, ◌≢◌, Some, refl, ◌∙◌, arith}
+use Rattle.std.specs.Fmt.{decimal}
+use Rattle.std.specs.Char.{is_ascii_digit}
+use Rattle.std.specs.List.{list_all, join_with_byte, AllByRecursion}
+use Rattle.std.specs.Str.{IsUtf8, IsAscii, all_ascii_digits}
+use Rattle.std.proofs.lemmas.Bool.{and_parts, and_from, ne_eqb}
+use Rattle.std.proofs.lemmas.Fmt.{IsAscii-decimal, digits_decimal}
+use Rattle.std.proofs.lemmas.Str.{IsUtf8-append, IsUtf8-from_ascii, is_utf8-from_IsUtf8}
+use Rattle.std.proofs.lemmas.List.Folds.{list_all-append}
+use Rattle.hex.specs.Hex.{lower_digits, encode_with, encode_lower, IsBytes}
+use Rattle.hex.proofs.HexLemmas.{decode_of-encode_lower}
+use Rattle.odb_base.proofs.DecimalLemmas.{own, number_of-decimal, number_below-is}
+use Rattle.odb_disk.specs.Path.{Path, is_name, text_of}
+use Rattle.odb_disk.specs.declared.change.Change.TheVariants as changes
+use Rattle.odb_disk.proofs.PathLemmas.{path_of-text_of}
+use Rattle.gix_hash.specs.ObjectId.{IsId, hex_of, is_lower_text, is_lower_digit}
+use Rattle.gix_hash.specs.declared.object_id.ObjectId.TheVariants as ids
+use Rattle.gix_hash.proofs.ObjectIdLemmas.{id_of-hex_of, is_lower_text-hex_of}
+use Rattle.gix_odb_world.specs.declared.call.Call.TheVariants as calls
+use Rattle.gix_odb_world.specs.declared.init.Slots.TheVariants.{Given}
+use Rattle.gix_odb_world.specs.declared.step.Step.TheVariants as steps
+use Rattle.gix_odb_world.specs.declared.play.Line.TheVariants.{One, Finish}
+use Rattle.gitodb.specs.declared.script.item.Item.TheVariants as items
+use Rattle.gitodb.specs.declared.script.content.Content.TheVariants.{Bytes}
+use Rattle.gitodb.specs.Word.{word_of, change_word_of}
+use Rattle.gix_odb_world.specs.declared.object.Kind.{Kind}
+use Rattle.gix_odb_world.specs.declared.object.Kind.TheVariants.{Commit, Tree, Blob, Tag}
+use Rattle.gix_odb_world.specs.Loose.{header_of, kind_word, kind_of_word}
+use Rattle.gitodb.specs.Content.{data_of, object_of, content_of}
+use Rattle.gitodb.specs.Change.{change_of}
+use Rattle.gitodb.specs.Opening.{handle_of, open_of, slots_in}
+use Rattle.gitodb.proofs.SplitLemmas.{slice_split-join}
+use Rattle.gitodb.specs.Line.{Fields, fields_of, line_item, item_of}
+
+-- ---- fields and their line
+
+abbrev pub has_no_space : List ℕ → Bool
+has_no_space text = list_all (λ b. not (b == 32)) text
+
+-- what can stand as a field: text without a space
+pub record IsField (text : List ℕ) : Type 0 where
+  pub utf8 : IsUtf8 text
+  pub no_space : has_no_space text ≡ true
+
+abbrev pub AreFields : Fields → Type 0
+AreFields fields = AllByRecursion IsField fields
+
+-- the line of fields
+abbrev pub line_of : Fields → List ℕ
+line_of fields = join_with_byte 32 fields
+
+have_no_space : (fields : Fields) → AreFields fields → AllByRecursion (λ field. has_no_space field ≡ true) fields
+have_no_space [] are = tt
+have_no_space (field ∷ fields) are = (are.0.no_space, have_no_space fields are.1)
+
+-- the fields of a line are those that it is of
+pub fields_of-line_of : (field : List ℕ) (fields : Fields) → AreFields (field ∷ fields) → fields_of (line_of (field ∷ fields)) ≡ field ∷ fields
+fields_of-line_of field fields are = slice_split-join 32 field fields (have_no_space (field ∷ fields) are)
+
+abbrev is_ascii : List ℕ → Bool
+is_ascii text = list_all (λ b. nat_lt b 128) text
+
+IsAscii-from_test : (text : List ℕ) → is_ascii text ≡ true → IsAscii text
+IsAscii-from_test [] h i = omega arith
+IsAscii-from_test (b ∷ text) h zero = let parts = and_parts (nat_lt b 128) (is_ascii text) h in grind (arith, parts.0)
+IsAscii-from_test (b ∷ text) h (suc i) = IsAscii-from_test text (and_parts (nat_lt b 128) (is_ascii text) h).1 i
+
+-- a field of plain bytes, by a test
+IsField-from_tests : (text : List ℕ) → is_ascii text ≡ true → has_no_space text ≡ true → IsField text
+IsField-from_tests text ascii plain = record { utf8 = IsUtf8-from_ascii text (IsAscii-from_test text ascii); no_space = plain }
+
+IsField-append : (text more : List ℕ) → IsField text → IsField more → IsField (text ++ more)
+IsField-append text more first second = record {
+  utf8 = IsUtf8-append text more first.utf8 second.utf8;
+  no_space = list_all-append (λ b. not (b == 32)) text more ∙ and_from (has_no_space text) (has_no_space more) first.no_space second.no_space;
+}
+
+space : IsUtf8 (32 ∷ [])
+space = IsUtf8-from_ascii (32 ∷ []) (IsAscii-from_test (32 ∷ []) refl)
+
+IsUtf8-line_of : (field : List ℕ) (fields : Fields) → AreFields (field ∷ fields) → IsUtf8 (line_of (field ∷ fields))
+IsUtf8-line_of field [] are = are.0.utf8
+IsUtf8-line_of field (other ∷ fields) are =
+    IsUtf8-append field (32 ∷ line_of (other ∷ fields)) are.0.utf8 (IsUtf8-append (32 ∷ []) (line_of (other ∷ fields)) space (IsUtf8-line_of other fields are.1))
+
+-- a line of fields is read by its first word; it is no comment
+pub item_of-line_of : (b : ℕ) (word : List ℕ) (fields : Fields) → (b == 35) ≡ false → AreFields ((b ∷ word) ∷ fields) → item_of (line_of ((b ∷ word) ∷ fields)) ≡ line_item (word_of (b ∷ word)) fields
+unfolding item_of
+item_of-line_of b word [] first are =
+    rw (first, is_utf8-from_IsUtf8 (b ∷ word) (IsUtf8-line_of (b ∷ word) [] are), fields_of-line_of (b ∷ word) [] are) refl
+item_of-line_of b word (field ∷ fields) first are =
+    rw (first, is_utf8-from_IsUtf8 (line_of ((b ∷ word) ∷ field ∷ fields)) (IsUtf8-line_of (b ∷ word) (field ∷ fields) are), fields_of-line_of (b ∷ word) (field ∷ fields) are) refl
+
+-- ---- numbers and ids as fields
+
+-- hex digits in lower case, decimal ones among them, are ASCII and no space
+abbrev is_plain : ℕ → Bool
+is_plain b = nat_le 48 b && nat_le b 102
+
+plain_byte : (b : ℕ) → is_plain b ≡ true → (nat_lt b 128 ≡ true) × (not (b == 32) ≡ true)
+plain_byte b h =
+    let parts = and_parts (nat_le 48 b) (nat_le b 102) h in
+    let low : 48 ≤ b = grind (arith, parts.0) in
+    let high : b ≤ 102 = grind (arith, parts.1) in
+    let other : b ≢ 32 = omega arith in
+    (grind (arith, high), rw (ne_eqb b 32 other) refl)
+
+digit_byte : (b : ℕ) → is_ascii_digit b ≡ true → is_plain b ≡ true
+digit_byte b h = grind (arith, h)
+
+lower_byte : (b : ℕ) → is_lower_digit b ≡ true → is_plain b ≡ true
+lower_byte b h = grind (arith, h)
+
+plain_digits : (digits : List ℕ) → all_ascii_digits digits ≡ true → has_no_space digits ≡ true
+plain_digits [] h = refl
+plain_digits (d ∷ digits) h =
+    let parts = and_parts (is_ascii_digit d) (all_ascii_digits digits) h in
+    and_from (not (d == 32)) (has_no_space digits) (plain_byte d (digit_byte d parts.0)).1 (plain_digits digits parts.1)
+
+IsField-decimal : (n : ℕ) → n < 2 ^ 64 → IsField (decimal n)
+IsField-decimal n small =
+    record { utf8 = IsUtf8-from_ascii (decimal n) (IsAscii-decimal n small); no_space = plain_digits (decimal n) (digits_decimal own n small) }
+
+lower_digits_are : (digits : List ℕ) → is_lower_text digits ≡ true → (is_ascii digits ≡ true) × (has_no_space digits ≡ true)
+lower_digits_are [] h = (refl, refl)
+lower_digits_are (d ∷ digits) h =
+    let parts = and_parts (is_lower_digit d) (is_lower_text digits) h in
+    let own = plain_byte d (lower_byte d parts.0) in
+    let rest = lower_digits_are digits parts.1 in
+    (and_from (nat_lt d 128) (is_ascii digits) own.0 rest.0, and_from (not (d == 32)) (has_no_space digits) own.1 rest.1)
+
+IsField-lower : (digits : List ℕ) → is_lower_text digits ≡ true → IsField digits
+IsField-lower digits h = IsField-from_tests digits (lower_digits_are digits h).0 (lower_digits_are digits h).1
+
+handle_of-decimal : (handle : ℕ) → handle < 2 ^ 32 → handle_of (decimal handle) ≡ Some handle
+handle_of-decimal handle small = number_below-is (2 ^ 32) (decimal handle) handle (number_of-decimal handle (omega arith)) small
+
+-- ---- what is spelled is read
+
+pub item_of-fail : (number : ℕ) → number < 2 ^ 64 → item_of (line_of (codes "fail" ∷ decimal number ∷ [])) ≡ items.Fail number
+unfolding word_of line_item
+item_of-fail number small =
+    item_of-line_of 102 (codes "ail") (decimal number ∷ []) refl (IsField-from_tests (codes "fail") refl refl, (IsField-decimal number small, tt))
+    ∙ rw (number_of-decimal number small) refl
+
+pub item_of-mkdir : (path : Path) → list_all is_name path ≡ true → IsField (text_of path) → item_of (line_of (codes "mkdir" ∷ text_of path ∷ [])) ≡ items.Setup (changes.MakeDir path 0)
+unfolding word_of line_item change_of
+item_of-mkdir path names field =
+    item_of-line_of 109 (codes "kdir") (text_of path ∷ []) refl (IsField-from_tests (codes "mkdir") refl refl, (field, tt))
+    ∙ rw (path_of-text_of path names) refl
+
+pub item_of-remove : (path : Path) → list_all is_name path ≡ true → IsField (text_of path) → item_of (line_of (codes "do" ∷ codes "remove" ∷ text_of path ∷ [])) ≡ items.Play (One (steps.Disk (changes.Remove path)))
+unfolding word_of change_word_of line_item change_of
+item_of-remove path names field =
+    item_of-line_of 100 (codes "o") (codes "remove" ∷ text_of path ∷ []) refl (IsField-from_tests (codes "do") refl refl, (IsField-from_tests (codes "remove") refl refl, (field, tt)))
+    ∙ rw (path_of-text_of path names) refl
+
+-- contents of a built kind are put as they are
+pub item_of-put : (path : Path) (time : ℕ) (content bytes : List ℕ) → list_all is_name path ≡ true → IsField (text_of path) → time < 2 ^ 64 → IsField content → content_of content ≡ Bytes bytes → item_of (line_of (codes "put" ∷ text_of path ∷ decimal time ∷ content ∷ [])) ≡ items.Setup (changes.PutFile path time bytes)
+unfolding word_of line_item change_of
+item_of-put path time content bytes names field small content_field spelled =
+    item_of-line_of 112 (codes "ut") (text_of path ∷ decimal time ∷ content ∷ []) refl (IsField-from_tests (codes "put") refl refl, (field, (IsField-decimal time small, (content_field, tt))))
+    ∙ rw (path_of-text_of path names, number_of-decimal time small, spelled) refl
+
+pub item_of-close : (handle : ℕ) → handle < 2 ^ 32 → item_of (line_of (codes "close" ∷ decimal handle ∷ [])) ≡ items.Play (One (steps.Close handle))
+unfolding word_of line_item
+item_of-close handle small =
+    item_of-line_of 99 (codes "lose") (decimal handle ∷ []) refl (IsField-from_tests (codes "close") refl refl, (IsField-decimal handle (omega arith), tt))
+    ∙ rw (handle_of-decimal handle small) refl
+
+pub item_of-turn : (handle : ℕ) → handle < 2 ^ 32 → item_of (line_of (codes "turn" ∷ decimal handle ∷ [])) ≡ items.Play (One (steps.Turn handle))
+unfolding word_of line_item
+item_of-turn handle small =
+    item_of-line_of 116 (codes "urn") (decimal handle ∷ []) refl (IsField-from_tests (codes "turn") refl refl, (IsField-decimal handle (omega arith), tt))
+    ∙ rw (handle_of-decimal handle small) refl
+
+pub item_of-finish : (handle : ℕ) → handle < 2 ^ 32 → item_of (line_of (codes "finish" ∷ decimal handle ∷ [])) ≡ items.Play (Finish handle)
+unfolding word_of line_item
+item_of-finish handle small =
+    item_of-line_of 102 (codes "inish") (decimal handle ∷ []) refl (IsField-from_tests (codes "finish") refl refl, (IsField-decimal handle (omega arith), tt))
+    ∙ rw (handle_of-decimal handle small) refl
+
+pub item_of-find : (handle : ℕ) (bytes : List ℕ) → handle < 2 ^ 32 → IsId (ids.Sha1 bytes) → item_of (line_of (codes "find" ∷ decimal handle ∷ hex_of (ids.Sha1 bytes) ∷ [])) ≡ items.Play (One (steps.Start handle (calls.Find (ids.Sha1 bytes))))
+unfolding word_of line_item
+item_of-find handle bytes small is =
+    item_of-line_of 102 (codes "ind") (decimal handle ∷ hex_of (ids.Sha1 bytes) ∷ []) refl (IsField-from_tests (codes "find") refl refl, (IsField-decimal handle (omega arith), (IsField-lower (hex_of (ids.Sha1 bytes)) (is_lower_text-hex_of (ids.Sha1 bytes) is), tt)))
+    ∙ rw (handle_of-decimal handle small, id_of-hex_of (ids.Sha1 bytes) is) refl
+
+pub item_of-open : (handle : ℕ) (path : Path) (slots : ℕ) → handle < 2 ^ 32 → list_all is_name path ≡ true → IsField (text_of path) → slots < 2 ^ 16 → item_of (line_of (codes "open" ∷ decimal handle ∷ text_of path ∷ (codes "slots=" ++ decimal slots) ∷ [])) ≡ items.Play (One (steps.Open handle path (record { slots = Given slots })))
+unfolding word_of line_item open_of slots_in
+item_of-open handle path slots small names field few =
+    let number = IsField-decimal slots (omega arith) in
+    let option = IsField-append (codes "slots=") (decimal slots) (IsField-from_tests (codes "slots=") refl refl) number in
+    item_of-line_of 111 (codes "pen") (decimal handle ∷ text_of path ∷ (codes "slots=" ++ decimal slots) ∷ []) refl (IsField-from_tests (codes "open") refl refl, (IsField-decimal handle (omega arith), (field, (option, tt))))
+    ∙ rw (handle_of-decimal handle small, path_of-text_of path names, number_below-is (2 ^ 16) (decimal slots) slots (number_of-decimal slots (omega arith)) few) refl
+
+-- ---- contents
+
+-- data as hex digits, and nothing as `-`
+pub data_of-nothing : data_of (codes "-") ≡ Some []
+unfolding data_of
+data_of-nothing = refl
+
+and-false : (b : Bool) → (b && false) ≡ false
+and-false true = refl
+and-false false = refl
+
+pub data_of-hex : (b : ℕ) (bytes : List ℕ) → IsBytes (b ∷ bytes) → data_of (encode_lower (b ∷ bytes)) ≡ Some (b ∷ bytes)
+unfolding data_of encode_with
+data_of-hex b bytes are = rw (and-false (slice_index lower_digits (b / 16) == 45), decode_of-encode_lower (b ∷ bytes) are) refl
+
+-- an object of some kind is the bytes of its loose file
+pub content_of-loose : (kind : Kind) (digits bytes : List ℕ) → data_of digits ≡ Some bytes → content_of (codes "@loose:" ++ kind_word kind ++ 58 ∷ digits) ≡ Bytes (header_of kind (length bytes) ++ bytes)
+unfolding content_of object_of kind_of_word
+content_of-loose Commit digits bytes e = rw e refl
+content_of-loose Tree digits bytes e = rw e refl
+content_of-loose Blob digits bytes e = rw e refl
+content_of-loose Tag digits bytes e = rw e refl

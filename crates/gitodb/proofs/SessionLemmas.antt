@@ -1,0 +1,119 @@
+-- Lemmas on statuses: a front of a script that is too long reads as the script, and what a delivery says of a status.
+use Rattle.std.proofs.Common.{◌≡◌, ◌≢◌, ◌⊎◌, inl, inr, ℕ, ◌+◌, ◌<◌, ◌≤◌, Bool, true, false, nat_le, map, List, [], ◌∷◌, ◌++◌, length, take, refl, sym, ap, ◌∙◌, subst, Option, Some, None, arith, length-append}
+use Rattle.std.proofs.lemmas.List.{take-append-le}
+use Rattle.std.proofs.lemmas.Bool.{cases_lt}
+use Rattle.std.proofs.lemmas.Bool.Decides.{nat_tests}
+use Rattle.odb_base.specs.Faults.{Rose}
+use Rattle.gix_odb_world.specs.Headline.{Headline}
+use Rattle.gix_odb_world.specs.Play.{Plays, made_of}
+use Rattle.gitodb.specs.declared.command.Command.{Command}
+use Rattle.gitodb.specs.declared.command.Command.TheVariants.{World, Help, Version, NotUnderstood}
+use Rattle.gitodb.specs.declared.status.Status.{Status}
+use Rattle.gitodb.specs.declared.status.Status.TheVariants as statuses
+use Rattle.gitodb.specs.declared.script.reader.Ending.{Ending}
+use Rattle.gitodb.specs.declared.script.reader.Ending.TheVariants.{Whole, RefusedAt, NotBuiltAt}
+use Rattle.gitodb.specs.declared.script.reader.Script.{Script}
+use Rattle.gitodb.specs.declared.script.reader.Script.TheVariants.{Faults}
+use Rattle.gitodb.specs.declared.script.reader.Taken.{Taken}
+use Rattle.gitodb.specs.declared.script.reader.Taken.TheVariants.{GoesOn, RefusedHere, NotBuiltHere}
+use Rattle.gitodb.specs.declared.script.item.Item.{Item}
+use Rattle.gitodb.specs.declared.script.item.Item.TheVariants as items
+use Rattle.gitodb.specs.Script.{disk_of, lines_of, script_limit, items_of, lines_in, but_last, taken, carried, reading_from, reading_of}
+use Rattle.gitodb.specs.Line.{item_of}
+use Rattle.gitodb.proofs.ScriptLemmas.{items_of-front}
+use Rattle.gitodb.specs.Session.{Session, Answers, AnswersWith, ReadsScript, Adds, Writes, WritesForScript, Finished, CutOff, ReadToEnd, ReadsIts, Ends, Delivers, status_of_ending}
+
+append-nil : (xs : List ℕ) → xs ++ [] ≡ xs
+append-nil [] = refl
+append-nil (x ∷ xs) = ap (λ ys. x ∷ ys) (append-nil xs)
+
+-- ---- a front of a script
+
+-- a front that is the whole, or is longer than a script may be, reads as the whole
+items_of-read : (text rest : List ℕ) → (length text ≤ script_limit → rest ≡ []) → items_of (text ++ rest) ≡ items_of text
+items_of-read text rest whole =
+    elim (cases_lt script_limit (length text)) [
+      | inl long ↦ items_of-front text rest long
+      | inr short ↦ ap (λ r. items_of (text ++ r)) (whole short) ∙ ap items_of (append-nil text)
+    ]
+
+-- ---- a script that is too long doesn't end whole
+
+carried-Whole : (lines : List Item) (number : ℕ) (t : Taken) → ((next : Script) → (reading_from lines (number + 1) next).ending ≢ Whole) → (carried (reading_from lines (number + 1)) number t).ending ≢ Whole
+carried-Whole lines number (GoesOn next) further e = further next e
+carried-Whole lines number (RefusedHere script) further e = cc
+carried-Whole lines number (NotBuiltHere script) further e = cc
+
+refused-Whole : (lines : List Item) (number : ℕ) (script : Script) → (reading_from (lines ++ items.Refused ∷ []) number script).ending ≢ Whole
+unfolding reading_from taken
+refused-Whole [] number script e = cc
+refused-Whole (item ∷ lines) number script e =
+    carried-Whole (lines ++ items.Refused ∷ []) number (taken script item) (refused-Whole lines (number + 1)) e
+
+items_of-long : (bytes : List ℕ) → script_limit < length bytes → items_of bytes ≡ map item_of (but_last (lines_in (take script_limit bytes))) ++ items.Refused ∷ []
+unfolding items_of
+items_of-long bytes long = let short : nat_le (length bytes) script_limit ≡ false = grind (arith, nat_tests) in rw short refl
+
+too-long-Whole : (script : List ℕ) → script_limit < length script → (reading_of script).ending ≢ Whole
+too-long-Whole script long e =
+    let P : List Item → Type 0 = λ i. (reading_from i 1 (Faults [])).ending ≡ Whole in
+    refused-Whole (map item_of (but_last (lines_in (take script_limit script)))) 1 (Faults []) (subst P (items_of-long script long) e)
+
+-- ---- what was read and what is written
+
+Answers-front : (text rest written : List ℕ) (ending : Ending) → (length text ≤ script_limit → rest ≡ []) → Answers text written ending → Answers (text ++ rest) written ending
+Answers-front text rest written ending whole a =
+    let same = items_of-read text rest whole in
+    let P : List Item → Type 0 = λ i.
+    (reading_from i 1 (Faults [])).ending ≡ ending in
+    record {
+      ends = subst P (sym same) a.ends;
+      play = a.play;
+      headline = let Q : List Item → Type 0 = λ i. Headline (disk_of (reading_from i 1 (Faults [])).script) a.play.steps a.play.run in subst Q (sym same) a.headline;
+      plays = let Q : List Item → Type 0 = λ i. Plays 0 (lines_of (reading_from i 1 (Faults [])).script) (made_of a.play.steps a.play.run.outcomes) a.play.last in subst Q (sym same) a.plays;
+      written_is = a.written_is;
+    }
+
+-- what `world` writes for what it read, it writes for the script
+pub WritesForScript-read : (left left' : Option (List ℕ)) (text written : List ℕ) (status : Status) → ReadsScript left left' text → AnswersWith text written status → WritesForScript left written status
+WritesForScript-read None left' text written status reads answers = tt
+WritesForScript-read (Some script) left' text written status reads answers =
+    let P : List ℕ → Type 0 = λ s. AnswersWith s written status in
+    subst P (sym reads.1) (record { ending = answers.ending; answers = Answers-front text reads.0 written answers.ending reads.3 answers.answers; status_is = answers.status_is })
+
+-- a script that ended whole was read to its end
+ReadToEnd-whole : (left left' : Option (List ℕ)) (text written : List ℕ) → ReadsScript left left' text → Answers text written Whole → ReadToEnd left left'
+ReadToEnd-whole None left' text written reads answers = tt
+ReadToEnd-whole (Some script) left' text written reads answers =
+    elim (cases_lt script_limit (length text)) [
+      | inl long ↦ absurd (too-long-Whole text long answers.ends)
+      | inr short ↦ reads.2 ∙ ap Some (reads.3 short)
+    ]
+
+-- ---- what a delivery says of a status
+
+-- an output that was delivered ends with its status, or with a failed write
+pub Ends-delivered : (s : Session) (output : List ℕ) (status result : Status) → Writes s.help s.version s.command s.left output status → (Finished s status → Ends s status) → Delivers s.held s.held' s.sink_faults s.sink_faults' output status result → Ends s result
+Ends-delivered s output status result writes ends (inl whole) =
+    let P : Status → Type 0 = λ r. Ends s r in
+    subst P (sym whole.0) (ends (record { written = output; writes = writes; added = whole.1 }))
+Ends-delivered s output status result writes ends (inr failed) =
+    let P : Status → Type 0 = λ r. Ends s r in
+    subst P (sym failed.0) (failed.1, record { status = status; written = output; writes = writes; count = failed.2.0; added = failed.2.1 })
+
+-- a script that was answered ends with the status of its ending
+ends-by : (s : Session) (text written : List ℕ) (ending : Ending) → s.command ≡ World → ReadsScript s.left s.left' text → Answers text written ending → Finished s (status_of_ending ending) → Ends s (status_of_ending ending)
+ends-by s text written Whole world reads answers finished =
+    let P : Command → Type 0 = λ c. ReadsIts c s.left s.left' in
+    (finished, subst P (sym world) (ReadToEnd-whole s.left s.left' text written reads answers))
+ends-by s text written (RefusedAt line) world reads answers finished = (world, finished)
+ends-by s text written (NotBuiltAt line) world reads answers finished = (world, finished)
+
+pub Ends-world : (s : Session) (text output : List ℕ) (status result : Status) → s.command ≡ World → ReadsScript s.left s.left' text → AnswersWith text output status → Delivers s.held s.held' s.sink_faults s.sink_faults' output status result → Ends s result
+Ends-world s text output status result world reads answers delivered =
+    let P : Command → Type 0 = λ c. Writes s.help s.version c s.left output status in
+    let E : Status → Type 0 = λ r. Finished s r → Ends s r in
+    Ends-delivered s output status result
+    (subst P (sym world) (WritesForScript-read s.left s.left' text output status reads answers))
+    (subst E (sym answers.status_is) (ends-by s text output answers.ending world reads answers.answers))
+    delivered

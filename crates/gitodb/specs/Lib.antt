@@ -1,0 +1,8 @@
+pub mod Word
+pub mod Content
+pub mod Change
+pub mod Opening
+pub mod Line
+pub mod Script
+pub mod Print
+pub mod Session

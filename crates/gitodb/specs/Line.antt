@@ -1,0 +1,94 @@
+-- What one line of a script says. Fields are split by one space.
+use Rattle.std.specs.Prelude.{ℕ, ◌==◌, Bool, true, List, [], ◌∷◌, Option, Some, None, if◌then◌else◌, map}
+use Rattle.std.specs.Borrow.{Bor}
+use Rattle.std.specs.List.{slice_split}
+use Rattle.std.specs.Str.{is_utf8}
+use Rattle.odb_base.specs.Decimal.{number_of}
+use Rattle.gix_hash.specs.ObjectId.{id_of}
+use Rattle.gix_hash.specs.declared.object_id.ObjectId.{ObjectId}
+use Rattle.gix_hash.specs.declared.object_id.ObjectId.TheVariants as ids
+use Rattle.gix_odb_world.specs.declared.call.Call.TheVariants as calls
+use Rattle.gix_odb_world.specs.declared.step.Step.{Step}
+use Rattle.gix_odb_world.specs.declared.step.Step.TheVariants as steps
+use Rattle.gix_odb_world.specs.declared.play.Line.TheVariants.{One, Finish}
+use Rattle.gitodb.specs.declared.script.change.Spelled.{Spelled}
+use Rattle.gitodb.specs.declared.script.change.Spelled.TheVariants as spelled
+use Rattle.gitodb.specs.declared.script.item.Item.{Item}
+use Rattle.gitodb.specs.declared.script.item.Item.TheVariants as items
+use Rattle.gitodb.specs.declared.script.word.Word.{Word}
+use Rattle.gitodb.specs.declared.script.word.Word.TheVariants as words
+use Rattle.gitodb.specs.Word.{word_of, change_word_of}
+use Rattle.gitodb.specs.Change.{change_of}
+use Rattle.gitodb.specs.Opening.{handle_of, open_of}
+
+abbrev pub Fields : Type 0
+Fields = List (List ℕ)
+
+abbrev pub fields_of : List ℕ → Fields
+fields_of line = slice_split (λ b. b == 32) line
+
+-- the fields that references lead to
+abbrev pub texts_of : List (Bor (List ℕ)) → Fields
+texts_of fields = map (λ field. field.now) fields
+
+abbrev pub step_item : Step → Item
+step_item step = items.Play (One step)
+
+-- a change of the setup, and one that another program makes while the steps are played
+abbrev pub setup_item : Spelled → Item
+setup_item (spelled.Change change) = items.Setup change
+setup_item spelled.Later = items.NotBuilt
+setup_item spelled.Wrong = items.Refused
+
+abbrev pub outside_item : Spelled → Item
+outside_item (spelled.Change change) = step_item (steps.Disk change)
+outside_item spelled.Later = items.NotBuilt
+outside_item spelled.Wrong = items.Refused
+
+-- a line that is what is read, or refused where nothing is
+abbrev pub item_or_refused : (ℕ → Item) → Option ℕ → Item
+item_or_refused item None = items.Refused
+item_or_refused item (Some number) = item number
+
+-- a line of the handle that a field names
+abbrev pub for_handle : (ℕ → Item) → List ℕ → Item
+for_handle item text = item_or_refused item (handle_of text)
+
+-- a find; ids of 64 digits come later
+abbrev pub find_of : Option ℕ → Option ObjectId → Item
+find_of handle None = items.Refused
+find_of handle (Some (ids.Sha256 bytes)) = items.NotBuilt
+find_of None (Some (ids.Sha1 bytes)) = items.Refused
+find_of (Some handle) (Some (ids.Sha1 bytes)) = step_item (steps.Start handle (calls.Find (ids.Sha1 bytes)))
+
+-- a line by its first word and the fields after it
+unfoldable pub line_item : Option Word → Fields → Item
+line_item None fields = items.Refused
+line_item (Some words.Later) fields = items.NotBuilt
+line_item (Some words.Fail) (number ∷ []) = item_or_refused items.Fail (number_of number)
+line_item (Some words.Mkdir) fields = setup_item (change_of (Some words.Mkdir) fields)
+line_item (Some words.Put) fields = setup_item (change_of (Some words.Put) fields)
+line_item (Some words.Steps) [] = items.Steps
+line_item (Some words.Open) (handle ∷ path ∷ options) = open_of handle path options
+line_item (Some words.Close) (handle ∷ []) = for_handle (λ h. step_item (steps.Close h)) handle
+line_item (Some words.Find) (handle ∷ id ∷ []) = find_of (handle_of handle) (id_of id)
+line_item (Some words.Turn) (handle ∷ []) = for_handle (λ h. step_item (steps.Turn h)) handle
+line_item (Some words.Finish) (handle ∷ []) = for_handle (λ h. items.Play (Finish h)) handle
+line_item (Some words.Do) (word ∷ fields) = outside_item (change_of (change_word_of word) fields)
+line_item (Some word) fields = items.Refused
+
+abbrev pub fields_item : Fields → Item
+fields_item [] = items.Blank
+fields_item (word ∷ fields) = line_item (word_of word) fields
+
+-- an empty line, or one that begins with `#`
+abbrev pub is_blank : List ℕ → Bool
+is_blank [] = true
+is_blank (first ∷ rest) = first == 35
+
+-- what a line says: a blank one nothing, and any other has to be text
+unfoldable pub item_of : List ℕ → Item
+item_of line =
+    if is_blank line then items.Blank
+    else if is_utf8 line then fields_item (fields_of line)
+    else items.Refused

@@ -1,0 +1,84 @@
+-- What is written: a line for each outcome, and the texts of the statuses.
+use Rattle.std.specs.Prelude.{ℕ, List, [], ◌∷◌, ◌++◌, length, codes, slice_get, Option, Some, None}
+use Rattle.std.specs.List.{flat_map}
+use Rattle.std.specs.Fmt.{decimal}
+use Rattle.hex.specs.Hex.{encode_lower}
+use Rattle.odb_disk.specs.Path.{Path, text_of}
+use Rattle.gix_odb_world.specs.declared.object.Kind.{Kind}
+use Rattle.gix_odb_world.specs.Loose.{kind_word}
+use Rattle.gix_odb_world.specs.declared.step.Outcome.{Outcome}
+use Rattle.gix_odb_world.specs.declared.step.Outcome.TheVariants as comes
+use Rattle.gix_odb_world.specs.declared.step.Why.{Why}
+use Rattle.gix_odb_world.specs.declared.step.Why.TheVariants.{HandleTaken, NoHandle, NotRunning, Busy, ImpossibleChange}
+use Rattle.gix_odb_world.specs.declared.call.Reply.{Reply}
+use Rattle.gix_odb_world.specs.declared.call.Reply.TheVariants as replies
+use Rattle.gix_odb_world.specs.declared.call.CallError.{CallError}
+use Rattle.gix_odb_world.specs.declared.call.CallError.TheVariants as call_errors
+use Rattle.gix_odb_world.specs.declared.init.Error as opening
+use Rattle.gix_odb_world.specs.declared.init.Error.TheVariants as opening_errors
+use Rattle.gix_odb_world.specs.declared.find.Error as finding
+use Rattle.gix_odb_world.specs.declared.find.Error.TheVariants as find_errors
+use Rattle.gix_odb_world.specs.declared.loose.find.Error as loose
+use Rattle.gix_odb_world.specs.declared.loose.find.Error.TheVariants as loose_errors
+use Rattle.gitodb.specs.declared.script.reader.Ending.{Ending}
+use Rattle.gitodb.specs.declared.script.reader.Ending.TheVariants.{Whole, RefusedAt, NotBuiltAt}
+
+-- data as lower-case hex, or `-` for nothing
+abbrev pub data_text : List ℕ → List ℕ
+data_text [] = codes "-"
+data_text (byte ∷ bytes) = encode_lower (byte ∷ bytes)
+
+abbrev pub why_text : Why → List ℕ
+why_text HandleTaken = codes "handle-taken"
+why_text NoHandle = codes "no-handle"
+why_text NotRunning = codes "not-running"
+why_text Busy = codes "busy"
+why_text ImpossibleChange = codes "impossible-change"
+
+abbrev pub opening_text : opening.Error → List ℕ
+opening_text opening_errors.NotADirectory = codes "not-a-directory"
+opening_text (opening_errors.TooManySlots asked) = codes "too-many-slots " ++ decimal asked
+opening_text opening_errors.Io = codes "io"
+opening_text opening_errors.NoMemory = codes "no-memory"
+
+abbrev pub loose_text : loose.Error → List ℕ
+loose_text (loose_errors.SizeMismatch actual expected path) = (codes "size-mismatch " ++ decimal expected) ++ (codes " " ++ decimal actual)
+loose_text loose_errors.Decode = codes "decode"
+loose_text (loose_errors.Io action path) = codes "io " ++ text_of path
+loose_text loose_errors.NoMemory = codes "no-memory"
+
+abbrev pub find_text : finding.Error → List ℕ
+find_text (find_errors.Loose error) = codes "loose " ++ loose_text error
+find_text find_errors.NoMemory = codes "no-memory"
+
+abbrev pub error_text : CallError → List ℕ
+error_text (call_errors.Open error) = codes "open " ++ opening_text error
+error_text (call_errors.Find error) = find_text error
+
+abbrev pub reply_text : Reply → List ℕ
+reply_text (replies.Opened slots) = codes "opened " ++ decimal slots
+reply_text (replies.Found kind bytes) = codes "found " ++ kind_word kind ++ codes " " ++ decimal (length bytes) ++ codes " " ++ data_text bytes
+reply_text replies.NotFound = codes "not-found"
+reply_text (replies.Refused error) = codes "error " ++ error_text error
+
+-- the line of an outcome, without its line feed
+abbrev pub printed : Outcome → List ℕ
+printed comes.Applied = codes "applied"
+printed comes.Pending = codes "pending"
+printed (comes.Reply reply) = reply_text reply
+printed (comes.Misuse why) = codes "misuse " ++ why_text why
+
+-- the line of an outcome with its line feed, if there is one at the place
+abbrev pub line_of : Option Outcome → List ℕ
+line_of None = []
+line_of (Some outcome) = printed outcome ++ 10 ∷ []
+
+-- a line for the outcome at each place
+unfoldable pub printed_at : List Outcome → List ℕ → List ℕ
+printed_at outcomes places = flat_map (λ place. line_of (slice_get outcomes place)) places
+
+-- the text with which a script ends
+abbrev pub ending_text : Ending → List ℕ
+ending_text Whole = []
+ending_text (RefusedAt line) = codes "line " ++ decimal line ++ codes " refused" ++ 10 ∷ []
+ending_text (NotBuiltAt line) = codes "line " ++ decimal line ++ codes " not built" ++ 10 ∷ []

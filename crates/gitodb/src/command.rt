@@ -1,0 +1,31 @@
+ghost use Rattle.std.specs.Prelude.{◌≡◌, map};
+ghost use Rattle.std.specs.String.{string_bytes};
+ghost use Rattle.gitodb.specs.Session.{command_of};
+
+/// What the words of the command line ask for.
+#[derive(Clone, Copy, Debug, PartialEq, Eq)]
+pub enum Command {
+    World,
+    Help,
+    Version,
+    NotUnderstood,
+}
+
+/// The command that the words are.
+pub fn command_of(words: &[String]) -> Command
+    ensures { result ≡ command_of (map (λ word. string_bytes word) words.now) }
+{
+    let [word] = words else {
+        return Command::NotUnderstood;
+    };
+    let word = word.as_str();
+    if word == "world" {
+        Command::World
+    } else if word == "--help" {
+        Command::Help
+    } else if word == "--version" {
+        Command::Version
+    } else {
+        Command::NotUnderstood
+    }
+}

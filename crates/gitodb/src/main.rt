@@ -1,0 +1,52 @@
+//! The object database as a program.
+//!
+//! `gitodb world` reads a script from standard input: a disk, and steps of interleaved calls on it, and writes
+//! one line for each step line. `run` says what each status promises, over any source, sink and disk; `main`
+//! calls it with the real ones.
+#![tactic(auto)]
+
+mod command;
+mod print;
+mod run;
+mod script;
+mod status;
+mod stream;
+#[cfg(test)]
+mod tests;
+mod world_command;
+
+use crate::status::Status;
+use odb_disk::{HostDisk, StdSink, StdSource};
+use std::alloc::Global;
+use std::process::ExitCode;
+use std::rt::Env;
+use std::{env, io};
+
+fn main(rt: HostRuntime) -> ExitCode {
+    let alloc = rt.alloc();
+    let words = match words(&rt, alloc) {
+        Ok(words) => words,
+        Err(error) if error.kind() == io::ErrorKind::OutOfMemory => {
+            return ExitCode::from(Status::NoMemory.code());
+        }
+        // Arguments that are no text are words that aren't understood.
+        Err(_) => Vec::new(alloc),
+    };
+    let Ok(files) = rt.clone() else {
+        return ExitCode::from(Status::NoMemory.code());
+    };
+    let mut source = StdSource::new(rt.reader());
+    let mut sink = StdSink::new(io::writer(&rt));
+    let mut disk = HostDisk::new(files);
+    let status = run::run(&rt, alloc, &words, &mut source, &mut sink, &mut disk);
+    ExitCode::from(status.code())
+}
+
+/// The words of the command line, without the program's name.
+fn words<R: Env + AllocGlobal>(rt: &R, alloc: Global) -> io::Result<Vec<String>> {
+    let mut words = Vec::new(alloc);
+    for word in env::args(rt)?.skip(1) {
+        words.push(word)?;
+    }
+    Ok(words)
+}

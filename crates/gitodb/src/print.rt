@@ -1,0 +1,151 @@
+//! The lines that are written for outcomes.
+ghost use Rattle.std.specs.Prelude.{◌≡◌, ◌++◌, ◌∷◌, [], OnOk, length, codes};
+ghost use Rattle.std.specs.Fmt.{decimal};
+ghost use Rattle.gitodb.specs.Print.{printed, reply_text, error_text, opening_text, find_text, loose_text, why_text, data_text};
+
+use gix_odb_world::{CallError, Outcome, Reply, Why, find, init, loose};
+use odb_base::NoMemory;
+use std::alloc::Global;
+
+/// Adds the line of an outcome, without its line feed.
+pub fn print_outcome(alloc: Global, out: &mut Vec<u8>, outcome: &Outcome) -> Result<(), NoMemory>
+    ensures ok { OnOk result (out.new.items ≡ out.old.items ++ printed outcome.now) }
+{
+    match outcome {
+        Outcome::Applied => text(out, b"applied"),
+        Outcome::Pending => text(out, b"pending"),
+        Outcome::Reply(reply) => print_reply(alloc, out, reply),
+        Outcome::Misuse(why) => {
+            text(out, b"misuse ")?;
+            text(out, word_of(*why))
+        }
+    }
+}
+
+fn print_reply(alloc: Global, out: &mut Vec<u8>, reply: &Reply) -> Result<(), NoMemory>
+    ensures ok { OnOk result (out.new.items ≡ out.old.items ++ reply_text reply.now) }
+{
+    match reply {
+        Reply::Opened { slots } => {
+            text(out, b"opened ")?;
+            number(alloc, out, u64::from(*slots))
+        }
+        Reply::Found { kind, bytes } => {
+            text(out, b"found ")?;
+            text(out, kind.as_bytes())?;
+            text(out, b" ")?;
+            number(alloc, out, bytes.len() as u64)?;
+            text(out, b" ")?;
+            data(alloc, out, bytes.as_slice())
+        }
+        Reply::NotFound => text(out, b"not-found"),
+        Reply::Refused(error) => {
+            text(out, b"error ")?;
+            print_error(alloc, out, error)
+        }
+    }
+}
+
+fn print_error(alloc: Global, out: &mut Vec<u8>, error: &CallError) -> Result<(), NoMemory>
+    ensures ok { OnOk result (out.new.items ≡ out.old.items ++ error_text error.now) }
+{
+    match error {
+        CallError::Open(error) => {
+            text(out, b"open ")?;
+            print_opening_error(alloc, out, error)
+        }
+        CallError::Find(find::Error::Loose(error)) => {
+            text(out, b"loose ")?;
+            print_loose_error(alloc, out, error)
+        }
+        CallError::Find(find::Error::NoMemory) => text(out, b"no-memory"),
+    }
+}
+
+fn print_opening_error(
+    alloc: Global,
+    out: &mut Vec<u8>,
+    error: &init::Error,
+) -> Result<(), NoMemory>
+    ensures ok { OnOk result (out.new.items ≡ out.old.items ++ opening_text error.now) }
+{
+    match error {
+        init::Error::NotADirectory => text(out, b"not-a-directory"),
+        init::Error::TooManySlots { asked } => labelled(alloc, out, b"too-many-slots ", *asked),
+        init::Error::Io => text(out, b"io"),
+        init::Error::NoMemory => text(out, b"no-memory"),
+    }
+}
+
+fn print_loose_error(
+    alloc: Global,
+    out: &mut Vec<u8>,
+    error: &loose::find::Error,
+) -> Result<(), NoMemory>
+    ensures ok { OnOk result (out.new.items ≡ out.old.items ++ loose_text error.now) }
+{
+    match error {
+        loose::find::Error::SizeMismatch {
+            actual,
+            expected,
+            ..
+        } => print_sizes(alloc, out, *expected, *actual),
+        loose::find::Error::Decode => text(out, b"decode"),
+        loose::find::Error::Io { path, .. } => {
+            text(out, b"io ")?;
+            text(out, path.to_text(alloc)?.as_bytes())
+        }
+        loose::find::Error::NoMemory => text(out, b"no-memory"),
+    }
+}
+
+fn print_sizes(alloc: Global, out: &mut Vec<u8>, expected: u64, actual: u64) -> Result<(), NoMemory>
+    ensures ok { OnOk result (out.new.items ≡ out.old.items ++ ((codes "size-mismatch " ++ decimal expected) ++ (codes " " ++ decimal actual))) }
+{
+    labelled(alloc, out, b"size-mismatch ", expected)?;
+    labelled(alloc, out, b" ", actual)
+}
+
+fn word_of(why: Why) -> &'static [u8]
+    ensures { result.now ≡ why_text why }
+{
+    match why {
+        Why::HandleTaken => b"handle-taken",
+        Why::NoHandle => b"no-handle",
+        Why::NotRunning => b"not-running",
+        Why::Busy => b"busy",
+        Why::ImpossibleChange => b"impossible-change",
+    }
+}
+
+/// Adds data as lower-case hex digits, or `-` for nothing.
+fn data(alloc: Global, out: &mut Vec<u8>, bytes: &[u8]) -> Result<(), NoMemory>
+    ensures ok { OnOk result (out.new.items ≡ out.old.items ++ data_text bytes.now) }
+{
+    if bytes.is_empty() {
+        return text(out, b"-");
+    }
+    text(out, hex::encode(alloc, bytes)?.as_bytes())
+}
+
+/// Adds a text and a number in decimal.
+pub fn labelled(alloc: Global, out: &mut Vec<u8>, label: &[u8], value: u64) -> Result<(), NoMemory>
+    ensures ok { OnOk result (out.new.items ≡ out.old.items ++ (label.now ++ decimal value)) }
+{
+    text(out, label)?;
+    number(alloc, out, value)
+}
+
+/// Adds a number in decimal.
+pub fn number(alloc: Global, out: &mut Vec<u8>, number: u64) -> Result<(), NoMemory>
+    ensures ok { OnOk result (out.new.items ≡ out.old.items ++ decimal number) }
+{
+    text(out, number.to_string(alloc)?.as_bytes())
+}
+
+/// Adds text.
+pub fn text(out: &mut Vec<u8>, text: &[u8]) -> Result<(), NoMemory>
+    ensures ok { OnOk result (out.new.items ≡ out.old.items ++ text.now) }
+{
+    Ok(out.extend_from_slice(text)?)
+}

@@ -1,0 +1,117 @@
+//! The program as one call, over any source, sink and disk.
+ghost use Rattle.std.specs.Prelude.{◌≡◌, List, ℕ, map};
+ghost use Rattle.std.specs.String.{string_bytes};
+ghost use Rattle.gitodb.specs.Session.{Ends, Delivers, command_of};
+ghost use Rattle.gitodb.specs.declared.command.Command.TheVariants.{World as world_command};
+
+use crate::command::{Command, command_of};
+use crate::status::Status;
+use crate::stream::{ReadError, read_script, write_all};
+use crate::world_command::answer_script;
+use odb_base::NoMemory;
+use odb_disk::{Disk, Failed, Sink, Source};
+use std::alloc::Global;
+
+/// What `--help` writes.
+pub const HELP: &str = "\
+usage: gitodb world < SCRIPT
+       gitodb --help | --version
+
+world reads a script from standard input and writes one line for each of its
+step lines. Fields are split by one space; empty lines and lines that begin
+with `#` say nothing. See docs/SCRIPT.md for the whole language.
+
+  fail N                     the disk's call number N fails; before all others
+  mkdir PATH                 a directory is there at the start
+  put PATH TIME CONTENT      a file is there at the start
+  steps                      the steps begin
+
+  open H PATH slots=N        handle H begins to open the store at PATH
+  close H                    closes an idle handle
+  find H HEX                 begins to find an object
+  turn H                     lets H make one call of the disk
+  finish H                   turns H until its call has ended
+  do mkdir PATH              another program makes a directory
+  do put PATH TIME CONTENT   another program puts a file
+  do remove PATH             another program removes a file or an empty directory
+
+CONTENT is @loose:KIND:DATA. KIND is commit, tree, blob or tag; DATA is hex, or
+`-` for nothing. HEX has 40 lower-case digits. Numbers are decimal.
+
+status  0 done   1 words not understood   2 a line was refused   3 read fault
+        4 write fault   5 out of memory   8 a line has a word not built yet
+";
+
+/// What `--version` writes.
+pub const VERSION: &str = "gitodb 0.1.0\n";
+
+/// Does what the words of the command line say, and answers the status.
+///
+/// `world` reads a script from the source and runs it over a disk in memory; the disk that is handed in is left as it is.
+pub fn run<R, S: Source, K: Sink, D: Disk>(
+    _rt: &R,
+    alloc: Global,
+    words: &[String],
+    source: &mut S,
+    sink: &mut K,
+    disk: &mut D,
+) -> Status
+    ensures ends { Ends (record {
+      command = command_of (map (λ word. string_bytes word) words.now);
+      left = S.left source.old;
+      left' = S.left source.new;
+      held = K.held sink.old;
+      held' = K.held sink.new;
+      source_faults = S.faults source.old;
+      source_faults' = S.faults source.new;
+      sink_faults = K.faults sink.old;
+      sink_faults' = K.faults sink.new;
+      help = HELP.now;
+      version = VERSION.now;
+    }) result }
+    ensures disk_kept { disk.new ≡ disk.old }
+{
+    match command_of(words) {
+        Command::World => world(alloc, source, sink),
+        Command::Help => answer(sink, HELP.as_bytes(), Status::Done),
+        Command::Version => answer(sink, VERSION.as_bytes(), Status::Done),
+        Command::NotUnderstood => answer(sink, b"words not understood\n", Status::NotUnderstood),
+    }
+}
+
+/// Reads a script, and writes what comes of it.
+fn world<S: Source, K: Sink>(alloc: Global, source: &mut S, sink: &mut K) -> Status
+    ensures ends { (help version : List ℕ) → Ends (record {
+      command = world_command;
+      left = S.left source.old;
+      left' = S.left source.new;
+      held = K.held sink.old;
+      held' = K.held sink.new;
+      source_faults = S.faults source.old;
+      source_faults' = S.faults source.new;
+      sink_faults = K.faults sink.old;
+      sink_faults' = K.faults sink.new;
+      help = help;
+      version = version;
+    }) result }
+{
+    let script = match read_script(alloc, source) {
+        Ok(script) => script,
+        Err(ReadError::Failed) => return Status::ReadFault,
+        Err(ReadError::NoMemory) => return Status::NoMemory,
+    };
+    match answer_script(alloc, &script) {
+        Ok((output, status)) => answer(sink, &output, status),
+        Err(NoMemory) => Status::NoMemory,
+    }
+}
+
+/// Writes an output, and answers its status unless the sink fails.
+fn answer<K: Sink>(sink: &mut K, output: &[u8], status: Status) -> Status
+    ensures delivered { Delivers (K.held sink.old) (K.held sink.new) (K.faults sink.old) (K.faults sink.new) output.now status result }
+{
+    match write_all(sink, output) {
+        Ok(()) => status,
+        Err(Failed) => Status::WriteFault,
+    }
+}

@@ -1,0 +1,10 @@
+//! Scripts: what their lines say, and the disk and the lines to play that they come to.
+mod change;
+mod content;
+mod item;
+mod opening;
+mod reader;
+mod word;
+
+pub use item::{Item, item_of};
+pub use reader::{Ending, Reading, SCRIPT_LIMIT, Script, read};

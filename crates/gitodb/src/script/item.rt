@@ -1,0 +1,242 @@
+ghost use Rattle.std.specs.Prelude.{◌≡◌, Some, IfOk};
+ghost use Rattle.gix_hash.specs.ObjectId.{id_of};
+ghost use Rattle.gitodb.specs.Line.{item_of, is_blank, fields_of, fields_item, texts_of, line_item, find_of, step_item, setup_item, outside_item};
+
+use crate::script::change::{Spelled, change_of};
+use crate::script::opening::{handle_of, open_of};
+use crate::script::word::{Word, change_word_of, word_of};
+use gix_hash::ObjectId;
+use gix_odb_world::{Call, Line, Step};
+use odb_base::{NoMemory, parse_decimal};
+use odb_disk::Change;
+use std::alloc::{AllocError, Global};
+
+/// What a line of a script says.
+#[derive(Debug, Drop)]
+pub enum Item {
+    /// Nothing: an empty line, or one that begins with `#`.
+    Blank,
+    /// The call of the disk with this number fails.
+    Fail(u64),
+    /// A change of the disk before the steps.
+    Setup(Change),
+    /// The steps begin.
+    Steps,
+    /// A line to play.
+    Play(Line),
+    /// A word of the language that isn't built yet.
+    NotBuilt,
+    /// Outside the language.
+    Refused,
+}
+
+/// What a line says. The line has no line feed.
+#[tactic(auto, using(crate::proofs::TextLemmas::utf8_true, crate::proofs::TextLemmas::utf8_false), unfolding(crate::specs::Line::item_of))]
+pub fn item_of(alloc: Global, line: &[u8]) -> Result<Item, NoMemory>
+    ensures { IfOk result (λ item. item ≡ item_of line.now) }
+{
+    if is_blank(line) {
+        return Ok(Item::Blank);
+    }
+    match std::str::from_utf8(line) {
+        Ok(text) => text_item(alloc, text),
+        Err(_) => Ok(Item::Refused),
+    }
+}
+
+/// Whether a line is empty or begins with `#`.
+fn is_blank(line: &[u8]) -> bool
+    ensures { result ≡ is_blank line.now }
+{
+    match line {
+        [] => true,
+        [first, ..] => *first == b'#',
+    }
+}
+
+/// What a line that is text says.
+fn text_item(alloc: Global, line: &str) -> Result<Item, NoMemory>
+    ensures { IfOk result (λ item. item ≡ fields_item (fields_of line.now)) }
+{
+    let fields = fields_of(alloc, line)?;
+    fields_item(alloc, &fields)
+}
+
+/// The fields of a line, which are split by one space.
+fn fields_of<'a>(alloc: Global, line: &'a str) -> Result<Vec<&'a str>, AllocError>
+    ensures { IfOk result (λ fields. texts_of fields.items ≡ fields_of line.now) }
+{
+    line.split(' ').collect(alloc)
+}
+
+fn fields_item(alloc: Global, fields: &[&str]) -> Result<Item, NoMemory>
+    ensures { IfOk result (λ item. item ≡ fields_item (texts_of fields.now)) }
+{
+    match fields {
+        [] => Ok(Item::Blank),
+        [word, fields @ ..] => line_item(alloc, word_of(word), fields),
+    }
+}
+
+/// A line by its first word and the fields after it.
+#[tactic(auto, unfolding(crate::specs::Line::line_item))]
+fn line_item(alloc: Global, word: Option<Word>, fields: &[&str]) -> Result<Item, NoMemory>
+    ensures { IfOk result (λ item. item ≡ line_item word (texts_of fields.now)) }
+{
+    match word {
+        Some(Word::Later) => Ok(Item::NotBuilt),
+        Some(Word::Fail) => Ok(fail(fields)),
+        Some(Word::Mkdir | Word::Put) => Ok(setup_item(change_of(alloc, word, fields)?)),
+        Some(Word::Steps) => Ok(steps(fields)),
+        Some(Word::Open) => open(alloc, fields),
+        Some(Word::Close) => Ok(close(fields)),
+        Some(Word::Find) => Ok(find(fields)),
+        Some(Word::Turn) => Ok(turn(fields)),
+        Some(Word::Finish) => Ok(finish(fields)),
+        Some(Word::Do) => change(alloc, fields),
+        Some(Word::Remove) | None => Ok(Item::Refused),
+    }
+}
+
+#[tactic(auto, unfolding(crate::specs::Line::line_item))]
+fn fail(fields: &[&str]) -> Item
+    ensures { result ≡ line_item (Some Word.Fail) (texts_of fields.now) }
+{
+    match fields {
+        [number] => match parse_decimal(number) {
+            Some(number) => Item::Fail(number),
+            None => Item::Refused,
+        },
+        _ => Item::Refused,
+    }
+}
+
+#[tactic(auto, unfolding(crate::specs::Line::line_item))]
+fn steps(fields: &[&str]) -> Item
+    ensures { result ≡ line_item (Some Word.Steps) (texts_of fields.now) }
+{
+    match fields {
+        [] => Item::Steps,
+        _ => Item::Refused,
+    }
+}
+
+#[tactic(auto, unfolding(crate::specs::Line::line_item))]
+fn open(alloc: Global, fields: &[&str]) -> Result<Item, NoMemory>
+    ensures { IfOk result (λ item. item ≡ line_item (Some Word.Open) (texts_of fields.now)) }
+{
+    match fields {
+        [handle, path, options @ ..] => open_of(alloc, handle, path, options),
+        _ => Ok(Item::Refused),
+    }
+}
+
+#[tactic(auto, unfolding(crate::specs::Line::line_item))]
+fn close(fields: &[&str]) -> Item
+    ensures { result ≡ line_item (Some Word.Close) (texts_of fields.now) }
+{
+    match fields {
+        [handle] => match handle_of(handle) {
+            Some(handle) => step_item(Step::Close { handle }),
+            None => Item::Refused,
+        },
+        _ => Item::Refused,
+    }
+}
+
+#[tactic(auto, unfolding(crate::specs::Line::line_item))]
+fn find(fields: &[&str]) -> Item
+    ensures { result ≡ line_item (Some Word.Find) (texts_of fields.now) }
+{
+    match fields {
+        [handle, id] => find_of(handle_of(handle), id_of(id)),
+        _ => Item::Refused,
+    }
+}
+
+fn id_of(text: &str) -> Option<ObjectId>
+    ensures { result ≡ id_of text.now }
+{
+    ObjectId::from_hex(text.as_bytes()).ok()
+}
+
+/// A find. Ids of 64 digits come later.
+fn find_of(handle: Option<u32>, id: Option<ObjectId>) -> Item
+    ensures { result ≡ find_of handle id }
+{
+    match (handle, id) {
+        (_, None) => Item::Refused,
+        (_, Some(ObjectId::Sha256(_))) => Item::NotBuilt,
+        (None, Some(ObjectId::Sha1(_))) => Item::Refused,
+        (Some(handle), Some(id)) => step_item(Step::Start {
+            handle,
+            call: Call::Find(id),
+        }),
+    }
+}
+
+#[tactic(auto, unfolding(crate::specs::Line::line_item))]
+fn turn(fields: &[&str]) -> Item
+    ensures { result ≡ line_item (Some Word.Turn) (texts_of fields.now) }
+{
+    match fields {
+        [handle] => match handle_of(handle) {
+            Some(handle) => step_item(Step::Turn { handle }),
+            None => Item::Refused,
+        },
+        _ => Item::Refused,
+    }
+}
+
+#[tactic(auto, unfolding(crate::specs::Line::line_item))]
+fn finish(fields: &[&str]) -> Item
+    ensures { result ≡ line_item (Some Word.Finish) (texts_of fields.now) }
+{
+    match fields {
+        [handle] => match handle_of(handle) {
+            Some(handle) => Item::Play(Line::Finish { handle }),
+            None => Item::Refused,
+        },
+        _ => Item::Refused,
+    }
+}
+
+/// A change that another program makes.
+#[tactic(auto, unfolding(crate::specs::Line::line_item))]
+fn change(alloc: Global, fields: &[&str]) -> Result<Item, NoMemory>
+    ensures { IfOk result (λ item. item ≡ line_item (Some Word.Do) (texts_of fields.now)) }
+{
+    match fields {
+        [word, fields @ ..] => {
+            let spelled = change_of(alloc, change_word_of(word), fields)?;
+            Ok(outside_item(spelled))
+        }
+        [] => Ok(Item::Refused),
+    }
+}
+
+fn step_item(step: Step) -> Item
+    ensures { result ≡ step_item step }
+{
+    Item::Play(Line::One(step))
+}
+
+fn setup_item(spelled: Spelled) -> Item
+    ensures { result ≡ setup_item spelled }
+{
+    match spelled {
+        Spelled::Change(change) => Item::Setup(change),
+        Spelled::Later => Item::NotBuilt,
+        Spelled::Wrong => Item::Refused,
+    }
+}
+
+fn outside_item(spelled: Spelled) -> Item
+    ensures { result ≡ outside_item spelled }
+{
+    match spelled {
+        Spelled::Change(change) => step_item(Step::Disk(change)),
+        Spelled::Later => Item::NotBuilt,
+        Spelled::Wrong => Item::Refused,
+    }
+}

@@ -1,0 +1,4 @@
+//! Tests of the program.
+mod print;
+mod program;
+mod script;
