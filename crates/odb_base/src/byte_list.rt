@@ -1,4 +1,4 @@
-ghost use Rattle.std.specs.Prelude.{◌≡◌, ◌==◌, ◌↔◌, List, ℕ, [], ◌∷◌, ◌++◌, length, IfOk, OnOk, OnErr, IsTrue, nat_eq};
+ghost use Rattle.std.specs.Prelude.{◌≡◌, ◌==◌, ◌↔◌, List, ℕ, [], ◌∷◌, ◌++◌, length, IfOk, OnOk, OnErr, IsTrue, nat_eq, slice_get};
 ghost use Rattle.std.specs.Cmp.Lexicographic.{nat_list_eq_equiv};
 ghost use Rattle.std.specs.Cmp.{partial_equiv_from_equiv};
 ghost use lib.Pointwise.{pointwise};
@@ -53,22 +53,32 @@ impl ByteList {
         self.bytes
     }
 
+    /// The bytes as a slice.
     pub fn as_slice(&self) -> &[u8]
         ensures { result.now ≡ self.now }
     {
         &self.bytes
     }
 
+    /// How many bytes there are.
     pub fn len(&self) -> usize
         ensures { result ≡ length self.now }
     {
         self.bytes.len()
     }
 
+    /// Whether there is no byte.
     pub fn is_empty(&self) -> bool
         ensures { IsTrue result ↔ (self.now ≡ []) }
     {
         self.bytes.is_empty()
+    }
+
+    /// The byte at an index, counted from 0, if there is one.
+    pub fn get(&self, index: usize) -> Option<u8>
+        ensures { result ≡ slice_get self.now index }
+    {
+        self.bytes.get(index).copied()
     }
 
     /// Adds a byte at the end. A refused push changes nothing.

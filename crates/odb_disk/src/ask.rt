@@ -30,6 +30,7 @@ pub enum Op {
 }
 
 impl DiskAsk {
+    /// Which call it is.
     pub fn op(&self) -> Op
         ensures { result ≡ op_of self.now }
     {
@@ -39,6 +40,7 @@ impl DiskAsk {
         }
     }
 
+    /// The path that it asks about.
     pub fn path(&self) -> &PathText
         ensures { result.now ≡ path_asked self.now }
     {

@@ -1,6 +1,6 @@
 ghost use Rattle.std.specs.Prelude.{◌≡◌, ℕ, Option, IfSome};
 ghost use Rattle.odb_disk.specs.declared.disk.DiskError.TheVariants.{NoMemory as out_of_memory};
-ghost use Rattle.odb_disk.specs.Tree.{State, tree_of};
+ghost use Rattle.odb_disk.specs.Tree.{IsTree, State, tree_of};
 ghost use Rattle.odb_disk.specs.Tree.Follow.{looked, read_of};
 ghost use Rattle.odb_disk.specs.Disk.{Answers, FailsOnlyByFault};
 
@@ -81,7 +81,7 @@ impl<T: Drop> From<AllocFailed<T>> for DiskError {
 
 /// A disk: a tree of directories, files and links that other programs change too.
 ///
-/// A refused call leaves the tree as it was.
+/// A state that is told shows a tree. A refused call leaves it as it was.
 pub trait Disk {
     /// The state of the disk, where it tells it.
     ghost state: { Self → Option State };
@@ -92,12 +92,14 @@ pub trait Disk {
     /// Looks at a path. A link in the last place is followed where `follow` is set.
     fn look(&mut self, alloc: Global, path: &PathText, follow: bool) -> Result<Meta, DiskError>
         ensures answer { IfSome (state self.old) (λ s. Answers result (looked (tree_of s) path.now follow)) }
+        ensures tree { IfSome (state self.old) (λ s. IsTree (tree_of s)) }
         ensures kept { state self.new ≡ state self.old }
         ensures cause { FailsOnlyByFault (faults self.old) (faults self.new) result };
 
     /// Reads the bytes and the time of a file, links followed.
     fn read(&mut self, alloc: Global, path: &PathText) -> Result<(ByteList, u64), DiskError>
         ensures answer { IfSome (state self.old) (λ s. Answers result (read_of (tree_of s) path.now)) }
+        ensures tree { IfSome (state self.old) (λ s. IsTree (tree_of s)) }
         ensures kept { state self.new ≡ state self.old }
         ensures cause { FailsOnlyByFault (faults self.old) (faults self.new) result };
 }

@@ -28,6 +28,7 @@ pub struct HostDisk<R> {
 }
 
 impl<R: Files> HostDisk<R> {
+    /// The disk that a runtime reaches.
     pub fn new(rt: R) -> HostDisk<R>
         ensures runtime { result.rt ≡ rt }
         ensures faults { result.faults ≡ 0 }
@@ -42,6 +43,7 @@ impl<R: Files> HostDisk<R> {
         self.faults
     }
 
+    /// The runtime.
     pub fn into_runtime(self) -> R
         ensures { result ≡ self.rt }
     {

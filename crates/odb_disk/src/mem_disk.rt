@@ -133,7 +133,7 @@ impl MemDisk {
 
 impl Disk for MemDisk {
     ghost use Rattle.std.specs.Prelude.{◌≡◌, ◌↔◌, true, Some, Err, IfSome};
-    ghost use Rattle.odb_disk.specs.Tree.{State, tree_of};
+    ghost use Rattle.odb_disk.specs.Tree.{IsTree, State, tree_of};
     ghost use Rattle.odb_disk.specs.Tree.Follow.{looked, read_of};
     ghost use Rattle.odb_disk.specs.Disk.{Answers, FailsOnlyByFault};
     ghost use Rattle.odb_disk.specs.MemDisk.{after_call, next_fails};
@@ -144,28 +144,34 @@ impl Disk for MemDisk {
 
     fn look(&mut self, alloc: Global, path: &PathText, follow: bool) -> Result<Meta, DiskError>
         ensures answer { Answers result (looked (tree_of self.old.state) path.now follow) }
+        ensures tree { IsTree (tree_of self.old.state) }
         ensures kept { Some self.new.state ≡ Some self.old.state }
         ensures cause { FailsOnlyByFault self.old.faults self.new.faults result }
         ensures counted { self.new ≡ after_call self.old }
         ensures failed { (result ≡ Err DiskError.Failed) ↔ (next_fails self.old ≡ true) }
     {
-        if self.count() {
+        let failed = self.count();
+        let tree = &self.tree;
+        if failed {
             return Err(DiskError::Failed);
         }
-        self.tree.look(alloc, path, follow)
+        tree.look(alloc, path, follow)
     }
 
     fn read(&mut self, alloc: Global, path: &PathText) -> Result<(ByteList, u64), DiskError>
         ensures answer { Answers result (read_of (tree_of self.old.state) path.now) }
+        ensures tree { IsTree (tree_of self.old.state) }
         ensures kept { Some self.new.state ≡ Some self.old.state }
         ensures cause { FailsOnlyByFault self.old.faults self.new.faults result }
         ensures counted { self.new ≡ after_call self.old }
         ensures failed { (result ≡ Err DiskError.Failed) ↔ (next_fails self.old ≡ true) }
     {
-        if self.count() {
+        let failed = self.count();
+        let tree = &self.tree;
+        if failed {
             return Err(DiskError::Failed);
         }
-        self.tree.read(alloc, path)
+        tree.read(alloc, path)
     }
 }
 

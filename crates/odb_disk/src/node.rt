@@ -59,6 +59,7 @@ impl Node {
         }
     }
 
+    /// Whether it is a directory.
     pub fn is_dir(&self) -> bool
         ensures { result ≡ is_directory (Some self.now) }
     {

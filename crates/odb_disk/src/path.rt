@@ -62,19 +62,22 @@ impl Model for PathName {
 }
 
 impl PathName {
-    pub fn new(alloc: Global, text: &str) -> Result<PathName, NoMemory>
+    /// A name, with a text that is one.
+    pub(crate) fn new(alloc: Global, text: &str) -> Result<PathName, NoMemory>
         ensures { IfOk result (λ name. name ≡ text.now) }
     {
         let text = String::from_str(alloc, text)?;
         Ok(PathName { text })
     }
 
+    /// The text of the name.
     pub fn as_str(&self) -> &str
         ensures { result.now ≡ self.now }
     {
         self.text.as_str()
     }
 
+    /// A copy of the name.
     pub fn try_clone(&self, alloc: Global) -> Result<PathName, NoMemory>
         ensures { IfOk result (λ name. name ≡ self.now) }
     {
@@ -260,6 +263,7 @@ impl PathText {
         extension_in(name)
     }
 
+    /// The names on the way from the root.
     pub fn names(&self) -> &[PathName]
         ensures value { result.now ≡ self.now }
         ensures are_names { list_all is_name self.now ≡ true }
@@ -267,6 +271,7 @@ impl PathText {
         &self.names
     }
 
+    /// A copy of the path.
     pub fn try_clone(&self, alloc: Global) -> Result<PathText, NoMemory>
         ensures { IfOk result (λ path. path ≡ self.now) }
     {
@@ -349,6 +354,39 @@ impl fmt::Display for PathText {
     }
 }
 
+impl PathText {
+    ghost use Rattle.std.specs.Prelude.{◌≡◌, true, OnOk, OnErr, IfOk, ◌++◌, ◌∷◌, []};
+    ghost use Rattle.std.specs.List.{list_all};
+    ghost use Rattle.odb_disk.specs.Path.{is_name};
+
+    /// Adds a name at the end. A refused call changes nothing.
+    pub(crate) fn push(&mut self, alloc: Global, name: &PathName) -> Result<(), NoMemory>
+        requires { is_name name.now ≡ true }
+        ensures ok { OnOk result (self.new ≡ self.old ++ name.now ∷ []) }
+        ensures err { OnErr result (self.new ≡ self.old) }
+    {
+        let name = name.try_clone(alloc)?;
+        self.names.push(name)?;
+        Ok(())
+    }
+
+    /// The path with names behind it.
+    pub(crate) fn followed_by(
+        &self,
+        alloc: Global,
+        names: &[PathName],
+    ) -> Result<PathText, NoMemory>
+        requires { list_all is_name names.now ≡ true }
+        ensures { IfOk result (λ path. path ≡ self.now ++ names.now) }
+    {
+        let mut path = self.try_clone(alloc)?;
+        for name in names {
+            path.push(alloc, name)?;
+        }
+        Ok(path)
+    }
+}
+
 /// The parts of a text between slashes.
 fn parts_of<'a>(alloc: Global, text: &'a str) -> Result<Vec<&'a str>, AllocError>
     ensures { IfOk result (λ parts. map (λ part. part.now) parts.items ≡ slice_split (λ b. b == 47) text.now) }
@@ -386,38 +424,5 @@ fn extension_in(name: &str) -> Option<&str>
         None
     } else {
         Some(extension)
-    }
-}
-
-impl PathText {
-    ghost use Rattle.std.specs.Prelude.{◌≡◌, true, OnOk, OnErr, IfOk, ◌++◌, ◌∷◌, []};
-    ghost use Rattle.std.specs.List.{list_all};
-    ghost use Rattle.odb_disk.specs.Path.{is_name};
-
-    /// Adds a name at the end. A refused call changes nothing.
-    pub(crate) fn push(&mut self, alloc: Global, name: &PathName) -> Result<(), NoMemory>
-        requires { is_name name.now ≡ true }
-        ensures ok { OnOk result (self.new ≡ self.old ++ name.now ∷ []) }
-        ensures err { OnErr result (self.new ≡ self.old) }
-    {
-        let name = name.try_clone(alloc)?;
-        self.names.push(name)?;
-        Ok(())
-    }
-
-    /// The path with names behind it.
-    pub(crate) fn followed_by(
-        &self,
-        alloc: Global,
-        names: &[PathName],
-    ) -> Result<PathText, NoMemory>
-        requires { list_all is_name names.now ≡ true }
-        ensures { IfOk result (λ path. path ≡ self.now ++ names.now) }
-    {
-        let mut path = self.try_clone(alloc)?;
-        for name in names {
-            path.push(alloc, name)?;
-        }
-        Ok(path)
     }
 }

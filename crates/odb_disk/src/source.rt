@@ -199,6 +199,7 @@ impl MemSink {
         &self.bytes
     }
 
+    /// The bytes that were written, as a vector.
     pub fn into_bytes(self) -> Vec<u8>
         ensures { result.items ≡ self.held }
     {

@@ -14,6 +14,7 @@ pub struct StdSource<R> {
 }
 
 impl<R: Read> StdSource<R> {
+    /// A source that reads from a reader.
     pub fn new(inner: R) -> StdSource<R>
         ensures inner { result.inner ≡ inner }
         ensures faults { result.faults ≡ 0 }
@@ -21,6 +22,7 @@ impl<R: Read> StdSource<R> {
         StdSource { inner, faults: 0 }
     }
 
+    /// The reader.
     pub fn into_inner(self) -> R
         ensures { result ≡ self.inner }
     {
@@ -61,6 +63,7 @@ pub struct StdSink<W> {
 }
 
 impl<W: Write> StdSink<W> {
+    /// A sink that writes to a writer.
     pub fn new(inner: W) -> StdSink<W>
         ensures inner { result.inner ≡ inner }
         ensures faults { result.faults ≡ 0 }
@@ -68,6 +71,7 @@ impl<W: Write> StdSink<W> {
         StdSink { inner, faults: 0 }
     }
 
+    /// The writer.
     pub fn into_inner(self) -> W
         ensures { result ≡ self.inner }
     {

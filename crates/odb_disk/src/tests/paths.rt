@@ -27,6 +27,7 @@ fn names_that_are_joined(rt: HostRuntime) -> Result<(), Fail> {
     let alloc = rt.alloc();
     for (text, name, joined) in [
         ("/", "a", "/a"),
+        ("/a/b", "c", "/a/b/c"),
         ("/a", "b.c", "/a/b.c"),
         ("/a", "...", "/a/..."),
     ] {
