@@ -11,9 +11,9 @@ use Rattle.std.proofs.lemmas.List.Folds.{list_all-append}
 use Rattle.hex.specs.Hex.{lower_digits, encode_with, encode_lower, IsBytes}
 use Rattle.hex.proofs.HexLemmas.{decode_of-encode_lower}
 use Rattle.odb_base.proofs.DecimalLemmas.{own, number_of-decimal, number_below-is}
-use Rattle.odb_disk.specs.Path.{Path, is_name, text_of}
+use Rattle.odb_base.specs.Path.{Path, is_name, text_of}
 use Rattle.odb_disk.specs.declared.change.Change.TheVariants as changes
-use Rattle.odb_disk.proofs.PathLemmas.{path_of-text_of}
+use Rattle.odb_base.specs.PathLaws.{path_of-text_of}
 use Rattle.gix_hash.specs.ObjectId.{IsId, hex_of, is_lower_text, is_lower_digit}
 use Rattle.gix_hash.specs.declared.object_id.ObjectId.TheVariants as ids
 use Rattle.gix_hash.proofs.ObjectIdLemmas.{id_of-hex_of, is_lower_text-hex_of}

@@ -1,7 +1,7 @@
 -- Changes of the disk as a word and its fields.
 use Rattle.std.specs.Prelude.{ℕ, List, [], ◌∷◌, Option, Some, None}
 use Rattle.odb_base.specs.Decimal.{number_of}
-use Rattle.odb_disk.specs.Path.{Path, path_of}
+use Rattle.odb_base.specs.Path.{Path, path_of}
 use Rattle.odb_disk.specs.declared.change.Change.{Change}
 use Rattle.odb_disk.specs.declared.change.Change.TheVariants as changes
 use Rattle.gitodb.specs.declared.script.change.Spelled.{Spelled}

@@ -3,7 +3,7 @@ use Rattle.std.specs.Prelude.{ℕ, List, [], ◌∷◌, ◌++◌, ◌==◌, nat_
 use Rattle.std.specs.List.{before_first, after_first, starts_with}
 use Rattle.hex.specs.Hex.{decode_of}
 use Rattle.hex.specs.declared.error.FromHexError.{FromHexError}
-use Rattle.odb_disk.specs.Path.{same_name}
+use Rattle.odb_base.specs.Path.{same_name}
 use Rattle.gix_odb_world.specs.declared.object.Kind.{Kind}
 use Rattle.gitodb.specs.declared.script.content.Content.{Content}
 use Rattle.gitodb.specs.declared.script.content.Content.TheVariants.{Bytes, Later, Wrong}

@@ -2,7 +2,7 @@
 use Rattle.std.specs.Prelude.{ℕ, ◌^◌, ◌==◌, ◌&&◌, Bool, true, List, [], ◌∷◌, codes, Option, Some, None, is_some, if◌then◌else◌}
 use Rattle.std.specs.List.{list_any, before_first, after_first}
 use Rattle.odb_base.specs.Decimal.{number_below}
-use Rattle.odb_disk.specs.Path.{Path, path_of, same_name}
+use Rattle.odb_base.specs.Path.{Path, path_of, same_name}
 use Rattle.gix_odb_world.specs.declared.init.Slots.TheVariants.{Given}
 use Rattle.gix_odb_world.specs.declared.step.Step.TheVariants as steps
 use Rattle.gix_odb_world.specs.declared.play.Line.TheVariants.{One}

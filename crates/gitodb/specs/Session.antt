@@ -1,7 +1,7 @@
 -- What the program promises of each status, by its words, its source and its sink.
 use Rattle.std.specs.Prelude.{◌≡◌, ◌⊎◌, ℕ, ◌≤◌, Bool, true, false, List, [], ◌∷◌, ◌++◌, length, take, codes, map, Option, Some, None, if◌then◌else◌}
 use Rattle.odb_base.specs.Faults.{Rose}
-use Rattle.odb_disk.specs.Path.{same_name}
+use Rattle.odb_base.specs.Path.{same_name}
 use Rattle.gix_odb_world.specs.Headline.{Headline}
 use Rattle.gix_odb_world.specs.Play.{Plays, made_of}
 use Rattle.gix_odb_world.specs.declared.play.Play.{Play}

@@ -1,7 +1,7 @@
 -- The words of a script's language.
 use Rattle.std.specs.Prelude.{ℕ, Bool, List, [], ◌∷◌, codes, Option, Some, None, if◌then◌else◌}
 use Rattle.std.specs.List.{list_any}
-use Rattle.odb_disk.specs.Path.{same_name}
+use Rattle.odb_base.specs.Path.{same_name}
 use Rattle.gitodb.specs.declared.script.word.Word.{Word}
 use Rattle.gitodb.specs.declared.script.word.Word.TheVariants as words
 

@@ -15,7 +15,7 @@ use Rattle.std.proofs.lemmas.Slice.Eq.{bytes_eq-Decides}
 use Rattle.std.proofs.Math.Seq.{take-append_seam, take-append-add, drop-append-add}
 use Rattle.odb_base.specs.Decimal.{number_of}
 use Rattle.odb_base.proofs.DecimalLemmas.{own, IsNumber-number_of, number_of-decimal, decimal-number_of, number_of-fits}
-use Rattle.odb_disk.specs.Path.{same_name}
+use Rattle.odb_base.specs.Path.{same_name}
 use Rattle.gix_odb_world.specs.declared.object.Kind.{Kind}
 use Rattle.gix_odb_world.specs.declared.object.Kind.TheVariants.{Commit, Tree, Blob, Tag}
 use Rattle.gix_odb_world.specs.Loose.{IsLoose, LooseObject, header_of, kind_of_word, kind_word, loose_of, spelled}

@@ -82,7 +82,7 @@ no_quiet_turn handle (outcomes.Misuse why) suits valid no_reply not_pending = cc
 -- it is lawful where it is no reply, and no call goes on
 law_quiet : (first : Volume) (past : List Event) (step : Step) (outcome : Outcome) (change : Option Change) (faults : ℕ)
     → misuse_of outcome ≡ why_not_after first past step → Suits step outcome Nothing → change ≡ change_made step outcome
-    → faults ≡ (disk_after_change (disk_after first past) change).faults → ((reply : Reply) → outcome ≢ outcomes.Reply reply) → outcome ≢ outcomes.Pending
+    → faults ≡ (disk_after_change (disk_after first past) change).calls.faults → ((reply : Reply) → outcome ≢ outcomes.Reply reply) → outcome ≢ outcomes.Pending
     → Law first past (quiet step outcome change faults)
 law_quiet first past step outcome change faults valid suits made counted no_reply not_pending =
     record {
@@ -90,7 +90,7 @@ law_quiet first past step outcome change faults valid suits made counted no_repl
       suits = suits;
       change = made;
       failed = tt;
-      faults = counted ∙ ap (λ (disk : Volume). disk.faults) (sym (disk_after-push first past (quiet step outcome change faults)));
+      faults = counted ∙ ap (λ (disk : Volume). disk.calls.faults) (sym (disk_after-push first past (quiet step outcome change faults)));
       worked = λ handle store begun turns work turn.
           let valid_turn : misuse_of outcome ≡ None =
           subst (λ s. misuse_of outcome ≡ why_not_after first past s) turn.step valid ∙ ap (λ s. why_not_running (phase_of s)) turn.status in
@@ -133,10 +133,10 @@ runs_misused events e why handle (Working store begun turns work) is reason runs
 pub misused : (old new : World) (step : Step) (why : Why) → why_not_now old step ≡ Some why → Notes old new (outcomes.Misuse why) Nothing None → Continues old step new
 misused old new step why reason notes first events explains =
     let same : why_not_after first events step ≡ Some why = why_not-same first events old step explains ∙ reason in
-    let e : Event = quiet step (outcomes.Misuse why) None old.disk.faults in (
+    let e : Event = quiet step (outcomes.Misuse why) None old.disk.calls.faults in (
       outcomes.Misuse why,
       goes_on first events old new e explains
-          (law_quiet first events step (outcomes.Misuse why) None old.disk.faults (sym same) (suits_misused step why) (sym (change_made-misused step why)) (ap (λ (disk : Volume). disk.faults) explains.disk) (λ reply is. cc) (λ is. cc))
+          (law_quiet first events step (outcomes.Misuse why) None old.disk.calls.faults (sym same) (suits_misused step why) (sym (change_made-misused step why)) (ap (λ (disk : Volume). disk.calls.faults) explains.disk) (λ reply is. cc) (λ is. cc))
           notes.outcomes notes.records notes.disk
           (λ handle. rw (status_after-misused (length events + 1) step why (status_of events)) (subst (λ handles. Matches (status_of events handle) (handle_at (record new { handles = handles }) handle)) (sym notes.handles) (explains.handles handle)))
           (λ handle. rw (status_after-misused (length events + 1) step why (status_of events))
@@ -160,12 +160,12 @@ applied : (old mid new : World) (step : Step) (number : ℕ) (handle : Option Ha
     → ((events : List Event) (e : Event) (status : Status) → ((other : ℕ) → ¬ IsTurnOf other e.step) → Runs events number status → Runs (events ++ e ∷ []) number (next (length events + 1) status))
     → Continues old step new
 applied old mid new step number handle next reason sets notes suits made no_turn after matches runs first events explains =
-    let e : Event = quiet step outcomes.Applied None mid.disk.faults in
+    let e : Event = quiet step outcomes.Applied None mid.disk.calls.faults in
     let table : ℕ → Status = status_of events in
-    let counted : mid.disk.faults ≡ (disk_after first events).faults = ap (λ (disk : Volume). disk.faults) (sets.disk ∙ explains.disk) in (
+    let counted : mid.disk.calls.faults ≡ (disk_after first events).calls.faults = ap (λ (disk : Volume). disk.calls.faults) (sets.disk ∙ explains.disk) in (
       outcomes.Applied,
       goes_on first events old new e explains
-          (law_quiet first events step outcomes.Applied None mid.disk.faults (sym (why_not-same first events old step explains ∙ reason)) suits made counted (λ reply is. cc) (λ is. cc))
+          (law_quiet first events step outcomes.Applied None mid.disk.calls.faults (sym (why_not-same first events old step explains ∙ reason)) suits made counted (λ reply is. cc) (λ is. cc))
           (notes.outcomes ∙ ap (λ os. os ++ outcomes.Applied ∷ []) sets.outcomes)
           (notes.records ∙ ap (λ rs. rs ++ e.entry ∷ []) sets.records)
           (notes.disk ∙ sets.disk)
@@ -221,14 +221,14 @@ pub changed : (old new : World) (disk : Volume) (change made : Change) → is_po
     → Notes (record old { disk = disk }) new outcomes.Applied Nothing (Some made) → Continues old (steps.Disk change) new
 changed old new disk change made possible after made_is notes first events explains =
     let step : Step = steps.Disk change in
-    let e : Event = quiet step outcomes.Applied (Some made) disk.faults in
+    let e : Event = quiet step outcomes.Applied (Some made) disk.calls.faults in
     let valid : None ≡ why_not_now old step = rw possible refl in
     let same : None ≡ why_not_after first events step = valid ∙ sym (why_not-same first events old step explains) in
     let now : disk ≡ after_outside_change (disk_after first events) made = after ∙ (ap (λ d. after_outside_change d change) explains.disk ∙ ap (λ c. after_outside_change (disk_after first events) c) (sym made_is)) in
     let here : disk ≡ after_outside_change old.disk made = after ∙ ap (λ c. after_outside_change old.disk c) (sym made_is) in (
       outcomes.Applied,
       goes_on first events old new e explains
-          (law_quiet first events step outcomes.Applied (Some made) disk.faults same refl (ap Some made_is) (ap (λ (d : Volume). d.faults) now) (λ reply is. cc) (λ is. cc))
+          (law_quiet first events step outcomes.Applied (Some made) disk.calls.faults same refl (ap Some made_is) (ap (λ (d : Volume). d.calls.faults) now) (λ reply is. cc) (λ is. cc))
           notes.outcomes notes.records
           (notes.disk ∙ here)
           (λ handle. subst (λ handles. Matches (status_of events handle) (handle_at (record new { handles = handles }) handle)) (sym notes.handles) (explains.handles handle))

@@ -143,7 +143,7 @@ works_of_turn first events old number handle work reply faults turn is store own
 
 law_of_turn : (first : Volume) (events : List Event) (old : World) (number : ℕ) (handle : Handle) (work : Work) (reply : Reply) (faults : ℕ)
     → IsTurn first events old number handle work → reply ≡ reply_of handle.store.path handle.store.slots work (the_answer old.disk handle work)
-    → faults ≡ (after_call old.disk).faults → None ≡ why_not_running (phase_of (status_of events number))
+    → faults ≡ (after_call old.disk).calls.faults → None ≡ why_not_running (phase_of (status_of events number))
     → Law first events (turn_event old.disk handle work number reply faults)
 law_of_turn first events old number handle work reply faults turn is counted valid =
     let e : Event = turn_event old.disk handle work number reply faults in
@@ -152,7 +152,7 @@ law_of_turn first events old number handle work reply faults turn is counted val
       suits = tt;
       change = refl;
       failed = has_failed-now old.disk (the_ask handle work) ∙ ap next_fails turn.explains.disk;
-      faults = counted ∙ (ap (λ d. (after_call d).faults) turn.explains.disk ∙ ap (λ (d : Volume). d.faults) (sym (disk_after-push first events e)));
+      faults = counted ∙ (ap (λ d. (after_call d).calls.faults) turn.explains.disk ∙ ap (λ (d : Volume). d.calls.faults) (sym (disk_after-push first events e)));
       worked = λ other store begun turns own turns_it.
           let same : number ≡ other = cc turns_it.step in
           let is_same = same_of_turn first events old number handle work turn store begun turns own (ap (status_of events) same ∙ turns_it.status) in
@@ -211,18 +211,18 @@ pub turned : (old mid new : World) (disk : Volume) (number : ℕ) (handle : Hand
     → SetsHandle (record old { disk = disk }) mid number (after_reply work reply (handle_at old number))
     → Notes mid new (outcomes.Reply reply) did None → Continues old (steps.Turn number) new
 turned old mid new disk number handle work did reply there at_work did_is reply_is called sets notes first events explains =
-    let e : Event = turn_event old.disk handle work number reply mid.disk.faults in
+    let e : Event = turn_event old.disk handle work number reply mid.disk.calls.faults in
     let turn : IsTurn first events old number handle work = record { explains = explains; there = there; at_work = at_work } in
     let table : ℕ → Status = status_of events in
     let match : Matches (table number) (Some handle) = subst (λ h. Matches (table number) h) there (explains.handles number) in
     let ended : Matches (replied reply (table number)) (after_reply work reply (handle_at old number)) =
     subst (λ h. Matches (replied reply (table number)) (after_reply work reply h)) (sym there) (matches_replied (table number) handle work reply at_work match) in
-    let counted : mid.disk.faults ≡ (after_call old.disk).faults = ap (λ (d : Volume). d.faults) (sets.disk ∙ called) in (
+    let counted : mid.disk.calls.faults ≡ (after_call old.disk).calls.faults = ap (λ (d : Volume). d.calls.faults) (sets.disk ∙ called) in (
       outcomes.Reply reply,
       goes_on first events old new e explains
-          (law_of_turn first events old number handle work reply mid.disk.faults turn reply_is counted (valid_turn (table number) handle work at_work match))
+          (law_of_turn first events old number handle work reply mid.disk.calls.faults turn reply_is counted (valid_turn (table number) handle work at_work match))
           (notes.outcomes ∙ ap (λ os. os ++ outcomes.Reply reply ∷ []) sets.outcomes)
-          (notes.records ∙ (ap (λ rs. rs ++ record { did = did; change = None; faults = mid.disk.faults } ∷ []) sets.records ∙ ap (λ d. old.records ++ record { did = d; change = None; faults = mid.disk.faults } ∷ []) did_is))
+          (notes.records ∙ (ap (λ rs. rs ++ record { did = did; change = None; faults = mid.disk.calls.faults } ∷ []) sets.records ∙ ap (λ d. old.records ++ record { did = d; change = None; faults = mid.disk.calls.faults } ∷ []) did_is))
           (notes.disk ∙ (sets.disk ∙ called))
           (λ other. matches_set old new table number (replied reply (table number)) (after_reply work reply (handle_at old number)) explains.handles
           (table_noted (record old { disk = disk }) mid new number (after_reply work reply (handle_at old number)) (outcomes.Reply reply) did None sets notes) ended other)

@@ -1,7 +1,7 @@
 -- How many turns a call may take.
 use Rattle.std.specs.Prelude.{◌≡◌, ℕ, ◌+◌, ◌*◌, ◌/◌, ◌≤◌, ◌&&◌, ◌==◌, Bool, true, [], ◌∷◌, ◌++◌, length, codes, Contains, Option, Some, None, Ok, List}
 use Rattle.std.specs.List.{list_all, list_any}
-use Rattle.odb_disk.specs.Path.{Path, Name}
+use Rattle.odb_base.specs.Path.{Path, Name}
 use Rattle.odb_disk.specs.Tree.{Tree}
 use Rattle.odb_disk.specs.Tree.Follow.{listed}
 use Rattle.gix_odb_world.specs.declared.handle.Work.{Work}

@@ -1,6 +1,6 @@
 -- Why an opening or a call is refused: each error, and what the run shows where it is given.
 use Rattle.std.specs.Prelude.{◌≡◌, ◌≢◌, ◌⊎◌, ℕ, ◌<◌, ◌≤◌, true, List, [], length, Result, Ok, Err}
-use Rattle.odb_disk.specs.Path.{Path}
+use Rattle.odb_base.specs.Path.{Path}
 use Rattle.odb_disk.specs.Tree.{Tree}
 use Rattle.odb_disk.specs.Tree.Follow.{Refusal, WrongKind, LinkLoop, looked, read_of}
 use Rattle.odb_disk.specs.declared.disk.Meta.{Meta}

@@ -1,6 +1,6 @@
 -- A run as a list of events, and what each handle does after them.
 use Rattle.std.specs.Prelude.{ℕ, ◌+◌, ◌==◌, List, [], ◌∷◌, if◌then◌else◌}
-use Rattle.odb_disk.specs.Path.{Path}
+use Rattle.odb_base.specs.Path.{Path}
 use Rattle.gix_odb_world.specs.Contents.{StoreData}
 use Rattle.gix_odb_world.specs.declared.call.Call.{Call}
 use Rattle.gix_odb_world.specs.declared.call.Reply.{Reply}

@@ -96,7 +96,7 @@ pub record Law (first : Volume) (past : List Event) (e : Event) : Type 0 where
   pub change : e.entry.change ≡ change_made e.step e.outcome
   pub failed : FailsAsListed (disk_after first past) e.entry.did
   -- the record has the disk's count of faults after the step
-  pub faults : e.entry.faults ≡ (disk_after first (past ++ e ∷ [])).faults
+  pub faults : e.entry.faults ≡ (disk_after first (past ++ e ∷ [])).calls.faults
   -- a turn does what the order of work says
   pub worked : (handle : ℕ) (store : Store) (begun turns : ℕ) (work : Work) → Turns past e handle store begun turns work → Works (disk_after first past) store work e
   -- a reply keeps its promise

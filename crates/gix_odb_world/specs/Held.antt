@@ -1,6 +1,6 @@
 -- What a store held at some moment, and what lay still in it, over any family of trees numbered by moments.
 use Rattle.std.specs.Prelude.{ℕ, ◌≤◌, Contains}
-use Rattle.odb_disk.specs.Path.{Path}
+use Rattle.odb_base.specs.Path.{Path}
 use Rattle.odb_disk.specs.Tree.{Tree}
 use Rattle.gix_odb_world.specs.declared.call.Call.{Call}
 use Rattle.gix_odb_world.specs.Contents.{StoreData, folder_list, Contents, Answer, sought, Shows, Holds, IsSound}

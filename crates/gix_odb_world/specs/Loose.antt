@@ -4,7 +4,7 @@ use Rattle.std.specs.Prelude.{◌≡◌, ℕ, ◌+◌, ◌<◌, ◌≤◌, ◌^�
 use Rattle.std.specs.List.{position_or_len, before_first, after_first}
 use Rattle.odb_base.specs.Decimal.{number_of}
 use Rattle.std.specs.Fmt.{decimal}
-use Rattle.odb_disk.specs.Path.{Path, same_name}
+use Rattle.odb_base.specs.Path.{Path, same_name}
 use Rattle.gix_hash.specs.ObjectId.{hex_of}
 use Rattle.gix_hash.specs.declared.object_id.ObjectId.{ObjectId}
 use Rattle.gix_odb_world.specs.declared.object.Kind.{Kind}

@@ -53,7 +53,7 @@ pub record SetsHandle (old new : World) (number : ℕ) (handle : Option Handle) 
 -- the world has one outcome and one record more, with its disk's count of faults, and differs in nothing else
 pub record Notes (old new : World) (outcome : Outcome) (did : Did) (change : Option Change) : Type 0 where
   pub outcomes : new.outcomes ≡ old.outcomes ++ outcome ∷ []
-  pub records : new.records ≡ old.records ++ record { did = did; change = change; faults = old.disk.faults } ∷ []
+  pub records : new.records ≡ old.records ++ record { did = did; change = change; faults = old.disk.calls.faults } ∷ []
   pub disk : new.disk ≡ old.disk
   pub handles : new.handles ≡ old.handles
 

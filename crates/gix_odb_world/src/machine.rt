@@ -1,6 +1,6 @@
 //! The order of work of an opening and of a find: the call of the disk that each makes, and its reply.
 ghost use Rattle.std.specs.Prelude.{◌≡◌, ◌++◌, ◌∷◌, [], true, IfOk};
-ghost use Rattle.odb_disk.specs.Path.{is_name};
+ghost use Rattle.odb_base.specs.Path.{is_name};
 ghost use Rattle.gix_odb_world.specs.Loose.{loose_path};
 ghost use Rattle.gix_odb_world.specs.Order.{ask_of, opened, opening_reply, found, found_in, find_reply, loose_refused, reply_of};
 

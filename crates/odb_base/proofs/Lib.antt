@@ -1,2 +1,4 @@
+mod PathLemmas
+mod JoinedPathLemmas
 pub mod DecimalLemmas
 mod ParseLemmas

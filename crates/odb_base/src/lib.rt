@@ -12,6 +12,8 @@
 mod byte_list;
 mod decimal;
 mod no_memory;
+mod path;
+mod path_name;
 mod sequence;
 #[cfg(test)]
 mod tests;
@@ -19,4 +21,6 @@ mod tests;
 pub use byte_list::ByteList;
 pub use decimal::{parse_decimal, parse_decimal_below};
 pub use no_memory::NoMemory;
+pub use path::{BadPath, PathText};
+pub use path_name::PathName;
 pub use sequence::Sequence;

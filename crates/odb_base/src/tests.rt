@@ -1,3 +1,5 @@
+mod paths;
+
 use crate::{ByteList, NoMemory, Sequence, parse_decimal, parse_decimal_below};
 use std::test::Fail;
 

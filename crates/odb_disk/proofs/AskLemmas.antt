@@ -1,7 +1,7 @@
 -- From the answers of a look and a read to those of a call that is given as a value.
 use Rattle.std.specs.Prelude.{if◌then◌else◌}
-use Rattle.std.proofs.Common.{◌≡◌, ◌≢◌, true, false, ℕ, Bool, List, Option, Some, None, Result, Ok, Err, IfSome, refl, sym, ap, ◌∙◌, subst}
-use Rattle.odb_disk.specs.Path.{Path}
+use Rattle.std.proofs.Common.{◌≡◌, ◌≢◌, true, false, ℕ, Bool, List, Option, Some, None, Result, Ok, Err, IfSome, refl, sym, ap, subst}
+use Rattle.odb_base.specs.Path.{Path}
 use Rattle.odb_disk.specs.Tree.{Tree, State, tree_of}
 use Rattle.odb_disk.specs.Tree.Follow.{Refusal, looked, read_of}
 use Rattle.odb_disk.specs.Disk.{Answers}

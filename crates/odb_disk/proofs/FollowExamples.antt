@@ -1,7 +1,7 @@
 -- Small trees with links, shown by computation.
-use Rattle.std.proofs.Common.{◌≡◌, ℕ, zero, suc, ◌+◌, Bool, true, false, List, [], ◌∷◌, ◌++◌, Option, Some, None, Result, Ok, Err, codes, refl, sym, ap, ◌∙◌}
+use Rattle.std.proofs.Common.{◌≡◌, ℕ, zero, suc, ◌+◌, Bool, true, false, List, [], ◌∷◌, ◌++◌, Option, Result, Ok, Err, codes, refl, ap, ◌∙◌}
 use Rattle.std.specs.FinMap.{find}
-use Rattle.odb_disk.specs.Path.{Name, Path, path_cmp}
+use Rattle.odb_base.specs.Path.{Name, Path, path_cmp}
 use Rattle.odb_disk.specs.Tree.{Tree, node_at, tree_of_entries}
 use Rattle.odb_disk.specs.Tree.Nodes.{node_at-tree_of_entries}
 use Rattle.odb_disk.specs.Tree.Follow.{Pass, Place, Refusal, Absent, WrongKind, LinkLoop, pass, beyond, ending, arrives, followed_within, looked, read_of, meta_of_place, file_of_place}

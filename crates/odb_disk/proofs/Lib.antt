@@ -1,4 +1,3 @@
-pub mod PathLemmas
 pub mod TreeLemmas
 pub mod MemDiskLemmas
 mod TreeNumbersLemmas

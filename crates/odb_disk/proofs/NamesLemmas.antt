@@ -1,7 +1,6 @@
 -- That the first path behind a directory's tells whether the directory has names in it.
-use Rattle.std.proofs.Common.{◌≡◌, ◌≢◌, ℕ, suc, ◌+◌, Bool, true, false, not, ◌&&◌, cond, List, [], ◌∷◌, ◌++◌, length, take, drop, Option, Some, None, is_some, IsSome, refl, sym, ap, ◌∙◌, append-nil, append_assoc, ◌==◌, eqb-true, arith}
-use Rattle.std.specs.Ordering.{nat_cmp, ordering_then, ordering_reverse, is_gt, is_eq}
-use Rattle.std.specs.declared.cmp.Ordering.{Ordering}
+use Rattle.std.proofs.Common.{◌≡◌, Bool, true, false, not, ◌&&◌, [], ◌∷◌, ◌++◌, length, take, drop, Some, None, refl, sym, ap, ◌∙◌, append-nil, append_assoc}
+use Rattle.std.specs.Ordering.{ordering_then, ordering_reverse, is_gt}
 use Rattle.std.specs.declared.cmp.Ordering.TheVariants.{Less, Equal, Greater}
 use Rattle.std.specs.Cmp.{tied_itself}
 use Rattle.std.specs.Cmp.Lexicographic.{nat_list_cmp_total, nat_list_eq_equiv, same_text}
@@ -10,11 +9,11 @@ use Rattle.std.specs.List.{starts_with}
 use lib.Pointwise.{pointwise}
 use Rattle.std.proofs.lemmas.Bool.{false≢true, and_parts, and_from, false_from_ne_true}
 use Rattle.std.proofs.lemmas.List.{take-append-drop}
-use Rattle.odb_disk.specs.Path.{Name, Path, name_cmp, path_cmp, same_name}
-use Rattle.odb_disk.specs.Tree.{Tree, IsTree, node_at, names_in, is_directory}
+use Rattle.odb_base.specs.Path.{Name, Path, name_cmp, path_cmp, same_name}
+use Rattle.odb_disk.specs.Tree.{Tree, IsTree, node_at, names_in}
 use Rattle.odb_disk.specs.Tree.Change.{is_nil}
 use Rattle.odb_disk.specs.declared.node.Node.{Node}
-use Rattle.odb_disk.proofs.PathLemmas.{path_cmp-total}
+use Rattle.odb_base.specs.PathLaws.{path_order}
 use Rattle.odb_disk.proofs.TreeLemmas.Follow.{IsDir-from, way_is_directory}
 use Rattle.odb_disk.proofs.TreeLemmas.Change.{no_names_below, nil_names}
 
@@ -61,7 +60,7 @@ begins_parts directory q begins = ap (λ front. front ++ drop (length directory)
 module _ (t : Tree) (is_tree : IsTree t) (directory : Path) where
   -- a node below a directory, and so one right in it
   not_nil : (names : Path) (n : Node) → path_cmp directory (directory ++ names) ≡ Less → node_at t (directory ++ names) ≡ Some n → is_nil (names_in t directory) ≡ false
-  not_nil [] n behind at = absurd (let whole = ap (path_cmp directory) (append-nil directory) ∙ tied_itself path_cmp-total directory in let both : Less ≡ Equal = sym behind ∙ whole in cc)
+  not_nil [] n behind at = absurd (let whole = ap (path_cmp directory) (append-nil directory) ∙ tied_itself path_order directory in let both : Less ≡ Equal = sym behind ∙ whole in cc)
   not_nil (name ∷ []) n behind at = false_from_ne_true _ (λ nil. no_names_below t directory nil name n at)
   not_nil (name ∷ next ∷ names) n behind at =
       let regroup : (directory ++ name ∷ []) ++ next ∷ names ≡ directory ++ name ∷ next ∷ names = append_assoc directory (name ∷ []) (next ∷ names) in
@@ -88,13 +87,6 @@ module _ (t : Tree) (is_tree : IsTree t) (directory : Path) where
       ] refl
 
 -- ---- whether a path is the root's
-
-pub no_names : (path names : Path) (empty : Bool) → names ≡ path → empty ≡ (length names == 0) → empty ≡ true → path ≡ []
-no_names [] names empty is told yes_empty = refl
-no_names (name ∷ rest) names empty is told yes_empty = absurd (let none = eqb-true (length names) 0 (sym told ∙ yes_empty) in let more : length names ≡ length (name ∷ rest) = ap length is in omega arith)
-
-pub some_names : (path names : Path) (empty : Bool) → names ≡ path → empty ≡ (length names == 0) → empty ≡ false → [] ≢ path
-some_names path names empty is told not_empty root = false≢true (sym not_empty ∙ told ∙ ap (λ ns. length ns == 0) (is ∙ sym root))
 
 pub not_twice : (b : Bool) → not (not b) ≡ b
 not_twice true = refl

@@ -1,10 +1,9 @@
 -- A copy of a map of nodes: each node is copied already, or is still to come.
-use Rattle.std.proofs.Common.{◌≡◌, ◌≢◌, List, [], ◌∷◌, Option, Some, None, cond, refl, sym, ap, ◌∙◌, inl, inr}
+use Rattle.std.proofs.Common.{◌≡◌, List, [], ◌∷◌, Option, Some, None, cond, refl, sym, ap, ◌∙◌, inl, inr}
 use Rattle.std.specs.Option.{option_or}
-use Rattle.std.specs.Ordering.{eq_by_cmp}
 use Rattle.std.specs.Map.{lookup}
 use Rattle.std.specs.BTreeMap.{is_at}
-use Rattle.odb_disk.specs.Path.{Path, path_cmp}
+use Rattle.odb_base.specs.Path.{Path, path_cmp}
 use Rattle.odb_disk.specs.Tree.{Tree, node_at, with_node, tree_of_entries}
 use Rattle.odb_disk.specs.Tree.Nodes.{same_tree}
 use Rattle.odb_disk.specs.declared.node.Node.{Node}

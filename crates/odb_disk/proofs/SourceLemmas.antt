@@ -1,7 +1,7 @@
 -- What a loop that reads a source to its end has read so far.
-use Rattle.std.proofs.Common.{◌≡◌, ℕ, ◌<◌, List, [], ◌++◌, length, take, drop, append-nil, append_assoc, Option, Some, None, Ok, refl, sym, ap, ◌∙◌, take-append-drop}
+use Rattle.std.proofs.Common.{◌≡◌, ℕ, ◌<◌, List, [], ◌++◌, length, take, append-nil, append_assoc, Option, Some, None, Ok, refl, sym, ap, ◌∙◌, take-append-drop}
 use Rattle.std.specs.Prelude.{IfSome}
-use Rattle.odb_disk.specs.Source.{Reads, Takes}
+use Rattle.odb_disk.specs.Source.{Reads}
 
 -- What was read is `bytes` less `before`, where the source tells that. It had `first` left, and has `now`.
 abbrev pub HasRead : Option (List ℕ) → Option (List ℕ) → List ℕ → List ℕ → Type 0

@@ -1,10 +1,9 @@
 -- From the steps of following a path to what a look and a read answer.
-use Rattle.std.proofs.Common.{◌≡◌, ◌≢◌, ℕ, suc, Bool, true, false, List, [], Option, Some, None, Result, Ok, Err, refl, sym, ap, ◌∙◌}
-use Rattle.std.specs.Borrow.{Bor}
-use Rattle.odb_disk.specs.Path.{Path}
+use Rattle.std.proofs.Common.{◌≡◌, ◌≢◌, ℕ, Bool, true, false, List, [], Option, Some, None, Result, Ok, Err, refl, sym, ap, ◌∙◌}
+use Rattle.odb_base.specs.Path.{Path}
 use Rattle.odb_disk.specs.Tree.{Tree, node_at, is_directory, is_directory_content}
 use Rattle.odb_disk.specs.Tree.Change.{parent_node, lies_in_directory, device_of, put_node, put_over, new_node}
-use Rattle.odb_disk.specs.Tree.Follow.{Pass, Place, Refusal, Absent, WrongKind, LinkLoop, pass, followed_within, meta_of, meta_of_place, file_of, file_of_place, looked, read_of}
+use Rattle.odb_disk.specs.Tree.Follow.{Place, Refusal, pass, followed_within, meta_of, meta_of_place, file_of, file_of_place, looked, read_of}
 use Rattle.odb_disk.specs.Disk.{Answers}
 use Rattle.odb_disk.specs.TreeCalls.{Ends, Leads, node_of_place, device_of_content, device_in, standing_content, standing_of}
 use Rattle.odb_disk.specs.declared.node.Node.{Node}

@@ -14,12 +14,12 @@ use Rattle.std.specs.List.{list_any}
 use Rattle.std.specs.Map.{lookup}
 use Rattle.std.specs.BTreeMap.{is_at}
 use Rattle.std.proofs.lemmas.Bool.{false≢true}
-use Rattle.odb_disk.specs.Path.{Name, Path, path_cmp}
+use Rattle.odb_base.specs.Path.{Name, Path, path_cmp}
 use Rattle.odb_disk.specs.Tree.{Tree, State, tree_of, state_of, node_at, with_node, without, tree_of_entries, inode_numbers}
 use Rattle.odb_disk.specs.Tree.Nodes.{same_tree, node_at-with_node, node_at-without, entries_of, entries_of-sorted, node_at-tree_of_entries, node_at-entries_of, inode_numbers-entries_of}
 use Rattle.odb_disk.specs.Tree.Change.{is_taken}
 use Rattle.odb_disk.specs.declared.node.Node.{Node}
-use Rattle.odb_disk.proofs.PathLemmas.{path_cmp-total, path_cmp-same}
+use Rattle.odb_base.specs.PathLaws.{path_order, one_place}
 
 -- ---- states
 
@@ -39,10 +39,10 @@ equal_of Equal e = refl
 equal_of Greater e = cc
 
 pub same_path : (q p : Path) → eq_by_cmp path_cmp q p ≡ true → q ≡ p
-same_path q p e = path_cmp-same q p (equal_of _ e)
+same_path q p e = one_place q p (equal_of _ e)
 
 pub own_path : (p : Path) → eq_by_cmp path_cmp p p ≡ true
-own_path p = ap is_eq (tied_itself path_cmp-total p)
+own_path p = ap is_eq (tied_itself path_order p)
 
 pub other_path : (q p : Path) → q ≢ p → eq_by_cmp path_cmp q p ≡ false
 other_path q p apart =
@@ -172,12 +172,12 @@ node_at-entries es q = node_at-tree_of_entries es q ∙ find-lookup es q
 -- entries that differ at one path make trees that differ there
 pub tree_put : (es fs : List (Path × Node)) (p : Path) (n : Node) → ((q : Path) → lookup (is_at (path_cmp q)) fs ≡ cond (is_at (path_cmp p) q) (Some n) (lookup (is_at (path_cmp q)) es)) → tree_of_entries fs ≡ with_node (tree_of_entries es) p n
 tree_put es fs p n h = same_tree _ _ (λ q.
-    node_at-entries fs q ∙ h q ∙ ap (λ b. cond b (Some n) (lookup (is_at (path_cmp q)) es)) ((eq_by_cmp_equiv path_cmp-total).symm p q)
+    node_at-entries fs q ∙ h q ∙ ap (λ b. cond b (Some n) (lookup (is_at (path_cmp q)) es)) ((eq_by_cmp_equiv path_order).symm p q)
     ∙ sym (node_at-with_node (tree_of_entries es) p n q ∙ ap (cond (eq_by_cmp path_cmp q p) (Some n)) (node_at-entries es q)))
 
 pub tree_take : (es fs : List (Path × Node)) (p : Path) → ((q : Path) → lookup (is_at (path_cmp q)) fs ≡ cond (is_at (path_cmp p) q) None (lookup (is_at (path_cmp q)) es)) → tree_of_entries fs ≡ without (tree_of_entries es) p
 tree_take es fs p h = same_tree _ _ (λ q.
-    node_at-entries fs q ∙ h q ∙ ap (λ b. cond b None (lookup (is_at (path_cmp q)) es)) ((eq_by_cmp_equiv path_cmp-total).symm p q)
+    node_at-entries fs q ∙ h q ∙ ap (λ b. cond b None (lookup (is_at (path_cmp q)) es)) ((eq_by_cmp_equiv path_order).symm p q)
     ∙ sym (node_at-without (tree_of_entries es) p q ∙ ap (cond (eq_by_cmp path_cmp q p) None) (node_at-entries es q)))
 
 pub IsSome-from : {X : Type 0} (x : X) (o : Option X) → Some x ≡ o → IsSome o

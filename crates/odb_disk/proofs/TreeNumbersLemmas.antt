@@ -1,12 +1,11 @@
 -- That the numbers of a tree's nodes stay well kept.
-use Rattle.std.proofs.Common.{◌≡◌, ◌≢◌, ◌⊎◌, ℕ, zero, suc, ◌+◌, max, fold, unwrap_or, ne_eqb, ◌<◌, ◌≤◌, ◌==◌, ◌&&◌, ◌||◌, Bool, true, false, not, cond, List, [], ◌∷◌, ◌++◌, Option, Some, None, IsSome, refl, sym, ap, ◌∙◌, subst, inl, inr, eq-eqb, eqb-true, arith}
+use Rattle.std.proofs.Common.{◌≡◌, ◌≢◌, ℕ, ◌+◌, ne_eqb, ◌<◌, ◌≤◌, ◌==◌, ◌&&◌, ◌||◌, Bool, true, false, not, cond, List, [], ◌∷◌, ◌++◌, Option, Some, None, IsSome, refl, sym, ap, ◌∙◌, subst, inl, inr, eq-eqb, eqb-true, arith}
 use Rattle.std.specs.Ordering.{eq_by_cmp, nat_cmp, is_gt}
 use Rattle.std.specs.BTreeMap.{insert_entry, is_at}
 use Rattle.std.specs.Cmp.{unsigned_tied}
 use Rattle.std.proofs.lemmas.Map.Keys.{le_from_not_gt}
-use Rattle.std.proofs.lemmas.Bool.{false≢true, not-true, not_from_false, false_from_ne_true, or_left, or_right, or_cases, and_from, and_parts, eqb-false, cases_eq, cases_lt}
-use Rattle.std.specs.List.{list_any, find, range_with_len}
-use Rattle.odb_disk.specs.Path.{Name, Path, path_cmp}
+use Rattle.std.proofs.lemmas.Bool.{false≢true, not-true, not_from_false, false_from_ne_true, or_left, or_right, or_cases, and_from, and_parts, eqb-false, cases_eq}
+use Rattle.odb_base.specs.Path.{Name, Path, path_cmp}
 use Rattle.odb_disk.specs.Tree.{Tree, IsTree, node_at, with_node, without, tree_of_entries, bare_tree, names_in, is_directory}
 use Rattle.odb_disk.specs.Tree.Nodes.{node_at-tree_of_entries}
 use Rattle.odb_disk.specs.Tree.Change.{is_taken, least_free, lies_in_directory, is_nil}

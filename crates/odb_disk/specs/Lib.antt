@@ -1,5 +1,4 @@
 pub use Rattle.odb_base.specs.Faults
-pub mod Path
 pub mod Node
 pub mod Tree
 pub mod Disk

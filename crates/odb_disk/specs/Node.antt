@@ -3,7 +3,7 @@ use Rattle.std.specs.Prelude.{◌≡◌, ◌⊎◌, ℕ, List, refl}
 use Rattle.std.specs.Coded.{Coded, code_by, coded×, coded⊎, coded_ℕ, coded_list}
 use Rattle.std.proofs.Common.{inl, inr}
 use base.Stored.{coded_unit}
-use Rattle.odb_disk.specs.Path.{Path}
+use Rattle.odb_base.specs.Path.{Path}
 use Rattle.odb_disk.specs.declared.node.Node.{Node}
 use Rattle.odb_disk.specs.declared.node.Content.{Content}
 use Rattle.odb_disk.specs.declared.node.Content.TheVariants.{File, Dir, Link}

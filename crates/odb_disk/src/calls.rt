@@ -1,4 +1,5 @@
 use crate::NoMemory;
+use crate::node_map::copied_numbers;
 use std::alloc::Global;
 use std::collections::BTreeSet;
 use std::marker::Model;
@@ -75,9 +76,28 @@ impl Calls {
         }
     }
 
+    /// How many calls there were, which stands still at its greatest value.
+    pub(crate) fn made(&self) -> u64
+        ensures { result ≡ self.now.made }
+    {
+        self.made
+    }
+
+    /// How many calls failed.
     pub(crate) fn faults(&self) -> u64
         ensures { result ≡ self.now.faults }
     {
         self.faults
+    }
+
+    /// A copy.
+    pub(crate) fn try_clone(&self) -> Result<Calls, NoMemory>
+        ensures { IfOk result (λ copy. copy ≡ self.now) }
+    {
+        Ok(Calls {
+            made: self.made,
+            listed: copied_numbers(&self.listed)?,
+            faults: self.faults,
+        })
     }
 }

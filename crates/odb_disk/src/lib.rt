@@ -17,7 +17,6 @@ mod host_disk;
 mod mem_disk;
 mod node;
 mod node_map;
-mod path;
 mod source;
 mod std_stream;
 #[cfg(test)]
@@ -29,8 +28,7 @@ pub use change::{Change, Impossible};
 pub use disk::{Disk, DiskError, Kind, Meta};
 pub use host_disk::HostDisk;
 pub use mem_disk::MemDisk;
-pub use odb_base::{ByteList, NoMemory};
-pub use path::{BadPath, PathName, PathText};
+pub use odb_base::{BadPath, ByteList, NoMemory, PathName, PathText};
 pub use source::{Failed, MemSink, MemSource, Sink, Source};
 pub use std_stream::{StdSink, StdSource};
 pub use tree::Tree;

@@ -1,14 +1,9 @@
-ghost use Rattle.std.specs.Prelude.{◌≡◌, IfOk};
-ghost use Rattle.std.specs.Ordering.{nat_cmp};
-ghost use Rattle.std.specs.FinSet as set;
-
+use crate::calls::Calls;
 use crate::change::{Change, Impossible};
 use crate::disk::{Disk, DiskError, Meta};
-use crate::node_map::copied_numbers;
 use crate::tree::Tree;
 use crate::{ByteList, NoMemory, PathText};
 use std::alloc::Global;
-use std::collections::BTreeSet;
 use std::marker::Model;
 
 /// A disk in memory.
@@ -17,9 +12,7 @@ use std::marker::Model;
 #[derive(Debug, Drop)]
 pub struct MemDisk {
     tree: Tree,
-    calls: u64,
-    listed: BTreeSet<u64>,
-    faults: u64,
+    calls: Calls,
 }
 
 impl Model for MemDisk {
@@ -29,10 +22,9 @@ impl Model for MemDisk {
 
     ghost coded = { coded_volume };
 
-    ghost use Rattle.std.specs.FinSet as set;
     ghost use Rattle.odb_disk.specs.Tree.{IsTree, state_of};
 
-    ghost view = { λ d. record { state = state_of d.tree; calls = d.calls; listed = set.from_list d.listed.keys; faults = d.faults } };
+    ghost view = { λ d. record { state = state_of d.tree; calls = d.calls } };
 
     ghost invariant = { λ d. IsTree d.tree };
 }
@@ -58,9 +50,7 @@ impl MemDisk {
     {
         Ok(MemDisk {
             tree: Tree::bare(alloc)?,
-            calls: 0,
-            listed: numbers(alloc, calls)?,
-            faults: 0,
+            calls: Calls::with_faults(alloc, calls)?,
         })
     }
 
@@ -91,16 +81,16 @@ impl MemDisk {
 
     /// The number of calls so far, which stands still at its greatest value.
     pub fn calls(&self) -> u64
-        ensures { result ≡ self.now.calls }
+        ensures { result ≡ self.now.calls.made }
     {
-        self.calls
+        self.calls.made()
     }
 
     /// How many calls have failed so far.
     pub fn faults(&self) -> u64
-        ensures { result ≡ self.now.faults }
+        ensures { result ≡ self.now.calls.faults }
     {
-        self.faults
+        self.calls.faults()
     }
 
     /// A copy of the disk: its tree, its counts and the calls that are to fail.
@@ -109,9 +99,7 @@ impl MemDisk {
     {
         Ok(MemDisk {
             tree: self.tree.try_clone(alloc)?,
-            calls: self.calls,
-            listed: copied_numbers(&self.listed)?,
-            faults: self.faults,
+            calls: self.calls.try_clone()?,
         })
     }
 
@@ -119,14 +107,11 @@ impl MemDisk {
     fn count(&mut self) -> bool
         ensures counted { self.new ≡ after_call self.old }
         ensures fails { result ≡ next_fails self.old }
-        ensures later { self.old.faults ≤ self.new.faults }
-        ensures rose { IsTrue result → Rose self.old.faults self.new.faults }
+        ensures later { self.old.calls.faults ≤ self.new.calls.faults }
+        ensures rose { IsTrue result → Rose self.old.calls.faults self.new.calls.faults }
     {
-        self.calls = self.calls.saturating_add(1);
-        let fails = self.listed.contains(&self.calls);
-        if fails {
-            self.faults = self.faults.saturating_add(1);
-        }
+        let fails = self.calls.next_fails();
+        self.calls.count(fails);
         fails
     }
 }
@@ -140,13 +125,13 @@ impl Disk for MemDisk {
 
     ghost state = { λ disk. Some disk.state };
 
-    ghost faults = { λ disk. disk.faults };
+    ghost faults = { λ disk. disk.calls.faults };
 
     fn look(&mut self, alloc: Global, path: &PathText, follow: bool) -> Result<Meta, DiskError>
         ensures answer { Answers result (looked (tree_of self.old.state) path.now follow) }
         ensures tree { IsTree (tree_of self.old.state) }
         ensures kept { Some self.new.state ≡ Some self.old.state }
-        ensures cause { FailsOnlyByFault self.old.faults self.new.faults result }
+        ensures cause { FailsOnlyByFault self.old.calls.faults self.new.calls.faults result }
         ensures counted { self.new ≡ after_call self.old }
         ensures failed { (result ≡ Err DiskError.Failed) ↔ (next_fails self.old ≡ true) }
     {
@@ -162,7 +147,7 @@ impl Disk for MemDisk {
         ensures answer { Answers result (read_of (tree_of self.old.state) path.now) }
         ensures tree { IsTree (tree_of self.old.state) }
         ensures kept { Some self.new.state ≡ Some self.old.state }
-        ensures cause { FailsOnlyByFault self.old.faults self.new.faults result }
+        ensures cause { FailsOnlyByFault self.old.calls.faults self.new.calls.faults result }
         ensures counted { self.new ≡ after_call self.old }
         ensures failed { (result ≡ Err DiskError.Failed) ↔ (next_fails self.old ≡ true) }
     {
@@ -173,15 +158,4 @@ impl Disk for MemDisk {
         }
         tree.read(alloc, path)
     }
-}
-
-/// A set of numbers.
-fn numbers(alloc: Global, listed: &[u64]) -> Result<BTreeSet<u64>, NoMemory>
-    ensures { IfOk result (λ numbers. set.from_list {R = nat_cmp} numbers.keys ≡ set.from_list listed.now) }
-{
-    let mut numbers = BTreeSet::new(alloc);
-    for number in listed {
-        numbers.insert(*number)?;
-    }
-    Ok(numbers)
 }

@@ -52,7 +52,7 @@ pub(crate) fn has_names(nodes: &BTreeMap<PathText, Node>, directory: &PathText) 
         .next()
     {
         None => false,
-        Some((path, _)) => path.names().starts_with(directory.names()),
+        Some((path, _)) => path.starts_with(directory),
     }
 }
 

@@ -1,4 +1,3 @@
 mod disk;
 mod host;
-mod paths;
 mod streams;

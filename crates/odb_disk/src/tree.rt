@@ -55,10 +55,12 @@ enum Standing {
 }
 
 impl Tree {
-    ghost use Rattle.std.specs.Prelude.{◌≡◌, ◌≢◌, Bool, [], ◌↔◌, true, false, IfOk, OnOk, OnErr, IsErrOf, IsSome, Some, None, Err};
+    ghost use Rattle.std.specs.Prelude.{◌≡◌, ◌≢◌, Bool, [], ◌++◌, ◌↔◌, true, false, IfOk, OnOk, OnErr, IsErrOf, IsSome, Some, None, Err};
     ghost use Rattle.std.specs.Option.{option_copied};
+    ghost use Rattle.std.specs.List.{starts_with};
+    ghost use Rattle.odb_base.specs.Path.{Path, same_name};
     ghost use Rattle.odb_disk.specs.Tree.{IsTree, node_at, with_node, without, bare_tree, is_directory};
-    ghost use Rattle.odb_disk.specs.Tree.Follow.{looked, read_of, pass, followed_within};
+    ghost use Rattle.odb_disk.specs.Tree.Follow.{Missing, looked, read_of, pass, past, followed_within};
     ghost use Rattle.odb_disk.specs.Tree.Change.{changed, is_possible_in, parent_node, lies_in_directory, least_free};
     ghost use Rattle.odb_disk.specs.declared.node.Node.{Node as NodeValue};
     ghost use Rattle.odb_disk.specs.Disk.{Answers};
@@ -142,26 +144,41 @@ impl Tree {
         }
     }
 
-    /// Where the first link on the way of a path leads that has no node.
+    /// Where the first link on the way of a path leads that has no node: at the last node on the way, since
+    /// each node lies in a directory.
     fn led_on(&self, alloc: Global, path: &PathText) -> Result<PathText, DiskError>
-        requires { node_at self.now path.now ≡ None }
+        requires absent { node_at self.now path.now ≡ None }
+        requires tree { IsTree self.now }
         ensures { (follow : Bool) → LedOn result (pass self.now follow [] path.now) }
     {
-        let mut way = PathText::root(alloc);
-        let mut rest = path.names();
-        while let [name, more @ ..] = rest {
-            let Some(node) = self.node(&way) else {
-                return Err(DiskError::Absent);
-            };
-            match &node.content {
-                Content::File { .. } => return Err(DiskError::WrongKind),
-                Content::Link(target) => return Ok(target.followed_by(alloc, rest)?),
-                Content::Dir => {}
+        let mut way = path.parent(alloc)?;
+        while let Some(last) = way {
+            if let Some(node) = self.node(&last) {
+                return Tree::led_past(alloc, path, &last, &node.content);
             }
-            way.push(alloc, name)?;
-            rest = more;
+            way = last.parent(alloc)?;
         }
         Err(DiskError::Absent)
+    }
+
+    /// Where a path leads that goes beyond the last node on its way.
+    fn led_past(
+        alloc: Global,
+        path: &PathText,
+        last: &PathText,
+        content: &Content,
+    ) -> Result<PathText, DiskError>
+        requires { starts_with same_name path.now last.now ≡ true }
+        ensures { (rest : Path) → path.now ≡ last.now ++ rest → LedOn result (past content.now rest Missing) }
+    {
+        match content {
+            Content::File { .. } => Err(DiskError::WrongKind),
+            Content::Dir => Err(DiskError::Absent),
+            Content::Link(target) => match path.strip_prefix(alloc, last)? {
+                Some(rest) => Ok(target.followed_by(alloc, &rest)?),
+                None => unreachable!(),
+            },
+        }
     }
 
     /// The node that stands at a path, by its names alone.
@@ -289,7 +306,7 @@ impl Tree {
     fn can_remove(&self, path: &PathText) -> bool
         ensures { result ≡ is_possible_in self.now (Change.Remove path.now) }
     {
-        if path.names().is_empty() {
+        if path.is_root() {
             return false;
         }
         let Some(_) = self.node(path) else {

@@ -1,5 +1,5 @@
 ghost use Rattle.std.specs.Prelude.{◌≡◌, Some, IfOk};
-ghost use Rattle.odb_disk.specs.Path.{path_of};
+ghost use Rattle.odb_base.specs.Path.{path_of};
 ghost use Rattle.gitodb.specs.Line.{texts_of};
 ghost use Rattle.gitodb.specs.Change.{change_of, file_of};
 

@@ -135,7 +135,7 @@ fn told_loose(error: &LooseError) -> &'static str {
         } => "size mismatch",
         LooseError::SizeMismatch { .. } => "other sizes",
         LooseError::Decode => "no header",
-        LooseError::Io { path, .. } if path.names().len() == 3 => "loose io",
+        LooseError::Io { path, .. } if !path.is_root() => "loose io",
         LooseError::Io { .. } => "another path",
         LooseError::NoMemory => "no memory",
     }

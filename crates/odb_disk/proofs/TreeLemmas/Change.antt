@@ -1,11 +1,11 @@
 -- Laws of changes: what is at each path after one, and that a tree stays a tree.
-use Rattle.std.proofs.Common.{◌≡◌, ◌≢◌, ◌⊎◌, ℕ, Bool, true, false, not, ◌&&◌, List, [], ◌∷◌, ◌++◌, map, Option, Some, None, is_some, is_none, IsSome, refl, sym, ap, ◌∙◌, subst, T, inl, inr, cond, option_and_then, lit<}
+use Rattle.std.proofs.Common.{◌≡◌, ◌≢◌, ◌⊎◌, ℕ, true, false, ◌&&◌, List, [], ◌∷◌, ◌++◌, map, Option, Some, None, is_some, is_none, IsSome, refl, sym, ap, ◌∙◌, subst, T, inl, inr, cond, option_and_then, lit<}
 use Rattle.std.specs.FinMap.{find, is_sorted}
 use Rattle.std.specs.Ordering.{eq_by_cmp}
 use Rattle.std.specs.List.{filter_map, cons_option}
 use Rattle.std.specs.Cmp.Lexicographic.{nat_list_eq_equiv, same_text}
 use Rattle.std.proofs.lemmas.Bool.{false≢true, and_parts, and_left, and_right, and_from, not-true, not_from_true, not_from_false}
-use Rattle.odb_disk.specs.Path.{Name, Path, path_cmp, parent_of, same_name}
+use Rattle.odb_base.specs.Path.{Name, Path, path_cmp, parent_of, same_name}
 use Rattle.odb_disk.specs.Tree.{Tree, State, IsTree, tree_of, state_of, node_at, with_node, without, names_in, name_in, is_directory}
 use Rattle.odb_disk.specs.Tree.Nodes.{entries_of, entries_of-sorted, node_at-entries_of, names_in-entries_of}
 use Rattle.odb_disk.specs.Tree.Change.{parent_node, lies_in_directory, is_nil, is_possible_in, is_possible, changed, after_change, least_free, put_node, put_over, device_of}
@@ -14,7 +14,7 @@ use Rattle.odb_disk.specs.declared.node.Content.{Content}
 use Rattle.odb_disk.specs.declared.node.Content.TheVariants.{File, Dir, Link}
 use Rattle.odb_disk.specs.declared.change.Change.{Change}
 use Rattle.odb_disk.specs.declared.change.Change.TheVariants.{PutFile, MakeDir, Remove}
-use Rattle.odb_disk.proofs.PathLemmas.{parent_of-push, parent_of-none}
+use Rattle.odb_base.specs.PathLaws.{parent_of-push, parent_of-none}
 use Rattle.odb_disk.proofs.TreeLemmas.Numbers.{least_free-fresh}
 use Rattle.odb_disk.proofs.TreeLemmas.{tree_of-state_of, cases_path, node_at-put, node_at-put_other, node_at-taken, node_at-taken_other, same_path, find_own, find_later, second}
 

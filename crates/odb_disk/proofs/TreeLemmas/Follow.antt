@@ -1,9 +1,9 @@
 -- Laws of following a path: one pass along its names, and where the links lead.
-use Rattle.std.proofs.Common.{◌≡◌, ℕ, suc, ◌+◌, ◌-◌, ◌<◌, ◌≤◌, take, Bool, true, false, List, [], ◌∷◌, ◌++◌, length, get_or, drop, Option, Some, None, Result, Ok, Err, zero, ◌≢◌, refl, sym, ap, ◌∙◌, append_assoc, append-nil, arith}
-use Rattle.std.specs.List.{list_all}
-use Rattle.std.proofs.lemmas.Bool.{and_parts}
-use Rattle.std.proofs.Math.Seq.{take-length}
-use Rattle.odb_disk.specs.Path.{Name, Path, is_name}
+use Rattle.std.proofs.Common.{◌≡◌, ℕ, suc, ◌<◌, Bool, true, false, List, [], ◌∷◌, ◌++◌, length, get_or, drop, Option, Some, None, Result, Ok, Err, zero, ◌≢◌, refl, sym, ap, ◌∙◌, append_assoc, append-nil, length-take, arith}
+use Rattle.std.specs.Option.{IfSome}
+use Rattle.std.proofs.lemmas.Bool.{false≢true}
+use Rattle.odb_base.specs.Path.{Name, Path, parent_of}
+use Rattle.odb_base.specs.PathLaws.{parent_of-some, parent_of-nothing}
 use Rattle.odb_disk.specs.Tree.{Tree, IsTree, node_at, is_directory, is_directory_content}
 use Rattle.odb_disk.specs.Tree.Follow.{Pass, Reached, Onward, Missing, Blocked, pass, past, beyond, at_last, ending, Place, Refusal, Absent, WrongKind, LinkLoop, arrives, followed_within}
 use Rattle.odb_disk.specs.declared.node.Node.{Node}
@@ -82,27 +82,79 @@ module _ (t : Tree) (is_tree : IsTree t) where
       ∙ pass_to follow (way ++ name ∷ []) names n (ap (node_at t) regroup ∙ at)
       ∙ ap (λ w. ending follow w (Some n)) regroup
 
--- ---- the names that are left after a step
+-- ---- a pass that comes to the last node on a way
 
-pub rest_after : (rest : Path) → take (length rest - 1) (drop 1 rest) ≡ drop 1 rest
-rest_after [] = refl
-rest_after (name ∷ names) = let e : length (name ∷ names) - 1 ≡ length names = omega arith in ap (λ n. take n names) e ∙ take-length names
+module _ (t : Tree) (is_tree : IsTree t) where
+  -- each directory on the way of a node is passed
+  pub pass_from : (follow : Bool) (way names rest : Path) (n : Node) → node_at t (way ++ names) ≡ Some n → pass t follow way (names ++ rest) ≡ pass t follow (way ++ names) rest
+  pass_from follow way [] rest n at = ap (λ w. pass t follow w rest) (sym (append-nil way))
+  pass_from follow way (name ∷ names) rest n at =
+      let d = IsDir-from t way (way_is_directory t is_tree way name names n at) in
+      let regroup : (way ++ name ∷ []) ++ names ≡ way ++ name ∷ names = append_assoc way (name ∷ []) names in
+      pass_further t follow way (name ∷ names ++ rest) d.node [] (omega arith) d.at d.content
+      ∙ pass_from follow (way ++ name ∷ []) names rest n (ap (node_at t) regroup ∙ at)
+      ∙ ap (λ w. pass t follow w rest) regroup
 
-pub names_after : (rest : Path) → list_all is_name rest ≡ true → list_all is_name (drop 1 rest) ≡ true
-names_after [] all = refl
-names_after (name ∷ names) all = (and_parts _ _ all).1
+-- A way that a path goes beyond, where nothing stands at the next name.
+pub record IsShort (t : Tree) (path way : Path) : Type 0 where
+  pub name : Name
+  pub names : Path
+  pub whole : path ≡ way ++ name ∷ names
+  pub lacks : node_at t (way ++ name ∷ []) ≡ None
 
-pub whole_after : (way rest : Path) (name : Name) → 0 < length rest → name ≡ get_or rest 0 name → (way ++ name ∷ []) ++ drop 1 rest ≡ way ++ rest
-whole_after way [] name some is = absurd (omega arith)
-whole_after way (first ∷ rest) name some is = append_assoc way (name ∷ []) rest ∙ ap (λ n. way ++ n ∷ rest) is
+pub short_of_end : (t : Tree) (path way : Path) → parent_of path ≡ Some way → node_at t path ≡ None → IsShort t path way
+short_of_end t path way e none =
+    let last = parent_of-some path way e in
+    record { name = last.0; names = []; whole = last.1; lacks = ap (node_at t) (sym last.1) ∙ none }
 
--- at the end of a path that has no node
-pub absent_at_end : (t : Tree) (follow : Bool) (way rest path : Path) → length rest < 1 → way ++ rest ≡ path → node_at t path ≡ None → pass t follow way rest ≡ Missing
-absent_at_end t follow way [] path none whole at = pass_ends t follow way ∙ ap (ending follow way) (ap (node_at t) (sym (append-nil way) ∙ whole) ∙ at)
-absent_at_end t follow way (name ∷ names) path none whole at = absurd (omega arith)
+pub shorter : (t : Tree) (path way front : Path) → IsShort t path way → parent_of way ≡ Some front → node_at t way ≡ None → IsShort t path front
+shorter t path way front short e none =
+    let last = parent_of-some way front e in
+    record {
+      name = last.0;
+      names = short.name ∷ short.names;
+      whole = short.whole ∙ ap (λ w. w ++ short.name ∷ short.names) last.1 ∙ append_assoc front (last.0 ∷ []) (short.name ∷ short.names);
+      lacks = ap (node_at t) (sym last.1) ∙ none;
+    }
 
-pub step_ahead : (t : Tree) (follow : Bool) (way rest : Path) (name : Name) (n : Node) → 0 < length rest → name ≡ get_or rest 0 name → node_at t way ≡ Some n → n.content ≡ Dir → pass t follow (way ++ name ∷ []) (drop 1 rest) ≡ pass t follow way rest
-step_ahead t follow way rest name n some is at dir = ap (λ x. pass t follow (way ++ x ∷ []) (drop 1 rest)) is ∙ sym (pass_further t follow way rest n name some at dir)
+-- the directory of a path where nothing stands, or none where the path is the root
+module _ (t : Tree) (path : Path) (absent : node_at t path ≡ None) where
+  pub short_start : (way : Option Path) → way ≡ parent_of path → IfSome way (IsShort t path)
+  short_start None e = tt
+  short_start (Some way) e = short_of_end t path way (sym e) absent
+
+  pub root_start : (way : Option Path) → way ≡ parent_of path → way ≡ None → node_at t [] ≡ None
+  root_start way e none = ap (node_at t) (sym (parent_of-nothing path (sym e ∙ none))) ∙ absent
+
+pub short_next : (t : Tree) (path way : Path) (next : Option Path) → IsShort t path way → node_at t way ≡ None → next ≡ parent_of way → IfSome next (IsShort t path)
+short_next t path way None short absent e = tt
+short_next t path way (Some front) short absent e = shorter t path way front short (sym e) absent
+
+-- the directories of a way that are left, and the root
+pub ways_left : Option Path → ℕ
+ways_left None = 0
+ways_left (Some way) = suc (length way)
+
+pub fewer_left : (way : Path) (parent : Option Path) → parent ≡ parent_of way → ways_left parent < ways_left (Some way)
+unfolding parent_of ways_left
+fewer_left [] parent e = omega (arith, ap ways_left e)
+fewer_left (name ∷ names) parent e = omega (arith, ap ways_left e, length-take (length names) (name ∷ names))
+
+-- where a pass goes from the last node on its way
+pub pass_past : (t : Tree) → IsTree t → (follow : Bool) (path way : Path) (n : Node) (short : IsShort t path way) → node_at t way ≡ Some n → pass t follow [] path ≡ past n.content (short.name ∷ short.names) Missing
+unfolding pass
+pass_past t is_tree follow path way n short at =
+    ap (pass t follow []) short.whole ∙ pass_from t is_tree follow [] way (short.name ∷ short.names) n at ∙ stops short.names
+  where
+    missing : (names : Path) → pass t follow (way ++ short.name ∷ []) names ≡ Missing
+    missing [] = ap (ending follow (way ++ short.name ∷ [])) short.lacks
+    missing (next ∷ names) = ap (λ o. beyond o (next ∷ names) (pass t follow ((way ++ short.name ∷ []) ++ next ∷ []) names)) short.lacks
+    stops : (names : Path) → pass t follow way (short.name ∷ names) ≡ past n.content (short.name ∷ names) Missing
+    stops names = ap (λ o. beyond o (short.name ∷ names) (pass t follow (way ++ short.name ∷ []) names)) at ∙ ap (past n.content (short.name ∷ names)) (missing names)
+
+-- the root of a tree has a node
+pub root_stands : (t : Tree) → IsTree t → node_at t [] ≢ None
+root_stands t is_tree none = false≢true (sym (ap is_directory none) ∙ is_tree.root)
 
 -- ---- a pass to a node of a tree, from the root on
 

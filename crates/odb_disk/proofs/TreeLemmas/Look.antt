@@ -1,16 +1,15 @@
 -- Laws of looks and reads, for callers: what a look at a path says of a read of it, and what a read gives after a change.
-use Rattle.std.proofs.Common.{◌≡◌, ◌≢◌, ℕ, zero, suc, Bool, true, false, List, [], ◌∷◌, ◌++◌, length, Option, Some, None, Result, Ok, Err, refl, sym, ap, ◌∙◌, subst}
-use Rattle.odb_disk.specs.Path.{Path}
-use Rattle.odb_disk.specs.Tree.{Tree, State, IsTree, tree_of, node_at, with_node, is_directory}
-use Rattle.odb_disk.specs.Tree.Follow.{Pass, Reached, Onward, Missing, Blocked, Place, Refusal, WrongKind, pass, past, beyond, at_last, ending, arrives, followed, followed_within, meta_of, meta_with, meta_of_place, file_of, file_of_place, looked, read_of}
-use Rattle.odb_disk.specs.Tree.Change.{is_possible_in, changed, put_node, put_over, new_node, is_possible, after_change}
+use Rattle.std.proofs.Common.{◌≡◌, ◌≢◌, ℕ, true, List, length, Option, Some, None, Result, Ok, Err, refl, sym, ap, ◌∙◌}
+use Rattle.odb_base.specs.Path.{Path}
+use Rattle.odb_disk.specs.Tree.{Tree, IsTree, node_at}
+use Rattle.odb_disk.specs.Tree.Follow.{Place, Refusal, WrongKind, followed, meta_of, meta_with, meta_of_place, file_of, file_of_place, looked, read_of}
+use Rattle.odb_disk.specs.Tree.Change.{is_possible_in, changed, put_node, put_over}
 use Rattle.odb_disk.specs.declared.node.Node.{Node}
 use Rattle.odb_disk.specs.declared.node.Content.{Content}
 use Rattle.odb_disk.specs.declared.node.Content.TheVariants.{File, Dir, Link}
 use Rattle.odb_disk.specs.declared.disk.Meta.{Meta}
-use Rattle.odb_disk.specs.declared.disk.Kind.{Kind}
 use Rattle.odb_disk.specs.declared.disk.Kind.TheVariants as kinds
-use Rattle.odb_disk.specs.declared.change.Change.TheVariants.{PutFile, MakeDir, Remove}
+use Rattle.odb_disk.specs.declared.change.Change.TheVariants.{PutFile}
 use Rattle.odb_disk.proofs.TreeLemmas.{node_at-put}
 use Rattle.odb_disk.proofs.TreeLemmas.Follow.{pass_to_other, followed_reached}
 use Rattle.odb_disk.proofs.TreeLemmas.Change.{IsTree-changed, made-put_file}

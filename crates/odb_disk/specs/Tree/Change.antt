@@ -1,11 +1,11 @@
 -- What a change may do to a tree, and which changes are possible.
 use Rattle.std.specs.Prelude.{ℕ, ◌+◌, ◌==◌, ◌&&◌, Bool, true, false, not, max, fold, find, List, [], ◌∷◌, Option, Some, None, is_some, is_none, unwrap_or, option_and_then}
 use Rattle.std.specs.List.{list_any, range_with_len}
-use Rattle.odb_disk.specs.Path.{Path, Name, parent_of}
+use Rattle.odb_base.specs.Path.{Path, Name, parent_of}
 use Rattle.odb_disk.specs.Tree.{Tree, State, tree_of, state_of, node_at, with_node, without, names_in, inode_numbers, is_directory}
 use Rattle.odb_disk.specs.declared.node.Node.{Node}
 use Rattle.odb_disk.specs.declared.node.Content.{Content}
-use Rattle.odb_disk.specs.declared.node.Content.TheVariants.{File, Dir, Link}
+use Rattle.odb_disk.specs.declared.node.Content.TheVariants.{File, Dir}
 use Rattle.odb_disk.specs.declared.change.Change.{Change}
 use Rattle.odb_disk.specs.declared.change.Change.TheVariants.{PutFile, MakeDir, Remove}
 

@@ -1,6 +1,6 @@
 -- Where a path leads: links followed, at most 40 of them on the way.
-use Rattle.std.specs.Prelude.{ℕ, zero, suc, Bool, true, false, List, [], ◌∷◌, ◌++◌, length, Option, Some, None, Result, Ok, Err}
-use Rattle.odb_disk.specs.Path.{Path, Name}
+use Rattle.std.specs.Prelude.{ℕ, zero, suc, Bool, true, List, [], ◌∷◌, ◌++◌, length, Option, Some, None, Result, Ok, Err}
+use Rattle.odb_base.specs.Path.{Path, Name}
 use Rattle.odb_disk.specs.Tree.{Tree, node_at, names_in}
 use Rattle.odb_disk.specs.declared.node.Node.{Node}
 use Rattle.odb_disk.specs.declared.node.Content.{Content}

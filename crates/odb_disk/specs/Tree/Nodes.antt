@@ -1,21 +1,14 @@
 -- The laws of what stands at a path: trees are the same where each path has the same node.
-use Rattle.std.specs.Prelude.{◌≡◌, List, Option, Some, None, map, refl, cond}
-use Rattle.std.proofs.Common.{sym, ap, ◌∙◌, T}
+use Rattle.std.specs.Prelude.{◌≡◌, List, Some, None, map, refl, cond}
+use Rattle.std.proofs.Common.{ap, T}
 use Rattle.std.specs.FinMap as finite
-use Rattle.std.specs.FinMap.{IsAntisymmetric, nat_cmp-IsAntisymmetric, slice_cmp-IsAntisymmetric, get-insert, get-remove, get-from_entries, same_map, entries_sorted, get-entries, find, is_sorted}
+use Rattle.std.specs.FinMap.{get-insert, get-remove, get-from_entries, same_map, entries_sorted, get-entries, find, is_sorted}
 use Rattle.std.specs.Ordering.{eq_by_cmp}
-use Rattle.std.specs.Cmp.{IsTotalOrder}
-use Rattle.std.specs.Cmp.Lexicographic.{nat_list_cmp_total, lists_total}
 use Rattle.std.specs.List.{filter_map}
-use Rattle.odb_disk.specs.Path.{Path, path_cmp}
+use Rattle.odb_base.specs.Path.{Path, path_cmp}
+use Rattle.odb_base.specs.PathLaws.{path_order, one_place}
 use Rattle.odb_disk.specs.Tree.{Tree, node_at, with_node, without, tree_of_entries, names_in, name_in, inode_numbers}
 use Rattle.odb_disk.specs.declared.node.Node.{Node}
-
-path_order : IsTotalOrder path_cmp
-path_order = lists_total nat_list_cmp_total
-
-one_place : IsAntisymmetric path_cmp
-one_place = slice_cmp-IsAntisymmetric (slice_cmp-IsAntisymmetric nat_cmp-IsAntisymmetric)
 
 pub same_tree : (t u : Tree) → ((q : Path) → node_at t q ≡ node_at u q) → t ≡ u
 unfolding node_at

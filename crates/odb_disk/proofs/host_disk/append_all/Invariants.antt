@@ -1,4 +1,4 @@
-use Rattle.std.proofs.Common.{◌≡◌, ◌≤◌, ◌-◌, length, vec_len}
+use Rattle.std.proofs.Common.{◌≤◌, ◌-◌, vec_len}
 use Rattle.odb_disk.proofs.SourceLemmas.{HasRead}
 use Rattle.odb_disk.proofs.host_disk.append_all.Given as goal
 

@@ -1,8 +1,8 @@
-use Rattle.std.proofs.Common.{◌∙◌, sym, ap}
+use Rattle.std.proofs.Common.{◌∙◌, ap}
 use Rattle.std.specs.Map.Iter.{deref_pair}
 use Rattle.std.proofs.lemmas.Map.Iter.{btree_map_turn}
 use Rattle.odb_disk.specs.Tree.{tree_of_entries, with_node}
-use Rattle.odb_disk.proofs.PathLemmas.{path_cmp-total}
+use Rattle.odb_base.specs.PathLaws.{path_order}
 use Rattle.odb_disk.proofs.TreeLemmas.{node_at-entries}
 use Rattle.odb_disk.proofs.NodeMapLemmas.{none_copied, one_copied, all_copied}
 use Rattle.odb_disk.proofs.node_map.copied.Goals as goal
@@ -14,7 +14,7 @@ pub loop-path-preserved : goal.loop-path-preserved
 loop-path-preserved c =
     let all = c.args.nodes.now in
     let gives = c.into_iter-path-iterator.ensures.into_iter_gives in
-    let turn = btree_map_turn deref_pair _ _ _ _ _ _ c.loop-path.yielded_by c.in-Some.is c.next.ensures.steps path_cmp-total all gives.0 gives.5 in
+    let turn = btree_map_turn deref_pair _ _ _ _ _ _ c.loop-path.yielded_by c.in-Some.is c.next.ensures.steps path_order all gives.0 gives.5 in
     let t = tree_of_entries c.loop-path.copy.entries in
     one_copied (tree_of_entries all.entries) t (tree_of_entries c.put.new.nodes.entries) c.in-Some.path.now c.in-Some.node.now c.loop-path.path-iterator c.next.new.self
     (node_at-entries all.entries _ ∙ turn.1) c.in-Some.ensures.steps

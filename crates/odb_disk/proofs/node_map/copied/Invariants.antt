@@ -2,7 +2,7 @@ use Rattle.std.proofs.Common.{◌≡◌}
 use Rattle.std.specs.Option.{option_or}
 use Rattle.std.specs.Map.{lookup}
 use Rattle.std.specs.BTreeMap.{is_at}
-use Rattle.odb_disk.specs.Path.{Path, path_cmp}
+use Rattle.odb_base.specs.Path.{Path, path_cmp}
 use Rattle.odb_disk.specs.Tree.{node_at, tree_of_entries}
 use Rattle.odb_disk.proofs.node_map.copied.Given as goal
 

@@ -1,6 +1,4 @@
-use Rattle.std.proofs.Common.{◌≡◌, ◌∙◌, sym, ap, not}
-use Rattle.std.specs.List.{starts_with}
-use Rattle.odb_disk.specs.Path.{same_name}
+use Rattle.std.proofs.Common.{◌∙◌, sym, ap, not}
 use Rattle.odb_disk.specs.Tree.{tree_of_entries}
 use Rattle.odb_disk.proofs.TreeLemmas.{node_at-entries, IsSome-from}
 use Rattle.odb_disk.proofs.NamesLemmas.{no_names_at_end, told_by_first}
@@ -18,6 +16,6 @@ returns-in-Some c =
     let range = c.range.ensures.in_range tt in
     let first = rw c.in-Some.ensures.steps at range.1 in
     let least = rw c.in-Some.ensures.steps at range.2 in
-    c.starts_with.ensures.value ∙ ap (λ path. starts_with same_name path c.names-in-Some.result.now) c.names.ensures.value ∙ ap (starts_with same_name c.in-Some.path.now) c.names-in-Some.ensures.value
+    c.starts_with.ensures
     ∙ told_by_first (tree_of_entries es) c.requires c.args.directory.now c.in-Some.path.now c.in-Some.field-0-1.now first.0.0 (node_at-entries es _ ∙ first.1)
     (λ r k behind at. least r (behind, tt) (IsSome-from _ _ (sym at ∙ node_at-entries es r)))

@@ -1,4 +1,4 @@
-use Rattle.std.proofs.Common.{◌≡◌, ◌∙◌, sym, ap, subst, Some, None, is_some, IsSome}
+use Rattle.std.proofs.Common.{◌≡◌, ◌∙◌, sym, ap, Some, None}
 use Rattle.odb_disk.specs.Tree.{tree_of_entries, with_node}
 use Rattle.odb_disk.proofs.TreeLemmas.{tree_put, node_at-entries, IsSome-from}
 use Rattle.odb_disk.proofs.node_map.put_content.Goals as goal

@@ -1,5 +1,4 @@
-use Rattle.std.proofs.Common.{◌≡◌, ◌∙◌, sym, ap, refl}
-use Rattle.std.specs.FinSet as set
+use Rattle.std.proofs.Common.{◌∙◌, sym, ap, refl}
 use Rattle.std.proofs.lemmas.Result.{on_ok_weaker}
 use Rattle.odb_disk.specs.Tree.{state_of}
 use Rattle.odb_disk.specs.Tree.Change.{is_possible}
@@ -10,7 +9,7 @@ use Rattle.odb_disk.proofs.MemDiskLemmas.{IsTree-after, outside_change}
 use Rattle.odb_disk.proofs.mem_disk.MemDisk.change.Goals as goal
 
 abbrev seen : Inside → Volume
-seen inside = record { state = state_of inside.tree; calls = inside.calls; listed = set.from_list inside.listed.keys; faults = inside.faults }
+seen inside = record { state = state_of inside.tree; calls = inside.calls }
 
 pub invariant_of-self : goal.invariant_of-self
 invariant_of-self c = IsTree-after c.change.result _ _ _ c.self.invariant c.change.ensures.made c.change.ensures.possible c.change.ensures.kept

@@ -1,9 +1,5 @@
-use Rattle.std.proofs.Common.{◌∙◌, ap}
-use Rattle.std.specs.FinSet as set
-use Rattle.odb_disk.specs.Tree.{bare_tree, state_of}
-use Rattle.odb_disk.specs.MemDisk.{new_volume}
 use Rattle.odb_disk.proofs.MemDiskLemmas.{new_disk}
 use Rattle.odb_disk.proofs.mem_disk.MemDisk.with_faults.Goals as goal
 
 pub returns : goal.returns
-returns c = new_disk _ _ _ c.in_ok-bare.ensures c.in_ok-numbers.ensures
+returns c = new_disk _ _ _ c.in_ok-bare.ensures c.in_ok-with_faults.ensures

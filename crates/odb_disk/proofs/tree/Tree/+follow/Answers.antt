@@ -1,7 +1,7 @@
-use Rattle.std.proofs.Common.{◌≡◌, ◌∙◌, suc, ◌-◌, sym, ap, arith}
+use Rattle.std.proofs.Common.{◌≡◌, ◌∙◌, suc, ◌-◌, ap, arith}
 use Rattle.std.proofs.lemmas.Result.{err_from_is_err_and}
 use Rattle.odb_disk.specs.Tree.Follow.{followed_within}
-use Rattle.odb_disk.specs.TreeCalls.{Leads, node_of_place}
+use Rattle.odb_disk.specs.TreeCalls.{node_of_place}
 use Rattle.odb_disk.proofs.TreeLemmas.Follow.{followed_reached, followed_loop, followed_onward}
 use Rattle.odb_disk.proofs.TreeCallsLemmas.{Leads-from_end}
 use Rattle.odb_disk.proofs.tree.Tree.+follow.Goals as goal

@@ -1,23 +1,35 @@
-use Rattle.std.proofs.Common.{◌∙◌, sym, ap, ◌++◌, drop, arith}
-use Rattle.odb_disk.specs.Tree.Follow.{Onward, pass}
-use Rattle.odb_disk.proofs.TreeLemmas.Follow.{pass_missing, pass_blocked, pass_led, pass_further, pass_ends, rest_after, names_after, whole_after, absent_at_end, step_ahead}
+use Rattle.std.proofs.Common.{◌∷◌, sym}
+use Rattle.odb_base.specs.PathLaws.{lies_below}
+use Rattle.odb_disk.proofs.TreeLemmas.Follow.{IsShort, pass_past, short_start, root_start, short_next, fewer_left, root_stands}
 use Rattle.odb_disk.proofs.tree.Tree.led_on.Goals as goal
 
-pub returns-in_default-node : goal.returns-in_default-node
-returns-in_default-node c = λ follow. sym (c.loop-rest.invariant.ahead follow) ∙ pass_missing _ follow _ _ (omega arith) (sym c.in_default-node.ensures.value)
-
-pub returns-in-File : goal.returns-in-File
-returns-in-File c = λ follow. sym (c.loop-rest.invariant.ahead follow) ∙ pass_blocked _ follow _ _ _ _ _ (omega arith) (sym c.in-Some.ensures.value) c.in-File.is
-
-pub returns-in-Link : goal.returns-in-Link
-returns-in-Link c = λ follow. sym (c.loop-rest.invariant.ahead follow) ∙ pass_led _ follow _ _ _ _ (omega arith) (sym c.in-Some.ensures.value) c.in-Link.is ∙ ap Onward (sym c.in_ok-followed_by-in-Link.ensures)
-
-pub loop-rest-preserved : goal.loop-rest-preserved
-loop-rest-preserved c = record {
-  names = rw rest_after (names_after _ c.loop-rest.invariant.names);
-  whole = rw (rest_after, c.in_ok-push.ensures.ok) (whole_after c.loop-rest.way c.loop-rest.rest.now c.name-item.result (omega arith) c.name-item.is ∙ c.loop-rest.invariant.whole);
-  ahead = λ follow. rw (rest_after, c.in_ok-push.ensures.ok) (step_ahead _ follow c.loop-rest.way c.loop-rest.rest.now c.name-item.result _ (omega arith) c.name-item.is (sym c.in-Some.ensures.value) c.in-Dir.is ∙ c.loop-rest.invariant.ahead follow);
+pub loop-way-init : goal.loop-way-init
+loop-way-init c = record {
+  short = short_start _ _ c.requires.absent _ c.in_ok-way.ensures;
+  root = root_start _ _ c.requires.absent _ c.in_ok-way.ensures;
 }
 
+pub led_past-requires : goal.led_past-requires
+led_past-requires c =
+    let short : IsShort c.args.self.now c.args.path.now c.in-Some.last = rw c.in-Some.is at c.loop-way.invariant.short in
+    lies_below _ _ (short.name ∷ short.names) short.whole
+
+pub returns-in-Some-node : goal.returns-in-Some-node
+returns-in-Some-node c = λ follow.
+    let short : IsShort c.args.self.now c.args.path.now c.in-Some.last = rw c.in-Some.is at c.loop-way.invariant.short in
+    rw (pass_past _ c.requires.tree follow _ _ _ short (sym c.in-Some-node.ensures.value)) (c.led_past.ensures (short.name ∷ short.names) short.whole)
+
+pub loop-way-smaller : goal.loop-way-smaller
+loop-way-smaller c = rw c.in-Some.is (fewer_left c.in-Some.last _ c.in_ok-way-2.ensures)
+
+pub loop-way-preserved : goal.loop-way-preserved
+loop-way-preserved c =
+    let short : IsShort c.args.self.now c.args.path.now c.in-Some.last = rw c.in-Some.is at c.loop-way.invariant.short in
+    let absent = sym c.in_default-node.ensures.value in
+    record {
+      short = short_next _ _ _ _ short absent c.in_ok-way-2.ensures;
+      root = root_start _ _ absent _ c.in_ok-way-2.ensures;
+    }
+
 pub returns : goal.returns
-returns c = λ follow. sym (c.loop-rest.invariant.ahead follow) ∙ absent_at_end _ follow _ _ _ (omega arith) c.loop-rest.invariant.whole c.requires
+returns c = λ follow. absurd (root_stands _ c.requires.tree (c.loop-way.invariant.root c.in_default.is))

@@ -1,15 +1,15 @@
-use Rattle.std.proofs.Common.{◌≡◌, ◌++◌, Bool, true, [], length}
-use Rattle.std.specs.List.{list_all}
-use Rattle.odb_disk.specs.Path.{is_name}
-use Rattle.odb_disk.specs.Tree.Follow.{pass}
+use Rattle.std.proofs.Common.{◌≡◌, None, []}
+use Rattle.std.specs.Option.{IfSome}
+use Rattle.odb_disk.specs.Tree.{node_at}
+use Rattle.odb_disk.proofs.TreeLemmas.Follow.{IsShort, ways_left}
 use Rattle.odb_disk.proofs.tree.Tree.led_on.Given as goal
 
-abbrev pub invariant-loop-rest : goal.invariant-loop-rest
-invariant-loop-rest l = record {
-  names : list_all is_name l.rest ≡ true;
-  whole : l.way ++ l.rest ≡ l.path;
-  ahead : (follow : Bool) → pass l.self follow l.way l.rest ≡ pass l.self follow [] l.path;
+-- nothing stands beyond the way, which is a front of the path; past the root, nothing stands at the root
+abbrev pub invariant-loop-way : goal.invariant-loop-way
+invariant-loop-way l = record {
+  short : IfSome l.way (IsShort l.self l.path);
+  root : l.way ≡ None → node_at l.self [] ≡ None;
 }
 
-abbrev pub decreases-loop-rest : goal.decreases-loop-rest
-decreases-loop-rest l = length l.rest
+abbrev pub decreases-loop-way : goal.decreases-loop-way
+decreases-loop-way l = ways_left l.way

@@ -1,4 +1,4 @@
-use Rattle.std.proofs.Common.{◌≡◌, ◌∙◌, sym, ap, Ok}
+use Rattle.std.proofs.Common.{◌∙◌, sym, ap, Ok}
 use Rattle.std.proofs.lemmas.Result.{err_from_is_err_and}
 use Rattle.odb_disk.proofs.TreeCallsLemmas.{looked_node, looked_refused}
 use Rattle.odb_disk.proofs.tree.Tree.look.Goals as goal

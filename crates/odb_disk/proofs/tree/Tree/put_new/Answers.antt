@@ -1,4 +1,4 @@
-use Rattle.std.proofs.Common.{◌≡◌, ◌∙◌, ap, sym}
+use Rattle.std.proofs.Common.{◌∙◌, ap, sym}
 use Rattle.odb_disk.specs.Tree.{tree_of_entries, with_node}
 use Rattle.odb_disk.specs.Tree.Change.{least_free}
 use Rattle.odb_disk.proofs.TreeNumbersLemmas.{IsTree-new, AreNumbers-new, least_free-least}

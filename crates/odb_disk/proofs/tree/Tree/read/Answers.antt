@@ -1,4 +1,4 @@
-use Rattle.std.proofs.Common.{◌≡◌, ◌∙◌, sym, ap, Ok, inl, inr}
+use Rattle.std.proofs.Common.{◌∙◌, sym, ap, Ok, inl, inr}
 use Rattle.std.proofs.lemmas.Result.{err_from_is_err_and}
 use Rattle.odb_disk.specs.Tree.Follow.{file_of}
 use Rattle.odb_disk.proofs.TreeCallsLemmas.{read_node, read_refused}

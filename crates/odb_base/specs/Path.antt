@@ -1,0 +1,70 @@
+-- Paths: an absolute list of names. The empty list is the root, `/`.
+use Rattle.std.specs.Prelude.{ℕ, ◌==◌, ◌||◌, Bool, not, List, [], ◌∷◌, length, take, codes, nat_eq, false, Option, Some, None, if◌then◌else◌}
+use Rattle.std.specs.List.{slice_split, list_any, list_all, flat_map, after_last}
+use Rattle.std.specs.Ordering.{nat_cmp}
+use Rattle.std.specs.Cmp.Lexicographic.{slice_cmp}
+use Rattle.std.specs.declared.cmp.Ordering.{Ordering}
+use lib.Pointwise.{pointwise}
+
+-- a name, as its bytes
+abbrev pub Name : Type 0
+Name = List ℕ
+
+abbrev pub Path : Type 0
+Path = List Name
+
+-- whether two names have the same bytes
+abbrev pub same_name : Name → Name → Bool
+same_name = pointwise nat_eq
+
+-- whether bytes are a name: not empty, not `.` or `..`, and without NUL and `/`
+unfoldable pub is_name : Name → Bool
+is_name name =
+    not (same_name name [] || same_name name (codes ".") || same_name name (codes "..") || list_any (λ b. b == 0) name || list_any (λ b. b == 47) name)
+
+-- the order of names, by their bytes; that of paths, name by name
+abbrev pub name_cmp : Name → Name → Ordering
+name_cmp = slice_cmp nat_cmp
+
+abbrev pub path_cmp : Path → Path → Ordering
+path_cmp = slice_cmp name_cmp
+
+-- the text of a path: a slash before each name, and `/` for the root
+unfoldable pub text_of : Path → List ℕ
+text_of [] = codes "/"
+text_of (name ∷ names) = flat_map (λ n. 47 ∷ n) (name ∷ names)
+
+-- the names that stand between slashes after the first one; nothing after it is the root
+unfoldable pub named : List Name → Option Path
+named [] = None
+named ([] ∷ []) = Some []
+named (name ∷ names) = if list_all is_name (name ∷ names) then Some (name ∷ names) else None
+
+-- nothing stands before the first slash
+unfoldable pub rooted : List Name → Option Path
+rooted [] = None
+rooted ([] ∷ names) = named names
+rooted ((b ∷ bytes) ∷ names) = None
+
+-- the path that a text spells, if it spells one
+unfoldable pub path_of : List ℕ → Option Path
+path_of text = rooted (slice_split (λ b. b == 47) text)
+
+-- the directory that a path lies in, by its names; the root lies in none
+unfoldable pub parent_of : Path → Option Path
+parent_of [] = None
+parent_of (name ∷ names) = Some (take (length names) (name ∷ names))
+
+unfoldable pub last_name : Path → Option Name
+last_name [] = None
+last_name (name ∷ []) = Some name
+last_name (name ∷ other ∷ names) = last_name (other ∷ names)
+
+-- whether a dot stands behind the first byte
+unfoldable pub has_extension : Name → Bool
+has_extension [] = false
+has_extension (first ∷ rest) = list_any (λ b. b == 46) rest
+
+-- what follows the last dot, unless there is none or the only one comes first
+unfoldable pub extension_of : Name → Option (List ℕ)
+extension_of name = if has_extension name then Some (after_last (λ b. b == 46) name) else None

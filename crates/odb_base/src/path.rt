@@ -1,0 +1,353 @@
+ghost use Rattle.std.specs.Prelude.{◌≡◌, ◌↔◌, ◌==◌, false, true, map, [], ◌∷◌, ◌++◌, IfOk, OnOk, IfSome, IsTrue, IsErrOf, None, Some};
+ghost use Rattle.std.specs.Option.{option_copied};
+ghost use Rattle.std.specs.List.{slice_split, list_all, starts_with};
+ghost use Rattle.std.specs.String.{string_bytes};
+ghost use Rattle.odb_base.specs.Path.{is_name, extension_of};
+ghost use Rattle.odb_base.specs.JoinedPath.{joined, slashed};
+ghost use Rattle.odb_base.specs.declared.path.BadPath.TheVariants.{NoMemory as out_of_memory};
+
+use crate::NoMemory;
+use std::alloc::{AllocError, AllocFailed, Global};
+use std::cmp::Ordering;
+use std::fmt;
+use std::marker::Model;
+use thiserror::Error;
+
+/// Why a text is no path.
+#[derive(Clone, Copy, Debug, PartialEq, Eq, Error)]
+pub enum BadPath {
+    /// The text doesn't begin with `/`, or a name is empty, `.`, `..`, or holds NUL or `/`.
+    #[error("bad path")]
+    Malformed,
+    #[error("out of memory")]
+    NoMemory,
+}
+
+impl From<NoMemory> for BadPath {
+    ghost from_gives = { λ _ e. e ≡ out_of_memory };
+
+    fn from(_: NoMemory) -> Self {
+        BadPath::NoMemory
+    }
+}
+
+impl From<AllocError> for BadPath {
+    ghost from_gives = { λ _ e. e ≡ out_of_memory };
+
+    fn from(_: AllocError) -> Self {
+        BadPath::NoMemory
+    }
+}
+
+impl<T: Drop> From<AllocFailed<T>> for BadPath {
+    ghost from_gives = { λ _ e. e ≡ out_of_memory };
+
+    fn from(_: AllocFailed<T>) -> Self {
+        BadPath::NoMemory
+    }
+}
+
+/// An absolute path: a list of names, none of them empty, `.` or `..`, or with NUL or `/` in it.
+/// The empty list is the root, `/`.
+///
+/// The names stand in one text, each behind a NUL: the order of these texts by their bytes is that of paths, name by name.
+#[derive(Debug, Drop)]
+pub struct PathText {
+    joined: String,
+}
+
+impl Model for PathText {
+    ghost use Rattle.std.specs.Prelude.{List, ℕ};
+    ghost use Rattle.std.specs.String.{string_bytes};
+    ghost use Rattle.odb_base.specs.JoinedPath.{names_joined, IsJoined};
+
+    ghost Value = { List (List ℕ) };
+
+    ghost view = { λ path. names_joined (string_bytes path.joined) };
+
+    ghost invariant = { λ path. IsJoined (string_bytes path.joined) };
+}
+
+impl PathText {
+    ghost use Rattle.odb_base.specs.Path.{is_name, same_name, text_of, path_of, parent_of, last_name, extension_of};
+    ghost use Rattle.odb_base.specs.JoinedPath.{joined, IsBehind};
+    ghost use Rattle.std.specs.List.{list_all, starts_with};
+    ghost use Rattle.std.specs.Prelude.{true, map, option_and_then};
+
+    /// The path of a list of names, each of which is tested. `room` is the length of its text.
+    fn from_names(alloc: Global, texts: &[&str], room: usize) -> Result<PathText, BadPath>
+        ensures path { IfOk result (λ path. path ≡ map (λ text. text.now) texts.now) }
+        ensures are_names { IfOk result (λ path. list_all is_name path ≡ true) }
+        ensures refused { IsErrOf result BadPath.Malformed → list_all is_name (map (λ text. text.now) texts.now) ≡ false }
+    {
+        let mut joined = String::with_capacity(alloc, room)?;
+        for text in texts {
+            if !is_name(text) {
+                return Err(BadPath::Malformed);
+            }
+            push_name(&mut joined, text)?;
+        }
+        Ok(PathText { joined })
+    }
+
+    /// The root, which takes no memory.
+    pub fn root(alloc: Global) -> PathText
+        ensures { result ≡ [] }
+    {
+        PathText {
+            joined: String::new(alloc),
+        }
+    }
+
+    /// The path that a text spells.
+    pub fn parse(alloc: Global, text: &str) -> Result<PathText, BadPath>
+        ensures parsed { IfOk result (λ path. path_of text.now ≡ Some path) }
+        ensures spelled { IfOk result (λ path. text_of path ≡ text.now) }
+        ensures names { IfOk result (λ path. list_all is_name path ≡ true) }
+        ensures refused { IsErrOf result BadPath.Malformed → path_of text.now ≡ None }
+    {
+        let Some(rest) = text.strip_prefix('/') else {
+            return Err(BadPath::Malformed);
+        };
+        if rest.is_empty() {
+            return Ok(PathText::root(alloc));
+        }
+        let parts = parts_of(alloc, rest)?;
+        PathText::from_names(alloc, &parts, text.len())
+    }
+
+    /// The path with one name more.
+    pub fn join(&self, alloc: Global, name: &str) -> Result<PathText, BadPath>
+        ensures joined { IfOk result (λ path. path ≡ self.now ++ name.now ∷ []) }
+        ensures refused { IsErrOf result BadPath.Malformed ↔ (is_name name.now ≡ false) }
+    {
+        if !is_name(name) {
+            return Err(BadPath::Malformed);
+        }
+        let room = self.joined.len().saturating_add(name.len()).saturating_add(1);
+        let mut joined = String::with_capacity(alloc, room)?;
+        joined.push_str(&self.joined)?;
+        push_name(&mut joined, name)?;
+        Ok(PathText { joined })
+    }
+
+    /// The path with the names of another behind its own.
+    pub fn followed_by(&self, alloc: Global, rest: &PathText) -> Result<PathText, NoMemory>
+        ensures { IfOk result (λ path. path ≡ self.now ++ rest.now) }
+    {
+        let room = self.joined.len().saturating_add(rest.joined.len());
+        let mut joined = String::with_capacity(alloc, room)?;
+        joined.push_str(&self.joined)?;
+        joined.push_str(&rest.joined)?;
+        Ok(PathText { joined })
+    }
+
+    /// The directory that the path lies in: the path without its last name. The root lies in none.
+    pub fn parent(&self, alloc: Global) -> Result<Option<PathText>, NoMemory>
+        ensures { IfOk result (λ parent. parent ≡ parent_of self.now) }
+    {
+        match self.joined.rsplit_once('\0') {
+            None => Ok(None),
+            Some((before, _)) => Ok(Some(PathText {
+                joined: String::from_str(alloc, before)?,
+            })),
+        }
+    }
+
+    /// The text of the path: a slash before each name, and `/` for the root.
+    pub fn to_text(&self, alloc: Global) -> Result<String, NoMemory>
+        ensures { IfOk result (λ text. string_bytes text ≡ text_of self.now) }
+    {
+        if self.is_root() {
+            return Ok(String::from_str(alloc, "/")?);
+        }
+        let mut text = String::with_capacity(alloc, self.joined.len())?;
+        let mut rest = self.joined.as_str();
+        while let Some((name, more)) = rest.split_once('\0') {
+            text.push_str(name)?;
+            text.push('/')?;
+            rest = more;
+        }
+        text.push_str(rest)?;
+        Ok(text)
+    }
+
+    /// Whether the path is the root, which has no names.
+    pub fn is_root(&self) -> bool
+        ensures { IsTrue result ↔ (self.now ≡ []) }
+    {
+        self.joined.is_empty()
+    }
+
+    /// Whether the path is another one or lies below it.
+    pub fn starts_with(&self, base: &PathText) -> bool
+        ensures { result ≡ starts_with same_name self.now base.now }
+    {
+        self.behind(base).is_some()
+    }
+
+    /// The path's names behind those of another one that it lies below or is.
+    pub fn strip_prefix(&self, alloc: Global, base: &PathText) -> Result<Option<PathText>, NoMemory>
+        ensures below { IfOk result (λ below. IfSome below (λ rest. base.now ++ rest ≡ self.now)) }
+        ensures apart { IfOk result (λ below. below ≡ None → starts_with same_name self.now base.now ≡ false) }
+    {
+        match self.behind(base) {
+            None => Ok(None),
+            Some(rest) => Ok(Some(PathText {
+                joined: String::from_str(alloc, rest)?,
+            })),
+        }
+    }
+
+    /// What stands in the text behind that of another path.
+    fn behind(&self, base: &PathText) -> Option<&str>
+        ensures { IsBehind self.now base.now (option_copied result) }
+    {
+        let rest = self.joined.strip_prefix(base.joined.as_str())?;
+        if rest.is_empty() {
+            return Some(rest);
+        }
+        if rest.starts_with('\0') {
+            return Some(rest);
+        }
+        None
+    }
+
+    /// The last name; the root has none.
+    pub fn file_name(&self) -> Option<&str>
+        ensures { option_copied result ≡ last_name self.now }
+    {
+        match self.joined.rsplit_once('\0') {
+            None => None,
+            Some((_, name)) => Some(name),
+        }
+    }
+
+    /// What follows the last dot of the last name. There is none where no dot is there, or the only one comes first.
+    pub fn extension(&self) -> Option<&str>
+        ensures { option_copied result ≡ option_and_then extension_of (last_name self.now) }
+    {
+        let name = self.file_name()?;
+        extension_in(name)
+    }
+
+    /// A copy of the path.
+    pub fn try_clone(&self, alloc: Global) -> Result<PathText, NoMemory>
+        ensures { IfOk result (λ path. path ≡ self.now) }
+    {
+        Ok(PathText {
+            joined: String::from_str(alloc, &self.joined)?,
+        })
+    }
+}
+
+impl PartialEq for PathText {
+    ghost use Rattle.odb_base.specs.Path.{same_name};
+    ghost use Rattle.std.specs.Cmp.{partial_equiv_from_equiv};
+    ghost use Rattle.std.specs.Cmp.Lexicographic.{nat_list_eq_equiv, lists_equiv};
+    ghost use lib.Pointwise.{pointwise};
+
+    ghost eq = { pointwise same_name };
+
+    fn eq(&self, other: &PathText) -> bool {
+        self.joined.as_bytes() == other.joined.as_bytes()
+    }
+
+    ghost laws = { partial_equiv_from_equiv (lists_equiv nat_list_eq_equiv) };
+}
+
+impl Eq for PathText {
+    ghost use Rattle.std.specs.Cmp.Lexicographic.{nat_list_eq_equiv, lists_equiv};
+
+    ghost laws = { lists_equiv nat_list_eq_equiv };
+}
+
+impl PartialOrd for PathText {
+    ghost use Rattle.std.specs.Ordering.{as_partial_cmp, nat_cmp};
+    ghost use Rattle.std.specs.Cmp.Lexicographic.{slice_cmp, nat_list_cmp_total, texts_ties, lists_total, lists_ties};
+    ghost use Rattle.std.specs.Cmp.{po};
+    ghost use Rattle.odb_base.specs.Path.{path_cmp};
+
+    ghost partial_cmp = { as_partial_cmp path_cmp };
+
+    ghost laws = { po (lists_total nat_list_cmp_total) (lists_ties (slice_cmp nat_cmp) texts_ties) };
+
+    fn partial_cmp(&self, other: &PathText) -> Option<Ordering> {
+        Some(self.cmp(other))
+    }
+}
+
+impl Ord for PathText {
+    ghost use Rattle.std.specs.Prelude.{refl};
+    ghost use Rattle.std.specs.Ordering.{nat_cmp};
+    ghost use Rattle.std.specs.Cmp.Lexicographic.{slice_cmp, nat_list_cmp_total, texts_ties, lists_total, lists_ties};
+    ghost use Rattle.odb_base.specs.Path.{path_cmp};
+
+    ghost cmp = { path_cmp };
+
+    ghost total = { lists_total nat_list_cmp_total };
+
+    ghost matches_partial_cmp = { λ _ _. refl };
+
+    ghost matches_eq = { lists_ties (slice_cmp nat_cmp) texts_ties };
+
+    fn cmp(&self, other: &PathText) -> Ordering {
+        self.joined.as_bytes().cmp(other.joined.as_bytes())
+    }
+}
+
+impl fmt::Display for PathText {
+    ghost use Rattle.std.specs.Prelude.{Some};
+    ghost use Rattle.odb_base.specs.Path.{text_of};
+
+    ghost output = { λ path. Some (text_of path) };
+
+    fn fmt<W: fmt::Write>(&self, f: &mut fmt::Formatter<W>) -> fmt::Result {
+        if self.is_root() {
+            return write!(f, "/");
+        }
+        let mut rest = self.joined.as_str();
+        while let Some((name, more)) = rest.split_once('\0') {
+            write!(f, "{name}/")?;
+            rest = more;
+        }
+        write!(f, "{rest}")
+    }
+}
+
+/// Puts a name behind the text of a path.
+fn push_name(joined: &mut String, name: &str) -> Result<(), AllocError>
+    ensures { OnOk result (string_bytes joined.new ≡ string_bytes joined.old ++ 0 ∷ name.now) }
+{
+    joined.push('\0')?;
+    joined.push_str(name)
+}
+
+/// The parts of a text between slashes.
+fn parts_of<'a>(alloc: Global, text: &'a str) -> Result<Vec<&'a str>, AllocError>
+    ensures { IfOk result (λ parts. map (λ part. part.now) parts.items ≡ slice_split (λ b. b == 47) text.now) }
+{
+    text.split('/').collect(alloc)
+}
+
+/// Whether a text is a name.
+#[tactic(auto, unfolding(crate::specs::Path::is_name))]
+fn is_name(text: &str) -> bool
+    ensures { result ≡ is_name text.now }
+{
+    let bytes = text.as_bytes();
+    let reserved = text == "" || text == "." || text == "..";
+    !(reserved || bytes.contains(&0) || bytes.contains(&b'/'))
+}
+
+/// What follows the last dot of a name. There is none where no dot is there, or the only one comes first.
+fn extension_in(name: &str) -> Option<&str>
+    ensures { option_copied result ≡ extension_of name.now }
+{
+    let (before, extension) = name.rsplit_once('.')?;
+    if before.is_empty() {
+        None
+    } else {
+        Some(extension)
+    }
+}
