@@ -137,13 +137,13 @@ rsplit_after c text front back before after (i, j, found, before_is, after_is, o
     let at : get_or text i 0 ≡ c = found.1.byte low in
     let long = ap length is ∙ length-append front (c ∷ back) in
     let not_before : i < length front → ⊥ = λ l.
-        let seam : get_or (drop j text) (length front - j) 0 ≡ c =
-        get_or-drop j text (length front - j) 0 ∙ ap (λ n. get_or text n 0) {x = j + (length front - j)} {y = length front} (omega arith) ∙ ap (λ t. get_or t (length front) 0) is ∙ get_or-append_seam front c back 0 in
-        NoCharPasses-char c (drop j text) (length front - j) found.0 low (omega (arith, length-drop j text)) seam in
+    let seam : get_or (drop j text) (length front - j) 0 ≡ c =
+    get_or-drop j text (length front - j) 0 ∙ ap (λ n. get_or text n 0) {x = j + (length front - j)} {y = length front} (omega arith) ∙ ap (λ t. get_or t (length front) 0) is ∙ get_or-append_seam front c back 0 in
+    NoCharPasses-char c (drop j text) (length front - j) found.0 low (omega (arith, length-drop j text)) seam in
     let not_behind : length front < i → ⊥ = λ l.
-        let deep : get_or back (i - length front - 1) 0 ≡ get_or text i 0 =
-        ap (λ n. get_or (c ∷ back) n 0) {x = suc (i - length front - 1)} {y = i - length front} (omega arith) ∙ sym (get_or-append_right front (c ∷ back) (length front) i 0 refl (omega arith)) ∙ ap (λ t. get_or t i 0) (sym is) in
-        false≢true (sym (All_not-list_any (λ b. b == c) back free (i - length front - 1) 0 (omega arith)) ∙ eq-eqb _ c (deep ∙ at)) in
+    let deep : get_or back (i - length front - 1) 0 ≡ get_or text i 0 =
+    ap (λ n. get_or (c ∷ back) n 0) {x = suc (i - length front - 1)} {y = i - length front} (omega arith) ∙ sym (get_or-append_right front (c ∷ back) (length front) i 0 refl (omega arith)) ∙ ap (λ t. get_or t i 0) (sym is) in
+    false≢true (sym (All_not-list_any (λ b. b == c) back free (i - length front - 1) 0 (omega arith)) ∙ eq-eqb _ c (deep ∙ at)) in
     let here : length front ≡ i = elim (cases_order (length front) i) [ inl e ↦ e | inr o ↦ elim o [ inl l ↦ absurd (not_behind l) | inr l ↦ absurd (not_before l) ] ] in
     (before_is ∙ ap (take i) is ∙ take_at front (c ∷ back) i here, after_is ∙ ap (λ k. drop k text) {x = j} {y = length front + 1} (omega arith) ∙ ap (drop (length front + 1)) is ∙ drop-append-add front (c ∷ back) 1)
 
@@ -242,6 +242,7 @@ joined-split (name ∷ base) rest names =
   where
     free : (n : Name) → is_name n ≡ true → All (λ b. (b == 0) ≡ false) n
     free n e = All_not-list_any (λ b. b == 0) n (is_name-no_nul n e)
+
     split_joined : (n : Name) (ns : Path) (r : List ℕ) → is_name n ≡ true → list_all is_name ns ≡ true → slice_split (λ b. b == 0) (n ++ (flat_map (λ m. 0 ∷ m) ns ++ 0 ∷ r)) ≡ n ∷ ns ++ slice_split (λ b. b == 0) r
     split_joined n [] r e all = slice_split_at (λ b. b == 0) n 0 r (free n e) refl
     split_joined n (m ∷ ns) r e all =
@@ -268,9 +269,9 @@ module _ (path base : Path) (names : list_all is_name path ≡ true) (base_names
   -- the text goes on within a name
   pub within_name : (x : ℕ) (rest : List ℕ) → joined path ≡ joined base ++ x ∷ rest → x ≢ 0 → starts_with same_name path base ≡ false
   within_name x rest is some = elim (cases_Bool (starts_with same_name path base)) [
-      | inl holds ↦ absurd (goes_on x rest some (drop (length base) path) (append_cancel_left (joined base) _ _ (sym (joined-append base (drop (length base) path)) ∙ ap joined (sym (goes_beyond path base holds)) ∙ is)))
-      | inr fails ↦ fails
-    ]
+    | inl holds ↦ absurd (goes_on x rest some (drop (length base) path) (append_cancel_left (joined base) _ _ (sym (joined-append base (drop (length base) path)) ∙ ap joined (sym (goes_beyond path base holds)) ∙ is)))
+    | inr fails ↦ fails
+  ]
 
   -- the two texts are the same
   pub all_behind : joined path ≡ joined base → IsBehind path base (Some [])

@@ -124,7 +124,11 @@ impl PathText {
         if !is_name(name) {
             return Err(BadPath::Malformed);
         }
-        let room = self.joined.len().saturating_add(name.len()).saturating_add(1);
+        let room = self
+            .joined
+            .len()
+            .saturating_add(name.len())
+            .saturating_add(1);
         let mut joined = String::with_capacity(alloc, room)?;
         joined.push_str(&self.joined)?;
         push_name(&mut joined, name)?;

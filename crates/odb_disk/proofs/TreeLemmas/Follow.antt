@@ -149,6 +149,7 @@ pass_past t is_tree follow path way n short at =
     missing : (names : Path) → pass t follow (way ++ short.name ∷ []) names ≡ Missing
     missing [] = ap (ending follow (way ++ short.name ∷ [])) short.lacks
     missing (next ∷ names) = ap (λ o. beyond o (next ∷ names) (pass t follow ((way ++ short.name ∷ []) ++ next ∷ []) names)) short.lacks
+
     stops : (names : Path) → pass t follow way (short.name ∷ names) ≡ past n.content (short.name ∷ names) Missing
     stops names = ap (λ o. beyond o (short.name ∷ names) (pass t follow (way ++ short.name ∷ []) names)) at ∙ ap (past n.content (short.name ∷ names)) (missing names)
 

@@ -9,7 +9,7 @@ abbrev pub invariant-loop-name : goal.invariant-loop-name
 invariant-loop-name g l = record {
   text : shadow (Utf8 l.rest);
   written :
-    IsPlainFormatter l.initial.f → (written : List ℕ) × (written ++ slashed l.rest ≡ slashed (joined l.self)) × HasWritten g.W.Write.write_str_gives l.initial.f written l.f;
+      IsPlainFormatter l.initial.f → (written : List ℕ) × (written ++ slashed l.rest ≡ slashed (joined l.self)) × HasWritten g.W.Write.write_str_gives l.initial.f written l.f;
 }
 
 abbrev pub decreases-loop-name : goal.decreases-loop-name
