@@ -11,7 +11,7 @@ use odb_disk::MemDisk;
 use std::alloc::Global;
 
 /// A line of a script.
-#[derive(Debug, Drop)]
+#[derive(Debug, Drop, PartialEq, Eq)]
 pub enum Line {
     One(Step),
     /// All turns of a handle up to and including the first whose outcome isn't pending.
