@@ -90,10 +90,10 @@ fn line_item(alloc: Global, word: Option<Word>, fields: &[&str]) -> Result<Item,
         Some(Word::Mkdir | Word::Put) => Ok(setup_item(change_of(alloc, word, fields)?)),
         Some(Word::Steps) => Ok(steps(fields)),
         Some(Word::Open) => open(alloc, fields),
-        Some(Word::Close) => Ok(of_handle(fields, |handle| step_item(Step::Close { handle }))),
+        Some(Word::Close) => Ok(for_handle(fields, |handle| step_item(Step::Close { handle }))),
         Some(Word::Find) => Ok(find(fields)),
-        Some(Word::Turn) => Ok(of_handle(fields, |handle| step_item(Step::Turn { handle }))),
-        Some(Word::Finish) => Ok(of_handle(fields, |handle| Item::Play(Line::Finish { handle }))),
+        Some(Word::Turn) => Ok(for_handle(fields, |handle| step_item(Step::Turn { handle }))),
+        Some(Word::Finish) => Ok(for_handle(fields, |handle| Item::Play(Line::Finish { handle }))),
         Some(Word::Do) => change(alloc, fields),
         Some(Word::Remove) | None => Ok(Item::Refused),
     }
@@ -133,7 +133,7 @@ fn open(alloc: Global, fields: &[&str]) -> Result<Item, NoMemory>
 }
 
 /// A line of the handle that its one field names.
-fn of_handle<F: FnOnce(u32) -> Item + Drop>(fields: &[&str], item: F) -> Item
+fn for_handle<F: FnOnce(u32) -> Item + Drop>(fields: &[&str], item: F) -> Item
     requires { F.IsAlwaysCallable item }
     ensures { MatchOption (one_handle (texts_of fields.now)) (result ≡ Item.Refused) (λ handle. F.post item handle result) }
 {
