@@ -50,9 +50,14 @@ abbrev pub item_or_refused : (ℕ → Item) → Option ℕ → Item
 item_or_refused item None = items.Refused
 item_or_refused item (Some number) = item number
 
--- a line of the handle that a field names
-abbrev pub for_handle : (ℕ → Item) → List ℕ → Item
-for_handle item text = item_or_refused item (handle_of text)
+-- the handle of a line whose one field names it
+abbrev pub one_handle : Fields → Option ℕ
+one_handle (handle ∷ []) = handle_of handle
+one_handle fields = None
+
+-- a line of the handle that its one field names
+abbrev pub for_handle : (ℕ → Item) → Fields → Item
+for_handle item fields = item_or_refused item (one_handle fields)
 
 -- a find; ids of 64 digits come later
 abbrev pub find_of : Option ℕ → Option ObjectId → Item
@@ -70,10 +75,10 @@ line_item (Some words.Mkdir) fields = setup_item (change_of (Some words.Mkdir) f
 line_item (Some words.Put) fields = setup_item (change_of (Some words.Put) fields)
 line_item (Some words.Steps) [] = items.Steps
 line_item (Some words.Open) (handle ∷ path ∷ options) = open_of handle path options
-line_item (Some words.Close) (handle ∷ []) = for_handle (λ h. step_item (steps.Close h)) handle
+line_item (Some words.Close) fields = for_handle (λ h. step_item (steps.Close h)) fields
 line_item (Some words.Find) (handle ∷ id ∷ []) = find_of (handle_of handle) (id_of id)
-line_item (Some words.Turn) (handle ∷ []) = for_handle (λ h. step_item (steps.Turn h)) handle
-line_item (Some words.Finish) (handle ∷ []) = for_handle (λ h. items.Play (Finish h)) handle
+line_item (Some words.Turn) fields = for_handle (λ h. step_item (steps.Turn h)) fields
+line_item (Some words.Finish) fields = for_handle (λ h. items.Play (Finish h)) fields
 line_item (Some words.Do) (word ∷ fields) = outside_item (change_of (change_word_of word) fields)
 line_item (Some word) fields = items.Refused
 

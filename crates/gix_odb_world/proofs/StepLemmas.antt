@@ -1,7 +1,7 @@
 -- Each step of a world takes its history one event on.
 use Rattle.std.proofs.Common.{◌≡◌, ◌≢◌, ℕ, ◌+◌, ◌<◌, true, List, [], ◌∷◌, ◌++◌, length, take, get_or, Some, None, Option, refl, sym, ◌∙◌, ap, subst}
 use Rattle.std.specs.Prelude.{if◌then◌else◌, ◌==◌}
-use Rattle.std.proofs.lemmas.List.{map-append, take_more}
+use Rattle.std.proofs.lemmas.List.{map-append, same_from_push, take_more}
 use Rattle.odb_disk.specs.MemDisk.{Volume, after_outside_change}
 use Rattle.odb_disk.specs.Tree.Change.{is_possible}
 use Rattle.odb_disk.specs.declared.change.Change.{Change}
@@ -24,7 +24,7 @@ use Rattle.gix_odb_world.specs.Run.{disk_after, disk_after_record, disk_after_ch
 use Rattle.gix_odb_world.specs.Valid.{phase_of, why_not, why_not_after, why_not_free, why_not_idle, why_not_running, misuse_of}
 use Rattle.gix_odb_world.specs.Headline.{Law, Suits, change_made}
 use Rattle.gix_odb_world.specs.World.{Explains, GoesOn, Continues, IsRunOf, Matches, Runs, handle_at}
-use Rattle.gix_odb_world.specs.Table.{SetsHandle, Notes, phase_of_handle, phase_of_work, why_not_now, with_work}
+use Rattle.gix_odb_world.specs.Table.{Nears, SetsHandle, Notes, phase_of_handle, phase_of_work, why_not_now, with_work}
 use Rattle.gix_odb_world.proofs.RunLemmas.{status_of-push, disk_after-push, IsLawful-push, matches_set, runs-push, runs_begun, runs_set}
 
 -- ---- the reason for misuse, by the history and by the world
@@ -260,3 +260,10 @@ pub IsRunOf-more : (first : Volume) (old new : World) (step : Step) (steps : Lis
 IsRunOf-more first old new step steps index within is continues before =
     subst (λ made. IsRunOf first made new) (ap (λ s. take index steps ++ s ∷ []) is ∙ sym (take_more steps index step within))
     (IsRunOf-push first old new (take index steps) step continues before)
+
+-- ---- a turn whose call goes on
+
+-- what isn't pending leaves nothing to show
+pub nears : (old mid new : World) (handle : ℕ) (outcome : Outcome) (did : Did) (change : Option Change) → outcome ≢ outcomes.Pending → Notes mid new outcome did change → Nears (steps.Turn handle) old new
+nears old mid new handle outcome did change apart notes before is =
+    absurd (apart (same_from_push mid.outcomes before outcome outcomes.Pending (sym notes.outcomes ∙ is)).1)

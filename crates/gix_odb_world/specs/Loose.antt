@@ -1,6 +1,6 @@
 -- Loose objects: a file for each, with a header and then the data.
 -- `IsLoose` is the grammar; `loose_of` computes it.
-use Rattle.std.specs.Prelude.{◌≡◌, ℕ, ◌+◌, ◌<◌, ◌≤◌, ◌^◌, ◌==◌, List, [], ◌∷◌, ◌++◌, length, take, drop, codes, nat_lt, Option, Some, None, option_and_then, if◌then◌else◌}
+use Rattle.std.specs.Prelude.{◌≡◌, ℕ, ◌<◌, ◌≤◌, ◌^◌, ◌==◌, List, [], ◌∷◌, ◌++◌, length, take, drop, codes, nat_lt, Option, Some, None, option_and_then, if◌then◌else◌}
 use Rattle.std.specs.List.{position_or_len, before_first, after_first}
 use Rattle.odb_base.specs.Decimal.{number_of}
 use Rattle.std.specs.Fmt.{decimal}

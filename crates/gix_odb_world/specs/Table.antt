@@ -1,5 +1,5 @@
 -- What the code of a world does with its table of handles and its lists. No public clause cites this.
-use Rattle.std.specs.Prelude.{◌≡◌, ℕ, ◌==◌, Bool, true, false, [], ◌∷◌, ◌++◌, Option, Some, None, if◌then◌else◌}
+use Rattle.std.specs.Prelude.{◌≡◌, ℕ, ◌<◌, ◌==◌, Bool, true, false, List, [], ◌∷◌, ◌++◌, Option, Some, None, if◌then◌else◌}
 use Rattle.odb_disk.specs.Ask.{op_of, path_asked}
 use Rattle.odb_disk.specs.declared.ask.DiskAsk.{DiskAsk}
 use Rattle.odb_disk.specs.declared.ask.DiskAnswer.{DiskAnswer}
@@ -9,7 +9,9 @@ use Rattle.odb_disk.specs.declared.disk.DiskError.TheVariants as disk_errors
 use Rattle.gix_odb_world.specs.declared.call.Reply.{Reply}
 use Rattle.gix_odb_world.specs.declared.call.Reply.TheVariants as replies
 use Rattle.gix_odb_world.specs.declared.step.Step.{Step}
+use Rattle.gix_odb_world.specs.declared.step.Step.TheVariants as steps
 use Rattle.gix_odb_world.specs.declared.step.Outcome.{Outcome}
+use Rattle.gix_odb_world.specs.declared.step.Outcome.TheVariants as outcomes
 use Rattle.gix_odb_world.specs.declared.step.Why.{Why}
 use Rattle.gix_odb_world.specs.declared.record.Did.{Did}
 use Rattle.gix_odb_world.specs.declared.record.Did.TheVariants as done
@@ -56,6 +58,20 @@ pub record Notes (old new : World) (outcome : Outcome) (did : Did) (change : Opt
   pub records : new.records ≡ old.records ++ record { did = did; change = change; faults = old.disk.calls.faults } ∷ []
   pub disk : new.disk ≡ old.disk
   pub handles : new.handles ≡ old.handles
+
+abbrev pub turns_of_work : Option Work → ℕ
+turns_of_work None = 0
+turns_of_work (Some work) = 1
+
+-- the most turns that a handle takes up to its reply: each piece of work ends with its first
+abbrev pub turns_left : Option Handle → ℕ
+turns_left None = 0
+turns_left (Some handle) = turns_of_work handle.work
+
+-- a turn after which its call goes on leaves its handle fewer turns
+abbrev pub Nears : Step → World → World → Type 0
+Nears (steps.Turn handle) old new = (before : List Outcome) → new.outcomes ≡ before ++ outcomes.Pending ∷ [] → turns_left (handle_at new handle) < turns_left (handle_at old handle)
+Nears step old new = Unit {0}
 
 -- the world has one outcome more than another
 abbrev pub HasOneMore : World → World → Type 0

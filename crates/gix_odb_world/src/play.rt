@@ -2,6 +2,7 @@ ghost use Rattle.std.specs.Prelude.{◌≡◌, ◌≢◌, ◌↔◌, ◌++◌, �
 ghost use Rattle.gix_odb_world.specs.Headline.{Headline};
 ghost use Rattle.gix_odb_world.specs.Play.{Plays, StandsFor, made_of};
 ghost use Rattle.gix_odb_world.specs.Played.{MakesOne, PlaysLine, PlaysTurns};
+ghost use Rattle.gix_odb_world.specs.Table.{Nears};
 
 use crate::record::Run;
 use crate::step::Step;
@@ -11,7 +12,7 @@ use odb_disk::MemDisk;
 use std::alloc::Global;
 
 /// A line of a script.
-#[derive(Debug, Drop)]
+#[derive(Debug, Drop, PartialEq, Eq)]
 pub enum Line {
     One(Step),
     /// All turns of a handle up to and including the first whose outcome isn't pending.
@@ -72,13 +73,12 @@ fn play_turns(
 ) -> Result<(), NoMemory>
     ensures plays { OnOk result (PlaysLine world.old world.new steps.old steps.new (Line.Finish handle)) }
 {
-    for _ in 0..u64::MAX {
+    'turning: loop {
         make(alloc, world, steps, Step::Turn { handle })?;
         if !world.is_pending() {
             return Ok(());
         }
     }
-    Err(NoMemory)
 }
 
 /// Makes one step, and adds it to the steps.
@@ -89,6 +89,7 @@ fn make(
     step: Step,
 ) -> Result<(), NoMemory>
     ensures makes { OnOk result (MakesOne world.old world.new steps.old steps.new step) }
+    ensures nears { OnOk result (Nears step world.old world.new) }
 {
     world.advance(alloc, &step)?;
     steps.push(step)?;

@@ -32,7 +32,7 @@ impl Did {
 }
 
 /// The record of a step.
-#[derive(Debug, Drop)]
+#[derive(Debug, Drop, PartialEq, Eq)]
 pub struct Record {
     pub did: Did,
     /// The change of the tree, if the step made one.

@@ -7,7 +7,7 @@ use odb_disk::{Change, PathText};
 use std::alloc::Global;
 
 /// A step of a world.
-#[derive(Debug, Drop)]
+#[derive(Debug, Drop, PartialEq, Eq)]
 pub enum Step {
     /// Begins the opening of a store, by its objects directory, under a free handle number.
     Open {

@@ -6,7 +6,7 @@ ghost use Rattle.gix_odb_world.specs.Valid.{why_not_after};
 ghost use Rattle.gix_odb_world.specs.Headline.{Headline};
 ghost use Rattle.gix_odb_world.specs.Order.{ask_of, reply_of};
 ghost use Rattle.gix_odb_world.specs.World.{Explains, GoesOn, Continues, handle_at};
-ghost use Rattle.gix_odb_world.specs.Table.{HasOneMore, Notes, SetsHandle, after_reply, did_of, phase_of_handle, with_work, why_not_now};
+ghost use Rattle.gix_odb_world.specs.Table.{HasOneMore, Nears, Notes, SetsHandle, after_reply, did_of, phase_of_handle, with_work, why_not_now};
 
 use crate::call::{Call, Reply};
 use crate::handle::{Handle, Store, Work};
@@ -108,6 +108,7 @@ impl World {
     pub(crate) fn advance(&mut self, alloc: Global, step: &Step) -> Result<(), NoMemory>
         ensures continues { OnOk result (Continues self.old step.now self.new) }
         ensures noted { OnOk result (HasOneMore self.old self.new) }
+        ensures nears { OnOk result (Nears step.now self.old self.new) }
     {
         match step {
             Step::Open {
@@ -194,6 +195,7 @@ impl World {
     fn turn(&mut self, alloc: Global, number: u32) -> Result<(), NoMemory>
         ensures continues { OnOk result (Continues self.old (Step.Turn number) self.new) }
         ensures noted { OnOk result (HasOneMore self.old self.new) }
+        ensures nears { OnOk result (Nears (Step.Turn number) self.old self.new) }
     {
         let Some(handle) = self.handles.get(&number) else {
             return self.misuse(Why::NoHandle);

@@ -8,14 +8,14 @@ use crate::{ByteList, Disk, DiskError, MemDisk, Meta, NoMemory, PathText};
 use std::alloc::Global;
 
 /// A call of a disk as a value.
-#[derive(Debug, Drop)]
+#[derive(Debug, Drop, PartialEq, Eq)]
 pub enum DiskAsk {
     Look { path: PathText, follow: bool },
     Read { path: PathText },
 }
 
 /// What a disk answered to a call.
-#[derive(Debug, Drop)]
+#[derive(Debug, Drop, PartialEq, Eq)]
 pub enum DiskAnswer {
     Meta(Meta),
     File { bytes: ByteList, time: u64 },

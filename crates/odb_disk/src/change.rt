@@ -6,7 +6,7 @@ use std::alloc::{AllocError, AllocFailed, Global};
 use thiserror::Error;
 
 /// A change that another program makes to a disk.
-#[derive(Debug, Drop)]
+#[derive(Debug, Drop, PartialEq, Eq)]
 pub enum Change {
     /// Puts a file where none is, or new bytes and a new time into the one that is there.
     PutFile {

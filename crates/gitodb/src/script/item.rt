@@ -1,6 +1,7 @@
 ghost use Rattle.std.specs.Prelude.{◌≡◌, Some, IfOk};
+ghost use Rattle.std.specs.Option.{MatchOption};
 ghost use Rattle.gix_hash.specs.ObjectId.{id_of};
-ghost use Rattle.gitodb.specs.Line.{item_of, is_blank, fields_of, fields_item, texts_of, line_item, find_of, step_item, setup_item, outside_item};
+ghost use Rattle.gitodb.specs.Line.{item_of, is_blank, fields_of, fields_item, texts_of, one_handle, line_item, find_of, step_item, setup_item, outside_item};
 
 use crate::script::change::{Spelled, change_of};
 use crate::script::opening::{handle_of, open_of};
@@ -12,7 +13,7 @@ use odb_disk::Change;
 use std::alloc::{AllocError, Global};
 
 /// What a line of a script says.
-#[derive(Debug, Drop)]
+#[derive(Debug, Drop, PartialEq, Eq)]
 pub enum Item {
     /// Nothing: an empty line, or one that begins with `#`.
     Blank,
@@ -89,10 +90,10 @@ fn line_item(alloc: Global, word: Option<Word>, fields: &[&str]) -> Result<Item,
         Some(Word::Mkdir | Word::Put) => Ok(setup_item(change_of(alloc, word, fields)?)),
         Some(Word::Steps) => Ok(steps(fields)),
         Some(Word::Open) => open(alloc, fields),
-        Some(Word::Close) => Ok(close(fields)),
+        Some(Word::Close) => Ok(for_handle(fields, |handle| step_item(Step::Close { handle }))),
         Some(Word::Find) => Ok(find(fields)),
-        Some(Word::Turn) => Ok(turn(fields)),
-        Some(Word::Finish) => Ok(finish(fields)),
+        Some(Word::Turn) => Ok(for_handle(fields, |handle| step_item(Step::Turn { handle }))),
+        Some(Word::Finish) => Ok(for_handle(fields, |handle| Item::Play(Line::Finish { handle }))),
         Some(Word::Do) => change(alloc, fields),
         Some(Word::Remove) | None => Ok(Item::Refused),
     }
@@ -131,15 +132,13 @@ fn open(alloc: Global, fields: &[&str]) -> Result<Item, NoMemory>
     }
 }
 
-#[tactic(auto, unfolding(crate::specs::Line::line_item))]
-fn close(fields: &[&str]) -> Item
-    ensures { result ≡ line_item (Some Word.Close) (texts_of fields.now) }
+/// A line of the handle that its one field names.
+fn for_handle<F: FnOnce(u32) -> Item + Drop>(fields: &[&str], item: F) -> Item
+    requires { F.IsAlwaysCallable item }
+    ensures { MatchOption (one_handle (texts_of fields.now)) (result ≡ Item.Refused) (λ handle. F.post item handle result) }
 {
     match fields {
-        [handle] => match handle_of(handle) {
-            Some(handle) => step_item(Step::Close { handle }),
-            None => Item::Refused,
-        },
+        [handle] => handle_of(handle).map_or(Item::Refused, item),
         _ => Item::Refused,
     }
 }
@@ -172,32 +171,6 @@ fn find_of(handle: Option<u32>, id: Option<ObjectId>) -> Item
             handle,
             call: Call::Find(id),
         }),
-    }
-}
-
-#[tactic(auto, unfolding(crate::specs::Line::line_item))]
-fn turn(fields: &[&str]) -> Item
-    ensures { result ≡ line_item (Some Word.Turn) (texts_of fields.now) }
-{
-    match fields {
-        [handle] => match handle_of(handle) {
-            Some(handle) => step_item(Step::Turn { handle }),
-            None => Item::Refused,
-        },
-        _ => Item::Refused,
-    }
-}
-
-#[tactic(auto, unfolding(crate::specs::Line::line_item))]
-fn finish(fields: &[&str]) -> Item
-    ensures { result ≡ line_item (Some Word.Finish) (texts_of fields.now) }
-{
-    match fields {
-        [handle] => match handle_of(handle) {
-            Some(handle) => Item::Play(Line::Finish { handle }),
-            None => Item::Refused,
-        },
-        _ => Item::Refused,
     }
 }
 

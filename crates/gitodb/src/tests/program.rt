@@ -10,43 +10,46 @@ use std::process::Abort;
 use std::str;
 use std::test::Fail;
 
-fn words_of(alloc: Global, words: &[&str]) -> Result<Vec<String>, Fail> {
-    let mut list = Vec::new(alloc);
-    for word in words {
-        list.push(word.to_string(alloc)?)?;
-    }
-    Ok(list)
-}
-
 /// Runs the words over a source and a sink, and answers the status.
 fn status_of<S: Source>(
     rt: &impl Abort,
     alloc: Global,
-    words: &[&str],
+    words: &[String],
     source: &mut S,
     sink: &mut MemSink,
 ) -> Result<u8, Fail> {
-    let words = words_of(alloc, words)?;
     let mut disk = MemDisk::new(alloc)?;
-    Ok(run(rt, alloc, &words, source, sink, &mut disk).code())
+    Ok(run(rt, alloc, words, source, sink, &mut disk).code())
 }
 
-/// Runs the words over a script, and wants an output and a status.
+/// Runs the words over a source, and wants an output and a status.
+fn gives_from<S: Source>(
+    rt: &impl Abort,
+    alloc: Global,
+    words: &[String],
+    source: &mut S,
+    want: (&str, u8),
+    name: &str,
+) -> Result<(), Fail> {
+    let mut sink = MemSink::new(alloc);
+    let status = status_of(rt, alloc, words, source, &mut sink)?;
+    let output = str::from_utf8(sink.bytes()).unwrap_or("no text");
+    assert_eq!(rt; output, want.0, "{name}");
+    assert_eq!(rt; status, want.1, "{name}: status");
+    Ok(())
+}
+
+/// The same over a script.
 fn gives(
     rt: &impl Abort,
     alloc: Global,
-    words: &[&str],
+    words: &[String],
     script: &[u8],
     want: (&str, u8),
     name: &str,
 ) -> Result<(), Fail> {
     let mut source = MemSource::new(script.to_vec(alloc)?);
-    let mut sink = MemSink::new(alloc);
-    let status = status_of(rt, alloc, words, &mut source, &mut sink)?;
-    let output = str::from_utf8(sink.bytes()).unwrap_or("no text");
-    assert_eq!(rt; output, want.0, "{name}");
-    assert_eq!(rt; status, want.1, "{name}: status");
-    Ok(())
+    gives_from(rt, alloc, words, &mut source, want, name)
 }
 
 /// A story, its script, what is printed, and the status.
@@ -226,9 +229,11 @@ const ROWS: [Row; 15] = [
 // A line that is lost, printed twice or in another place, and a status that is another's.
 #[test]
 fn scripts(rt: HostRuntime) -> Result<(), Fail> {
+    let alloc = rt.alloc();
+    let words = ["world".to_string(alloc)?];
     for (name, script, output, status) in ROWS {
         let want = (output, status);
-        gives(&rt, rt.alloc(), &["world"], script.as_bytes(), want, name)?;
+        gives(&rt, alloc, &words, script.as_bytes(), want, name)?;
     }
     Ok(())
 }
@@ -236,6 +241,8 @@ fn scripts(rt: HostRuntime) -> Result<(), Fail> {
 // A line that is read loosely, or a refusal that loses the lines before it.
 #[test]
 fn bad_lines(rt: HostRuntime) -> Result<(), Fail> {
+    let alloc = rt.alloc();
+    let words = ["world".to_string(alloc)?];
     let rows: [(&str, &[u8]); 7] = [
         (
             "bytes that are no text",
@@ -250,58 +257,88 @@ fn bad_lines(rt: HostRuntime) -> Result<(), Fail> {
     ];
     for (name, script) in rows {
         let want = ("misuse no-handle\nline 3 refused\n", 2);
-        gives(&rt, rt.alloc(), &["world"], script, want, name)?;
+        gives(&rt, alloc, &words, script, want, name)?;
     }
-    let impossible = ("line 2 refused\n", 2);
+    let script = b"mkdir /o\nmkdir /p/q\nsteps\nturn 0\n";
     gives(
         &rt,
-        rt.alloc(),
-        &["world"],
-        b"mkdir /o\nmkdir /p/q\nsteps\nturn 0\n",
-        impossible,
+        alloc,
+        &words,
+        script,
+        ("line 2 refused\n", 2),
         "no parent",
-    )?;
-    Ok(())
+    )
 }
 
-// Words that are taken for others, or a script that is read for them.
+// A word that is taken for another, or a script that is read for it.
 #[test]
-fn command_lines(rt: HostRuntime) -> Result<(), Fail> {
+fn words_alone(rt: HostRuntime) -> Result<(), Fail> {
     let alloc = rt.alloc();
     let refused = "words not understood\n";
-    let rows: [(&str, &[&str], &str, u8); 7] = [
-        ("help", &["--help"], HELP, 0),
-        ("version", &["--version"], VERSION, 0),
-        ("no word", &[], refused, 1),
-        ("a word that is no command", &["frob"], refused, 1),
-        ("a word too many", &["world", ""], refused, 1),
-        ("help of a command", &["--help", "world"], refused, 1),
-        ("upper case", &["World"], refused, 1),
+    let rows: [(&str, &str, u8); 4] = [
+        ("--help", HELP, 0),
+        ("--version", VERSION, 0),
+        ("frob", refused, 1),
+        ("World", refused, 1),
     ];
-    for (name, words, output, status) in rows {
-        gives(&rt, alloc, words, b"frob\n", (output, status), name)?;
+    for (word, output, status) in rows {
+        let words = [word.to_string(alloc)?];
+        gives(&rt, alloc, &words, b"frob\n", (output, status), word)?;
     }
     Ok(())
 }
 
-// A failed source or sink that is taken for the end, or for success.
+// A word too few or too many that is passed over.
 #[test]
-fn faults(rt: HostRuntime) -> Result<(), Fail> {
+fn other_numbers_of_words(rt: HostRuntime) -> Result<(), Fail> {
+    let alloc = rt.alloc();
+    let refused = ("words not understood\n", 1);
+    gives(&rt, alloc, &[], b"frob\n", refused, "no word")?;
+    for words in [["world", ""], ["--help", "world"]] {
+        let [first, second] = words;
+        let words = [first.to_string(alloc)?, second.to_string(alloc)?];
+        gives(&rt, alloc, &words, b"frob\n", refused, first)?;
+    }
+    Ok(())
+}
+
+/// Runs a word over a source or a sink that fails: there is a status, and no output.
+fn fails(
+    rt: &impl Abort,
+    alloc: Global,
+    word: &str,
+    source: &mut MemSource,
+    sink: &mut MemSink,
+    want: u8,
+) -> Result<(), Fail> {
+    let words = [word.to_string(alloc)?];
+    let status = status_of(rt, alloc, &words, source, sink)?;
+    assert_eq!(rt; status, want, "{word}");
+    assert!(rt; sink.bytes().is_empty(), "{word}");
+    Ok(())
+}
+
+// A failed read that is taken for the end.
+#[test]
+fn failed_reads(rt: HostRuntime) -> Result<(), Fail> {
     let alloc = rt.alloc();
     for call in [1, 2] {
         let script = b"steps\nturn 0\n".to_vec(alloc)?;
         let mut source = MemSource::with_faults(alloc, script, &[call])?;
         let mut sink = MemSink::new(alloc);
-        let status = status_of(&rt, alloc, &["world"], &mut source, &mut sink)?;
-        assert_eq!(rt; status, 3, "read {call}");
-        assert!(rt; sink.bytes().is_empty(), "read {call}");
+        fails(&rt, alloc, "world", &mut source, &mut sink, 3)?;
     }
-    for words in ["world", "--help", "--version", "frob"] {
+    Ok(())
+}
+
+// A failed write that is taken for success.
+#[test]
+fn failed_writes(rt: HostRuntime) -> Result<(), Fail> {
+    let alloc = rt.alloc();
+    for word in ["world", "--help", "--version", "frob"] {
         let mut source = MemSource::new(b"frob".to_vec(alloc)?);
         let mut sink = MemSink::with_faults(alloc, &[1])?;
-        let status = status_of(&rt, alloc, &[words], &mut source, &mut sink)?;
-        assert_eq!(rt; status, 4, "{words}");
-        assert!(rt; sink.bytes().is_empty(), "{words}");
+        fails(&rt, alloc, word, &mut source, &mut sink, 4)?;
     }
     Ok(())
 }
@@ -338,17 +375,24 @@ impl Source for LongScript {
 #[test]
 fn long_scripts(rt: HostRuntime) -> Result<(), Fail> {
     let alloc = rt.alloc();
-    for (len, want, want_status) in [
-        (SCRIPT_LIMIT, "misuse no-handle\n", 0),
-        (SCRIPT_LIMIT + 1, "misuse no-handle\nline 3 refused\n", 2),
-        (usize::MAX, "misuse no-handle\nline 3 refused\n", 2),
+    let words = ["world".to_string(alloc)?];
+    for (len, output, status, name) in [
+        (SCRIPT_LIMIT, "misuse no-handle\n", 0, "the longest"),
+        (
+            SCRIPT_LIMIT + 1,
+            "misuse no-handle\nline 3 refused\n",
+            2,
+            "a byte more",
+        ),
+        (
+            usize::MAX,
+            "misuse no-handle\nline 3 refused\n",
+            2,
+            "without end",
+        ),
     ] {
         let mut source = LongScript { made: 0, len };
-        let mut sink = MemSink::new(alloc);
-        let status = status_of(&rt, alloc, &["world"], &mut source, &mut sink)?;
-        let output = str::from_utf8(sink.bytes()).unwrap_or("no text");
-        assert_eq!(rt; output, want, "{len}");
-        assert_eq!(rt; status, want_status, "{len}");
+        gives_from(&rt, alloc, &words, &mut source, (output, status), name)?;
     }
     Ok(())
 }

@@ -1,10 +1,16 @@
 use crate::script::{Ending, Item, item_of, read};
 use gix_hash::ObjectId;
-use gix_odb_world::{Call, Line, Slots, Step};
-use odb_disk::Change;
+use gix_odb_world::{Call, Line, Options, Slots, Step};
+use odb_disk::{ByteList, Change, PathText};
 use std::alloc::Global;
 use std::process::Abort;
 use std::test::Fail;
+
+// Git's id of the empty blob.
+const EMPTY_BLOB: ObjectId = ObjectId::Sha1([
+    0xe6, 0x9d, 0xe2, 0x9b, 0xb2, 0xd1, 0xd6, 0x43, 0x4b, 0x8b, 0x29, 0xae, 0x77, 0x5a, 0xd8, 0xc2,
+    0xe4, 0x8c, 0x53, 0x91,
+]);
 
 // A word for what a line says.
 fn word_for(item: &Item) -> &'static str {
@@ -212,76 +218,70 @@ fn refuses_other_lines(rt: HostRuntime) -> Result<(), Fail> {
 // A line that is no text, or a comment that has to be.
 #[test]
 fn wants_text_but_in_comments(rt: HostRuntime) -> Result<(), Fail> {
-    let refused = item_of(rt.alloc(), b"mkdir /\xff")?;
-    assert_eq!(rt; word_for(&refused), "refused");
-    let comment = item_of(rt.alloc(), b"#\xff\xfe")?;
-    assert_eq!(rt; word_for(&comment), "blank");
+    says(&rt, rt.alloc(), b"mkdir /\xff", Item::Refused)?;
+    says(&rt, rt.alloc(), b"#\xff\xfe", Item::Blank)
+}
+
+fn says(rt: &impl Abort, alloc: Global, line: &[u8], want: Item) -> Result<(), Fail> {
+    let item = item_of(alloc, line)?;
+    assert_eq!(rt; item, want, "{line:?}");
     Ok(())
 }
 
-fn opens(item: &Item, want: u32, count: u16) -> bool {
-    match item {
-        Item::Play(
-            Line::One(
-                Step::Open {
-                    handle,
-                    path,
-                    options,
-                },
-            ),
-        ) => { *handle == want && path.names().len() == 1 && options.slots == Slots::Given(count) }
-        _ => false,
-    }
-}
-
-fn finds(item: &Item, want: u32, first: u8, last: u8) -> bool {
-    match item {
-        Item::Play(
-            Line::One(
-                Step::Start {
-                    handle,
-                    call: Call::Find(ObjectId::Sha1(bytes)),
-                },
-            ),
-        ) => *handle == want && bytes[0] == first && bytes[19] == last,
-        _ => false,
-    }
-}
-
-fn finishes(item: &Item, want: u32) -> bool {
-    match item {
-        Item::Play(Line::Finish { handle }) => *handle == want,
-        _ => false,
-    }
-}
-
-// A field that is dropped or put in another's place.
+// An option that is dropped, or the first that counts.
 #[test]
-fn keeps_fields_of_steps(rt: HostRuntime) -> Result<(), Fail> {
-    let opening = item_of(rt.alloc(), b"open 7 /a slots=1 slots=2")?;
-    assert!(rt; opens(&opening, 7, 2), "the last option counts");
-    let find = item_of(
-        rt.alloc(),
-        b"find 9 e69de29bb2d1d6434b8b29ae775ad8c2e48c5391",
-    )?;
-    assert!(rt; finds(&find, 9, 0xe6, 0x91), "a find");
-    let finish = item_of(rt.alloc(), b"finish 8")?;
-    assert!(rt; finishes(&finish, 8), "a finish");
-    Ok(())
+fn keeps_fields_of_openings(rt: HostRuntime) -> Result<(), Fail> {
+    let alloc = rt.alloc();
+    let opening = Step::Open {
+        handle: 7,
+        path: PathText::parse(alloc, "/a")?,
+        options: Options {
+            slots: Slots::Given(2),
+        },
+    };
+    let line = b"open 7 /a slots=1 slots=2";
+    says(&rt, alloc, line, Item::Play(Line::One(opening)))
 }
 
-fn puts(item: &Item, want_time: u64, want: &[u8]) -> bool {
-    match item {
-        Item::Setup(Change::PutFile { path, time, bytes }) => {
-            path.names().len() == 1 && *time == want_time && bytes.as_slice() == want
-        }
-        _ => false,
-    }
+// Digits of an id in another order.
+#[test]
+fn keeps_fields_of_finds(rt: HostRuntime) -> Result<(), Fail> {
+    let find = Step::Start {
+        handle: 9,
+        call: Call::Find(EMPTY_BLOB),
+    };
+    let line = b"find 9 e69de29bb2d1d6434b8b29ae775ad8c2e48c5391";
+    says(&rt, rt.alloc(), line, Item::Play(Line::One(find)))
+}
+
+// A handle that is dropped, or a word for another.
+#[test]
+fn keeps_handles(rt: HostRuntime) -> Result<(), Fail> {
+    let alloc = rt.alloc();
+    says(
+        &rt,
+        alloc,
+        b"finish 8",
+        Item::Play(Line::Finish { handle: 8 }),
+    )?;
+    says(
+        &rt,
+        alloc,
+        b"turn 7",
+        Item::Play(Line::One(Step::Turn { handle: 7 })),
+    )?;
+    says(
+        &rt,
+        alloc,
+        b"close 6",
+        Item::Play(Line::One(Step::Close { handle: 6 })),
+    )
 }
 
 // A header with another size, digits in upper case that are read as lower, or a time that is lost.
 #[test]
 fn keeps_fields_of_files(rt: HostRuntime) -> Result<(), Fail> {
+    let alloc = rt.alloc();
     let rows: [(&[u8], u64, &[u8]); 4] = [
         (b"put /a 5 @loose:blob:4A6b", 5, b"blob 2\0Jk"),
         (b"put /a 0 @loose:tree:-", 0, b"tree 0\0"),
@@ -292,9 +292,11 @@ fn keeps_fields_of_files(rt: HostRuntime) -> Result<(), Fail> {
             b"tag 11\0\n\x0b\x0c\r\x0e\x0f\x01\x02\x03\x04\x05",
         ),
     ];
-    for (line, time, want) in rows {
-        let item = item_of(rt.alloc(), line)?;
-        assert!(rt; puts(&item, time, want), "{line:?}");
+    for (line, time, bytes) in rows {
+        let path = PathText::parse(alloc, "/a")?;
+        let bytes = ByteList::from_slice(alloc, bytes)?;
+        let file = Item::Setup(Change::PutFile { path, time, bytes });
+        says(&rt, alloc, line, file)?;
     }
     Ok(())
 }

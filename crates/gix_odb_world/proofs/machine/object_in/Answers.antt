@@ -1,4 +1,4 @@
-use Rattle.std.proofs.Common.{◌≡◌, ◌==◌, List, ℕ, length, sym, ap, ◌∙◌}
+use Rattle.std.proofs.Common.{sym, ◌∙◌}
 use Rattle.gix_odb_world.proofs.OrderLemmas.{reply-empty, reply-no_header, reply-other_length}
 use Rattle.gix_odb_world.proofs.machine.object_in.Goals as goal
 
