@@ -1,5 +1,5 @@
 //! What every crate of the object database stands on: the error for want of memory, lists of bytes and of
-//! other items, numbers as texts, and the words that tie an answer to a count of faults.
+//! other items, paths, numbers as texts, and the words that tie an answer to a count of faults.
 //!
 //! A call that takes memory is passed the allocator, and answers `NoMemory` where there is none left.
 //! A list of bytes is seen by a contract as that list, whatever room it has.

@@ -1,4 +1,4 @@
-//! Paths, the tree of a disk, the trait of a disk, a disk in memory and a real one, sources and sinks.
+//! The tree of a disk, the trait of a disk, a disk in memory and a real one, sources and sinks.
 //!
 //! Each call of a disk answers by its tree, where the disk tells it, and fails only where the disk's count
 //! of faults rose. Read `disk` first, then `mem_disk`; `specs/Tree.antt` says what a tree is.
