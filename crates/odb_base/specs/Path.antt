@@ -1,5 +1,5 @@
 -- Paths: an absolute list of names. The empty list is the root, `/`.
-use Rattle.std.specs.Prelude.{ℕ, ◌==◌, ◌||◌, Bool, not, List, [], ◌∷◌, length, take, codes, nat_eq, false, Option, Some, None, if◌then◌else◌}
+use Rattle.std.specs.Prelude.{◌≡◌, ◌≢◌, ◌++◌, ℕ, ◌==◌, ◌||◌, Bool, not, List, [], ◌∷◌, length, take, codes, nat_eq, false, Option, Some, None, if◌then◌else◌}
 use Rattle.std.specs.List.{slice_split, list_any, list_all, flat_map, after_last}
 use Rattle.std.specs.Ordering.{nat_cmp}
 use Rattle.std.specs.Cmp.Lexicographic.{slice_cmp}
@@ -68,3 +68,18 @@ has_extension (first ∷ rest) = list_any (λ b. b == 46) rest
 -- what follows the last dot, unless there is none or the only one comes first
 unfoldable pub extension_of : Name → Option (List ℕ)
 extension_of name = if has_extension name then Some (after_last (λ b. b == 46) name) else None
+
+-- both lists of names go on with this one, or don't go on alike
+abbrev pub HasSameFirst : List Name → List Name → Option Name → Type 0
+HasSameFirst (own ∷ owns) (its ∷ others) (Some name) = (own ≡ name) × (its ≡ name)
+HasSameFirst (own ∷ owns) (its ∷ others) None = own ≢ its
+HasSameFirst owns others (Some name) = ⊥
+HasSameFirst owns others None = Unit {0}
+
+-- two paths begin with these names, and don't go on alike
+pub record IsCommonFront (path other front : Path) : Type 0 where
+  pub own : List Name
+  pub its : List Name
+  pub path_is : path ≡ front ++ own
+  pub other_is : other ≡ front ++ its
+  pub apart : HasSameFirst own its None

@@ -1,6 +1,6 @@
 ghost use Rattle.std.specs.Prelude.{◌≡◌, ◌&&◌, ◌==◌, ◌^◌, ◌<◌, ℕ, IfSome, Some, not, slice_index};
 ghost use Rattle.std.specs.Fmt.{decimal};
-ghost use Rattle.odb_base.specs.Decimal.{has_no_leading_zero, number_of, number_below};
+ghost use Rattle.odb_base.specs.Decimal.{has_no_leading_zero, number_of};
 
 /// The number that a text is: decimal digits without a sign and without leading zeros, below 2^64.
 pub fn parse_decimal(text: &str) -> Option<u64>
@@ -13,14 +13,6 @@ pub fn parse_decimal(text: &str) -> Option<u64>
     } else {
         None
     }
-}
-
-/// The same below a limit.
-pub fn parse_decimal_below(text: &str, limit: u64) -> Option<u64>
-    ensures { result ≡ number_below limit text.now }
-{
-    let number = parse_decimal(text)?;
-    if number < limit { Some(number) } else { None }
 }
 
 // Whether a text has neither a plus nor a leading zero, which `parse` takes too.

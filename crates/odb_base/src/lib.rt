@@ -19,7 +19,7 @@ mod sequence;
 mod tests;
 
 pub use byte_list::ByteList;
-pub use decimal::{parse_decimal, parse_decimal_below};
+pub use decimal::parse_decimal;
 pub use no_memory::NoMemory;
 pub use path::{BadPath, PathText};
 pub use path_name::PathName;

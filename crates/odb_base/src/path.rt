@@ -1,8 +1,8 @@
-ghost use Rattle.std.specs.Prelude.{◌≡◌, ◌↔◌, ◌==◌, false, true, map, [], ◌∷◌, ◌++◌, IfOk, OnOk, IfSome, IsTrue, IsErrOf, None, Some};
+ghost use Rattle.std.specs.Prelude.{◌≡◌, ◌↔◌, ◌==◌, false, true, map, drop, [], ◌∷◌, ◌++◌, IfOk, OnOk, IfSome, IsTrue, IsErrOf, None, Some};
 ghost use Rattle.std.specs.Option.{option_copied};
 ghost use Rattle.std.specs.List.{slice_split, list_all, starts_with};
 ghost use Rattle.std.specs.String.{string_bytes};
-ghost use Rattle.odb_base.specs.Path.{is_name, extension_of};
+ghost use Rattle.odb_base.specs.Path.{is_name, extension_of, HasSameFirst};
 ghost use Rattle.odb_base.specs.JoinedPath.{joined, slashed};
 ghost use Rattle.odb_base.specs.declared.path.BadPath.TheVariants.{NoMemory as out_of_memory};
 
@@ -69,7 +69,7 @@ impl Model for PathText {
 }
 
 impl PathText {
-    ghost use Rattle.odb_base.specs.Path.{is_name, same_name, text_of, path_of, parent_of, last_name, extension_of};
+    ghost use Rattle.odb_base.specs.Path.{is_name, same_name, text_of, path_of, parent_of, last_name, extension_of, IsCommonFront};
     ghost use Rattle.odb_base.specs.JoinedPath.{joined, IsBehind};
     ghost use Rattle.std.specs.List.{list_all, starts_with};
     ghost use Rattle.std.specs.Prelude.{true, map, option_and_then};
@@ -162,18 +162,37 @@ impl PathText {
     pub fn to_text(&self, alloc: Global) -> Result<String, NoMemory>
         ensures { IfOk result (λ text. string_bytes text ≡ text_of self.now) }
     {
-        if self.is_root() {
-            return Ok(String::from_str(alloc, "/")?);
+        Ok(format!(in alloc; "{self}")?)
+    }
+
+    /// The names on the way from the root.
+    pub fn names(&self, alloc: Global) -> Result<Vec<&str>, NoMemory>
+        ensures value { IfOk result (λ names. map (λ name. name.now) names.items ≡ self.now) }
+        ensures are_names { list_all is_name self.now ≡ true }
+    {
+        match self.joined.strip_prefix('\0') {
+            None => Ok(Vec::new(alloc)),
+            Some(rest) => Ok(names_in(alloc, rest)?),
         }
-        let mut text = String::with_capacity(alloc, self.joined.len())?;
-        let mut rest = self.joined.as_str();
-        while let Some((name, more)) = rest.split_once('\0') {
-            text.push_str(name)?;
-            text.push('/')?;
-            rest = more;
+    }
+
+    /// The names that the path and another one both begin with, up to the first that differs.
+    pub fn common_front<'a>(
+        &'a self,
+        alloc: Global,
+        other: &'a PathText,
+    ) -> Result<PathText, NoMemory>
+        ensures { IfOk result (λ front. IsCommonFront self.now other.now front) }
+    {
+        let own = self.names(alloc)?;
+        let its = other.names(alloc)?;
+        let mut joined = String::new(alloc);
+        let mut shared = 0;
+        while let Some(name) = same_at(&own, &its, shared) {
+            push_name(&mut joined, name)?;
+            shared += 1;
         }
-        text.push_str(rest)?;
-        Ok(text)
+        Ok(PathText { joined })
     }
 
     /// Whether the path is the root, which has no names.
@@ -332,6 +351,26 @@ fn parts_of<'a>(alloc: Global, text: &'a str) -> Result<Vec<&'a str>, AllocError
     ensures { IfOk result (λ parts. map (λ part. part.now) parts.items ≡ slice_split (λ b. b == 47) text.now) }
 {
     text.split('/').collect(alloc)
+}
+
+/// The names of a text in which NULs stand between them.
+fn names_in<'a>(alloc: Global, text: &'a str) -> Result<Vec<&'a str>, AllocError>
+    ensures { IfOk result (λ names. map (λ name. name.now) names.items ≡ slice_split (λ b. b == 0) text.now) }
+{
+    text.split('\0').collect(alloc)
+}
+
+/// The name at an index of both lists, if they have the same one there.
+fn same_at<'a>(own: &[&'a str], its: &[&'a str], index: usize) -> Option<&'a str>
+    ensures { HasSameFirst (drop index (map (λ name. name.now) own.now)) (drop index (map (λ name. name.now) its.now)) (option_copied result) }
+{
+    let Some(name) = own.get(index) else {
+        return None;
+    };
+    let Some(twin) = its.get(index) else {
+        return None;
+    };
+    if name == twin { Some(*name) } else { None }
 }
 
 /// Whether a text is a name.

@@ -1,6 +1,6 @@
 mod paths;
 
-use crate::{ByteList, NoMemory, Sequence, parse_decimal, parse_decimal_below};
+use crate::{ByteList, NoMemory, Sequence, parse_decimal};
 use std::test::Fail;
 
 // A reader that takes what `parse` takes, a plus and leading zeros, or wraps past 64 bits.
@@ -26,25 +26,6 @@ fn reads_numbers(rt: HostRuntime) {
     ];
     for (name, text, want) in rows {
         assert_eq!(rt; parse_decimal(text), want, "{name}");
-    }
-}
-
-// A limit that is taken in, or tested against the text's length.
-#[test]
-fn reads_numbers_below_a_limit(rt: HostRuntime) {
-    let rows: [(&str, u64, Option<u64>); 5] = [
-        ("0", 0, None),
-        ("65535", 65536, Some(65535)),
-        ("65536", 65536, None),
-        ("065535", 65536, None),
-        ("9", 10, Some(9)),
-    ];
-    for (text, limit, want) in rows {
-        assert_eq!(rt;
-            parse_decimal_below(text, limit),
-            want,
-            "{text} below {limit}"
-        );
     }
 }
 

@@ -3,6 +3,7 @@ pub mod MemDiskLemmas
 mod TreeNumbersLemmas
 mod TreeCallsLemmas
 mod NamesLemmas
+mod LastNodeLemmas
 mod AskLemmas
 mod NodeMapLemmas
 mod CallsLemmas

@@ -1,7 +1,10 @@
 -- What the steps of following a path answer. No public clause cites this.
-use Rattle.std.specs.Prelude.{◌≡◌, ℕ, Result, Ok, Err, Option, Some, None}
+use Rattle.std.specs.Prelude.{◌≡◌, false, IsSome, ℕ, Result, Ok, Err, Option, Some, None}
 use Rattle.std.specs.Borrow.{Bor}
-use Rattle.odb_base.specs.Path.{Path}
+use Rattle.std.specs.Ordering.{is_lt}
+use Rattle.std.specs.declared.cmp.Ordering.TheVariants.{Less}
+use Rattle.odb_base.specs.Path.{Path, path_cmp}
+use Rattle.odb_disk.specs.Tree.{Tree, node_at}
 use Rattle.odb_disk.specs.Tree.Follow.{Pass, Reached, Onward, Missing, Blocked, Place, Refusal, Absent, WrongKind, LinkLoop}
 use Rattle.odb_disk.specs.declared.node.Node.{Node}
 use Rattle.odb_disk.specs.declared.node.Content.{Content}
@@ -68,3 +71,9 @@ standing_content (Link target) = standings.Other
 abbrev pub standing_of : Option Node → Standing
 standing_of None = standings.Other
 standing_of (Some node) = standing_content node.content
+
+-- the last path with a node that comes before another path, if there is one
+abbrev pub IsLastBefore : Tree → Path → Option Path → Type 0
+IsLastBefore tree path None = (q : Path) → path_cmp q path ≡ Less → node_at tree q ≡ None
+IsLastBefore tree path (Some last) =
+    (path_cmp last path ≡ Less) × IsSome (node_at tree last) × ((q : Path) → path_cmp q path ≡ Less → IsSome (node_at tree q) → is_lt (path_cmp last q) ≡ false)

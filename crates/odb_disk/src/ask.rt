@@ -65,13 +65,13 @@ impl DiskAsk {
 }
 
 impl MemDisk {
-    ghost use Rattle.std.specs.Prelude.{IfOk, OnOk};
+    ghost use Rattle.std.specs.Prelude.{IfOk};
     ghost use Rattle.odb_disk.specs.Ask.{answer_now};
 
     /// Makes a call that is given as a value. Want of memory is an error, and no answer.
     pub fn carry_out(&mut self, alloc: Global, ask: &DiskAsk) -> Result<DiskAnswer, NoMemory>
         ensures answered { IfOk result (λ answer. answer ≡ answer_now self.old ask.now) }
-        ensures counted { OnOk result (self.new ≡ after_call self.old) }
+        ensures counted { self.new ≡ after_call self.old }
     {
         match self.answer_to(alloc, ask) {
             DiskAnswer::Refused(DiskError::NoMemory) => Err(NoMemory),

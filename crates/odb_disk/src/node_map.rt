@@ -1,7 +1,9 @@
 //! The nodes of a tree by their paths, and its free inode numbers.
 ghost use Rattle.std.specs.Prelude.{◌≡◌, ◌↔◌, ◌==◌, ◌&&◌, ◌||◌, ◌+◌, ◌-◌, ◌^◌, ◌<◌, ℕ, true, false, not, IfOk, OnOk, OnErr, IsTrue, Some, None, if◌then◌else◌};
 ghost use Rattle.odb_disk.specs.Tree.{node_at, tree_of_entries, with_node, without, IsTree, names_in};
+ghost use Rattle.std.specs.Option.{option_copied};
 ghost use Rattle.odb_disk.specs.Tree.Change.{is_nil};
+ghost use Rattle.odb_disk.specs.TreeCalls.{IsLastBefore};
 ghost use Rattle.odb_disk.specs.TreeNumbers.{is_listed, has_number, IsLeastFree};
 ghost use Rattle.odb_disk.specs.declared.node.Node.{Node as NodeValue};
 
@@ -53,6 +55,22 @@ pub(crate) fn has_names(nodes: &BTreeMap<PathText, Node>, directory: &PathText) 
     {
         None => false,
         Some((path, _)) => path.starts_with(directory),
+    }
+}
+
+/// The last path before another one that has a node.
+pub(crate) fn path_before<'a>(
+    nodes: &'a BTreeMap<PathText, Node>,
+    path: &PathText,
+) -> Option<&'a PathText>
+    ensures { IsLastBefore (tree_of_entries nodes.now.entries) path.now (option_copied result) }
+{
+    match nodes
+        .range((Bound::Unbounded, Bound::Excluded(path)))
+        .next_back()
+    {
+        None => None,
+        Some((last, _)) => Some(last),
     }
 }
 

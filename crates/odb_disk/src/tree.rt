@@ -2,8 +2,8 @@ use crate::change::{Change, Impossible};
 use crate::disk::{DiskError, Meta};
 use crate::node::{Content, Node};
 use crate::node_map::{
-    copied, copied_numbers, free_number, has_names, least_number, put, put_content, take,
-    use_number,
+    copied, copied_numbers, free_number, has_names, least_number, path_before, put, put_content,
+    take, use_number,
 };
 use crate::{ByteList, NoMemory, PathText};
 use std::alloc::Global;
@@ -144,21 +144,21 @@ impl Tree {
         }
     }
 
-    /// Where the first link on the way of a path leads that has no node: at the last node on the way, since
-    /// each node lies in a directory.
+    /// Where the first link on the way of a path leads at which nothing stands. Each node lies in directories,
+    /// so only the last node on the way can be a file or a link. What comes just before the path begins with it.
     fn led_on(&self, alloc: Global, path: &PathText) -> Result<PathText, DiskError>
         requires absent { node_at self.now path.now ≡ None }
         requires tree { IsTree self.now }
         ensures { (follow : Bool) → LedOn result (pass self.now follow [] path.now) }
     {
-        let mut way = path.parent(alloc)?;
-        while let Some(last) = way {
-            if let Some(node) = self.node(&last) {
-                return Tree::led_past(alloc, path, &last, &node.content);
-            }
-            way = last.parent(alloc)?;
-        }
-        Err(DiskError::Absent)
+        let Some(before) = path_before(&self.nodes, path) else {
+            return Err(DiskError::Absent);
+        };
+        let last = path.common_front(alloc, before)?;
+        let Some(node) = self.node(&last) else {
+            return Err(DiskError::Absent);
+        };
+        Tree::led_past(alloc, path, &last, &node.content)
     }
 
     /// Where a path leads that goes beyond the last node on its way.
@@ -176,7 +176,7 @@ impl Tree {
             Content::Dir => Err(DiskError::Absent),
             Content::Link(target) => match path.strip_prefix(alloc, last)? {
                 Some(rest) => Ok(target.followed_by(alloc, &rest)?),
-                None => unreachable!(),
+                None => unreachable!("the path begins with the last node on its way"),
             },
         }
     }

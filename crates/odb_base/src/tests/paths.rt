@@ -5,9 +5,10 @@ use std::test::Fail;
 #[test]
 fn texts_and_paths(rt: HostRuntime) -> Result<(), Fail> {
     let alloc = rt.alloc();
-    for text in ["/", "/a", "/a/b", "/..a/.b/..."] {
+    for (text, names) in [("/", 0), ("/a", 1), ("/a/b", 2), ("/..a/.b/...", 3)] {
         let path = PathText::parse(alloc, text)?;
-        assert_eq!(rt; path.is_root(), text == "/", "{text}");
+        assert_eq!(rt; path.names(alloc)?.len(), names, "{text}");
+        assert_eq!(rt; path.is_root(), names == 0, "{text}");
         assert_eq!(rt; path.to_text(alloc)?.as_str(), text);
         assert_eq!(rt; format!(in alloc; "{path}")?.as_str(), text);
     }
@@ -121,6 +122,27 @@ fn paths_below_others(rt: HostRuntime) -> Result<(), Fail> {
             }
             _ => panic!(rt; "{path} below {base}"),
         }
+    }
+    Ok(())
+}
+
+// Texts that agree within a name, or names that are left out.
+#[test]
+fn fronts_of_two_paths(rt: HostRuntime) -> Result<(), Fail> {
+    let alloc = rt.alloc();
+    for (one, other, front) in [
+        ("/a/b/c", "/a/b/d", "/a/b"),
+        ("/a/bc", "/a/bd", "/a"),
+        ("/a/b", "/a/b/c", "/a/b"),
+        ("/a", "/a.b", "/"),
+        ("/", "/a", "/"),
+        ("/é/ê", "/é/è", "/é"),
+    ] {
+        let one = PathText::parse(alloc, one)?;
+        let other = PathText::parse(alloc, other)?;
+        let common = one.common_front(alloc, &other)?;
+        assert_eq!(rt; common.to_text(alloc)?.as_str(), front);
+        assert!(rt; other.common_front(alloc, &one)? == common);
     }
     Ok(())
 }

@@ -1,9 +1,6 @@
 -- Laws of following a path: one pass along its names, and where the links lead.
-use Rattle.std.proofs.Common.{◌≡◌, ℕ, suc, ◌<◌, Bool, true, false, List, [], ◌∷◌, ◌++◌, length, get_or, drop, Option, Some, None, Result, Ok, Err, zero, ◌≢◌, refl, sym, ap, ◌∙◌, append_assoc, append-nil, length-take, arith}
-use Rattle.std.specs.Option.{IfSome}
-use Rattle.std.proofs.lemmas.Bool.{false≢true}
-use Rattle.odb_base.specs.Path.{Name, Path, parent_of}
-use Rattle.odb_base.specs.PathLaws.{parent_of-some, parent_of-nothing}
+use Rattle.std.proofs.Common.{◌≡◌, ℕ, suc, ◌<◌, Bool, true, false, List, [], ◌∷◌, ◌++◌, length, get_or, drop, Some, None, Result, Ok, Err, zero, ◌≢◌, refl, sym, ap, ◌∙◌, append_assoc, append-nil, arith}
+use Rattle.odb_base.specs.Path.{Name, Path}
 use Rattle.odb_disk.specs.Tree.{Tree, IsTree, node_at, is_directory, is_directory_content}
 use Rattle.odb_disk.specs.Tree.Follow.{Pass, Reached, Onward, Missing, Blocked, pass, past, beyond, at_last, ending, Place, Refusal, Absent, WrongKind, LinkLoop, arrives, followed_within}
 use Rattle.odb_disk.specs.declared.node.Node.{Node}
@@ -102,44 +99,6 @@ pub record IsShort (t : Tree) (path way : Path) : Type 0 where
   pub whole : path ≡ way ++ name ∷ names
   pub lacks : node_at t (way ++ name ∷ []) ≡ None
 
-pub short_of_end : (t : Tree) (path way : Path) → parent_of path ≡ Some way → node_at t path ≡ None → IsShort t path way
-short_of_end t path way e none =
-    let last = parent_of-some path way e in
-    record { name = last.0; names = []; whole = last.1; lacks = ap (node_at t) (sym last.1) ∙ none }
-
-pub shorter : (t : Tree) (path way front : Path) → IsShort t path way → parent_of way ≡ Some front → node_at t way ≡ None → IsShort t path front
-shorter t path way front short e none =
-    let last = parent_of-some way front e in
-    record {
-      name = last.0;
-      names = short.name ∷ short.names;
-      whole = short.whole ∙ ap (λ w. w ++ short.name ∷ short.names) last.1 ∙ append_assoc front (last.0 ∷ []) (short.name ∷ short.names);
-      lacks = ap (node_at t) (sym last.1) ∙ none;
-    }
-
--- the directory of a path where nothing stands, or none where the path is the root
-module _ (t : Tree) (path : Path) (absent : node_at t path ≡ None) where
-  pub short_start : (way : Option Path) → way ≡ parent_of path → IfSome way (IsShort t path)
-  short_start None e = tt
-  short_start (Some way) e = short_of_end t path way (sym e) absent
-
-  pub root_start : (way : Option Path) → way ≡ parent_of path → way ≡ None → node_at t [] ≡ None
-  root_start way e none = ap (node_at t) (sym (parent_of-nothing path (sym e ∙ none))) ∙ absent
-
-pub short_next : (t : Tree) (path way : Path) (next : Option Path) → IsShort t path way → node_at t way ≡ None → next ≡ parent_of way → IfSome next (IsShort t path)
-short_next t path way None short absent e = tt
-short_next t path way (Some front) short absent e = shorter t path way front short (sym e) absent
-
--- the directories of a way that are left, and the root
-pub ways_left : Option Path → ℕ
-ways_left None = 0
-ways_left (Some way) = suc (length way)
-
-pub fewer_left : (way : Path) (parent : Option Path) → parent ≡ parent_of way → ways_left parent < ways_left (Some way)
-unfolding parent_of ways_left
-fewer_left [] parent e = omega (arith, ap ways_left e)
-fewer_left (name ∷ names) parent e = omega (arith, ap ways_left e, length-take (length names) (name ∷ names))
-
 -- where a pass goes from the last node on its way
 pub pass_past : (t : Tree) → IsTree t → (follow : Bool) (path way : Path) (n : Node) (short : IsShort t path way) → node_at t way ≡ Some n → pass t follow [] path ≡ past n.content (short.name ∷ short.names) Missing
 unfolding pass
@@ -152,10 +111,6 @@ pass_past t is_tree follow path way n short at =
 
     stops : (names : Path) → pass t follow way (short.name ∷ names) ≡ past n.content (short.name ∷ names) Missing
     stops names = ap (λ o. beyond o (short.name ∷ names) (pass t follow (way ++ short.name ∷ []) names)) at ∙ ap (past n.content (short.name ∷ names)) (missing names)
-
--- the root of a tree has a node
-pub root_stands : (t : Tree) → IsTree t → node_at t [] ≢ None
-root_stands t is_tree none = false≢true (sym (ap is_directory none) ∙ is_tree.root)
 
 -- ---- a pass to a node of a tree, from the root on
 

@@ -1,35 +1,24 @@
-use Rattle.std.proofs.Common.{◌∷◌, sym}
+use Rattle.std.proofs.Common.{◌∷◌, None, Some, sym, subst}
 use Rattle.odb_base.specs.PathLaws.{lies_below}
-use Rattle.odb_disk.proofs.TreeLemmas.Follow.{IsShort, pass_past, short_start, root_start, short_next, fewer_left, root_stands}
+use Rattle.odb_disk.specs.TreeCalls.{IsLastBefore}
+use Rattle.odb_disk.proofs.LastNodeLemmas.{some_before, way_stands, short_of_common, some_not_none}
+use Rattle.odb_disk.proofs.TreeLemmas.Follow.{pass_past}
 use Rattle.odb_disk.proofs.tree.Tree.led_on.Goals as goal
 
-pub loop-way-init : goal.loop-way-init
-loop-way-init c = record {
-  short = short_start _ _ c.requires.absent _ c.in_ok-way.ensures;
-  root = root_start _ _ c.requires.absent _ c.in_ok-way.ensures;
-}
+pub returns-in_default : goal.returns-in_default
+returns-in_default c =
+    absurd (some_before _ _ c.requires.tree c.requires.absent (subst (λ t. IsLastBefore t c.args.path.now None) c.self.view_is c.in_default.ensures))
+
+pub returns-in_default-node : goal.returns-in_default-node
+returns-in_default-node c =
+    let earlier = subst (λ t. IsLastBefore t c.args.path.now (Some c.in-Some.before.now)) c.self.view_is c.in-Some.ensures in
+    absurd (some_not_none _ (way_stands _ _ _ _ c.requires.tree c.requires.absent earlier c.in_ok-last.ensures) (sym c.in_default-node.ensures.value))
 
 pub led_past-requires : goal.led_past-requires
-led_past-requires c =
-    let short : IsShort c.args.self.now c.args.path.now c.in-Some.last = rw c.in-Some.is at c.loop-way.invariant.short in
-    lies_below _ _ (short.name ∷ short.names) short.whole
-
-pub returns-in-Some-node : goal.returns-in-Some-node
-returns-in-Some-node c = λ follow.
-    let short : IsShort c.args.self.now c.args.path.now c.in-Some.last = rw c.in-Some.is at c.loop-way.invariant.short in
-    rw (pass_past _ c.requires.tree follow _ _ _ short (sym c.in-Some-node.ensures.value)) (c.led_past.ensures (short.name ∷ short.names) short.whole)
-
-pub loop-way-smaller : goal.loop-way-smaller
-loop-way-smaller c = rw c.in-Some.is (fewer_left c.in-Some.last _ c.in_ok-way-2.ensures)
-
-pub loop-way-preserved : goal.loop-way-preserved
-loop-way-preserved c =
-    let short : IsShort c.args.self.now c.args.path.now c.in-Some.last = rw c.in-Some.is at c.loop-way.invariant.short in
-    let absent = sym c.in_default-node.ensures.value in
-    record {
-      short = short_next _ _ _ _ short absent c.in_ok-way-2.ensures;
-      root = root_start _ _ absent _ c.in_ok-way-2.ensures;
-    }
+led_past-requires c = lies_below _ _ _ c.in_ok-last.ensures.path_is
 
 pub returns : goal.returns
-returns c = λ follow. absurd (root_stands _ c.requires.tree (c.loop-way.invariant.root c.in_default.is))
+returns c = λ follow.
+    let earlier = subst (λ t. IsLastBefore t c.args.path.now (Some c.in-Some.before.now)) c.self.view_is c.in-Some.ensures in
+    let short = short_of_common _ _ _ _ c.requires.tree c.requires.absent earlier c.in_ok-last.ensures in
+    rw (pass_past _ c.requires.tree follow _ _ _ short (sym c.in-Some-node.ensures.value)) (c.led_past.ensures (short.name ∷ short.names) short.whole)
