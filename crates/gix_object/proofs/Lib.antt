@@ -1,1 +1,3 @@
 mod HeaderLemmas
+mod SinkLemmas
+mod SourceLemmas

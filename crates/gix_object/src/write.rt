@@ -8,7 +8,7 @@ ghost use Rattle.gix_object.specs.Id.{object_id};
 ghost use Rattle.gix_object.specs.Data.{Object};
 ghost use Rattle.gix_object.specs.Stream.{stream_of, IsDrawn, IsWhole, Puts, Stream};
 
-use crate::Kind;
+use crate::{Data, Kind};
 use gix_hash::ObjectId;
 use odb_disk::{Failed, Sink, Source};
 use std::alloc::Global;
@@ -64,6 +64,7 @@ pub trait Write {
     ) -> Result<ObjectId, Self::Error>
         ensures answered { writes self.old (record { kind = kind; bytes = from.now }) None result self.new }
         ensures id { IfOk result (λ id. id ≡ object_id (hash self.old) kind from.now) }
+        ensures kind { IfOk result (λ id. kind_of id ≡ hash self.old) }
         ensures hash { hash self.new ≡ hash self.old };
 
     /// The same under an id that the object is known to have.
@@ -93,6 +94,7 @@ pub trait Write {
         ensures from { IsDrawn (stream_of (S.left from.old) (S.faults from.old) (S.left from.new) (S.faults from.new)) }
         ensures whole { IfOk result (λ id. IsWhole size (S.left from.old) (S.left from.new)) }
         ensures id { IfOk result (λ id. IfSome (S.left from.old) (λ bytes. id ≡ object_id (hash self.old) kind bytes)) }
+        ensures kind { IfOk result (λ id. kind_of id ≡ hash self.old) }
         ensures hash { hash self.new ≡ hash self.old };
 
     /// The same under an id that the object is known to have.
@@ -121,5 +123,39 @@ pub trait Write {
     ) -> Result<ObjectId, Self::Error>
         ensures answered { writes self.old (record { kind = O.kind object.now; bytes = O.bytes object.now }) None result self.new }
         ensures id { IfOk result (λ id. id ≡ object_id (hash self.old) (O.kind object.now) (O.bytes object.now)) }
+        ensures kind { IfOk result (λ id. kind_of id ≡ hash self.old) }
         ensures hash { hash self.new ≡ hash self.old };
+}
+
+/// An object that was found gives its data.
+impl WriteTo for Data<'_> {
+    ghost kind = { λ found. found.kind };
+
+    ghost bytes = { λ found. found.bytes.now };
+
+    fn kind(&self) -> Kind {
+        self.kind
+    }
+
+    fn size(&self) -> u64 {
+        self.bytes.len() as u64
+    }
+
+    fn write_to<K: Sink>(&self, out: &mut K) -> Result<(), Failed> {
+        write_all(out, self.bytes)
+    }
+}
+
+// Writes all of some bytes.
+fn write_all<K: Sink>(out: &mut K, bytes: &[u8]) -> Result<(), Failed>
+    ensures bytes { Puts bytes.now (K.held out.old) (K.held out.new) result }
+    ensures cause { HasCause (K.faults out.old) (K.faults out.new) result }
+{
+    let mut rest = bytes;
+    'writing: while !rest.is_empty() {
+        let count = out.write(rest)?;
+        let (_, after) = rest.split_at(count);
+        rest = after;
+    }
+    Ok(())
 }
