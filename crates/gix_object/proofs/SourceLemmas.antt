@@ -1,10 +1,10 @@
 -- What was read from a source so far.
-use Rattle.std.proofs.Common.{◌≡◌, ℕ, ◌<◌, List, [], ◌∷◌, ◌++◌, length, take, drop, refl, sym, ap, ◌∙◌, subst, Option, Some, None, IfSome, Result, Ok, Err, append_assoc}
+use Rattle.std.proofs.Common.{◌≡◌, ℕ, ◌<◌, List, [], ◌++◌, length, take, drop, refl, sym, ap, ◌∙◌, subst, Option, Some, None, IfSome, Ok, Err, append_assoc}
 use Rattle.std.proofs.lemmas.List.{append-nil, take-append-drop}
 use Rattle.std.proofs.Math.Seq.{drop-append_seam}
 use Rattle.odb_disk.specs.declared.source.Failed.{Failed}
 use Rattle.odb_disk.specs.Source.{Reads, Takes as takes_once}
-use Rattle.gix_object.specs.Stream.{IsWhole, Takes}
+use Rattle.gix_object.specs.Stream.{Takes}
 
 -- what was left is what was read so far, and what is left now
 abbrev pub ReadSoFar : Option (List ℕ) → Option (List ℕ) → List ℕ → Type 0

@@ -1,4 +1,4 @@
-use Rattle.std.proofs.Common.{sym, ◌∙◌, arith}
+use Rattle.std.proofs.Common.{sym, ◌∙◌}
 use Rattle.gix_object.proofs.HeaderLemmas.{head_at_place, no_head, no_place, place_of}
 use Rattle.gix_object.proofs.decode.header_in.Goals as goal
 

@@ -1,4 +1,4 @@
-use Rattle.std.proofs.Common.{◌≡◌, refl, sym, ap, ◌∙◌, arith}
+use Rattle.std.proofs.Common.{sym, ap, ◌∙◌, arith}
 use Rattle.gix_object.specs.Kind.{kind_of_word}
 use Rattle.std.proofs.lemmas.Str.Pattern.{split_once_first}
 use Rattle.gix_object.proofs.HeaderLemmas.{no_text, read-no_space, read-no_kind, read-no_size, read-Some}
