@@ -16,7 +16,7 @@ use std::sync::Wait;
 /// behind it answered in that call.
 pub trait Find {
     /// Why a find was refused.
-    type Error;
+    type Error: Drop;
 
     /// The hash that ids have to be of.
     ghost hash: { Self → hash_kind };
@@ -41,7 +41,7 @@ pub trait Find {
 /// A database that tells the kind and the size of objects.
 pub trait FindHeader {
     /// Why a look was refused.
-    type Error;
+    type Error: Drop;
 
     /// The hash that ids have to be of.
     ghost hash: { Self → hash_kind };
@@ -64,7 +64,7 @@ pub trait FindHeader {
 /// A database that tells whether it has an object.
 pub trait Exists {
     /// Why a test was refused.
-    type Error;
+    type Error: Drop;
 
     /// The hash that ids have to be of.
     ghost hash: { Self → hash_kind };

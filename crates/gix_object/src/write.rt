@@ -42,7 +42,7 @@ pub trait WriteTo {
 /// its own, so that a layer in front can promise what the database behind it answered in that call.
 pub trait Write {
     /// Why a write was refused.
-    type Error;
+    type Error: Drop;
 
     /// The hash of the ids.
     ghost hash: { Self → hash_kind };
