@@ -159,6 +159,14 @@ loose_of-IsLoose bytes kind size rest is =
 pub none-loose_of : (bytes : List ℕ) → loose_of bytes ≡ None → (kind : Kind) (size : ℕ) (rest : List ℕ) → ¬ (IsLoose bytes kind size rest)
 none-loose_of bytes h kind size rest is = cc (h, loose_of-IsLoose bytes kind size rest is)
 
+-- what is in no way in the file isn't found
+pub loose_of-outside : (bytes : List ℕ) → ((kind : Kind) (size : ℕ) (rest : List ℕ) → ¬ (IsLoose bytes kind size rest)) → loose_of bytes ≡ None
+loose_of-outside bytes outside = by_found (loose_of bytes) refl
+  where
+    by_found : (found : Option LooseObject) → loose_of bytes ≡ found → loose_of bytes ≡ None
+    by_found None e = e
+    by_found (Some o) e = absurd (outside o.kind o.size o.rest (IsLoose-loose_of bytes o e))
+
 -- ---- what is encoded
 
 length-kind_word : (kind : Kind) → length (kind_word kind) ≤ 6
