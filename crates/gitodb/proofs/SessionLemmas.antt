@@ -1,15 +1,12 @@
 -- Lemmas on statuses: a front of a script that is too long reads as the script, and what a delivery says of a status.
-use Rattle.std.proofs.Common.{◌≡◌, ◌≢◌, ◌⊎◌, inl, inr, ℕ, ◌+◌, ◌<◌, ◌≤◌, Bool, true, false, nat_le, map, List, [], ◌∷◌, ◌++◌, length, take, refl, sym, ap, ◌∙◌, subst, Option, Some, None, arith, length-append}
-use Rattle.std.proofs.lemmas.List.{take-append-le}
+use Rattle.std.proofs.Common.{◌≡◌, ◌≢◌, inl, inr, ℕ, ◌+◌, ◌<◌, ◌≤◌, false, nat_le, map, List, [], ◌∷◌, ◌++◌, length, take, refl, sym, ap, ◌∙◌, subst, Option, Some, None, arith}
 use Rattle.std.proofs.lemmas.Bool.{cases_lt}
 use Rattle.std.proofs.lemmas.Bool.Decides.{nat_tests}
-use Rattle.odb_base.specs.Faults.{Rose}
 use Rattle.gix_odb_world.specs.Headline.{Headline}
 use Rattle.gix_odb_world.specs.Play.{Plays, made_of}
 use Rattle.gitodb.specs.declared.command.Command.{Command}
-use Rattle.gitodb.specs.declared.command.Command.TheVariants.{World, Help, Version, NotUnderstood}
+use Rattle.gitodb.specs.declared.command.Command.TheVariants.{World}
 use Rattle.gitodb.specs.declared.status.Status.{Status}
-use Rattle.gitodb.specs.declared.status.Status.TheVariants as statuses
 use Rattle.gitodb.specs.declared.script.reader.Ending.{Ending}
 use Rattle.gitodb.specs.declared.script.reader.Ending.TheVariants.{Whole, RefusedAt, NotBuiltAt}
 use Rattle.gitodb.specs.declared.script.reader.Script.{Script}
@@ -21,7 +18,7 @@ use Rattle.gitodb.specs.declared.script.item.Item.TheVariants as items
 use Rattle.gitodb.specs.Script.{disk_of, lines_of, script_limit, items_of, lines_in, but_last, taken, carried, reading_from, reading_of}
 use Rattle.gitodb.specs.Line.{item_of}
 use Rattle.gitodb.proofs.ScriptLemmas.{items_of-front}
-use Rattle.gitodb.specs.Session.{Session, Answers, AnswersWith, ReadsScript, Adds, Writes, WritesForScript, Finished, CutOff, ReadToEnd, ReadsIts, Ends, Delivers, status_of_ending}
+use Rattle.gitodb.specs.Session.{Session, Answers, AnswersWith, ReadsScript, Writes, WritesForScript, Finished, ReadToEnd, ReadsIts, Ends, Delivers, status_of_ending}
 
 append-nil : (xs : List ℕ) → xs ++ [] ≡ xs
 append-nil [] = refl

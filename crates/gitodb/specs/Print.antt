@@ -3,9 +3,8 @@ use Rattle.std.specs.Prelude.{ℕ, List, [], ◌∷◌, ◌++◌, length, codes,
 use Rattle.std.specs.List.{flat_map}
 use Rattle.std.specs.Fmt.{decimal}
 use Rattle.hex.specs.Hex.{encode_lower}
-use Rattle.odb_disk.specs.Path.{Path, text_of}
-use Rattle.gix_odb_world.specs.declared.object.Kind.{Kind}
-use Rattle.gix_odb_world.specs.Loose.{kind_word}
+use Rattle.odb_disk.specs.Path.{text_of}
+use Rattle.gix_object.specs.Kind.{kind_word}
 use Rattle.gix_odb_world.specs.declared.step.Outcome.{Outcome}
 use Rattle.gix_odb_world.specs.declared.step.Outcome.TheVariants as comes
 use Rattle.gix_odb_world.specs.declared.step.Why.{Why}

@@ -1,5 +1,5 @@
 -- What the program promises of each status, by its words, its source and its sink.
-use Rattle.std.specs.Prelude.{◌≡◌, ◌⊎◌, ℕ, ◌≤◌, Bool, true, false, List, [], ◌∷◌, ◌++◌, length, take, codes, map, Option, Some, None, if◌then◌else◌}
+use Rattle.std.specs.Prelude.{◌≡◌, ◌⊎◌, ℕ, ◌≤◌, List, [], ◌∷◌, ◌++◌, length, take, codes, Option, Some, None, if◌then◌else◌}
 use Rattle.odb_base.specs.Faults.{Rose}
 use Rattle.odb_disk.specs.Path.{same_name}
 use Rattle.gix_odb_world.specs.Headline.{Headline}

@@ -1,6 +1,5 @@
 -- A reply keeps its promise, by what the disk answered to the call of its turn.
-use Rattle.std.proofs.Common.{◌≡◌, ◌≢◌, ◌⊎◌, inl, inr, ℕ, ◌<◌, ◌≤◌, ◌==◌, Bool, true, false, nat_le, List, [], ◌∷◌, length, get_or, zero, suc, subst, Option, Some, None, Result, Ok, Err, cond, refl, sym, ap, ◌∙◌, arith}
-use Rattle.std.specs.Prelude.{Contains}
+use Rattle.std.proofs.Common.{◌≡◌, ◌≢◌, inl, inr, ℕ, ◌<◌, ◌≤◌, ◌==◌, Bool, true, false, nat_le, List, [], ◌∷◌, length, get_or, zero, suc, subst, Option, Some, None, Result, Ok, Err, cond, refl, sym, arith}
 use Rattle.std.proofs.lemmas.Bool.{eqb-true, eqb-false}
 use Rattle.odb_disk.specs.Path.{Path}
 use Rattle.odb_disk.specs.Tree.{Tree, tree_of}
@@ -25,9 +24,10 @@ use Rattle.gix_odb_world.specs.Contents.{Contents, LooseFile, Object, Shows}
 use Rattle.gix_odb_world.specs.Event.{Store, data_of}
 use Rattle.gix_odb_world.specs.Headline.{Promise}
 use Rattle.gix_odb_world.specs.Held.{Held, Still}
-use Rattle.gix_odb_world.specs.Loose.{IsLoose, LooseObject, loose_of, loose_path}
+use Rattle.gix_object.specs.Loose.{IsLoose, LooseObject, loose_of}
+use Rattle.gix_odb_world.specs.Loose.{loose_path}
 use Rattle.gix_odb_world.specs.Order.{ask_of, opened, opening_refused, found, found_in, loose_refused, reply_of}
-use Rattle.gix_odb_world.proofs.LooseLemmas.{IsLoose-loose_of, none-loose_of}
+use Rattle.gix_object.specs.Loose.Laws.{IsLoose-loose_of, none-loose_of}
 
 -- a list of one
 alone : (folder other : Path) (k : ℕ) → k < 1 → get_or (folder ∷ []) k other ≡ other → folder ≡ other

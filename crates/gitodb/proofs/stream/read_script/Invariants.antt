@@ -1,4 +1,4 @@
-use Rattle.std.proofs.Common.{◌≤◌, ◌-◌, ◌+◌, vec_len}
+use Rattle.std.proofs.Common.{◌≤◌, ◌-◌, vec_len}
 use Rattle.gitodb.proofs.StreamLemmas.{ReadsSoFar}
 use Rattle.gitodb.proofs.stream.read_script.Given as goal
 

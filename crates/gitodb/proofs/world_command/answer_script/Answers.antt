@@ -1,5 +1,5 @@
 -- The outcomes are those of the play, and the ending is that of the reading.
-use Rattle.std.proofs.Common.{◌≡◌, ◌++◌, sym, ap, ◌∙◌}
+use Rattle.std.proofs.Common.{◌++◌, sym, ap, ◌∙◌}
 use Rattle.gitodb.specs.declared.script.reader.Reading.{Reading}
 use Rattle.gitodb.specs.Script.{disk_of, lines_of}
 use Rattle.gitodb.specs.Print.{printed_at, ending_text}
