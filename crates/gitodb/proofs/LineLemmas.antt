@@ -24,9 +24,10 @@ use Rattle.gix_odb_world.specs.declared.play.Line.TheVariants.{One, Finish}
 use Rattle.gitodb.specs.declared.script.item.Item.TheVariants as items
 use Rattle.gitodb.specs.declared.script.content.Content.TheVariants.{Bytes}
 use Rattle.gitodb.specs.Word.{word_of, change_word_of}
-use Rattle.gix_odb_world.specs.declared.object.Kind.{Kind}
-use Rattle.gix_odb_world.specs.declared.object.Kind.TheVariants.{Commit, Tree, Blob, Tag}
-use Rattle.gix_odb_world.specs.Loose.{header_of, kind_word, kind_of_word}
+use Rattle.gix_object.specs.declared.kind.Kind.{Kind}
+use Rattle.gix_object.specs.declared.kind.Kind.TheVariants.{Commit, Tree, Blob, Tag}
+use Rattle.gix_object.specs.Kind.{kind_word, kind_of_word}
+use Rattle.gix_object.specs.Loose.{header_of}
 use Rattle.gitodb.specs.Content.{data_of, object_of, content_of}
 use Rattle.gitodb.specs.Change.{change_of}
 use Rattle.gitodb.specs.Opening.{handle_of, open_of, slots_in}

@@ -4,10 +4,11 @@ use Rattle.std.specs.List.{before_first, after_first, starts_with}
 use Rattle.hex.specs.Hex.{decode_of}
 use Rattle.hex.specs.declared.error.FromHexError.{FromHexError}
 use Rattle.odb_base.specs.Path.{same_name}
-use Rattle.gix_odb_world.specs.declared.object.Kind.{Kind}
+use Rattle.gix_object.specs.declared.kind.Kind.{Kind}
 use Rattle.gitodb.specs.declared.script.content.Content.{Content}
 use Rattle.gitodb.specs.declared.script.content.Content.TheVariants.{Bytes, Later, Wrong}
-use Rattle.gix_odb_world.specs.Loose.{kind_of_word, header_of}
+use Rattle.gix_object.specs.Kind.{kind_of_word}
+use Rattle.gix_object.specs.Loose.{header_of}
 use Rattle.gitodb.specs.Word.{is_one_of}
 
 -- the bytes that hex digits of either case give

@@ -4,7 +4,7 @@ use Rattle.std.specs.List.{flat_map}
 use Rattle.std.specs.Fmt.{decimal}
 use Rattle.hex.specs.Hex.{encode_lower}
 use Rattle.odb_base.specs.Path.{text_of}
-use Rattle.gix_odb_world.specs.Loose.{kind_word}
+use Rattle.gix_object.specs.Kind.{kind_word}
 use Rattle.gix_odb_world.specs.declared.step.Outcome.{Outcome}
 use Rattle.gix_odb_world.specs.declared.step.Outcome.TheVariants as comes
 use Rattle.gix_odb_world.specs.declared.step.Why.{Why}

@@ -1,6 +1,4 @@
 mod BoundLemmas
-mod HeaderLemmas
-pub mod LooseLemmas
 mod OrderLemmas
 mod PlayLemmas
 pub mod PromiseLemmas

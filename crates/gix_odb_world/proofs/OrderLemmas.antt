@@ -15,9 +15,11 @@ use Rattle.gix_hash.specs.declared.kind.Kind as hash
 use Rattle.gix_hash.specs.declared.kind.Kind.TheVariants.{Sha1, Sha256}
 use Rattle.gix_hash.specs.declared.object_id.ObjectId.{ObjectId}
 use Rattle.gix_hash.proofs.ObjectIdLemmas.{is_lower_text-hex_of, length-hex_of}
-use Rattle.gix_odb_world.specs.declared.object.Kind.{Kind}
+use Rattle.gix_object.specs.declared.kind.Kind.{Kind}
+use Rattle.gix_odb_world.specs.declared.call.Reply.TheVariants as replies
 use Rattle.gix_odb_world.specs.declared.loose.find.Error.TheVariants as loose_errors
-use Rattle.gix_odb_world.specs.Loose.{loose_of, loose_path}
+use Rattle.gix_object.specs.Loose.{loose_of}
+use Rattle.gix_odb_world.specs.Loose.{loose_path}
 use Rattle.gix_odb_world.specs.Order.{find_reply, found_in, loose_refused, unreadable}
 
 -- ---- hex digits as names
@@ -85,6 +87,9 @@ loose_path-joined objects folder id front rest text same first second way = rw (
 false_at : (m n : ℕ) → m ≢ n → (m == n) ≡ false
 false_at m n other = grind (arith, other)
 
+true_at : (m n : ℕ) → m ≡ n → (m == n) ≡ true
+true_at m n same = grind (arith, same)
+
 pub reply-empty : (path : Path) (bytes : List ℕ) → (length bytes == 0) ≡ true → found_in path bytes ≡ unreadable path
 reply-empty path [] h = refl
 reply-empty path (byte ∷ bytes) h = absurd (grind (arith, common_steps, h))
@@ -98,6 +103,12 @@ pub reply-other_length : (path : Path) (bytes content behind : List ℕ) (kind :
     → found_in path bytes ≡ loose_refused (loose_errors.SizeMismatch (length content) size path)
 reply-other_length path [] content behind kind size h some same other = cc h
 reply-other_length path (byte ∷ bytes) content behind kind size h some same other = rw (some, ← same, false_at (length content) size other) refl
+
+pub reply-found : (path : Path) (bytes content behind : List ℕ) (kind : Kind) (size : ℕ) → (length bytes == 0) ≡ false
+    → loose_of bytes ≡ Some (record { kind = kind; size = size; rest = behind }) → content ≡ behind → length content ≡ size
+    → found_in path bytes ≡ replies.Found kind content
+reply-found path [] content behind kind size h some same equal = cc h
+reply-found path (byte ∷ bytes) content behind kind size h some same equal = rw (some, ← same, true_at (length content) size equal) refl
 
 pub reply-refused : (path : Path) (error : DiskError) → error ≢ errors.Absent → find_reply path (answers.Refused error) ≡ unreadable path
 reply-refused path errors.Absent other = absurd (other refl)

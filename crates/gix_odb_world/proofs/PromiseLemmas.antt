@@ -24,9 +24,10 @@ use Rattle.gix_odb_world.specs.Contents.{Contents, LooseFile, Object, Shows}
 use Rattle.gix_odb_world.specs.Event.{Store, data_of}
 use Rattle.gix_odb_world.specs.Headline.{Promise}
 use Rattle.gix_odb_world.specs.Held.{Held, Still}
-use Rattle.gix_odb_world.specs.Loose.{IsLoose, LooseObject, loose_of, loose_path}
+use Rattle.gix_object.specs.Loose.{IsLoose, LooseObject, loose_of}
+use Rattle.gix_odb_world.specs.Loose.{loose_path}
 use Rattle.gix_odb_world.specs.Order.{ask_of, opened, opening_refused, found, found_in, loose_refused, reply_of}
-use Rattle.gix_odb_world.proofs.LooseLemmas.{IsLoose-loose_of, none-loose_of}
+use Rattle.gix_object.specs.Loose.Laws.{IsLoose-loose_of, none-loose_of}
 
 -- a list of one
 alone : (folder other : Path) (k : ℕ) → k < 1 → get_or (folder ∷ []) k other ≡ other → folder ≡ other

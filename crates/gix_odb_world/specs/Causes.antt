@@ -5,7 +5,7 @@ use Rattle.odb_disk.specs.Tree.{Tree}
 use Rattle.odb_disk.specs.Tree.Follow.{Refusal, WrongKind, LinkLoop, looked, read_of}
 use Rattle.odb_disk.specs.declared.disk.Meta.{Meta}
 use Rattle.odb_disk.specs.declared.disk.Kind.TheVariants as kinds
-use Rattle.gix_odb_world.specs.declared.object.Kind.{Kind}
+use Rattle.gix_object.specs.declared.kind.Kind.{Kind}
 use Rattle.gix_odb_world.specs.declared.init.Error as opening
 use Rattle.gix_odb_world.specs.declared.init.Error.TheVariants as opening_errors
 use Rattle.gix_odb_world.specs.declared.find.Error as finding
@@ -13,7 +13,7 @@ use Rattle.gix_odb_world.specs.declared.find.Error.TheVariants as find_errors
 use Rattle.gix_odb_world.specs.declared.loose.find.Error as loose
 use Rattle.gix_odb_world.specs.declared.loose.find.Error.TheVariants as loose_errors
 use Rattle.gix_odb_world.specs.declared.loose.find.Action.TheVariants.{OpenOrMap}
-use Rattle.gix_odb_world.specs.Loose.{IsLoose}
+use Rattle.gix_object.specs.Loose.{IsLoose}
 use Rattle.gix_odb_world.specs.Event.{Store}
 
 -- something was so at some moment of a call

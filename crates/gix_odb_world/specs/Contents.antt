@@ -4,10 +4,11 @@ use Rattle.odb_base.specs.Path.{Path}
 use Rattle.odb_disk.specs.Tree.{Tree}
 use Rattle.odb_disk.specs.Tree.Follow.{read_of}
 use Rattle.gix_hash.specs.declared.object_id.ObjectId.{ObjectId}
-use Rattle.gix_odb_world.specs.declared.object.Kind.{Kind}
+use Rattle.gix_object.specs.declared.kind.Kind.{Kind}
 use Rattle.gix_odb_world.specs.declared.call.Call.{Call}
 use Rattle.gix_odb_world.specs.declared.call.Call.TheVariants.{Find}
-use Rattle.gix_odb_world.specs.Loose.{IsLoose, loose_path}
+use Rattle.gix_object.specs.Loose.{IsLoose}
+use Rattle.gix_odb_world.specs.Loose.{loose_path}
 
 -- what a store is, for what it holds: its objects directory
 pub record StoreData : Type 0 where

@@ -21,7 +21,8 @@ use Rattle.gix_odb_world.specs.declared.loose.find.Action.TheVariants.{OpenOrMap
 use Rattle.gix_odb_world.specs.declared.handle.Work.{Work}
 use Rattle.gix_odb_world.specs.declared.handle.Work.TheVariants.{Opening, Calling}
 use Rattle.gix_odb_world.specs.Causes.{most_slots}
-use Rattle.gix_odb_world.specs.Loose.{LooseObject, loose_of, loose_path}
+use Rattle.gix_object.specs.Loose.{LooseObject, loose_of}
+use Rattle.gix_odb_world.specs.Loose.{loose_path}
 
 -- an opening looks at the objects directory, links followed; a find reads the loose path
 abbrev pub ask_of : Path → Work → DiskAsk

@@ -1,6 +1,6 @@
 ghost use Rattle.std.specs.Prelude.{◌≡◌, IfOk};
 
-use crate::{find, init, object};
+use crate::{find, init};
 use gix_hash::ObjectId;
 use odb_base::NoMemory;
 use odb_disk::ByteList;
@@ -18,8 +18,13 @@ pub enum Call {
 #[derive(Debug, Drop, PartialEq, Eq)]
 pub enum Reply {
     /// The store is open, and has so many slots.
-    Opened { slots: u16 },
-    Found { kind: object::Kind, bytes: ByteList },
+    Opened {
+        slots: u16,
+    },
+    Found {
+        kind: gix_object::Kind,
+        bytes: ByteList,
+    },
     NotFound,
     Refused(CallError),
 }

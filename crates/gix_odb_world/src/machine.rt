@@ -6,10 +6,10 @@ ghost use Rattle.gix_odb_world.specs.Order.{ask_of, opened, opening_reply, found
 
 use crate::call::{Call, CallError, Reply};
 use crate::handle::{Store, Work};
-use crate::header::loose_header;
 use crate::loose::find::Action;
 use crate::{find, init, loose};
 use gix_hash::ObjectId;
+use gix_object::decode;
 use odb_base::{ByteList, NoMemory};
 use odb_disk::{BadPath, DiskAnswer, DiskAsk, DiskError, Kind, PathText};
 use std::alloc::Global;
@@ -138,7 +138,7 @@ fn object_in(alloc: Global, path: PathText, bytes: &ByteList) -> Result<Reply, N
     if bytes.is_empty() {
         return Ok(unreadable(path));
     }
-    let Some((kind, expected, header_len)) = loose_header(bytes) else {
+    let Ok((kind, expected, header_len)) = decode::loose_header(bytes) else {
         return Ok(refused(loose::find::Error::Decode));
     };
     let (_, found) = bytes.split_at(header_len);

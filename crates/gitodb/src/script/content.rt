@@ -1,9 +1,9 @@
 ghost use Rattle.std.specs.Prelude.{◌≡◌, ◌==◌, ◌++◌, length, IfOk};
 ghost use Rattle.std.specs.List.{before_first, after_first};
-ghost use Rattle.gix_odb_world.specs.Loose.{header_of};
+ghost use Rattle.gix_object.specs.Loose.{header_of};
 ghost use Rattle.gitodb.specs.Content.{content_of, is_encoded, data_of, object_of, bytes_or_wrong, later_or_wrong, encoded};
 
-use gix_odb_world::object;
+use gix_object::{Kind, encode};
 use odb_base::{ByteList, NoMemory};
 use std::alloc::Global;
 
@@ -64,7 +64,7 @@ fn loose(alloc: Global, object: &str) -> Result<Content, NoMemory>
     ensures { IfOk result (λ content. content ≡ bytes_or_wrong (object_of object.now)) }
 {
     let (kind, bytes) = at_colon(object);
-    let kind = object::Kind::from_bytes(kind.as_bytes());
+    let kind = Kind::from_bytes(kind.as_bytes());
     let bytes = data_of(alloc, bytes)?;
     match (kind, bytes) {
         (Some(kind), Some(bytes)) => Ok(Content::Bytes(loose_file(alloc, kind, &bytes)?)),
@@ -73,14 +73,10 @@ fn loose(alloc: Global, object: &str) -> Result<Content, NoMemory>
 }
 
 /// A loose file: the header, and then the data.
-#[tactic(auto, unfolding(gix_odb_world::specs::Loose::header_of))]
-fn loose_file(alloc: Global, kind: object::Kind, bytes: &ByteList) -> Result<ByteList, NoMemory>
+fn loose_file(alloc: Global, kind: Kind, bytes: &ByteList) -> Result<ByteList, NoMemory>
     ensures { IfOk result (λ file. file ≡ header_of kind (length bytes.now) ++ bytes.now) }
 {
-    let size = bytes.len();
-    let size = format!(in alloc; " {size}\0")?;
-    let mut file = ByteList::from_slice(alloc, kind.as_bytes())?;
-    file.extend_from_slice(size.as_bytes())?;
+    let mut file = encode::loose_header(alloc, kind, bytes.len() as u64)?;
     file.extend_from_slice(bytes.as_slice())?;
     Ok(file)
 }

@@ -1,7 +1,7 @@
 use crate::call::{Call, CallError, Reply};
 use crate::init::{Options, Slots};
 use crate::loose::find::Error as LooseError;
-use crate::{Line, Outcome, Step, Why, World, bound_of, find, init, is_valid, object};
+use crate::{Line, Outcome, Step, Why, World, bound_of, find, init, is_valid};
 use gix_hash::ObjectId;
 use odb_disk::{ByteList, Change, MemDisk, PathText};
 use std::alloc::Global;
@@ -119,9 +119,9 @@ fn told_reply(reply: &Reply) -> &'static str {
     }
 }
 
-fn told_object(kind: object::Kind, bytes: &[u8]) -> &'static str {
+fn told_object(kind: gix_object::Kind, bytes: &[u8]) -> &'static str {
     match kind {
-        object::Kind::Blob if bytes.is_empty() => "the empty blob",
+        gix_object::Kind::Blob if bytes.is_empty() => "the empty blob",
         _ => "found",
     }
 }

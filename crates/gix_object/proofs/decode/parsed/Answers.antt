@@ -1,8 +1,8 @@
 use Rattle.std.proofs.Common.{sym, ap, ◌∙◌, arith}
-use Rattle.gix_odb_world.specs.Loose.{kind_of_word}
+use Rattle.gix_object.specs.Kind.{kind_of_word}
 use Rattle.std.proofs.lemmas.Str.Pattern.{split_once_first}
-use Rattle.gix_odb_world.proofs.HeaderLemmas.{no_text, read-no_space, read-no_kind, read-no_size, read-Some}
-use Rattle.gix_odb_world.proofs.header.parsed.Goals as goal
+use Rattle.gix_object.proofs.HeaderLemmas.{no_text, read-no_space, read-no_kind, read-no_size, read-Some}
+use Rattle.gix_object.proofs.decode.parsed.Goals as goal
 
 -- a header is text
 pub returns-in_default-clause-none : goal.returns-in_default-clause-none

@@ -1,5 +1,5 @@
 -- What the code of a header reads, in the words of loose objects.
-use Rattle.std.proofs.Common.{◌≡◌, ℕ, ◌+◌, ◌<◌, ◌≤◌, ◌^◌, ◌==◌, Bool, true, false, nat_lt, List, [], ◌∷◌, length, take, drop, Option, Some, None, cond, refl, sym, ap, ◌∙◌, subst, arith}
+use Rattle.std.proofs.Common.{◌≡◌, ℕ, ◌+◌, ◌<◌, ◌≤◌, ◌^◌, ◌==◌, Bool, true, false, nat_lt, List, [], ◌∷◌, length, take, drop, Option, Some, None, cond, Result, Ok, IfOk, IsErr, MatchOption, ◌↔◌, option_map, ok_or, refl, sym, ap, ◌∙◌, subst, arith, length-append, length-drop}
 use Rattle.std.specs.Prelude.{option_and_then}
 use Rattle.std.specs.List.{list_all, position, position_or_len, before_first, after_first}
 use Rattle.std.specs.Fmt.{decimal}
@@ -9,10 +9,12 @@ use Rattle.std.proofs.lemmas.Fmt.{IsAscii-decimal}
 use Rattle.std.proofs.lemmas.Str.{IsAscii-append, IsUtf8-from_ascii}
 use Rattle.std.proofs.lemmas.Str.Ascii.{IsAscii-nil, IsAscii-cons}
 use Rattle.odb_base.specs.Decimal.{number_of}
-use Rattle.gix_odb_world.specs.declared.object.Kind.{Kind}
-use Rattle.gix_odb_world.specs.declared.object.Kind.TheVariants.{Commit, Tree, Blob, Tag}
-use Rattle.gix_odb_world.specs.Loose.{LooseObject, kind_of_word, kind_word, loose_of, spelled}
-use Rattle.gix_odb_world.proofs.LooseLemmas.{front_of, front-spelled, behind_space, loose_of-place, loose_of-no_place}
+use Rattle.gix_object.specs.declared.kind.Kind.{Kind}
+use Rattle.gix_object.specs.declared.kind.Kind.TheVariants.{Commit, Tree, Blob, Tag}
+use Rattle.gix_object.specs.Kind.{kind_of_word, kind_word}
+use Rattle.std.proofs.Math.Seq.{drop-append_seam}
+use Rattle.gix_object.specs.Loose.{IsLoose, LooseObject, head_of, header_of, loose_of, spelled}
+use Rattle.gix_object.specs.Loose.Laws.{IsLoose-loose_of, behind_space, front_of, front-spelled, loose_of-IsLoose, loose_of-no_place, loose_of-place, none-loose_of}
 
 -- ---- a header without its NUL
 
@@ -111,3 +113,69 @@ pub no_place : (bytes : List ℕ) → None ≡ position (λ b. b == 0) (take 64 
 no_place bytes e =
     let first = position_or_len (λ b. b == 0) (take 64 bytes) in
     loose_of-no_place bytes (more _ _ (not_chosen (nat_lt first (length (take 64 bytes))) first e))
+
+-- ---- what reading a file's header tells
+
+-- a header that ends where the data begin is as long as what stands before these
+head_at : (bytes : List ℕ) (kind : Kind) (size n : ℕ) → n ≤ length bytes → IsLoose bytes kind size (drop n bytes) → n ≡ length (header_of kind size)
+head_at bytes kind size n within is =
+    let long : length bytes ≡ length (header_of kind size) + length (drop n bytes) = ap length is.whole ∙ length-append (header_of kind size) (drop n bytes) in
+    omega (arith, length-drop n bytes)
+
+pub head_at_place : (bytes : List ℕ) (kind : Kind) (size nul : ℕ) → nul < length bytes
+    → loose_of bytes ≡ Some (record { kind = kind; size = size; rest = drop (nul + 1) bytes }) → Some (kind, size, nul + 1) ≡ option_map head_of (loose_of bytes)
+head_at_place bytes kind size nul within e =
+    rw e (ap (λ (n : ℕ). Some (kind, size, n)) (head_at bytes kind size (nul + 1) (omega arith) (IsLoose-loose_of bytes _ e)))
+
+pub no_head : (found : Option LooseObject) → found ≡ None → None ≡ option_map head_of found
+no_head found e = rw e refl
+
+-- what is behind the header of an object that was found
+rest_is : (bytes : List ℕ) (o : LooseObject) → loose_of bytes ≡ Some o → drop (length (header_of o.kind o.size)) bytes ≡ o.rest
+rest_is bytes o e =
+    let is = IsLoose-loose_of bytes o e in
+    ap (λ (xs : List ℕ). drop (length (header_of o.kind o.size)) xs) is.whole ∙ drop-append_seam (header_of o.kind o.size) o.rest
+
+module _ {E : Type 0} (error : E) (bytes : List ℕ) where
+  abbrev Read : Option LooseObject → Result (Kind × ℕ × ℕ) E
+  Read found = ok_or (option_map head_of found) error
+
+  found_at : (found : Option LooseObject) → loose_of bytes ≡ found → IfOk (Read found) (λ header. IsLoose bytes header.0 header.1 (drop header.2 bytes))
+  found_at None e = tt
+  found_at (Some o) e = subst (IsLoose bytes o.kind o.size) (sym (rest_is bytes o e)) (IsLoose-loose_of bytes o e)
+
+  pub read-found : IfOk (Read (loose_of bytes)) (λ header. IsLoose bytes header.0 header.1 (drop header.2 bytes))
+  read-found = found_at (loose_of bytes) refl
+
+  length_at : (found : Option LooseObject) → IfOk (Read found) (λ header. header.2 ≡ length (header_of header.0 header.1))
+  length_at None = tt
+  length_at (Some o) = refl
+
+  pub read-length : IfOk (Read (loose_of bytes)) (λ header. header.2 ≡ length (header_of header.0 header.1))
+  read-length = length_at (loose_of bytes)
+
+  within_at : (found : Option LooseObject) → loose_of bytes ≡ found → IfOk (Read found) (λ header. header.2 ≤ length bytes)
+  within_at None e = tt
+  within_at (Some o) e =
+      let long = ap length (IsLoose-loose_of bytes o e).whole ∙ length-append (header_of o.kind o.size) o.rest in
+      omega arith
+
+  pub read-within : IfOk (Read (loose_of bytes)) (λ header. header.2 ≤ length bytes)
+  read-within = within_at (loose_of bytes) refl
+
+  pub read-only : (kind : Kind) (size : ℕ) (rest : List ℕ) → IsLoose bytes kind size rest → Read (loose_of bytes) ≡ Ok (kind, size, length (header_of kind size))
+  read-only kind size rest is = rw (loose_of-IsLoose bytes kind size rest is) refl
+
+  invalid_at : (found : Option LooseObject) → loose_of bytes ≡ found → IsErr (Read found) ↔ ((kind : Kind) (size : ℕ) (rest : List ℕ) → ¬ (IsLoose bytes kind size rest))
+  invalid_at None e = (λ _. none-loose_of bytes e, λ _. refl)
+  invalid_at (Some o) e = (λ h. cc h, λ none. absurd (none o.kind o.size o.rest (IsLoose-loose_of bytes o e)))
+
+  pub read-invalid : IsErr (Read (loose_of bytes)) ↔ ((kind : Kind) (size : ℕ) (rest : List ℕ) → ¬ (IsLoose bytes kind size rest))
+  read-invalid = invalid_at (loose_of bytes) refl
+
+  exact_at : (found : Option LooseObject) → MatchOption found (IsErr (Read found)) (λ object. Read found ≡ Ok (head_of object))
+  exact_at None = refl
+  exact_at (Some o) = refl
+
+  pub read-exact : MatchOption (loose_of bytes) (IsErr (Read (loose_of bytes))) (λ object. Read (loose_of bytes) ≡ Ok (head_of object))
+  read-exact = exact_at (loose_of bytes)

@@ -1,109 +1,28 @@
--- Laws of loose objects: `loose_of` finds just what the grammar allows.
-use Rattle.std.proofs.Common.{◌≡◌, ◌≢◌, ℕ, zero, suc, ◌+◌, ◌-◌, ◌<◌, ◌≤◌, ◌^◌, ◌==◌, Bool, true, false, not, nat_lt, List, [], ◌∷◌, ◌++◌, length, take, drop, get_or, Option, Some, None, cond, ◌⊎◌, inl, inr, refl, sym, ap, ◌∙◌, subst, arith, append_assoc}
-use Rattle.std.specs.Prelude.{codes, option_and_then}
-use Rattle.std.specs.List.{list_all, position_or_len, before_first, after_first}
+-- The laws of loose objects: `loose_of` finds just what the grammar allows, and what is encoded is read back.
+use Rattle.std.specs.Prelude.{◌≡◌, ℕ, ◌+◌, ◌<◌, ◌≤◌, ◌^◌, ◌==◌, true, false, not, nat_lt, List, [], ◌∷◌, ◌++◌, length, take, drop, Option, Some, None, option_and_then, refl}
+use Rattle.std.proofs.Common.{inl, inr, sym, ap, ◌∙◌, subst, arith, append_assoc}
+use Rattle.std.specs.List.{position_or_len, before_first, after_first}
 use Rattle.std.specs.Str.{all_ascii_digits}
 use Rattle.std.specs.Char.{is_ascii_digit}
 use Rattle.std.specs.Fmt.{decimal}
-use Rattle.std.proofs.lemmas.Bool.{and_parts, cases_lt, eq-eqb, eqb-true}
+use Rattle.std.proofs.lemmas.Bool.{and_parts, cases_lt}
 use Rattle.std.proofs.lemmas.Grind.{common_steps}
-use Rattle.std.proofs.lemmas.Fmt.{digits_decimal}
+use Rattle.std.proofs.lemmas.Fmt.{digits_decimal, length-decimal-le}
 use Rattle.std.proofs.lemmas.List.{drop_all, length-append, length-take, length-take-le}
 use Rattle.std.proofs.lemmas.List.Folds.{list_all-append}
-use Rattle.std.proofs.lemmas.List.Sums.{split_at_first, passes_at_first}
-use Rattle.std.proofs.lemmas.Slice.Eq.{bytes_eq-Decides}
-use Rattle.std.proofs.Math.Seq.{take-append_seam, take-append-add, drop-append-add}
+use Rattle.std.proofs.Math.Seq.{take-append_seam, drop-append-add}
 use Rattle.odb_base.specs.Decimal.{number_of}
 use Rattle.odb_base.proofs.DecimalLemmas.{own, IsNumber-number_of, number_of-decimal, decimal-number_of, number_of-fits}
-use Rattle.odb_base.specs.Path.{same_name}
-use Rattle.gix_odb_world.specs.declared.object.Kind.{Kind}
-use Rattle.gix_odb_world.specs.declared.object.Kind.TheVariants.{Commit, Tree, Blob, Tag}
-use Rattle.gix_odb_world.specs.Loose.{IsLoose, LooseObject, header_of, kind_of_word, kind_word, loose_of, spelled}
+use Rattle.gix_object.specs.Kind.{kind_of_word, kind_word}
+use Rattle.gix_object.specs.Kind.Laws.{kind_of_word-kind_word, kind_word-kind_of_word}
+use Rattle.gix_object.specs.Loose.{IsLoose, LooseObject, header_of, loose_of, spelled}
+use Rattle.gix_object.specs.Loose.Place.{lacks, first_place, before_place, after_place, place_in_take, split_at_byte, take_place}
+use Rattle.gix_object.specs.declared.kind.Kind.{Kind}
+use Rattle.gix_object.specs.declared.kind.Kind.TheVariants.{Commit, Tree, Blob, Tag}
 
--- ---- the first place of a byte
+-- ---- a header
 
-abbrev lacks : ℕ → List ℕ → Bool
-lacks c text = list_all (λ b. not (b == c)) text
-
--- behind bytes without it
-pub first_place : (c : ℕ) (xs ys : List ℕ) → lacks c xs ≡ true → position_or_len (λ b. b == c) (xs ++ c ∷ ys) ≡ length xs
-first_place c [] ys h = rw (eq-eqb c c refl) refl
-first_place c (x ∷ xs) ys h =
-    let parts = and_parts (not (x == c)) (lacks c xs) h in
-    rw (parts.0, first_place c xs ys parts.1) (omega arith)
-
-pub before_place : (c : ℕ) (xs ys : List ℕ) → lacks c xs ≡ true → before_first (λ b. b == c) (xs ++ c ∷ ys) ≡ xs
-before_place c xs ys h = rw (first_place c xs ys h) (take-append_seam xs (c ∷ ys))
-
-pub after_place : (c : ℕ) (xs ys : List ℕ) → lacks c xs ≡ true → after_first (λ b. b == c) (xs ++ c ∷ ys) ≡ ys
-after_place c xs ys h = rw (first_place c xs ys h) (drop-append-add xs (c ∷ ys) 1)
-
-place_step : (here : Bool) (inner outer size : ℕ) → (inner < size → outer ≡ inner) → cond (not here) (1 + inner) 0 < suc size
-    → cond (not here) (1 + outer) 0 ≡ cond (not here) (1 + inner) 0
-place_step true inner outer size same lt = refl
-place_step false inner outer size same lt = ap (λ (n : ℕ). 1 + n) (same (omega arith))
-
--- a place among the first bytes is the place among all
-pub place_in_take : (c n : ℕ) (xs : List ℕ) → position_or_len (λ b. b == c) (take n xs) < length (take n xs)
-    → position_or_len (λ b. b == c) xs ≡ position_or_len (λ b. b == c) (take n xs)
-place_in_take c zero xs h = absurd (omega arith)
-place_in_take c (suc n) [] h = absurd (omega arith)
-place_in_take c (suc n) (x ∷ xs) h =
-    place_step (x == c) (position_or_len (λ b. b == c) (take n xs)) (position_or_len (λ b. b == c) xs) (length (take n xs)) (place_in_take c n xs) h
-
--- the first bytes hold the place of a byte that stands early enough
-pub take_place : (c n : ℕ) (xs ys : List ℕ) → length xs < n → (m : ℕ) × (take n (xs ++ c ∷ ys) ≡ xs ++ c ∷ take m ys)
-take_place c n xs ys h =
-    let split : n ≡ length xs + suc (n - length xs - 1) = omega arith in
-    (n - length xs - 1, ap (λ (k : ℕ). take k (xs ++ c ∷ ys)) split ∙ take-append-add xs (c ∷ ys) (suc (n - length xs - 1)))
-
--- ---- kinds
-
-pub kind_of_word-kind_word : (kind : Kind) → kind_of_word (kind_word kind) ≡ Some kind
-unfolding kind_of_word
-kind_of_word-kind_word Commit = refl
-kind_of_word-kind_word Tree = refl
-kind_of_word-kind_word Blob = refl
-kind_of_word-kind_word Tag = refl
-
-named : (word name : List ℕ) (kind : Kind) (others : Option Kind) (found : Kind) → cond (same_name word name) (Some kind) others ≡ Some found
-    → ((word ≡ name) × (kind ≡ found)) ⊎ (others ≡ Some found)
-named word name kind others found h = by_test (same_name word name) refl h
-  where
-    by_test : (same : Bool) → same_name word name ≡ same → cond same (Some kind) others ≡ Some found → ((word ≡ name) × (kind ≡ found)) ⊎ (others ≡ Some found)
-    by_test true e h = inl ((bytes_eq-Decides word name).0 e, cc h)
-    by_test false e h = inr h
-
-pub kind_word-kind_of_word : (word : List ℕ) (kind : Kind) → kind_of_word word ≡ Some kind → kind_word kind ≡ word
-unfolding kind_of_word
-kind_word-kind_of_word word kind h =
-    elim (named word (codes "commit") Commit _ kind h) [
-      | inl is ↦ rw (← is.1) (sym is.0)
-      | inr h1 ↦
-          elim (named word (codes "tree") Tree _ kind h1) [
-            | inl is ↦ rw (← is.1) (sym is.0)
-            | inr h2 ↦
-                elim (named word (codes "blob") Blob _ kind h2) [
-                  | inl is ↦ rw (← is.1) (sym is.0)
-                  | inr h3 ↦
-                      elim (named word (codes "tag") Tag _ kind h3) [
-                        | inl is ↦ rw (← is.1) (sym is.0)
-                        | inr h4 ↦ cc h4
-                      ]
-                ]
-          ]
-    ]
-
--- no other word names a kind
-pub kind_of_word-other : (word : List ℕ) → ((kind : Kind) → kind_word kind ≢ word) → kind_of_word word ≡ None
-kind_of_word-other word other = by_found (kind_of_word word) refl
-  where
-    by_found : (found : Option Kind) → kind_of_word word ≡ found → kind_of_word word ≡ None
-    by_found None e = e
-    by_found (Some kind) e = absurd (other kind (kind_word-kind_of_word word kind e))
-
--- ---- headers
-
+-- a word has no space and no NUL
 lacks_space : (kind : Kind) → lacks 32 (kind_word kind) ≡ true
 lacks_space Commit = refl
 lacks_space Tree = refl
@@ -153,12 +72,6 @@ bound : {A B : Type 0} (x : Option A) (f : A → Option B) (y : B) → option_an
 bound None f y h = cc h
 bound (Some a) f y h = (a, refl, h)
 
--- a byte's first place, with what stands before and behind it
-split_at_byte : (c : ℕ) (xs : List ℕ) → position_or_len (λ b. b == c) xs < length xs → xs ≡ before_first (λ b. b == c) xs ++ c ∷ after_first (λ b. b == c) xs
-split_at_byte c xs h =
-    let here : get_or xs (position_or_len (λ b. b == c) xs) 0 ≡ c = eqb-true _ c (passes_at_first (λ b. b == c) xs 0 h) in
-    subst (λ (b : ℕ). xs ≡ before_first (λ b. b == c) xs ++ b ∷ after_first (λ b. b == c) xs) here (split_at_first (λ b. b == c) xs 0 h)
-
 no_number : (size : ℕ) → number_of [] ≡ Some size → ⊥
 no_number size h = let is = IsNumber-number_of [] size h in cc
 
@@ -187,7 +100,7 @@ front-spelled front rest o h =
     let second = bound (number_of (after_first (λ b. b == 32) front)) _ o first.2 in
     front_parts front rest o first.0 second.0 first.1 second.1 second.2
 
--- ---- files
+-- ---- a file
 
 tested : (m n : ℕ) → m < n → nat_lt m n ≡ true
 tested m n h = grind (arith, h)
@@ -245,3 +158,36 @@ loose_of-IsLoose bytes kind size rest is =
 -- what isn't found is in no way in the file
 pub none-loose_of : (bytes : List ℕ) → loose_of bytes ≡ None → (kind : Kind) (size : ℕ) (rest : List ℕ) → ¬ (IsLoose bytes kind size rest)
 none-loose_of bytes h kind size rest is = cc (h, loose_of-IsLoose bytes kind size rest is)
+
+-- what is in no way in the file isn't found
+pub loose_of-outside : (bytes : List ℕ) → ((kind : Kind) (size : ℕ) (rest : List ℕ) → ¬ (IsLoose bytes kind size rest)) → loose_of bytes ≡ None
+loose_of-outside bytes outside = by_found (loose_of bytes) refl
+  where
+    by_found : (found : Option LooseObject) → loose_of bytes ≡ found → loose_of bytes ≡ None
+    by_found None e = e
+    by_found (Some o) e = absurd (outside o.kind o.size o.rest (IsLoose-loose_of bytes o e))
+
+-- ---- what is encoded
+
+length-kind_word : (kind : Kind) → length (kind_word kind) ≤ 6
+length-kind_word Commit = omega arith
+length-kind_word Tree = omega arith
+length-kind_word Blob = omega arith
+length-kind_word Tag = omega arith
+
+-- a header has at most 28 bytes: a word of 6, a space, 20 digits and NUL
+pub length-header_of-fits : (kind : Kind) (size : ℕ) → size < 2 ^ 64 → length (header_of kind size) ≤ 28
+length-header_of-fits kind size fits =
+    let digits = length-decimal-le 20 size (omega arith) (omega arith) fits in
+    let word = length-kind_word kind in
+    omega (arith, length-header_of kind size, length-append (kind_word kind) (32 ∷ decimal size))
+
+-- a header and what follows it are in the grammar
+pub IsLoose-header_of : (kind : Kind) (size : ℕ) (rest : List ℕ) → size < 2 ^ 64 → IsLoose (header_of kind size ++ rest) kind size rest
+IsLoose-header_of kind size rest fits =
+    record { whole = refl; fits = fits; early = omega (arith, length-header_of-fits kind size fits) }
+
+-- what is encoded is read back, whatever follows
+pub loose_of-header_of : (kind : Kind) (size : ℕ) (rest : List ℕ) → size < 2 ^ 64
+    → loose_of (header_of kind size ++ rest) ≡ Some (record { kind = kind; size = size; rest = rest })
+loose_of-header_of kind size rest fits = loose_of-IsLoose _ kind size rest (IsLoose-header_of kind size rest fits)

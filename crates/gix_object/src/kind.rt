@@ -1,6 +1,5 @@
-//! What objects are.
 ghost use Rattle.std.specs.Prelude.{◌≡◌, Some};
-ghost use Rattle.gix_odb_world.specs.Loose.{kind_of_word, kind_word};
+ghost use Rattle.gix_object.specs.Kind.{kind_of_word, kind_word};
 
 use std::fmt;
 
@@ -15,7 +14,7 @@ pub enum Kind {
 
 impl Kind {
     /// The kind that a word names: `commit`, `tree`, `blob` or `tag`.
-    #[tactic(auto, unfolding(crate::specs::Loose::kind_of_word))]
+    #[tactic(auto, unfolding(crate::specs::Kind::kind_of_word))]
     pub fn from_bytes(word: &[u8]) -> Option<Kind>
         ensures { result ≡ kind_of_word word.now }
     {
