@@ -6,3 +6,4 @@ pub mod Line
 pub mod Script
 pub mod Print
 pub mod Session
+pub mod Status

@@ -110,6 +110,14 @@ pub record Law (first : Volume) (past : List Event) (e : Event) : Type 0 where
 abbrev pub IsLawful : Volume → List Event → Type 0
 IsLawful first events = (place : ℕ) (e : Event) → slice_get events place ≡ Some e → Law first (take place events) e
 
+-- A run is what these events come to: their outcomes and records, each event lawful after those before it, and
+-- the disk after the last one.
+pub record IsRun (first : Volume) (events : List Event) (run : Run) : Type 0 where
+  pub outcomes_are : map (λ e. e.outcome) events ≡ run.outcomes
+  pub records_are : map (λ e. e.entry) events ≡ run.records
+  pub lawful : IsLawful first events
+  pub disk : run.disk ≡ disk_after first events
+
 -- The theorem about a run of steps from a disk.
 pub record Headline (first : Volume) (steps : List Step) (run : Run) : Type 0 where
   pub events : List Event

@@ -41,7 +41,7 @@ impl World {
             play_line(alloc, &mut world, &mut steps, line)?;
             last.push(steps.len() - 1)?;
         }
-        let run = world.into_run();
+        let run = world.finish();
         Ok(Play { run, steps, last })
     }
 }

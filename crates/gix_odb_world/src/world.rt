@@ -3,7 +3,7 @@ ghost use Rattle.odb_disk.specs.Ask.{answer_now};
 ghost use Rattle.odb_disk.specs.MemDisk.{Volume, after_call};
 ghost use Rattle.gix_odb_world.specs.Event.{Event};
 ghost use Rattle.gix_odb_world.specs.Valid.{why_not_after};
-ghost use Rattle.gix_odb_world.specs.Headline.{Headline};
+ghost use Rattle.gix_odb_world.specs.Headline.{Headline, IsRun};
 ghost use Rattle.gix_odb_world.specs.Order.{ask_of, reply_of};
 ghost use Rattle.gix_odb_world.specs.World.{Explains, GoesOn, Continues, handle_at};
 ghost use Rattle.gix_odb_world.specs.Table.{HasOneMore, Nears, Notes, SetsHandle, after_reply, did_of, phase_of_handle, with_work, why_not_now};
@@ -79,17 +79,10 @@ impl World {
         self.last_outcome(alloc)
     }
 
-    /// The run of the steps so far.
+    /// The run of the steps so far. Every history that leads to the world is its own.
     pub fn finish(self) -> Run
         ensures headline { (first : Volume) (events : List Event) → Explains first events self → Headline first (map (λ e. e.step) events) result }
-    {
-        self.into_run()
-    }
-
-    /// The same, which has the outcomes of the world.
-    pub(crate) fn into_run(self) -> Run
-        ensures headline { (first : Volume) (events : List Event) → Explains first events self → Headline first (map (λ e. e.step) events) result }
-        ensures outcomes { result.outcomes ≡ self.outcomes }
+        ensures run { (first : Volume) (events : List Event) → Explains first events self → IsRun first events result }
     {
         let World {
             disk,

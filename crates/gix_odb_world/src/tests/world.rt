@@ -164,14 +164,13 @@ fn finds_the_empty_blob(rt: HostRuntime) -> Result<(), Fail> {
     Ok(())
 }
 
-/// The outcome of the last step, where each is made by hand.
+/// The outcome of the last step of a run.
 fn last_outcome(alloc: Global, disk: MemDisk, acts: &[Act]) -> Result<Outcome, Fail> {
-    let mut world = World::new(alloc, disk);
-    let mut last = Outcome::Pending;
-    for act in acts {
-        last = world.step(alloc, &step_of(alloc, *act)?)?;
+    let run = World::run(alloc, disk, steps_of(alloc, acts)?.as_slice())?;
+    match run.outcomes.as_slice() {
+        [.., last] => Ok(last.try_clone(alloc)?),
+        [] => Ok(Outcome::Pending),
     }
-    Ok(last)
 }
 
 // An error of one kind of file that is given for another, or whose fields are lost in a copy.
