@@ -1,2 +1,3 @@
 pub mod ObjectIdLemmas
+pub mod HashLemmas
 mod CallLemmas

@@ -1,7 +1,7 @@
-ghost use Rattle.std.specs.Prelude.{◌≡◌};
+ghost use Rattle.std.specs.Prelude.{◌≡◌, ◌<◌};
 ghost use Rattle.gix_hash.specs.ObjectId.{id_cmp};
 
-use crate::{HexError, Kind, ObjectId};
+use crate::{Hasher, HexError, Kind, ObjectId};
 use std::cmp::Ordering;
 use std::test::Fail;
 
@@ -132,6 +132,49 @@ fn prints_kinds(rt: HostRuntime) -> Result<(), Fail> {
             null.as_bytes().iter().all(|byte| *byte == 0),
             "{name}: null"
         );
+    }
+    Ok(())
+}
+
+/// The id of bytes that are handed over in pieces of at most `most` bytes.
+fn hashed(kind: Kind, bytes: &[u8], most: usize) -> ObjectId
+    requires { 0 < most }
+{
+    let mut hasher = Hasher::new(kind);
+    for piece in bytes.chunks(most) {
+        hasher.update(piece);
+    }
+    hasher.finalize()
+}
+
+// A hasher that loses bytes between two pieces, or is of the other kind. The ids are what `sha1sum` and
+// `sha256sum` print of nothing, of `abc`, and of 200 times `a`.
+#[test]
+fn hashes_in_pieces(rt: HostRuntime) -> Result<(), Fail> {
+    let rows: [(&[u8], &str, &str); 3] = [
+        (
+            b"",
+            "da39a3ee5e6b4b0d3255bfef95601890afd80709",
+            "e3b0c44298fc1c149afbf4c8996fb92427ae41e4649b934ca495991b7852b855",
+        ),
+        (
+            b"abc",
+            "a9993e364706816aba3e25717850c26c9cd0d89d",
+            "ba7816bf8f01cfea414140de5dae2223b00361a396177a9cb410ff61f20015ad",
+        ),
+        (
+            &[b'a'; 200],
+            "e61cfffe0d9195a525fc6cf06ca2d77119c24a40",
+            "c2a908d98f5df987ade41b5fce213067efbcc21ef2240212a41e54b5e7c28ae5",
+        ),
+    ];
+    for (bytes, sha1, sha256) in rows {
+        for most in [1, 7, 64, 1000] {
+            let first = hashed(Kind::Sha1, bytes, most).to_hex(rt.alloc())?;
+            assert_eq!(rt; first.as_str(), sha1, "pieces of {most}");
+            let second = hashed(Kind::Sha256, bytes, most).to_hex(rt.alloc())?;
+            assert_eq!(rt; second.as_str(), sha256, "pieces of {most}");
+        }
     }
     Ok(())
 }

@@ -1,0 +1,5 @@
+mod HeaderLemmas
+mod IdExamples
+mod LooseExamples
+mod SinkLemmas
+mod SourceLemmas

@@ -1,0 +1,12 @@
+use Rattle.std.proofs.Common.{arith}
+use Rattle.gix_object.proofs.SourceLemmas.{ReadSoFar-more, Takes-ReadSoFar}
+use Rattle.gix_object.proofs.tests.shelf.read_whole.Goals as goal
+
+-- bytes that there is no memory for were read
+pub returns-in_err-extend_from_slice-clause-drawn :
+    goal.returns-in_err-extend_from_slice-clause-drawn
+returns-in_err-extend_from_slice-clause-drawn g c =
+    record {
+      taken = Takes-ReadSoFar _ _ _ (ReadSoFar-more _ _ _ _ _ _ c.reading.invariant.0 c.in_ok-count.ensures.bytes);
+      later = omega (arith, c.in_ok-count.ensures.cause.later, c.reading.invariant.1);
+    }

@@ -1,0 +1,5 @@
+pub mod Kind
+pub mod Loose
+pub mod Id
+pub mod Data
+pub mod Stream

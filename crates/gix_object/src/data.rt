@@ -1,0 +1,17 @@
+use crate::Kind;
+
+/// An object that was found: its kind and its data, without the header.
+#[derive(Clone, Copy, Debug, PartialEq, Eq, PartialOrd, Ord, Hash)]
+pub struct Data<'a> {
+    pub kind: Kind,
+    /// The hash of the database that it was found in.
+    pub object_hash: gix_hash::Kind,
+    pub bytes: &'a [u8],
+}
+
+/// What the header of an object tells: its kind, and the size of its data in bytes.
+#[derive(Clone, Copy, Debug, PartialEq, Eq, PartialOrd, Ord, Hash)]
+pub struct Header {
+    pub kind: Kind,
+    pub size: u64,
+}

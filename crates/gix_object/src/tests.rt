@@ -1,0 +1,5 @@
+mod databases;
+mod front;
+mod headers;
+mod ids;
+mod shelf;
