@@ -1,0 +1,2 @@
+mod LoosePathLemmas
+mod RunLemmas
