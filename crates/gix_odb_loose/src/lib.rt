@@ -14,6 +14,8 @@ mod call;
 pub mod find;
 mod reply;
 mod store;
+#[cfg(test)]
+mod tests;
 
 pub use call::{LooseAsk, LooseCall, LooseJob, LooseReply, Stage};
 pub use store::{Options, Store};
