@@ -115,13 +115,16 @@ abbrev pub header_from : Path → Result LooseObject Flaw → Result (Option (�
 header_from path (Err flaw) = Err (flaw_error path flaw)
 header_from path (Ok object) = Ok (Some (object.size, object.kind))
 
--- What a read gave is judged by the file's bytes. Nothing at the path is a not-found; a failed call, a wrong kind and
--- a link loop are errors.
+-- A read that gave no file: nothing at the path is a not-found; a failed call, a wrong kind and a link loop are errors.
+abbrev pub unread_by : {A : Type 0} → Path → DiskAnswer → Result (Option A) Error
+unread_by path (answers.Refused disk_errors.Absent) = Ok None
+unread_by path (answers.Refused disk_errors.NoMemory) = Err errors.NoMemory
+unread_by path answer = Err (unreadable path)
+
+-- A file is judged by its bytes.
 abbrev pub read_by : {A : Type 0} → (List ℕ → Result (Option A) Error) → Path → DiskAnswer → Result (Option A) Error
 read_by from path (answers.File bytes time) = from bytes
-read_by from path (answers.Refused disk_errors.Absent) = Ok None
-read_by from path (answers.Refused disk_errors.NoMemory) = Err errors.NoMemory
-read_by from path answer = Err (unreadable path)
+read_by from path answer = unread_by path answer
 
 abbrev pub object_in : Path → Option ℕ → List ℕ → Result (Option (Kind × List ℕ)) Error
 object_in path limit bytes = object_from path limit (spelled_in bytes)

@@ -1,6 +1,6 @@
 //! What is made of the answer of the disk. Nothing else decides.
 ghost use Rattle.std.specs.Prelude.{◌≡◌, ◌≤◌, ◌↔◌, ℕ, List, length, drop, IfOk, IfErr, IsTrue};
-ghost use Rattle.gix_odb_loose.specs.LooseOrder.{tested_by, found_by, header_by, object_from, header_from, spelled_in, flaw_error, is_above};
+ghost use Rattle.gix_odb_loose.specs.LooseOrder.{tested_by, found_by, header_by, object_from, header_from, spelled_in, unread_by, flaw_error, is_above};
 ghost use Rattle.gix_odb_loose.specs.LooseOrder.{unreadable as unreadable_at};
 
 use crate::find::{Action, Error};
@@ -38,9 +38,7 @@ pub fn found(
 {
     match answer {
         DiskAnswer::File { bytes, .. } => object_in(path, limit, bytes),
-        DiskAnswer::Refused(DiskError::Absent) => Ok(None),
-        DiskAnswer::Refused(DiskError::NoMemory) => Err(Error::NoMemory),
-        _ => Err(unreadable(path)),
+        other => unread(path, &other),
     }
 }
 
@@ -50,6 +48,15 @@ pub fn headed(path: PathText, answer: &DiskAnswer) -> Result<Option<(u64, Kind)>
 {
     match answer {
         DiskAnswer::File { bytes, .. } => header_in(path, bytes.as_slice()),
+        other => unread(path, other),
+    }
+}
+
+// The answer to a read that gave no file.
+fn unread<T>(path: PathText, answer: &DiskAnswer) -> Result<Option<T>, Error>
+    ensures { result ≡ unread_by path answer.now }
+{
+    match answer {
         DiskAnswer::Refused(DiskError::Absent) => Ok(None),
         DiskAnswer::Refused(DiskError::NoMemory) => Err(Error::NoMemory),
         _ => Err(unreadable(path)),

@@ -56,5 +56,6 @@ fn finds_on_a_real_disk(rt: HostRuntime) -> Result<(), Fail> {
         assert_eq!(rt; told.as_str(), want, "{node}");
     }
     assert_eq!(rt; disk.faults(), 3);
+    fs::remove_file(&rt, NAME)?;
     Ok(())
 }
