@@ -1,2 +1,3 @@
+mod LooseExamples
 mod LoosePathLemmas
 mod RunLemmas

@@ -12,6 +12,8 @@ use Rattle.gix_odb_loose.specs.LooseFile.{Reading}
 use Rattle.gix_odb_loose.specs.declared.find.Error.{Error}
 use Rattle.gix_odb_loose.specs.declared.find.Error.TheVariants as errors
 use Rattle.gix_odb_loose.specs.declared.find.Action.TheVariants.{OpenOrMap}
+use Rattle.gix_odb_loose.specs.declared.call.LooseJob.{LooseJob}
+use Rattle.gix_odb_loose.specs.declared.call.LooseJob.TheVariants as jobs
 
 -- some read of the object's path gave what has P
 abbrev pub Seen : (Reading → Type 0) → (Reading → Type 0) → Type 0
@@ -78,3 +80,9 @@ TestCause path Failed Wanting errors.Decode = ⊥
 TestCause path Failed Wanting (errors.OutOfMemory size) = ⊥
 TestCause path Failed Wanting (errors.Io action at) = (action ≡ OpenOrMap) × (at ≡ path) × Failed
 TestCause path Failed Wanting errors.NoMemory = Wanting
+
+-- What each error of a call says.
+abbrev pub Cause : LooseJob → (path : Path) (limit : Option ℕ) (Gave : Reading → Type 0) (Failed Wanting : Type 0) → Error → Type 0
+Cause (jobs.Contains id) path limit Gave Failed Wanting error = TestCause path Failed Wanting error
+Cause (jobs.Find id) path limit Gave Failed Wanting error = FindCause path limit Gave Failed Wanting error
+Cause (jobs.Header id) path limit Gave Failed Wanting error = HeaderCause path Gave Failed Wanting error

@@ -3,4 +3,5 @@ pub mod LooseFile
 pub mod Causes
 pub mod Answers
 pub mod LooseOrder
+pub mod Replies
 pub mod Runs

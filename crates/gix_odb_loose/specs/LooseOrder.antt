@@ -1,5 +1,7 @@
 -- The order of work of a call: which call of the disk comes next, and what is made of its answer.
-pub mod Laws
+pub mod FileLaws
+pub mod ReadLaws
+pub mod LookLaws
 use Rattle.std.specs.Prelude.{◌≡◌, ℕ, ◌==◌, Bool, true, false, nat_lt, List, [], ◌∷◌, length, Option, Some, None, Result, Ok, Err, if◌then◌else◌}
 use Rattle.odb_base.specs.Path.{Path}
 use Rattle.odb_disk.specs.declared.ask.DiskAsk.{DiskAsk}
