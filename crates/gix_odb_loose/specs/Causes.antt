@@ -3,6 +3,7 @@
 -- `Gave read` says that a read of the object's path gave `read` in the call, `Failed` that a call of the disk failed
 -- in it, and `Wanting` that memory ran out. A store's call, the machine and a run over a changing tree each have
 -- their own.
+pub mod Laws
 use Rattle.std.specs.Prelude.{◌≡◌, ◌≢◌, ◌⊎◌, ℕ, ◌<◌, List, [], length, Option, Some, None, Ok, Err}
 use Rattle.odb_base.specs.Path.{Path}
 use Rattle.odb_disk.specs.Tree.Follow.{WrongKind, LinkLoop}

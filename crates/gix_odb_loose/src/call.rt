@@ -71,7 +71,7 @@ impl LooseCall {
             },
             LooseJob::Find(id) => Stage::Finding {
                 path: store.object_path(alloc, &id)?,
-                limit: store.options().alloc_limit_bytes,
+                limit: store.limit(),
             },
             LooseJob::Header(id) => Stage::Heading {
                 path: store.object_path(alloc, &id)?,

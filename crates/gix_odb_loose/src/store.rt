@@ -94,11 +94,11 @@ impl Store {
         self.object_hash
     }
 
-    /// The options that the store was made with.
-    pub fn options(&self) -> Options
-        ensures { result.alloc_limit_bytes ≡ store_limit self.now }
+    /// The most bytes that a found object may have, where there is a limit.
+    pub(crate) fn limit(&self) -> Option<u64>
+        ensures { result ≡ store_limit self.now }
     {
-        self.options
+        self.options.alloc_limit_bytes
     }
 
     /// The path of an object's file: `xx/rest` in the objects directory, the first two hex digits of the id and
