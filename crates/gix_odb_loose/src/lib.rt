@@ -17,5 +17,5 @@ mod store;
 #[cfg(test)]
 mod tests;
 
-pub use call::{LooseAsk, LooseCall, LooseJob, LooseReply, Stage};
+pub use call::{LooseAsk, LooseCall, LooseJob, LooseReply};
 pub use store::{Options, Store};
