@@ -104,8 +104,10 @@ impl LooseCall {
         }
     }
 
-    /// Takes the answer to the call of the disk that was asked for. Where this is refused the call is as it was,
-    /// and can be fed again. A call that is done stays as it is.
+    /// Takes the answer to the call of the disk that was asked for. Where this is refused, for want of memory, the
+    /// call is as it was and asks the same again. A call that is done stays as it is.
+    ///
+    /// An answer that the disk ran out of memory is no refusal: the reply says so.
     pub fn feed(&mut self, _alloc: Global, answer: DiskAnswer) -> Result<(), NoMemory>
         ensures fed { OnOk result (self.new ≡ fed_with self.old answer) }
         ensures refused { OnErr result (self.new ≡ self.old) }

@@ -1,14 +1,12 @@
-ghost use Rattle.std.specs.Prelude.{◌≡◌, ◌≤◌, ◌↔◌, ◌++◌, ◌∷◌, [], ⊤, true, None, IfOk, IfErr, IfSome, IsTrue};
+ghost use Rattle.std.specs.Prelude.{◌≡◌, ◌≤◌, ◌↔◌, ◌++◌, ◌∷◌, [], true, None, IfOk, IfErr, IfSome, IsTrue};
 ghost use Rattle.odb_base.specs.Path.{is_name};
 ghost use Rattle.odb_base.specs.Faults.{Rose};
 ghost use Rattle.odb_disk.specs.Tree.{tree_of};
-ghost use Rattle.odb_disk.specs.Tree.Follow.{read_of};
 ghost use Rattle.gix_hash.specs.ObjectId.{kind_of};
 ghost use Rattle.gix_object.specs.Data.{found_of};
 ghost use Rattle.gix_odb_loose.specs.Store.{store_path, store_hash, store_limit};
-ghost use Rattle.gix_odb_loose.specs.LooseFile.{loose_path, id_asked, HoldsObject, HoldsHeader, LeadsToFile};
-ghost use Rattle.gix_odb_loose.specs.Causes.{FindCause, HeaderCause, TestCause};
-ghost use Rattle.gix_odb_loose.specs.Answers.{AnswersRead, GaveIn};
+ghost use Rattle.gix_odb_loose.specs.LooseFile.{id_asked, LeadsToFile};
+ghost use Rattle.gix_odb_loose.specs.Answers.{path_in, Finds, TellsHeader, FindRefused, HeaderRefused, TestRefused};
 ghost use Rattle.gix_odb_loose.specs.LooseOrder.{started};
 ghost use Rattle.gix_odb_loose.specs.Runs.{ComesToReply};
 
@@ -105,7 +103,7 @@ impl Store {
     /// the others.
     pub fn object_path(&self, alloc: Global, id: &ObjectId) -> Result<PathText, NoMemory>
         requires { kind_of id.now ≡ store_hash self.now }
-        ensures { IfOk result (λ path. path ≡ loose_path (store_path self.now) id.now) }
+        ensures { IfOk result (λ path. path ≡ path_in self.now id.now) }
     {
         let hex = id.to_hex(alloc)?;
         prove!(id.as_bytes().len() > 1);
@@ -125,8 +123,10 @@ impl Store {
         id: &ObjectId,
     ) -> Result<bool, find::Error>
         requires { kind_of id.now ≡ store_hash self.now }
-        ensures answer { IfSome (D.state disk.old) (λ s. IfOk result (λ there. IsTrue there ↔ LeadsToFile (tree_of s) (loose_path (store_path self.now) id.now))) }
-        ensures cause { IfErr result (TestCause (loose_path (store_path self.now) id.now) (Rose (D.faults disk.old) (D.faults disk.new)) ⊤) }
+        ensures answer { IfSome (D.state disk.old) (λ s.
+            IfOk result (λ there. IsTrue there ↔ LeadsToFile (tree_of s) (path_in self.now id.now))) }
+        ensures cause { IfErr result
+            (TestRefused self.now id.now (Rose (D.faults disk.old) (D.faults disk.new))) }
         ensures kept { D.state disk.new ≡ D.state disk.old }
         ensures later { D.faults disk.old ≤ D.faults disk.new }
     {
@@ -149,8 +149,10 @@ impl Store {
         out: &'a mut Vec<u8>,
     ) -> Result<Option<Data<'a>>, find::Error>
         requires { kind_of id.now ≡ store_hash self.now }
-        ensures answer { IfSome (D.state disk.old) (λ s. AnswersRead (read_of (tree_of s) (loose_path (store_path self.now) id.now)) (λ bytes object. HoldsObject (store_limit self.now) bytes object.kind object.bytes) (Rose (D.faults disk.old) (D.faults disk.new)) (found_of result)) }
-        ensures cause { IfErr result (FindCause (loose_path (store_path self.now) id.now) (store_limit self.now) (GaveIn (D.state disk.old) (loose_path (store_path self.now) id.now)) (Rose (D.faults disk.old) (D.faults disk.new)) ⊤) }
+        ensures answer { IfSome (D.state disk.old) (λ s.
+            Finds self.now id.now s (Rose (D.faults disk.old) (D.faults disk.new)) (found_of result)) }
+        ensures cause { IfErr result
+            (FindRefused self.now id.now (D.state disk.old) (Rose (D.faults disk.old) (D.faults disk.new))) }
         ensures object_hash { IfOk result (λ found. IfSome found (λ object. object.object_hash ≡ store_hash self.now)) }
         ensures kept { D.state disk.new ≡ D.state disk.old }
         ensures later { D.faults disk.old ≤ D.faults disk.new }
@@ -182,8 +184,10 @@ impl Store {
         id: &ObjectId,
     ) -> Result<Option<(u64, Kind)>, find::Error>
         requires { kind_of id.now ≡ store_hash self.now }
-        ensures answer { IfSome (D.state disk.old) (λ s. AnswersRead (read_of (tree_of s) (loose_path (store_path self.now) id.now)) (λ bytes header. HoldsHeader bytes header.1 header.0) (Rose (D.faults disk.old) (D.faults disk.new)) result) }
-        ensures cause { IfErr result (HeaderCause (loose_path (store_path self.now) id.now) (GaveIn (D.state disk.old) (loose_path (store_path self.now) id.now)) (Rose (D.faults disk.old) (D.faults disk.new)) ⊤) }
+        ensures answer { IfSome (D.state disk.old) (λ s.
+            TellsHeader self.now id.now s (Rose (D.faults disk.old) (D.faults disk.new)) result) }
+        ensures cause { IfErr result
+            (HeaderRefused self.now id.now (D.state disk.old) (Rose (D.faults disk.old) (D.faults disk.new))) }
         ensures kept { D.state disk.new ≡ D.state disk.old }
         ensures later { D.faults disk.old ≤ D.faults disk.new }
     {
@@ -201,7 +205,8 @@ impl Store {
         job: LooseJob,
     ) -> Result<LooseReply, NoMemory>
         requires { kind_of (id_asked job) ≡ store_hash self.now }
-        ensures reply { IfOk result (ComesToReply (D.state disk.old) (D.faults disk.old) (D.faults disk.new) (started self.now job)) }
+        ensures reply { IfOk result
+            (ComesToReply (D.state disk.old) (D.faults disk.old) (D.faults disk.new) (started self.now job)) }
         ensures kept { D.state disk.new ≡ D.state disk.old }
         ensures later { D.faults disk.old ≤ D.faults disk.new }
     {
