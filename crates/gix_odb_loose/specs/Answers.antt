@@ -1,4 +1,4 @@
--- What a call of a store answers, where the disk tells its tree.
+-- What a call of a store answers, by what the tree shows where the disk tells it.
 use Rattle.std.specs.Prelude.{⊤, ◌≡◌, ℕ, List, Option, Some, None, Result, Ok, Err, IfSome}
 use Rattle.odb_base.specs.Path.{Path}
 use Rattle.odb_disk.specs.Tree.{State, tree_of}

@@ -81,7 +81,7 @@ is_file nodes.File = true
 is_file nodes.Dir = false
 is_file nodes.Link = false
 
--- A file is a yes, a failed call is an error, and all else is a no.
+-- A file is a yes, a failed call is an error, want of memory is passed on, and all else is a no.
 abbrev pub tested_by : Path → DiskAnswer → Result Bool Error
 tested_by path (answers.Meta meta) = Ok (is_file meta.kind)
 tested_by path (answers.Refused disk_errors.Failed) = Err (unreadable path)
@@ -117,7 +117,8 @@ abbrev pub header_from : Path → Result LooseObject Flaw → Result (Option (�
 header_from path (Err flaw) = Err (flaw_error path flaw)
 header_from path (Ok object) = Ok (Some (object.size, object.kind))
 
--- A read that gave no file: nothing at the path is a not-found; a failed call, a wrong kind and a link loop are errors.
+-- A read that gave no file: nothing at the path is a not-found, want of memory is passed on; a failed call, a wrong kind
+-- and a link loop are errors.
 abbrev pub unread_by : {A : Type 0} → Path → DiskAnswer → Result (Option A) Error
 unread_by path (answers.Refused disk_errors.Absent) = Ok None
 unread_by path (answers.Refused disk_errors.NoMemory) = Err errors.NoMemory
