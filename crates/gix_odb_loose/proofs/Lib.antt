@@ -1,0 +1,3 @@
+mod LooseExamples
+mod LoosePathLemmas
+mod RunLemmas

@@ -1,0 +1,89 @@
+-- Why a call was refused: each `find::Error`, and what was seen where it is answered.
+--
+-- `Gave read` says that a read of the object's path gave `read` in the call, `Failed` that a call of the disk failed
+-- in it, and `Wanting` that memory ran out. A store's call, the machine and a run over a changing tree each have
+-- their own.
+pub mod Laws
+use Rattle.std.specs.Prelude.{◌≡◌, ◌≢◌, ◌⊎◌, ℕ, ◌<◌, List, [], length, Option, Some, None, Ok, Err}
+use Rattle.odb_base.specs.Path.{Path}
+use Rattle.odb_disk.specs.Tree.Follow.{WrongKind, LinkLoop}
+use Rattle.gix_object.specs.Loose.{IsLoose}
+use Rattle.gix_object.specs.declared.kind.Kind.{Kind}
+use Rattle.gix_odb_loose.specs.LooseFile.{Reading}
+use Rattle.gix_odb_loose.specs.declared.find.Error.{Error}
+use Rattle.gix_odb_loose.specs.declared.find.Error.TheVariants as errors
+use Rattle.gix_odb_loose.specs.declared.find.Action.TheVariants.{OpenOrMap}
+use Rattle.gix_odb_loose.specs.declared.call.LooseJob.{LooseJob}
+use Rattle.gix_odb_loose.specs.declared.call.LooseJob.TheVariants as jobs
+
+-- some read of the object's path gave what has P
+abbrev pub Seen : (Reading → Type 0) → (Reading → Type 0) → Type 0
+Seen Gave P = (read : Reading) × Gave read × P read
+
+-- a read gave the wrong kind, a link loop, or an empty file
+abbrev pub IsUnreadable : Reading → Type 0
+IsUnreadable read = (read ≡ Err WrongKind) ⊎ ((read ≡ Err LinkLoop) ⊎ ((time : ℕ) × (read ≡ Ok ([], time))))
+
+-- a read gave a file that isn't empty and begins with no header
+pub record HasNoHeader (read : Reading) : Type 0 where
+  pub bytes : List ℕ
+  pub time : ℕ
+  pub given : read ≡ Ok (bytes, time)
+  pub some : bytes ≢ []
+  pub none : (kind : Kind) (size : ℕ) (rest : List ℕ) → ¬ (IsLoose bytes kind size rest)
+
+-- a size is above the limit
+abbrev pub IsAbove : Option ℕ → ℕ → Type 0
+IsAbove None size = ⊥
+IsAbove (Some limit) size = limit < size
+
+-- a read gave a file whose header says a size above the limit
+pub record HasLargeSize (limit : Option ℕ) (size : ℕ) (read : Reading) : Type 0 where
+  pub bytes : List ℕ
+  pub time : ℕ
+  pub kind : Kind
+  pub rest : List ℕ
+  pub given : read ≡ Ok (bytes, time)
+  pub header : IsLoose bytes kind size rest
+  pub above : IsAbove limit size
+
+-- a read gave a file whose data have another length than its header says
+pub record HasOtherLength (expected actual : ℕ) (read : Reading) : Type 0 where
+  pub bytes : List ℕ
+  pub time : ℕ
+  pub kind : Kind
+  pub rest : List ℕ
+  pub given : read ≡ Ok (bytes, time)
+  pub header : IsLoose bytes kind expected rest
+  pub length_is : length rest ≡ actual
+  pub differs : actual ≢ expected
+
+-- What each error of a find says, of the path of the sought object.
+abbrev pub FindCause : (path : Path) (limit : Option ℕ) (Gave : Reading → Type 0) (Failed Wanting : Type 0) → Error → Type 0
+FindCause path limit Gave Failed Wanting (errors.SizeMismatch actual expected at) = (at ≡ path) × Seen Gave (HasOtherLength expected actual)
+FindCause path limit Gave Failed Wanting errors.Decode = Seen Gave HasNoHeader
+FindCause path limit Gave Failed Wanting (errors.OutOfMemory size) = Seen Gave (HasLargeSize limit size)
+FindCause path limit Gave Failed Wanting (errors.Io action at) = (action ≡ OpenOrMap) × (at ≡ path) × (Failed ⊎ Seen Gave IsUnreadable)
+FindCause path limit Gave Failed Wanting errors.NoMemory = Wanting
+
+-- What each error of a look for a header says. The size is only told, so it has no limit, and isn't compared.
+abbrev pub HeaderCause : (path : Path) (Gave : Reading → Type 0) (Failed Wanting : Type 0) → Error → Type 0
+HeaderCause path Gave Failed Wanting (errors.SizeMismatch actual expected at) = ⊥
+HeaderCause path Gave Failed Wanting errors.Decode = Seen Gave HasNoHeader
+HeaderCause path Gave Failed Wanting (errors.OutOfMemory size) = ⊥
+HeaderCause path Gave Failed Wanting (errors.Io action at) = (action ≡ OpenOrMap) × (at ≡ path) × (Failed ⊎ Seen Gave IsUnreadable)
+HeaderCause path Gave Failed Wanting errors.NoMemory = Wanting
+
+-- What each error of a test of presence says: only a call that failed is one.
+abbrev pub TestCause : (path : Path) (Failed Wanting : Type 0) → Error → Type 0
+TestCause path Failed Wanting (errors.SizeMismatch actual expected at) = ⊥
+TestCause path Failed Wanting errors.Decode = ⊥
+TestCause path Failed Wanting (errors.OutOfMemory size) = ⊥
+TestCause path Failed Wanting (errors.Io action at) = (action ≡ OpenOrMap) × (at ≡ path) × Failed
+TestCause path Failed Wanting errors.NoMemory = Wanting
+
+-- What each error of a call says.
+abbrev pub Cause : LooseJob → (path : Path) (limit : Option ℕ) (Gave : Reading → Type 0) (Failed Wanting : Type 0) → Error → Type 0
+Cause (jobs.Contains id) path limit Gave Failed Wanting error = TestCause path Failed Wanting error
+Cause (jobs.Find id) path limit Gave Failed Wanting error = FindCause path limit Gave Failed Wanting error
+Cause (jobs.Header id) path limit Gave Failed Wanting error = HeaderCause path Gave Failed Wanting error

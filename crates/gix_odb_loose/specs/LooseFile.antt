@@ -1,0 +1,68 @@
+-- Loose files: where the file of an object lies, and what its bytes hold as answers of calls.
+use Rattle.std.specs.Prelude.{◌≡◌, ℕ, ◌≤◌, List, [], ◌∷◌, ◌++◌, length, take, drop, Option, Some, None, Result, Ok}
+use Rattle.odb_base.specs.Path.{Path}
+use Rattle.odb_disk.specs.Tree.{Tree}
+use Rattle.odb_disk.specs.Tree.Follow.{Refusal, read_of}
+use Rattle.gix_hash.specs.ObjectId.{hex_of}
+use Rattle.gix_hash.specs.declared.object_id.ObjectId.{ObjectId}
+use Rattle.gix_object.specs.Loose.{IsLoose}
+use Rattle.gix_object.specs.declared.kind.Kind.{Kind}
+use Rattle.gix_odb_loose.specs.declared.call.LooseJob.{LooseJob}
+use Rattle.gix_odb_loose.specs.declared.call.LooseJob.TheVariants.{Contains, Find, Header}
+
+-- the path of an object's file below an objects directory: the first two hex digits, then the others
+unfoldable pub loose_path : Path → ObjectId → Path
+loose_path objects id = objects ++ take 2 (hex_of id) ∷ drop 2 (hex_of id) ∷ []
+
+-- the id that a call asks for
+abbrev pub id_asked : LooseJob → ObjectId
+id_asked (Contains id) = id
+id_asked (Find id) = id
+id_asked (Header id) = id
+
+-- what a read of a path gives: bytes and a time, or why there are none
+abbrev pub Reading : Type 0
+Reading = Result (List ℕ × ℕ) Refusal
+
+-- a read gives a file, and something holds of its bytes
+pub record Gives (read : Reading) (P : List ℕ → Type 0) : Type 0 where
+  pub bytes : List ℕ
+  pub time : ℕ
+  pub given : read ≡ Ok (bytes, time)
+  pub holds : P bytes
+
+-- a path of a tree leads to a file, links followed
+abbrev pub LeadsToFile : Tree → Path → Type 0
+LeadsToFile tree path = Gives (read_of tree path) (λ bytes. Unit {0})
+
+-- a size is within the limit, where there is one
+abbrev pub IsWithin : Option ℕ → ℕ → Type 0
+IsWithin None size = Unit {0}
+IsWithin (Some limit) size = size ≤ limit
+
+-- the bytes of a file hold an object: data as long as the header says, within the limit
+pub record HoldsObject (limit : Option ℕ) (bytes : List ℕ) (kind : Kind) (found : List ℕ) : Type 0 where
+  pub spelled : IsLoose bytes kind (length found) found
+  pub within : IsWithin limit (length found)
+
+-- the bytes of a file begin with a header, whatever follows
+pub record HoldsHeader (bytes : List ℕ) (kind : Kind) (size : ℕ) : Type 0 where
+  pub rest : List ℕ
+  pub spelled : IsLoose bytes kind size rest
+
+-- what a call may be answered with
+pub data Answer : Type 0 where
+  Object : (kind : Kind) (bytes : List ℕ) → Answer
+  HeaderOf : (kind : Kind) (size : ℕ) → Answer
+  Presence : Answer
+
+-- The bytes of a loose file hold an answer of a call. Any file answers that the object is there.
+abbrev pub Holds : Option ℕ → LooseJob → List ℕ → Answer → Type 0
+Holds limit (Contains id) bytes Presence = Unit {0}
+Holds limit (Find id) bytes (Object kind found) = HoldsObject limit bytes kind found
+Holds limit (Header id) bytes (HeaderOf kind size) = HoldsHeader bytes kind size
+Holds limit job bytes answer = ⊥
+
+-- the bytes of a loose file are sound for a call where they hold some answer of it
+abbrev pub IsSound : Option ℕ → LooseJob → List ℕ → Type 0
+IsSound limit job bytes = (answer : Answer) × Holds limit job bytes answer

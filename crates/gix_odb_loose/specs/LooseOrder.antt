@@ -1,0 +1,159 @@
+-- The order of work of a call: which call of the disk comes next, and what is made of its answer.
+pub mod FileLaws
+pub mod ReadLaws
+pub mod LookLaws
+use Rattle.std.specs.Prelude.{◌≡◌, ℕ, ◌==◌, Bool, true, false, nat_lt, List, [], ◌∷◌, length, Option, Some, None, Result, Ok, Err, if◌then◌else◌}
+use Rattle.odb_base.specs.Path.{Path}
+use Rattle.odb_disk.specs.declared.ask.DiskAsk.{DiskAsk}
+use Rattle.odb_disk.specs.declared.ask.DiskAsk.TheVariants as asks
+use Rattle.odb_disk.specs.declared.ask.DiskAnswer.{DiskAnswer}
+use Rattle.odb_disk.specs.declared.ask.DiskAnswer.TheVariants as answers
+use Rattle.odb_disk.specs.declared.disk.DiskError.TheVariants as disk_errors
+use Rattle.odb_disk.specs.declared.disk.Kind.{Kind as NodeKind}
+use Rattle.odb_disk.specs.declared.disk.Kind.TheVariants as nodes
+use Rattle.gix_object.specs.Loose.{LooseObject, loose_of}
+use Rattle.gix_object.specs.declared.kind.Kind.{Kind}
+use Rattle.gix_odb_loose.specs.LooseFile.{loose_path}
+use Rattle.gix_odb_loose.specs.Store.{store_path, store_limit}
+use Rattle.gix_odb_loose.specs.declared.store.Store.{Store}
+use Rattle.gix_odb_loose.specs.declared.find.Error.{Error}
+use Rattle.gix_odb_loose.specs.declared.find.Error.TheVariants as errors
+use Rattle.gix_odb_loose.specs.declared.find.Action.TheVariants.{OpenOrMap}
+use Rattle.gix_odb_loose.specs.declared.reply.Flaw.{Flaw}
+use Rattle.gix_odb_loose.specs.declared.reply.Flaw.TheVariants as flaws
+use Rattle.gix_odb_loose.specs.declared.call.LooseJob.{LooseJob}
+use Rattle.gix_odb_loose.specs.declared.call.LooseJob.TheVariants as jobs
+use Rattle.gix_odb_loose.specs.declared.call.LooseAsk.{LooseAsk}
+use Rattle.gix_odb_loose.specs.declared.call.LooseAsk.TheVariants as loose_asks
+use Rattle.gix_odb_loose.specs.declared.call.LooseReply.{LooseReply}
+use Rattle.gix_odb_loose.specs.declared.call.LooseReply.TheVariants as replies
+use Rattle.gix_odb_loose.specs.declared.call.LooseCall.{LooseCall}
+use Rattle.gix_odb_loose.specs.declared.call.Stage.{Stage}
+use Rattle.gix_odb_loose.specs.declared.call.Stage.TheVariants as stages
+
+-- ---- the stages of a call
+
+-- a new call has its one path, and has asked nothing
+abbrev pub first_stage : Store → LooseJob → Stage
+first_stage store (jobs.Contains id) = stages.Testing (loose_path (store_path store) id)
+first_stage store (jobs.Find id) = stages.Finding (loose_path (store_path store) id) (store_limit store)
+first_stage store (jobs.Header id) = stages.Heading (loose_path (store_path store) id)
+
+abbrev pub started : Store → LooseJob → LooseCall
+started store job = record { stage = first_stage store job }
+
+-- a test looks at the path, links followed; a find and a header read it
+abbrev pub stage_ask : Stage → Option DiskAsk
+stage_ask (stages.Testing path) = Some (asks.Look path true)
+stage_ask (stages.Finding path limit) = Some (asks.Read path)
+stage_ask (stages.Heading path) = Some (asks.Read path)
+stage_ask (stages.Done reply) = None
+
+abbrev pub stage_reply : Stage → Option LooseReply
+stage_reply (stages.Testing path) = None
+stage_reply (stages.Finding path limit) = None
+stage_reply (stages.Heading path) = None
+stage_reply (stages.Done reply) = Some reply
+
+-- the next call of the disk, if there is one; the reply, if the call is done
+abbrev pub disk_ask_of : LooseCall → Option DiskAsk
+disk_ask_of call = stage_ask call.stage
+
+abbrev pub reply_of : LooseCall → Option LooseReply
+reply_of call = stage_reply call.stage
+
+abbrev pub asked_at : Stage → LooseAsk
+asked_at (stages.Testing path) = loose_asks.Disk (asks.Look path true)
+asked_at (stages.Finding path limit) = loose_asks.Disk (asks.Read path)
+asked_at (stages.Heading path) = loose_asks.Disk (asks.Read path)
+asked_at (stages.Done reply) = loose_asks.Done reply
+
+abbrev pub ask_of : LooseCall → LooseAsk
+ask_of call = asked_at call.stage
+
+-- ---- what is made of an answer
+
+abbrev pub unreadable : Path → Error
+unreadable path = errors.Io OpenOrMap path
+
+abbrev pub is_file : NodeKind → Bool
+is_file nodes.File = true
+is_file nodes.Dir = false
+is_file nodes.Link = false
+
+-- A file is a yes, a failed call is an error, want of memory is passed on, and all else is a no.
+abbrev pub tested_by : Path → DiskAnswer → Result Bool Error
+tested_by path (answers.Meta meta) = Ok (is_file meta.kind)
+tested_by path (answers.Refused disk_errors.Failed) = Err (unreadable path)
+tested_by path (answers.Refused disk_errors.NoMemory) = Err errors.NoMemory
+tested_by path answer = Ok false
+
+-- the object that a file spells, or what it lacks: an empty file is told apart from one without a header
+abbrev pub spelled_or : Option LooseObject → Result LooseObject Flaw
+spelled_or None = Err flaws.NoHeader
+spelled_or (Some object) = Ok object
+
+abbrev pub spelled_in : List ℕ → Result LooseObject Flaw
+spelled_in [] = Err flaws.Empty
+spelled_in (byte ∷ bytes) = spelled_or (loose_of (byte ∷ bytes))
+
+abbrev pub flaw_error : Path → Flaw → Error
+flaw_error path flaws.Empty = unreadable path
+flaw_error path flaws.NoHeader = errors.Decode
+
+abbrev pub is_above : Option ℕ → ℕ → Bool
+is_above None size = false
+is_above (Some limit) size = nat_lt limit size
+
+-- the limit is tested first, and then the length of the data
+abbrev pub object_from : Path → Option ℕ → Result LooseObject Flaw → Result (Option (Kind × List ℕ)) Error
+object_from path limit (Err flaw) = Err (flaw_error path flaw)
+object_from path limit (Ok object) =
+    if is_above limit object.size then Err (errors.OutOfMemory object.size)
+    else if length object.rest == object.size then Ok (Some (object.kind, object.rest))
+    else Err (errors.SizeMismatch (length object.rest) object.size path)
+
+abbrev pub header_from : Path → Result LooseObject Flaw → Result (Option (ℕ × Kind)) Error
+header_from path (Err flaw) = Err (flaw_error path flaw)
+header_from path (Ok object) = Ok (Some (object.size, object.kind))
+
+-- A read that gave no file: nothing at the path is a not-found, want of memory is passed on; a failed call, a wrong kind
+-- and a link loop are errors.
+abbrev pub unread_by : {A : Type 0} → Path → DiskAnswer → Result (Option A) Error
+unread_by path (answers.Refused disk_errors.Absent) = Ok None
+unread_by path (answers.Refused disk_errors.NoMemory) = Err errors.NoMemory
+unread_by path answer = Err (unreadable path)
+
+-- A file is judged by its bytes.
+abbrev pub read_by : {A : Type 0} → (List ℕ → Result (Option A) Error) → Path → DiskAnswer → Result (Option A) Error
+read_by from path (answers.File bytes time) = from bytes
+read_by from path answer = unread_by path answer
+
+abbrev pub object_in : Path → Option ℕ → List ℕ → Result (Option (Kind × List ℕ)) Error
+object_in path limit bytes = object_from path limit (spelled_in bytes)
+
+abbrev pub header_in : Path → List ℕ → Result (Option (ℕ × Kind)) Error
+header_in path bytes = header_from path (spelled_in bytes)
+
+abbrev pub found_by : Path → Option ℕ → DiskAnswer → Result (Option (Kind × List ℕ)) Error
+found_by path limit answer = read_by (object_in path limit) path answer
+
+abbrev pub header_by : Path → DiskAnswer → Result (Option (ℕ × Kind)) Error
+header_by path answer = read_by (header_in path) path answer
+
+-- a call is done after its one answer, and then stays as it is
+abbrev pub next_stage : Stage → DiskAnswer → Stage
+next_stage (stages.Testing path) answer = stages.Done (replies.Contains (tested_by path answer))
+next_stage (stages.Finding path limit) answer = stages.Done (replies.Found (found_by path limit answer))
+next_stage (stages.Heading path) answer = stages.Done (replies.Header (header_by path answer))
+next_stage (stages.Done reply) answer = stages.Done reply
+
+abbrev pub fed : LooseCall → DiskAnswer → LooseCall
+fed call answer = record { stage = next_stage call.stage answer }
+
+-- how many calls of the disk are still to come
+abbrev pub asks_left : Stage → ℕ
+asks_left (stages.Testing path) = 1
+asks_left (stages.Finding path limit) = 1
+asks_left (stages.Heading path) = 1
+asks_left (stages.Done reply) = 0

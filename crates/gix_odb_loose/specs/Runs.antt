@@ -1,0 +1,37 @@
+-- What a disk does to a call that asks it and leaves its tree as it is. No public clause cites this.
+use Rattle.std.specs.Prelude.{◌≡◌, ◌⊎◌, ℕ, Option, Some, IfSome}
+use Rattle.odb_base.specs.Faults.{Rose}
+use Rattle.odb_disk.specs.Ask.{AnswersAsk, answer_of}
+use Rattle.odb_disk.specs.Tree.{State, tree_of}
+use Rattle.odb_disk.specs.declared.ask.DiskAsk.{DiskAsk}
+use Rattle.odb_disk.specs.declared.ask.DiskAnswer.{DiskAnswer}
+use Rattle.odb_disk.specs.declared.ask.DiskAnswer.TheVariants as answers
+use Rattle.odb_disk.specs.declared.disk.DiskError.TheVariants as disk_errors
+use Rattle.gix_odb_loose.specs.LooseOrder.{disk_ask_of, reply_of, fed}
+use Rattle.gix_odb_loose.specs.declared.call.LooseCall.{LooseCall}
+use Rattle.gix_odb_loose.specs.declared.call.LooseReply.{LooseReply}
+
+-- the disk gave this answer to an ask: its tree's, where it tells one; a failed call only where the count of faults rose
+pub record Gave (state : Option State) (before now : ℕ) (ask : DiskAsk) (given : DiskAnswer) : Type 0 where
+  pub told : IfSome state (λ s. AnswersAsk given (answer_of (tree_of s) ask))
+  pub failed : given ≡ answers.Refused disk_errors.Failed → Rose before now
+
+-- a call that was fed what the disk answered to its one ask
+pub record Led (state : Option State) (before now : ℕ) (call after : LooseCall) : Type 0 where
+  pub ask : DiskAsk
+  pub given : DiskAnswer
+  pub asked : disk_ask_of call ≡ Some ask
+  pub gave : Gave state before now ask given
+  pub is : after ≡ fed call given
+
+-- a call is as it was, or was led on
+abbrev pub Goes : Option State → ℕ → ℕ → LooseCall → LooseCall → Type 0
+Goes state before now call after = (after ≡ call) ⊎ Led state before now call after
+
+-- the reply that a call comes to
+pub record ComesToReply (state : Option State) (before now : ℕ) (call : LooseCall) (reply : LooseReply) : Type 0 where
+  pub ask : DiskAsk
+  pub given : DiskAnswer
+  pub asked : disk_ask_of call ≡ Some ask
+  pub gave : Gave state before now ask given
+  pub replied : reply_of (fed call given) ≡ Some reply

@@ -1,0 +1,185 @@
+//! A call of a store as a machine: it names a call of the disk, is fed the answer, and comes to a reply.
+ghost use Rattle.std.specs.Prelude.{◌≡◌, true, IfOk, OnOk, OnErr};
+ghost use Rattle.gix_hash.specs.ObjectId.{kind_of};
+ghost use Rattle.gix_odb_loose.specs.Store.{store_hash};
+ghost use Rattle.gix_odb_loose.specs.LooseFile.{id_asked};
+ghost use Rattle.gix_odb_loose.specs.LooseOrder.{started, ask_of, disk_ask_of, reply_of, next_stage};
+ghost use Rattle.gix_odb_loose.specs.LooseOrder.{fed as fed_with};
+
+use crate::{Store, find, reply};
+use gix_hash::ObjectId;
+use gix_object::Kind;
+use odb_base::{ByteList, NoMemory, PathText};
+use odb_disk::{DiskAnswer, DiskAsk};
+use std::alloc::Global;
+use std::mem;
+
+/// What is to be done, and with which object.
+#[derive(Debug, Drop, PartialEq, Eq)]
+pub enum LooseJob {
+    Contains(ObjectId),
+    Find(ObjectId),
+    Header(ObjectId),
+}
+
+/// What a call does next.
+#[derive(Debug, Drop, PartialEq, Eq)]
+pub enum LooseAsk {
+    /// It waits for the answer to a call of the disk.
+    Disk(DiskAsk),
+    Done(LooseReply),
+}
+
+/// What a call comes to.
+#[derive(Debug, Drop, PartialEq, Eq)]
+pub enum LooseReply {
+    Contains(Result<bool, find::Error>),
+    Found(Result<Option<(Kind, ByteList)>, find::Error>),
+    Header(Result<Option<(u64, Kind)>, find::Error>),
+}
+
+/// Where a call stands.
+#[derive(Debug, Drop, PartialEq, Eq)]
+pub enum Stage {
+    /// The path is to be looked at.
+    Testing { path: PathText },
+    /// The path is to be read for the whole object.
+    Finding { path: PathText, limit: Option<u64> },
+    /// The path is to be read for the header.
+    Heading { path: PathText },
+    Done(LooseReply),
+}
+
+/// A call of a store on its way.
+///
+/// `ask` names the next call of the disk, `feed` takes its answer, and so on until the call is done. The path of
+/// the object is made at the start and moved along.
+#[derive(Debug, Drop, PartialEq, Eq)]
+pub struct LooseCall {
+    stage: Stage,
+}
+
+impl LooseCall {
+    /// A new call. It asks nothing of the disk yet.
+    pub fn start(alloc: Global, store: &Store, job: LooseJob) -> Result<LooseCall, NoMemory>
+        requires { kind_of (id_asked job) ≡ store_hash store.now }
+        ensures { IfOk result (λ call. call ≡ started store.now job) }
+    {
+        let stage = match job {
+            LooseJob::Contains(id) => Stage::Testing {
+                path: store.object_path(alloc, &id)?,
+            },
+            LooseJob::Find(id) => Stage::Finding {
+                path: store.object_path(alloc, &id)?,
+                limit: store.limit(),
+            },
+            LooseJob::Header(id) => Stage::Heading {
+                path: store.object_path(alloc, &id)?,
+            },
+        };
+        Ok(LooseCall { stage })
+    }
+
+    /// What the call does next. A reply is copied: `into_reply` moves it out.
+    pub fn ask(&self, alloc: Global) -> Result<LooseAsk, NoMemory>
+        ensures { IfOk result (λ ask. ask ≡ ask_of self.now) }
+    {
+        match &self.stage {
+            Stage::Testing { path } => Ok(LooseAsk::Disk(look_at(alloc, path)?)),
+            Stage::Finding { path, .. } => Ok(LooseAsk::Disk(read_of(alloc, path)?)),
+            Stage::Heading { path } => Ok(LooseAsk::Disk(read_of(alloc, path)?)),
+            Stage::Done(reply) => Ok(LooseAsk::Done(reply.try_clone(alloc)?)),
+        }
+    }
+
+    /// The call of the disk that comes next; there is none where the call is done.
+    pub fn disk_ask(&self, alloc: Global) -> Result<Option<DiskAsk>, NoMemory>
+        ensures { IfOk result (λ ask. ask ≡ disk_ask_of self.now) }
+    {
+        match &self.stage {
+            Stage::Testing { path } => Ok(Some(look_at(alloc, path)?)),
+            Stage::Finding { path, .. } => Ok(Some(read_of(alloc, path)?)),
+            Stage::Heading { path } => Ok(Some(read_of(alloc, path)?)),
+            Stage::Done(_) => Ok(None),
+        }
+    }
+
+    /// Takes the answer to the call of the disk that was asked for. Where this is refused, for want of memory, the
+    /// call is as it was and asks the same again. A call that is done stays as it is.
+    ///
+    /// An answer that the disk ran out of memory is no refusal: the reply says so.
+    pub fn feed(&mut self, _alloc: Global, answer: DiskAnswer) -> Result<(), NoMemory>
+        ensures fed { OnOk result (self.new ≡ fed_with self.old answer) }
+        ensures refused { OnErr result (self.new ≡ self.old) }
+    {
+        let meanwhile = Stage::Done(LooseReply::Contains(Ok(false)));
+        let stage = mem::replace(&mut self.stage, meanwhile);
+        self.stage = led_on(stage, answer);
+        Ok(())
+    }
+
+    /// The reply, where the call is done.
+    pub fn into_reply(self) -> Option<LooseReply>
+        ensures { result ≡ reply_of self }
+    {
+        match self.stage {
+            Stage::Done(reply) => Some(reply),
+            _ => None,
+        }
+    }
+}
+
+impl LooseReply {
+    /// A copy of the reply.
+    pub fn try_clone(&self, alloc: Global) -> Result<LooseReply, NoMemory>
+        ensures { IfOk result (λ copy. copy ≡ self.now) }
+    {
+        match self {
+            LooseReply::Contains(Ok(there)) => Ok(LooseReply::Contains(Ok(*there))),
+            LooseReply::Contains(Err(error)) => {
+                Ok(LooseReply::Contains(Err(error.try_clone(alloc)?)))
+            }
+            LooseReply::Found(Ok(None)) => Ok(LooseReply::Found(Ok(None))),
+            LooseReply::Found(Ok(Some((kind, bytes)))) => Ok(LooseReply::Found(Ok(Some((
+                *kind,
+                bytes.try_clone(alloc)?,
+            ))))),
+            LooseReply::Found(Err(error)) => Ok(LooseReply::Found(Err(error.try_clone(alloc)?))),
+            LooseReply::Header(Ok(found)) => Ok(LooseReply::Header(Ok(*found))),
+            LooseReply::Header(Err(error)) => Ok(LooseReply::Header(Err(error.try_clone(alloc)?))),
+        }
+    }
+}
+
+// A stage after the answer to its ask.
+fn led_on(stage: Stage, answer: DiskAnswer) -> Stage
+    ensures { result ≡ next_stage stage answer }
+{
+    match stage {
+        Stage::Testing { path } => {
+            Stage::Done(LooseReply::Contains(reply::tested(path, &answer)))
+        }
+        Stage::Finding { path, limit } => {
+            Stage::Done(LooseReply::Found(reply::found(path, limit, answer)))
+        }
+        Stage::Heading { path } => Stage::Done(LooseReply::Header(reply::headed(path, &answer))),
+        Stage::Done(reply) => Stage::Done(reply),
+    }
+}
+
+fn look_at(alloc: Global, path: &PathText) -> Result<DiskAsk, NoMemory>
+    ensures { IfOk result (λ ask. ask ≡ DiskAsk.Look path.now true) }
+{
+    Ok(DiskAsk::Look {
+        path: path.try_clone(alloc)?,
+        follow: true,
+    })
+}
+
+fn read_of(alloc: Global, path: &PathText) -> Result<DiskAsk, NoMemory>
+    ensures { IfOk result (λ ask. ask ≡ DiskAsk.Read path.now) }
+{
+    Ok(DiskAsk::Read {
+        path: path.try_clone(alloc)?,
+    })
+}

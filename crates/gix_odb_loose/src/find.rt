@@ -1,0 +1,88 @@
+//! Why a loose object wasn't found.
+ghost use Rattle.std.specs.Prelude.{◌≡◌, codes, IfOk, Some};
+ghost use Rattle.gix_odb_loose.specs.declared.find.Error.TheVariants.{NoMemory as out_of_memory};
+
+use odb_base::{NoMemory, PathText};
+use std::alloc::Global;
+use std::fmt;
+use thiserror::Error;
+
+/// What was to be done with a file.
+#[derive(Clone, Copy, Debug, PartialEq, Eq, Hash)]
+pub enum Action {
+    OpenOrMap,
+}
+
+/// `open or map`.
+impl fmt::Display for Action {
+    ghost output = { λ action. Some (codes "open or map") };
+
+    fn fmt<W: fmt::Write>(&self, f: &mut fmt::Formatter<W>) -> fmt::Result {
+        f.pad(match self {
+            Action::OpenOrMap => "open or map",
+        })
+    }
+}
+
+/// Why a find, a look for a header or a test of presence was refused.
+#[derive(Debug, Drop, PartialEq, Eq, Error)]
+pub enum Error {
+    /// The data are longer or shorter than the header says. Lengths in bytes.
+    #[error("{path} has {actual} bytes of data, and {expected} by its header")]
+    SizeMismatch {
+        actual: u64,
+        expected: u64,
+        path: PathText,
+    },
+    /// The file begins with no header.
+    #[error("the loose object has no header")]
+    Decode,
+    /// The header says more bytes of data than the limit of the store allows.
+    #[error("an object of {size} bytes is above the limit")]
+    OutOfMemory {
+        size: u64,
+    },
+    /// A call of the disk failed; or, in a find or a look for a header, the path or a part of its way is of the
+    /// wrong kind or a link loop, or the file is empty.
+    #[error("could not {action} {path}")]
+    Io {
+        action: Action,
+        path: PathText,
+    },
+    #[error("out of memory")]
+    NoMemory,
+}
+
+impl From<NoMemory> for Error {
+    ghost from_gives = { λ _ e. e ≡ out_of_memory };
+
+    fn from(_: NoMemory) -> Self {
+        Error::NoMemory
+    }
+}
+
+impl Error {
+    /// A copy of the error.
+    pub fn try_clone(&self, alloc: Global) -> Result<Error, NoMemory>
+        ensures { IfOk result (λ copy. copy ≡ self.now) }
+    {
+        match self {
+            Error::SizeMismatch {
+                actual,
+                expected,
+                path,
+            } => Ok(Error::SizeMismatch {
+                actual: *actual,
+                expected: *expected,
+                path: path.try_clone(alloc)?,
+            }),
+            Error::Decode => Ok(Error::Decode),
+            Error::OutOfMemory { size } => Ok(Error::OutOfMemory { size: *size }),
+            Error::Io { action, path } => Ok(Error::Io {
+                action: *action,
+                path: path.try_clone(alloc)?,
+            }),
+            Error::NoMemory => Ok(Error::NoMemory),
+        }
+    }
+}

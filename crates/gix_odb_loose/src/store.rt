@@ -1,0 +1,235 @@
+ghost use Rattle.std.specs.Prelude.{◌≡◌, ◌≤◌, ◌↔◌, ◌++◌, ◌∷◌, [], true, None, IfOk, IfErr, IfSome, IsTrue};
+ghost use Rattle.odb_base.specs.Path.{is_name};
+ghost use Rattle.odb_base.specs.Faults.{Rose};
+ghost use Rattle.odb_disk.specs.Tree.{tree_of};
+ghost use Rattle.gix_hash.specs.ObjectId.{kind_of};
+ghost use Rattle.gix_object.specs.Data.{found_of};
+ghost use Rattle.gix_odb_loose.specs.Store.{store_path, store_hash, store_limit};
+ghost use Rattle.gix_odb_loose.specs.LooseFile.{id_asked, LeadsToFile};
+ghost use Rattle.gix_odb_loose.specs.Answers.{path_in, Finds, TellsHeader, FindRefused, HeaderRefused, TestRefused};
+ghost use Rattle.gix_odb_loose.specs.LooseOrder.{started};
+ghost use Rattle.gix_odb_loose.specs.Runs.{ComesToReply};
+
+use crate::{LooseCall, LooseJob, LooseReply, find};
+use gix_hash::ObjectId;
+use gix_object::{Data, Kind};
+use odb_base::{BadPath, NoMemory, PathText};
+use odb_disk::Disk;
+use std::alloc::Global;
+
+/// The options of a store. The default has no limit.
+#[derive(Clone, Copy, Debug, Default, PartialEq, Eq, Hash)]
+pub struct Options {
+    /// The most bytes of data that an object may have to be found, if there is a limit.
+    pub alloc_limit_bytes: Option<u64>,
+}
+
+/// A folder of loose objects. It keeps no file open and reads the folder anew at each call.
+#[derive(Debug, Drop, PartialEq, Eq)]
+pub struct Store {
+    path: PathText,
+    object_hash: gix_hash::Kind,
+    options: Options,
+}
+
+impl Store {
+    /// The store in an objects directory, for ids of one hash, without a limit. Nothing is read yet.
+    pub fn at(alloc: Global, path: &PathText, hash: gix_hash::Kind) -> Result<Store, NoMemory>
+        ensures path { IfOk result (λ store. store_path store ≡ path.now) }
+        ensures hash { IfOk result (λ store. store_hash store ≡ hash) }
+        ensures limit { IfOk result (λ store. store_limit store ≡ None) }
+    {
+        Store::at_opts(
+            alloc,
+            path,
+            hash,
+            Options {
+                alloc_limit_bytes: None,
+            },
+        )
+    }
+
+    /// The store in an objects directory, for ids of one hash. Nothing is read yet.
+    pub fn at_opts(
+        alloc: Global,
+        path: &PathText,
+        hash: gix_hash::Kind,
+        options: Options,
+    ) -> Result<Store, NoMemory>
+        ensures path { IfOk result (λ store. store_path store ≡ path.now) }
+        ensures hash { IfOk result (λ store. store_hash store ≡ hash) }
+        ensures limit { IfOk result (λ store. store_limit store ≡ options.alloc_limit_bytes) }
+    {
+        Ok(Store {
+            path: path.try_clone(alloc)?,
+            object_hash: hash,
+            options,
+        })
+    }
+
+    /// A copy of the store, equal to it.
+    pub fn try_clone(&self, alloc: Global) -> Result<Store, NoMemory>
+        ensures { IfOk result (λ store. store ≡ self.now) }
+    {
+        Ok(Store {
+            path: self.path.try_clone(alloc)?,
+            object_hash: self.object_hash,
+            options: self.options,
+        })
+    }
+
+    /// The objects directory.
+    pub fn path(&self) -> &PathText
+        ensures { result.now ≡ store_path self.now }
+    {
+        &self.path
+    }
+
+    /// The hash that ids are of.
+    pub fn object_hash(&self) -> gix_hash::Kind
+        ensures { result ≡ store_hash self.now }
+    {
+        self.object_hash
+    }
+
+    /// The most bytes that a found object may have, where there is a limit.
+    pub(crate) fn limit(&self) -> Option<u64>
+        ensures { result ≡ store_limit self.now }
+    {
+        self.options.alloc_limit_bytes
+    }
+
+    /// The path of an object's file: `xx/rest` in the objects directory, the first two hex digits of the id and
+    /// the others.
+    pub fn object_path(&self, alloc: Global, id: &ObjectId) -> Result<PathText, NoMemory>
+        requires { kind_of id.now ≡ store_hash self.now }
+        ensures { IfOk result (λ path. path ≡ path_in self.now id.now) }
+    {
+        let hex = id.to_hex(alloc)?;
+        prove!(id.as_bytes().len() > 1);
+        let (prefix, rest) = hex.as_str().split_at(2);
+        let folder = joined(alloc, &self.path, prefix)?;
+        joined(alloc, &folder, rest)
+    }
+
+    /// Whether the object has a file: whether its path leads to one, links followed.
+    ///
+    /// What else is there, or nothing, is a no. The only error beside want of memory is `Io`, and it says that a
+    /// call of the disk failed.
+    pub fn contains<D: Disk>(
+        &self,
+        alloc: Global,
+        disk: &mut D,
+        id: &ObjectId,
+    ) -> Result<bool, find::Error>
+        requires { kind_of id.now ≡ store_hash self.now }
+        ensures answer { IfSome (D.state disk.old) (λ s.
+            IfOk result (λ there. IsTrue there ↔ LeadsToFile (tree_of s) (path_in self.now id.now))) }
+        ensures cause { IfErr result
+            (TestRefused self.now id.now (Rose (D.faults disk.old) (D.faults disk.new))) }
+        ensures kept { D.state disk.new ≡ D.state disk.old }
+        ensures later { D.faults disk.old ≤ D.faults disk.new }
+    {
+        match self.run(alloc, disk, LooseJob::Contains(*id))? {
+            LooseReply::Contains(answer) => answer,
+            _ => unreachable!("a test replies whether the object is there"),
+        }
+    }
+
+    /// Finds an object, whose data are put into `out`, cleared before.
+    ///
+    /// None means that nothing is at the object's path. An empty file is `Io`, one without a header `Decode`, one
+    /// whose header says more than the limit `OutOfMemory`, and one with data of another length `SizeMismatch`, in
+    /// this order.
+    pub fn try_find<'a, D: Disk>(
+        &self,
+        alloc: Global,
+        disk: &mut D,
+        id: &ObjectId,
+        out: &'a mut Vec<u8>,
+    ) -> Result<Option<Data<'a>>, find::Error>
+        requires { kind_of id.now ≡ store_hash self.now }
+        ensures answer { IfSome (D.state disk.old) (λ s.
+            Finds self.now id.now s (Rose (D.faults disk.old) (D.faults disk.new)) (found_of result)) }
+        ensures cause { IfErr result
+            (FindRefused self.now id.now (D.state disk.old) (Rose (D.faults disk.old) (D.faults disk.new))) }
+        ensures object_hash { IfOk result (λ found. IfSome found (λ object. object.object_hash ≡ store_hash self.now)) }
+        ensures kept { D.state disk.new ≡ D.state disk.old }
+        ensures later { D.faults disk.old ≤ D.faults disk.new }
+    {
+        out.clear();
+        match self.run(alloc, disk, LooseJob::Find(*id))? {
+            LooseReply::Found(Ok(Some((kind, bytes)))) => {
+                *out = bytes.into_vec();
+                Ok(Some(Data {
+                    kind,
+                    object_hash: self.object_hash,
+                    bytes: out.as_slice(),
+                }))
+            }
+            LooseReply::Found(Ok(None)) => Ok(None),
+            LooseReply::Found(Err(error)) => Err(error),
+            _ => unreachable!("a find replies what was found"),
+        }
+    }
+
+    /// The size in bytes and the kind that the header of an object's file says. The data aren't looked at: they may
+    /// be of another length, and the limit doesn't count.
+    ///
+    /// None means that nothing is at the object's path. An empty file is `Io`, and one without a header `Decode`.
+    pub fn try_header<D: Disk>(
+        &self,
+        alloc: Global,
+        disk: &mut D,
+        id: &ObjectId,
+    ) -> Result<Option<(u64, Kind)>, find::Error>
+        requires { kind_of id.now ≡ store_hash self.now }
+        ensures answer { IfSome (D.state disk.old) (λ s.
+            TellsHeader self.now id.now s (Rose (D.faults disk.old) (D.faults disk.new)) result) }
+        ensures cause { IfErr result
+            (HeaderRefused self.now id.now (D.state disk.old) (Rose (D.faults disk.old) (D.faults disk.new))) }
+        ensures kept { D.state disk.new ≡ D.state disk.old }
+        ensures later { D.faults disk.old ≤ D.faults disk.new }
+    {
+        match self.run(alloc, disk, LooseJob::Header(*id))? {
+            LooseReply::Header(answer) => answer,
+            _ => unreachable!("a look for a header replies a header"),
+        }
+    }
+
+    // The reply of a call, whose asks are carried out one after another.
+    fn run<D: Disk>(
+        &self,
+        alloc: Global,
+        disk: &mut D,
+        job: LooseJob,
+    ) -> Result<LooseReply, NoMemory>
+        requires { kind_of (id_asked job) ≡ store_hash self.now }
+        ensures reply { IfOk result
+            (ComesToReply (D.state disk.old) (D.faults disk.old) (D.faults disk.new) (started self.now job)) }
+        ensures kept { D.state disk.new ≡ D.state disk.old }
+        ensures later { D.faults disk.old ≤ D.faults disk.new }
+    {
+        let mut call = LooseCall::start(alloc, self, job)?;
+        'asks: while let Some(ask) = call.disk_ask(alloc)? {
+            let answer = ask.carry_out(alloc, disk);
+            call.feed(alloc, answer)?;
+        }
+        match call.into_reply() {
+            Some(reply) => Ok(reply),
+            None => unreachable!("a call without an ask has its reply"),
+        }
+    }
+}
+
+// A path with hex digits as one more name.
+fn joined(alloc: Global, path: &PathText, digits: &str) -> Result<PathText, NoMemory>
+    requires { is_name digits.now ≡ true }
+    ensures { IfOk result (λ joined. joined ≡ path.now ++ digits.now ∷ []) }
+{
+    match path.join(alloc, digits) {
+        Ok(path) => Ok(path),
+        Err(BadPath::NoMemory) => Err(NoMemory),
+        Err(BadPath::Malformed) => unreachable!("hex digits are a name"),
+    }
+}
