@@ -1,4 +1,5 @@
 mod PathLemmas
 mod JoinedPathLemmas
+mod PathHeadLemmas
 pub mod DecimalLemmas
 mod ParseLemmas

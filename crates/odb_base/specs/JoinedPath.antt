@@ -1,6 +1,7 @@
 -- A path as one text: its names, each behind a NUL, which no name holds.
 use Rattle.std.specs.Prelude.{◌≡◌, ℕ, ◌==◌, true, false, List, ◌∷◌, ◌++◌, drop, Option, Some, None, if◌then◌else◌, map}
 use Rattle.std.specs.List.{slice_split, list_all, flat_map, starts_with}
+use Rattle.std.specs.Int.{w64, from_be_bytes}
 use Rattle.odb_base.specs.Path.{Path, is_name, same_name}
 
 -- the text of a path's names
@@ -15,6 +16,10 @@ names_joined text = drop 1 (slice_split (λ b. b == 0) text)
 pub record IsJoined (text : List ℕ) : Type 0 where
   pub whole : text ≡ joined (names_joined text)
   pub are_names : list_all is_name (names_joined text) ≡ true
+
+-- the number that the first eight bytes of a text are, the first one the highest; missing bytes count as zeros
+unfoldable pub head_of : List ℕ → ℕ
+head_of text = from_be_bytes w64 text
 
 -- a text with a slash in the place of each NUL
 unfoldable pub slashed : List ℕ → List ℕ

@@ -3,7 +3,7 @@ ghost use Rattle.std.specs.Option.{option_copied};
 ghost use Rattle.std.specs.List.{slice_split, list_all, starts_with};
 ghost use Rattle.std.specs.String.{string_bytes};
 ghost use Rattle.odb_base.specs.Path.{is_name, extension_of, HasSameFirst};
-ghost use Rattle.odb_base.specs.JoinedPath.{joined, slashed};
+ghost use Rattle.odb_base.specs.JoinedPath.{joined, slashed, head_of};
 ghost use Rattle.odb_base.specs.declared.path.BadPath.TheVariants.{NoMemory as out_of_memory};
 
 use crate::NoMemory;
@@ -51,28 +51,42 @@ impl<T: Drop> From<AllocFailed<T>> for BadPath {
 /// The empty list is the root, `/`.
 ///
 /// The names stand in one text, each behind a NUL: the order of these texts by their bytes is that of paths, name by name.
+///
+/// The first eight bytes of the text stand beside it as a number, the head: the first byte is the highest, and missing ones are zeros.
+/// Where two heads differ, the paths are in the order of their heads. Only where they are equal is the text read, which lies elsewhere in memory.
 #[derive(Debug, Drop)]
 pub struct PathText {
+    head: u64,
     joined: String,
 }
 
 impl Model for PathText {
-    ghost use Rattle.std.specs.Prelude.{List, ℕ};
+    ghost use Rattle.std.specs.Prelude.{◌≡◌, List, ℕ};
     ghost use Rattle.std.specs.String.{string_bytes};
-    ghost use Rattle.odb_base.specs.JoinedPath.{names_joined, IsJoined};
+    ghost use Rattle.odb_base.specs.JoinedPath.{names_joined, head_of, IsJoined};
 
     ghost Value = { List (List ℕ) };
 
     ghost view = { λ path. names_joined (string_bytes path.joined) };
 
-    ghost invariant = { λ path. IsJoined (string_bytes path.joined) };
+    ghost invariant = { λ path. IsJoined (string_bytes path.joined) × (path.head ≡ head_of (string_bytes path.joined)) };
 }
 
 impl PathText {
     ghost use Rattle.odb_base.specs.Path.{is_name, same_name, text_of, path_of, parent_of, last_name, extension_of, IsCommonFront};
-    ghost use Rattle.odb_base.specs.JoinedPath.{joined, IsBehind};
+    ghost use Rattle.odb_base.specs.JoinedPath.{joined, names_joined, IsJoined, IsBehind};
     ghost use Rattle.std.specs.List.{list_all, starts_with};
     ghost use Rattle.std.specs.Prelude.{true, map, option_and_then};
+    ghost use Rattle.std.specs.String.{string_bytes};
+
+    /// The path of a text.
+    fn of(joined: String) -> PathText
+        requires { IsJoined (string_bytes joined) }
+        ensures { result ≡ names_joined (string_bytes joined) }
+    {
+        let head = head_of(&joined);
+        PathText { head, joined }
+    }
 
     /// The path of a list of names, each of which is tested. `room` is the length of its text.
     fn from_names(alloc: Global, texts: &[&str], room: usize) -> Result<PathText, BadPath>
@@ -87,16 +101,14 @@ impl PathText {
             }
             push_name(&mut joined, text)?;
         }
-        Ok(PathText { joined })
+        Ok(PathText::of(joined))
     }
 
     /// The root, which takes no memory.
     pub fn root(alloc: Global) -> PathText
         ensures { result ≡ [] }
     {
-        PathText {
-            joined: String::new(alloc),
-        }
+        PathText::of(String::new(alloc))
     }
 
     /// The path that a text spells.
@@ -132,7 +144,7 @@ impl PathText {
         let mut joined = String::with_capacity(alloc, room)?;
         joined.push_str(&self.joined)?;
         push_name(&mut joined, name)?;
-        Ok(PathText { joined })
+        Ok(PathText::of(joined))
     }
 
     /// The path with the names of another behind its own.
@@ -143,7 +155,7 @@ impl PathText {
         let mut joined = String::with_capacity(alloc, room)?;
         joined.push_str(&self.joined)?;
         joined.push_str(&rest.joined)?;
-        Ok(PathText { joined })
+        Ok(PathText::of(joined))
     }
 
     /// The directory that the path lies in: the path without its last name. The root lies in none.
@@ -152,9 +164,7 @@ impl PathText {
     {
         match self.joined.rsplit_once('\0') {
             None => Ok(None),
-            Some((before, _)) => Ok(Some(PathText {
-                joined: String::from_str(alloc, before)?,
-            })),
+            Some((before, _)) => Ok(Some(PathText::of(String::from_str(alloc, before)?))),
         }
     }
 
@@ -192,7 +202,7 @@ impl PathText {
             push_name(&mut joined, name)?;
             shared += 1;
         }
-        Ok(PathText { joined })
+        Ok(PathText::of(joined))
     }
 
     /// Whether the path is the root, which has no names.
@@ -216,9 +226,7 @@ impl PathText {
     {
         match self.behind(base) {
             None => Ok(None),
-            Some(rest) => Ok(Some(PathText {
-                joined: String::from_str(alloc, rest)?,
-            })),
+            Some(rest) => Ok(Some(PathText::of(String::from_str(alloc, rest)?))),
         }
     }
 
@@ -258,9 +266,7 @@ impl PathText {
     pub fn try_clone(&self, alloc: Global) -> Result<PathText, NoMemory>
         ensures { IfOk result (λ path. path ≡ self.now) }
     {
-        Ok(PathText {
-            joined: String::from_str(alloc, &self.joined)?,
-        })
+        Ok(PathText::of(String::from_str(alloc, &self.joined)?))
     }
 }
 
@@ -273,7 +279,7 @@ impl PartialEq for PathText {
     ghost eq = { pointwise same_name };
 
     fn eq(&self, other: &PathText) -> bool {
-        self.joined.as_bytes() == other.joined.as_bytes()
+        self.head == other.head && self.joined.as_str() == other.joined.as_str()
     }
 
     ghost laws = { partial_equiv_from_equiv (lists_equiv nat_list_eq_equiv) };
@@ -315,7 +321,10 @@ impl Ord for PathText {
     ghost matches_eq = { lists_ties (slice_cmp nat_cmp) texts_ties };
 
     fn cmp(&self, other: &PathText) -> Ordering {
-        self.joined.as_bytes().cmp(other.joined.as_bytes())
+        match self.head.cmp(&other.head) {
+            Ordering::Equal => self.joined.as_str().cmp(other.joined.as_str()),
+            apart => apart,
+        }
     }
 }
 
@@ -335,6 +344,21 @@ impl fmt::Display for PathText {
             rest = more;
         }
         write!(f, "{rest}")
+    }
+}
+
+/// The number that the first eight bytes of a text are, the first one the highest. Missing bytes count as zeros.
+fn head_of(text: &str) -> u64
+    ensures { result ≡ head_of text.now }
+{
+    let bytes = text.as_bytes();
+    match bytes.first_chunk::<8>() {
+        Some(first) => u64::from_be_bytes(*first),
+        None => {
+            let mut first = [0; 8];
+            first[..bytes.len()].copy_from_slice(bytes);
+            u64::from_be_bytes(first)
+        }
     }
 }
 

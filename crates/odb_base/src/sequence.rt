@@ -82,3 +82,22 @@ impl<T> Sequence<T> {
         self.items.push(item)
     }
 }
+
+impl<T: PartialEq> PartialEq for Sequence<T> {
+    ghost use Rattle.std.specs.Cmp.Lexicographic.{lists_per};
+    ghost use lib.Pointwise.{pointwise};
+
+    ghost eq = { pointwise T.eq };
+
+    fn eq(&self, other: &Sequence<T>) -> bool {
+        self.as_slice() == other.as_slice()
+    }
+
+    ghost laws = { lists_per T.laws };
+}
+
+impl<T: Eq> Eq for Sequence<T> {
+    ghost use Rattle.std.specs.Cmp.Lexicographic.{lists_equiv};
+
+    ghost laws = { lists_equiv T.Eq.laws };
+}

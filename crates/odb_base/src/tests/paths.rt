@@ -84,7 +84,22 @@ fn last_names_and_extensions(rt: HostRuntime) -> Result<(), Fail> {
 #[test]
 fn paths_in_order(rt: HostRuntime) -> Result<(), Fail> {
     let alloc = rt.alloc();
-    let texts = ["/", "/a", "/a/b", "/a/b/c", "/a.b", "/b"];
+    let texts = [
+        "/",
+        "/a",
+        "/a/b",
+        "/a/b/c",
+        "/a.b",
+        "/abcdef",
+        "/abcdef/a",
+        "/abcdefg",
+        "/abcdefg/a",
+        "/abcdefgh",
+        "/abcdefghi",
+        "/abcdefh",
+        "/b",
+        "/é",
+    ];
     for pair in texts.windows(2) {
         if let [first, second] = pair {
             let first = PathText::parse(alloc, first)?;

@@ -17,11 +17,11 @@ loop-name-preserved c =
       same = next ∙ ap (λ f. f ++ c.in-Some.name.now ∷ []) c.loop-name.invariant.same ∙ sym (other_next _ _ _ _ (both c));
     }
 
-pub invariant_of-result : goal.invariant_of-result
-invariant_of-result c = is_joined _ _ c.loop-name.invariant.taken (all_taken _ _ c.names.ensures.are_names)
+pub of-requires : goal.of-requires
+of-requires c = is_joined _ _ c.loop-name.invariant.taken (all_taken _ _ c.names.ensures.are_names)
 
 pub returns : goal.returns
 returns c =
     let apart : HasSameFirst (drop c.loop-name.shared c.args.self.now) (drop c.loop-name.shared c.args.other.now) None =
     rw (← c.in_ok-own.ensures.value, ← c.in_ok-its.ensures.value, ← c.deref.ensures.value, ← c.deref-in-loop-name.ensures.value) c.in_default.ensures in
-    rw (names_in _ _ c.loop-name.invariant.taken (all_taken _ _ c.names.ensures.are_names)) (is_common _ _ _ c.loop-name.invariant.same apart)
+    rw (c.of.ensures, names_in _ _ c.loop-name.invariant.taken (all_taken _ _ c.names.ensures.are_names)) (is_common _ _ _ c.loop-name.invariant.same apart)

@@ -21,11 +21,11 @@ loop-text-preserved c =
       are_names = rw (more) (names-push so_far _ c.loop-text.invariant.are_names (sym c.if-not-is_name.ensures));
     }
 
-pub invariant_of-result : goal.invariant_of-result
-invariant_of-result c = is_joined _ _ c.loop-text.invariant.taken c.loop-text.invariant.are_names
+pub of-requires : goal.of-requires
+of-requires c = is_joined _ _ c.loop-text.invariant.taken c.loop-text.invariant.are_names
 
 pub returns-clause-path : goal.returns-clause-path
-returns-clause-path c = names_in _ _ c.loop-text.invariant.taken c.loop-text.invariant.are_names ∙ texts-all c.args.texts.now c.loop-text.text-index c.loop-text-test.false
+returns-clause-path c = c.of.ensures ∙ names_in _ _ c.loop-text.invariant.taken c.loop-text.invariant.are_names ∙ texts-all c.args.texts.now c.loop-text.text-index c.loop-text-test.false
 
 pub returns-clause-are_names : goal.returns-clause-are_names
-returns-clause-are_names c = ap (list_all is_name) (names_in _ _ c.loop-text.invariant.taken c.loop-text.invariant.are_names) ∙ c.loop-text.invariant.are_names
+returns-clause-are_names c = ap (list_all is_name) (c.of.ensures ∙ names_in _ _ c.loop-text.invariant.taken c.loop-text.invariant.are_names) ∙ c.loop-text.invariant.are_names

@@ -6,7 +6,7 @@ use Rattle.odb_base.proofs.path.PathText.names.Goals as goal
 pub returns-in-None-clause-value : goal.returns-in-None-clause-value
 returns-in-None-clause-value c =
     let none = strip_prefix_char 0 _ None c.in-None.ensures.cases (lit< tt) in
-    let root = names_none c.args.self.now (λ rest e. none rest (c.deref.ensures ∙ whole_text _ _ c.self.view_is c.self.invariant ∙ e)) in
+    let root = names_none c.args.self.now (λ rest e. none rest (c.deref.ensures ∙ whole_text _ _ c.self.view_is c.self.invariant.0 ∙ e)) in
     ap (map (λ name. name.now)) c.new.ensures.items ∙ sym root
 
 pub returns-in_ok-names_in-in-Some-clause-value : goal.returns-in_ok-names_in-in-Some-clause-value
