@@ -1,11 +1,16 @@
 -- From the answers of a look and a read to those of a call that is given as a value.
 use Rattle.std.specs.Prelude.{if◌then◌else◌}
-use Rattle.std.proofs.Common.{◌≡◌, ◌≢◌, true, false, ℕ, Bool, List, Option, Some, None, Result, Ok, Err, IfSome, refl, sym, ap, subst}
+use Rattle.std.specs.Result.{result_ok}
+use Rattle.std.proofs.Common.{◌≡◌, ◌≢◌, true, false, ℕ, Bool, List, Option, Some, None, Result, Ok, Err, IfSome, OnOk, OnErr, refl, sym, ap, ◌∙◌, subst, cond}
 use Rattle.odb_base.specs.Path.{Path}
 use Rattle.odb_disk.specs.Tree.{Tree, State, tree_of}
 use Rattle.odb_disk.specs.Tree.Follow.{Refusal, looked, read_of}
-use Rattle.odb_disk.specs.Disk.{Answers}
-use Rattle.odb_disk.specs.Ask.{meta_answer, file_answer, told_look, told_read, answer_of, AnswersAsk}
+use Rattle.odb_disk.specs.Tree.Write as writing
+use Rattle.odb_disk.specs.Tree.Write.{change_of_make_dir, change_of_new_file, change_of_append, change_of_rename, change_of_remove, done, written, written_as}
+use Rattle.odb_disk.specs.Disk.{Answers, AnswersWrite}
+use Rattle.odb_disk.specs.MemDisk.{Volume, after_call, next_fails}
+use Rattle.odb_disk.specs.Ask.{meta_answer, file_answer, write_answer, told_look, told_read, told_write, answer_of, change_of_ask, state_after, state_told_after, after_ask, AnswersAsk, ran_out}
+use Rattle.odb_disk.specs.declared.change.Change.{Change}
 use Rattle.odb_disk.specs.declared.disk.Meta.{Meta}
 use Rattle.odb_disk.specs.declared.disk.DiskError.{DiskError}
 use Rattle.odb_disk.specs.declared.disk.DiskError.TheVariants as errors
@@ -13,6 +18,7 @@ use Rattle.odb_disk.specs.declared.ask.DiskAsk.{DiskAsk}
 use Rattle.odb_disk.specs.declared.ask.DiskAsk.TheVariants as asks
 use Rattle.odb_disk.specs.declared.ask.DiskAnswer.{DiskAnswer}
 use Rattle.odb_disk.specs.declared.ask.DiskAnswer.TheVariants as answers
+use Rattle.odb_disk.proofs.MemDiskLemmas.{after_call-state}
 
 look_told : (r : Result Meta DiskError) (told : Result Meta Refusal) → Answers r told → AnswersAsk (told_look r) (meta_answer told)
 look_told (Ok found) told is = ap meta_answer (sym is)
@@ -58,6 +64,7 @@ pub answered_by : (fails : Bool) (answer told : DiskAnswer) → AnswersAsk answe
 answered_by true answer told is failed listed some = listed refl
 answered_by false (answers.Meta found) told is failed listed some = is
 answered_by false (answers.File bytes time) told is failed listed some = is
+answered_by false answers.Done told is failed listed some = is
 answered_by false (answers.Refused errors.Absent) told is failed listed some = is
 answered_by false (answers.Refused errors.WrongKind) told is failed listed some = is
 answered_by false (answers.Refused errors.LinkLoop) told is failed listed some = is
@@ -65,3 +72,160 @@ answered_by false (answers.Refused errors.Exists) told is failed listed some = i
 answered_by false (answers.Refused errors.NotEmpty) told is failed listed some = is
 answered_by false (answers.Refused errors.Failed) told is failed listed some = absurd (cc (failed refl))
 answered_by false (answers.Refused errors.NoMemory) told is failed listed some = absurd (some refl)
+
+-- ---- a call that writes
+
+-- what a call asks of a tree: its answer and its change are those of a word
+pub record Asks (t : Tree) (ask : DiskAsk) (told : Result Change writing.Refusal) : Type 0 where
+  pub answers_by : answer_of t ask ≡ write_answer told
+  pub changes_by : change_of_ask t ask ≡ result_ok told
+
+module _ (t : Tree) (ask : DiskAsk) where
+  pub asks_make_dir : (path : Path) → ask ≡ asks.MakeDir path → Asks t ask (change_of_make_dir t path)
+  unfolding answer_of change_of_ask
+  asks_make_dir path is = record { answers_by = ap (answer_of t) is; changes_by = ap (change_of_ask t) is }
+
+  pub asks_new_file : (path : Path) → ask ≡ asks.NewFile path → Asks t ask (change_of_new_file t path)
+  unfolding answer_of change_of_ask
+  asks_new_file path is = record { answers_by = ap (answer_of t) is; changes_by = ap (change_of_ask t) is }
+
+  pub asks_append : (path : Path) (bytes slice : List ℕ) → ask ≡ asks.Append path bytes → slice ≡ bytes → Asks t ask (change_of_append t path slice)
+  unfolding answer_of change_of_ask
+  asks_append path bytes slice is same = record {
+    answers_by = ap (answer_of t) is ∙ ap (λ b. write_answer (change_of_append t path b)) (sym same);
+    changes_by = ap (change_of_ask t) is ∙ ap (λ b. result_ok (change_of_append t path b)) (sym same);
+  }
+
+  pub asks_rename : (from to : Path) → ask ≡ asks.Rename from to → Asks t ask (change_of_rename t from to)
+  unfolding answer_of change_of_ask
+  asks_rename from to is = record { answers_by = ap (answer_of t) is; changes_by = ap (change_of_ask t) is }
+
+  pub asks_remove : (path : Path) → ask ≡ asks.Remove path → Asks t ask (change_of_remove t path)
+  unfolding answer_of change_of_ask
+  asks_remove path is = record { answers_by = ap (answer_of t) is; changes_by = ap (change_of_ask t) is }
+
+done_answer : (told : Result Change writing.Refusal) → write_answer (done told) ≡ write_answer told
+done_answer (Ok change) = refl
+done_answer (Err refusal) = refl
+
+write_told : (r : Result (Unit {0}) DiskError) (told : Result Change writing.Refusal) → AnswersWrite r (done told) → AnswersAsk (told_write r) (write_answer told)
+write_told (Ok x) told is = ap write_answer (sym is) ∙ done_answer told
+write_told (Err errors.Absent) told is = ap write_answer (sym is) ∙ done_answer told
+write_told (Err errors.WrongKind) told is = ap write_answer (sym is) ∙ done_answer told
+write_told (Err errors.LinkLoop) told is = ap write_answer (sym is) ∙ done_answer told
+write_told (Err errors.Exists) told is = ap write_answer (sym is) ∙ done_answer told
+write_told (Err errors.NotEmpty) told is = ap write_answer (sym is) ∙ done_answer told
+write_told (Err errors.Failed) told is = tt
+write_told (Err errors.NoMemory) told is = tt
+
+module _ (ask : DiskAsk) (answer : DiskAnswer) (r : Result (Unit {0}) DiskError) (answered : answer ≡ told_write r) where
+  pub carried_write : (t : Tree) (told : Result Change writing.Refusal) → Asks t ask told → AnswersWrite r (done told) → AnswersAsk answer (answer_of t ask)
+  carried_write t told a is = subst (λ q. AnswersAsk q (answer_of t ask)) (sym answered) (subst (AnswersAsk (told_write r)) (sym a.answers_by) (write_told r told is))
+
+  pub carried_state : (s new : State) (told : Result Change writing.Refusal) → Asks (tree_of s) ask told → OnOk r (Some new ≡ Some (written s (result_ok told))) → OnErr r (Some new ≡ Some s) → new ≡ state_after s ask answer
+  carried_state s new told a made kept = by_result r made kept ∙ ap (state_after s ask) (sym answered)
+    where
+      by_result : (q : Result (Unit {0}) DiskError) → OnOk q (Some new ≡ Some (written s (result_ok told))) → OnErr q (Some new ≡ Some s) → new ≡ state_after s ask (told_write q)
+      by_result (Ok x) ok err = let same : new ≡ written s (result_ok told) = cc in same ∙ ap (written s) (sym a.changes_by)
+      by_result (Err e) ok err = let same : new ≡ s = cc in same
+
+  -- the same where the disk may not tell its state
+  module _ (o : Option State) (change_in : Tree → Result Change writing.Refusal) (a : (t : Tree) → Asks t ask (change_in t)) where
+    pub carried_write_told : IfSome o (λ s. AnswersWrite r (done (change_in (tree_of s)))) → IfSome o (λ s. AnswersAsk answer (answer_of (tree_of s) ask))
+    carried_write_told is = by_state o is
+      where
+        by_state : (p : Option State) → IfSome p (λ s. AnswersWrite r (done (change_in (tree_of s)))) → IfSome p (λ s. AnswersAsk answer (answer_of (tree_of s) ask))
+        by_state None is = tt
+        by_state (Some s) is = carried_write (tree_of s) (change_in (tree_of s)) (a (tree_of s)) is
+
+    pub carried_state_told : (new : Option State) → OnOk r (new ≡ written_as change_in o) → OnErr r (new ≡ o) → new ≡ state_told_after o ask answer
+    carried_state_told new made kept = by_result r made kept ∙ ap (state_told_after o ask) (sym answered)
+      where
+        done_told : (p : Option State) → written_as change_in p ≡ state_told_after p ask answers.Done
+        done_told None = refl
+        done_told (Some s) = ap (λ c. Some (written s c)) (sym (a (tree_of s)).changes_by)
+
+        kept_told : (p : Option State) (e : DiskError) → p ≡ state_told_after p ask (answers.Refused e)
+        kept_told None e = refl
+        kept_told (Some s) e = refl
+
+        by_result : (q : Result (Unit {0}) DiskError) → OnOk q (new ≡ written_as change_in o) → OnErr q (new ≡ o) → new ≡ state_told_after o ask (told_write q)
+        by_result (Ok x) ok err = ok ∙ done_told o
+        by_result (Err e) ok err = err ∙ kept_told o e
+
+-- a look and a read leave the state as it was
+module _ (ask : DiskAsk) (o new : Option State) (same : new ≡ o) where
+  pub looked_state : (answer : DiskAnswer) (r : Result Meta DiskError) → answer ≡ told_look r → new ≡ state_told_after o ask answer
+  looked_state answer r is = same ∙ by_state o r ∙ ap (state_told_after o ask) (sym is)
+    where
+      by_state : (p : Option State) (q : Result Meta DiskError) → p ≡ state_told_after p ask (told_look q)
+      by_state None q = refl
+      by_state (Some s) (Ok found) = refl
+      by_state (Some s) (Err e) = refl
+
+  pub read_state : (answer : DiskAnswer) (r : Result (List ℕ × ℕ) DiskError) → answer ≡ told_read r → new ≡ state_told_after o ask answer
+  read_state answer r is = same ∙ by_state o r ∙ ap (state_told_after o ask) (sym is)
+    where
+      by_state : (p : Option State) (q : Result (List ℕ × ℕ) DiskError) → p ≡ state_told_after p ask (told_read q)
+      by_state None q = refl
+      by_state (Some s) (Ok file) = refl
+      by_state (Some s) (Err e) = refl
+
+-- ---- a disk in memory after a call
+
+undone_write : (told : Result Change writing.Refusal) → write_answer told ≢ answers.Done → result_ok told ≡ None
+undone_write (Ok change) other = absurd (other refl)
+undone_write (Err refusal) other = refl
+
+-- a call that isn't done makes no change
+pub undone : (t : Tree) (ask : DiskAsk) → answer_of t ask ≢ answers.Done → change_of_ask t ask ≡ None
+unfolding answer_of change_of_ask
+undone t (asks.Look path follow) other = refl
+undone t (asks.Read path) other = refl
+undone t (asks.MakeDir path) other = undone_write (change_of_make_dir t path) other
+undone t (asks.NewFile path) other = undone_write (change_of_new_file t path) other
+undone t (asks.Append path bytes) other = undone_write (change_of_append t path bytes) other
+undone t (asks.Rename from to) other = undone_write (change_of_rename t from to) other
+undone t (asks.Remove path) other = undone_write (change_of_remove t path) other
+
+module _ (s : State) (ask : DiskAsk) where
+  not_done : (answer : DiskAnswer) → answer ≢ answers.Done → answer ≡ answer_of (tree_of s) ask → s ≡ written s (change_of_ask (tree_of s) ask)
+  not_done answer other is = sym (ap (written s) (undone (tree_of s) ask (λ d. other (is ∙ d))))
+
+  state_by : (fails : Bool) (answer : DiskAnswer) → answer ≢ answers.Refused errors.NoMemory → AnswersAsk answer (answer_of (tree_of s) ask) → (answer ≡ answers.Refused errors.Failed → fails ≡ true) → (fails ≡ true → answer ≡ answers.Refused errors.Failed)
+      → state_after s ask answer ≡ cond fails s (written s (change_of_ask (tree_of s) ask))
+  state_by true answer some is failed listed = ap (state_after s ask) (listed refl)
+  state_by false answers.Done some is failed listed = refl
+  state_by false (answers.Meta found) some is failed listed = not_done (answers.Meta found) (λ e. cc) is
+  state_by false (answers.File bytes time) some is failed listed = not_done (answers.File bytes time) (λ e. cc) is
+  state_by false (answers.Refused errors.Absent) some is failed listed = not_done (answers.Refused errors.Absent) (λ e. cc) is
+  state_by false (answers.Refused errors.WrongKind) some is failed listed = not_done (answers.Refused errors.WrongKind) (λ e. cc) is
+  state_by false (answers.Refused errors.LinkLoop) some is failed listed = not_done (answers.Refused errors.LinkLoop) (λ e. cc) is
+  state_by false (answers.Refused errors.Exists) some is failed listed = not_done (answers.Refused errors.Exists) (λ e. cc) is
+  state_by false (answers.Refused errors.NotEmpty) some is failed listed = not_done (answers.Refused errors.NotEmpty) (λ e. cc) is
+  state_by false (answers.Refused errors.Failed) some is failed listed = absurd (cc (failed refl))
+  state_by false (answers.Refused errors.NoMemory) some is failed listed = absurd (some refl)
+
+module _ (disk new : Volume) (ask : DiskAsk) (answer : DiskAnswer) (state : new.state ≡ state_after disk.state ask answer) (counted : new.calls ≡ (after_call disk).calls) where
+  pub volume_after_ask : answer ≢ answers.Refused errors.NoMemory → AnswersAsk answer (answer_of (tree_of disk.state) ask) → (answer ≡ answers.Refused errors.Failed → next_fails disk ≡ true) → (next_fails disk ≡ true → answer ≡ answers.Refused errors.Failed) → new ≡ after_ask disk ask
+  unfolding after_ask
+  volume_after_ask some is failed listed =
+      let after = state ∙ state_by disk.state ask (next_fails disk) answer some is failed listed in λ i. record { state = after i; calls = counted i }
+
+  pub volume_kept : answer ≡ answers.Refused errors.NoMemory → new ≡ after_call disk
+  volume_kept is = let same = state ∙ ap (state_after disk.state ask) is ∙ sym (after_call-state disk) in λ i. record { state = same i; calls = counted i }
+
+pub has_memory : (answer : DiskAnswer) → ran_out answer ≡ false → answer ≢ answers.Refused errors.NoMemory
+has_memory answer some is = let both : false ≡ true = sym some ∙ ap ran_out is in cc
+
+pub no_memory : (answer : DiskAnswer) → ran_out answer ≡ true → answer ≡ answers.Refused errors.NoMemory
+no_memory (answers.Meta found) is = absurd (cc)
+no_memory (answers.File bytes time) is = absurd (cc)
+no_memory answers.Done is = absurd (cc)
+no_memory (answers.Refused errors.Absent) is = absurd (cc)
+no_memory (answers.Refused errors.WrongKind) is = absurd (cc)
+no_memory (answers.Refused errors.LinkLoop) is = absurd (cc)
+no_memory (answers.Refused errors.Exists) is = absurd (cc)
+no_memory (answers.Refused errors.NotEmpty) is = absurd (cc)
+no_memory (answers.Refused errors.Failed) is = absurd (cc)
+no_memory (answers.Refused errors.NoMemory) is = refl

@@ -12,26 +12,26 @@ use Rattle.odb_disk.specs.declared.disk.Kind.TheVariants as kinds
 
 -- ---- following over a function from paths, which computes
 
-abbrev pass_over : (Path → Option Node) → Bool → Path → Path → Pass
+abbrev pub pass_over : (Path → Option Node) → Bool → Path → Path → Pass
 pass_over at follow way [] = ending follow way (at way)
 pass_over at follow way (name ∷ names) = beyond (at way) (name ∷ names) (pass_over at follow (way ++ name ∷ []) names)
 
-abbrev followed_over : ℕ → (Path → Option Node) → Bool → Path → Result Place Refusal
+abbrev pub followed_over : ℕ → (Path → Option Node) → Bool → Path → Result Place Refusal
 followed_over zero at follow path = arrives (λ _. Err LinkLoop) (pass_over at follow [] path)
 followed_over (suc links) at follow path = arrives (followed_over links at follow) (pass_over at follow [] path)
 
-pass-over : (t : Tree) (follow : Bool) (way names : Path) → pass t follow way names ≡ pass_over (node_at t) follow way names
+pub pass-over : (t : Tree) (follow : Bool) (way names : Path) → pass t follow way names ≡ pass_over (node_at t) follow way names
 unfolding pass
 pass-over t follow way [] = refl
 pass-over t follow way (name ∷ names) = ap (beyond (node_at t way) (name ∷ names)) (pass-over t follow (way ++ name ∷ []) names)
 
-followed-over : (links : ℕ) (t : Tree) (follow : Bool) (path : Path) → followed_within links t follow path ≡ followed_over links (node_at t) follow path
+pub followed-over : (links : ℕ) (t : Tree) (follow : Bool) (path : Path) → followed_within links t follow path ≡ followed_over links (node_at t) follow path
 unfolding followed_within
 followed-over zero t follow path = ap (arrives (λ _. Err LinkLoop)) (pass-over t follow [] path)
 followed-over (suc links) t follow path = λ i. arrives (λ onward. followed-over links t follow onward i) (pass-over t follow [] path i)
 
 module _ (es : List (Path × Node)) where
-  at_entries : node_at (tree_of_entries es) ≡ (λ q. find path_cmp q es)
+  pub at_entries : node_at (tree_of_entries es) ≡ (λ q. find path_cmp q es)
   at_entries = λ i q. node_at-tree_of_entries es q i
 
   looked_over : (path : Path) (follow : Bool) → looked (tree_of_entries es) path follow ≡ meta_of_place (followed_over 40 (λ q. find path_cmp q es) follow path)
@@ -44,19 +44,19 @@ module _ (es : List (Path × Node)) where
 
 -- ---- a tree with a folder, a file and links
 
-abbrev entry : Path → ℕ → Content → Path × Node
+abbrev pub entry : Path → ℕ → Content → Path × Node
 entry path ino content = (path, record { dev = 0; ino = ino; content = content })
 
-abbrev a : Name
+abbrev pub a : Name
 a = codes "a"
 
-abbrev f : Name
+abbrev pub f : Name
 f = codes "f"
 
-abbrev l : Name
+abbrev pub l : Name
 l = codes "l"
 
-abbrev entries : List (Path × Node)
+abbrev pub entries : List (Path × Node)
 entries =
     entry [] 1 Dir
     ∷ entry (a ∷ []) 2 Dir
@@ -69,7 +69,7 @@ entries =
     ∷ entry (codes "t" ∷ []) 9 (Link (l ∷ []))
     ∷ []
 
-abbrev tree : Tree
+abbrev pub tree : Tree
 tree = tree_of_entries entries
 
 link_to_a_file : looked tree (l ∷ []) true ≡ Ok (record { kind = kinds.File; dev = 0; ino = 3; len = 2; time = 7 })

@@ -2,10 +2,19 @@ pub mod TreeLemmas
 pub mod MemDiskLemmas
 mod TreeNumbersLemmas
 mod TreeCallsLemmas
+mod MovedNumbersLemmas
+mod WriteCallsLemmas
 mod NamesLemmas
 mod LastNodeLemmas
+mod TreeMovesLemmas
+pub mod WriteLaws
+mod WayLemmas
+pub mod WayLaws
+pub mod WayWriteLaws
+pub mod OwnFileLaws
 mod AskLemmas
 mod NodeMapLemmas
 mod CallsLemmas
 pub mod SourceLemmas
 mod FollowExamples
+mod WayExamples

@@ -24,26 +24,26 @@ pub before_names : (directory : Path) (name : Name) → path_cmp directory (dire
 before_names [] name = refl
 before_names (step ∷ steps) name = ap (λ o. ordering_then o (path_cmp steps (steps ++ name ∷ []))) (tied_itself nat_list_cmp_total step) ∙ before_names steps name
 
--- a path between a directory and a name in it begins with the directory
-pub begins_between : (directory q : Path) (name : Name) → path_cmp directory q ≡ Less → is_gt (path_cmp q (directory ++ name ∷ [])) ≡ false → starts_with same_name q directory ≡ true
-begins_between [] [] name behind before = refl
-begins_between [] (x ∷ xs) name behind before = refl
-begins_between (step ∷ steps) [] name behind before = cc
-begins_between (step ∷ steps) (x ∷ xs) name behind before =
-    let deeper : path_cmp steps xs ≡ Less → is_gt (path_cmp xs (steps ++ name ∷ [])) ≡ false → starts_with same_name xs steps ≡ true = begins_between steps xs name in
+-- a path between a directory and one below it begins with the directory
+pub begins_between : (directory q rest : Path) → path_cmp directory q ≡ Less → is_gt (path_cmp q (directory ++ rest)) ≡ false → starts_with same_name q directory ≡ true
+begins_between [] [] rest behind before = refl
+begins_between [] (x ∷ xs) rest behind before = refl
+begins_between (step ∷ steps) [] rest behind before = cc
+begins_between (step ∷ steps) (x ∷ xs) rest behind before =
+    let deeper : path_cmp steps xs ≡ Less → is_gt (path_cmp xs (steps ++ rest)) ≡ false → starts_with same_name xs steps ≡ true = begins_between steps xs rest in
     elim (name_cmp step x) as (λ o. name_cmp step x ≡ o → ordering_then o (path_cmp steps xs) ≡ Less → (same_name step x && starts_with same_name xs steps) ≡ true) [
       | Less ↦ λ is _.
           let over : name_cmp x step ≡ Greater = nat_list_cmp_total.antisymm x step ∙ ap ordering_reverse is in
-          absurd (false≢true (sym before ∙ ap (λ o. is_gt (ordering_then o (path_cmp xs (steps ++ name ∷ [])))) over))
+          absurd (false≢true (sym before ∙ ap (λ o. is_gt (ordering_then o (path_cmp xs (steps ++ rest)))) over))
       | Equal ↦ λ is less.
           let same : step ≡ x = slice_cmp-IsAntisymmetric nat_cmp-IsAntisymmetric step x is in
           let tied : name_cmp x step ≡ Equal = ap (λ n. name_cmp x n) same ∙ tied_itself nat_list_cmp_total x in
           and_from _ _ (ap (same_name step) (sym same) ∙ nat_list_eq_equiv.refl step)
-          (deeper less (ap (λ o. is_gt (ordering_then o (path_cmp xs (steps ++ name ∷ [])))) (sym tied) ∙ before))
+          (deeper less (ap (λ o. is_gt (ordering_then o (path_cmp xs (steps ++ rest)))) (sym tied) ∙ before))
       | Greater ↦ λ _ less. cc
     ] refl behind
 
-same_paths : (xs ys : Path) → pointwise same_name xs ys ≡ true → xs ≡ ys
+pub same_paths : (xs ys : Path) → pointwise same_name xs ys ≡ true → xs ≡ ys
 same_paths [] [] same = refl
 same_paths [] (y ∷ ys) same = absurd (false≢true same)
 same_paths (x ∷ xs) [] same = absurd (false≢true same)
@@ -77,7 +77,7 @@ module _ (t : Tree) (is_tree : IsTree t) (directory : Path) where
 
   pub no_names_before_first : (q : Path) → path_cmp directory q ≡ Less → ((r : Path) (n : Node) → path_cmp directory r ≡ Less → node_at t r ≡ Some n → is_gt (path_cmp q r) ≡ false) → starts_with same_name q directory ≡ false → is_nil (names_in t directory) ≡ true
   no_names_before_first q behind first other = nil_names t directory (λ name n at.
-      false≢true (sym other ∙ begins_between directory q name behind (first (directory ++ name ∷ []) n (before_names directory name) at)))
+      false≢true (sym other ∙ begins_between directory q (name ∷ []) behind (first (directory ++ name ∷ []) n (before_names directory name) at)))
 
   pub told_by_first : (q : Path) (n : Node) → path_cmp directory q ≡ Less → node_at t q ≡ Some n → ((r : Path) (k : Node) → path_cmp directory r ≡ Less → node_at t r ≡ Some k → is_gt (path_cmp q r) ≡ false) → starts_with same_name q directory ≡ not (is_nil (names_in t directory))
   told_by_first q n behind at first =

@@ -1,7 +1,11 @@
 -- Laws of trees: what stands at a path, which inode numbers are taken, which names a directory has.
 pub mod Numbers
 pub mod Follow
+pub mod Moved
 pub mod Change
+pub mod MovedTree
+pub mod Changed
+pub mod Write
 pub mod Look
 use Rattle.std.proofs.Common.{◌≡◌, ◌≢◌, ◌⊎◌, inl, inr, ℕ, ◌==◌, ◌&&◌, ◌||◌, Bool, true, false, not, cond, eqb, List, [], ◌∷◌, ◌++◌, map, Option, Some, None, is_some, IsSome, refl, sym, ap, ◌∙◌, subst, T, eq-eqb, eqb-true}
 use Rattle.std.specs.FinMap.{find, is_sorted}

@@ -93,7 +93,7 @@ IsLeastFree-first free next number member least = record {
 
 -- ---- which numbers are taken after a change
 
-same_bool : (a b : Bool) → (a ≡ true → b ≡ true) → (b ≡ true → a ≡ true) → a ≡ b
+pub same_bool : (a b : Bool) → (a ≡ true → b ≡ true) → (b ≡ true → a ≡ true) → a ≡ b
 same_bool true b there back = sym (there refl)
 same_bool false true there back = back refl
 same_bool false false there back = refl
@@ -116,11 +116,11 @@ has_number-taken t p number has = let k = number_at (node_at t p) number has in 
 
 module _ (t : Tree) (is_tree : IsTree t) (p : Path) where
   -- a number of a node elsewhere is not that of the node here
-  not_here : (q : Path) (k : Node) (n : ℕ) → q ≢ p → node_at t q ≡ Some k → k.ino ≡ n → not (has_number (node_at t p) n) ≡ true
+  pub not_here : (q : Path) (k : Node) (n : ℕ) → q ≢ p → node_at t q ≡ Some k → k.ino ≡ n → not (has_number (node_at t p) n) ≡ true
   not_here q k n apart at has = not_from_false _ (false_from_ne_true _ (λ here. let h = number_at (node_at t p) n here in apart (is_tree.apart q p k h.node at h.at (has ∙ sym h.has))))
 
   -- a taken number that is not the one here is elsewhere
-  elsewhere : (n : ℕ) (w : HasNumber t n) → not (has_number (node_at t p) n) ≡ true → w.path ≢ p
+  pub elsewhere : (n : ℕ) (w : HasNumber t n) → not (has_number (node_at t p) n) ≡ true → w.path ≢ p
   elsewhere n w other same = false≢true (sym (not-true _ other) ∙ has_number-at (node_at t p) w.node n (ap (node_at t) (sym same) ∙ w.at) w.has)
 
   is_taken-put : (m : Node) (n : ℕ) → is_taken (with_node t p m) n ≡ ((m.ino == n) || (is_taken t n && not (has_number (node_at t p) n)))
@@ -220,12 +220,16 @@ module _ (t : Tree) (is_tree : IsTree t) (next : ℕ) (free : List ℕ) (numbers
       | inr old ↦ numbers.free_above n old
     ]
 
-    pub AreNumbers-without : AreNumbers (without t p) next freed
-    AreNumbers-without = record {
-      split = λ n low high. is_taken-without t is_tree p n ∙ ap (λ b. b && not (has_number (node_at t p) n)) (numbers.split n low high) ∙ de_morgan (has_number (node_at t p) n) (is_listed free n) ∙ ap not (sym (frees n));
-      above = λ n taken. numbers.above n (and_parts _ _ (sym (is_taken-without t is_tree p n) ∙ taken)).0;
+    -- a tree that lacks the node here, and whose other nodes have the numbers of this one
+    pub AreNumbers-dropped : (u : Tree) → ((n : ℕ) → is_taken u n ≡ (is_taken t n && not (has_number (node_at t p) n))) → AreNumbers u next freed
+    AreNumbers-dropped u taken = record {
+      split = λ n low high. taken n ∙ ap (λ b. b && not (has_number (node_at t p) n)) (numbers.split n low high) ∙ de_morgan (has_number (node_at t p) n) (is_listed free n) ∙ ap not (sym (frees n));
+      above = λ n is. numbers.above n (and_parts _ _ (sym (taken n) ∙ is)).0;
       free_above = freed_above;
     }
+
+    pub AreNumbers-without : AreNumbers (without t p) next freed
+    AreNumbers-without = AreNumbers-dropped (without t p) (is_taken-without t is_tree p)
 
     pub unlisted_next : (number : ℕ) → number ≡ next → is_listed freed number ≡ false
     unlisted_next number is = false_from_ne_true _ (λ listed. let a = freed_above number listed in omega arith)

@@ -2,6 +2,7 @@
 use Rattle.std.specs.Prelude.{◌≡◌, ℕ, ◌≤◌, Result, Ok, Err, IsErrOf}
 use Rattle.odb_base.specs.Faults.{Rose}
 use Rattle.odb_disk.specs.Tree.Follow.{Refusal, Absent, WrongKind, LinkLoop}
+use Rattle.odb_disk.specs.Tree.Write as writing
 use Rattle.odb_disk.specs.declared.disk.DiskError.{DiskError}
 use Rattle.odb_disk.specs.declared.disk.DiskError.TheVariants as errors
 
@@ -15,6 +16,17 @@ Answers (Err errors.Exists) told = ⊥
 Answers (Err errors.NotEmpty) told = ⊥
 Answers (Err errors.Failed) told = Unit {0}
 Answers (Err errors.NoMemory) told = Unit {0}
+
+-- the same of a call that writes
+abbrev pub AnswersWrite : {A : Type 0} → Result A DiskError → Result A writing.Refusal → Type 0
+AnswersWrite (Ok x) told = told ≡ Ok x
+AnswersWrite (Err errors.Absent) told = told ≡ Err writing.Absent
+AnswersWrite (Err errors.WrongKind) told = told ≡ Err writing.WrongKind
+AnswersWrite (Err errors.LinkLoop) told = told ≡ Err writing.LinkLoop
+AnswersWrite (Err errors.Exists) told = told ≡ Err writing.Exists
+AnswersWrite (Err errors.NotEmpty) told = told ≡ Err writing.NotEmpty
+AnswersWrite (Err errors.Failed) told = Unit {0}
+AnswersWrite (Err errors.NoMemory) told = Unit {0}
 
 -- the count of faults never falls, and a call fails only where it rose
 pub record FailsOnlyByFault {A : Type 0} (before now : ℕ) (result : Result A DiskError) : Type 0 where

@@ -1,7 +1,7 @@
 -- What a real disk makes of the system's answers.
 use Rattle.std.specs.Prelude.{ℕ, ◌+◌, ◌-◌, ◌*◌, ◌^◌, ◌==◌, min, ℤ, pos, Option, Some, None, if◌then◌else◌}
 use Rattle.std.specs.declared.io.ErrorKind.{ErrorKind}
-use Rattle.std.specs.declared.io.ErrorKind.TheVariants.{NotFound, NotADirectory, FilesystemLoop}
+use Rattle.std.specs.declared.io.ErrorKind.TheVariants.{NotFound, NotADirectory, IsADirectory, FilesystemLoop, AlreadyExists, DirectoryNotEmpty}
 use Rattle.std.specs.declared.fs.FileType.{FileType}
 use Rattle.odb_disk.specs.declared.disk.Kind.{Kind}
 use Rattle.odb_disk.specs.declared.disk.Kind.TheVariants.{File, Dir, Link}
@@ -12,7 +12,10 @@ use Rattle.odb_disk.specs.declared.disk.DiskError.TheVariants as errors
 abbrev pub refusal_of : ErrorKind → DiskError
 refusal_of NotFound = errors.Absent
 refusal_of NotADirectory = errors.WrongKind
+refusal_of IsADirectory = errors.WrongKind
 refusal_of FilesystemLoop = errors.LinkLoop
+refusal_of AlreadyExists = errors.Exists
+refusal_of DirectoryNotEmpty = errors.NotEmpty
 refusal_of kind = errors.Failed
 
 -- the kind of node that a type of the system is (Linux's `S_IFREG`, `S_IFDIR` and `S_IFLNK`), if it is one of the three

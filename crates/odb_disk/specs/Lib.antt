@@ -10,3 +10,4 @@ pub mod Calls
 pub mod HostDisk
 pub mod TreeNumbers
 pub mod TreeCalls
+pub mod TreeMoves

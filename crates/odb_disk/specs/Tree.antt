@@ -2,6 +2,8 @@
 pub mod Nodes
 pub mod Follow
 pub mod Change
+pub mod Write
+pub mod Way
 use Rattle.std.specs.Prelude.{◌≡◌, ◌⊎◌, ℕ, ◌+◌, Bool, true, false, List, [], ◌∷◌, ◌++◌, map, max, fold, refl, Option, Some, None, if◌then◌else◌}
 use Rattle.std.specs.List.{filter_map}
 use Rattle.std.specs.FinMap as finite

@@ -6,6 +6,11 @@ use Rattle.std.specs.declared.cmp.Ordering.TheVariants.{Less}
 use Rattle.odb_base.specs.Path.{Path, path_cmp}
 use Rattle.odb_disk.specs.Tree.{Tree, node_at}
 use Rattle.odb_disk.specs.Tree.Follow.{Pass, Reached, Onward, Missing, Blocked, Place, Refusal, Absent, WrongKind, LinkLoop}
+use Rattle.odb_disk.specs.Tree.Change.{changed}
+use Rattle.odb_disk.specs.Tree.Write as writing
+use Rattle.odb_disk.specs.declared.change.Change.{Change}
+use Rattle.odb_disk.specs.declared.change.Impossible.{Impossible}
+use Rattle.odb_disk.specs.declared.change.Impossible.TheVariants as impossible
 use Rattle.odb_disk.specs.declared.node.Node.{Node}
 use Rattle.odb_disk.specs.declared.node.Content.{Content}
 use Rattle.odb_disk.specs.declared.node.Content.TheVariants.{File, Dir, Link}
@@ -77,3 +82,29 @@ abbrev pub IsLastBefore : Tree → Path → Option Path → Type 0
 IsLastBefore tree path None = (q : Path) → path_cmp q path ≡ Less → node_at tree q ≡ None
 IsLastBefore tree path (Some last) =
     (path_cmp last path ≡ Less) × IsSome (node_at tree last) × ((q : Path) → path_cmp q path ≡ Less → IsSome (node_at tree q) → is_lt (path_cmp last q) ≡ false)
+
+-- the path that a path leads to
+abbrev pub path_of_place : Result Place Refusal → Result Path Refusal
+path_of_place (Ok place) = Ok place.path
+path_of_place (Err refusal) = Err refusal
+
+-- the answer is what the tree says, unless memory ran out. A tree never says that a call failed
+abbrev pub Tells : {A : Type 0} → Result A DiskError → Result A writing.Refusal → Type 0
+Tells (Ok x) told = told ≡ Ok x
+Tells (Err errors.Absent) told = told ≡ Err writing.Absent
+Tells (Err errors.WrongKind) told = told ≡ Err writing.WrongKind
+Tells (Err errors.LinkLoop) told = told ≡ Err writing.LinkLoop
+Tells (Err errors.Exists) told = told ≡ Err writing.Exists
+Tells (Err errors.NotEmpty) told = told ≡ Err writing.NotEmpty
+Tells (Err errors.Failed) told = ⊥
+Tells (Err errors.NoMemory) told = Unit {0}
+
+-- the tree after a change, or after none
+abbrev pub changed_by : Tree → Option Change → Tree
+changed_by tree None = tree
+changed_by tree (Some change) = changed tree change
+
+-- why a change isn't made, by the error of the call that makes it
+abbrev pub impossible_by : DiskError → Impossible
+impossible_by errors.NoMemory = impossible.NoMemory
+impossible_by error = impossible.Impossible

@@ -19,6 +19,17 @@ pub enum Change {
         path: PathText,
         dev: u64,
     },
+    /// Moves a file or a link over nothing, a file or a link, or a directory with all below it to where nothing
+    /// stands. Each node keeps its device and its inode number.
+    Rename {
+        from: PathText,
+        to: PathText,
+    },
+    /// Adds bytes at the end of the file that the path leads to, links followed. Its time stays as it was.
+    Append {
+        path: PathText,
+        bytes: ByteList,
+    },
     /// Removes a file, a link or an empty directory.
     Remove {
         path: PathText,
@@ -41,6 +52,14 @@ impl Change {
             Change::MakeDir { path, dev } => Ok(Change::MakeDir {
                 path: path.try_clone(alloc)?,
                 dev: *dev,
+            }),
+            Change::Rename { from, to } => Ok(Change::Rename {
+                from: from.try_clone(alloc)?,
+                to: to.try_clone(alloc)?,
+            }),
+            Change::Append { path, bytes } => Ok(Change::Append {
+                path: path.try_clone(alloc)?,
+                bytes: bytes.try_clone(alloc)?,
             }),
             Change::Remove { path } => Ok(Change::Remove {
                 path: path.try_clone(alloc)?,

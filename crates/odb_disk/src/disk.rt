@@ -1,8 +1,9 @@
-ghost use Rattle.std.specs.Prelude.{◌≡◌, ℕ, Option, IfSome};
+ghost use Rattle.std.specs.Prelude.{◌≡◌, ℕ, Option, IfSome, OnOk, OnErr};
 ghost use Rattle.odb_disk.specs.declared.disk.DiskError.TheVariants.{NoMemory as out_of_memory};
 ghost use Rattle.odb_disk.specs.Tree.{IsTree, State, tree_of};
 ghost use Rattle.odb_disk.specs.Tree.Follow.{looked, read_of};
-ghost use Rattle.odb_disk.specs.Disk.{Answers, FailsOnlyByFault};
+ghost use Rattle.odb_disk.specs.Tree.Write.{change_of_make_dir, change_of_new_file, change_of_append, change_of_rename, change_of_remove, done, written_as};
+ghost use Rattle.odb_disk.specs.Disk.{Answers, AnswersWrite, FailsOnlyByFault};
 
 use crate::{ByteList, NoMemory, PathText};
 use std::alloc::{AllocError, AllocFailed, Global};
@@ -81,7 +82,8 @@ impl<T: Drop> From<AllocFailed<T>> for DiskError {
 
 /// A disk: a tree of directories, files and links that other programs change too.
 ///
-/// A state that is told shows a tree. A refused call leaves it as it was.
+/// A state that is told shows a tree. A refused call leaves it as it was, and a call that writes makes the change
+/// that its word in `specs/Tree/Write.antt` gives.
 pub trait Disk {
     /// The state of the disk, where it tells it.
     ghost state: { Self → Option State };
@@ -101,5 +103,45 @@ pub trait Disk {
         ensures answer { IfSome (state self.old) (λ s. Answers result (read_of (tree_of s) path.now)) }
         ensures tree { IfSome (state self.old) (λ s. IsTree (tree_of s)) }
         ensures kept { state self.new ≡ state self.old }
+        ensures cause { FailsOnlyByFault (faults self.old) (faults self.new) result };
+
+    /// Makes a directory where nothing stands. A link in the last place isn't followed.
+    fn make_dir(&mut self, alloc: Global, path: &PathText) -> Result<(), DiskError>
+        ensures answer { IfSome (state self.old) (λ s. AnswersWrite result (done (change_of_make_dir (tree_of s) path.now))) }
+        ensures tree { IfSome (state self.old) (λ s. IsTree (tree_of s)) }
+        ensures made { OnOk result (state self.new ≡ written_as (λ t. change_of_make_dir t path.now) (state self.old)) }
+        ensures kept { OnErr result (state self.new ≡ state self.old) }
+        ensures cause { FailsOnlyByFault (faults self.old) (faults self.new) result };
+
+    /// Makes an empty file where nothing stands. A link in the last place isn't followed.
+    fn new_file(&mut self, alloc: Global, path: &PathText) -> Result<(), DiskError>
+        ensures answer { IfSome (state self.old) (λ s. AnswersWrite result (done (change_of_new_file (tree_of s) path.now))) }
+        ensures tree { IfSome (state self.old) (λ s. IsTree (tree_of s)) }
+        ensures made { OnOk result (state self.new ≡ written_as (λ t. change_of_new_file t path.now) (state self.old)) }
+        ensures kept { OnErr result (state self.new ≡ state self.old) }
+        ensures cause { FailsOnlyByFault (faults self.old) (faults self.new) result };
+
+    /// Adds bytes at the end of a file, links followed. Its time stays as it was where the tree is told.
+    fn append(&mut self, alloc: Global, path: &PathText, bytes: &[u8]) -> Result<(), DiskError>
+        ensures answer { IfSome (state self.old) (λ s. AnswersWrite result (done (change_of_append (tree_of s) path.now bytes.now))) }
+        ensures tree { IfSome (state self.old) (λ s. IsTree (tree_of s)) }
+        ensures made { OnOk result (state self.new ≡ written_as (λ t. change_of_append t path.now bytes.now) (state self.old)) }
+        ensures kept { OnErr result (state self.new ≡ state self.old) }
+        ensures cause { FailsOnlyByFault (faults self.old) (faults self.new) result };
+
+    /// Moves a file or a link over nothing, a file or a link. A link in the last place isn't followed.
+    fn rename(&mut self, alloc: Global, from: &PathText, to: &PathText) -> Result<(), DiskError>
+        ensures answer { IfSome (state self.old) (λ s. AnswersWrite result (done (change_of_rename (tree_of s) from.now to.now))) }
+        ensures tree { IfSome (state self.old) (λ s. IsTree (tree_of s)) }
+        ensures made { OnOk result (state self.new ≡ written_as (λ t. change_of_rename t from.now to.now) (state self.old)) }
+        ensures kept { OnErr result (state self.new ≡ state self.old) }
+        ensures cause { FailsOnlyByFault (faults self.old) (faults self.new) result };
+
+    /// Removes a file, a link or an empty directory. A link in the last place isn't followed.
+    fn remove(&mut self, alloc: Global, path: &PathText) -> Result<(), DiskError>
+        ensures answer { IfSome (state self.old) (λ s. AnswersWrite result (done (change_of_remove (tree_of s) path.now))) }
+        ensures tree { IfSome (state self.old) (λ s. IsTree (tree_of s)) }
+        ensures made { OnOk result (state self.new ≡ written_as (λ t. change_of_remove t path.now) (state self.old)) }
+        ensures kept { OnErr result (state self.new ≡ state self.old) }
         ensures cause { FailsOnlyByFault (faults self.old) (faults self.new) result };
 }

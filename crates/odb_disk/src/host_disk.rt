@@ -1,12 +1,14 @@
 ghost use Rattle.std.specs.Prelude.{◌≡◌, ◌≢◌, ◌≤◌, ◌++◌, length, None, Some, OnOk, IfOk, IfErr, IfSome, vec_len};
+ghost use Rattle.std.specs.Result.{result_map_both};
+ghost use Rattle.std.specs.IoError.{error_kind};
 ghost use Rattle.std.specs.Fs.{file_type, metadata_len};
 ghost use Rattle.odb_disk.specs.Disk.{FailsOnlyByFault};
 ghost use Rattle.odb_disk.specs.HostDisk.{refusal_of, kind_of, time_of};
 
-use crate::{ByteList, Disk, DiskError, Kind, Meta, PathText, Source, StdSource};
+use crate::{ByteList, Disk, DiskError, Kind, Meta, PathText, Sink, Source, StdSink, StdSource};
 use std::alloc::Global;
-use std::fs::{self, Metadata, OpenFile};
-use std::io::ErrorKind;
+use std::fs::{self, File, Metadata, OpenFile, OpenOptions};
+use std::io::{self, ErrorKind};
 use std::os::unix::fs::MetadataExt;
 use std::rt::Files;
 
@@ -20,7 +22,8 @@ const PIECE: usize = 32_768;
 ///
 /// What stands there counts as a fault of the disk where it is no file, directory or link, or is a file of
 /// more than 4,294,967,296 bytes, as does each error of the system that isn't one of absence, of a part of
-/// the way that is no directory, or of too many links.
+/// the way that is no directory, of too many links, of a node that is there already, or of a directory with
+/// entries or in place of a file.
 #[derive(Debug, Drop)]
 pub struct HostDisk<R> {
     rt: R,
@@ -73,6 +76,47 @@ impl<R: Files> Disk for HostDisk<R> {
         let found = read_at(&self.rt, alloc, text.as_str(), LONGEST_FILE);
         counted(&mut self.faults, found)
     }
+
+    fn make_dir(&mut self, alloc: Global, path: &PathText) -> Result<(), DiskError>
+        ensures cause { FailsOnlyByFault self.old.faults self.new.faults result }
+    {
+        let text = path.to_text(alloc)?;
+        let made = answered(fs::create_dir(&self.rt, text.as_str()));
+        counted(&mut self.faults, made)
+    }
+
+    fn new_file(&mut self, alloc: Global, path: &PathText) -> Result<(), DiskError>
+        ensures cause { FailsOnlyByFault self.old.faults self.new.faults result }
+    {
+        let text = path.to_text(alloc)?;
+        let made = new_file_at(&self.rt, text.as_str());
+        counted(&mut self.faults, made)
+    }
+
+    fn append(&mut self, alloc: Global, path: &PathText, bytes: &[u8]) -> Result<(), DiskError>
+        ensures cause { FailsOnlyByFault self.old.faults self.new.faults result }
+    {
+        let text = path.to_text(alloc)?;
+        let made = append_at(&self.rt, text.as_str(), bytes);
+        counted(&mut self.faults, made)
+    }
+
+    fn rename(&mut self, alloc: Global, from: &PathText, to: &PathText) -> Result<(), DiskError>
+        ensures cause { FailsOnlyByFault self.old.faults self.new.faults result }
+    {
+        let source = from.to_text(alloc)?;
+        let target = to.to_text(alloc)?;
+        let made = rename_at(&self.rt, source.as_str(), target.as_str());
+        counted(&mut self.faults, made)
+    }
+
+    fn remove(&mut self, alloc: Global, path: &PathText) -> Result<(), DiskError>
+        ensures cause { FailsOnlyByFault self.old.faults self.new.faults result }
+    {
+        let text = path.to_text(alloc)?;
+        let made = remove_at(&self.rt, text.as_str());
+        counted(&mut self.faults, made)
+    }
 }
 
 /// Passes an answer on, and counts a fault where it is that the disk failed.
@@ -97,6 +141,73 @@ pub(crate) fn look_at<R: Files>(rt: &R, path: &str, follow: bool) -> Result<Meta
     };
     match found {
         Ok(metadata) => meta_of(&metadata),
+        Err(e) => Err(refusal_of(e.kind())),
+    }
+}
+
+/// Makes an empty file where nothing stands.
+pub(crate) fn new_file_at<R: Files>(rt: &R, path: &str) -> Result<(), DiskError> {
+    match File::create_new(rt, path) {
+        Ok(_) => Ok(()),
+        Err(e) => Err(refusal_of(e.kind())),
+    }
+}
+
+/// Adds bytes at the end of a file, links followed. What is no file is never opened, since that may wait for
+/// ever.
+pub(crate) fn append_at<R: Files>(rt: &R, path: &str, bytes: &[u8]) -> Result<(), DiskError> {
+    match look_at(rt, path, true)?.kind {
+        Kind::File => {}
+        Kind::Dir => return Err(DiskError::WrongKind),
+        Kind::Link => return Err(DiskError::Failed),
+    }
+    let mut options = OpenOptions::new();
+    options.append(true);
+    let file = options.open(rt, path).map_err(|e| refusal_of(e.kind()))?;
+    write_all(&mut StdSink::new(file), bytes)
+}
+
+/// Writes all bytes to a sink.
+fn write_all<S: Sink>(sink: &mut S, bytes: &[u8]) -> Result<(), DiskError>
+    ensures whole { OnOk result (IfSome (S.held sink.old) (λ held. S.held sink.new ≡ Some (held ++ bytes.now))) }
+{
+    let mut rest = bytes;
+    while !rest.is_empty() {
+        let Ok(count) = sink.write(rest) else {
+            return Err(DiskError::Failed);
+        };
+        rest = &rest[count..];
+    }
+    Ok(())
+}
+
+/// Moves a file or a link. The kinds of both ends are looked at first, since the system would move a directory.
+pub(crate) fn rename_at<R: Files>(rt: &R, from: &str, to: &str) -> Result<(), DiskError> {
+    if look_at(rt, from, false)?.kind == Kind::Dir {
+        return Err(DiskError::WrongKind);
+    }
+    match look_at(rt, to, false) {
+        Ok(meta) if meta.kind == Kind::Dir => return Err(DiskError::WrongKind),
+        Ok(_) | Err(DiskError::Absent) => {}
+        Err(e) => return Err(e),
+    }
+    answered(fs::rename(rt, from, to))
+}
+
+/// Removes a file, a link or an empty directory.
+pub(crate) fn remove_at<R: Files>(rt: &R, path: &str) -> Result<(), DiskError> {
+    match look_at(rt, path, false)?.kind {
+        Kind::Dir => answered(fs::remove_dir(rt, path)),
+        Kind::File | Kind::Link => answered(fs::remove_file(rt, path)),
+    }
+}
+
+/// What a call of the system answers that tells nothing but its error.
+fn answered(made: io::Result<()>) -> Result<(), DiskError>
+    ensures { result ≡ result_map_both (λ u. u) (λ e. refusal_of (error_kind e)) made }
+{
+    match made {
+        Ok(()) => Ok(()),
         Err(e) => Err(refusal_of(e.kind())),
     }
 }
@@ -189,7 +300,10 @@ fn refusal_of(kind: ErrorKind) -> DiskError
     match kind {
         ErrorKind::NotFound => DiskError::Absent,
         ErrorKind::NotADirectory => DiskError::WrongKind,
+        ErrorKind::IsADirectory => DiskError::WrongKind,
         ErrorKind::FilesystemLoop => DiskError::LinkLoop,
+        ErrorKind::AlreadyExists => DiskError::Exists,
+        ErrorKind::DirectoryNotEmpty => DiskError::NotEmpty,
         _ => DiskError::Failed,
     }
 }

@@ -17,6 +17,7 @@ mod host_disk;
 mod mem_disk;
 mod node;
 mod node_map;
+mod node_moves;
 mod source;
 mod std_stream;
 #[cfg(test)]

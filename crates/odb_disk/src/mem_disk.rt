@@ -1,3 +1,4 @@
+use crate::ask::DiskAsk;
 use crate::calls::Calls;
 use crate::change::{Change, Impossible};
 use crate::disk::{Disk, DiskError, Meta};
@@ -35,6 +36,7 @@ impl MemDisk {
     ghost use Rattle.std.specs.FinSet as set;
     ghost use Rattle.odb_disk.specs.Tree.{IsTree, tree_of};
     ghost use Rattle.odb_disk.specs.Tree.Change.{is_possible};
+    ghost use Rattle.odb_disk.specs.Ask.{change_of_ask};
     ghost use Rattle.odb_disk.specs.MemDisk.{new_volume, after_outside_change, after_call, next_fails};
 
     /// The root alone, device 0, inode number 1, and no call that is to fail.
@@ -69,6 +71,13 @@ impl MemDisk {
         ensures { IfOk result (λ possible. possible ≡ is_possible self.now.state change.now) }
     {
         self.tree.is_possible(alloc, change)
+    }
+
+    /// The change that a call would make now, if it would make one and doesn't fail.
+    pub fn change_of(&self, alloc: Global, ask: &DiskAsk) -> Result<Option<Change>, NoMemory>
+        ensures { IfOk result (λ change. change ≡ change_of_ask (tree_of self.now.state) ask.now) }
+    {
+        self.tree.change_of(alloc, ask)
     }
 
     /// The tree that the disk shows now.
@@ -106,6 +115,8 @@ impl MemDisk {
     /// Counts a call, and answers whether it fails.
     fn count(&mut self) -> bool
         ensures counted { self.new ≡ after_call self.old }
+        ensures state { self.new.state ≡ self.old.state }
+        ensures tree { IsTree (tree_of self.old.state) }
         ensures fails { result ≡ next_fails self.old }
         ensures later { self.old.calls.faults ≤ self.new.calls.faults }
         ensures rose { IsTrue result → Rose self.old.calls.faults self.new.calls.faults }
@@ -117,10 +128,12 @@ impl MemDisk {
 }
 
 impl Disk for MemDisk {
-    ghost use Rattle.std.specs.Prelude.{◌≡◌, ◌↔◌, true, Some, Err, IfSome};
+    ghost use Rattle.std.specs.Prelude.{◌≡◌, ◌↔◌, true, Some, Err, IfSome, OnOk, OnErr};
+    ghost use Rattle.std.specs.Result.{result_ok};
     ghost use Rattle.odb_disk.specs.Tree.{IsTree, State, tree_of};
     ghost use Rattle.odb_disk.specs.Tree.Follow.{looked, read_of};
-    ghost use Rattle.odb_disk.specs.Disk.{Answers, FailsOnlyByFault};
+    ghost use Rattle.odb_disk.specs.Tree.Write.{change_of_make_dir, change_of_new_file, change_of_append, change_of_rename, change_of_remove, done, written};
+    ghost use Rattle.odb_disk.specs.Disk.{Answers, AnswersWrite, FailsOnlyByFault};
     ghost use Rattle.odb_disk.specs.MemDisk.{after_call, next_fails};
 
     ghost state = { λ disk. Some disk.state };
@@ -157,5 +170,80 @@ impl Disk for MemDisk {
             return Err(DiskError::Failed);
         }
         tree.read(alloc, path)
+    }
+
+    fn make_dir(&mut self, alloc: Global, path: &PathText) -> Result<(), DiskError>
+        ensures answer { AnswersWrite result (done (change_of_make_dir (tree_of self.old.state) path.now)) }
+        ensures tree { IsTree (tree_of self.old.state) }
+        ensures made { OnOk result (Some self.new.state ≡ Some (written self.old.state (result_ok (change_of_make_dir (tree_of self.old.state) path.now)))) }
+        ensures kept { OnErr result (Some self.new.state ≡ Some self.old.state) }
+        ensures cause { FailsOnlyByFault self.old.calls.faults self.new.calls.faults result }
+        ensures counted { self.new.calls ≡ (after_call self.old).calls }
+        ensures failed { (result ≡ Err DiskError.Failed) ↔ (next_fails self.old ≡ true) }
+    {
+        if self.count() {
+            return Err(DiskError::Failed);
+        }
+        self.tree.make_dir(alloc, path)
+    }
+
+    fn new_file(&mut self, alloc: Global, path: &PathText) -> Result<(), DiskError>
+        ensures answer { AnswersWrite result (done (change_of_new_file (tree_of self.old.state) path.now)) }
+        ensures tree { IsTree (tree_of self.old.state) }
+        ensures made { OnOk result (Some self.new.state ≡ Some (written self.old.state (result_ok (change_of_new_file (tree_of self.old.state) path.now)))) }
+        ensures kept { OnErr result (Some self.new.state ≡ Some self.old.state) }
+        ensures cause { FailsOnlyByFault self.old.calls.faults self.new.calls.faults result }
+        ensures counted { self.new.calls ≡ (after_call self.old).calls }
+        ensures failed { (result ≡ Err DiskError.Failed) ↔ (next_fails self.old ≡ true) }
+    {
+        if self.count() {
+            return Err(DiskError::Failed);
+        }
+        self.tree.new_file(alloc, path)
+    }
+
+    fn append(&mut self, alloc: Global, path: &PathText, bytes: &[u8]) -> Result<(), DiskError>
+        ensures answer { AnswersWrite result (done (change_of_append (tree_of self.old.state) path.now bytes.now)) }
+        ensures tree { IsTree (tree_of self.old.state) }
+        ensures made { OnOk result (Some self.new.state ≡ Some (written self.old.state (result_ok (change_of_append (tree_of self.old.state) path.now bytes.now)))) }
+        ensures kept { OnErr result (Some self.new.state ≡ Some self.old.state) }
+        ensures cause { FailsOnlyByFault self.old.calls.faults self.new.calls.faults result }
+        ensures counted { self.new.calls ≡ (after_call self.old).calls }
+        ensures failed { (result ≡ Err DiskError.Failed) ↔ (next_fails self.old ≡ true) }
+    {
+        if self.count() {
+            return Err(DiskError::Failed);
+        }
+        self.tree.append(alloc, path, bytes)
+    }
+
+    fn rename(&mut self, alloc: Global, from: &PathText, to: &PathText) -> Result<(), DiskError>
+        ensures answer { AnswersWrite result (done (change_of_rename (tree_of self.old.state) from.now to.now)) }
+        ensures tree { IsTree (tree_of self.old.state) }
+        ensures made { OnOk result (Some self.new.state ≡ Some (written self.old.state (result_ok (change_of_rename (tree_of self.old.state) from.now to.now)))) }
+        ensures kept { OnErr result (Some self.new.state ≡ Some self.old.state) }
+        ensures cause { FailsOnlyByFault self.old.calls.faults self.new.calls.faults result }
+        ensures counted { self.new.calls ≡ (after_call self.old).calls }
+        ensures failed { (result ≡ Err DiskError.Failed) ↔ (next_fails self.old ≡ true) }
+    {
+        if self.count() {
+            return Err(DiskError::Failed);
+        }
+        self.tree.rename(alloc, from, to)
+    }
+
+    fn remove(&mut self, alloc: Global, path: &PathText) -> Result<(), DiskError>
+        ensures answer { AnswersWrite result (done (change_of_remove (tree_of self.old.state) path.now)) }
+        ensures tree { IsTree (tree_of self.old.state) }
+        ensures made { OnOk result (Some self.new.state ≡ Some (written self.old.state (result_ok (change_of_remove (tree_of self.old.state) path.now)))) }
+        ensures kept { OnErr result (Some self.new.state ≡ Some self.old.state) }
+        ensures cause { FailsOnlyByFault self.old.calls.faults self.new.calls.faults result }
+        ensures counted { self.new.calls ≡ (after_call self.old).calls }
+        ensures failed { (result ≡ Err DiskError.Failed) ↔ (next_fails self.old ≡ true) }
+    {
+        if self.count() {
+            return Err(DiskError::Failed);
+        }
+        self.tree.remove(alloc, path)
     }
 }

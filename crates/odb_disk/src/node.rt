@@ -37,9 +37,10 @@ impl Content {
 }
 
 impl Node {
-    ghost use Rattle.std.specs.Prelude.{◌≡◌, IfOk, Some};
+    ghost use Rattle.std.specs.Prelude.{◌≡◌, IfOk, OnOk, OnErr, Some};
     ghost use Rattle.odb_disk.specs.Tree.{is_directory};
     ghost use Rattle.odb_disk.specs.Tree.Follow.{meta_of};
+    ghost use Rattle.odb_disk.specs.Tree.Change.{is_file_content, longer};
 
     /// What a look at the node tells.
     pub fn meta(&self) -> Meta
@@ -64,6 +65,24 @@ impl Node {
         ensures { result ≡ is_directory (Some self.now) }
     {
         matches!(&self.content, Content::Dir)
+    }
+
+    /// Whether it is a file.
+    pub(crate) fn is_file(&self) -> bool
+        ensures { result ≡ is_file_content self.now.content }
+    {
+        matches!(&self.content, Content::File { .. })
+    }
+
+    /// Adds bytes at the end of a file. A refused call changes nothing.
+    pub(crate) fn append(&mut self, more: &[u8]) -> Result<(), NoMemory>
+        ensures made { OnOk result (self.new ≡ record self.old { content = longer self.old.content more.now }) }
+        ensures kept { OnErr result (self.new ≡ self.old) }
+    {
+        match &mut self.content {
+            Content::File { bytes, .. } => bytes.extend_from_slice(more),
+            Content::Dir | Content::Link(_) => Ok(()),
+        }
     }
 
     /// A copy of the node.

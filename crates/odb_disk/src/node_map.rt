@@ -1,8 +1,9 @@
 //! The nodes of a tree by their paths, and its free inode numbers.
-ghost use Rattle.std.specs.Prelude.{◌≡◌, ◌↔◌, ◌==◌, ◌&&◌, ◌||◌, ◌+◌, ◌-◌, ◌^◌, ◌<◌, ℕ, true, false, not, IfOk, OnOk, OnErr, IsTrue, Some, None, if◌then◌else◌};
+ghost use Rattle.std.specs.Prelude.{◌≡◌, ◌≢◌, ◌↔◌, ◌==◌, ◌&&◌, ◌||◌, ◌+◌, ◌-◌, ◌^◌, ◌<◌, ℕ, true, false, not, IfOk, OnOk, OnErr, IsTrue, IsSome, Some, None, if◌then◌else◌};
+ghost use Rattle.odb_base.specs.Path.{Path};
 ghost use Rattle.odb_disk.specs.Tree.{node_at, tree_of_entries, with_node, without, IsTree, names_in};
 ghost use Rattle.std.specs.Option.{option_copied};
-ghost use Rattle.odb_disk.specs.Tree.Change.{is_nil};
+ghost use Rattle.odb_disk.specs.Tree.Change.{is_nil, longer};
 ghost use Rattle.odb_disk.specs.TreeCalls.{IsLastBefore};
 ghost use Rattle.odb_disk.specs.TreeNumbers.{is_listed, has_number, IsLeastFree};
 ghost use Rattle.odb_disk.specs.declared.node.Node.{Node as NodeValue};
@@ -34,6 +35,75 @@ pub(crate) fn put_content(nodes: &mut BTreeMap<PathText, Node>, path: &PathText,
 {
     if let Some(node) = nodes.get_mut(path) {
         node.content = content;
+    }
+}
+
+/// Adds bytes at the end of the file at a path. A refused call changes nothing.
+pub(crate) fn append(
+    nodes: &mut BTreeMap<PathText, Node>,
+    path: &PathText,
+    more: &[u8],
+) -> Result<(), NoMemory>
+    ensures made { OnOk result ((node : NodeValue) → node_at (tree_of_entries nodes.old.entries) path.now ≡ Some node
+        → tree_of_entries nodes.new.entries ≡ with_node (tree_of_entries nodes.old.entries) path.now (record node { content = longer node.content more.now })) }
+    ensures kept { OnErr result (tree_of_entries nodes.new.entries ≡ tree_of_entries nodes.old.entries) }
+{
+    match nodes.get_mut(path) {
+        None => Ok(()),
+        Some(node) => node.append(more),
+    }
+}
+
+/// Moves the node at a path to another path, over what stands there. A refused call changes nothing, and comes
+/// only where nothing stands there.
+pub(crate) fn move_node(
+    alloc: Global,
+    nodes: &mut BTreeMap<PathText, Node>,
+    from: &PathText,
+    to: &PathText,
+) -> Result<(), NoMemory>
+    ensures made { OnOk result ((node : NodeValue) → node_at (tree_of_entries nodes.old.entries) from.now ≡ Some node → from.now ≢ to.now
+        → tree_of_entries nodes.new.entries ≡ with_node (without (tree_of_entries nodes.old.entries) from.now) to.now node) }
+    ensures kept { OnErr result (tree_of_entries nodes.new.entries ≡ tree_of_entries nodes.old.entries) }
+    ensures absent { OnErr result (node_at (tree_of_entries nodes.old.entries) to.now ≡ None) }
+{
+    make_room(alloc, nodes, to)?;
+    if let Some(node) = nodes.remove(from) {
+        put_node(nodes, to, node);
+    }
+    Ok(())
+}
+
+/// Puts a node at a path where nothing stands, to be put over. A refused call changes nothing, and comes only
+/// where nothing stands there.
+fn make_room(
+    alloc: Global,
+    nodes: &mut BTreeMap<PathText, Node>,
+    path: &PathText,
+) -> Result<(), NoMemory>
+    ensures stands { OnOk result (IsSome (node_at (tree_of_entries nodes.new.entries) path.now)) }
+    ensures others { OnOk result ((q : Path) → q ≢ path.now → node_at (tree_of_entries nodes.new.entries) q ≡ node_at (tree_of_entries nodes.old.entries) q) }
+    ensures kept { OnErr result (tree_of_entries nodes.new.entries ≡ tree_of_entries nodes.old.entries) }
+    ensures absent { OnErr result (node_at (tree_of_entries nodes.old.entries) path.now ≡ None) }
+{
+    let None = nodes.get(path) else {
+        return Ok(());
+    };
+    let room = Node {
+        dev: 0,
+        ino: 0,
+        content: Content::Dir,
+    };
+    put(nodes, path.try_clone(alloc)?, room)
+}
+
+/// Puts a node over the one at a path.
+fn put_node(nodes: &mut BTreeMap<PathText, Node>, path: &PathText, node: Node)
+    ensures { IsSome (node_at (tree_of_entries nodes.old.entries) path.now)
+        → tree_of_entries nodes.new.entries ≡ with_node (tree_of_entries nodes.old.entries) path.now node }
+{
+    if let Some(old) = nodes.get_mut(path) {
+        *old = node;
     }
 }
 

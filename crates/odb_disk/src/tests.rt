@@ -1,3 +1,5 @@
 mod disk;
 mod host;
 mod streams;
+mod tree;
+mod words;

@@ -1,14 +1,20 @@
+ghost use Rattle.std.specs.Prelude.{◌≡◌};
+ghost use Rattle.odb_disk.specs.TreeCalls.{impossible_by};
+
 use crate::change::{Change, Impossible};
 use crate::disk::{DiskError, Meta};
 use crate::node::{Content, Node};
 use crate::node_map::{
-    copied, copied_numbers, free_number, has_names, least_number, path_before, put, put_content,
-    take, use_number,
+    append, copied, copied_numbers, free_number, has_names, least_number, move_node, path_before,
+    put, put_content, take, use_number,
 };
+use crate::node_moves::move_below;
 use crate::{ByteList, NoMemory, PathText};
 use std::alloc::Global;
 use std::collections::{BTreeMap, BTreeSet};
 use std::marker::Model;
+
+mod write;
 
 /// The tree of a disk in memory: what stands at each path.
 ///
@@ -55,13 +61,13 @@ enum Standing {
 }
 
 impl Tree {
-    ghost use Rattle.std.specs.Prelude.{◌≡◌, ◌≢◌, Bool, [], ◌++◌, ◌↔◌, true, false, IfOk, OnOk, OnErr, IsErrOf, IsSome, Some, None, Err};
+    ghost use Rattle.std.specs.Prelude.{◌≡◌, ◌≢◌, Bool, [], ◌++◌, ◌↔◌, true, false, IfOk, OnOk, OnErr, IsErrOf, IsSome, IfSome, Some, None, Err};
     ghost use Rattle.std.specs.Option.{option_copied};
     ghost use Rattle.std.specs.List.{starts_with};
     ghost use Rattle.odb_base.specs.Path.{Path, same_name};
     ghost use Rattle.odb_disk.specs.Tree.{IsTree, node_at, with_node, without, bare_tree, is_directory};
-    ghost use Rattle.odb_disk.specs.Tree.Follow.{Missing, looked, read_of, pass, past, followed_within};
-    ghost use Rattle.odb_disk.specs.Tree.Change.{changed, is_possible_in, parent_node, lies_in_directory, least_free};
+    ghost use Rattle.odb_disk.specs.Tree.Follow.{Missing, looked, read_of, pass, past, followed, followed_within};
+    ghost use Rattle.odb_disk.specs.Tree.Change.{changed, is_possible_in, can_move, is_file_content, is_file_place, longer, parent_node, lies_in_directory, least_free};
     ghost use Rattle.odb_disk.specs.declared.node.Node.{Node as NodeValue};
     ghost use Rattle.odb_disk.specs.Disk.{Answers};
     ghost use Rattle.odb_disk.specs.TreeCalls.{Comes, LedOn, Leads, device_in, standing_of};
@@ -209,8 +215,10 @@ impl Tree {
     {
         match change {
             Change::PutFile { path, time, bytes } => self.put_file(alloc, path, *time, bytes),
-            Change::MakeDir { path, dev } => self.make_dir(alloc, path, *dev),
-            Change::Remove { path } => self.remove(path),
+            Change::MakeDir { path, dev } => self.put_dir(alloc, path, *dev),
+            Change::Rename { from, to } => self.move_over(alloc, from, to),
+            Change::Append { path, bytes } => self.lengthen(alloc, path, bytes),
+            Change::Remove { path } => self.take_out(path),
         }
     }
 
@@ -226,6 +234,8 @@ impl Tree {
             Change::MakeDir { path, .. } => Ok(
                 self.lies_in_directory(alloc, path)? && self.node(path).is_none(),
             ),
+            Change::Rename { from, to } => self.can_rename(alloc, from, to),
+            Change::Append { path, .. } => self.leads_to_file(alloc, path),
             Change::Remove { path } => Ok(self.can_remove(path)),
         }
     }
@@ -273,7 +283,7 @@ impl Tree {
         Ok(())
     }
 
-    fn make_dir(&mut self, alloc: Global, path: &PathText, dev: u64) -> Result<(), Impossible>
+    fn put_dir(&mut self, alloc: Global, path: &PathText, dev: u64) -> Result<(), Impossible>
         ensures made { OnOk result (self.new ≡ changed self.old (Change.MakeDir path.now dev)) }
         ensures possible { OnOk result (is_possible_in self.old (Change.MakeDir path.now dev) ≡ true) }
         ensures impossible { IsErrOf result Impossible.Impossible → is_possible_in self.old (Change.MakeDir path.now dev) ≡ false }
@@ -289,7 +299,7 @@ impl Tree {
         Ok(())
     }
 
-    fn remove(&mut self, path: &PathText) -> Result<(), Impossible>
+    fn take_out(&mut self, path: &PathText) -> Result<(), Impossible>
         ensures made { OnOk result (self.new ≡ changed self.old (Change.Remove path.now)) }
         ensures possible { OnOk result (is_possible_in self.old (Change.Remove path.now) ≡ true) }
         ensures impossible { IsErrOf result Impossible.Impossible → is_possible_in self.old (Change.Remove path.now) ≡ false }
@@ -300,6 +310,113 @@ impl Tree {
         }
         self.take(path)?;
         Ok(())
+    }
+
+    fn move_over(&mut self, alloc: Global, from: &PathText, to: &PathText) -> Result<(), Impossible>
+        ensures made { OnOk result (self.new ≡ changed self.old (Change.Rename from.now to.now)) }
+        ensures possible { OnOk result (is_possible_in self.old (Change.Rename from.now to.now) ≡ true) }
+        ensures impossible { IsErrOf result Impossible.Impossible → is_possible_in self.old (Change.Rename from.now to.now) ≡ false }
+        ensures kept { OnErr result (self.new ≡ self.old) }
+    {
+        if !self.can_rename(alloc, from, to)? {
+            return Err(Impossible::Impossible);
+        }
+        self.rename_to(alloc, from, to)?;
+        Ok(())
+    }
+
+    /// Whether what stands at a path can be moved to another one.
+    #[tactic(auto, unfolding(crate::specs::Tree::Change::is_possible_in))]
+    fn can_rename(&self, alloc: Global, from: &PathText, to: &PathText) -> Result<bool, NoMemory>
+        ensures { IfOk result (λ can. can ≡ is_possible_in self.now (Change.Rename from.now to.now)) }
+    {
+        if !self.lies_in_directory(alloc, to)? {
+            return Ok(false);
+        }
+        Ok(self.can_move(from, to))
+    }
+
+    /// Whether what stands at a path can be moved to another one, which lies in a directory.
+    fn can_move(&self, from: &PathText, to: &PathText) -> bool
+        ensures { result ≡ can_move self.now from.now to.now (node_at self.now from.now) }
+    {
+        match self.node(from) {
+            None => false,
+            Some(node) if node.is_dir() => self.node(to).is_none() && !to.starts_with(from),
+            Some(_) => !self.stands_directory(to),
+        }
+    }
+
+    /// Moves what stands at a path and can be moved. A refused call changes nothing.
+    fn rename_to(&mut self, alloc: Global, from: &PathText, to: &PathText) -> Result<(), NoMemory>
+        requires { is_possible_in self.old (Change.Rename from.now to.now) ≡ true }
+        ensures made { OnOk result (self.new ≡ changed self.old (Change.Rename from.now to.now)) }
+        ensures kept { OnErr result (self.new ≡ self.old) }
+    {
+        if self.stands_directory(from) {
+            return self.move_directory(alloc, from, to);
+        }
+        if from == to {
+            return Ok(());
+        }
+        self.move_leaf(alloc, from, to)
+    }
+
+    /// Moves a directory and what lies below it, to where nothing stands. A refused call changes nothing.
+    fn move_directory(
+        &mut self,
+        alloc: Global,
+        from: &PathText,
+        to: &PathText,
+    ) -> Result<(), NoMemory>
+        requires possible { is_possible_in self.old (Change.Rename from.now to.now) ≡ true }
+        requires directory { is_directory (node_at self.old from.now) ≡ true }
+        ensures made { OnOk result (self.new ≡ changed self.old (Change.Rename from.now to.now)) }
+        ensures kept { OnErr result (self.new ≡ self.old) }
+    {
+        move_below(alloc, &mut self.nodes, from, to)
+    }
+
+    /// Moves a file or a link to another path. A refused call changes nothing.
+    fn move_leaf(&mut self, alloc: Global, from: &PathText, to: &PathText) -> Result<(), NoMemory>
+        requires possible { is_possible_in self.old (Change.Rename from.now to.now) ≡ true }
+        requires leaf { is_directory (node_at self.old from.now) ≡ false }
+        requires apart { from.now ≢ to.now }
+        ensures made { OnOk result (self.new ≡ changed self.old (Change.Rename from.now to.now)) }
+        ensures kept { OnErr result (self.new ≡ self.old) }
+    {
+        free_number(&self.nodes, to, &mut self.free_inos)?;
+        move_node(alloc, &mut self.nodes, from, to)?;
+        Ok(())
+    }
+
+    fn lengthen(
+        &mut self,
+        alloc: Global,
+        path: &PathText,
+        bytes: &ByteList,
+    ) -> Result<(), Impossible>
+        ensures made { OnOk result (self.new ≡ changed self.old (Change.Append path.now bytes.now)) }
+        ensures possible { OnOk result (is_possible_in self.old (Change.Append path.now bytes.now) ≡ true) }
+        ensures impossible { IsErrOf result Impossible.Impossible → is_possible_in self.old (Change.Append path.now bytes.now) ≡ false }
+        ensures kept { OnErr result (self.new ≡ self.old) }
+    {
+        match self.append(alloc, path, bytes.as_slice()) {
+            Ok(()) => Ok(()),
+            Err(error) => Err(impossible_by(error)),
+        }
+    }
+
+    fn leads_to_file(&self, alloc: Global, path: &PathText) -> Result<bool, NoMemory>
+        ensures { IfOk result (λ leads. leads ≡ is_file_place (followed self.now true path.now)) }
+    {
+        match self.file_spot(alloc, path) {
+            Ok(_) => Ok(true),
+            Err(error) => match impossible_by(error) {
+                Impossible::Impossible => Ok(false),
+                Impossible::NoMemory => Err(NoMemory),
+            },
+        }
     }
 
     /// Whether a node stands at a path that has no names in it. The root is never removed.
@@ -373,6 +490,16 @@ impl Tree {
         put_content(&mut self.nodes, path, content);
     }
 
+    /// Adds bytes at the end of the file at a path. A refused call changes nothing.
+    fn append_at(&mut self, path: &PathText, more: &[u8]) -> Result<(), NoMemory>
+        requires stands { IsSome (node_at self.old path.now) }
+        requires file { IfSome (node_at self.old path.now) (λ node. is_file_content node.content ≡ true) }
+        ensures made { OnOk result ((node : NodeValue) → node_at self.old path.now ≡ Some node → self.new ≡ with_node self.old path.now (record node { content = longer node.content more.now })) }
+        ensures kept { OnErr result (self.new ≡ self.old) }
+    {
+        append(&mut self.nodes, path, more)
+    }
+
     /// Takes out the node at a path, which can be removed. A refused call changes nothing.
     fn take(&mut self, path: &PathText) -> Result<(), NoMemory>
         requires { is_possible_in self.old (Change.Remove path.now) ≡ true }
@@ -382,6 +509,16 @@ impl Tree {
         free_number(&self.nodes, path, &mut self.free_inos)?;
         take(&mut self.nodes, path);
         Ok(())
+    }
+}
+
+/// Why a change isn't made, by the error of the call that makes it.
+fn impossible_by(error: DiskError) -> Impossible
+    ensures { result ≡ impossible_by error }
+{
+    match error {
+        DiskError::NoMemory => Impossible::NoMemory,
+        _ => Impossible::Impossible,
     }
 }
 

@@ -1,22 +1,19 @@
 -- Laws of changes: what is at each path after one, and that a tree stays a tree.
-use Rattle.std.proofs.Common.{◌≡◌, ◌≢◌, ◌⊎◌, ℕ, true, false, ◌&&◌, List, [], ◌∷◌, ◌++◌, map, Option, Some, None, is_some, is_none, IsSome, refl, sym, ap, ◌∙◌, subst, T, inl, inr, cond, option_and_then, lit<}
+use Rattle.std.proofs.Common.{◌≡◌, ◌≢◌, ◌⊎◌, ℕ, true, false, ◌&&◌, List, [], ◌∷◌, ◌++◌, map, Option, Some, None, is_some, is_none, IsSome, refl, sym, ap, ◌∙◌, T, inl, inr, cond, option_and_then, lit<}
 use Rattle.std.specs.FinMap.{find, is_sorted}
 use Rattle.std.specs.Ordering.{eq_by_cmp}
 use Rattle.std.specs.List.{filter_map, cons_option}
 use Rattle.std.specs.Cmp.Lexicographic.{nat_list_eq_equiv, same_text}
-use Rattle.std.proofs.lemmas.Bool.{false≢true, and_parts, and_left, and_right, and_from, not-true, not_from_true, not_from_false}
+use Rattle.std.proofs.lemmas.Bool.{false≢true, and_parts, and_left, and_right, and_from, not_from_true, not_from_false}
 use Rattle.odb_base.specs.Path.{Name, Path, path_cmp, parent_of, same_name}
-use Rattle.odb_disk.specs.Tree.{Tree, State, IsTree, tree_of, state_of, node_at, with_node, without, names_in, name_in, is_directory}
+use Rattle.odb_disk.specs.Tree.{Tree, IsTree, node_at, with_node, without, names_in, name_in, is_directory}
 use Rattle.odb_disk.specs.Tree.Nodes.{entries_of, entries_of-sorted, node_at-entries_of, names_in-entries_of}
-use Rattle.odb_disk.specs.Tree.Change.{parent_node, lies_in_directory, is_nil, is_possible_in, is_possible, changed, after_change, least_free, put_node, put_over, device_of}
+use Rattle.odb_disk.specs.Tree.Change.{lies_in_directory, is_nil, is_possible_in, changed, least_free, put_node}
 use Rattle.odb_disk.specs.declared.node.Node.{Node}
-use Rattle.odb_disk.specs.declared.node.Content.{Content}
-use Rattle.odb_disk.specs.declared.node.Content.TheVariants.{File, Dir, Link}
-use Rattle.odb_disk.specs.declared.change.Change.{Change}
+use Rattle.odb_disk.specs.declared.node.Content.TheVariants.{File, Dir}
 use Rattle.odb_disk.specs.declared.change.Change.TheVariants.{PutFile, MakeDir, Remove}
 use Rattle.odb_base.specs.PathLaws.{parent_of-push, parent_of-none}
-use Rattle.odb_disk.proofs.TreeLemmas.Numbers.{least_free-fresh}
-use Rattle.odb_disk.proofs.TreeLemmas.{tree_of-state_of, cases_path, node_at-put, node_at-put_other, node_at-taken, node_at-taken_other, same_path, find_own, find_later, second}
+use Rattle.odb_disk.proofs.TreeLemmas.{cases_path, node_at-put, node_at-put_other, node_at-taken, node_at-taken_other, same_path, find_own, find_later, second}
 
 -- ---- what is at a path after a change
 
@@ -225,57 +222,3 @@ pub lies_in-node : (t : Tree) → IsTree t → (p : Path) (n : Node) → [] ≢ 
 lies_in-node t is_tree p n below_root at =
     let s = split_last p below_root in
     ap (lies_in_directory t) s.is ∙ lies_in-push t s.front s.name ∙ is_tree.ways s.front s.name n (ap (node_at t) (sym s.is) ∙ at)
-
--- ---- a possible change keeps the tree a tree
-
-module _ (t : Tree) (is_tree : IsTree t) (p : Path) where
-  IsTree-new_node : (dev : ℕ) (content : Content) → lies_in_directory t p ≡ true → is_directory (node_at t p) ≡ false → IsTree (with_node t p (record { dev = dev; ino = least_free t; content = content }))
-  IsTree-new_node dev content lies other =
-      IsTree-put t is_tree p (record { dev = dev; ino = least_free t; content = content }) lies other (λ q k _ at. least_free-fresh t q k at)
-
-  IsTree-put_over : (content : Content) (node : Node) (old : Content) → lies_in_directory t p ≡ true → is_directory (node_at t p) ≡ false → node_at t p ≡ Some node → IsTree (with_node t p (put_over t p content node old))
-  IsTree-put_over content node (File bytes time) lies other at =
-      IsTree-put t is_tree p (record node { content = content }) lies other (λ q k apart there same. apart (is_tree.apart q p k node there at same))
-  IsTree-put_over content node Dir lies other at = IsTree-new_node (device_of (parent_node t p)) content lies other
-  IsTree-put_over content node (Link target) lies other at = IsTree-new_node (device_of (parent_node t p)) content lies other
-
-  IsTree-put_node : (content : Content) → lies_in_directory t p ≡ true → is_directory (node_at t p) ≡ false → IsTree (with_node t p (put_node t p content (node_at t p)))
-  IsTree-put_node content lies other =
-      elim (node_at t p) as (λ o. node_at t p ≡ o → IsTree (with_node t p (put_node t p content o))) [
-        | None ↦ λ _. IsTree-new_node (device_of (parent_node t p)) content lies other
-        | Some node ↦ λ at. IsTree-put_over content node node.content lies other at
-      ] refl
-
-  IsTree-remove : lies_in_directory t p ≡ true → is_nil (names_in t p) ≡ true → IsTree (without t p)
-  IsTree-remove lies nil = IsTree-without t is_tree p (λ root. false≢true (sym (root_lies_nowhere t p (sym root)) ∙ lies)) (no_names_below t p nil)
-
-pub IsTree-changed : (t : Tree) (change : Change) → IsTree t → is_possible_in t change ≡ true → IsTree (changed t change)
-unfolding is_possible_in changed
-IsTree-changed t (PutFile p time bytes) is_tree possible =
-    let parts = and_parts _ _ possible in IsTree-put_node t is_tree p (File bytes time) parts.0 (not-true _ parts.1)
-IsTree-changed t (MakeDir p dev) is_tree possible =
-    let parts = and_parts _ _ possible in IsTree-new_node t is_tree p dev Dir parts.0 (no_directory_at_none (node_at t p) parts.1)
-  where
-    no_directory_at_none : (o : Option Node) → is_none o ≡ true → is_directory o ≡ false
-    no_directory_at_none None none = refl
-    no_directory_at_none (Some node) none = cc
-IsTree-changed t (Remove p) is_tree possible =
-    let parts = and_parts _ _ possible in let more = and_parts _ _ parts.0 in IsTree-remove t is_tree p more.0 parts.1
-
--- ---- a change of a state
-
-pub is_possible-state_of : (t : Tree) (change : Change) → is_possible (state_of t) change ≡ is_possible_in t change
-unfolding is_possible
-is_possible-state_of t change = ap (λ u. is_possible_in u change) (tree_of-state_of t)
-
-pub after_change-tree : (s : State) (change : Change) → tree_of (after_change s change) ≡ changed (tree_of s) change
-unfolding after_change
-after_change-tree s change = tree_of-state_of (changed (tree_of s) change)
-
-pub is_possible-tree_of : (s : State) (change : Change) → is_possible s change ≡ is_possible_in (tree_of s) change
-unfolding is_possible
-is_possible-tree_of s change = refl
-
-pub IsTree-after_change : (s : State) (change : Change) → IsTree (tree_of s) → is_possible s change ≡ true → IsTree (tree_of (after_change s change))
-IsTree-after_change s change is_tree possible =
-    subst IsTree (sym (after_change-tree s change)) (IsTree-changed (tree_of s) change is_tree (sym (is_possible-tree_of s change) ∙ possible))

@@ -1,6 +1,9 @@
 -- Laws of following a path: one pass along its names, and where the links lead.
-use Rattle.std.proofs.Common.{◌≡◌, ℕ, suc, ◌<◌, Bool, true, false, List, [], ◌∷◌, ◌++◌, length, get_or, drop, Some, None, Result, Ok, Err, zero, ◌≢◌, refl, sym, ap, ◌∙◌, append_assoc, append-nil, arith}
-use Rattle.odb_base.specs.Path.{Name, Path}
+use Rattle.std.proofs.Common.{◌≡◌, ℕ, suc, ◌<◌, Bool, true, false, List, [], ◌∷◌, ◌++◌, length, get_or, drop, Option, Some, None, Result, Ok, Err, zero, ◌≢◌, refl, sym, ap, ◌∙◌, append_assoc, append-nil, length-take, arith, subst}
+use Rattle.std.specs.Option.{IfSome}
+use Rattle.std.proofs.lemmas.Bool.{false≢true}
+use Rattle.odb_base.specs.Path.{Name, Path, parent_of}
+use Rattle.odb_base.specs.PathLaws.{parent_of-some, parent_of-nothing}
 use Rattle.odb_disk.specs.Tree.{Tree, IsTree, node_at, is_directory, is_directory_content}
 use Rattle.odb_disk.specs.Tree.Follow.{Pass, Reached, Onward, Missing, Blocked, pass, past, beyond, at_last, ending, Place, Refusal, Absent, WrongKind, LinkLoop, arrives, followed_within}
 use Rattle.odb_disk.specs.declared.node.Node.{Node}
@@ -155,3 +158,38 @@ module _ (t : Tree) (follow : Bool) (path : Path) where
   pub followed_onward : (links less : ℕ) (onward : Path) → links ≡ suc less → pass t follow [] path ≡ Onward onward → followed_within links t follow path ≡ followed_within less t follow onward
   unfolding followed_within
   followed_onward links less onward one is = ap (λ l. followed_within l t follow path) one ∙ ap (arrives (followed_within less t follow)) is
+
+-- ---- a place is where its node stands
+
+module _ (t : Tree) where
+  at_last_is : (follow : Bool) (way : Path) (node : Node) (content : Content) (p : Path) (n : Node) → at_last follow way node content ≡ Reached p n → (way ≡ p) × (node ≡ n)
+  at_last_is true way node (File bytes time) p n is = (cc, cc)
+  at_last_is true way node Dir p n is = (cc, cc)
+  at_last_is true way node (Link target) p n is = absurd (cc)
+  at_last_is false way node content p n is = (cc, cc)
+
+  ending_is : (follow : Bool) (way : Path) (o : Option Node) (p : Path) (n : Node) → ending follow way o ≡ Reached p n → (way ≡ p) × (o ≡ Some n)
+  ending_is follow way None p n is = absurd (cc)
+  ending_is follow way (Some node) p n is = let both = at_last_is follow way node node.content p n is in (both.0, ap Some both.1)
+
+  beyond_is : (o : Option Node) (names : Path) (further : Pass) (p : Path) (n : Node) → beyond o names further ≡ Reached p n → further ≡ Reached p n
+  beyond_is None names further p n is = absurd (cc)
+  beyond_is (Some node) names further p n is =
+      elim node.content as (λ c. past c names further ≡ Reached p n → further ≡ Reached p n) [ File bytes time ↦ λ e. absurd (cc) | Dir ↦ λ e. e | Link target ↦ λ e. absurd (cc) ] is
+
+  reached_stands : (follow : Bool) (way names : Path) (p : Path) (n : Node) → pass t follow way names ≡ Reached p n → node_at t p ≡ Some n
+  unfolding pass
+  reached_stands follow way [] p n is = let both = ending_is follow way (node_at t way) p n is in ap (node_at t) (sym both.0) ∙ both.1
+  reached_stands follow way (name ∷ names) p n is = reached_stands follow (way ++ name ∷ []) names p n (beyond_is (node_at t way) (name ∷ names) _ p n is)
+
+  arrived : (further : Path → Result Place Refusal) (p : Pass) (place : Place) → arrives further p ≡ Ok place → ((q : Path) → further q ≡ Ok place → node_at t place.path ≡ Some place.node) → ((q : Path) (n : Node) → p ≡ Reached q n → node_at t q ≡ Some n) → node_at t place.path ≡ Some place.node
+  arrived further (Reached q n) place is onward reached =
+      let same : ◌≡◌ {A = Place} (record { path = q; node = n }) place = cc in subst (λ (k : Place). node_at t k.path ≡ Some k.node) same (reached q n refl)
+  arrived further (Onward q) place is onward reached = onward q is
+  arrived further Missing place is onward reached = absurd (cc)
+  arrived further Blocked place is onward reached = absurd (cc)
+
+  pub place_stands : (links : ℕ) (follow : Bool) (path : Path) (place : Place) → followed_within links t follow path ≡ Ok place → node_at t place.path ≡ Some place.node
+  unfolding followed_within
+  place_stands zero follow path place is = arrived (λ _. Err LinkLoop) (pass t follow [] path) place is (λ q e. absurd (cc)) (reached_stands follow [] path)
+  place_stands (suc links) follow path place is = arrived (followed_within links t follow) (pass t follow [] path) place is (λ q. place_stands links follow q place) (reached_stands follow [] path)

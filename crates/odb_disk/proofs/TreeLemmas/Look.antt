@@ -12,7 +12,8 @@ use Rattle.odb_disk.specs.declared.disk.Kind.TheVariants as kinds
 use Rattle.odb_disk.specs.declared.change.Change.TheVariants.{PutFile}
 use Rattle.odb_disk.proofs.TreeLemmas.{node_at-put}
 use Rattle.odb_disk.proofs.TreeLemmas.Follow.{pass_to_other, followed_reached}
-use Rattle.odb_disk.proofs.TreeLemmas.Change.{IsTree-changed, made-put_file}
+use Rattle.odb_disk.proofs.TreeLemmas.Change.{made-put_file}
+use Rattle.odb_disk.proofs.TreeLemmas.Changed.{IsTree-changed}
 
 -- ---- a look and a read of one path
 

@@ -1,225 +1,194 @@
 //! What no clause says: which paths lead where on a small disk, and that calls succeed.
-use crate::{
-    ByteList, Change, Disk, DiskAnswer, DiskAsk, DiskError, MemDisk, Meta, Op, PathText, Tree,
-};
-use std::alloc::{AllocError, Global};
+use super::words::{answer_shown, ask_of, change_of, change_shown, compare, cut, halves};
+use crate::{Disk, DiskAsk, MemDisk};
+use std::alloc::Global;
 use std::test::Fail;
-
-/// A change in words: `put` of a file of two bytes and time 7, `make` of a directory on device 3, or `remove`.
-fn change_of(alloc: Global, verb: &str, text: &str) -> Result<Change, Fail> {
-    let path = PathText::parse(alloc, text)?;
-    match verb {
-        "put" => put_of(alloc, path),
-        "make" => Ok(Change::MakeDir { path, dev: 3 }),
-        _ => Ok(Change::Remove { path }),
-    }
-}
-
-fn put_of(alloc: Global, path: PathText) -> Result<Change, Fail> {
-    let bytes = ByteList::from_slice(alloc, b"hi")?;
-    Ok(Change::PutFile {
-        path,
-        time: 7,
-        bytes,
-    })
-}
-
-fn change(alloc: Global, disk: &mut MemDisk, verb: &str, text: &str) -> Result<(), Fail> {
-    Ok(disk.change(alloc, &change_of(alloc, verb, text)?)?)
-}
-
-fn change_all(alloc: Global, disk: &mut MemDisk, changes: &[(&str, &str)]) -> Result<(), Fail> {
-    for (verb, text) in changes {
-        change(alloc, disk, verb, text)?;
-    }
-    Ok(())
-}
 
 /// A disk with the folder `/o` and the file `/o/f`.
 fn small(alloc: Global, faults: &[u64]) -> Result<MemDisk, Fail> {
     let mut disk = MemDisk::with_faults(alloc, faults)?;
-    change_all(alloc, &mut disk, &[("make", "/o"), ("put", "/o/f")])?;
+    change(alloc, &mut disk, "make", "/o")?;
+    change(alloc, &mut disk, "put", "/o/f")?;
     Ok(disk)
 }
 
-/// A look in words: kind, device, inode number, length and time, or the error.
-fn look_shown(alloc: Global, found: Result<Meta, DiskError>) -> Result<String, AllocError> {
-    match found {
-        Ok(meta) => meta_shown(alloc, meta),
-        Err(error) => format!(in alloc; "{error}"),
+/// What a change gives, in words.
+fn change(alloc: Global, disk: &mut MemDisk, verb: &str, rest: &str) -> Result<String, Fail> {
+    let change = change_of(alloc, verb, rest)?;
+    Ok(change_shown(alloc, disk.change(alloc, &change))?)
+}
+
+/// What a call gives, in words.
+fn call(alloc: Global, disk: &mut MemDisk, verb: &str, rest: &str) -> Result<String, Fail> {
+    let ask = ask_of(alloc, verb, rest)?;
+    Ok(answer_shown(alloc, &ask.carry_out(alloc, disk))?)
+}
+
+/// How many calls there were, and how many of them failed.
+fn counts(alloc: Global, disk: &MemDisk) -> Result<String, Fail> {
+    let (calls, faults) = (disk.calls(), disk.faults());
+    Ok(format!(in alloc; "{calls} {faults}")?)
+}
+
+fn told(alloc: Global, disk: &mut MemDisk, text: &str) -> Result<String, Fail> {
+    let (verb, rest) = cut(text);
+    match verb {
+        "counts" => counts(alloc, disk),
+        "put" | "make" | "take" | "lengthen" => change(alloc, disk, verb, rest),
+        _ => call(alloc, disk, verb, rest),
     }
 }
 
-fn meta_shown(alloc: Global, meta: Meta) -> Result<String, AllocError> {
-    let kind = meta.kind;
-    let (dev, ino, len, time) = (meta.dev, meta.ino, meta.len, meta.time);
-    format!(in alloc; "{kind:?} {dev} {ino} {len} {time}")
-}
-
-fn look(alloc: Global, disk: &mut MemDisk, text: &str) -> Result<String, Fail> {
-    let path = PathText::parse(alloc, text)?;
-    Ok(look_shown(alloc, disk.look(alloc, &path, true))?)
-}
-
-/// A read in words: the number of bytes and the time, or the error.
-fn read(alloc: Global, disk: &mut MemDisk, text: &str) -> Result<String, Fail> {
-    let path = PathText::parse(alloc, text)?;
-    Ok(read_shown(alloc, disk.read(alloc, &path))?)
-}
-
-fn read_shown(
-    alloc: Global,
-    found: Result<(ByteList, u64), DiskError>,
-) -> Result<String, AllocError> {
-    match found {
-        Ok((bytes, time)) => file_shown(alloc, bytes.len(), time),
-        Err(error) => format!(in alloc; "{error}"),
+/// Makes the call or the change of each row, in turn, and compares what comes of it.
+fn check(alloc: Global, disk: &mut MemDisk, rows: &str) -> Result<(), Fail> {
+    for row in rows.split('\n') {
+        let (text, want) = halves(row);
+        let found = told(alloc, disk, text)?;
+        compare(text, found.as_str(), want)?;
     }
+    Ok(())
 }
 
-fn file_shown(alloc: Global, len: usize, time: u64) -> Result<String, AllocError> {
-    format!(in alloc; "{len} {time}")
+/// The same on a disk of its own.
+fn check_small(alloc: Global, faults: &[u64], rows: &str) -> Result<(), Fail> {
+    let mut disk = small(alloc, faults)?;
+    check(alloc, &mut disk, rows)
 }
+
+const LOOKS: &str = "\
+    look /|Dir 0 1 0 0\n\
+    look /o|Dir 3 2 0 0\n\
+    look /o/f|File 3 3 2 7\n\
+    look /o/f/x|WrongKind\n\
+    look /o/g|Absent\n\
+    look /p/f|Absent\n\
+    look /f|Absent";
 
 // Catches a look at the wrong path, an error in place of another, and a device not taken from the folder.
 #[test]
 fn looks(rt: HostRuntime) -> Result<(), Fail> {
-    let mut disk = small(rt.alloc(), &[])?;
-    for (text, want) in [
-        ("/", "Dir 0 1 0 0"),
-        ("/o", "Dir 3 2 0 0"),
-        ("/o/f", "File 3 3 2 7"),
-        ("/o/f/x", "WrongKind"),
-        ("/o/g", "Absent"),
-        ("/p/f", "Absent"),
-        ("/f", "Absent"),
-    ] {
-        let found = look(rt.alloc(), &mut disk, text)?;
-        assert_eq!(rt; found.as_str(), want, "{text}");
-    }
-    Ok(())
+    check_small(rt.alloc(), &[], LOOKS)
 }
+
+const READS: &str = "\
+    read /|WrongKind\n\
+    read /o|WrongKind\n\
+    read /o/f|hi 7\n\
+    read /o/f/x|WrongKind\n\
+    read /x|Absent";
 
 // Catches a read of what is no file, and bytes or a time of another one.
 #[test]
 fn reads(rt: HostRuntime) -> Result<(), Fail> {
-    let mut disk = small(rt.alloc(), &[])?;
-    for (text, want) in [
-        ("/", "WrongKind"),
-        ("/o", "WrongKind"),
-        ("/o/f", "2 7"),
-        ("/o/f/x", "WrongKind"),
-        ("/x", "Absent"),
-    ] {
-        let found = read(rt.alloc(), &mut disk, text)?;
-        assert_eq!(rt; found.as_str(), want, "{text}");
-    }
-    let path = PathText::parse(rt.alloc(), "/o/f")?;
-    let (bytes, time) = disk.read(rt.alloc(), &path)?;
-    assert_eq!(rt; bytes.as_slice(), b"hi".as_slice());
-    assert_eq!(rt; time, 7);
-    Ok(())
+    check_small(rt.alloc(), &[], READS)
 }
+
+const FAULTS: &str = "\
+    put /o/f|done\n\
+    look /o/f|File 3 3 2 7\n\
+    put /o/f|done\n\
+    look /x|Failed\n\
+    put /o/f|done\n\
+    look /x|Absent\n\
+    put /o/f|done\n\
+    look /o/f|Failed\n\
+    counts|4 2";
 
 // Catches a fault at the wrong call, and a change that is counted.
 #[test]
 fn faults(rt: HostRuntime) -> Result<(), Fail> {
-    let mut disk = small(rt.alloc(), &[2, 4])?;
-    for (text, want) in [
-        ("/o/f", "File 3 3 2 7"),
-        ("/x", "Failed"),
-        ("/x", "Absent"),
-        ("/o/f", "Failed"),
-    ] {
-        change(rt.alloc(), &mut disk, "put", "/o/f")?;
-        let found = look(rt.alloc(), &mut disk, text)?;
-        assert_eq!(rt; found.as_str(), want, "{text}");
-    }
-    assert_eq!(rt; disk.calls(), 4);
-    assert_eq!(rt; disk.faults(), 2);
-    Ok(())
+    check_small(rt.alloc(), &[2, 4], FAULTS)
+}
+
+/// Rows for a disk, and then for a copy of it that was made before.
+fn check_copy(alloc: Global, disk: &mut MemDisk, rows: &str, copied: &str) -> Result<(), Fail> {
+    let mut copy = disk.try_clone(alloc)?;
+    check(alloc, disk, rows)?;
+    check(alloc, &mut copy, copied)
 }
 
 // Catches a copy that forgets what is to fail, or that shares its tree.
 #[test]
 fn copies(rt: HostRuntime) -> Result<(), Fail> {
     let mut disk = small(rt.alloc(), &[1])?;
-    let mut copy = disk.try_clone(rt.alloc())?;
-    change(rt.alloc(), &mut disk, "remove", "/o/f")?;
-    let first = look(rt.alloc(), &mut copy, "/o/f")?;
-    let second = look(rt.alloc(), &mut copy, "/o/f")?;
-    assert_eq!(rt; first.as_str(), "Failed");
-    assert_eq!(rt; second.as_str(), "File 3 3 2 7");
-    assert_eq!(rt; disk.calls(), 0);
+    let copied = "look /o/f|Failed\nlook /o/f|File 3 3 2 7";
+    check_copy(rt.alloc(), &mut disk, "take /o/f|done", copied)?;
+    check(rt.alloc(), &mut disk, "counts|0 0")
+}
+
+const APPENDS: &str = "\
+    append /o/f there|done\n\
+    append /o/f nobody|Failed\n\
+    append /o/f|done\n\
+    lengthen /o/f !|done\n\
+    read /o/f|hithere! 7";
+
+// Catches a piece that is put before the old bytes, and a call that fails and appends nevertheless.
+#[test]
+fn appends(rt: HostRuntime) -> Result<(), Fail> {
+    check_small(rt.alloc(), &[2], APPENDS)
+}
+
+/// The name of a call, and what either disk call that makes it on a disk of its own gives.
+fn both(
+    alloc: Global,
+    one: &mut MemDisk,
+    other: &mut MemDisk,
+    ask: &DiskAsk,
+) -> Result<String, Fail> {
+    let first = answer_shown(alloc, &ask.carry_out(alloc, one))?;
+    let second = answer_shown(alloc, &other.carry_out(alloc, ask)?)?;
+    let op = ask.op();
+    Ok(format!(in alloc; "{op:?}, {first}, {second}")?)
+}
+
+fn check_row(alloc: Global, one: &mut MemDisk, other: &mut MemDisk, row: &str) -> Result<(), Fail> {
+    let (text, want) = halves(row);
+    let (verb, rest) = cut(text);
+    let ask = ask_of(alloc, verb, rest)?;
+    let found = both(alloc, one, other, &ask)?;
+    compare(text, found.as_str(), want)
+}
+
+/// Makes the call of each row, in turn, on either disk, and compares what comes of it.
+fn check_pair(
+    alloc: Global,
+    one: &mut MemDisk,
+    other: &mut MemDisk,
+    rows: &str,
+) -> Result<(), Fail> {
+    for row in rows.split('\n') {
+        check_row(alloc, one, other, row)?;
+    }
     Ok(())
 }
 
-/// Carries out a look and a read as values, and tells whether they were answered alike by either disk call.
-fn carried_alike(alloc: Global, disk: &mut MemDisk) -> Result<bool, Fail> {
-    let path = PathText::parse(alloc, "/o/f")?;
-    let look = DiskAsk::Look { path, follow: true };
-    let path = PathText::parse(alloc, "/o/f")?;
-    let read = DiskAsk::Read { path };
-    let first = matches!(
-        look.carry_out(alloc, disk),
-        DiskAnswer::Meta(Meta { ino: 3, .. })
-    );
-    let second = matches!(
-        disk.carry_out(alloc, &read)?,
-        DiskAnswer::File { time: 7, .. }
-    );
-    Ok(first && second && look.op() == Op::Look && read.op() == Op::Read)
+/// The same on two disks of its own.
+fn check_both(alloc: Global, rows: &str) -> Result<(), Fail> {
+    let mut one = small(alloc, &[])?;
+    let mut other = small(alloc, &[])?;
+    check_pair(alloc, &mut one, &mut other, rows)
 }
 
 // Catches a call as a value that is carried out as another one.
 #[test]
 fn calls_as_values(rt: HostRuntime) -> Result<(), Fail> {
-    let mut disk = small(rt.alloc(), &[])?;
-    let alike = carried_alike(rt.alloc(), &mut disk)?;
-    assert!(rt; alike);
-    Ok(())
+    let rows = "look /o/f|Look, File 3 3 2 7, File 3 3 2 7\nread /o/f|Read, hi 7, hi 7";
+    check_both(rt.alloc(), rows)
 }
 
-fn link(alloc: Global, tree: &mut Tree, text: &str, target: &str) -> Result<(), Fail> {
-    let path = PathText::parse(alloc, text)?;
-    let target = PathText::parse(alloc, target)?;
-    Ok(tree.put_link(alloc, &path, target)?)
-}
+const WRITES: &str = "\
+    mkdir /p|MakeDir, done, done\n\
+    mkdir /p|MakeDir, Exists, Exists\n\
+    new /p/f|NewFile, done, done\n\
+    append /p/f abc|Append, done, done\n\
+    rename /p/f /p/g|Rename, done, done\n\
+    remove /p/f|Remove, Absent, Absent\n\
+    remove /p/g|Remove, done, done\n\
+    remove /p|Remove, done, done";
 
-/// A tree with the folder `/o`, the file `/o/f`, and links to both, to nowhere and to itself.
-fn linked(alloc: Global) -> Result<Tree, Fail> {
-    let mut tree = Tree::bare(alloc)?;
-    tree.change(alloc, &change_of(alloc, "make", "/o")?)?;
-    tree.change(alloc, &change_of(alloc, "put", "/o/f")?)?;
-    for (text, target) in [("/d", "/o"), ("/o/l", "/d/f"), ("/n", "/x"), ("/s", "/s")] {
-        link(alloc, &mut tree, text, target)?;
-    }
-    Ok(tree)
-}
-
-fn look_in(alloc: Global, tree: &Tree, text: &str, follow: bool) -> Result<String, Fail> {
-    let path = PathText::parse(alloc, text)?;
-    Ok(look_shown(alloc, tree.look(alloc, &path, follow))?)
-}
-
-// Catches a link that isn't followed on the way or in the last place, and a walk along links with no end.
+// Catches a call as a value that writes otherwise than the call.
 #[test]
-fn links(rt: HostRuntime) -> Result<(), Fail> {
-    let tree = linked(rt.alloc())?;
-    for (text, follow, want) in [
-        ("/d", false, "Link 0 4 0 0"),
-        ("/d", true, "Dir 3 2 0 0"),
-        ("/d/f", false, "File 3 3 2 7"),
-        ("/d/l", false, "Link 3 5 0 0"),
-        ("/d/l", true, "File 3 3 2 7"),
-        ("/d/l/x", true, "WrongKind"),
-        ("/n", true, "Absent"),
-        ("/n", false, "Link 0 6 0 0"),
-        ("/s", true, "LinkLoop"),
-        ("/s/x", false, "LinkLoop"),
-    ] {
-        let found = look_in(rt.alloc(), &tree, text, follow)?;
-        assert_eq!(rt; found.as_str(), want, "{text}");
-    }
-    Ok(())
+fn writes_as_values(rt: HostRuntime) -> Result<(), Fail> {
+    check_both(rt.alloc(), WRITES)
 }

@@ -1,8 +1,55 @@
-use Rattle.odb_disk.proofs.AskLemmas.{carried_look_told, carried_read_told}
+use Rattle.odb_disk.specs.Tree.Write.{change_of_make_dir, change_of_new_file, change_of_append, change_of_rename, change_of_remove}
+use Rattle.odb_disk.proofs.AskLemmas.{carried_look_told, carried_read_told, looked_state, read_state, carried_write_told, carried_state_told, asks_make_dir, asks_new_file, asks_append, asks_rename, asks_remove}
 use Rattle.odb_disk.proofs.ask.DiskAsk.carry_out.Goals as goal
 
 pub returns-in-Look-clause-answer : goal.returns-in-Look-clause-answer
 returns-in-Look-clause-answer g c = carried_look_told c.in-Look.path c.args.self.now c.look_answer.result c.in-Look.follow c.look.result (g.D.Disk.state c.args.disk.now) c.in-Look.is c.look_answer.ensures c.look.ensures.answer
 
+pub returns-in-Look-clause-state : goal.returns-in-Look-clause-state
+returns-in-Look-clause-state g c = looked_state c.args.self.now (g.D.Disk.state c.args.disk.now) _ c.look.ensures.kept c.look_answer.result c.look.result c.look_answer.ensures
+
 pub returns-in-Read-clause-answer : goal.returns-in-Read-clause-answer
 returns-in-Read-clause-answer g c = carried_read_told c.in-Read.path c.args.self.now c.read_answer.result c.read.result (g.D.Disk.state c.args.disk.now) c.in-Read.is c.read_answer.ensures c.read.ensures.answer
+
+pub returns-in-Read-clause-state : goal.returns-in-Read-clause-state
+returns-in-Read-clause-state g c = read_state c.args.self.now (g.D.Disk.state c.args.disk.now) _ c.read.ensures.kept c.read_answer.result c.read.result c.read_answer.ensures
+
+pub returns-in-MakeDir-clause-answer : goal.returns-in-MakeDir-clause-answer
+returns-in-MakeDir-clause-answer g c =
+    carried_write_told c.args.self.now c.write_answer.result c.make_dir.result c.write_answer.ensures (g.D.Disk.state c.args.disk.now) (λ t. change_of_make_dir t c.in-MakeDir.path) (λ t. asks_make_dir t c.args.self.now c.in-MakeDir.path c.in-MakeDir.is) c.make_dir.ensures.answer
+
+pub returns-in-MakeDir-clause-state : goal.returns-in-MakeDir-clause-state
+returns-in-MakeDir-clause-state g c =
+    carried_state_told c.args.self.now c.write_answer.result c.make_dir.result c.write_answer.ensures (g.D.Disk.state c.args.disk.now) (λ t. change_of_make_dir t c.in-MakeDir.path) (λ t. asks_make_dir t c.args.self.now c.in-MakeDir.path c.in-MakeDir.is) _ c.make_dir.ensures.made c.make_dir.ensures.kept
+
+pub returns-in-NewFile-clause-answer : goal.returns-in-NewFile-clause-answer
+returns-in-NewFile-clause-answer g c =
+    carried_write_told c.args.self.now c.write_answer-in-NewFile.result c.new_file.result c.write_answer-in-NewFile.ensures (g.D.Disk.state c.args.disk.now) (λ t. change_of_new_file t c.in-NewFile.path) (λ t. asks_new_file t c.args.self.now c.in-NewFile.path c.in-NewFile.is) c.new_file.ensures.answer
+
+pub returns-in-NewFile-clause-state : goal.returns-in-NewFile-clause-state
+returns-in-NewFile-clause-state g c =
+    carried_state_told c.args.self.now c.write_answer-in-NewFile.result c.new_file.result c.write_answer-in-NewFile.ensures (g.D.Disk.state c.args.disk.now) (λ t. change_of_new_file t c.in-NewFile.path) (λ t. asks_new_file t c.args.self.now c.in-NewFile.path c.in-NewFile.is) _ c.new_file.ensures.made c.new_file.ensures.kept
+
+pub returns-in-Append-clause-answer : goal.returns-in-Append-clause-answer
+returns-in-Append-clause-answer g c =
+    carried_write_told c.args.self.now c.write_answer-in-Append.result c.append.result c.write_answer-in-Append.ensures (g.D.Disk.state c.args.disk.now) (λ t. change_of_append t c.in-Append.path c.as_slice.result.now) (λ t. asks_append t c.args.self.now c.in-Append.path c.in-Append.bytes c.as_slice.result.now c.in-Append.is c.as_slice.ensures) c.append.ensures.answer
+
+pub returns-in-Append-clause-state : goal.returns-in-Append-clause-state
+returns-in-Append-clause-state g c =
+    carried_state_told c.args.self.now c.write_answer-in-Append.result c.append.result c.write_answer-in-Append.ensures (g.D.Disk.state c.args.disk.now) (λ t. change_of_append t c.in-Append.path c.as_slice.result.now) (λ t. asks_append t c.args.self.now c.in-Append.path c.in-Append.bytes c.as_slice.result.now c.in-Append.is c.as_slice.ensures) _ c.append.ensures.made c.append.ensures.kept
+
+pub returns-in-Rename-clause-answer : goal.returns-in-Rename-clause-answer
+returns-in-Rename-clause-answer g c =
+    carried_write_told c.args.self.now c.write_answer-in-Rename.result c.rename.result c.write_answer-in-Rename.ensures (g.D.Disk.state c.args.disk.now) (λ t. change_of_rename t c.in-Rename.from c.in-Rename.to) (λ t. asks_rename t c.args.self.now c.in-Rename.from c.in-Rename.to c.in-Rename.is) c.rename.ensures.answer
+
+pub returns-in-Rename-clause-state : goal.returns-in-Rename-clause-state
+returns-in-Rename-clause-state g c =
+    carried_state_told c.args.self.now c.write_answer-in-Rename.result c.rename.result c.write_answer-in-Rename.ensures (g.D.Disk.state c.args.disk.now) (λ t. change_of_rename t c.in-Rename.from c.in-Rename.to) (λ t. asks_rename t c.args.self.now c.in-Rename.from c.in-Rename.to c.in-Rename.is) _ c.rename.ensures.made c.rename.ensures.kept
+
+pub returns-in-Remove-clause-answer : goal.returns-in-Remove-clause-answer
+returns-in-Remove-clause-answer g c =
+    carried_write_told c.args.self.now c.write_answer-in-Remove.result c.remove.result c.write_answer-in-Remove.ensures (g.D.Disk.state c.args.disk.now) (λ t. change_of_remove t c.in-Remove.path) (λ t. asks_remove t c.args.self.now c.in-Remove.path c.in-Remove.is) c.remove.ensures.answer
+
+pub returns-in-Remove-clause-state : goal.returns-in-Remove-clause-state
+returns-in-Remove-clause-state g c =
+    carried_state_told c.args.self.now c.write_answer-in-Remove.result c.remove.result c.write_answer-in-Remove.ensures (g.D.Disk.state c.args.disk.now) (λ t. change_of_remove t c.in-Remove.path) (λ t. asks_remove t c.args.self.now c.in-Remove.path c.in-Remove.is) _ c.remove.ensures.made c.remove.ensures.kept

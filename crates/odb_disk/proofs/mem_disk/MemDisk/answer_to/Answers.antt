@@ -1,5 +1,5 @@
 use Rattle.odb_disk.specs.Tree.{tree_of}
-use Rattle.odb_disk.proofs.AskLemmas.{carried_look, carried_read}
+use Rattle.odb_disk.proofs.AskLemmas.{carried_look, carried_read, carried_write, carried_state, asks_make_dir, asks_new_file, asks_append, asks_rename, asks_remove}
 use Rattle.odb_disk.proofs.mem_disk.MemDisk.answer_to.Goals as goal
 
 pub returns-in-Look-clause-answer : goal.returns-in-Look-clause-answer
@@ -7,3 +7,53 @@ returns-in-Look-clause-answer c = carried_look c.in-Look.path c.args.ask.now c.l
 
 pub returns-in-Read-clause-answer : goal.returns-in-Read-clause-answer
 returns-in-Read-clause-answer c = carried_read c.in-Read.path c.args.ask.now c.read_answer.result c.read.result (tree_of c.args.self.now.state) c.in-Read.is c.read_answer.ensures c.read.ensures.answer
+
+pub returns-in-MakeDir-clause-answer : goal.returns-in-MakeDir-clause-answer
+returns-in-MakeDir-clause-answer c =
+    let t = tree_of c.args.self.now.state in
+    carried_write c.args.ask.now c.write_answer.result c.make_dir.result c.write_answer.ensures t _ (asks_make_dir t c.args.ask.now c.in-MakeDir.path c.in-MakeDir.is) c.make_dir.ensures.answer
+
+pub returns-in-MakeDir-clause-state : goal.returns-in-MakeDir-clause-state
+returns-in-MakeDir-clause-state c =
+    let s = c.args.self.now.state in
+    carried_state c.args.ask.now c.write_answer.result c.make_dir.result c.write_answer.ensures s _ _ (asks_make_dir (tree_of s) c.args.ask.now c.in-MakeDir.path c.in-MakeDir.is) c.make_dir.ensures.made c.make_dir.ensures.kept
+
+pub returns-in-NewFile-clause-answer : goal.returns-in-NewFile-clause-answer
+returns-in-NewFile-clause-answer c =
+    let t = tree_of c.args.self.now.state in
+    carried_write c.args.ask.now c.write_answer-in-NewFile.result c.new_file.result c.write_answer-in-NewFile.ensures t _ (asks_new_file t c.args.ask.now c.in-NewFile.path c.in-NewFile.is) c.new_file.ensures.answer
+
+pub returns-in-NewFile-clause-state : goal.returns-in-NewFile-clause-state
+returns-in-NewFile-clause-state c =
+    let s = c.args.self.now.state in
+    carried_state c.args.ask.now c.write_answer-in-NewFile.result c.new_file.result c.write_answer-in-NewFile.ensures s _ _ (asks_new_file (tree_of s) c.args.ask.now c.in-NewFile.path c.in-NewFile.is) c.new_file.ensures.made c.new_file.ensures.kept
+
+pub returns-in-Append-clause-answer : goal.returns-in-Append-clause-answer
+returns-in-Append-clause-answer c =
+    let t = tree_of c.args.self.now.state in
+    carried_write c.args.ask.now c.write_answer-in-Append.result c.append.result c.write_answer-in-Append.ensures t _ (asks_append t c.args.ask.now c.in-Append.path c.in-Append.bytes c.as_slice.result.now c.in-Append.is c.as_slice.ensures) c.append.ensures.answer
+
+pub returns-in-Append-clause-state : goal.returns-in-Append-clause-state
+returns-in-Append-clause-state c =
+    let s = c.args.self.now.state in
+    carried_state c.args.ask.now c.write_answer-in-Append.result c.append.result c.write_answer-in-Append.ensures s _ _ (asks_append (tree_of s) c.args.ask.now c.in-Append.path c.in-Append.bytes c.as_slice.result.now c.in-Append.is c.as_slice.ensures) c.append.ensures.made c.append.ensures.kept
+
+pub returns-in-Rename-clause-answer : goal.returns-in-Rename-clause-answer
+returns-in-Rename-clause-answer c =
+    let t = tree_of c.args.self.now.state in
+    carried_write c.args.ask.now c.write_answer-in-Rename.result c.rename.result c.write_answer-in-Rename.ensures t _ (asks_rename t c.args.ask.now c.in-Rename.from c.in-Rename.to c.in-Rename.is) c.rename.ensures.answer
+
+pub returns-in-Rename-clause-state : goal.returns-in-Rename-clause-state
+returns-in-Rename-clause-state c =
+    let s = c.args.self.now.state in
+    carried_state c.args.ask.now c.write_answer-in-Rename.result c.rename.result c.write_answer-in-Rename.ensures s _ _ (asks_rename (tree_of s) c.args.ask.now c.in-Rename.from c.in-Rename.to c.in-Rename.is) c.rename.ensures.made c.rename.ensures.kept
+
+pub returns-in-Remove-clause-answer : goal.returns-in-Remove-clause-answer
+returns-in-Remove-clause-answer c =
+    let t = tree_of c.args.self.now.state in
+    carried_write c.args.ask.now c.write_answer-in-Remove.result c.remove.result c.write_answer-in-Remove.ensures t _ (asks_remove t c.args.ask.now c.in-Remove.path c.in-Remove.is) c.remove.ensures.answer
+
+pub returns-in-Remove-clause-state : goal.returns-in-Remove-clause-state
+returns-in-Remove-clause-state c =
+    let s = c.args.self.now.state in
+    carried_state c.args.ask.now c.write_answer-in-Remove.result c.remove.result c.write_answer-in-Remove.ensures s _ _ (asks_remove (tree_of s) c.args.ask.now c.in-Remove.path c.in-Remove.is) c.remove.ensures.made c.remove.ensures.kept

@@ -4,7 +4,7 @@ use Rattle.odb_disk.specs.Tree.{state_of}
 use Rattle.odb_disk.specs.Tree.Change.{is_possible}
 use Rattle.odb_disk.specs.MemDisk.{Volume, after_outside_change}
 use Rattle.odb_disk.specs.declared.mem_disk.MemDisk.TheInside.{Inside}
-use Rattle.odb_disk.proofs.TreeLemmas.Change.{is_possible-state_of}
+use Rattle.odb_disk.proofs.TreeLemmas.Changed.{is_possible-state_of}
 use Rattle.odb_disk.proofs.MemDiskLemmas.{IsTree-after, outside_change}
 use Rattle.odb_disk.proofs.mem_disk.MemDisk.change.Goals as goal
 

@@ -1,17 +1,23 @@
-use Rattle.std.proofs.Common.{◌∙◌, sym}
-use Rattle.odb_disk.proofs.TreeLemmas.{IsSome-from}
-use Rattle.odb_disk.proofs.TreeLemmas.Change.{nowhere-make_dir, over-make_dir, possible-make_dir, made-make_dir}
-use Rattle.odb_disk.proofs.TreeCallsLemmas.{lies_nowhere, lies_somewhere}
+use Rattle.std.proofs.Common.{ap}
+use Rattle.std.proofs.lemmas.Result.{err_from_is_err_and}
+use Rattle.odb_disk.specs.Tree.Write.{done}
+use Rattle.odb_disk.proofs.TreeLemmas.Write.{vacant_at}
+use Rattle.odb_disk.proofs.WriteCallsLemmas.{make_dir_refused, vacant_lies, change_of_make_dir-is, made_dir}
 use Rattle.odb_disk.proofs.tree.Tree.make_dir.Goals as goal
 
-pub returns-in_default-clause-impossible : goal.returns-in_default-clause-impossible
-returns-in_default-clause-impossible c = λ _. nowhere-make_dir _ _ c.args.dev (lies_nowhere _ _ _ c.in_ok-directory_device.ensures c.in_default.is)
+pub returns-in_err-place-clause-told : goal.returns-in_err-place-clause-told
+returns-in_err-place-clause-told c =
+    let p = err_from_is_err_and c.from_residual.result c.from_residual.ensures.1 in
+    rw (p.1, p.2) (make_dir_refused c.args.self.now c.args.path.now _ c.in_err-place.ensures.told)
 
-pub returns-in_default-node-clause-impossible : goal.returns-in_default-node-clause-impossible
-returns-in_default-node-clause-impossible c = λ _. over-make_dir _ _ c.args.dev (IsSome-from _ _ c.in_default-node.ensures.value)
+pub put_vacant-requires-clause-lies : goal.put_vacant-requires-clause-lies
+put_vacant-requires-clause-lies c = vacant_lies c.args.self.now c.args.self.now c.args.path.now c.in_ok-place.place c.in_ok-place.ensures.is_tree c.in_ok-place.ensures.told
+
+pub put_vacant-requires-clause-absent : goal.put_vacant-requires-clause-absent
+put_vacant-requires-clause-absent c = (vacant_at c.args.self.now c.args.path.now c.in_ok-place.place c.in_ok-place.ensures.told).absent
+
+pub returns-clause-told : goal.returns-clause-told
+returns-clause-told c = ap done (change_of_make_dir-is c.args.self.now c.args.self.now c.args.path.now c.in_ok-place.place c.in_ok-place.ensures.told)
 
 pub returns-clause-made : goal.returns-clause-made
-returns-clause-made c = c.in_ok-put_new.ensures.made ∙ sym (made-make_dir _ _ _)
-
-pub returns-clause-possible : goal.returns-clause-possible
-returns-clause-possible c = possible-make_dir _ _ _ (lies_somewhere _ _ _ c.in_ok-directory_device.ensures _ c.in-Some.is) (sym c.in-None.ensures.value)
+returns-clause-made c = made_dir c.args.self.now c.put_vacant.new.self c.args.path.now c.in_ok-place.place c.in_ok-place.ensures.told c.in_ok-put_vacant.ensures.made

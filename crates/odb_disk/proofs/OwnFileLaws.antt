@@ -1,0 +1,80 @@
+-- Laws of a file of one's own, for callers: a path whose spot is a file, from its making to its move, and what others
+-- may do meanwhile.
+use Rattle.std.proofs.Common.{◌≡◌, ◌≢◌, ℕ, true, false, List, [], ◌++◌, Ok, sym, ap, ◌∙◌, subst}
+use Rattle.std.proofs.lemmas.Bool.{false≢true, false_from_ne_true}
+use Rattle.odb_base.specs.Path.{Path}
+use Rattle.odb_disk.specs.Tree.{Tree, IsTree, node_at}
+use Rattle.odb_disk.specs.Tree.Follow.{read_of}
+use Rattle.odb_disk.specs.Tree.Change.{changed}
+use Rattle.odb_disk.specs.Tree.Write.{spot, vacant, replaceable, file_spot, change_of_new_file, change_of_append, change_of_rename, change_of_remove}
+use Rattle.odb_disk.specs.Tree.Way.{on_way, is_link, crosses, SameOnWay}
+use Rattle.odb_disk.specs.declared.change.Change.{Change}
+use Rattle.odb_disk.specs.declared.change.Change.TheVariants.{PutFile, MakeDir, Rename, Append, Remove}
+use Rattle.odb_disk.proofs.WriteLaws.{read_at_spot}
+use Rattle.odb_disk.proofs.WayLaws.{read_kept, file_spot_kept, spot_kept, same_unfollowed, same_put_file, same_make_dir, same_append, same_remove, same_rename, vacant_off_file, file_off_file, replaced_on_file, file_spot_own}
+use Rattle.odb_disk.proofs.WayWriteLaws.{new_file_spot, new_file_file_spot, new_file_read_through, append_spot, append_file_spot, append_read_through, rename_read_through, new_file_change, append_change, file_renamed, file_removed}
+
+-- the spot of a path is a file with these bytes and this time
+pub record HasFile (t : Tree) (path s : Path) (bytes : List ℕ) (time : ℕ) : Type 0 where
+  pub is : spot t path ≡ Ok s
+  pub leads : file_spot t path ≡ Ok s
+  pub reads : read_of t path ≡ Ok (bytes, time)
+
+-- ---- what its owner does
+
+-- a new file is there, empty and with time 0
+pub has_new_file : (t : Tree) → IsTree t → (path : Path) (change : Change) → change_of_new_file t path ≡ Ok change → (s : Path) × HasFile (changed t change) path s [] 0
+has_new_file t is_tree path change is =
+    let c = new_file_change t path change is in
+    let there : HasFile (changed t (PutFile c.0 0 [])) path c.0 [] 0 = record { is = new_file_spot t is_tree path c.0 c.1; leads = new_file_file_spot t is_tree path c.0 c.1; reads = new_file_read_through t is_tree path c.0 c.1 } in
+    (c.0, subst (λ d. HasFile (changed t d) path c.0 [] 0) (sym c.2) there)
+
+-- it is there still where nothing on the way was changed
+pub has_file_kept : (t u : Tree) (path s : Path) (bytes : List ℕ) (time : ℕ) → SameOnWay t u true path → HasFile t path s bytes time → HasFile u path s bytes time
+has_file_kept t u path s bytes time same has =
+    record { is = spot_kept t u path (same_unfollowed t u path same) ∙ has.is; leads = file_spot_kept t u path same ∙ has.leads; reads = read_kept t u path same ∙ has.reads }
+
+module _ (t : Tree) (is_tree : IsTree t) (path s : Path) (bytes : List ℕ) (time : ℕ) (has : HasFile t path s bytes time) where
+  -- an append adds its piece
+  pub has_more : (more : List ℕ) (change : Change) → change_of_append t path more ≡ Ok change → HasFile (changed t change) path s (bytes ++ more) time
+  has_more more change is =
+      let c = append_change t path change more is in
+      let both : Ok c.0 ≡ Ok s = sym c.1 ∙ has.leads in
+      let same : c.0 ≡ s = cc in
+      let there : HasFile (changed t (Append s more)) path s (bytes ++ more) time = record { is = append_spot t s more path ∙ has.is; leads = append_file_spot t s more path ∙ has.leads; reads = append_read_through t is_tree path s has.leads bytes more time has.reads } in
+      subst (λ d. HasFile (changed t d) path s (bytes ++ more) time) (sym (c.2 ∙ ap (λ p. Append p more) same)) there
+
+  -- a rename moves it to the other path, which then reads as it did, where no link that this path crosses is replaced
+  pub moves_file : (to : Path) (change : Change) → change_of_rename t path to ≡ Ok change → (p : Path) × (replaceable t to ≡ Ok p) × (change ≡ Rename s p)
+  moves_file to change is = file_renamed t is_tree path s has.is has.leads to change is
+
+  pub moved_reads : (to p : Path) → change_of_rename t path to ≡ Ok (Rename s p) → crosses t to p ≡ false → read_of (changed t (Rename s p)) to ≡ Ok (bytes, time)
+  moved_reads to p is free = rename_read_through t is_tree path to s p is has.leads free ∙ sym (read_at_spot t is_tree path s has.leads) ∙ has.reads
+
+  -- a remove takes it
+  pub removes_file : change_of_remove t path ≡ Ok (Remove s)
+  removes_file = file_removed t is_tree path s has.is has.leads
+
+  -- ---- what others may do
+
+  -- they make files and directories
+  pub kept_by_new_file : (other q : Path) → vacant t other ≡ Ok q → SameOnWay t (changed t (PutFile q 0 [])) true path
+  kept_by_new_file other q free = same_put_file t true path q 0 [] (vacant_off_file t is_tree path s has.leads other q free)
+
+  pub kept_by_make_dir : (other q : Path) (dev : ℕ) → vacant t other ≡ Ok q → SameOnWay t (changed t (MakeDir q dev)) true path
+  kept_by_make_dir other q dev free = same_make_dir t true path q dev (vacant_off_file t is_tree path s has.leads other q free)
+
+  -- with another file, they append, remove, and rename, but for a rename onto this file or onto a link on its way
+  module _ (other q : Path) (file : file_spot t other ≡ Ok q) (apart : q ≢ s) where
+    off : on_way t true path q ≡ false
+    off = file_off_file t is_tree path s has.leads other q file apart
+
+    pub kept_by_append : (more : List ℕ) → SameOnWay t (changed t (Append q more)) true path
+    kept_by_append more = same_append t true path q q more (file_spot_own t is_tree other q file) off
+
+    pub kept_by_remove : SameOnWay t (changed t (Remove q)) true path
+    kept_by_remove = same_remove t true path q off
+
+    pub kept_by_rename : (to p : Path) → replaceable t to ≡ Ok p → p ≢ s → (is_link (node_at t p) ≡ true → on_way t true path p ≡ false) → SameOnWay t (changed t (Rename q p)) true path
+    kept_by_rename to p free away unlinked =
+        same_rename t true path q p off (false_from_ne_true _ (λ on. false≢true (sym (unlinked (replaced_on_file t is_tree path s has.leads to p free away on)) ∙ on)))

@@ -1,0 +1,5 @@
+-- Laws of ways: which paths are on them, what stands there, and where they lead in trees that are alike there.
+pub mod Alike
+pub mod Further
+pub mod Trod
+pub mod Spots

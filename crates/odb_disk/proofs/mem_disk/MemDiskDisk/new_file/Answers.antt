@@ -1,0 +1,17 @@
+use Rattle.std.proofs.Common.{◌∙◌, ap}
+use Rattle.odb_disk.specs.Tree.Write.{change_of_new_file}
+use Rattle.odb_disk.proofs.TreeLemmas.Write.{new_file_possible}
+use Rattle.odb_disk.proofs.MemDiskLemmas.{write_answers, write_made, write_kept, IsTree-written}
+use Rattle.odb_disk.proofs.mem_disk.MemDiskDisk.new_file.Goals as goal
+
+pub invariant_of-self : goal.invariant_of-self
+invariant_of-self c = IsTree-written c.new_file.result c.self.inside.tree _ c.self.invariant (change_of_new_file c.self.inside.tree c.args.path.now) (λ change is. new_file_possible c.self.inside.tree c.self.invariant c.args.path.now change is) c.new_file.ensures.made c.new_file.ensures.kept
+
+pub returns-clause-answer : goal.returns-clause-answer
+returns-clause-answer c = write_answers (λ t. change_of_new_file t c.args.path.now) c.new_file.result c.self.inside.tree c.new_file.new.self c.args.self.now.state (ap (λ v. v.state) c.self.view_is ∙ c.count.ensures.state) c.new_file.ensures.told
+
+pub returns-clause-made : goal.returns-clause-made
+returns-clause-made c = write_made (λ t. change_of_new_file t c.args.path.now) c.new_file.result c.self.inside.tree c.new_file.new.self c.args.self.now.state (ap (λ v. v.state) c.self.view_is ∙ c.count.ensures.state) c.new_file.ensures.made
+
+pub returns-clause-kept : goal.returns-clause-kept
+returns-clause-kept c = write_kept (λ t. change_of_new_file t c.args.path.now) c.new_file.result c.self.inside.tree c.new_file.new.self c.args.self.now.state (ap (λ v. v.state) c.self.view_is ∙ c.count.ensures.state) c.new_file.ensures.kept

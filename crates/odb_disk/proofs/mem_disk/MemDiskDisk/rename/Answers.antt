@@ -1,0 +1,17 @@
+use Rattle.std.proofs.Common.{◌∙◌, ap}
+use Rattle.odb_disk.specs.Tree.Write.{change_of_rename}
+use Rattle.odb_disk.proofs.TreeLemmas.Write.{rename_possible}
+use Rattle.odb_disk.proofs.MemDiskLemmas.{write_answers, write_made, write_kept, IsTree-written}
+use Rattle.odb_disk.proofs.mem_disk.MemDiskDisk.rename.Goals as goal
+
+pub invariant_of-self : goal.invariant_of-self
+invariant_of-self c = IsTree-written c.rename.result c.self.inside.tree _ c.self.invariant (change_of_rename c.self.inside.tree c.args.from.now c.args.to.now) (λ change is. rename_possible c.self.inside.tree c.self.invariant c.args.from.now change c.args.to.now is) c.rename.ensures.made c.rename.ensures.kept
+
+pub returns-clause-answer : goal.returns-clause-answer
+returns-clause-answer c = write_answers (λ t. change_of_rename t c.args.from.now c.args.to.now) c.rename.result c.self.inside.tree c.rename.new.self c.args.self.now.state (ap (λ v. v.state) c.self.view_is ∙ c.count.ensures.state) c.rename.ensures.told
+
+pub returns-clause-made : goal.returns-clause-made
+returns-clause-made c = write_made (λ t. change_of_rename t c.args.from.now c.args.to.now) c.rename.result c.self.inside.tree c.rename.new.self c.args.self.now.state (ap (λ v. v.state) c.self.view_is ∙ c.count.ensures.state) c.rename.ensures.made
+
+pub returns-clause-kept : goal.returns-clause-kept
+returns-clause-kept c = write_kept (λ t. change_of_rename t c.args.from.now c.args.to.now) c.rename.result c.self.inside.tree c.rename.new.self c.args.self.now.state (ap (λ v. v.state) c.self.view_is ∙ c.count.ensures.state) c.rename.ensures.kept
