@@ -1,11 +1,16 @@
 -- The path of an object's file: hex digits are names, and an id's digits may be cut behind the first two.
-use Rattle.std.proofs.Common.{◌≡◌, ℕ, zero, suc, ◌*◌, ◌<◌, ◌≤◌, ◌==◌, true, false, List, [], ◌∷◌, ◌++◌, length, take, drop, get_or, sym, ap, ◌∙◌, arith, append_assoc}
+use Rattle.std.proofs.Common.{◌≡◌, ℕ, zero, suc, ◌*◌, ◌^◌, ◌<◌, ◌≤◌, ◌==◌, true, false, List, [], ◌∷◌, ◌++◌, length, take, drop, get_or, sym, ap, ◌∙◌, arith, append_assoc}
 use Rattle.std.proofs.Common.{refl}
 use Rattle.std.specs.List.{list_any}
 use Rattle.std.proofs.lemmas.Bool.{and_parts}
 use Rattle.std.proofs.lemmas.Grind.{common_steps}
 use Rattle.std.proofs.lemmas.List.{take-append-drop, length-take, length-drop}
 use Rattle.std.proofs.lemmas.List.Folds.{list_all-append}
+use Rattle.std.specs.Str.{all_ascii_digits}
+use Rattle.std.specs.Char.{is_ascii_digit}
+use Rattle.std.specs.Fmt.{decimal}
+use Rattle.std.proofs.lemmas.Fmt.{digits_decimal}
+use Rattle.odb_base.proofs.DecimalLemmas.{own}
 use Rattle.odb_base.specs.Path.{Path, is_name}
 use Rattle.gix_hash.specs.ObjectId.{IsId, hex_of, kind_of, is_lower_digit, is_lower_text}
 use Rattle.gix_hash.specs.Kind.{len_in_bytes_of}
@@ -14,6 +19,7 @@ use Rattle.gix_hash.specs.declared.kind.Kind.TheVariants.{Sha1, Sha256}
 use Rattle.gix_hash.specs.declared.object_id.ObjectId.{ObjectId}
 use Rattle.gix_hash.proofs.ObjectIdLemmas.{is_lower_text-hex_of, length-hex_of}
 use Rattle.gix_odb_loose.specs.LooseFile.{loose_path}
+use Rattle.gix_odb_loose.specs.WriteOrder.{prefix_path, temp_name, temp_path}
 
 -- ---- hex digits as names
 
@@ -74,3 +80,29 @@ pub loose_path-joined : (objects folder : Path) (id : ObjectId) (front rest text
     → folder ≡ objects ++ front ∷ [] → loose_path objects id ≡ folder ++ rest ∷ []
 unfolding loose_path
 loose_path-joined objects folder id front rest text same first second way = rw (way, first, second, same) (sym (append_assoc objects _ _))
+
+pub prefix_path-joined : (objects : Path) (id : ObjectId) (front text : List ℕ) → text ≡ hex_of id → front ≡ take 2 text → prefix_path objects id ≡ objects ++ front ∷ []
+unfolding prefix_path
+prefix_path-joined objects id front text same first = rw (first, same) refl
+
+-- ---- temporary names
+
+-- decimal digits are neither NUL nor a slash
+no_digit : (d c : ℕ) → is_ascii_digit d ≡ true → c < 48 → (d == c) ≡ false
+no_digit d c digit low = grind (arith, common_steps, digit, low)
+
+none_digit : (c : ℕ) (text : List ℕ) → all_ascii_digits text ≡ true → c < 48 → list_any (λ b. b == c) text ≡ false
+none_digit c [] digits low = refl
+none_digit c (d ∷ ds) digits low =
+    let parts = and_parts (is_ascii_digit d) (all_ascii_digits ds) digits in
+    rw (no_digit d c parts.0 low, none_digit c ds parts.1 low) refl
+
+pub is_name-temp : (number : ℕ) (name : List ℕ) → number < 2 ^ 64 → name ≡ temp_name number → is_name name ≡ true
+unfolding is_name temp_name
+is_name-temp number name fits same =
+    let digits = digits_decimal own number fits in
+    rw (same, none_digit 0 (decimal number) digits (omega arith), none_digit 47 (decimal number) digits (omega arith)) refl
+
+pub temp_path-joined : (objects : Path) (number : ℕ) (name : List ℕ) → name ≡ temp_name number → temp_path objects number ≡ objects ++ name ∷ []
+unfolding temp_path
+temp_path-joined objects number name same = rw same refl

@@ -1,10 +1,23 @@
--- Why a call was refused: each `find::Error`, and what was seen where it is answered.
+-- Why a call was refused: each `find::Error` and each `write::Error`, and what was seen where it is answered.
 --
 -- `Gave read` says that a read of the object's path gave `read` in the call, `Failed` that a call of the disk failed
--- in it, and `Wanting` that memory ran out. A store's call, the machine and a run over a changing tree each have
--- their own.
+-- in it, and `Wanting` that memory ran out. `Refuses ask` says that this call of the disk failed, or found a part of
+-- its way absent, of the wrong kind or a link loop, and `Exists ask` that something was there already. A store's
+-- call, the machine and a run over a changing tree each have their own.
 pub mod Laws
+pub mod WriteLaws
 use Rattle.std.specs.Prelude.{◌≡◌, ◌≢◌, ◌⊎◌, ℕ, ◌<◌, List, [], length, Option, Some, None, Ok, Err}
+use Rattle.odb_disk.specs.declared.ask.DiskAsk.{DiskAsk}
+use Rattle.odb_disk.specs.declared.ask.DiskAsk.TheVariants as asks
+use Rattle.gix_hash.specs.declared.object_id.ObjectId.{ObjectId}
+use Rattle.gix_object.specs.Loose.{header_of}
+use Rattle.gix_odb_loose.specs.LooseFile.{loose_path}
+use Rattle.gix_odb_loose.specs.WriteOrder.{temp_path, prefix_path}
+use Rattle.gix_odb_loose.specs.declared.write_call.WriteHead.{WriteHead}
+use Rattle.gix_odb_loose.specs.declared.write.Error.{Error as WriteError}
+use Rattle.gix_odb_loose.specs.declared.write.Error.TheVariants as write_errors
+use Rattle.gix_odb_loose.specs.declared.write.Message.{Message}
+use Rattle.gix_odb_loose.specs.declared.write.Message.TheVariants as messages
 use Rattle.odb_base.specs.Path.{Path}
 use Rattle.odb_disk.specs.Tree.Follow.{WrongKind, LinkLoop}
 use Rattle.gix_object.specs.Loose.{IsLoose}
@@ -87,3 +100,24 @@ abbrev pub Cause : LooseJob → (path : Path) (limit : Option ℕ) (Gave : Readi
 Cause (jobs.Contains id) path limit Gave Failed Wanting error = TestCause path Failed Wanting error
 Cause (jobs.Find id) path limit Gave Failed Wanting error = FindCause path limit Gave Failed Wanting error
 Cause (jobs.Header id) path limit Gave Failed Wanting error = HeaderCause path Gave Failed Wanting error
+Cause (jobs.Write kind size bytes id) path limit Gave Failed Wanting error = ⊥
+
+-- ---- a write
+
+-- What each message says: a temporary file couldn't be made, or all sixteen names were taken, each when it was tried; the
+-- header or a piece of the data couldn't be appended to it; or the source of the data failed.
+abbrev pub IoCause : WriteHead → (Refuses Exists : DiskAsk → Type 0) (SourceFailed : Type 0) → Message → Type 0
+IoCause head Refuses Exists SourceFailed messages.CreateTempFile =
+    ((number : ℕ) × Refuses (asks.NewFile (temp_path head.objects number))) ⊎ ((number : ℕ) → number < 16 → Exists (asks.NewFile (temp_path head.objects number)))
+IoCause head Refuses Exists SourceFailed messages.WriteHeader = (number : ℕ) × Refuses (asks.Append (temp_path head.objects number) (header_of head.kind head.size))
+IoCause head Refuses Exists SourceFailed messages.StreamData = SourceFailed ⊎ ((number : ℕ) × (piece : List ℕ) × Refuses (asks.Append (temp_path head.objects number) piece))
+
+-- What each error of a write says, where `Named id` says that the object gets this id, and `Counted actual` that there
+-- were so many bytes of data, and not as many as were told.
+abbrev pub WriteCause : WriteHead → (Named : ObjectId → Type 0) (Refuses Exists : DiskAsk → Type 0) (SourceFailed Wanting : Type 0) (Counted : ℕ → Type 0) → WriteError → Type 0
+WriteCause head Named Refuses Exists SourceFailed Wanting Counted (write_errors.Io message at) = (at ≡ head.objects) × IoCause head Refuses Exists SourceFailed message
+WriteCause head Named Refuses Exists SourceFailed Wanting Counted write_errors.IoRaw = (id : ObjectId) × Named id × Refuses (asks.MakeDir (prefix_path head.objects id))
+WriteCause head Named Refuses Exists SourceFailed Wanting Counted (write_errors.Persist target) =
+    (id : ObjectId) × Named id × (target ≡ loose_path head.objects id) × ((number : ℕ) × Refuses (asks.Rename (temp_path head.objects number) target))
+WriteCause head Named Refuses Exists SourceFailed Wanting Counted (write_errors.SizeMismatch expected actual) = (expected ≡ head.size) × Counted actual
+WriteCause head Named Refuses Exists SourceFailed Wanting Counted write_errors.NoMemory = Wanting

@@ -1,7 +1,14 @@
 pub mod Store
 pub mod LooseFile
 pub mod Causes
+pub mod Exchanges
 pub mod Answers
+pub mod WriteOrder
+pub mod WriteNames
+pub mod WriteJobs
+pub mod WriteHistory
+pub mod WriteStreams
+pub mod WriteRuns
 pub mod LooseOrder
 pub mod Replies
 pub mod Runs

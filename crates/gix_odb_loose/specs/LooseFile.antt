@@ -5,20 +5,34 @@ use Rattle.odb_disk.specs.Tree.{Tree}
 use Rattle.odb_disk.specs.Tree.Follow.{Refusal, read_of}
 use Rattle.gix_hash.specs.ObjectId.{hex_of}
 use Rattle.gix_hash.specs.declared.object_id.ObjectId.{ObjectId}
+use Rattle.gix_hash.specs.declared.kind.Kind.{Kind as HashKind}
+use Rattle.gix_object.specs.Id.{object_id}
 use Rattle.gix_object.specs.Loose.{IsLoose}
 use Rattle.gix_object.specs.declared.kind.Kind.{Kind}
 use Rattle.gix_odb_loose.specs.declared.call.LooseJob.{LooseJob}
-use Rattle.gix_odb_loose.specs.declared.call.LooseJob.TheVariants.{Contains, Find, Header}
+use Rattle.gix_odb_loose.specs.declared.call.LooseJob.TheVariants.{Contains, Find, Header, Write}
 
 -- the path of an object's file below an objects directory: the first two hex digits, then the others
 unfoldable pub loose_path : Path → ObjectId → Path
 loose_path objects id = objects ++ take 2 (hex_of id) ∷ drop 2 (hex_of id) ∷ []
 
--- the id that a call asks for
-abbrev pub id_asked : LooseJob → ObjectId
-id_asked (Contains id) = id
-id_asked (Find id) = id
-id_asked (Header id) = id
+-- the id that a call is about: of a write, the one that was handed in, else the object's own
+abbrev pub id_written : HashKind → Kind → List ℕ → Option ObjectId → ObjectId
+id_written hash kind bytes (Some id) = id
+id_written hash kind bytes None = object_id hash kind bytes
+
+abbrev pub id_asked : HashKind → LooseJob → ObjectId
+id_asked hash (Contains id) = id
+id_asked hash (Find id) = id
+id_asked hash (Header id) = id
+id_asked hash (Write kind size bytes id) = id_written hash kind bytes id
+
+-- a call that only asks what is there
+abbrev pub IsFinding : LooseJob → Type 0
+IsFinding (Contains id) = Unit {0}
+IsFinding (Find id) = Unit {0}
+IsFinding (Header id) = Unit {0}
+IsFinding (Write kind size bytes id) = ⊥
 
 -- what a read of a path gives: bytes and a time, or why there are none
 abbrev pub Reading : Type 0

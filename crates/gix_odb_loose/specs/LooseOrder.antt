@@ -11,10 +11,11 @@ use Rattle.odb_disk.specs.declared.ask.DiskAnswer.TheVariants as answers
 use Rattle.odb_disk.specs.declared.disk.DiskError.TheVariants as disk_errors
 use Rattle.odb_disk.specs.declared.disk.Kind.{Kind as NodeKind}
 use Rattle.odb_disk.specs.declared.disk.Kind.TheVariants as nodes
+use Rattle.gix_hash.specs.declared.object_id.ObjectId.{ObjectId}
 use Rattle.gix_object.specs.Loose.{LooseObject, loose_of}
 use Rattle.gix_object.specs.declared.kind.Kind.{Kind}
 use Rattle.gix_odb_loose.specs.LooseFile.{loose_path}
-use Rattle.gix_odb_loose.specs.Store.{store_path, store_limit}
+use Rattle.gix_odb_loose.specs.Store.{store_path, store_hash, store_limit}
 use Rattle.gix_odb_loose.specs.declared.store.Store.{Store}
 use Rattle.gix_odb_loose.specs.declared.find.Error.{Error}
 use Rattle.gix_odb_loose.specs.declared.find.Error.TheVariants as errors
@@ -28,16 +29,27 @@ use Rattle.gix_odb_loose.specs.declared.call.LooseAsk.TheVariants as loose_asks
 use Rattle.gix_odb_loose.specs.declared.call.LooseReply.{LooseReply}
 use Rattle.gix_odb_loose.specs.declared.call.LooseReply.TheVariants as replies
 use Rattle.gix_odb_loose.specs.declared.call.LooseCall.{LooseCall}
+use Rattle.gix_odb_loose.specs.WriteOrder.{number_made, temporary_of}
+use Rattle.gix_odb_loose.specs.WriteJobs.{ask_in, led_in, writes_left}
+use Rattle.gix_odb_loose.specs.declared.write_call.WriteStage.TheVariants as writes
+use Rattle.gix_odb_loose.specs.declared.write_job.Led.{Led}
+use Rattle.gix_odb_loose.specs.declared.write_job.Led.TheVariants as leds
+use Rattle.gix_odb_loose.specs.declared.write_job.WriteJob.{WriteJob}
 use Rattle.gix_odb_loose.specs.declared.call.Stage.{Stage}
 use Rattle.gix_odb_loose.specs.declared.call.Stage.TheVariants as stages
 
 -- ---- the stages of a call
 
--- a new call has its one path, and has asked nothing
+-- a new write has its data and no temporary file
+abbrev pub begun : Store → Kind → ℕ → List ℕ → Option ObjectId → WriteJob
+begun store kind size bytes id = record { head = record { objects = store_path store; kind = kind; size = size }; stage = writes.Making 0; bytes = bytes; hash = store_hash store; known = id }
+
+-- a new call has its one path, or what is to be written, and has asked nothing
 abbrev pub first_stage : Store → LooseJob → Stage
 first_stage store (jobs.Contains id) = stages.Testing (loose_path (store_path store) id)
 first_stage store (jobs.Find id) = stages.Finding (loose_path (store_path store) id) (store_limit store)
 first_stage store (jobs.Header id) = stages.Heading (loose_path (store_path store) id)
+first_stage store (jobs.Write kind size bytes id) = stages.Writing (begun store kind size bytes id)
 
 abbrev pub started : Store → LooseJob → LooseCall
 started store job = record { stage = first_stage store job }
@@ -47,12 +59,14 @@ abbrev pub stage_ask : Stage → Option DiskAsk
 stage_ask (stages.Testing path) = Some (asks.Look path true)
 stage_ask (stages.Finding path limit) = Some (asks.Read path)
 stage_ask (stages.Heading path) = Some (asks.Read path)
+stage_ask (stages.Writing job) = Some (ask_in job)
 stage_ask (stages.Done reply) = None
 
 abbrev pub stage_reply : Stage → Option LooseReply
 stage_reply (stages.Testing path) = None
 stage_reply (stages.Finding path limit) = None
 stage_reply (stages.Heading path) = None
+stage_reply (stages.Writing job) = None
 stage_reply (stages.Done reply) = Some reply
 
 -- the next call of the disk, if there is one; the reply, if the call is done
@@ -66,6 +80,7 @@ abbrev pub asked_at : Stage → LooseAsk
 asked_at (stages.Testing path) = loose_asks.Disk (asks.Look path true)
 asked_at (stages.Finding path limit) = loose_asks.Disk (asks.Read path)
 asked_at (stages.Heading path) = loose_asks.Disk (asks.Read path)
+asked_at (stages.Writing job) = loose_asks.Disk (ask_in job)
 asked_at (stages.Done reply) = loose_asks.Done reply
 
 abbrev pub ask_of : LooseCall → LooseAsk
@@ -141,11 +156,25 @@ found_by path limit answer = read_by (object_in path limit) path answer
 abbrev pub header_by : Path → DiskAnswer → Result (Option (ℕ × Kind)) Error
 header_by path answer = read_by (header_in path) path answer
 
--- a call is done after its one answer, and then stays as it is
+-- a write goes on, or has its reply
+abbrev pub written_to : WriteJob → Led → Stage
+written_to job (leds.On stage) = stages.Writing (record job { stage = stage })
+written_to job (leds.Wrote answer) = stages.Done (replies.Wrote answer)
+
+-- what an answer leads a write to, if the stage is one
+abbrev pub led_at : Stage → DiskAnswer → Option Led
+led_at (stages.Testing path) answer = None
+led_at (stages.Finding path limit) answer = None
+led_at (stages.Heading path) answer = None
+led_at (stages.Writing job) answer = Some (led_in job answer)
+led_at (stages.Done reply) answer = None
+
+-- a finding call is done after its one answer, a write at its end; a call that is done stays as it is
 abbrev pub next_stage : Stage → DiskAnswer → Stage
 next_stage (stages.Testing path) answer = stages.Done (replies.Contains (tested_by path answer))
 next_stage (stages.Finding path limit) answer = stages.Done (replies.Found (found_by path limit answer))
 next_stage (stages.Heading path) answer = stages.Done (replies.Header (header_by path answer))
+next_stage (stages.Writing job) answer = written_to job (led_in job answer)
 next_stage (stages.Done reply) answer = stages.Done reply
 
 abbrev pub fed : LooseCall → DiskAnswer → LooseCall
@@ -156,4 +185,30 @@ abbrev pub asks_left : Stage → ℕ
 asks_left (stages.Testing path) = 1
 asks_left (stages.Finding path limit) = 1
 asks_left (stages.Heading path) = 1
+asks_left (stages.Writing job) = writes_left (length job.bytes) job.stage
 asks_left (stages.Done reply) = 0
+
+abbrev pub temporary_at : Stage → Option Path
+temporary_at (stages.Testing path) = None
+temporary_at (stages.Finding path limit) = None
+temporary_at (stages.Heading path) = None
+temporary_at (stages.Writing job) = temporary_of job.head (number_made job.stage)
+temporary_at (stages.Done reply) = None
+
+-- the temporary file of a write, where it was made
+abbrev pub temporary_in : LooseCall → Option Path
+temporary_in call = temporary_at call.stage
+
+-- a call that writes, or is done with that
+abbrev pub IsWriteReply : LooseReply → Type 0
+IsWriteReply (replies.Wrote answer) = Unit {0}
+IsWriteReply (replies.Contains answer) = ⊥
+IsWriteReply (replies.Found answer) = ⊥
+IsWriteReply (replies.Header answer) = ⊥
+
+abbrev pub IsWriteStage : Stage → Type 0
+IsWriteStage (stages.Writing job) = Unit {0}
+IsWriteStage (stages.Done reply) = IsWriteReply reply
+IsWriteStage (stages.Testing path) = ⊥
+IsWriteStage (stages.Finding path limit) = ⊥
+IsWriteStage (stages.Heading path) = ⊥

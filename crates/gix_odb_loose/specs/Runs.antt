@@ -1,7 +1,7 @@
 -- What a disk does to a call that asks it and leaves its tree as it is. No public clause cites this.
-use Rattle.std.specs.Prelude.{◌≡◌, ◌⊎◌, ℕ, Option, Some, IfSome}
+use Rattle.std.specs.Prelude.{◌≡◌, ◌⊎◌, ℕ, Bool, true, false, Option, Some, None, IfSome}
 use Rattle.odb_base.specs.Faults.{Rose}
-use Rattle.odb_disk.specs.Ask.{AnswersAsk, answer_of}
+use Rattle.odb_disk.specs.Ask.{AnswersAsk, answer_of, state_told_after}
 use Rattle.odb_disk.specs.Tree.{State, tree_of}
 use Rattle.odb_disk.specs.declared.ask.DiskAsk.{DiskAsk}
 use Rattle.odb_disk.specs.declared.ask.DiskAnswer.{DiskAnswer}
@@ -35,3 +35,22 @@ pub record ComesToReply (state : Option State) (before now : ℕ) (call : LooseC
   pub asked : disk_ask_of call ≡ Some ask
   pub gave : Gave state before now ask given
   pub replied : reply_of (fed call given) ≡ Some reply
+
+-- one turn of a call over a disk: what it asked, what it was given, and what is left of the disk and of the call
+pub record Turned (state new : Option State) (before now : ℕ) (call after : LooseCall) : Type 0 where
+  pub ask : DiskAsk
+  pub given : DiskAnswer
+  pub asked : disk_ask_of call ≡ Some ask
+  pub gave : Gave state before now ask given
+  pub left : new ≡ state_told_after state ask given
+  pub is : after ≡ fed call given
+
+-- a call had a turn, or there was none to have
+abbrev pub Turns : Bool → Option State → Option State → ℕ → ℕ → LooseCall → LooseCall → Type 0
+Turns true state new before now call after = Turned state new before now call after
+Turns false state new before now call after = (disk_ask_of call ≡ None) × (after ≡ call) × (new ≡ state)
+
+-- a turn that wanted memory: the disk is as it was, or as the answer to the call's ask left it, and the call is as it was
+pub record Broke (state new : Option State) (call after : LooseCall) : Type 0 where
+  pub is : after ≡ call
+  pub left : (new ≡ state) ⊎ ((ask : DiskAsk) × (given : DiskAnswer) × (disk_ask_of call ≡ Some ask) × (new ≡ state_told_after state ask given))

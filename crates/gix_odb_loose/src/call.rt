@@ -3,10 +3,12 @@ ghost use Rattle.std.specs.Prelude.{◌≡◌, true, IfOk, OnOk, OnErr};
 ghost use Rattle.gix_hash.specs.ObjectId.{kind_of};
 ghost use Rattle.gix_odb_loose.specs.Store.{store_hash};
 ghost use Rattle.gix_odb_loose.specs.LooseFile.{id_asked};
-ghost use Rattle.gix_odb_loose.specs.LooseOrder.{started, ask_of, disk_ask_of, reply_of, next_stage};
+ghost use Rattle.gix_odb_loose.specs.LooseOrder.{started, ask_of, disk_ask_of, reply_of, temporary_in, led_at, written_to, next_stage};
 ghost use Rattle.gix_odb_loose.specs.LooseOrder.{fed as fed_with};
 
-use crate::{Store, find, reply};
+use crate::write_call::{WriteHead, WriteStage};
+use crate::write_job::{Led, WriteJob};
+use crate::{Store, find, reply, write};
 use gix_hash::ObjectId;
 use gix_object::Kind;
 use odb_base::{ByteList, NoMemory, PathText};
@@ -20,6 +22,13 @@ pub enum LooseJob {
     Contains(ObjectId),
     Find(ObjectId),
     Header(ObjectId),
+    /// An object is to be written, which is to have `size` bytes, under the id where it is known to have one.
+    Write {
+        kind: Kind,
+        size: u64,
+        bytes: ByteList,
+        id: Option<ObjectId>,
+    },
 }
 
 /// What a call does next.
@@ -36,6 +45,7 @@ pub enum LooseReply {
     Contains(Result<bool, find::Error>),
     Found(Result<Option<(Kind, ByteList)>, find::Error>),
     Header(Result<Option<(u64, Kind)>, find::Error>),
+    Wrote(Result<ObjectId, write::Error>),
 }
 
 /// Where a call stands.
@@ -47,6 +57,8 @@ pub enum Stage {
     Finding { path: PathText, limit: Option<u64> },
     /// The path is to be read for the header.
     Heading { path: PathText },
+    /// An object is being written.
+    Writing(WriteJob),
     Done(LooseReply),
 }
 
@@ -62,7 +74,7 @@ pub struct LooseCall {
 impl LooseCall {
     /// A new call. It asks nothing of the disk yet.
     pub fn start(alloc: Global, store: &Store, job: LooseJob) -> Result<LooseCall, NoMemory>
-        requires { kind_of (id_asked job) ≡ store_hash store.now }
+        requires { kind_of (id_asked (store_hash store.now) job) ≡ store_hash store.now }
         ensures { IfOk result (λ call. call ≡ started store.now job) }
     {
         let stage = match job {
@@ -76,6 +88,22 @@ impl LooseCall {
             LooseJob::Header(id) => Stage::Heading {
                 path: store.object_path(alloc, &id)?,
             },
+            LooseJob::Write {
+                kind,
+                size,
+                bytes,
+                id,
+            } => Stage::Writing(WriteJob {
+                head: WriteHead {
+                    objects: store.path().try_clone(alloc)?,
+                    kind,
+                    size,
+                },
+                stage: WriteStage::Making { number: 0 },
+                bytes,
+                hash: store.object_hash(),
+                known: id,
+            }),
         };
         Ok(LooseCall { stage })
     }
@@ -88,6 +116,7 @@ impl LooseCall {
             Stage::Testing { path } => Ok(LooseAsk::Disk(look_at(alloc, path)?)),
             Stage::Finding { path, .. } => Ok(LooseAsk::Disk(read_of(alloc, path)?)),
             Stage::Heading { path } => Ok(LooseAsk::Disk(read_of(alloc, path)?)),
+            Stage::Writing(job) => Ok(LooseAsk::Disk(job.disk_ask(alloc)?)),
             Stage::Done(reply) => Ok(LooseAsk::Done(reply.try_clone(alloc)?)),
         }
     }
@@ -100,6 +129,7 @@ impl LooseCall {
             Stage::Testing { path } => Ok(Some(look_at(alloc, path)?)),
             Stage::Finding { path, .. } => Ok(Some(read_of(alloc, path)?)),
             Stage::Heading { path } => Ok(Some(read_of(alloc, path)?)),
+            Stage::Writing(job) => Ok(Some(job.disk_ask(alloc)?)),
             Stage::Done(_) => Ok(None),
         }
     }
@@ -108,14 +138,25 @@ impl LooseCall {
     /// call is as it was and asks the same again. A call that is done stays as it is.
     ///
     /// An answer that the disk ran out of memory is no refusal: the reply says so.
-    pub fn feed(&mut self, _alloc: Global, answer: DiskAnswer) -> Result<(), NoMemory>
+    pub fn feed(&mut self, alloc: Global, answer: DiskAnswer) -> Result<(), NoMemory>
         ensures fed { OnOk result (self.new ≡ fed_with self.old answer) }
         ensures refused { OnErr result (self.new ≡ self.old) }
     {
+        let led = self.stage.led(alloc, &answer)?;
         let meanwhile = Stage::Done(LooseReply::Contains(Ok(false)));
         let stage = mem::replace(&mut self.stage, meanwhile);
-        self.stage = led_on(stage, answer);
+        self.stage = led_on(stage, answer, led);
         Ok(())
+    }
+
+    /// The temporary file of a write, where it was made and is neither moved nor removed.
+    pub fn temporary_file(&self, alloc: Global) -> Result<Option<PathText>, NoMemory>
+        ensures { IfOk result (λ path. path ≡ temporary_in self.now) }
+    {
+        match &self.stage {
+            Stage::Writing(job) => job.temporary_file(alloc),
+            _ => Ok(None),
+        }
     }
 
     /// The reply, where the call is done.
@@ -147,12 +188,27 @@ impl LooseReply {
             LooseReply::Found(Err(error)) => Ok(LooseReply::Found(Err(error.try_clone(alloc)?))),
             LooseReply::Header(Ok(found)) => Ok(LooseReply::Header(Ok(*found))),
             LooseReply::Header(Err(error)) => Ok(LooseReply::Header(Err(error.try_clone(alloc)?))),
+            LooseReply::Wrote(Ok(id)) => Ok(LooseReply::Wrote(Ok(*id))),
+            LooseReply::Wrote(Err(error)) => Ok(LooseReply::Wrote(Err(error.try_clone(alloc)?))),
         }
     }
 }
 
-// A stage after the answer to its ask.
-fn led_on(stage: Stage, answer: DiskAnswer) -> Stage
+impl Stage {
+    // What an answer leads a write to, which may want memory.
+    fn led(&self, alloc: Global, answer: &DiskAnswer) -> Result<Option<Led>, NoMemory>
+        ensures { IfOk result (λ led. led ≡ led_at self.now answer.now) }
+    {
+        match self {
+            Stage::Writing(job) => Ok(Some(job.led(alloc, answer)?)),
+            _ => Ok(None),
+        }
+    }
+}
+
+// A stage after the answer to its ask, which led a write so.
+fn led_on(stage: Stage, answer: DiskAnswer, led: Option<Led>) -> Stage
+    requires { led ≡ led_at stage answer }
     ensures { result ≡ next_stage stage answer }
 {
     match stage {
@@ -163,7 +219,25 @@ fn led_on(stage: Stage, answer: DiskAnswer) -> Stage
             Stage::Done(LooseReply::Found(reply::found(path, limit, answer)))
         }
         Stage::Heading { path } => Stage::Done(LooseReply::Header(reply::headed(path, &answer))),
+        Stage::Writing(job) => match led {
+            Some(led) => written_on(job, led),
+            None => unreachable!("an answer leads each write on"),
+        },
         Stage::Done(reply) => Stage::Done(reply),
+    }
+}
+
+// A write after its answer led it so.
+fn written_on(job: WriteJob, led: Led) -> Stage
+    ensures { result ≡ written_to job led }
+{
+    match led {
+        Led::On(stage) => {
+            let mut job = job;
+            job.stage = stage;
+            Stage::Writing(job)
+        }
+        Led::Wrote(answer) => Stage::Done(LooseReply::Wrote(answer)),
     }
 }
 

@@ -11,11 +11,20 @@
 #![tactic(auto)]
 
 mod call;
+mod fetch;
 pub mod find;
+mod lent;
+mod naming;
+mod paths;
 mod reply;
 mod store;
+mod stream_job;
 #[cfg(test)]
 mod tests;
+pub mod write;
+mod write_call;
+mod write_job;
+mod writes;
 
 pub use call::{LooseAsk, LooseCall, LooseJob, LooseReply};
 pub use store::{Options, Store};

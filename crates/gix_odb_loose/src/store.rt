@@ -1,19 +1,18 @@
-ghost use Rattle.std.specs.Prelude.{◌≡◌, ◌≤◌, ◌↔◌, ◌++◌, ◌∷◌, [], true, None, IfOk, IfErr, IfSome, IsTrue};
-ghost use Rattle.odb_base.specs.Path.{is_name};
+ghost use Rattle.std.specs.Prelude.{◌≡◌, ◌<◌, ◌≤◌, ◌↔◌, None, IfOk, IfErr, IfSome, OnErr, IsTrue};
 ghost use Rattle.odb_base.specs.Faults.{Rose};
 ghost use Rattle.odb_disk.specs.Tree.{tree_of};
 ghost use Rattle.gix_hash.specs.ObjectId.{kind_of};
 ghost use Rattle.gix_object.specs.Data.{found_of};
 ghost use Rattle.gix_odb_loose.specs.Store.{store_path, store_hash, store_limit};
-ghost use Rattle.gix_odb_loose.specs.LooseFile.{id_asked, LeadsToFile};
+ghost use Rattle.gix_odb_loose.specs.LooseFile.{id_asked, IsFinding, LeadsToFile};
 ghost use Rattle.gix_odb_loose.specs.Answers.{path_in, Finds, TellsHeader, FindRefused, HeaderRefused, TestRefused};
-ghost use Rattle.gix_odb_loose.specs.LooseOrder.{started};
-ghost use Rattle.gix_odb_loose.specs.Runs.{ComesToReply};
+ghost use Rattle.gix_odb_loose.specs.LooseOrder.{started, asks_left};
+ghost use Rattle.gix_odb_loose.specs.Runs.{ComesToReply, Turns, Broke};
 
-use crate::{LooseCall, LooseJob, LooseReply, find};
+use crate::{LooseCall, LooseJob, LooseReply, find, paths};
 use gix_hash::ObjectId;
 use gix_object::{Data, Kind};
-use odb_base::{BadPath, NoMemory, PathText};
+use odb_base::{NoMemory, PathText};
 use odb_disk::Disk;
 use std::alloc::Global;
 
@@ -105,11 +104,7 @@ impl Store {
         requires { kind_of id.now ≡ store_hash self.now }
         ensures { IfOk result (λ path. path ≡ path_in self.now id.now) }
     {
-        let hex = id.to_hex(alloc)?;
-        prove!(id.as_bytes().len() > 1);
-        let (prefix, rest) = hex.as_str().split_at(2);
-        let folder = joined(alloc, &self.path, prefix)?;
-        joined(alloc, &folder, rest)
+        paths::object_path(alloc, &self.path, id)
     }
 
     /// Whether the object has a file: whether its path leads to one, links followed.
@@ -204,17 +199,15 @@ impl Store {
         disk: &mut D,
         job: LooseJob,
     ) -> Result<LooseReply, NoMemory>
-        requires { kind_of (id_asked job) ≡ store_hash self.now }
+        requires hash { kind_of (id_asked (store_hash self.now) job) ≡ store_hash self.now }
+        requires finding { IsFinding job }
         ensures reply { IfOk result
             (ComesToReply (D.state disk.old) (D.faults disk.old) (D.faults disk.new) (started self.now job)) }
         ensures kept { D.state disk.new ≡ D.state disk.old }
         ensures later { D.faults disk.old ≤ D.faults disk.new }
     {
         let mut call = LooseCall::start(alloc, self, job)?;
-        'asks: while let Some(ask) = call.disk_ask(alloc)? {
-            let answer = ask.carry_out(alloc, disk);
-            call.feed(alloc, answer)?;
-        }
+        'turns: while turn(alloc, disk, &mut call)? {}
         match call.into_reply() {
             Some(reply) => Ok(reply),
             None => unreachable!("a call without an ask has its reply"),
@@ -222,14 +215,20 @@ impl Store {
     }
 }
 
-// A path with hex digits as one more name.
-fn joined(alloc: Global, path: &PathText, digits: &str) -> Result<PathText, NoMemory>
-    requires { is_name digits.now ≡ true }
-    ensures { IfOk result (λ joined. joined ≡ path.now ++ digits.now ∷ []) }
+// One call of the disk, and its answer to the call of the store: whether there was one to make.
+fn turn<D: Disk>(alloc: Global, disk: &mut D, call: &mut LooseCall) -> Result<bool, NoMemory>
+    ensures turned { IfOk result (λ more.
+        Turns more (D.state disk.old) (D.state disk.new) (D.faults disk.old) (D.faults disk.new) call.old call.new) }
+    ensures fewer { IfOk result (λ more. IsTrue more → asks_left call.new.stage < asks_left call.old.stage) }
+    ensures broke { OnErr result (Broke (D.state disk.old) (D.state disk.new) call.old call.new) }
+    ensures later { D.faults disk.old ≤ D.faults disk.new }
 {
-    match path.join(alloc, digits) {
-        Ok(path) => Ok(path),
-        Err(BadPath::NoMemory) => Err(NoMemory),
-        Err(BadPath::Malformed) => unreachable!("hex digits are a name"),
+    match call.disk_ask(alloc)? {
+        Some(ask) => {
+            let answer = ask.carry_out(alloc, disk);
+            call.feed(alloc, answer)?;
+            Ok(true)
+        }
+        None => Ok(false),
     }
 }

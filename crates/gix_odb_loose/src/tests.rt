@@ -6,6 +6,7 @@ ghost use Rattle.gix_odb_loose.specs.Store.{store_hash};
 mod files;
 mod host;
 mod machine;
+mod writes;
 
 use crate::find::Error;
 use crate::{Options, Store};

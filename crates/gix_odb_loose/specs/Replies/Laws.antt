@@ -2,10 +2,13 @@
 use Rattle.std.specs.Prelude.{◌≡◌, ◌≢◌, if◌then◌else◌, ℕ, Bool, true, false, List, Option, Some, None, Result, Ok, Err, refl}
 use Rattle.std.proofs.Common.{sym, ap, ◌∙◌, subst}
 use Rattle.odb_base.specs.Path.{Path}
-use Rattle.odb_disk.specs.Ask.{AnswersAsk, answer_of, answer_now, meta_answer, file_answer}
+use Rattle.odb_disk.specs.Ask.{AnswersAsk, answer_of, answer_now, meta_answer, file_answer, write_answer}
 use Rattle.odb_disk.specs.MemDisk.{Volume, next_fails}
 use Rattle.odb_disk.specs.Tree.{Tree, tree_of}
 use Rattle.odb_disk.specs.Tree.Follow.{Refusal, Absent, WrongKind, LinkLoop, looked, read_of}
+use Rattle.odb_disk.specs.Tree.Write as writing
+use Rattle.odb_disk.specs.Tree.Write.{change_of_new_file}
+use Rattle.odb_disk.specs.declared.change.Change.{Change}
 use Rattle.odb_disk.specs.declared.disk.Meta.{Meta}
 use Rattle.odb_disk.specs.declared.disk.DiskError.{DiskError}
 use Rattle.odb_disk.specs.declared.ask.DiskAsk.{DiskAsk}
@@ -15,13 +18,18 @@ use Rattle.odb_disk.specs.declared.ask.DiskAnswer.TheVariants as answers
 use Rattle.odb_disk.specs.declared.disk.DiskError.TheVariants as disk_errors
 use Rattle.gix_hash.specs.declared.object_id.ObjectId.{ObjectId}
 use Rattle.gix_object.specs.declared.kind.Kind.{Kind}
-use Rattle.gix_odb_loose.specs.Store.{store_path, store_limit}
-use Rattle.gix_odb_loose.specs.LooseFile.{Answer, Object, HeaderOf, Presence, Gives, Holds, LeadsToFile, id_asked, loose_path}
+use Rattle.gix_odb_loose.specs.Store.{store_path, store_hash, store_limit}
+use Rattle.gix_odb_loose.specs.LooseFile.{IsFinding, Answer, Object, HeaderOf, Presence, Gives, Holds, LeadsToFile, id_asked, loose_path}
 use Rattle.gix_odb_loose.specs.Causes.{Cause}
-use Rattle.gix_odb_loose.specs.LooseOrder.{started, fed, disk_ask_of, reply_of, tested_by, found_by, header_by}
+use Rattle.gix_odb_loose.specs.LooseOrder.{begun, started, fed, disk_ask_of, stage_reply, written_to, reply_of, tested_by, found_by, header_by}
 use Rattle.gix_odb_loose.specs.LooseOrder.ReadLaws.{found_by-AnswersRead, found_by-Err, header_by-AnswersRead, header_by-Err}
 use Rattle.gix_odb_loose.specs.LooseOrder.LookLaws.{tested_by-Ok, tested_by-Err}
 use Rattle.gix_odb_loose.specs.Replies.{answer_in, error_in, IsMiss, Says}
+use Rattle.gix_odb_loose.specs.WriteOrder.{temp_path}
+use Rattle.gix_odb_loose.specs.WriteJobs.{led_in}
+use Rattle.gix_odb_loose.specs.declared.write_job.Led.{Led}
+use Rattle.gix_odb_loose.specs.declared.write_job.Led.TheVariants as leds
+use Rattle.gix_odb_loose.specs.declared.write_job.WriteJob.{WriteJob}
 use Rattle.gix_odb_loose.specs.declared.find.Error.{Error}
 use Rattle.gix_odb_loose.specs.declared.store.Store.{Store}
 use Rattle.gix_odb_loose.specs.declared.call.LooseJob.{LooseJob}
@@ -122,17 +130,25 @@ asks_look : (path : Path) (ask : DiskAsk) (tree : Tree) (given : DiskAnswer) →
 unfolding answer_of
 asks_look path ask tree given is asked = let same : asks.Look path true ≡ ask = cc is in subst (λ a. AnswersAsk given (answer_of tree a)) (sym same) asked
 
--- a call makes one ask, and is done after the answer
-pub reply_of-fed : (store : Store) (job : LooseJob) (given : DiskAnswer) → (reply : LooseReply) × (reply_of (fed (started store job) given) ≡ Some reply)
-reply_of-fed store (jobs.Contains id) given = (replies.Contains (tested_by (loose_path (store_path store) id) given), refl)
-reply_of-fed store (jobs.Find id) given = (replies.Found (found_by (loose_path (store_path store) id) (store_limit store) given), refl)
-reply_of-fed store (jobs.Header id) given = (replies.Header (header_by (loose_path (store_path store) id) given), refl)
+-- a finding call makes one ask, and is done after the answer
+pub reply_of-fed : (store : Store) (job : LooseJob) (given : DiskAnswer) → IsFinding job → (reply : LooseReply) × (reply_of (fed (started store job) given) ≡ Some reply)
+reply_of-fed store (jobs.Contains id) given finding = (replies.Contains (tested_by (loose_path (store_path store) id) given), refl)
+reply_of-fed store (jobs.Find id) given finding = (replies.Found (found_by (loose_path (store_path store) id) (store_limit store) given), refl)
+reply_of-fed store (jobs.Header id) given finding = (replies.Header (header_by (loose_path (store_path store) id) given), refl)
+reply_of-fed store (jobs.Write kind size bytes id) given finding = absurd finding
+
+-- the reply of a write answers no find, and isn't its miss or its error
+says_led : (path : Path) (limit : Option ℕ) (job : LooseJob) (tree : Tree) (Failed Wanting : Type 0) (write : WriteJob) (led : Led) (reply : LooseReply) → stage_reply (written_to write led) ≡ Some reply → Says path limit job tree Failed Wanting reply
+says_led path limit job tree Failed Wanting write (leds.On stage) reply r = absurd (cc r)
+says_led path limit job tree Failed Wanting write (leds.Wrote answer) reply r =
+    let same : replies.Wrote answer ≡ reply = cc r in
+    subst (Says path limit job tree Failed Wanting) same (record { held = λ given e. absurd (cc e); missed = λ miss. absurd miss; refused = λ error e. absurd (cc e) })
 
 -- the reply says what the tree shows that answered the ask
 pub Says-fed : (store : Store) (job : LooseJob) (tree : Tree) (ask : DiskAsk) (given : DiskAnswer) (reply : LooseReply) → disk_ask_of (started store job) ≡ Some ask → AnswersAsk given (answer_of tree ask)
     → (Failed Wanting : Type 0) → (given ≡ answers.Refused disk_errors.Failed → Failed) → (given ≡ answers.Refused disk_errors.NoMemory → Wanting)
     → reply_of (fed (started store job) given) ≡ Some reply
-    → Says (loose_path (store_path store) (id_asked job)) (store_limit store) job tree Failed Wanting reply
+    → Says (loose_path (store_path store) (id_asked (store_hash store) job)) (store_limit store) job tree Failed Wanting reply
 Says-fed store (jobs.Contains id) tree ask given reply is asked Failed Wanting failed wanting r =
     let path = loose_path (store_path store) id in
     let same : replies.Contains (tested_by path given) ≡ reply = cc r in
@@ -148,6 +164,9 @@ Says-fed store (jobs.Header id) tree ask given reply is asked Failed Wanting fai
     let same : replies.Header (header_by path given) ≡ reply = cc r in
     subst (Says path (store_limit store) (jobs.Header id) tree Failed Wanting) same
     (Says-header path (store_limit store) id tree given Failed Wanting failed wanting (asks_read path ask tree given is asked))
+Says-fed store (jobs.Write kind size bytes id) tree ask given reply is asked Failed Wanting failed wanting r =
+    let write = begun store kind size bytes id in
+    says_led (loose_path (store_path store) (id_asked (store_hash store) (jobs.Write kind size bytes id))) (store_limit store) (jobs.Write kind size bytes id) tree Failed Wanting write (led_in write given) reply r
 
 -- ---- a disk in memory
 
@@ -171,6 +190,14 @@ read_told (Err Absent) error e = (λ f. cc (e, f), λ f. cc (e, f))
 read_told (Err WrongKind) error e = (λ f. cc (e, f), λ f. cc (e, f))
 read_told (Err LinkLoop) error e = (λ f. cc (e, f), λ f. cc (e, f))
 
+write_told : (told : Result Change writing.Refusal) (error : DiskError) → write_answer told ≡ answers.Refused error → (error ≢ disk_errors.Failed) × (error ≢ disk_errors.NoMemory)
+write_told (Ok change) error e = absurd (cc e)
+write_told (Err writing.Absent) error e = (λ f. cc (e, f), λ f. cc (e, f))
+write_told (Err writing.WrongKind) error e = (λ f. cc (e, f), λ f. cc (e, f))
+write_told (Err writing.LinkLoop) error e = (λ f. cc (e, f), λ f. cc (e, f))
+write_told (Err writing.Exists) error e = (λ f. cc (e, f), λ f. cc (e, f))
+write_told (Err writing.NotEmpty) error e = (λ f. cc (e, f), λ f. cc (e, f))
+
 -- the asks of these calls: a tree never answers that the call failed, or that memory ran out
 tree_told : (store : Store) (job : LooseJob) (tree : Tree) (ask : DiskAsk) (error : DiskError) → disk_ask_of (started store job) ≡ Some ask → answer_of tree ask ≡ answers.Refused error
     → (error ≢ disk_errors.Failed) × (error ≢ disk_errors.NoMemory)
@@ -184,15 +211,18 @@ tree_told store (jobs.Find id) tree ask error is e =
 tree_told store (jobs.Header id) tree ask error is e =
     let path = loose_path (store_path store) id in
     let same : ask ≡ asks.Read path = cc is in read_told (read_of tree path) error (ap (answer_of tree) (sym same) ∙ e)
+tree_told store (jobs.Write kind size bytes id) tree ask error is e =
+    let path = temp_path (store_path store) 0 in
+    let same : ask ≡ asks.NewFile path = cc is in write_told (change_of_new_file tree path) error (ap (answer_of tree) (sym same) ∙ e)
 
 -- The reply to what a disk in memory answers now says what its tree shows; an error by a failed call has a listed number,
 -- and none is for want of memory.
 pub Says-now : (store : Store) (job : LooseJob) (disk : Volume) (ask : DiskAsk) (reply : LooseReply) → disk_ask_of (started store job) ≡ Some ask → reply_of (fed (started store job) (answer_now disk ask)) ≡ Some reply
-    → Says (loose_path (store_path store) (id_asked job)) (store_limit store) job (tree_of disk.state) (next_fails disk ≡ true) ⊥ reply
+    → Says (loose_path (store_path store) (id_asked (store_hash store) job)) (store_limit store) job (tree_of disk.state) (next_fails disk ≡ true) ⊥ reply
 Says-now store job disk ask reply is r = by_failing (next_fails disk) refl r
   where
     by_failing : (fails : Bool) → next_fails disk ≡ fails → reply_of (fed (started store job) (if fails then answers.Refused disk_errors.Failed else answer_of (tree_of disk.state) ask)) ≡ Some reply
-        → Says (loose_path (store_path store) (id_asked job)) (store_limit store) job (tree_of disk.state) (next_fails disk ≡ true) ⊥ reply
+        → Says (loose_path (store_path store) (id_asked (store_hash store) job)) (store_limit store) job (tree_of disk.state) (next_fails disk ≡ true) ⊥ reply
     by_failing true e h = Says-fed store job (tree_of disk.state) ask (answers.Refused disk_errors.Failed) reply is tt (next_fails disk ≡ true) ⊥ (λ f. e) (λ m. cc m) h
     by_failing false e h =
         Says-fed store job (tree_of disk.state) ask (answer_of (tree_of disk.state) ask) reply is (own_answer (answer_of (tree_of disk.state) ask)) (next_fails disk ≡ true) ⊥

@@ -1,5 +1,6 @@
 use crate::tests::{answers, hello, store_at};
 use gix_hash::Kind::Sha1;
+use gix_object::Kind;
 use odb_disk::HostDisk;
 use std::os::unix::fs::symlink;
 use std::test::Fail;
@@ -57,5 +58,25 @@ fn finds_on_a_real_disk(rt: HostRuntime) -> Result<(), Fail> {
     }
     assert_eq!(rt; disk.faults(), 3);
     fs::remove_file(&rt, NAME)?;
+    Ok(())
+}
+
+// A real file of other bytes than the header and the data, or a temporary file that stays.
+#[test]
+fn writes_on_a_real_disk(rt: HostRuntime) -> Result<(), Fail> {
+    let alloc = rt.alloc();
+    let _ = fs::remove_dir_all(&rt, "out/writes");
+    fs::create_dir_all(&rt, "out/writes")?;
+    env::set_current_dir(&rt, "out/writes")?;
+    let folder = env::current_dir(&rt)?;
+    let store = store_at(alloc, folder.as_str(), Sha1, None)?;
+    let mut disk = HostDisk::new(&rt);
+    let id = store.write_buf(alloc, &mut disk, Kind::Blob, b"hello")?;
+    assert!(rt; id == hello(alloc, Sha1)?);
+    assert_eq!(rt;
+        fs::read(&rt, NAME)?.as_slice(),
+        b"blob 5\0hello".as_slice()
+    );
+    assert!(rt; !fs::exists(&rt, "tmp_obj_0")?);
     Ok(())
 }

@@ -1,6 +1,6 @@
 use Rattle.std.proofs.Common.{◌∙◌}
 use Rattle.gix_odb_loose.proofs.LoosePathLemmas.{cut_at_two, is_name-front, is_name-rest, loose_path-joined}
-use Rattle.gix_odb_loose.proofs.store.Store.object_path.Goals as goal
+use Rattle.gix_odb_loose.proofs.paths.object_path.Goals as goal
 
 pub split_at-requires : goal.split_at-requires
 split_at-requires c = cut_at_two c.args.id.now _ c.as_bytes.ensures.id (c.as_str.ensures.value ∙ c.in_ok-hex.ensures)
@@ -13,5 +13,5 @@ joined-requires-2 c = is_name-rest c.args.id.now _ _ c.as_bytes.ensures.id c.spl
 
 pub returns : goal.returns
 returns c =
-    rw (loose_path-joined c.args.self.now.path _ c.args.id.now _ _ _ (c.as_str.ensures.value ∙ c.in_ok-hex.ensures) c.split_at.ensures.front c.split_at.ensures.back c.in_ok-folder.ensures)
+    rw (loose_path-joined c.args.objects.now _ c.args.id.now _ _ _ (c.as_str.ensures.value ∙ c.in_ok-hex.ensures) c.split_at.ensures.front c.split_at.ensures.back c.in_ok-folder.ensures)
     c.joined-2.ensures

@@ -1,0 +1,171 @@
+-- Each answer leaves a call with fewer asks, for callers: a call with so many asks left has at most so many turns.
+use Rattle.std.proofs.Common.{◌≡◌, ◌<◌, ◌≤◌, ◌+◌, ◌-◌, ◌==◌, ℕ, Bool, true, false, List, length, take, drop, Option, Some, None, Result, Ok, Err, refl, cond, sym, ap, ◌∙◌, subst, arith}
+use Rattle.std.specs.Prelude.{nat_lt, nat_le, min, if◌then◌else◌}
+use Rattle.std.proofs.lemmas.Bool.{cases_lt}
+use Rattle.std.proofs.lemmas.Grind.{common_steps}
+use Rattle.std.proofs.lemmas.List.{length-take, length-drop}
+use Rattle.odb_disk.specs.declared.ask.DiskAsk.{DiskAsk}
+use Rattle.odb_disk.specs.declared.ask.DiskAnswer.{DiskAnswer}
+use Rattle.odb_disk.specs.declared.ask.DiskAnswer.TheVariants as answers
+use Rattle.odb_disk.specs.declared.disk.DiskError.TheVariants as disk_errors
+use Rattle.gix_hash.specs.declared.object_id.ObjectId.{ObjectId}
+use Rattle.gix_odb_loose.specs.LooseOrder.{fed, disk_ask_of, stage_ask, next_stage, asks_left, written_to}
+use Rattle.gix_odb_loose.specs.WriteOrder.{made_by, headed_by, filled_by, foldered_by, moved_by, next_write, ended_with, written_in, room_behind, grown}
+use Rattle.gix_odb_loose.specs.WriteNames.{name_for}
+use Rattle.gix_odb_loose.specs.WriteJobs.{is_at_end, supplied, supplied_to, piece_at, piece_of, next_in, led_by, led_in, pieces_of, writes_left}
+use Rattle.gix_odb_loose.specs.declared.call.LooseCall.{LooseCall}
+use Rattle.gix_odb_loose.specs.declared.call.Stage.{Stage as CallStage}
+use Rattle.gix_odb_loose.specs.declared.call.Stage.TheVariants as calls
+use Rattle.gix_odb_loose.specs.declared.write.Message.TheVariants as messages
+use Rattle.gix_odb_loose.specs.declared.write_call.Onward.{Onward}
+use Rattle.gix_odb_loose.specs.declared.write_call.Onward.TheVariants.{Stage, End}
+use Rattle.gix_odb_loose.specs.declared.write_call.WriteStage.{WriteStage}
+use Rattle.gix_odb_loose.specs.declared.write_call.WriteStage.TheVariants as stages
+use Rattle.gix_odb_loose.specs.declared.write_call.Refusal.TheVariants as refusals
+use Rattle.gix_odb_loose.specs.declared.write_job.WriteJob.{WriteJob}
+
+-- how many asks are left of a write that goes on, or ends
+abbrev onward_left : ℕ → Onward → ℕ
+onward_left n (Stage stage) = writes_left n stage
+onward_left n (End end) = 0
+
+led_left : (job : WriteJob) (onward : Onward) → asks_left (written_to job (led_by job onward)) ≡ onward_left (length job.bytes) onward
+led_left job (Stage stage) = refl
+led_left job (End end) = refl
+
+-- a whole piece less
+pieces_fewer : (len : ℕ) → 65536 < len → pieces_of (len - 65536) < pieces_of len
+pieces_fewer len more = omega (arith, more)
+
+nothing_off : (len : ℕ) → len - 0 ≡ len
+nothing_off len = omega arith
+
+-- ---- the end of the data takes no more asks
+
+ended_left : (n size written number : ℕ) (id : ObjectId) (same : Bool) → writes_left n (if same then stages.Foldering number id else stages.Removing number (refusals.SizeMismatch written)) < 4
+ended_left n size written number id true = omega arith
+ended_left n size written number id false = omega arith
+
+abbrev name_of : WriteJob → ObjectId
+name_of job = name_for job.known job.hash job.head job.bytes
+
+module _ (job : WriteJob) where
+  abbrev n : ℕ
+  n = length job.bytes
+
+  -- where data are left, a stage is as it was; else the end is told
+  supply_fill : (number written : ℕ) (b : Bool) → nat_le n written ≡ b
+      → writes_left n (if b then ended_with job.head.size (name_of job) (stages.Filling number written) else stages.Filling number written) ≤ 4 + pieces_of (n - written)
+  supply_fill number written true e = omega (arith, ended_left n job.head.size written number (name_of job) (written == job.head.size))
+  supply_fill number written false e = omega arith
+
+  supply_strict : (number written : ℕ) (b : Bool) → nat_le n written ≡ b → n ≤ written
+      → writes_left n (if b then ended_with job.head.size (name_of job) (stages.Filling number written) else stages.Filling number written) < 4
+  supply_strict number written true e past = ended_left n job.head.size written number (name_of job) (written == job.head.size)
+  supply_strict number written false e past = absurd (grind (arith, common_steps, e, past))
+
+  supplied_left : (onward : Onward) → onward_left n (supplied job onward) ≤ onward_left n onward
+  supplied_left (Stage (stages.Making number)) = omega arith
+  supplied_left (Stage (stages.Heading number)) = omega arith
+  supplied_left (Stage (stages.Filling number written)) = supply_fill number written (nat_le n written) refl
+  supplied_left (Stage (stages.Foldering number id)) = omega arith
+  supplied_left (Stage (stages.Moving number id)) = omega arith
+  supplied_left (Stage (stages.Removing number refusal)) = omega arith
+  supplied_left (End end) = omega arith
+
+  -- ---- each answer
+
+  tries : (number : ℕ) (b : Bool) → nat_lt (number + 1) 16 ≡ b → onward_left n (if b then Stage (stages.Making (number + 1)) else End (Err (refusals.Io messages.CreateTempFile))) < 6 + pieces_of n + (16 - number)
+  tries number true e = let below : number + 1 < 16 = grind (arith, common_steps, e) in omega (arith, below)
+  tries number false e = omega arith
+
+  made_left : (number : ℕ) (given : DiskAnswer) → onward_left n (made_by number given) < 6 + pieces_of n + (16 - number)
+  made_left number answers.Done = omega arith
+  made_left number (answers.Meta meta) = omega arith
+  made_left number (answers.File bytes time) = omega arith
+  made_left number (answers.Refused disk_errors.Exists) = tries number (nat_lt (number + 1) 16) refl
+  made_left number (answers.Refused disk_errors.Absent) = omega arith
+  made_left number (answers.Refused disk_errors.WrongKind) = omega arith
+  made_left number (answers.Refused disk_errors.LinkLoop) = omega arith
+  made_left number (answers.Refused disk_errors.NotEmpty) = omega arith
+  made_left number (answers.Refused disk_errors.Failed) = omega arith
+  made_left number (answers.Refused disk_errors.NoMemory) = omega arith
+
+  headed_left : (number : ℕ) (given : DiskAnswer) → onward_left n (headed_by number given) < 5 + pieces_of n
+  headed_left number answers.Done = rw nothing_off (omega arith)
+  headed_left number (answers.Meta meta) = omega arith
+  headed_left number (answers.File bytes time) = omega arith
+  headed_left number (answers.Refused error) = omega arith
+
+  foldered_left : (number : ℕ) (id : ObjectId) (given : DiskAnswer) → onward_left n (foldered_by number id given) < 3
+  foldered_left number id answers.Done = omega arith
+  foldered_left number id (answers.Meta meta) = omega arith
+  foldered_left number id (answers.File bytes time) = omega arith
+  foldered_left number id (answers.Refused disk_errors.Exists) = omega arith
+  foldered_left number id (answers.Refused disk_errors.Absent) = omega arith
+  foldered_left number id (answers.Refused disk_errors.WrongKind) = omega arith
+  foldered_left number id (answers.Refused disk_errors.LinkLoop) = omega arith
+  foldered_left number id (answers.Refused disk_errors.NotEmpty) = omega arith
+  foldered_left number id (answers.Refused disk_errors.Failed) = omega arith
+  foldered_left number id (answers.Refused disk_errors.NoMemory) = omega arith
+
+  moved_left : (number : ℕ) (id : ObjectId) (given : DiskAnswer) → onward_left n (moved_by number id given) < 2
+  moved_left number id answers.Done = omega arith
+  moved_left number id (answers.Meta meta) = omega arith
+  moved_left number id (answers.File bytes time) = omega arith
+  moved_left number id (answers.Refused error) = omega arith
+
+  abbrev piece : ℕ → ℕ
+  piece written = length (piece_at job.head.size job.bytes written)
+
+  -- where more than this piece are left and the piece fits, it is a whole one
+  whole_piece : (size written len room : ℕ) (b : Bool) → nat_lt written size ≡ b → room ≡ (if b then min 65536 (size - written + 1) else 1) → len ≡ min room (n - written) → written + len < n → written + len ≤ size → len ≡ 65536
+  whole_piece size written len room true e room_is len_is more fits = grind (arith, common_steps, e, room_is, len_is, more, fits)
+  whole_piece size written len room false e room_is len_is more fits = absurd (grind (arith, common_steps, e, room_is, len_is, more, fits))
+
+  piece_is : (written : ℕ) → piece written ≡ min (room_behind job.head.size written) (n - written)
+  piece_is written = length-take (room_behind job.head.size written) (drop written job.bytes) ∙ ap (min (room_behind job.head.size written)) (length-drop written job.bytes)
+
+  grown_left : (number written : ℕ) (past : Bool) → nat_le n (written + piece written) ≡ past → written + piece written ≤ job.head.size
+      → onward_left n (supplied job (Stage (stages.Filling number (written + piece written)))) < 4 + pieces_of (n - written)
+  grown_left number written true e fits =
+      let inside : n ≤ written + piece written = grind (arith, common_steps, e) in
+      let less = supply_strict number (written + piece written) (nat_le n (written + piece written)) refl inside in omega (arith, less)
+  grown_left number written false e fits =
+      let below : written + piece written < n = grind (arith, common_steps, e) in
+      let whole = whole_piece job.head.size written (piece written) (room_behind job.head.size written) (nat_lt written job.head.size) refl refl (piece_is written) below fits in
+      let least = supply_fill number (written + piece written) (nat_le n (written + piece written)) refl in
+      let fewer = pieces_fewer (n - written) (omega (arith, below, whole)) in
+      let rest : n - (written + piece written) ≡ n - written - 65536 = omega (arith, whole) in
+      let least' = rw rest at least in
+      omega (arith, least', fewer)
+
+  fits_left : (number written : ℕ) (b : Bool) → nat_le (written + piece written) job.head.size ≡ b
+      → onward_left n (supplied job (if b then Stage (stages.Filling number (written + piece written)) else Stage (stages.Removing number (refusals.SizeMismatch (grown written (piece written)))))) < 4 + pieces_of (n - written)
+  fits_left number written true e = grown_left number written (nat_le n (written + piece written)) refl (grind (arith, common_steps, e))
+  fits_left number written false e = omega arith
+
+  filled_left : (number written : ℕ) (given : DiskAnswer) → onward_left n (supplied job (filled_by number written job.head.size (piece written) given)) < 4 + pieces_of (n - written)
+  filled_left number written answers.Done = fits_left number written (nat_le (written + piece written) job.head.size) refl
+  filled_left number written (answers.Meta meta) = omega arith
+  filled_left number written (answers.File bytes time) = omega arith
+  filled_left number written (answers.Refused error) = omega arith
+
+  stage_left : (stage : WriteStage) (given : DiskAnswer) → onward_left n (supplied job (next_write job.head.size (length (piece_of job.head.size job.bytes (written_in stage))) stage given)) < writes_left n stage
+  stage_left (stages.Making number) given = omega (arith, supplied_left (made_by number given), made_left number given)
+  stage_left (stages.Heading number) given = omega (arith, supplied_left (headed_by number given), headed_left number given)
+  stage_left (stages.Filling number written) given = filled_left number written given
+  stage_left (stages.Foldering number id) given = omega (arith, supplied_left (foldered_by number id given), foldered_left number id given)
+  stage_left (stages.Moving number id) given = omega (arith, supplied_left (moved_by number id given), moved_left number id given)
+  stage_left (stages.Removing number refusal) given = omega arith
+
+pub fewer : (stage : CallStage) (ask : DiskAsk) (given : DiskAnswer) → stage_ask stage ≡ Some ask → asks_left (next_stage stage given) < asks_left stage
+fewer (calls.Testing path) ask given is = omega arith
+fewer (calls.Finding path limit) ask given is = omega arith
+fewer (calls.Heading path) ask given is = omega arith
+fewer (calls.Writing job) ask given is = rw (led_left job (next_in job given)) (stage_left job job.stage given)
+fewer (calls.Done reply) ask given is = absurd (cc is)
+
+-- a call that is fed the answer to its ask has fewer asks left
+pub asks_fewer : (call after : LooseCall) (ask : DiskAsk) (given : DiskAnswer) → Some ask ≡ disk_ask_of call → after ≡ fed call given → asks_left after.stage < asks_left call.stage
+asks_fewer call after ask given asked is = subst (λ c. asks_left c.stage < asks_left call.stage) (sym is) (fewer call.stage ask given (sym asked))

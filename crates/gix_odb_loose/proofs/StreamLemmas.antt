@@ -1,0 +1,266 @@
+-- What a write reads on, and how it goes on to a stage.
+use Rattle.std.specs.Result.{IsErr}
+use Rattle.std.specs.Prelude.{◌≡◌, ◌≢◌, ℕ, ◌+◌, ◌-◌, ◌^◌, ◌<◌, ◌≤◌, ◌==◌, Bool, true, false, nat_lt, min, List, [], ◌∷◌, ◌++◌, length, Option, Some, None, Result, Ok, Err, IfSome, if◌then◌else◌, refl}
+use Rattle.std.proofs.Common.{inl, sym, ap, ◌∙◌, subst, arith, append-nil, append_assoc}
+use Rattle.std.proofs.lemmas.Grind.{common_steps}
+use Rattle.std.proofs.lemmas.List.{length-append}
+use Rattle.odb_base.specs.Faults.{Rose}
+use Rattle.odb_base.specs.Path.{Path}
+use Rattle.odb_disk.specs.Tree.{State}
+use Rattle.gix_hash.specs.declared.kind.Kind.{Kind as HashKind}
+use Rattle.gix_hash.specs.declared.object_id.ObjectId.{ObjectId}
+use Rattle.gix_odb_loose.specs.Exchanges.{Exchange, MadeOnly}
+use Rattle.gix_odb_loose.specs.WriteHistory.{IsHistory}
+use Rattle.gix_odb_loose.specs.WriteHistory.Laws.{IsHistory-ended}
+use Rattle.gix_odb_loose.specs.WriteNames.{name_for, Names}
+use Rattle.gix_odb_loose.specs.WriteOrder.{written_in, room_behind, ended_with, source_failed, temporary_of, number_made}
+use Rattle.gix_odb_loose.specs.WriteStreams.{Begun, Draws, IsAtEnd, Loses, Takes, NamedBy, OtherLength, SourceFailed, Did, Took, HasPiece, Named, HoldsFed, Holds, StandsAt, IsFed, BreaksAt, GoesOn, IsEnded, removal_at, temporary_at, turns_left}
+use Rattle.gix_odb_loose.specs.declared.stream_job.StreamJob.{StreamJob}
+use Rattle.gix_odb_loose.specs.declared.write_call.Refusal.TheVariants as refusals
+use Rattle.gix_odb_loose.specs.declared.write_call.WriteHead.{WriteHead}
+use Rattle.gix_odb_loose.specs.declared.write_call.WriteStage.{WriteStage}
+use Rattle.gix_odb_loose.specs.declared.write_call.WriteStage.TheVariants as stages
+use Rattle.gix_odb_loose.proofs.DrawLemmas.{Draws-more, Draws-end}
+
+-- a stage that waits for data
+pub filling_is : (stage : WriteStage) (written : ℕ) → written_in stage ≡ Some written → (number : ℕ) × (stage ≡ stages.Filling number written)
+filling_is (stages.Making number) written e = absurd (cc e)
+filling_is (stages.Heading number) written e = absurd (cc e)
+filling_is (stages.Filling number before) written e = let same : before ≡ written = cc e in (number, ap (λ (n : ℕ). stages.Filling number n) same)
+filling_is (stages.Foldering number id) written e = absurd (cc e)
+filling_is (stages.Moving number id) written e = absurd (cc e)
+filling_is (stages.Removing number refusal) written e = absurd (cc e)
+
+-- a piece has room, and one byte above the size at most
+room_some : (size written : ℕ) (b : Bool) → nat_lt written size ≡ b → 1 ≤ (if b then min 65536 (size - written + 1) else 1)
+room_some size written true e = grind (arith, common_steps)
+room_some size written false e = omega arith
+
+room_most : (size written : ℕ) (b : Bool) → nat_lt written size ≡ b → written ≤ size → written + (if b then min 65536 (size - written + 1) else 1) ≤ size + 1
+room_most size written true e within = let less : written < size = grind (arith, common_steps, e) in grind (arith, common_steps, less)
+room_most size written false e within = omega (arith, within)
+
+pub has_room : (size written : ℕ) → 1 ≤ room_behind size written
+has_room size written = room_some size written (nat_lt written size) refl
+
+pub room_within : (size written : ℕ) → written ≤ size → written + room_behind size written ≤ size + 1
+room_within size written within = room_most size written (nat_lt written size) refl within
+
+-- ---- the name and the length of all data
+
+named_from : (left : Option (List ℕ)) (known : Option ObjectId) (hash : HashKind) (head : WriteHead) (all : List ℕ) → IfSome left (λ bytes. bytes ≡ all) → IfSome left (λ bytes. name_for known hash head all ≡ name_for known hash head bytes)
+named_from None known hash head all h = tt
+named_from (Some bytes) known hash head all h = ap (name_for known hash head) (sym h)
+
+counts_from : (left : Option (List ℕ)) (size written : ℕ) (all : List ℕ) → IfSome left (λ bytes. bytes ≡ all) → written ≡ length all → written ≤ size → (written ≡ size → ⊥) → OtherLength left size written
+counts_from None size written all h is within differs = tt
+counts_from (Some bytes) size written all h is within differs = let long : length bytes ≡ length all = ap length h in inl (omega (arith, within, differs, is, long), is ∙ sym long)
+
+module _ (w : Begun) (state : Option State) (now : ℕ) where
+  took_more : (rest last : Option (List ℕ)) (source_now later : ℕ) (all more : List ℕ) → Took w rest source_now all → Draws rest last more → length all + length more ≤ w.head.size + 1 → source_now ≤ later → Took w last later (all ++ more)
+  took_more rest last source_now later all more took drawn few on =
+      record {
+        drawn = Draws-more w.left rest last all more took.drawn drawn;
+        few = omega (arith, few, length-append all more);
+        later = omega (arith, took.later, on);
+      }
+
+  module _ (rest : Option (List ℕ)) (source_now : ℕ) (job : StreamJob) (number written : ℕ) (fed : IsFed w state now rest source_now job (stages.Filling number written)) where
+    all_appended : fed.all ≡ fed.appended
+    all_appended = fed.holds.is ∙ append-nil fed.appended
+
+    so_far : written ≡ length fed.all
+    so_far = fed.history.0 ∙ ap length (sym all_appended)
+
+    few_more : (more : List ℕ) → length more ≤ room_behind w.head.size written → length fed.all + length more ≤ w.head.size + 1
+    few_more more few = let room = room_within w.head.size written fed.holds.within in omega (arith, room, few, so_far)
+
+    -- the end of the data is told
+    module _ (at_end : IsAtEnd rest) (new : StreamJob) (head : new.head ≡ job.head) (removal : new.removal ≡ job.removal) where
+      abbrev id : ObjectId
+      id = name_for w.known w.hash w.head fed.all
+
+      whole : IfSome w.left (λ bytes. bytes ≡ fed.all)
+      whole = Draws-end w.left rest fed.all fed.took.drawn at_end
+
+      ended_history : IsHistory w.head (NamedBy w) (SourceFailed w source_now) (OtherLength w.left w.head.size) fed.appended (ended_with w.head.size id (stages.Filling number written)) fed.past
+      ended_history =
+          IsHistory-ended w.head (NamedBy w) (SourceFailed w source_now) (OtherLength w.left w.head.size) number written id fed.appended fed.past (named_from w.left w.known w.hash w.head fed.all whole)
+          (counts_from w.left w.head.size written fed.all whole so_far fed.holds.within) fed.history
+
+      by_length : (same : Bool) → (written == w.head.size) ≡ same → StandsAt w state now rest source_now new (if same then stages.Foldering number id else stages.Removing number (refusals.SizeMismatch written))
+      by_length true e =
+          record {
+            past = fed.past;
+            appended = fed.appended;
+            all = fed.all;
+            did = fed.did;
+            renamed = fed.renamed;
+            made = fed.made;
+            took = fed.took;
+            head = head ∙ fed.head;
+            removal = removal ∙ fed.removal;
+            history =
+                subst (λ (b : Bool). IsHistory w.head (NamedBy w) (SourceFailed w source_now) (OtherLength w.left w.head.size) fed.appended (if b then stages.Foldering number id else stages.Removing number (refusals.SizeMismatch written)) fed.past) e ended_history;
+            holds = (at_end, all_appended, ap (name_for w.known w.hash w.head) all_appended);
+          }
+      by_length false e =
+          record {
+            past = fed.past;
+            appended = fed.appended;
+            all = fed.all;
+            did = fed.did;
+            renamed = fed.renamed;
+            made = fed.made;
+            took = fed.took;
+            head = head ∙ fed.head;
+            removal = removal ∙ fed.removal;
+            history =
+                subst (λ (b : Bool). IsHistory w.head (NamedBy w) (SourceFailed w source_now) (OtherLength w.left w.head.size) fed.appended (if b then stages.Foldering number id else stages.Removing number (refusals.SizeMismatch written)) fed.past) e ended_history;
+            holds = tt;
+          }
+
+      pub stands_ended : new.stage ≡ ended_with job.head.size id (stages.Filling number written) → StandsAt w state now rest source_now new new.stage
+      stands_ended is =
+          let size : job.head.size ≡ w.head.size = ap (λ (h : WriteHead). h.size) fed.head in
+          subst (λ (s : WriteStage). StandsAt w state now rest source_now new s) (sym (is ∙ ap (λ (n : ℕ). ended_with n id (stages.Filling number written)) size)) (by_length (written == w.head.size) refl)
+
+    -- bytes are lost
+    module _ (last : Option (List ℕ)) (later : ℕ) (loses : Loses (room_behind w.head.size written) rest last source_now later) where
+      took_lost : Took w last later (fed.all ++ loses.lost)
+      took_lost = took_more rest last source_now later fed.all loses.lost fed.took loses.drawn (few_more loses.lost loses.few) loses.later
+
+      -- for want of memory
+      pub breaks_lost : (new : StreamJob) → new.removal ≡ job.removal → BreaksAt w state now last later new (stages.Filling number written)
+      breaks_lost new removal =
+          record { past = fed.past; all = fed.all ++ loses.lost; did = fed.did; renamed = fed.renamed; made = fed.made; took = took_lost; removal = removal ∙ fed.removal }
+
+      -- by a failure of the source
+      pub stands_failed : Rose source_now later → (new : StreamJob) → new.head ≡ job.head → new.removal ≡ job.removal → StandsAt w state now last later new (source_failed (stages.Filling number written))
+      stands_failed rose new head removal =
+          record {
+            past = fed.past;
+            appended = fed.appended;
+            all = fed.all ++ loses.lost;
+            did = fed.did;
+            renamed = fed.renamed;
+            made = fed.made;
+            took = took_lost;
+            head = head ∙ fed.head;
+            removal = removal ∙ fed.removal;
+            history = (refl, inl (grind (arith, rose, fed.took.later)));
+            holds = tt;
+          }
+
+    -- a piece is taken
+    module _ (last : Option (List ℕ)) (later : ℕ) (piece : List ℕ) (takes : Takes (room_behind w.head.size written) rest last source_now later piece) (new : StreamJob) (head : new.head ≡ job.head) (removal : new.removal ≡ job.removal)
+        (is : new.piece ≡ piece) (ended : new.has_ended ≡ nat_lt (length piece) (room_behind w.head.size written)) (named : Names w.known w.hash w.head (fed.all ++ piece) new.naming) where
+      took_piece : Took w last later (fed.all ++ piece)
+      took_piece = took_more rest last source_now later fed.all piece fed.took takes.drawn (few_more piece takes.few) takes.later
+
+      shorter : new.has_ended ≡ true → IsAtEnd last
+      shorter e = takes.at_end (let less = sym ended ∙ e in grind (arith, common_steps, less))
+
+      has_piece : HasPiece w last written fed.appended (fed.all ++ piece) new.piece new
+      has_piece =
+          record { is = ap (λ (xs : List ℕ). xs ++ piece) all_appended ∙ ap (λ (xs : List ℕ). fed.appended ++ xs) (sym is); named = named; within = fed.holds.within; ended = shorter }
+
+      pub stands_piece : new.piece ≢ [] → StandsAt w state now last later new (stages.Filling number written)
+      stands_piece some =
+          record {
+            past = fed.past;
+            appended = fed.appended;
+            all = fed.all ++ piece;
+            did = fed.did;
+            renamed = fed.renamed;
+            made = fed.made;
+            took = took_piece;
+            head = head ∙ fed.head;
+            removal = removal ∙ fed.removal;
+            history = fed.history;
+            holds = (has_piece, some);
+          }
+
+      pub fed_nothing : new.piece ≡ [] → IsFed w state now last later new (stages.Filling number written)
+      fed_nothing none =
+          record {
+            past = fed.past;
+            appended = fed.appended;
+            all = fed.all ++ piece;
+            did = fed.did;
+            renamed = fed.renamed;
+            made = fed.made;
+            took = took_piece;
+            head = head ∙ fed.head;
+            none = none;
+            removal = removal ∙ fed.removal;
+            history = fed.history;
+            holds = subst (λ (p : List ℕ). HasPiece w last written fed.appended (fed.all ++ piece) p new) none has_piece;
+          }
+
+      pub at_end_nothing : new.piece ≡ [] → IsAtEnd last
+      at_end_nothing none = let some = has_room w.head.size written in let short : length piece ≡ 0 = ap length (sym is ∙ none) in takes.at_end (omega (arith, some, short))
+
+-- ---- for a stage that waits for data, as the code has it
+
+module _ (w : Begun) (state : Option State) (now : ℕ) (rest : Option (List ℕ)) (source_now : ℕ) (job : StreamJob) (written : ℕ) (waits : written_in job.stage ≡ Some written) (fed : IsFed w state now rest source_now job job.stage) where
+  abbrev number : ℕ
+  number = (filling_is job.stage written waits).0
+
+  abbrev is_filling : job.stage ≡ stages.Filling number written
+  is_filling = (filling_is job.stage written waits).1
+
+  abbrev filling : IsFed w state now rest source_now job (stages.Filling number written)
+  filling = subst (λ (s : WriteStage). IsFed w state now rest source_now job s) is_filling fed
+
+  abbrev size_is : job.head.size ≡ w.head.size
+  size_is = ap (λ (h : WriteHead). h.size) filling.head
+
+  -- the source is at its end
+  pub on_end : job.has_ended ≡ true → (new : StreamJob) → new.head ≡ job.head → new.removal ≡ job.removal → IsEnded job new → StandsAt w state now rest source_now new new.stage
+  on_end last new head removal ended =
+      stands_ended w state now rest source_now job number written filling (filling.holds.ended last) new head removal
+      (ended.stage ∙ ap (ended_with job.head.size ended.id) is_filling ∙ ap (λ (id : ObjectId). ended_with job.head.size id (stages.Filling number written)) (ended.named w.known w.hash w.head filling.all filling.holds.named))
+
+  module _ (most : ℕ) (room : most ≡ room_behind job.head.size written) (last : Option (List ℕ)) (later : ℕ) where
+    abbrev room_is : most ≡ room_behind w.head.size written
+    room_is = room ∙ ap (λ (n : ℕ). room_behind n written) size_is
+
+    pub on_lost : Loses most rest last source_now later → BreaksAt w state now last later job job.stage
+    on_lost loses =
+        subst (λ (s : WriteStage). BreaksAt w state now last later job s) (sym is_filling)
+        (breaks_lost w state now rest source_now job number written filling last later (subst (λ (n : ℕ). Loses n rest last source_now later) room_is loses) job refl)
+
+    pub on_failed : Rose source_now later → Loses most rest last source_now later → (new : StreamJob) → new.head ≡ job.head → new.removal ≡ job.removal → new.stage ≡ source_failed job.stage → StandsAt w state now last later new new.stage
+    on_failed rose loses new head removal is =
+        subst (λ (s : WriteStage). StandsAt w state now last later new s) (sym (is ∙ ap source_failed is_filling))
+        (stands_failed w state now rest source_now job number written filling last later (subst (λ (n : ℕ). Loses n rest last source_now later) room_is loses) rose new head removal)
+
+    module _ (piece : List ℕ) (takes : Takes most rest last source_now later piece) (taken : StreamJob) (head : taken.head ≡ job.head) (removal : taken.removal ≡ job.removal) (same : taken.stage ≡ job.stage) (is : taken.piece ≡ piece)
+        (ended : taken.has_ended ≡ nat_lt (length piece) most)
+        (named : (known : Option ObjectId) (hash : HashKind) (head : WriteHead) (before : List ℕ) → Names known hash head before job.naming → Names known hash head (before ++ piece) taken.naming) where
+      takes_room : Takes (room_behind w.head.size written) rest last source_now later piece
+      takes_room = subst (λ (n : ℕ). Takes n rest last source_now later piece) room_is takes
+
+      ended_is : taken.has_ended ≡ nat_lt (length piece) (room_behind w.head.size written)
+      ended_is = ended ∙ ap (nat_lt (length piece)) room_is
+
+      abbrev names : Names w.known w.hash w.head (filling.all ++ piece) taken.naming
+      names = named w.known w.hash w.head filling.all filling.holds.named
+
+      pub on_piece : taken.piece ≢ [] → StandsAt w state now last later taken taken.stage
+      on_piece some =
+          subst (λ (s : WriteStage). StandsAt w state now last later taken s) (sym (same ∙ is_filling))
+          (stands_piece w state now rest source_now job number written filling last later piece takes_room taken head removal is ended_is names some)
+
+      pub on_nothing : taken.piece ≡ [] → (new : StreamJob) → new.head ≡ taken.head → new.removal ≡ taken.removal → IsEnded taken new → StandsAt w state now last later new new.stage
+      unfolding fed_nothing
+      on_nothing none new head' removal' ended' =
+          let fed' = fed_nothing w state now rest source_now job number written filling last later piece takes_room taken head removal is ended_is names none in
+          let at_end = at_end_nothing w state now rest source_now job number written filling last later piece takes_room taken head removal is ended_is names none in
+          stands_ended w state now last later taken number written fed' at_end new head' removal'
+          (ended'.stage ∙ ap (ended_with taken.head.size ended'.id) (same ∙ is_filling) ∙ ap (λ (id : ObjectId). ended_with taken.head.size id (stages.Filling number written)) (ended'.named w.known w.hash w.head fed'.all names))
+
+pub goes_on_broken : {E : Type 0} (w : Begun) (state : Option State) (now : ℕ) (rest : Option (List ℕ)) (source_now : ℕ) (job : StreamJob) (result : Result (Unit {0}) E) → IsErr result → BreaksAt w state now rest source_now job job.stage → GoesOn w state now rest source_now job result
+goes_on_broken w state now rest source_now job (Ok x) err broken = absurd (cc err)
+goes_on_broken w state now rest source_now job (Err error) err broken = broken

@@ -1,0 +1,100 @@
+-- From the run of a write to the clauses of each call.
+use Rattle.std.specs.Prelude.{◌≡◌, ⊤, ℕ, ◌+◌, ◌≤◌, List, [], ◌++◌, length, drop, Option, Some, None, Result, Ok, Err, IfOk, IfSome, is_err, false, refl}
+use Rattle.std.proofs.Common.{sym, ap, ◌∙◌, subst, arith}
+use Rattle.std.proofs.Math.Seq.{drop-append_seam}
+use Rattle.odb_base.specs.Faults.{Rose}
+use Rattle.odb_disk.specs.Tree.{State}
+use Rattle.odb_disk.specs.declared.ask.DiskAsk.{DiskAsk}
+use Rattle.gix_hash.specs.Hash.{hash_of}
+use Rattle.gix_hash.specs.ObjectId.{kind_of}
+use Rattle.gix_hash.specs.declared.kind.Kind.{Kind as HashKind}
+use Rattle.gix_hash.specs.declared.object_id.ObjectId.{ObjectId}
+use Rattle.gix_object.specs.Id.{object_id}
+use Rattle.gix_object.specs.Id.Laws.{kind_of-object_id}
+use Rattle.gix_object.specs.Loose.{header_of}
+use Rattle.gix_object.specs.Stream.{IsDrawn, IsWhole, stream_of}
+use Rattle.gix_object.specs.Stream as streams
+use Rattle.gix_odb_loose.specs.Causes.WriteLaws.{WriteCause-wider}
+use Rattle.gix_odb_loose.specs.WriteNames.{name_for}
+use Rattle.gix_odb_loose.specs.WriteRuns.{Refuses, FoundThere, Writes, WriteRuns, TakesFrom}
+use Rattle.gix_odb_loose.specs.WriteStreams.{Draws, IsAtEnd, OtherLength}
+use Rattle.gix_odb_loose.specs.declared.write.Error.{Error}
+use Rattle.gix_odb_loose.specs.declared.write_call.WriteHead.{WriteHead}
+
+pub if_ok : {A E : Type 0} (P : A → Type 0) (result : Result A E) → ((x : A) → result ≡ Ok x → P x) → IfOk result P
+if_ok P (Ok x) h = h x refl
+if_ok P (Err error) h = tt
+
+-- the name of an object by its own data
+object_named : (hash : HashKind) (head : WriteHead) (bytes : List ℕ) → length bytes ≡ head.size → name_for None hash head bytes ≡ object_id hash head.kind bytes
+unfolding object_id
+object_named hash head bytes size = ap (λ (n : ℕ). hash_of hash (header_of head.kind n ++ bytes)) (sym size)
+
+module _ (head : WriteHead) (hash : HashKind) (source : Option (List ℕ)) (SourceFailed : Type 0) (state new : Option State) (before now : ℕ) (result : Result ObjectId Error) where
+  module _ (run : WriteRuns head hash None source SourceFailed state new before now result) where
+    by_data : (id : ObjectId) → result ≡ Ok id → (bytes : List ℕ) × (id ≡ object_id hash head.kind bytes) × IfSome source (λ all. all ≡ bytes)
+    by_data id is = let writes = run.wrote id is in (writes.bytes, writes.name ∙ object_named hash head writes.bytes writes.size, writes.whole)
+
+    of_source : (source : Option (List ℕ)) (bytes : List ℕ) (id : ObjectId) → IfSome source (λ all. all ≡ bytes) → id ≡ object_id hash head.kind bytes → IfSome source (λ all. id ≡ object_id hash head.kind all)
+    of_source None bytes id whole named = tt
+    of_source (Some all) bytes id whole named = named ∙ ap (object_id hash head.kind) (sym whole)
+
+    -- the id is that of the data
+    pub wrote_id : IfOk result (λ id. IfSome source (λ bytes. id ≡ object_id hash head.kind bytes))
+    wrote_id = if_ok (λ id. IfSome source (λ bytes. id ≡ object_id hash head.kind bytes)) result (λ id is. let by = by_data id is in of_source source by.0 id by.2 by.1)
+
+    pub wrote_kind : IfOk result (λ id. kind_of id ≡ hash)
+    wrote_kind = if_ok (λ id. kind_of id ≡ hash) result (λ id is. let by = by_data id is in ap kind_of by.1 ∙ kind_of-object_id hash head.kind by.0)
+
+  -- or the known one
+  pub wrote_known : (known : ObjectId) → WriteRuns head hash (Some known) source SourceFailed state new before now result → IfOk result (λ id. id ≡ known)
+  wrote_known known run = if_ok (λ id. id ≡ known) result (λ id is. (run.wrote id is).name)
+
+  -- the source was as long as was told, and is at its end
+  pub wrote_whole : (known : Option ObjectId) (rest : Option (List ℕ)) (faults faults_now : ℕ) → WriteRuns head hash known source SourceFailed state new before now result → TakesFrom head.size source rest faults faults_now → IfOk result (λ _. IsAtEnd rest)
+      → IfOk result (λ _. IsWhole head.size source rest)
+  wrote_whole known rest faults faults_now run takes ended = by_result result refl ended
+    where
+      whole : (source : Option (List ℕ)) (bytes : List ℕ) → IfSome source (λ all. all ≡ bytes) → length bytes ≡ head.size → IfSome source (λ all. length all ≡ head.size)
+      whole None bytes w size = tt
+      whole (Some all) bytes w size = ap length w ∙ size
+
+      at_end : (source rest : Option (List ℕ)) (all : List ℕ) → Draws source rest all → IsAtEnd rest → IfSome source (λ _. rest ≡ Some [])
+      at_end None rest all d e = tt
+      at_end (Some left) None all d e = absurd d
+      at_end (Some left) (Some rest) all d e = ap (λ (xs : List ℕ). Some xs) e
+
+      by_result : (r : Result ObjectId Error) → result ≡ r → IfOk r (λ _. IsAtEnd rest) → IfOk r (λ _. IsWhole head.size source rest)
+      by_result (Ok id) is e = let writes = run.wrote id is in record { size_is = whole source writes.bytes writes.whole writes.size; at_end = at_end source rest takes.all takes.drawn e }
+      by_result (Err error) is e = tt
+
+  -- a source that never fails is no cause
+  pub runs_unfailing : (known : Option ObjectId) → (SourceFailed → ⊥) → WriteRuns head hash known source SourceFailed state new before now result → WriteRuns head hash known source ⊥ state new before now result
+  runs_unfailing known none run =
+      record {
+        exchanges = run.exchanges;
+        given = run.given;
+        left = run.left;
+        wrote = run.wrote;
+        unnamed = run.unnamed;
+        cleared = run.cleared;
+        refused =
+            λ error is.
+            WriteCause-wider head (Refuses state (Rose before now) run.exchanges) (Refuses state (Rose before now) run.exchanges) (FoundThere run.exchanges) (FoundThere run.exchanges) (λ ask m r. r) (λ ask t. t) SourceFailed ⊥ none
+            (λ id. IfSome source (λ bytes. id ≡ name_for known hash head bytes)) (λ id. IfSome source (λ bytes. id ≡ name_for known hash head bytes)) (λ id n. n) ⊤ ⊤ (λ m. m) (OtherLength source head.size) (OtherLength source head.size) (λ n k. k) error
+            (run.refused error is);
+      }
+
+-- what is taken from the front
+pub drawn_from : (size faults now : ℕ) (left rest : Option (List ℕ)) → TakesFrom size left rest faults now → IsDrawn (stream_of left faults rest now)
+drawn_from size faults now left rest takes = record { taken = front left rest takes.all takes.drawn; later = takes.later }
+  where
+    front : (left rest : Option (List ℕ)) (all : List ℕ) → Draws left rest all → streams.Takes left rest
+    front None rest all d = d
+    front (Some left) None all d = absurd d
+    front (Some left) (Some rest) all d = (length all, ap (λ (xs : List ℕ). Some xs) (sym (ap (drop (length all)) (sym d) ∙ drop-append_seam all rest)))
+
+-- what an object put into an empty sink
+pub put_all : {T E : Type 0} (bytes held now : List ℕ) (result : Result T E) → streams.Puts bytes (Some held) (Some now) result → is_err result ≡ false → held ≡ [] → now ≡ bytes
+put_all bytes held now (Ok x) puts ok none = let same : now ≡ held ++ bytes = cc puts in same ∙ ap (λ (h : List ℕ). h ++ bytes) none
+put_all bytes held now (Err error) puts ok none = absurd (cc ok)

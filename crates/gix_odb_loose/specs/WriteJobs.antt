@@ -1,0 +1,65 @@
+-- A write whose data are all at hand: which piece comes next, and when the end is told.
+pub mod History
+use Rattle.std.specs.Prelude.{ℕ, ◌+◌, ◌-◌, ◌/◌, Bool, true, false, nat_le, List, [], length, take, drop, Option, Some, None, if◌then◌else◌}
+use Rattle.odb_disk.specs.declared.ask.DiskAsk.{DiskAsk}
+use Rattle.odb_disk.specs.declared.ask.DiskAnswer.{DiskAnswer}
+use Rattle.gix_odb_loose.specs.WriteNames.{name_for}
+use Rattle.gix_odb_loose.specs.WriteOrder.{room_behind, written_in, write_ask, next_write, ended_with, wrote_by}
+use Rattle.gix_odb_loose.specs.declared.write_call.Onward.{Onward}
+use Rattle.gix_odb_loose.specs.declared.write_call.Onward.TheVariants.{Stage, End}
+use Rattle.gix_odb_loose.specs.declared.write_call.WriteStage.{WriteStage}
+use Rattle.gix_odb_loose.specs.declared.write_call.WriteStage.TheVariants as stages
+use Rattle.gix_odb_loose.specs.declared.write_job.Led.{Led}
+use Rattle.gix_odb_loose.specs.declared.write_job.Led.TheVariants.{On, Wrote}
+use Rattle.gix_odb_loose.specs.declared.write_job.WriteJob.{WriteJob}
+
+-- the piece that stands behind so many bytes
+abbrev pub piece_at : ℕ → List ℕ → ℕ → List ℕ
+piece_at size bytes written = take (room_behind size written) (drop written bytes)
+
+abbrev pub piece_of : ℕ → List ℕ → Option ℕ → List ℕ
+piece_of size bytes None = []
+piece_of size bytes (Some written) = piece_at size bytes written
+
+-- the piece that a write hands out next
+abbrev pub piece_in : WriteJob → List ℕ
+piece_in job = piece_of job.head.size job.bytes (written_in job.stage)
+
+-- whether the machine waits for data, and none are left
+abbrev pub is_at_end : List ℕ → Option ℕ → Bool
+is_at_end bytes None = false
+is_at_end bytes (Some written) = nat_le (length bytes) written
+
+-- the end of the data is told as soon as none are left
+abbrev pub supplied_to : WriteJob → WriteStage → WriteStage
+supplied_to job stage = if is_at_end job.bytes (written_in stage) then ended_with job.head.size (name_for job.known job.hash job.head job.bytes) stage else stage
+
+abbrev pub ask_in : WriteJob → DiskAsk
+ask_in job = write_ask job.head (piece_in job) job.stage
+
+abbrev pub supplied : WriteJob → Onward → Onward
+supplied job (Stage stage) = Stage (supplied_to job stage)
+supplied job (End end) = End end
+
+abbrev pub next_in : WriteJob → DiskAnswer → Onward
+next_in job answer = supplied job (next_write job.head.size (length (piece_in job)) job.stage answer)
+
+abbrev pub led_by : WriteJob → Onward → Led
+led_by job (Stage stage) = On stage
+led_by job (End end) = Wrote (wrote_by job.head end)
+
+abbrev pub led_in : WriteJob → DiskAnswer → Led
+led_in job answer = led_by job (next_in job answer)
+
+-- how many pieces so many bytes take: one for each begun 65,536
+abbrev pub pieces_of : ℕ → ℕ
+pieces_of len = (len + 65535) / 65536
+
+-- how many calls of the disk are still to come, at most, for so many bytes of data
+abbrev pub writes_left : ℕ → WriteStage → ℕ
+writes_left len (stages.Making number) = 6 + pieces_of len + (16 - number)
+writes_left len (stages.Heading number) = 5 + pieces_of len
+writes_left len (stages.Filling number written) = 4 + pieces_of (len - written)
+writes_left len (stages.Foldering number id) = 3
+writes_left len (stages.Moving number id) = 2
+writes_left len (stages.Removing number refusal) = 1

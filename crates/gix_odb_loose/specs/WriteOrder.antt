@@ -1,0 +1,145 @@
+-- The order of work of a write: a temporary file, its header and data, the directory of the object, and its name last.
+use Rattle.std.specs.Prelude.{ℕ, ◌+◌, ◌-◌, ◌^◌, ◌==◌, Bool, nat_lt, nat_le, min, List, [], ◌∷◌, ◌++◌, length, take, drop, codes, Option, Some, None, Result, Ok, Err, if◌then◌else◌}
+use Rattle.std.specs.Fmt.{decimal}
+use Rattle.odb_base.specs.Path.{Name, Path}
+use Rattle.odb_disk.specs.declared.ask.DiskAsk.{DiskAsk}
+use Rattle.odb_disk.specs.declared.ask.DiskAsk.TheVariants as asks
+use Rattle.odb_disk.specs.declared.ask.DiskAnswer.{DiskAnswer}
+use Rattle.odb_disk.specs.declared.ask.DiskAnswer.TheVariants as answers
+use Rattle.odb_disk.specs.declared.disk.DiskError.TheVariants as disk_errors
+use Rattle.gix_hash.specs.ObjectId.{hex_of}
+use Rattle.gix_hash.specs.declared.object_id.ObjectId.{ObjectId}
+use Rattle.gix_object.specs.Loose.{header_of}
+use Rattle.gix_object.specs.declared.kind.Kind.{Kind}
+use Rattle.gix_odb_loose.specs.LooseFile.{loose_path}
+use Rattle.gix_odb_loose.specs.declared.write.Error.{Error}
+use Rattle.gix_odb_loose.specs.declared.write.Error.TheVariants as errors
+use Rattle.gix_odb_loose.specs.declared.write.Message.{Message}
+use Rattle.gix_odb_loose.specs.declared.write.Message.TheVariants as messages
+use Rattle.gix_odb_loose.specs.declared.write_call.Refusal.{Refusal}
+use Rattle.gix_odb_loose.specs.declared.write_call.Refusal.TheVariants as refusals
+use Rattle.gix_odb_loose.specs.declared.write_call.Onward.{Onward}
+use Rattle.gix_odb_loose.specs.declared.write_call.Onward.TheVariants.{Stage, End}
+use Rattle.gix_odb_loose.specs.declared.write_call.WriteHead.{WriteHead}
+use Rattle.gix_odb_loose.specs.declared.write_call.WriteStage.{WriteStage}
+use Rattle.gix_odb_loose.specs.declared.write_call.WriteStage.TheVariants as stages
+
+-- the words of an error's message
+abbrev pub message_text : Message → List ℕ
+message_text messages.CreateTempFile = codes "create named temp file in"
+message_text messages.WriteHeader = codes "write header to tempfile in"
+message_text messages.StreamData = codes "stream all data into tempfile in"
+
+-- ---- paths
+
+-- the directory that an object's file lies in: the first two hex digits of the id
+unfoldable pub prefix_path : Path → ObjectId → Path
+prefix_path objects id = objects ++ take 2 (hex_of id) ∷ []
+
+unfoldable pub temp_name : ℕ → Name
+temp_name number = codes "tmp_obj_" ++ decimal number
+
+-- the path of a temporary file, by its number
+unfoldable pub temp_path : Path → ℕ → Path
+temp_path objects number = objects ++ temp_name number ∷ []
+
+-- ---- what a stage asks
+
+-- The next call of the disk. `piece` is the next piece of the data.
+abbrev pub write_ask : WriteHead → List ℕ → WriteStage → DiskAsk
+write_ask head piece (stages.Making number) = asks.NewFile (temp_path head.objects number)
+write_ask head piece (stages.Heading number) = asks.Append (temp_path head.objects number) (header_of head.kind head.size)
+write_ask head piece (stages.Filling number written) = asks.Append (temp_path head.objects number) piece
+write_ask head piece (stages.Foldering number id) = asks.MakeDir (prefix_path head.objects id)
+write_ask head piece (stages.Moving number id) = asks.Rename (temp_path head.objects number) (loose_path head.objects id)
+write_ask head piece (stages.Removing number refusal) = asks.Remove (temp_path head.objects number)
+
+-- how many bytes of data stand in the temporary file, where the next piece is waited for
+abbrev pub written_in : WriteStage → Option ℕ
+written_in (stages.Filling number written) = Some written
+written_in stage = None
+
+-- the number of the temporary file, where it was made
+abbrev pub number_made : WriteStage → Option ℕ
+number_made (stages.Making number) = None
+number_made (stages.Heading number) = Some number
+number_made (stages.Filling number written) = Some number
+number_made (stages.Foldering number id) = Some number
+number_made (stages.Moving number id) = Some number
+number_made (stages.Removing number refusal) = Some number
+
+abbrev pub temporary_of : WriteHead → Option ℕ → Option Path
+temporary_of head None = None
+temporary_of head (Some number) = Some (temp_path head.objects number)
+
+-- the most bytes of a piece behind `written` bytes: one byte above the size is taken, and shows that there are too many
+abbrev pub room_behind : ℕ → ℕ → ℕ
+room_behind size written = if nat_lt written size then min 65536 (size - written + 1) else 1
+
+-- ---- what is made of an answer
+
+-- want of memory is passed on, and each other refusal is this one
+abbrev pub refused_by : Refusal → DiskAnswer → Refusal
+refused_by refusal (answers.Refused disk_errors.NoMemory) = refusals.NoMemory
+refused_by refusal answer = refusal
+
+-- where the name is taken, the next one is tried, sixteen at most
+abbrev pub made_by : ℕ → DiskAnswer → Onward
+made_by number answers.Done = Stage (stages.Heading number)
+made_by number (answers.Refused disk_errors.Exists) = if nat_lt (number + 1) 16 then Stage (stages.Making (number + 1)) else End (Err (refusals.Io messages.CreateTempFile))
+made_by number answer = End (Err (refused_by (refusals.Io messages.CreateTempFile) answer))
+
+abbrev pub headed_by : ℕ → DiskAnswer → Onward
+headed_by number answers.Done = Stage (stages.Filling number 0)
+headed_by number answer = Stage (stages.Removing number (refused_by (refusals.Io messages.WriteHeader) answer))
+
+-- how many bytes there are after a piece; a count of 64 bits stands still at the greatest
+abbrev pub grown : ℕ → ℕ → ℕ
+grown written piece = min (written + piece) (2 ^ 64 - 1)
+
+-- one byte above the size is too many
+abbrev pub filled_by : (number written size piece : ℕ) → DiskAnswer → Onward
+filled_by number written size piece answers.Done = if nat_le (written + piece) size then Stage (stages.Filling number (written + piece)) else Stage (stages.Removing number (refusals.SizeMismatch (grown written piece)))
+filled_by number written size piece answer = Stage (stages.Removing number (refused_by (refusals.Io messages.StreamData) answer))
+
+-- a directory that is there already is fine
+abbrev pub foldered_by : ℕ → ObjectId → DiskAnswer → Onward
+foldered_by number id answers.Done = Stage (stages.Moving number id)
+foldered_by number id (answers.Refused disk_errors.Exists) = Stage (stages.Moving number id)
+foldered_by number id answer = Stage (stages.Removing number (refused_by refusals.IoRaw answer))
+
+abbrev pub moved_by : ℕ → ObjectId → DiskAnswer → Onward
+moved_by number id answers.Done = End (Ok id)
+moved_by number id answer = Stage (stages.Removing number (refused_by (refusals.Persist id) answer))
+
+-- What comes after an answer. Whatever the removal is answered, the write ends as it was refused.
+abbrev pub next_write : (size piece : ℕ) → WriteStage → DiskAnswer → Onward
+next_write size piece (stages.Making number) answer = made_by number answer
+next_write size piece (stages.Heading number) answer = headed_by number answer
+next_write size piece (stages.Filling number written) answer = filled_by number written size piece answer
+next_write size piece (stages.Foldering number id) answer = foldered_by number id answer
+next_write size piece (stages.Moving number id) answer = moved_by number id answer
+next_write size piece (stages.Removing number refusal) answer = End (Err refusal)
+
+-- the stage after the end of the data, which have this id
+abbrev pub ended_with : ℕ → ObjectId → WriteStage → WriteStage
+ended_with size id (stages.Filling number written) = if written == size then stages.Foldering number id else stages.Removing number (refusals.SizeMismatch written)
+ended_with size id stage = stage
+
+-- the stage after a source of the data failed
+abbrev pub source_failed : WriteStage → WriteStage
+source_failed (stages.Filling number written) = stages.Removing number (refusals.Io messages.StreamData)
+source_failed stage = stage
+
+-- ---- the reply
+
+abbrev pub error_from : WriteHead → Refusal → Error
+error_from head (refusals.Io message) = errors.Io message head.objects
+error_from head refusals.IoRaw = errors.IoRaw
+error_from head (refusals.Persist id) = errors.Persist (loose_path head.objects id)
+error_from head (refusals.SizeMismatch actual) = errors.SizeMismatch head.size actual
+error_from head refusals.NoMemory = errors.NoMemory
+
+abbrev pub wrote_by : WriteHead → Result ObjectId Refusal → Result ObjectId Error
+wrote_by head (Ok id) = Ok id
+wrote_by head (Err refusal) = Err (error_from head refusal)

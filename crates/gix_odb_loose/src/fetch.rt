@@ -1,0 +1,37 @@
+//! The next bytes of a source.
+ghost use Rattle.std.specs.Prelude.{IfOk, OnErr};
+ghost use Rattle.gix_odb_loose.specs.WriteStreams.{Fetches, Loses};
+
+use odb_base::{ByteList, NoMemory};
+use odb_disk::Source;
+use std::alloc::Global;
+
+/// How many bytes one read asks for, at most.
+const CHUNK: usize = 8_192;
+
+/// What a source gave.
+#[derive(Debug, Drop, PartialEq, Eq)]
+pub enum Fetched {
+    Piece(ByteList),
+    Failed,
+}
+
+/// The next bytes of a source, `most` at most; fewer only at its end.
+pub fn next_piece<S: Source>(alloc: Global, from: &mut S, most: usize) -> Result<Fetched, NoMemory>
+    ensures fetched { IfOk result (Fetches most (S.left from.old) (S.left from.new) (S.faults from.old) (S.faults from.new)) }
+    ensures lost { OnErr result (Loses most (S.left from.old) (S.left from.new) (S.faults from.old) (S.faults from.new)) }
+{
+    let mut bytes = Vec::new(alloc);
+    let mut chunk = [0u8; CHUNK];
+    'reads: while bytes.len() < most {
+        let wanted = CHUNK.min(most - bytes.len());
+        let Ok(count) = from.read(&mut chunk[..wanted]) else {
+            return Ok(Fetched::Failed);
+        };
+        if count == 0 {
+            break;
+        }
+        bytes.extend_from_slice(&chunk[..count])?;
+    }
+    Ok(Fetched::Piece(ByteList::from_vec(bytes)))
+}

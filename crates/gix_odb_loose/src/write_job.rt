@@ -1,0 +1,118 @@
+//! A write whose data are all at hand.
+ghost use Rattle.std.specs.Prelude.{◌≡◌, IfOk};
+ghost use Rattle.gix_odb_loose.specs.WriteJobs.{piece_at, piece_in, ask_in, next_in, led_in, supplied_to};
+ghost use Rattle.gix_odb_loose.specs.WriteOrder.{number_made, temporary_of};
+ghost use Rattle.gix_odb_loose.specs.WriteNames.{name_for};
+
+use crate::naming::Naming;
+use crate::write_call::{Onward, WriteHead, WriteStage, room};
+use crate::{paths, write};
+use gix_hash::ObjectId;
+use odb_base::{ByteList, NoMemory, PathText};
+use odb_disk::{DiskAnswer, DiskAsk};
+use std::alloc::Global;
+
+/// A write on its way, which hands its data to the machine.
+#[derive(Debug, Drop, PartialEq, Eq)]
+pub struct WriteJob {
+    pub head: WriteHead,
+    pub stage: WriteStage,
+    pub bytes: ByteList,
+    pub hash: gix_hash::Kind,
+    /// The id that the object is known to have.
+    pub known: Option<ObjectId>,
+}
+
+/// What an answer leads a write to.
+#[derive(Debug, Drop, PartialEq, Eq)]
+pub enum Led {
+    On(WriteStage),
+    Wrote(Result<ObjectId, write::Error>),
+}
+
+impl WriteJob {
+    /// The next piece of the data, where the machine waits for one.
+    fn piece(&self) -> &[u8]
+        ensures { result.now ≡ piece_in self.now }
+    {
+        match self.stage.filling() {
+            None => &[],
+            Some(written) => piece_behind(self.bytes.as_slice(), self.head.size, written),
+        }
+    }
+
+    pub fn disk_ask(&self, alloc: Global) -> Result<DiskAsk, NoMemory>
+        ensures { IfOk result (λ ask. ask ≡ ask_in self.now) }
+    {
+        let piece = ByteList::from_slice(alloc, self.piece())?;
+        self.head.disk_ask(alloc, &self.stage, piece)
+    }
+
+    /// The path of the temporary file, where it was made.
+    pub fn temporary_file(&self, alloc: Global) -> Result<Option<PathText>, NoMemory>
+        ensures { IfOk result (λ path. path ≡ temporary_of self.now.head (number_made self.now.stage)) }
+    {
+        match self.stage.number_made() {
+            Some(number) => Ok(Some(paths::temp_path(alloc, &self.head.objects, number)?)),
+            None => Ok(None),
+        }
+    }
+
+    /// What comes after the answer to its ask. Where no data are left, their end is told at once.
+    pub fn next(&self, alloc: Global, answer: &DiskAnswer) -> Result<Onward, NoMemory>
+        ensures { IfOk result (λ next. next ≡ next_in self.now answer.now) }
+    {
+        let piece = self.piece().len() as u64;
+        match self.stage.next(self.head.size, piece, answer) {
+            Onward::Stage(stage) => Ok(Onward::Stage(self.supply(alloc, stage)?)),
+            Onward::End(end) => Ok(Onward::End(end)),
+        }
+    }
+
+    /// The same, with the reply where the write ends.
+    pub fn led(&self, alloc: Global, answer: &DiskAnswer) -> Result<Led, NoMemory>
+        ensures { IfOk result (λ led. led ≡ led_in self.now answer.now) }
+    {
+        match self.next(alloc, answer)? {
+            Onward::Stage(stage) => Ok(Led::On(stage)),
+            Onward::End(end) => Ok(Led::Wrote(self.head.reply(alloc, end)?)),
+        }
+    }
+
+    fn supply(&self, alloc: Global, stage: WriteStage) -> Result<WriteStage, NoMemory>
+        ensures { IfOk result (λ supplied. supplied ≡ supplied_to self.now stage) }
+    {
+        match stage.filling() {
+            Some(written) => {
+                if self.bytes.len() as u64 <= written {
+                    Ok(stage.ended(self.head.size, self.name(alloc)?))
+                } else {
+                    Ok(stage)
+                }
+            }
+            None => Ok(stage),
+        }
+    }
+
+    fn name(&self, alloc: Global) -> Result<ObjectId, NoMemory>
+        ensures { IfOk result (λ id. id ≡ name_for self.now.known self.now.hash self.now.head self.now.bytes) }
+    {
+        let mut naming = Naming::start(alloc, self.hash, &self.head, self.known)?;
+        naming.update(self.bytes.as_slice());
+        Ok(naming.finish())
+    }
+}
+
+// The piece that stands behind so many bytes.
+fn piece_behind(bytes: &[u8], size: u64, written: u64) -> &[u8]
+    ensures { result.now ≡ piece_at size bytes.now written }
+{
+    let len = bytes.len();
+    if len as u64 <= written {
+        return &[];
+    }
+    let start = written as usize;
+    let rest = &bytes[start..];
+    let count = room(size, written).min(rest.len() as u64) as usize;
+    &rest[..count]
+}

@@ -1,0 +1,156 @@
+//! The calls of a store that write.
+ghost use Rattle.std.specs.Prelude.{◌≡◌, ◌≤◌, Option, Some, None, length, IfOk, IfSome};
+ghost use Rattle.odb_base.specs.Faults.{Rose};
+ghost use Rattle.gix_hash.specs.ObjectId.{kind_of};
+ghost use Rattle.gix_object.specs.Id.{object_id};
+ghost use Rattle.gix_object.specs.Stream.{stream_of, IsDrawn, IsWhole};
+ghost use Rattle.gix_odb_loose.specs.Store.{store_hash};
+ghost use Rattle.gix_odb_loose.specs.WriteRuns.{WriteRuns, TakesFrom, write_head};
+ghost use Rattle.gix_odb_loose.specs.WriteStreams.{IsAtEnd};
+
+use crate::lent::Lent;
+use crate::stream_job::StreamJob;
+use crate::write_call::WriteHead;
+use crate::{Store, write};
+use gix_hash::ObjectId;
+use gix_object::{Kind, WriteTo};
+use odb_base::NoMemory;
+use odb_disk::{Disk, MemSink, Source};
+use std::alloc::Global;
+
+impl Store {
+    /// Writes an object whose data are these bytes, and answers its id.
+    ///
+    /// The object gets its name last, by a rename. After a refusal there is no name of an object that wasn't there
+    /// before, and the temporary file is left only where its removal was refused too.
+    pub fn write_buf<D: Disk>(
+        &self,
+        alloc: Global,
+        disk: &mut D,
+        kind: Kind,
+        from: &[u8],
+    ) -> Result<ObjectId, write::Error>
+        ensures run { WriteRuns (write_head self.now kind (length from.now)) (store_hash self.now) None (Some from.now) ⊥ (D.state disk.old) (D.state disk.new) (D.faults disk.old) (D.faults disk.new) result }
+        ensures id { IfOk result (λ id. id ≡ object_id (store_hash self.now) kind from.now) }
+        ensures kind { IfOk result (λ id. kind_of id ≡ store_hash self.now) }
+        ensures later { D.faults disk.old ≤ D.faults disk.new }
+    {
+        let mut data = Lent::new(from);
+        self.run_write(alloc, disk, kind, from.len() as u64, None, &mut data)
+    }
+
+    /// The same under an id that the object is known to have. It isn't tested.
+    pub fn write_buf_with_known_id<D: Disk>(
+        &self,
+        alloc: Global,
+        disk: &mut D,
+        kind: Kind,
+        from: &[u8],
+        id: ObjectId,
+    ) -> Result<ObjectId, write::Error>
+        requires { kind_of id ≡ store_hash self.now }
+        ensures run { WriteRuns (write_head self.now kind (length from.now)) (store_hash self.now) (Some id) (Some from.now) ⊥ (D.state disk.old) (D.state disk.new) (D.faults disk.old) (D.faults disk.new) result }
+        ensures id { IfOk result (λ answered. answered ≡ id) }
+        ensures later { D.faults disk.old ≤ D.faults disk.new }
+    {
+        let mut data = Lent::new(from);
+        self.run_write(alloc, disk, kind, from.len() as u64, Some(id), &mut data)
+    }
+
+    /// Writes an object whose data are the bytes of a source, which are to be `size`, and answers its id.
+    ///
+    /// The data are read in pieces of 65,536 bytes between the calls of the disk, and one byte above the size at most.
+    /// Fewer or more are `SizeMismatch`, and a source that fails is `Io`.
+    pub fn write_stream<D: Disk, S: Source>(
+        &self,
+        alloc: Global,
+        disk: &mut D,
+        kind: Kind,
+        size: u64,
+        from: &mut S,
+    ) -> Result<ObjectId, write::Error>
+        ensures run { WriteRuns (write_head self.now kind size) (store_hash self.now) None (S.left from.old) (Rose (S.faults from.old) (S.faults from.new)) (D.state disk.old) (D.state disk.new) (D.faults disk.old) (D.faults disk.new) result }
+        ensures from { IsDrawn (stream_of (S.left from.old) (S.faults from.old) (S.left from.new) (S.faults from.new)) }
+        ensures few { TakesFrom size (S.left from.old) (S.left from.new) (S.faults from.old) (S.faults from.new) }
+        ensures whole { IfOk result (λ _. IsWhole size (S.left from.old) (S.left from.new)) }
+        ensures id { IfOk result (λ id. IfSome (S.left from.old) (λ bytes. id ≡ object_id (store_hash self.now) kind bytes)) }
+        ensures kind { IfOk result (λ id. kind_of id ≡ store_hash self.now) }
+        ensures later { D.faults disk.old ≤ D.faults disk.new }
+    {
+        self.run_write(alloc, disk, kind, size, None, from)
+    }
+
+    /// The same under an id that the object is known to have. It isn't tested.
+    pub fn write_stream_with_known_id<D: Disk, S: Source>(
+        &self,
+        alloc: Global,
+        disk: &mut D,
+        kind: Kind,
+        size: u64,
+        from: &mut S,
+        id: ObjectId,
+    ) -> Result<ObjectId, write::Error>
+        requires { kind_of id ≡ store_hash self.now }
+        ensures run { WriteRuns (write_head self.now kind size) (store_hash self.now) (Some id) (S.left from.old) (Rose (S.faults from.old) (S.faults from.new)) (D.state disk.old) (D.state disk.new) (D.faults disk.old) (D.faults disk.new) result }
+        ensures from { IsDrawn (stream_of (S.left from.old) (S.faults from.old) (S.left from.new) (S.faults from.new)) }
+        ensures few { TakesFrom size (S.left from.old) (S.left from.new) (S.faults from.old) (S.faults from.new) }
+        ensures whole { IfOk result (λ _. IsWhole size (S.left from.old) (S.left from.new)) }
+        ensures id { IfOk result (λ answered. answered ≡ id) }
+        ensures later { D.faults disk.old ≤ D.faults disk.new }
+    {
+        self.run_write(alloc, disk, kind, size, Some(id), from)
+    }
+
+    /// Writes an object that gives its own data, and answers its id. The data are put into memory first.
+    pub fn write<D: Disk, O: WriteTo>(
+        &self,
+        alloc: Global,
+        disk: &mut D,
+        object: &O,
+    ) -> Result<ObjectId, write::Error>
+        ensures run { WriteRuns (write_head self.now (O.kind object.now) (length (O.bytes object.now))) (store_hash self.now) None (Some (O.bytes object.now)) ⊥ (D.state disk.old) (D.state disk.new) (D.faults disk.old) (D.faults disk.new) result }
+        ensures id { IfOk result (λ id. id ≡ object_id (store_hash self.now) (O.kind object.now) (O.bytes object.now)) }
+        ensures kind { IfOk result (λ id. kind_of id ≡ store_hash self.now) }
+        ensures later { D.faults disk.old ≤ D.faults disk.new }
+    {
+        let mut data = MemSink::new(alloc);
+        if object.write_to(&mut data).is_err() {
+            return Err(write::Error::NoMemory);
+        }
+        self.write_buf(alloc, disk, object.kind(), data.bytes())
+    }
+
+    // Writes an object of this kind and size whose data a source gives: what the write answers.
+    fn run_write<D: Disk, S: Source>(
+        &self,
+        alloc: Global,
+        disk: &mut D,
+        kind: Kind,
+        size: u64,
+        known: Option<ObjectId>,
+        from: &mut S,
+    ) -> Result<ObjectId, write::Error>
+        ensures run { WriteRuns (write_head self.now kind size) (store_hash self.now) known (S.left from.old) (Rose (S.faults from.old) (S.faults from.new)) (D.state disk.old) (D.state disk.new) (D.faults disk.old) (D.faults disk.new) result }
+        ensures taken { TakesFrom size (S.left from.old) (S.left from.new) (S.faults from.old) (S.faults from.new) }
+        ensures ended { IfOk result (λ _. IsAtEnd (S.left from.new)) }
+        ensures later { D.faults disk.old ≤ D.faults disk.new }
+    {
+        let head = WriteHead {
+            objects: self.path().try_clone(alloc)?,
+            kind,
+            size,
+        };
+        let mut job = StreamJob::start(alloc, self.object_hash(), head, known)?;
+        'turns: loop {
+            match job.turn(alloc, disk, from) {
+                Ok(None) => {}
+                Ok(Some(Ok(id))) => return Ok(id),
+                Ok(Some(Err(refusal))) => return Err(job.head.error(alloc, refusal)?),
+                Err(NoMemory) => {
+                    job.clear(alloc, disk);
+                    return Err(write::Error::NoMemory);
+                }
+            }
+        }
+    }
+}
