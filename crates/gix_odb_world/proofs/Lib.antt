@@ -1,7 +1,15 @@
 mod BoundLemmas
-mod OrderLemmas
+mod CallLemmas
+mod FailedLemmas
+mod FolderLemmas
+mod OpenLemmas
+mod OpeningLemmas
 mod PlayLemmas
-pub mod PromiseLemmas
 mod RunLemmas
+mod RunningLemmas
+mod StartLemmas
 mod StepLemmas
+mod TurnLaw
 mod TurnLemmas
+mod WorkLemmas
+mod WorldLemmas

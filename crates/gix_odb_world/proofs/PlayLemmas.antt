@@ -13,7 +13,9 @@ use Rattle.gix_odb_world.specs.declared.world.World.{World}
 use Rattle.gix_odb_world.specs.Event.{Event}
 use Rattle.gix_odb_world.specs.Play.{Made, StandsFor, Plays, made_of}
 use Rattle.gix_odb_world.specs.Played.{Makes, MakesOne, PlaysTurns, PlaysLine, HasPlayed}
-use Rattle.gix_odb_world.specs.World.{Explains, IsRunOf}
+use Rattle.gix_odb_world.specs.Table.{HasOneMore}
+use Rattle.gix_odb_world.specs.World.{Continues, Explains, IsRunOf}
+use Rattle.gix_odb_world.proofs.StepLemmas.{IsRunOf-push}
 
 -- ---- steps made one after another
 
@@ -56,6 +58,18 @@ turns_end old mid new before between after handle turns one ended =
 pub plays_one : (old new : World) (before after : List Step) (step : Step) → MakesOne old new before after step → PlaysLine old new before after (One step)
 plays_one old new before after step one =
     record { own = record { step = step; outcome = one.outcome } ∷ []; stands = (one.outcome, refl); makes = one.makes }
+
+-- a step that was made and added to the steps
+pub makes_one : (old new : World) (before after : List Step) (step : Step) → after ≡ before ++ step ∷ [] → HasOneMore old new → Continues old step new → MakesOne old new before after step
+makes_one old new before after step added more continues =
+    record {
+      outcome = more.0;
+      makes = record {
+        steps = added;
+        outcomes = more.1;
+        runs = λ first run. subst (λ steps. IsRunOf first steps new) (sym added) (IsRunOf-push first old new before step continues run);
+      };
+    }
 
 -- ---- lines one after another
 

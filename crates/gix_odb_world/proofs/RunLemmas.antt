@@ -1,20 +1,15 @@
 -- Laws of runs: a history that goes on by one event.
-use Rattle.std.proofs.Common.{◌≡◌, ◌≢◌, ℕ, zero, suc, ◌+◌, ◌<◌, ◌≤◌, Bool, true, false, List, [], ◌∷◌, ◌++◌, length, take, Some, Option, refl, sym, ◌∙◌, ap, subst, arith, inl, inr, ◌⊎◌}
-use Rattle.std.specs.Prelude.{slice_get, if◌then◌else◌, ◌==◌}
+use Rattle.std.proofs.Common.{◌≡◌, ℕ, zero, suc, ◌+◌, ◌<◌, ◌≤◌, List, [], ◌∷◌, ◌++◌, length, take, Some, refl, sym, ◌∙◌, ap, subst, arith, inl, inr, ◌⊎◌}
+use Rattle.std.specs.Prelude.{slice_get}
 use Rattle.std.proofs.lemmas.List.{length-append, take-append-le}
 use Rattle.std.proofs.lemmas.List.Sums.{fold_push}
 use Rattle.std.proofs.Math.Seq.{take-append_seam, take-length}
 use Rattle.odb_disk.specs.Tree.{tree_of}
 use Rattle.odb_disk.specs.MemDisk.{Volume}
-use Rattle.gix_odb_world.specs.declared.handle.Handle.{Handle}
-use Rattle.gix_odb_world.specs.declared.world.World.{World}
-use Rattle.std.proofs.lemmas.Bool.{eqb-true, eqb-false}
 use Rattle.std.proofs.lemmas.Option.{slice_get_within}
-use Rattle.gix_odb_world.specs.declared.handle.Work.{Work}
-use Rattle.gix_odb_world.specs.Event.{Event, Store, Status, Free, Resting, Working, status_of, status_after, statuses_from, with_status}
-use Rattle.gix_odb_world.specs.Run.{disk_after, disk_after_record, tree_at, IsTurnOf}
+use Rattle.gix_odb_world.specs.Event.{Event, Status, Free, status_of, status_after, statuses_from}
+use Rattle.gix_odb_world.specs.Run.{disk_after, disk_after_record, tree_at, IsTurnOf, Fails, FailedSince}
 use Rattle.gix_odb_world.specs.Headline.{Law, IsLawful}
-use Rattle.gix_odb_world.specs.World.{Explains, Matches, Runs, handle_at}
 
 -- ---- lists with one more at their end
 
@@ -39,17 +34,17 @@ take-push xs x =
 
 -- ---- what the handles do, and the disk, after one more event
 
-statuses_from-push : (n : ℕ) (table : ℕ → Status) (events : List Event) (e : Event) → statuses_from n table (events ++ e ∷ []) ≡ status_after (n + length events) e.step e.outcome (statuses_from n table events)
+statuses_from-push : (n : ℕ) (table : ℕ → Status) (events : List Event) (e : Event) → statuses_from n table (events ++ e ∷ []) ≡ status_after (n + length events) e.step e.outcome e.told (statuses_from n table events)
 unfolding statuses_from
-statuses_from-push n table [] e = let same : n ≡ n + 0 = omega arith in ap (λ m. status_after m e.step e.outcome table) same
+statuses_from-push n table [] e = let same : n ≡ n + 0 = omega arith in ap (λ m. status_after m e.step e.outcome e.told table) same
 statuses_from-push n table (x ∷ events) e =
     let later : n + 1 + length events ≡ n + length (x ∷ events) = omega arith in
-    statuses_from-push (n + 1) (status_after n x.step x.outcome table) events e ∙ ap (λ m. status_after m e.step e.outcome (statuses_from (n + 1) (status_after n x.step x.outcome table) events)) later
+    statuses_from-push (n + 1) (status_after n x.step x.outcome x.told table) events e ∙ ap (λ m. status_after m e.step e.outcome e.told (statuses_from (n + 1) (status_after n x.step x.outcome x.told table) events)) later
 
-pub status_of-push : (events : List Event) (e : Event) → status_of (events ++ e ∷ []) ≡ status_after (length events + 1) e.step e.outcome (status_of events)
+pub status_of-push : (events : List Event) (e : Event) → status_of (events ++ e ∷ []) ≡ status_after (length events + 1) e.step e.outcome e.told (status_of events)
 status_of-push events e =
     let later : 1 + length events ≡ length events + 1 = omega arith in
-    statuses_from-push 1 (λ handle. Free) events e ∙ ap (λ m. status_after m e.step e.outcome (status_of events)) later
+    statuses_from-push 1 (λ handle. Free) events e ∙ ap (λ m. status_after m e.step e.outcome e.told (status_of events)) later
 
 pub disk_after-push : (first : Volume) (events : List Event) (e : Event) → disk_after first (events ++ e ∷ []) ≡ disk_after_record (disk_after first events) e.entry
 unfolding disk_after
@@ -59,6 +54,43 @@ disk_after-push first events e = fold_push (λ disk e. disk_after_record disk e.
 pub tree_at-now : (first : Volume) (events : List Event) (e : Event) → tree_at first (events ++ e ∷ []) (length events + 1) ≡ tree_of (disk_after_record (disk_after first events) e.entry).state
 tree_at-now first events e =
     ap (λ es. tree_of (disk_after first es).state) (take-push events e) ∙ ap (λ d. tree_of d.state) (disk_after-push first events e)
+
+-- the trees before it stay as they were
+pub tree_at-before : (first : Volume) (events : List Event) (e : Event) (moment : ℕ) → moment ≤ length events → tree_at first (events ++ e ∷ []) moment ≡ tree_at first events moment
+tree_at-before first events e moment within = ap (λ es. tree_of (disk_after first es).state) (take-append-le moment events (e ∷ []) within)
+
+-- ---- failed calls
+
+slice_get-kept : {A : Type 0} (xs : List A) (x : A) (place : ℕ) (y : A) → slice_get xs place ≡ Some y → slice_get (xs ++ x ∷ []) place ≡ Some y
+slice_get-kept [] x place y e = absurd (cc e)
+slice_get-kept (z ∷ xs) x zero y e = e
+slice_get-kept (z ∷ xs) x (suc place) y e = slice_get-kept xs x place y e
+
+-- a call that failed before the last event has failed after it
+pub failed-kept : (events : List Event) (e : Event) (handle begun : ℕ) → FailedSince events handle begun → FailedSince (events ++ e ∷ []) handle begun
+failed-kept events e handle begun failed =
+    record {
+      place = failed.place;
+      later = failed.later;
+      at = record { event = failed.at.event; there = slice_get-kept events e failed.place failed.at.event failed.at.there; turn = failed.at.turn; failed = failed.at.failed };
+    }
+
+-- one that fails in the last event
+pub failed_last : (events : List Event) (e : Event) (handle begun : ℕ) → begun ≤ length events → IsTurnOf handle e.step → Fails e.entry.did → FailedSince (events ++ e ∷ []) handle begun
+failed_last events e handle begun later turn failed =
+    record { place = length events; later = later; at = record { event = e; there = slice_get-last events e; turn = turn; failed = failed } }
+
+-- one that has failed did so before the last event, or in it
+pub failed_before : (events : List Event) (e : Event) (handle begun : ℕ) → (IsTurnOf handle e.step → ¬ (Fails e.entry.did)) → FailedSince (events ++ e ∷ []) handle begun → FailedSince events handle begun
+failed_before events e handle begun sound failed =
+    elim (slice_get-push events e failed.place failed.at.event failed.at.there) [
+      | inl old ↦ record { place = failed.place; later = failed.later; at = record { event = failed.at.event; there = old.1; turn = failed.at.turn; failed = failed.at.failed } }
+      | inr last ↦ absurd (sound (subst (λ (x : Event). IsTurnOf handle x.step) (sym last.1) failed.at.turn) (subst (λ (x : Event). Fails x.entry.did) (sym last.1) failed.at.failed))
+    ]
+
+-- none has failed in a call that begins with the last event
+pub none_failed_yet : (events : List Event) (handle begun : ℕ) → length events ≤ begun → ¬ (FailedSince events handle begun)
+none_failed_yet events handle begun short failed = omega (arith, short, failed.later, slice_get_within events failed.place failed.at.event failed.at.there)
 
 -- ---- lawful histories
 
@@ -77,63 +109,3 @@ IsLawful-push first events e lawful law place x there =
           subst (λ past. Law first past x) (sym (take-append-le place events (e ∷ []) within)) (lawful place x old.1)
       | inr last ↦ pushed first events e place x law last.0 last.1
     ]
-
--- ---- worlds
-
--- nothing has happened in a world with no handles and no outcomes
-pub explains_none : (world : World) → world.handles.entries ≡ [] → world.outcomes ≡ [] → world.records ≡ [] → Explains world.disk [] world
-unfolding disk_after statuses_from
-explains_none world handles outcomes records =
-    record {
-      outcomes = sym outcomes;
-      records = sym records;
-      disk = refl;
-      handles = λ handle. rw handles tt;
-      running = λ handle. tt;
-      lawful = IsLawful-none world.disk;
-    }
-
--- ---- the handles after one more event
-
-matches_either : (b : Bool) (s t : Status) (h k : Option Handle) → Matches s h → Matches t k → Matches (if b then s else t) (if b then h else k)
-matches_either true s t h k here there = here
-matches_either false s t h k here there = there
-
-pub matches_set : (old new : World) (table : ℕ → Status) (number : ℕ) (status : Status) (handle : Option Handle)
-    → ((other : ℕ) → Matches (table other) (handle_at old other)) → ((other : ℕ) → handle_at new other ≡ (if other == number then handle else handle_at old other)) → Matches status handle
-    → (other : ℕ) → Matches (with_status table number status other) (handle_at new other)
-matches_set old new table number status handle before sets here other =
-    rw (sets other) (matches_either (other == number) status (table other) handle (handle_at old other) here (before other))
-
--- a call that runs goes on running over an event that isn't its turn
-pub runs-push : (events : List Event) (e : Event) (handle : ℕ) (status : Status) → ¬ IsTurnOf handle e.step → Runs events handle status → Runs (events ++ e ∷ []) handle status
-runs-push events e handle Free other runs = tt
-runs-push events e handle (Resting store) other runs = tt
-runs-push events e handle (Working store begun turns work) other runs = (
-  omega (arith, length-append events (e ∷ []), runs.0),
-  λ place x later there.
-      elim (slice_get-push events e place x there) [
-        | inl old ↦ runs.1 place x later old.1
-        | inr last ↦ subst (λ (y : Event). ¬ IsTurnOf handle y.step) last.1 other
-      ],
-)
-
--- a call that the event begins runs after it
-pub runs_begun : (events : List Event) (e : Event) (handle : ℕ) (store : Store) (work : Work) → Runs (events ++ e ∷ []) handle (Working store (length events + 1) 0 work)
-runs_begun events e handle store work = (
-  omega (arith, length-append events (e ∷ [])),
-  λ place x later there. absurd (omega (arith, length-append events (e ∷ []), slice_get_within (events ++ e ∷ []) place x there)),
-)
-
-runs_either : (events : List Event) (e : Event) (number : ℕ) (status : Status) (other : ℕ) (before : Status) (b : Bool) → (other == number) ≡ b
-    → Runs (events ++ e ∷ []) number status → (other ≢ number → ¬ IsTurnOf other e.step) → Runs events other before → Runs (events ++ e ∷ []) other (if b then status else before)
-runs_either events e number status other before true same here apart runs = rw (eqb-true other number same) here
-runs_either events e number status other before false same here apart runs =
-    let differs : other ≢ number = eqb-false other number same in
-    runs-push events e other before (apart differs) runs
-
-pub runs_set : (events : List Event) (e : Event) (table : ℕ → Status) (number : ℕ) (status : Status)
-    → ((other : ℕ) → Runs events other (table other)) → ((other : ℕ) → other ≢ number → ¬ IsTurnOf other e.step) → Runs (events ++ e ∷ []) number status
-    → (other : ℕ) → Runs (events ++ e ∷ []) other (with_status table number status other)
-runs_set events e table number status before apart here other =
-    runs_either events e number status other (table other) (other == number) refl here (apart other) (before other)

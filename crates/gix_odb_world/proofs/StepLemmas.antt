@@ -1,7 +1,7 @@
 -- Each step of a world takes its history one event on.
 use Rattle.std.proofs.Common.{◌≡◌, ◌≢◌, ℕ, ◌+◌, ◌<◌, true, List, [], ◌∷◌, ◌++◌, length, take, get_or, Some, None, Option, refl, sym, ◌∙◌, ap, subst}
 use Rattle.std.specs.Prelude.{if◌then◌else◌, ◌==◌}
-use Rattle.std.proofs.lemmas.List.{map-append, same_from_push, take_more}
+use Rattle.std.proofs.lemmas.List.{map-append, take_more}
 use Rattle.odb_disk.specs.MemDisk.{Volume, after_outside_change}
 use Rattle.odb_disk.specs.Tree.Change.{is_possible}
 use Rattle.odb_disk.specs.declared.change.Change.{Change}
@@ -10,35 +10,36 @@ use Rattle.gix_odb_world.specs.declared.step.Step.TheVariants as steps
 use Rattle.gix_odb_world.specs.declared.step.Outcome.{Outcome}
 use Rattle.gix_odb_world.specs.declared.step.Outcome.TheVariants as outcomes
 use Rattle.gix_odb_world.specs.declared.step.Why.{Why}
-use Rattle.gix_odb_world.specs.declared.call.Call.{Call}
 use Rattle.gix_odb_world.specs.declared.call.Reply.{Reply}
-use Rattle.gix_odb_world.specs.declared.init.Options.{Options}
 use Rattle.gix_odb_world.specs.declared.record.Did.{Did}
 use Rattle.gix_odb_world.specs.declared.record.Did.TheVariants.{Nothing}
 use Rattle.gix_odb_world.specs.declared.handle.Handle.{Handle}
-use Rattle.gix_odb_world.specs.declared.handle.Work.{Work}
-use Rattle.gix_odb_world.specs.declared.handle.Work.TheVariants.{Opening, Calling}
 use Rattle.gix_odb_world.specs.declared.world.World.{World}
-use Rattle.gix_odb_world.specs.Event.{Event, Status, Free, Resting, Working, status_of, status_after, started, store_at, given_slots, with_status}
+use Rattle.gix_odb_world.specs.Event.{Event, Status, Free, Resting, Working, status_of, status_after, with_status}
 use Rattle.gix_odb_world.specs.Run.{disk_after, disk_after_record, disk_after_change, IsTurnOf}
-use Rattle.gix_odb_world.specs.Valid.{phase_of, why_not, why_not_after, why_not_free, why_not_idle, why_not_running, misuse_of}
+use Rattle.gix_odb_world.specs.Running.{Runs}
+use Rattle.gix_odb_world.specs.Valid.{phase_of, why_not, why_not_after, why_not_open, why_not_idle, why_not_running, misuse_of, is_openable}
 use Rattle.gix_odb_world.specs.Headline.{Law, Suits, change_made}
-use Rattle.gix_odb_world.specs.World.{Explains, GoesOn, Continues, IsRunOf, Matches, Runs, handle_at}
-use Rattle.gix_odb_world.specs.Table.{Nears, SetsHandle, Notes, phase_of_handle, phase_of_work, why_not_now, with_work}
-use Rattle.gix_odb_world.proofs.RunLemmas.{status_of-push, disk_after-push, IsLawful-push, matches_set, runs-push, runs_begun, runs_set}
+use Rattle.gix_odb_world.specs.World.{Explains, GoesOn, Continues, IsRunOf, Matches, handle_at}
+use Rattle.gix_odb_world.specs.Table.{SetsHandle, Notes, phase_of_handle, phase_of_work, why_not_now}
+use Rattle.gix_odb_world.proofs.RunLemmas.{status_of-push, disk_after-push, IsLawful-push}
+use Rattle.gix_odb_world.proofs.RunningLemmas.{runs-push, runs_set}
+use Rattle.gix_odb_world.proofs.WorldLemmas.{matches_set}
 
 -- ---- the reason for misuse, by the history and by the world
 
 phase_of-matched : (status : Status) (handle : Option Handle) → Matches status handle → phase_of status ≡ phase_of_handle handle
 phase_of-matched Free None match = refl
 phase_of-matched Free (Some handle) match = absurd match
-phase_of-matched (Resting store) None match = absurd match
-phase_of-matched (Resting store) (Some handle) match = ap phase_of_work (sym match.2)
-phase_of-matched (Working store begun turns work) None match = absurd match
-phase_of-matched (Working store begun turns work) (Some handle) match = ap phase_of_work (sym match.2)
+phase_of-matched (Resting store ignoring) None match = absurd match
+phase_of-matched (Resting store ignoring) (Some handle) match = ap phase_of_work (sym match.1)
+phase_of-matched (Working store ignoring begun turns work) None match = absurd match
+phase_of-matched (Working store ignoring begun turns work) (Some handle) match = ap phase_of_work (sym match.1)
 
 pub why_not-same : (first : Volume) (events : List Event) (world : World) (step : Step) → Explains first events world → why_not_after first events step ≡ why_not_now world step
-why_not-same first events world (steps.Open handle path options) explains = ap why_not_free (phase_of-matched (status_of events handle) (handle_at world handle) (explains.handles handle))
+why_not-same first events world (steps.Open handle path folders replacements options) explains =
+    ap (λ phase. why_not_open phase (is_openable path folders replacements)) (phase_of-matched (status_of events handle) (handle_at world handle) (explains.handles handle))
+why_not-same first events world (steps.Ignore handle) explains = ap why_not_idle (phase_of-matched (status_of events handle) (handle_at world handle) (explains.handles handle))
 why_not-same first events world (steps.Close handle) explains = ap why_not_idle (phase_of-matched (status_of events handle) (handle_at world handle) (explains.handles handle))
 why_not-same first events world (steps.Start handle call) explains = ap why_not_idle (phase_of-matched (status_of events handle) (handle_at world handle) (explains.handles handle))
 why_not-same first events world (steps.Turn handle) explains = ap why_not_running (phase_of-matched (status_of events handle) (handle_at world handle) (explains.handles handle))
@@ -49,8 +50,8 @@ why_not-same first events world (steps.Disk change) explains =
 
 pub goes_on : (first : Volume) (events : List Event) (old new : World) (e : Event) → Explains first events old → Law first events e
     → new.outcomes ≡ old.outcomes ++ e.outcome ∷ [] → new.records ≡ old.records ++ e.entry ∷ [] → new.disk ≡ disk_after_record old.disk e.entry
-    → ((handle : ℕ) → Matches (status_after (length events + 1) e.step e.outcome (status_of events) handle) (handle_at new handle))
-    → ((handle : ℕ) → Runs (events ++ e ∷ []) handle (status_after (length events + 1) e.step e.outcome (status_of events) handle))
+    → ((handle : ℕ) → Matches (status_after (length events + 1) e.step e.outcome e.told (status_of events) handle) (handle_at new handle))
+    → ((handle : ℕ) → Runs first (events ++ e ∷ []) handle (status_after (length events + 1) e.step e.outcome e.told (status_of events) handle))
     → GoesOn first events e.step e.outcome new
 goes_on first events old new e explains law outcomes records disk handles running =
     record {
@@ -63,14 +64,14 @@ goes_on first events old new e explains law outcomes records disk handles runnin
         records = map-append (λ (x : Event). x.entry) events (e ∷ []) ∙ ap (λ rs. rs ++ e.entry ∷ []) explains.records ∙ sym records;
         disk = disk ∙ ap (λ d. disk_after_record d e.entry) explains.disk ∙ sym (disk_after-push first events e);
         handles = λ handle. subst (λ (table : ℕ → Status). Matches (table handle) (handle_at new handle)) (sym (status_of-push events e)) (handles handle);
-        running = λ handle. subst (λ (table : ℕ → Status). Runs (events ++ e ∷ []) handle (table handle)) (sym (status_of-push events e)) (running handle);
+        running = λ handle. subst (λ (table : ℕ → Status). Runs first (events ++ e ∷ []) handle (table handle)) (sym (status_of-push events e)) (running handle);
         lawful = IsLawful-push first events e explains.lawful law;
       };
     }
 
 -- an event without a call of the disk
 abbrev quiet : Step → Outcome → Option Change → ℕ → Event
-quiet step outcome change faults = record { step = step; outcome = outcome; entry = record { did = Nothing; change = change; faults = faults } }
+quiet step outcome change faults = record { step = step; outcome = outcome; entry = record { did = Nothing; change = change; faults = faults }; told = None }
 
 -- a turn that is no misuse gives a reply, or its call goes on
 no_quiet_turn : (handle : ℕ) (outcome : Outcome) → Suits (steps.Turn handle) outcome Nothing → misuse_of outcome ≡ None → ((reply : Reply) → outcome ≢ outcomes.Reply reply) → outcome ≢ outcomes.Pending → ⊥
@@ -91,44 +92,47 @@ law_quiet first past step outcome change faults valid suits made counted no_repl
       change = made;
       failed = tt;
       faults = counted ∙ ap (λ (disk : Volume). disk.calls.faults) (sym (disk_after-push first past (quiet step outcome change faults)));
-      worked = λ handle store begun turns work turn.
+      worked = λ handle store ignoring begun turns work turn.
           let valid_turn : misuse_of outcome ≡ None =
           subst (λ s. misuse_of outcome ≡ why_not_after first past s) turn.step valid ∙ ap (λ s. why_not_running (phase_of s)) turn.status in
           absurd (no_quiet_turn handle outcome (subst (λ s. Suits s outcome Nothing) turn.step suits) valid_turn no_reply not_pending);
-      promise = λ handle store begun turns work reply turn is. absurd (no_reply reply is);
-      in_time = λ handle store begun turns work entries turn is most. absurd (not_pending is);
+      promise = λ handle store ignoring begun turns work reply turn is. absurd (no_reply reply is);
+      in_time = λ handle store ignoring begun turns work entries turn is most. absurd (not_pending is);
     }
 
 -- ---- a misused step
 
 suits_misused : (step : Step) (why : Why) → Suits step (outcomes.Misuse why) Nothing
-suits_misused (steps.Open handle path options) why = refl
+suits_misused (steps.Open handle path folders replacements options) why = refl
 suits_misused (steps.Close handle) why = refl
+suits_misused (steps.Ignore handle) why = refl
 suits_misused (steps.Start handle call) why = refl
 suits_misused (steps.Turn handle) why = refl
 suits_misused (steps.Disk change) why = refl
 
 change_made-misused : (step : Step) (why : Why) → change_made step (outcomes.Misuse why) ≡ None
-change_made-misused (steps.Open handle path options) why = refl
+change_made-misused (steps.Open handle path folders replacements options) why = refl
 change_made-misused (steps.Close handle) why = refl
+change_made-misused (steps.Ignore handle) why = refl
 change_made-misused (steps.Start handle call) why = refl
 change_made-misused (steps.Turn handle) why = refl
 change_made-misused (steps.Disk change) why = refl
 
-status_after-misused : (number : ℕ) (step : Step) (why : Why) (table : ℕ → Status) → status_after number step (outcomes.Misuse why) table ≡ table
-status_after-misused number (steps.Open handle path options) why table = refl
+status_after-misused : (number : ℕ) (step : Step) (why : Why) (table : ℕ → Status) → status_after number step (outcomes.Misuse why) None table ≡ table
+status_after-misused number (steps.Open handle path folders replacements options) why table = refl
 status_after-misused number (steps.Close handle) why table = refl
+status_after-misused number (steps.Ignore handle) why table = refl
 status_after-misused number (steps.Start handle call) why table = refl
 status_after-misused number (steps.Turn handle) why table = refl
 status_after-misused number (steps.Disk change) why table = refl
 
 -- a misused turn is none of a handle that runs a call
-runs_misused : (events : List Event) (e : Event) (why : Why) (handle : ℕ) (status : Status) → e.outcome ≡ outcomes.Misuse why
-    → (IsTurnOf handle e.step → why_not_running (phase_of status) ≡ Some why) → Runs events handle status → Runs (events ++ e ∷ []) handle status
-runs_misused events e why handle Free is reason runs = tt
-runs_misused events e why handle (Resting store) is reason runs = tt
-runs_misused events e why handle (Working store begun turns work) is reason runs =
-    runs-push events e handle (Working store begun turns work) (λ turn. absurd (cc (reason turn))) runs
+runs_misused : (first : Volume) (events : List Event) (e : Event) (why : Why) (handle : ℕ) (status : Status) → e.outcome ≡ outcomes.Misuse why
+    → (IsTurnOf handle e.step → why_not_running (phase_of status) ≡ Some why) → Runs first events handle status → Runs first (events ++ e ∷ []) handle status
+runs_misused first events e why handle Free is reason runs = tt
+runs_misused first events e why handle (Resting store ignoring) is reason runs = tt
+runs_misused first events e why handle (Working store ignoring begun turns work) is reason runs =
+    runs-push first events e handle (Working store ignoring begun turns work) (λ turn. absurd (cc (reason turn))) runs
 
 pub misused : (old new : World) (step : Step) (why : Why) → why_not_now old step ≡ Some why → Notes old new (outcomes.Misuse why) Nothing None → Continues old step new
 misused old new step why reason notes first events explains =
@@ -140,7 +144,7 @@ misused old new step why reason notes first events explains =
           notes.outcomes notes.records notes.disk
           (λ handle. rw (status_after-misused (length events + 1) step why (status_of events)) (subst (λ handles. Matches (status_of events handle) (handle_at (record new { handles = handles }) handle)) (sym notes.handles) (explains.handles handle)))
           (λ handle. rw (status_after-misused (length events + 1) step why (status_of events))
-          (runs_misused events e why handle (status_of events handle) refl (λ turn. subst (λ (s : Step). why_not_after first events s ≡ Some why) turn same) (explains.running handle))),
+          (runs_misused first events e why handle (status_of events handle) refl (λ turn. subst (λ (s : Step). why_not_after first events s ≡ Some why) turn same) (explains.running handle))),
     )
 
 -- ---- an applied step of one handle
@@ -152,12 +156,12 @@ table_noted old mid new number handle outcome did change sets notes other =
     ap (λ handles. handle_at (record new { handles = handles }) other) notes.handles ∙ sets.table other
 
 -- a step sets one handle, and its status goes on as the handle does
-applied : (old mid new : World) (step : Step) (number : ℕ) (handle : Option Handle) (next : ℕ → Status → Status)
+pub applied : (old mid new : World) (step : Step) (number : ℕ) (handle : Option Handle) (next : ℕ → Status → Status)
     → why_not_now old step ≡ None → SetsHandle old mid number handle → Notes mid new outcomes.Applied Nothing None
     → Suits step outcomes.Applied Nothing → None ≡ change_made step outcomes.Applied → ((other : ℕ) → ¬ IsTurnOf other step)
-    → ((n : ℕ) (table : ℕ → Status) → status_after n step outcomes.Applied table ≡ with_status table number (next n (table number)))
+    → ((n : ℕ) (table : ℕ → Status) → status_after n step outcomes.Applied None table ≡ with_status table number (next n (table number)))
     → ((n : ℕ) (status : Status) → Matches status (handle_at old number) → Matches (next n status) handle)
-    → ((events : List Event) (e : Event) (status : Status) → ((other : ℕ) → ¬ IsTurnOf other e.step) → Runs events number status → Runs (events ++ e ∷ []) number (next (length events + 1) status))
+    → ((first : Volume) (events : List Event) (e : Event) (status : Status) → ((other : ℕ) → ¬ IsTurnOf other e.step) → Runs first events number status → Runs first (events ++ e ∷ []) number (next (length events + 1) status))
     → Continues old step new
 applied old mid new step number handle next reason sets notes suits made no_turn after matches runs first events explains =
     let e : Event = quiet step outcomes.Applied None mid.disk.calls.faults in
@@ -172,47 +176,8 @@ applied old mid new step number handle next reason sets notes suits made no_turn
           (λ other. rw (after (length events + 1) table)
           (matches_set old new table number (next (length events + 1) (table number)) handle explains.handles (table_noted old mid new number handle outcomes.Applied Nothing None sets notes) (matches (length events + 1) (table number) (explains.handles number)) other))
           (λ other. rw (after (length events + 1) table)
-          (runs_set events e table number (next (length events + 1) (table number)) explains.running (λ o apart. no_turn o) (runs events e (table number) no_turn (explains.running number)) other)),
+          (runs_set first events e table number (next (length events + 1) (table number)) explains.running (λ o apart. no_turn o) (runs first events e (table number) no_turn (explains.running number)) other)),
     )
-
-pub opened : (old mid new : World) (number : ℕ) (path : List (List ℕ)) (options : Options) (handle : Handle)
-    → why_not_now old (steps.Open number path options) ≡ None → handle.store.path ≡ path → handle.store.slots ≡ given_slots options.slots → handle.work ≡ Some Opening
-    → SetsHandle old mid number (Some handle) → Notes mid new outcomes.Applied Nothing None → Continues old (steps.Open number path options) new
-opened old mid new number path options handle reason same_path same_slots opening sets notes =
-    applied old mid new (steps.Open number path options) number (Some handle) (λ n status. Working (store_at n path options) n 0 Opening)
-    reason sets notes refl refl (λ other turn. cc) (λ n table. refl)
-    (λ n status match. (same_path, same_slots, opening))
-    (λ events e status no_turn runs. runs_begun events e number (store_at (length events + 1) path options) Opening)
-
-pub closed : (old mid new : World) (number : ℕ) → why_not_now old (steps.Close number) ≡ None
-    → SetsHandle old mid number None → Notes mid new outcomes.Applied Nothing None → Continues old (steps.Close number) new
-closed old mid new number reason sets notes =
-    applied old mid new (steps.Close number) number None (λ n status. Free)
-    reason sets notes refl refl (λ other turn. cc) (λ n table. refl) (λ n status match. tt) (λ events e status no_turn runs. tt)
-
-matches_started : (n : ℕ) (call : Call) (status : Status) (handle : Option Handle) → why_not_idle (phase_of_handle handle) ≡ None
-    → Matches status handle → Matches (started n call status) (with_work (Some (Calling call)) handle)
-matches_started n call Free None idle match = tt
-matches_started n call Free (Some handle) idle match = absurd match
-matches_started n call (Resting store) None idle match = absurd match
-matches_started n call (Resting store) (Some handle) idle match = (match.0, match.1, refl)
-matches_started n call (Working store begun turns work) None idle match = absurd match
-matches_started n call (Working store begun turns work) (Some handle) idle match =
-    absurd (cc (subst (λ (w : Option Work). why_not_idle (phase_of_work w) ≡ None) match.2 idle))
-
-runs_started : (number : ℕ) (call : Call) (events : List Event) (e : Event) (status : Status) → ((other : ℕ) → ¬ IsTurnOf other e.step)
-    → Runs events number status → Runs (events ++ e ∷ []) number (started (length events + 1) call status)
-runs_started number call events e Free no_turn runs = tt
-runs_started number call events e (Resting store) no_turn runs = runs_begun events e number store (Calling call)
-runs_started number call events e (Working store begun turns work) no_turn runs = runs-push events e number (Working store begun turns work) (no_turn number) runs
-
-pub begun : (old mid new : World) (number : ℕ) (call : Call) → why_not_now old (steps.Start number call) ≡ None
-    → SetsHandle old mid number (with_work (Some (Calling call)) (handle_at old number)) → Notes mid new outcomes.Applied Nothing None → Continues old (steps.Start number call) new
-begun old mid new number call reason sets notes =
-    applied old mid new (steps.Start number call) number (with_work (Some (Calling call)) (handle_at old number)) (λ n status. started n call status)
-    reason sets notes refl refl (λ other turn. cc) (λ n table. refl)
-    (λ n status match. matches_started n call status (handle_at old number) reason match)
-    (runs_started number call)
 
 -- ---- a change
 
@@ -232,7 +197,7 @@ changed old new disk change made possible after made_is notes first events expla
           notes.outcomes notes.records
           (notes.disk ∙ here)
           (λ handle. subst (λ handles. Matches (status_of events handle) (handle_at (record new { handles = handles }) handle)) (sym notes.handles) (explains.handles handle))
-          (λ handle. runs-push events e handle (status_of events handle) (λ turn. cc) (explains.running handle)),
+          (λ handle. runs-push first events e handle (status_of events handle) (λ turn. cc) (explains.running handle)),
     )
 
 -- what is noted on a world whose disk was kept
@@ -260,10 +225,3 @@ pub IsRunOf-more : (first : Volume) (old new : World) (step : Step) (steps : Lis
 IsRunOf-more first old new step steps index within is continues before =
     subst (λ made. IsRunOf first made new) (ap (λ s. take index steps ++ s ∷ []) is ∙ sym (take_more steps index step within))
     (IsRunOf-push first old new (take index steps) step continues before)
-
--- ---- a turn whose call goes on
-
--- what isn't pending leaves nothing to show
-pub nears : (old mid new : World) (handle : ℕ) (outcome : Outcome) (did : Did) (change : Option Change) → outcome ≢ outcomes.Pending → Notes mid new outcome did change → Nears (steps.Turn handle) old new
-nears old mid new handle outcome did change apart notes before is =
-    absurd (apart (same_from_push mid.outcomes before outcome outcomes.Pending (sym notes.outcomes ∙ is)).1)

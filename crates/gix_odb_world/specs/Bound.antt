@@ -4,10 +4,10 @@ use Rattle.std.specs.List.{list_all, list_any}
 use Rattle.odb_base.specs.Path.{Path, Name}
 use Rattle.odb_disk.specs.Tree.{Tree}
 use Rattle.odb_disk.specs.Tree.Follow.{listed}
-use Rattle.gix_odb_world.specs.declared.handle.Work.{Work}
-use Rattle.gix_odb_world.specs.declared.handle.Work.TheVariants.{Opening, Calling}
+use Rattle.gix_odb_world.specs.declared.work.Work.{Work}
+use Rattle.gix_odb_world.specs.declared.work.Work.TheVariants.{Opening, Calling}
 use Rattle.gix_odb_world.specs.Contents.{StoreData, folder_list}
-use Rattle.gix_odb_world.specs.Event.{Store, data_of}
+use Rattle.gix_odb_world.specs.Event.{Store}
 
 -- a write of n bytes has 40 turns more, and one for each begun 65,536 bytes
 abbrev pub turns_of_write : Option ℕ → ℕ
@@ -40,5 +40,5 @@ HasAtMost trees store begun now entries =
 
 -- the bound of a piece of work; an opening is bounded with no slots and no changes
 abbrev pub bound_of_work : Store → Work → ℕ → ℕ
-bound_of_work store Opening entries = turn_bound 0 (length (folder_list (data_of store))) 0 entries None
-bound_of_work store (Calling call) entries = turn_bound store.slots (length (folder_list (data_of store))) default_changes entries None
+bound_of_work store (Opening state) entries = turn_bound 0 (length (folder_list store.parts)) 0 entries None
+bound_of_work store (Calling state) entries = turn_bound store.slots (length (folder_list store.parts)) default_changes entries None

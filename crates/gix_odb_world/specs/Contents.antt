@@ -1,22 +1,35 @@
 -- What the files of a store hold, as answers of calls.
-use Rattle.std.specs.Prelude.{◌≡◌, ℕ, List, [], ◌∷◌, length, Ok}
+use Rattle.std.specs.Prelude.{◌≡◌, ℕ, Bool, true, false, List, ◌∷◌, Option, Some, None, Ok}
+use Rattle.std.specs.Map.{lookup}
+use Rattle.std.specs.Ordering.{eq_by_cmp}
+use Rattle.std.specs.declared.cmp.Ordering.{Ordering}
 use Rattle.odb_base.specs.Path.{Path}
 use Rattle.odb_disk.specs.Tree.{Tree}
 use Rattle.odb_disk.specs.Tree.Follow.{read_of}
+use Rattle.gix_hash.specs.contracts.object_id.ObjectIdOrd.TheImpl as id_order
 use Rattle.gix_hash.specs.declared.object_id.ObjectId.{ObjectId}
 use Rattle.gix_object.specs.declared.kind.Kind.{Kind}
+use Rattle.gix_odb_loose.specs.LooseFile.{loose_path, HoldsObject, HoldsHeader}
 use Rattle.gix_odb_world.specs.declared.call.Call.{Call}
-use Rattle.gix_odb_world.specs.declared.call.Call.TheVariants.{Find}
-use Rattle.gix_object.specs.Loose.{IsLoose}
-use Rattle.gix_odb_world.specs.Loose.{loose_path}
+use Rattle.gix_odb_world.specs.declared.call.Call.TheVariants.{Find, Header, Test}
+use Rattle.gix_odb_world.specs.declared.find.Header as headers
+use Rattle.gix_odb_world.specs.declared.find.Header.TheVariants.{Loose}
 
--- what a store is, for what it holds: its objects directory
+-- the order of ids
+abbrev pub id_cmp : ObjectId → ObjectId → Ordering
+id_cmp = (id_order.ghosts).cmp
+
+-- what a store is, for what it holds: its objects directory, its other folders, the ids that others replace, and
+-- the limit on found objects
 pub record StoreData : Type 0 where
   pub objects : Path
+  pub folders : List Path
+  pub replacements : List (ObjectId × ObjectId)
+  pub limit : Option ℕ
 
 -- the folders of a store, the objects directory first
 abbrev pub folder_list : StoreData → List Path
-folder_list store = store.objects ∷ []
+folder_list store = store.objects ∷ store.folders
 
 -- what an object's bytes may be read from: one loose file
 pub data Contents : Type 0 where
@@ -25,19 +38,43 @@ pub data Contents : Type 0 where
 -- what a call may be answered with
 pub data Answer : Type 0 where
   Object : (kind : Kind) (bytes : List ℕ) → Answer
+  HeaderOf : (header : headers.Header) → Answer
+  Presence : Answer
 
--- the id that a call seeks in a store
-abbrev pub sought : StoreData → Call → ObjectId
-sought store (Find id) = id
+-- the first of two ids that is there
+abbrev pub or_itself : Option ObjectId → ObjectId → ObjectId
+or_itself None id = id
+or_itself (Some other) id = other
+
+-- the replacement of an id, where it has one and replacements aren't ignored
+abbrev pub replaced : (ObjectId → Option ObjectId) → (ignoring : Bool) → ObjectId → ObjectId
+replaced replacement true id = id
+replaced replacement false id = or_itself (replacement id) id
+
+-- the id that a call seeks: for a find and a header the replacement of the asked id, one and no chain
+abbrev pub sought_with : (ObjectId → Option ObjectId) → (ignoring : Bool) → Call → ObjectId
+sought_with replacement ignoring (Find id) = replaced replacement ignoring id
+sought_with replacement ignoring (Header id) = replaced replacement ignoring id
+sought_with replacement ignoring (Test id) = id
+
+-- the id that replaces another in a store
+abbrev pub replacement_in : StoreData → ObjectId → Option ObjectId
+replacement_in store id = lookup (eq_by_cmp id_cmp id) store.replacements
+
+abbrev pub sought : StoreData → (ignoring : Bool) → Call → ObjectId
+sought store ignoring call = sought_with (replacement_in store) ignoring call
 
 -- a folder of a tree shows contents for an id: its loose path leads to a file with those bytes
 abbrev pub Shows : Tree → Path → ObjectId → Contents → Type 0
 Shows tree folder id (LooseFile bytes) = (time : ℕ) × (read_of tree (loose_path folder id) ≡ Ok (bytes, time))
 
--- Contents hold an answer of a call. A find is answered by a loose file of that kind and data, the data as
--- long as the header says.
+-- Contents hold an answer of a call. A find is answered by a loose file of that kind and data, the data as long as
+-- its header says and within the limit; a header by the file's header alone; a test by any file.
 abbrev pub Holds : StoreData → Call → Contents → Answer → Type 0
-Holds store (Find id) (LooseFile bytes) (Object kind found) = IsLoose bytes kind (length found) found
+Holds store (Find id) (LooseFile bytes) (Object kind found) = HoldsObject store.limit bytes kind found
+Holds store (Header id) (LooseFile bytes) (HeaderOf (Loose kind size)) = HoldsHeader bytes kind size
+Holds store (Test id) (LooseFile bytes) Presence = Unit {0}
+Holds store call contents answer = ⊥
 
 -- contents are sound for a call where they hold some answer of it
 abbrev pub IsSound : StoreData → Call → Contents → Type 0

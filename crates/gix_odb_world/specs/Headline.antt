@@ -1,15 +1,12 @@
 -- What is promised of every run: for every disk, options and list of steps there is one outcome for each step;
 -- what is found was held by the store's files, a not-found means that no sound object lay still, each call ends
 -- within its bound, and each error has its cause.
-use Rattle.std.specs.Prelude.{◌≡◌, ℕ, ◌+◌, ◌<◌, ◌≤◌, List, [], ◌∷◌, ◌++◌, map, length, take, slice_get, Option, Some, None}
-use Rattle.odb_disk.specs.Tree.{Tree}
+use Rattle.std.specs.Prelude.{◌≡◌, ℕ, ◌+◌, ◌<◌, Bool, List, [], ◌∷◌, ◌++◌, map, length, take, slice_get, Option, Some, None, Result, Ok, Err}
 use Rattle.odb_disk.specs.MemDisk.{Volume, next_fails}
 use Rattle.odb_disk.specs.Ask.{op_of, path_asked, answer_now}
+use Rattle.odb_disk.specs.declared.ask.DiskAsk.{DiskAsk}
 use Rattle.odb_disk.specs.declared.change.Change.{Change}
-use Rattle.gix_odb_world.specs.declared.call.Call.{Call}
 use Rattle.gix_odb_world.specs.declared.call.Reply.{Reply}
-use Rattle.gix_odb_world.specs.declared.call.Reply.TheVariants as replies
-use Rattle.gix_odb_world.specs.declared.call.CallError.TheVariants as call_errors
 use Rattle.gix_odb_world.specs.declared.step.Step.{Step}
 use Rattle.gix_odb_world.specs.declared.step.Step.TheVariants as steps
 use Rattle.gix_odb_world.specs.declared.step.Outcome.{Outcome}
@@ -17,43 +14,13 @@ use Rattle.gix_odb_world.specs.declared.step.Outcome.TheVariants as outcomes
 use Rattle.gix_odb_world.specs.declared.record.Did.{Did}
 use Rattle.gix_odb_world.specs.declared.record.Did.TheVariants.{Nothing, Disk}
 use Rattle.gix_odb_world.specs.declared.record.Run.{Run}
-use Rattle.gix_odb_world.specs.declared.handle.Work.{Work}
-use Rattle.gix_odb_world.specs.declared.handle.Work.TheVariants.{Opening, Calling}
-use Rattle.gix_odb_world.specs.Contents.{Object, sought}
-use Rattle.gix_odb_world.specs.Loose.{loose_path}
-use Rattle.gix_odb_world.specs.Held.{Held, Still}
-use Rattle.gix_odb_world.specs.Event.{Event, Store, Working, data_of, status_of}
+use Rattle.gix_odb_world.specs.declared.work.Work.{Work}
+use Rattle.gix_odb_world.specs.Event.{Event, Store, Working, fed_in, status_of}
 use Rattle.gix_odb_world.specs.Run.{disk_after, tree_at, FailedSince}
-use Rattle.gix_odb_world.specs.Order.{ask_of, reply_of}
+use Rattle.gix_odb_world.specs.WorkOrder.{ask_in, result_in}
 use Rattle.gix_odb_world.specs.Valid.{why_not_after, misuse_of}
 use Rattle.gix_odb_world.specs.Bound.{HasAtMost, bound_of_work}
-use Rattle.gix_odb_world.specs.Causes.{Sometime, ShowsDirectory, OpeningCause, FindCause, most_slots}
-
--- An open store has the slots that were asked for, and its objects directory was shown in the opening.
-pub record Opens (trees : ℕ → Tree) (store : Store) (begun now slots : ℕ) : Type 0 where
-  pub as_asked : slots ≡ store.slots
-  pub not_too_many : slots ≤ most_slots
-  pub directory : Sometime begun now (λ moment. ShowsDirectory (trees moment) store.objects)
-
--- A not-found: no call of the disk failed in the call, and no sound object of the id lay still throughout.
-pub record Misses (trees : ℕ → Tree) (Failed : Type 0) (store : Store) (begun now : ℕ) (call : Call) : Type 0 where
-  pub no_failure : ¬ Failed
-  pub none_still : ¬ Still trees (data_of store) begun now call
-
--- What a reply promises of the moments from the call's start to the reply. Each piece of work and each reply
--- has its row; a reply that the work never ends with promises what nothing can keep.
-abbrev pub Promise : (ℕ → Tree) → Type 0 → Store → ℕ → ℕ → Work → Reply → Type 0
-Promise trees Failed store begun now Opening (replies.Opened slots) = Opens trees store begun now slots
-Promise trees Failed store begun now Opening (replies.Found kind bytes) = ⊥
-Promise trees Failed store begun now Opening replies.NotFound = ⊥
-Promise trees Failed store begun now Opening (replies.Refused (call_errors.Open error)) = OpeningCause trees Failed store begun now error
-Promise trees Failed store begun now Opening (replies.Refused (call_errors.Find error)) = ⊥
-Promise trees Failed store begun now (Calling call) (replies.Opened slots) = ⊥
-Promise trees Failed store begun now (Calling call) (replies.Found kind bytes) = Held trees (data_of store) begun now call (Object kind bytes)
-Promise trees Failed store begun now (Calling call) replies.NotFound = Misses trees Failed store begun now call
-Promise trees Failed store begun now (Calling call) (replies.Refused (call_errors.Open error)) = ⊥
-Promise trees Failed store begun now (Calling call) (replies.Refused (call_errors.Find error)) =
-    FindCause trees Failed (loose_path store.objects (sought (data_of store) call)) begun now error
+use Rattle.gix_odb_world.specs.Promise.{Promise}
 
 -- The outcomes that a step may have, and what its record did: a turn makes at most one call of the disk, and
 -- makes one where its call goes on; all other steps, and all misused ones, did nothing.
@@ -79,14 +46,23 @@ FailsAsListed disk Nothing = Unit {0}
 FailsAsListed disk (Disk op path failed) = failed ≡ next_fails disk
 
 -- the handle that the event turns, and the work that it was at
-pub record Turns (past : List Event) (e : Event) (handle : ℕ) (store : Store) (begun turns : ℕ) (work : Work) : Type 0 where
+pub record Turns (past : List Event) (e : Event) (handle : ℕ) (store : Store) (ignoring : Bool) (begun turns : ℕ) (work : Work) : Type 0 where
   pub step : e.step ≡ steps.Turn handle
-  pub status : status_of past handle ≡ Working store begun turns work
+  pub status : status_of past handle ≡ Working store ignoring begun turns work
 
--- A turn makes the one call of the disk that its work names, and its outcome is the reply to what the disk answered.
+-- the outcome of a turn that left its work so
+abbrev pub outcome_of : Result Reply Work → Outcome
+outcome_of (Ok reply) = outcomes.Reply reply
+outcome_of (Err work) = outcomes.Pending
+
+-- A turn makes the one call of the disk that its work names at its stage. Its outcome is the reply where the work is
+-- done after the disk's answer, and else that the work goes on.
 pub record Works (disk : Volume) (store : Store) (work : Work) (e : Event) : Type 0 where
-  pub asked : e.entry.did ≡ Disk (op_of (ask_of store.objects work)) (path_asked (ask_of store.objects work)) (next_fails disk)
-  pub replied : e.outcome ≡ outcomes.Reply (reply_of store.objects store.slots work (answer_now disk (ask_of store.objects work)))
+  pub ask : DiskAsk
+  pub asks : ask_in store.parts.objects work ≡ Some ask
+  pub asked : e.entry.did ≡ Disk (op_of ask) (path_asked ask) (next_fails disk)
+  pub told : e.told ≡ Some (answer_now disk ask)
+  pub goes : e.outcome ≡ outcome_of (result_in (fed_in store work (answer_now disk ask)))
 
 -- What an event may be after those before it.
 pub record Law (first : Volume) (past : List Event) (e : Event) : Type 0 where
@@ -98,13 +74,13 @@ pub record Law (first : Volume) (past : List Event) (e : Event) : Type 0 where
   -- the record has the disk's count of faults after the step
   pub faults : e.entry.faults ≡ (disk_after first (past ++ e ∷ [])).calls.faults
   -- a turn does what the order of work says
-  pub worked : (handle : ℕ) (store : Store) (begun turns : ℕ) (work : Work) → Turns past e handle store begun turns work → Works (disk_after first past) store work e
+  pub worked : (handle : ℕ) (store : Store) (ignoring : Bool) (begun turns : ℕ) (work : Work) → Turns past e handle store ignoring begun turns work → Works (disk_after first past) store work e
   -- a reply keeps its promise
-  pub promise : (handle : ℕ) (store : Store) (begun turns : ℕ) (work : Work) (reply : Reply) → Turns past e handle store begun turns work → e.outcome ≡ outcomes.Reply reply
-      → Promise (tree_at first (past ++ e ∷ [])) (FailedSince (past ++ e ∷ []) handle begun) store begun (length past + 1) work reply
+  pub promise : (handle : ℕ) (store : Store) (ignoring : Bool) (begun turns : ℕ) (work : Work) (reply : Reply) → Turns past e handle store ignoring begun turns work → e.outcome ≡ outcomes.Reply reply
+      → Promise (tree_at first (past ++ e ∷ [])) (FailedSince (past ++ e ∷ []) handle begun) store ignoring begun (length past + 1) work reply
   -- a call that goes on has had fewer turns than its bound
-  pub in_time : (handle : ℕ) (store : Store) (begun turns : ℕ) (work : Work) (entries : ℕ) → Turns past e handle store begun turns work → e.outcome ≡ outcomes.Pending
-      → HasAtMost (tree_at first (past ++ e ∷ [])) (data_of store) begun (length past + 1) entries → turns + 1 < bound_of_work store work entries
+  pub in_time : (handle : ℕ) (store : Store) (ignoring : Bool) (begun turns : ℕ) (work : Work) (entries : ℕ) → Turns past e handle store ignoring begun turns work → e.outcome ≡ outcomes.Pending
+      → HasAtMost (tree_at first (past ++ e ∷ [])) store.parts begun (length past + 1) entries → turns + 1 < bound_of_work store work entries
 
 -- each event is lawful after those before it
 abbrev pub IsLawful : Volume → List Event → Type 0

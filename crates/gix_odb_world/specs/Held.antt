@@ -2,22 +2,23 @@
 use Rattle.std.specs.Prelude.{ℕ, ◌≤◌, Contains}
 use Rattle.odb_base.specs.Path.{Path}
 use Rattle.odb_disk.specs.Tree.{Tree}
+use Rattle.gix_hash.specs.declared.object_id.ObjectId.{ObjectId}
 use Rattle.gix_odb_world.specs.declared.call.Call.{Call}
-use Rattle.gix_odb_world.specs.Contents.{StoreData, folder_list, Contents, Answer, sought, Shows, Holds, IsSound}
+use Rattle.gix_odb_world.specs.Contents.{StoreData, folder_list, Contents, Answer, Shows, Holds, IsSound}
 
--- In one folder, at some moment from `begun` to `now`, contents were shown that hold the answer.
-pub record Held (trees : ℕ → Tree) (store : StoreData) (begun now : ℕ) (call : Call) (answer : Answer) : Type 0 where
+-- In one folder, at some moment from `begun` to `now`, contents were shown for the sought id that hold the answer.
+pub record Held (trees : ℕ → Tree) (store : StoreData) (begun now : ℕ) (call : Call) (id : ObjectId) (answer : Answer) : Type 0 where
   pub folder : Path
   pub among : Contains (folder_list store) folder
   pub moment : ℕ
   pub from : begun ≤ moment
   pub to : moment ≤ now
   pub contents : Contents
-  pub shown : Shows (trees moment) folder (sought store call) contents
+  pub shown : Shows (trees moment) folder id contents
   pub holds : Holds store call contents answer
 
--- In one folder, at every moment from `begun` to `now`, contents that are sound for the call were shown.
-pub record Still (trees : ℕ → Tree) (store : StoreData) (begun now : ℕ) (call : Call) : Type 0 where
+-- In one folder, at every moment from `begun` to `now`, contents that are sound for the call were shown for the id.
+pub record Still (trees : ℕ → Tree) (store : StoreData) (begun now : ℕ) (call : Call) (id : ObjectId) : Type 0 where
   pub folder : Path
   pub among : Contains (folder_list store) folder
-  pub always : (moment : ℕ) → begun ≤ moment → moment ≤ now → (contents : Contents) × Shows (trees moment) folder (sought store call) contents × IsSound store call contents
+  pub always : (moment : ℕ) → begun ≤ moment → moment ≤ now → (contents : Contents) × Shows (trees moment) folder id contents × IsSound store call contents

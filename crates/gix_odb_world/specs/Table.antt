@@ -1,6 +1,7 @@
 -- What the code of a world does with its table of handles and its lists. No public clause cites this.
-use Rattle.std.specs.Prelude.{◌≡◌, ℕ, ◌<◌, ◌==◌, Bool, true, false, List, [], ◌∷◌, ◌++◌, Option, Some, None, if◌then◌else◌}
-use Rattle.odb_disk.specs.Ask.{op_of, path_asked}
+use Rattle.std.specs.Prelude.{◌≡◌, ℕ, ◌==◌, Bool, true, false, [], ◌∷◌, ◌++◌, Option, Some, None, Result, Ok, Err, if◌then◌else◌}
+use Rattle.odb_disk.specs.Ask.{op_of, path_asked, answer_now, after_ask}
+use Rattle.odb_disk.specs.MemDisk.{Volume}
 use Rattle.odb_disk.specs.declared.ask.DiskAsk.{DiskAsk}
 use Rattle.odb_disk.specs.declared.ask.DiskAnswer.{DiskAnswer}
 use Rattle.odb_disk.specs.declared.ask.DiskAnswer.TheVariants as answers
@@ -8,16 +9,16 @@ use Rattle.odb_disk.specs.declared.change.Change.{Change}
 use Rattle.odb_disk.specs.declared.disk.DiskError.TheVariants as disk_errors
 use Rattle.gix_odb_world.specs.declared.call.Reply.{Reply}
 use Rattle.gix_odb_world.specs.declared.call.Reply.TheVariants as replies
+use Rattle.gix_odb_world.specs.declared.call.CallError.TheVariants as call_errors
 use Rattle.gix_odb_world.specs.declared.step.Step.{Step}
-use Rattle.gix_odb_world.specs.declared.step.Step.TheVariants as steps
 use Rattle.gix_odb_world.specs.declared.step.Outcome.{Outcome}
-use Rattle.gix_odb_world.specs.declared.step.Outcome.TheVariants as outcomes
 use Rattle.gix_odb_world.specs.declared.step.Why.{Why}
 use Rattle.gix_odb_world.specs.declared.record.Did.{Did}
 use Rattle.gix_odb_world.specs.declared.record.Did.TheVariants as done
 use Rattle.gix_odb_world.specs.declared.handle.Handle.{Handle}
-use Rattle.gix_odb_world.specs.declared.handle.Work.{Work}
-use Rattle.gix_odb_world.specs.declared.handle.Work.TheVariants as works
+use Rattle.gix_odb_world.specs.declared.handle.HandleState.{HandleState}
+use Rattle.gix_odb_world.specs.declared.work.Work.{Work}
+use Rattle.gix_odb_world.specs.WorkOrder.{fed}
 use Rattle.gix_odb_world.specs.declared.world.World.{World}
 use Rattle.gix_odb_world.specs.World.{handle_at}
 use Rattle.gix_odb_world.specs.Valid.{Phase, NoneThere, Idle, Running, why_not}
@@ -40,10 +41,20 @@ abbrev pub with_work : Option Work → Option Handle → Option Handle
 with_work work None = None
 with_work work (Some handle) = Some (record handle { work = work })
 
+-- a handle that ignores replacements
+abbrev pub with_ignoring : Option Handle → Option Handle
+with_ignoring None = None
+with_ignoring (Some handle) = Some (record handle { state = record handle.state { ignore_replacements = true } })
+
 -- a handle after the reply to its work: none after a refused opening, else at rest
-abbrev pub after_reply : Work → Reply → Option Handle → Option Handle
-after_reply works.Opening (replies.Refused error) handle = None
-after_reply work reply handle = with_work None handle
+abbrev pub after_reply : HandleState → Reply → Option Handle
+after_reply state (replies.Refused (call_errors.Open error)) = None
+after_reply state reply = Some (record { state = state; work = None })
+
+-- a handle after its turn left its work so
+abbrev pub after_turn : HandleState → Result Reply Work → Option Handle
+after_turn state (Ok reply) = after_reply state reply
+after_turn state (Err work) = Some (record { state = state; work = Some work })
 
 -- the world differs from another in the handle that has a number, and in nothing else
 pub record SetsHandle (old new : World) (number : ℕ) (handle : Option Handle) : Type 0 where
@@ -59,20 +70,6 @@ pub record Notes (old new : World) (outcome : Outcome) (did : Did) (change : Opt
   pub disk : new.disk ≡ old.disk
   pub handles : new.handles ≡ old.handles
 
-abbrev pub turns_of_work : Option Work → ℕ
-turns_of_work None = 0
-turns_of_work (Some work) = 1
-
--- the most turns that a handle takes up to its reply: each piece of work ends with its first
-abbrev pub turns_left : Option Handle → ℕ
-turns_left None = 0
-turns_left (Some handle) = turns_of_work handle.work
-
--- a turn after which its call goes on leaves its handle fewer turns
-abbrev pub Nears : Step → World → World → Type 0
-Nears (steps.Turn handle) old new = (before : List Outcome) → new.outcomes ≡ before ++ outcomes.Pending ∷ [] → turns_left (handle_at new handle) < turns_left (handle_at old handle)
-Nears step old new = Unit {0}
-
 -- the world has one outcome more than another
 abbrev pub HasOneMore : World → World → Type 0
 HasOneMore old new = (outcome : Outcome) × (new.outcomes ≡ old.outcomes ++ outcome ∷ [])
@@ -84,3 +81,18 @@ has_failed answer = false
 -- the record of a call of the disk
 abbrev pub did_of : DiskAsk → DiskAnswer → Did
 did_of ask answer = done.Disk (op_of ask) (path_asked ask) (has_failed answer)
+
+-- what a turn did whose work asked so
+abbrev pub did_now : Volume → Option DiskAsk → Did
+did_now disk None = done.Nothing
+did_now disk (Some ask) = did_of ask (answer_now disk ask)
+
+-- the work of a handle after a turn in which it asked so
+abbrev pub work_now : Volume → HandleState → Work → Option DiskAsk → Work
+work_now disk state work None = work
+work_now disk state work (Some ask) = fed state.slots state.folders state.alloc_limit_bytes work (answer_now disk ask)
+
+-- the disk after a turn in which it was asked so
+abbrev pub disk_now : Volume → Option DiskAsk → Volume
+disk_now disk None = disk
+disk_now disk (Some ask) = after_ask disk ask

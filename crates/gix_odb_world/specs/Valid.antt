@@ -1,5 +1,12 @@
 -- Which steps are valid, and the first reason why one isn't.
-use Rattle.std.specs.Prelude.{ℕ, List, Option, Some, None, if◌then◌else◌}
+use Rattle.std.specs.Prelude.{ℕ, Bool, true, false, ◌&&◌, ◌==◌, nat_le, List, ◌∷◌, length, Option, Some, None, if◌then◌else◌}
+use Rattle.std.specs.Map.{keys_of}
+use Rattle.std.specs.Ordering.{eq_by_cmp}
+use Rattle.std.specs.Set.{distinct_count}
+use Rattle.std.specs.declared.cmp.Ordering.{Ordering}
+use Rattle.odb_base.specs.Path.{Path, path_cmp}
+use Rattle.gix_hash.specs.declared.object_id.ObjectId.{ObjectId}
+use Rattle.gix_odb_world.specs.Contents.{id_cmp}
 use Rattle.odb_disk.specs.Tree.{State}
 use Rattle.odb_disk.specs.MemDisk.{Volume}
 use Rattle.odb_disk.specs.Tree.Change.{is_possible}
@@ -8,7 +15,7 @@ use Rattle.gix_odb_world.specs.declared.step.Step.TheVariants as steps
 use Rattle.gix_odb_world.specs.declared.step.Outcome.{Outcome}
 use Rattle.gix_odb_world.specs.declared.step.Outcome.TheVariants as outcomes
 use Rattle.gix_odb_world.specs.declared.step.Why.{Why}
-use Rattle.gix_odb_world.specs.declared.step.Why.TheVariants.{HandleTaken, NoHandle, NotRunning, Busy, ImpossibleChange}
+use Rattle.gix_odb_world.specs.declared.step.Why.TheVariants.{HandleTaken, BadOpen, NoHandle, NotRunning, Busy, ImpossibleChange}
 use Rattle.gix_odb_world.specs.Event.{Event, Status, Free, Resting, Working, status_of}
 use Rattle.gix_odb_world.specs.Run.{disk_after}
 
@@ -20,16 +27,32 @@ pub data Phase : Type 0 where
 
 abbrev pub phase_of : Status → Phase
 phase_of Free = NoneThere
-phase_of (Resting store) = Idle
-phase_of (Working store begun turns work) = Running
+phase_of (Resting store ignoring) = Idle
+phase_of (Working store ignoring begun turns work) = Running
 
--- an open step needs a free number
-abbrev pub why_not_free : Phase → Option Why
-why_not_free NoneThere = None
-why_not_free Idle = Some HandleTaken
-why_not_free Running = Some HandleTaken
+-- no two items of a list are equal by an order
+abbrev pub are_distinct : {A : Type 0} → (A → A → Ordering) → List A → Bool
+are_distinct cmp items = distinct_count (eq_by_cmp cmp) items == length items
 
--- a close and a start need an idle handle
+-- at most 255 folders, all distinct and none of them the objects directory
+abbrev pub are_good_folders : Path → List Path → Bool
+are_good_folders objects folders = nat_le (length folders) 255 && are_distinct path_cmp (objects ∷ folders)
+
+-- The conditions of opening: good folders, and distinct replaced ids.
+abbrev pub is_openable : Path → List Path → List (ObjectId × ObjectId) → Bool
+is_openable objects folders replacements = are_good_folders objects folders && are_distinct id_cmp (keys_of replacements)
+
+abbrev pub why_not_openable : Bool → Option Why
+why_not_openable true = None
+why_not_openable false = Some BadOpen
+
+-- an open step needs a free number, and the conditions of opening
+abbrev pub why_not_open : Phase → (openable : Bool) → Option Why
+why_not_open NoneThere openable = why_not_openable openable
+why_not_open Idle openable = Some HandleTaken
+why_not_open Running openable = Some HandleTaken
+
+-- a close, a start and the setting of a mode need an idle handle
 abbrev pub why_not_idle : Phase → Option Why
 why_not_idle NoneThere = Some NoHandle
 why_not_idle Idle = None
@@ -43,8 +66,9 @@ why_not_running Running = None
 
 -- the first reason why a step isn't valid, or nothing where it is, by the phases of all handles and the disk's state
 abbrev pub why_not : (ℕ → Phase) → State → Step → Option Why
-why_not phases state (steps.Open handle path options) = why_not_free (phases handle)
+why_not phases state (steps.Open handle path folders replacements options) = why_not_open (phases handle) (is_openable path folders replacements)
 why_not phases state (steps.Close handle) = why_not_idle (phases handle)
+why_not phases state (steps.Ignore handle) = why_not_idle (phases handle)
 why_not phases state (steps.Start handle call) = why_not_idle (phases handle)
 why_not phases state (steps.Turn handle) = why_not_running (phases handle)
 why_not phases state (steps.Disk change) = if is_possible state change then None else Some ImpossibleChange

@@ -1,5 +1,5 @@
 -- How the code of a world stands for a history. No public clause needs more of it than its name.
-use Rattle.std.specs.Prelude.{◌≡◌, ℕ, ◌≤◌, slice_get, List, [], ◌∷◌, ◌++◌, map, length, Option, Some, None}
+use Rattle.std.specs.Prelude.{◌≡◌, ℕ, List, [], ◌∷◌, ◌++◌, map, Option, Some, None}
 use Rattle.std.specs.Ordering.{nat_cmp}
 use Rattle.std.specs.BTreeMap.{get}
 use Rattle.odb_disk.specs.MemDisk.{Volume}
@@ -8,7 +8,9 @@ use Rattle.gix_odb_world.specs.declared.step.Outcome.{Outcome}
 use Rattle.gix_odb_world.specs.declared.handle.Handle.{Handle}
 use Rattle.gix_odb_world.specs.declared.world.World.{World}
 use Rattle.gix_odb_world.specs.Event.{Event, Status, Free, Resting, Working, status_of}
-use Rattle.gix_odb_world.specs.Run.{disk_after, IsTurnOf}
+use Rattle.gix_odb_world.specs.Handle.{IsHandleOf}
+use Rattle.gix_odb_world.specs.Run.{disk_after}
+use Rattle.gix_odb_world.specs.Running.{Runs}
 use Rattle.gix_odb_world.specs.Headline.{Law, IsLawful}
 
 -- the handle of a world that has a number
@@ -19,17 +21,10 @@ handle_at world number = get nat_cmp world.handles number
 abbrev pub Matches : Status → Option Handle → Type 0
 Matches Free None = Unit {0}
 Matches Free (Some handle) = ⊥
-Matches (Resting store) None = ⊥
-Matches (Resting store) (Some handle) = (handle.store.path ≡ store.objects) × (handle.store.slots ≡ store.slots) × (handle.work ≡ None)
-Matches (Working store begun turns work) None = ⊥
-Matches (Working store begun turns work) (Some handle) = (handle.store.path ≡ store.objects) × (handle.store.slots ≡ store.slots) × (handle.work ≡ Some work)
-
--- what holds of a handle at work: its call began in one of the events, and it hasn't had a turn since
-abbrev pub Runs : List Event → ℕ → Status → Type 0
-Runs events handle Free = Unit {0}
-Runs events handle (Resting store) = Unit {0}
-Runs events handle (Working store begun turns work) =
-    (begun ≤ length events) × ((place : ℕ) (e : Event) → begun ≤ place → slice_get events place ≡ Some e → ¬ IsTurnOf handle e.step)
+Matches (Resting store ignoring) None = ⊥
+Matches (Resting store ignoring) (Some handle) = IsHandleOf store ignoring handle.state × (handle.work ≡ None)
+Matches (Working store ignoring begun turns work) None = ⊥
+Matches (Working store ignoring begun turns work) (Some handle) = IsHandleOf store ignoring handle.state × (handle.work ≡ Some work)
 
 -- these events from this first disk lead to the world
 pub record Explains (first : Volume) (events : List Event) (world : World) : Type 0 where
@@ -37,7 +32,7 @@ pub record Explains (first : Volume) (events : List Event) (world : World) : Typ
   pub records : map (λ e. e.entry) events ≡ world.records
   pub disk : world.disk ≡ disk_after first events
   pub handles : (handle : ℕ) → Matches (status_of events handle) (handle_at world handle)
-  pub running : (handle : ℕ) → Runs events handle (status_of events handle)
+  pub running : (handle : ℕ) → Runs first events handle (status_of events handle)
   pub lawful : IsLawful first events
 
 -- a step takes the history one event on

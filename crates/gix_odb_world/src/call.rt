@@ -12,6 +12,10 @@ use thiserror::Error;
 pub enum Call {
     /// Finds an object by its id.
     Find(ObjectId),
+    /// Tells the kind and the size of an object by its id.
+    Header(ObjectId),
+    /// Tests whether an object is there.
+    Test(ObjectId),
 }
 
 /// What a call, or an opening, ends with.
@@ -25,6 +29,9 @@ pub enum Reply {
         kind: gix_object::Kind,
         bytes: ByteList,
     },
+    Header(find::Header),
+    /// Whether the object is there.
+    Tested(bool),
     NotFound,
     Refused(CallError),
 }
@@ -40,6 +47,8 @@ impl Reply {
                 kind: *kind,
                 bytes: bytes.try_clone(alloc)?,
             }),
+            Reply::Header(header) => Ok(Reply::Header(*header)),
+            Reply::Tested(there) => Ok(Reply::Tested(*there)),
             Reply::NotFound => Ok(Reply::NotFound),
             Reply::Refused(error) => Ok(Reply::Refused(error.try_clone(alloc)?)),
         }

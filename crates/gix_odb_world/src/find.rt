@@ -1,17 +1,24 @@
-//! Why a find was refused.
+//! What a header tells, and why a find, a look for a header or a test of presence was refused.
 ghost use Rattle.std.specs.Prelude.{◌≡◌, IfOk};
 
-use crate::loose;
+use gix_object::Kind;
 use odb_base::NoMemory;
 use std::alloc::Global;
 use thiserror::Error;
 
-/// Why a find was refused.
+/// The header of an object, by where it stands.
+#[derive(Clone, Copy, Debug, PartialEq, Eq, Hash)]
+pub enum Header {
+    /// In a loose file. The size is in bytes.
+    Loose { kind: Kind, size: u64 },
+}
+
+/// Why a find, a look for a header or a test of presence was refused.
 #[derive(Debug, Drop, PartialEq, Eq, Error)]
 pub enum Error {
-    /// By the loose objects.
+    /// By the loose objects of a folder.
     #[error("{0}")]
-    Loose(loose::find::Error),
+    Loose(gix_odb_loose::find::Error),
     #[error("out of memory")]
     NoMemory,
 }

@@ -1,23 +1,58 @@
+//! A handle: an open store, or one that is opening, and what the handle is at work on.
+ghost use Rattle.std.specs.Prelude.{◌≡◌};
+ghost use Rattle.gix_odb_world.specs.Handle.{sought_by};
+
 use crate::call::Call;
+use crate::lists::PathList;
+use crate::work::Work;
+use gix_hash::ObjectId;
 use odb_disk::PathText;
+use std::collections::BTreeMap;
 
-/// An open store, or one that is opening: its objects directory and its number of slots.
+/// A handle without its work: the parts of its store, and its mode.
 #[derive(Debug, Drop)]
-pub struct Store {
-    pub path: PathText,
+pub struct HandleState {
+    /// The objects directory, which is the first folder of the store.
+    pub objects: PathText,
+    /// The other folders, in the order in which they are asked.
+    pub folders: PathList,
+    /// What is sought in the place of an id.
+    pub replacements: BTreeMap<ObjectId, ObjectId>,
+    pub ignore_replacements: bool,
+    /// The most bytes of data that an object may have to be found, if there is a limit.
+    pub alloc_limit_bytes: Option<u64>,
     pub slots: u16,
-}
-
-/// What a handle is at work on.
-#[derive(Clone, Copy, Debug, PartialEq, Eq)]
-pub enum Work {
-    Opening,
-    Calling(Call),
 }
 
 /// A handle: at rest, or at work.
 #[derive(Debug, Drop)]
 pub struct Handle {
-    pub store: Store,
+    pub state: HandleState,
     pub work: Option<Work>,
+}
+
+impl HandleState {
+    /// The id that a call seeks: the replacement of its own, where there is one and it isn't ignored. A test seeks
+    /// its own.
+    pub fn sought(&self, call: Call) -> ObjectId
+        ensures { result ≡ sought_by self.now call }
+    {
+        match call {
+            Call::Find(id) => self.replaced(id),
+            Call::Header(id) => self.replaced(id),
+            Call::Test(id) => id,
+        }
+    }
+
+    fn replaced(&self, id: ObjectId) -> ObjectId
+        ensures { result ≡ Rattle.gix_odb_world.specs.Handle.replaced_by self.now id }
+    {
+        if self.ignore_replacements {
+            return id;
+        }
+        match self.replacements.get(&id) {
+            Some(other) => *other,
+            None => id,
+        }
+    }
 }

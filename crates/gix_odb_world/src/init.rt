@@ -25,6 +25,8 @@ impl Slots {
 #[derive(Clone, Copy, Debug, PartialEq, Eq, Hash)]
 pub struct Options {
     pub slots: Slots,
+    /// The most bytes of data that an object may have to be found, if there is a limit.
+    pub alloc_limit_bytes: Option<u64>,
 }
 
 /// Why an opening was refused.

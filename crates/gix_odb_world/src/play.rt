@@ -1,8 +1,7 @@
-ghost use Rattle.std.specs.Prelude.{◌≡◌, ◌≢◌, ◌↔◌, ◌++◌, ◌∷◌, [], List, IfOk, OnOk, IsTrue};
+ghost use Rattle.std.specs.Prelude.{◌≡◌, IfOk, OnOk};
 ghost use Rattle.gix_odb_world.specs.Headline.{Headline};
 ghost use Rattle.gix_odb_world.specs.Play.{Plays, StandsFor, made_of};
 ghost use Rattle.gix_odb_world.specs.Played.{MakesOne, PlaysLine, PlaysTurns};
-ghost use Rattle.gix_odb_world.specs.Table.{Nears};
 
 use crate::record::Run;
 use crate::step::Step;
@@ -89,7 +88,6 @@ fn make(
     step: Step,
 ) -> Result<(), NoMemory>
     ensures makes { OnOk result (MakesOne world.old world.new steps.old steps.new step) }
-    ensures nears { OnOk result (Nears step world.old world.new) }
 {
     world.advance(alloc, &step)?;
     steps.push(step)?;

@@ -2,6 +2,7 @@ ghost use Rattle.std.specs.Prelude.{◌≡◌, IfOk};
 
 use crate::call::{Call, Reply};
 use crate::init::Options;
+use crate::lists::{self, IdPairs, PathList};
 use odb_base::NoMemory;
 use odb_disk::{Change, PathText};
 use std::alloc::Global;
@@ -9,14 +10,23 @@ use std::alloc::Global;
 /// A step of a world.
 #[derive(Debug, Drop, PartialEq, Eq)]
 pub enum Step {
-    /// Begins the opening of a store, by its objects directory, under a free handle number.
+    /// Begins the opening of a store under a free handle number.
     Open {
         handle: u32,
+        /// The objects directory, which is the first folder of the store.
         path: PathText,
+        /// The other folders, in the order in which they are asked: at most 255.
+        folders: PathList,
+        /// Each id with the one that is sought in its place.
+        replacements: IdPairs,
         options: Options,
     },
     /// Closes an idle handle, whose number is free then.
     Close {
+        handle: u32,
+    },
+    /// From now on an idle handle seeks each id itself, and not what replaces it.
+    Ignore {
         handle: u32,
     },
     /// Begins a call on an idle handle.
@@ -41,13 +51,18 @@ impl Step {
             Step::Open {
                 handle,
                 path,
+                folders,
+                replacements,
                 options,
             } => Ok(Step::Open {
                 handle: *handle,
                 path: path.try_clone(alloc)?,
+                folders: lists::copy_of_paths(alloc, folders)?,
+                replacements: lists::copy_of_pairs(alloc, replacements)?,
                 options: *options,
             }),
             Step::Close { handle } => Ok(Step::Close { handle: *handle }),
+            Step::Ignore { handle } => Ok(Step::Ignore { handle: *handle }),
             Step::Start { handle, call } => Ok(Step::Start {
                 handle: *handle,
                 call: *call,
@@ -88,6 +103,9 @@ impl Outcome {
 pub enum Why {
     /// The handle number isn't free.
     HandleTaken,
+    /// A folder is named twice or is the objects directory, an id is replaced twice, or there are more than 255
+    /// folders beside the objects directory.
+    BadOpen,
     /// No handle has the number.
     NoHandle,
     /// The handle runs no call.

@@ -1,1 +1,4 @@
+mod fixtures;
+mod folders;
+mod opening;
 mod world;

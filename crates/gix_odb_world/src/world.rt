@@ -1,19 +1,24 @@
-ghost use Rattle.std.specs.Prelude.{◌≡◌, ◌≢◌, ◌↔◌, IsTrue, ◌++◌, ◌∷◌, [], List, IfOk, OnOk, map};
-ghost use Rattle.odb_disk.specs.Ask.{answer_now};
-ghost use Rattle.odb_disk.specs.MemDisk.{Volume, after_call};
+ghost use Rattle.std.specs.Prelude.{◌≡◌, ◌≢◌, ◌<◌, ◌^◌, ◌↔◌, IsTrue, ◌++◌, ◌∷◌, [], List, IfOk, OnOk, length, map, true, None};
+ghost use Rattle.odb_disk.specs.MemDisk.{Volume};
 ghost use Rattle.gix_odb_world.specs.Event.{Event};
-ghost use Rattle.gix_odb_world.specs.Valid.{why_not_after};
+ghost use Rattle.gix_odb_world.specs.Valid.{why_not_after, is_openable};
 ghost use Rattle.gix_odb_world.specs.Headline.{Headline, IsRun};
-ghost use Rattle.gix_odb_world.specs.Order.{ask_of, reply_of};
+ghost use Rattle.gix_odb_world.specs.Headline.{outcome_of};
+ghost use Rattle.gix_odb_world.specs.WorkOrder.{ask_in, result_in};
 ghost use Rattle.gix_odb_world.specs.World.{Explains, GoesOn, Continues, handle_at};
-ghost use Rattle.gix_odb_world.specs.Table.{HasOneMore, Nears, Notes, SetsHandle, after_reply, did_of, phase_of_handle, with_work, why_not_now};
+ghost use Rattle.gix_odb_world.specs.Table.{HasOneMore, Notes, SetsHandle, did_now, disk_now, phase_of_handle, with_ignoring, with_work, work_now, why_not_now};
+ghost use Rattle.gix_odb_world.specs.Table.{after_turn};
 
-use crate::call::{Call, Reply};
-use crate::handle::{Handle, Store, Work};
+use crate::call::{Call, CallError, Reply};
+use crate::call_state::CallState;
+use crate::handle::{Handle, HandleState};
 use crate::init::Options;
-use crate::machine;
+use crate::lists::{IdPairs, PathList};
+use crate::open_state::OpenState;
+use crate::opening;
 use crate::record::{Did, OutcomeList, Record, RecordList, Run};
 use crate::step::{Outcome, Step, Why};
+use crate::work::Work;
 use odb_base::NoMemory;
 use odb_disk::{Change, Impossible, MemDisk, PathText};
 use std::alloc::Global;
@@ -33,9 +38,16 @@ pub fn is_valid(alloc: Global, world: &World, step: &Step) -> Result<Option<Why>
     ensures reason { IfOk result (λ why. (first : Volume) (events : List Event) → Explains first events world.now → why ≡ why_not_after first events step.now) }
 {
     match step {
-        Step::Open { handle, .. } => Ok(world.why_not_free(*handle)),
+        Step::Open {
+            handle,
+            path,
+            folders,
+            replacements,
+            options: _,
+        } => world.why_not_open(alloc, *handle, path, folders, replacements),
         Step::Close { handle } => Ok(world.why_not_idle(*handle)),
-        Step::Start { handle, .. } => Ok(world.why_not_idle(*handle)),
+        Step::Ignore { handle } => Ok(world.why_not_idle(*handle)),
+        Step::Start { handle, call: _ } => Ok(world.why_not_idle(*handle)),
         Step::Turn { handle } => Ok(world.why_not_running(*handle)),
         Step::Disk(change) => {
             if world.disk.is_possible(alloc, change)? {
@@ -101,16 +113,18 @@ impl World {
     pub(crate) fn advance(&mut self, alloc: Global, step: &Step) -> Result<(), NoMemory>
         ensures continues { OnOk result (Continues self.old step.now self.new) }
         ensures noted { OnOk result (HasOneMore self.old self.new) }
-        ensures nears { OnOk result (Nears step.now self.old self.new) }
     {
         match step {
             Step::Open {
                 handle,
                 path,
+                folders,
+                replacements,
                 options,
-            } => self.open(alloc, *handle, path, *options),
+            } => self.open(alloc, *handle, path, folders, replacements, *options),
             Step::Close { handle } => self.close(*handle),
-            Step::Start { handle, call } => self.start(*handle, *call),
+            Step::Ignore { handle } => self.ignore(*handle),
+            Step::Start { handle, call } => self.start(alloc, *handle, *call),
             Step::Turn { handle } => self.turn(alloc, *handle),
             Step::Disk(change) => self.change(alloc, change),
         }
@@ -118,7 +132,8 @@ impl World {
 
     /// Whether the last step was a turn after which its call goes on.
     pub(crate) fn is_pending(&self) -> bool
-        ensures { (before : List Outcome) (outcome : Outcome) → self.now.outcomes ≡ before ++ outcome ∷ [] → IsTrue result ↔ (outcome ≡ Outcome.Pending) }
+        ensures pending { (before : List Outcome) (outcome : Outcome) → self.now.outcomes ≡ before ++ outcome ∷ [] → IsTrue result ↔ (outcome ≡ Outcome.Pending) }
+        ensures fits { length self.now.outcomes < 2 ^ 64 }
     {
         matches!(self.outcomes.as_slice(), [.., Outcome::Pending])
     }
@@ -138,25 +153,21 @@ impl World {
         alloc: Global,
         number: u32,
         path: &PathText,
+        folders: &PathList,
+        replacements: &IdPairs,
         options: Options,
     ) -> Result<(), NoMemory>
-        ensures continues { OnOk result (Continues self.old (Step.Open number path.now options) self.new) }
+        ensures continues { OnOk result (Continues self.old (Step.Open number path.now folders.now replacements.now options) self.new) }
         ensures noted { OnOk result (HasOneMore self.old self.new) }
     {
         if let Some(why) = self.why_not_free(number) {
             return self.misuse(why);
         }
-        let store = Store {
-            path: path.try_clone(alloc)?,
-            slots: options.slots.count(),
+        let Some(state) = opening::begun(alloc, path, folders, replacements, options)? else {
+            return self.misuse(Why::BadOpen);
         };
-        self.put(
-            number,
-            Handle {
-                store,
-                work: Some(Work::Opening),
-            },
-        )?;
+        let work = Some(Work::Opening(OpenState::Looking));
+        self.put(number, Handle { state, work })?;
         self.note(Outcome::Applied, Did::Nothing, None)
     }
 
@@ -172,33 +183,52 @@ impl World {
         self.note(Outcome::Applied, Did::Nothing, None)
     }
 
+    /// Lets an idle handle ignore replacements from now on.
+    fn ignore(&mut self, number: u32) -> Result<(), NoMemory>
+        ensures continues { OnOk result (Continues self.old (Step.Ignore number) self.new) }
+        ensures noted { OnOk result (HasOneMore self.old self.new) }
+    {
+        if let Some(why) = self.why_not_idle(number) {
+            return self.misuse(why);
+        }
+        self.set_ignoring(number);
+        self.note(Outcome::Applied, Did::Nothing, None)
+    }
+
     /// Begins a call on an idle handle.
-    fn start(&mut self, number: u32, call: Call) -> Result<(), NoMemory>
+    fn start(&mut self, alloc: Global, number: u32, call: Call) -> Result<(), NoMemory>
         ensures continues { OnOk result (Continues self.old (Step.Start number call) self.new) }
         ensures noted { OnOk result (HasOneMore self.old self.new) }
     {
         if let Some(why) = self.why_not_idle(number) {
             return self.misuse(why);
         }
-        self.set_work(number, Some(Work::Calling(call)));
+        let Some(handle) = self.handles.get(&number) else {
+            unreachable!("a handle that is idle is there");
+        };
+        let state = CallState::start(alloc, &handle.state, call)?;
+        self.set_work(number, Some(Work::Calling(state)));
         self.note(Outcome::Applied, Did::Nothing, None)
     }
 
-    /// Lets a handle make the call of the disk that its work names, and reply.
+    /// Lets a handle make the call of the disk that its work names.
     fn turn(&mut self, alloc: Global, number: u32) -> Result<(), NoMemory>
         ensures continues { OnOk result (Continues self.old (Step.Turn number) self.new) }
         ensures noted { OnOk result (HasOneMore self.old self.new) }
-        ensures nears { OnOk result (Nears (Step.Turn number) self.old self.new) }
     {
-        let Some(handle) = self.handles.get(&number) else {
-            return self.misuse(Why::NoHandle);
+        if let Some(why) = self.why_not_running(number) {
+            return self.misuse(why);
+        }
+        let Some(Handle { state, work }) = self.take(number) else {
+            unreachable!("a handle that runs a call is there");
         };
-        let Some(work) = handle.work else {
-            return self.misuse(Why::NotRunning);
+        let Some(work) = work else {
+            unreachable!("a handle that runs a call is at work");
         };
-        let (did, reply) = carried_out(alloc, &mut self.disk, &handle.store, work)?;
-        self.rest(number, work, &reply);
-        self.note(Outcome::Reply(reply), did, None)
+        let (did, work) = carried_out(alloc, &mut self.disk, &state, work)?;
+        let (outcome, handle) = settled(state, work);
+        self.set(number, handle)?;
+        self.note(outcome, did, None)
     }
 
     /// Makes a change that another program makes.
@@ -216,16 +246,6 @@ impl World {
         }
     }
 
-    /// Leaves a handle as its reply leaves it.
-    fn rest(&mut self, number: u32, work: Work, reply: &Reply)
-        ensures sets { SetsHandle self.old self.new number (after_reply work reply.now (handle_at self.old number)) }
-    {
-        match (work, reply) {
-            (Work::Opening, Reply::Refused(_)) => self.remove(number),
-            _ => self.set_work(number, None),
-        }
-    }
-
     /// Puts a handle under a number.
     fn put(&mut self, number: u32, handle: Handle) -> Result<(), NoMemory>
         ensures sets { OnOk result (SetsHandle self.old self.new number (Some handle)) }
@@ -240,6 +260,25 @@ impl World {
         self.handles.remove(&number);
     }
 
+    /// Takes the handle that has a number out of the table.
+    fn take(&mut self, number: u32) -> Option<Handle>
+        ensures taken { result ≡ handle_at self.old number }
+        ensures sets { SetsHandle self.old self.new number None }
+    {
+        self.handles.remove(&number)
+    }
+
+    /// Puts a handle under a number that has none, if there is one to put.
+    fn set(&mut self, number: u32, handle: Option<Handle>) -> Result<(), NoMemory>
+        requires { handle_at self.old number ≡ None }
+        ensures sets { OnOk result (SetsHandle self.old self.new number handle) }
+    {
+        match handle {
+            Some(handle) => self.put(number, handle),
+            None => Ok(()),
+        }
+    }
+
     /// Gives a handle other work.
     fn set_work(&mut self, number: u32, work: Option<Work>)
         ensures sets { SetsHandle self.old self.new number (with_work work (handle_at self.old number)) }
@@ -249,9 +288,38 @@ impl World {
         }
     }
 
-    /// Why a step that needs a free number isn't valid.
+    fn set_ignoring(&mut self, number: u32)
+        ensures sets { SetsHandle self.old self.new number (with_ignoring (handle_at self.old number)) }
+    {
+        if let Some(handle) = self.handles.get_mut(&number) {
+            handle.state.ignore_replacements = true;
+        }
+    }
+
+    /// Why an open step isn't valid.
+    fn why_not_open(
+        &self,
+        alloc: Global,
+        number: u32,
+        path: &PathText,
+        folders: &PathList,
+        replacements: &IdPairs,
+    ) -> Result<Option<Why>, NoMemory>
+        ensures { IfOk result (λ why. why ≡ Rattle.gix_odb_world.specs.Valid.why_not_open (phase_of_handle (handle_at self.now number)) (is_openable path.now folders.now replacements.now)) }
+    {
+        if let Some(why) = self.why_not_free(number) {
+            return Ok(Some(why));
+        }
+        if opening::is_good(alloc, path, folders, replacements)? {
+            Ok(None)
+        } else {
+            Ok(Some(Why::BadOpen))
+        }
+    }
+
+    /// Why a number isn't free.
     fn why_not_free(&self, number: u32) -> Option<Why>
-        ensures { result ≡ Rattle.gix_odb_world.specs.Valid.why_not_free (phase_of_handle (handle_at self.now number)) }
+        ensures { result ≡ Rattle.gix_odb_world.specs.Valid.why_not_open (phase_of_handle (handle_at self.now number)) true }
     {
         match self.handles.get(&number) {
             None => None,
@@ -306,20 +374,49 @@ impl World {
     }
 }
 
-/// Carries out the one call of the disk of a piece of work: what it did, and the reply.
+/// Carries out the one call of the disk that a piece of work names: what it did, and the work after the answer.
 fn carried_out(
     alloc: Global,
     disk: &mut MemDisk,
-    store: &Store,
+    state: &HandleState,
     work: Work,
-) -> Result<(Did, Reply), NoMemory>
-    ensures did { IfOk result (λ done. done.0 ≡ did_of (ask_of store.now.path work) (answer_now disk.old (ask_of store.now.path work))) }
-    ensures reply { IfOk result (λ done. done.1 ≡ reply_of store.now.path store.now.slots work (answer_now disk.old (ask_of store.now.path work))) }
-    ensures counted { OnOk result (disk.new ≡ after_call disk.old) }
+) -> Result<(Did, Work), NoMemory>
+    ensures did { IfOk result (λ done. done.0 ≡ did_now disk.old (ask_in state.now.objects work)) }
+    ensures work { IfOk result (λ done. done.1 ≡ work_now disk.old state.now work (ask_in state.now.objects work)) }
+    ensures left { OnOk result (disk.new ≡ disk_now disk.old (ask_in state.now.objects work)) }
 {
-    let ask = machine::ask(alloc, store, work)?;
+    let Some(ask) = work.disk_ask(alloc, state)? else {
+        return Ok((Did::Nothing, work));
+    };
     let answer = disk.carry_out(alloc, &ask)?;
     let did = Did::of(alloc, &ask, &answer)?;
-    let reply = machine::reply(alloc, store, work, answer)?;
-    Ok((did, reply))
+    let work = work.feed(alloc, state, answer)?;
+    Ok((did, work))
+}
+
+/// What a turn came to that left its work so, and the handle after it.
+fn settled(state: HandleState, work: Work) -> (Outcome, Option<Handle>)
+    ensures outcome { result.0 ≡ outcome_of (result_in work) }
+    ensures handle { result.1 ≡ after_turn state (result_in work) }
+{
+    match work.into_reply() {
+        Ok(reply) => {
+            let handle = at_rest(state, &reply);
+            (Outcome::Reply(reply), handle)
+        }
+        Err(work) => {
+            let work = Some(work);
+            (Outcome::Pending, Some(Handle { state, work }))
+        }
+    }
+}
+
+/// A handle after the reply to its work: none after a refused opening, else at rest.
+fn at_rest(state: HandleState, reply: &Reply) -> Option<Handle>
+    ensures { result ≡ Rattle.gix_odb_world.specs.Table.after_reply state reply.now }
+{
+    match reply {
+        Reply::Refused(CallError::Open(_)) => None,
+        _ => Some(Handle { state, work: None }),
+    }
 }

@@ -1,22 +1,17 @@
-use crate::call::{Call, CallError, Reply};
-use crate::init::{Options, Slots};
-use crate::loose::find::Error as LooseError;
-use crate::{Line, Outcome, Step, Why, World, bound_of, find, init, is_valid};
-use gix_hash::ObjectId;
+use super::fixtures::{
+    FILE, empty_blob, first_other, make_dir, opening, store, store_with, told, told_misuse,
+};
+use crate::{Call, Line, Outcome, Step, World, bound_of, is_valid};
 use odb_disk::{ByteList, Change, MemDisk, PathText};
 use std::alloc::Global;
 use std::test::Fail;
-
-// Git's id of the empty blob, and the path of its file below `/o`.
-const EMPTY_BLOB: &[u8; 40] = b"e69de29bb2d1d6434b8b29ae775ad8c2e48c5391";
-
-const FILE: &str = "/o/e6/9de29bb2d1d6434b8b29ae775ad8c2e48c5391";
 
 /// A step of the tests: all are of handle 0, the store `/o` and the file of the empty blob.
 #[derive(Clone, Copy)]
 enum Act {
     Open,
     Close,
+    Ignore,
     Find,
     Turn,
     Put,
@@ -26,17 +21,12 @@ enum Act {
 
 fn step_of(alloc: Global, act: Act) -> Result<Step, Fail> {
     Ok(match act {
-        Act::Open => Step::Open {
-            handle: 0,
-            path: PathText::parse(alloc, "/o")?,
-            options: Options {
-                slots: Slots::Given(32),
-            },
-        },
+        Act::Open => opening(alloc, &[], &[], None)?,
         Act::Close => Step::Close { handle: 0 },
+        Act::Ignore => Step::Ignore { handle: 0 },
         Act::Find => Step::Start {
             handle: 0,
-            call: Call::Find(ObjectId::from_hex(EMPTY_BLOB)?),
+            call: Call::Find(empty_blob()?),
         },
         Act::Turn => Step::Turn { handle: 0 },
         Act::Put => Step::Disk(Change::PutFile {
@@ -60,95 +50,6 @@ fn steps_of(alloc: Global, acts: &[Act]) -> Result<Vec<Step>, Fail> {
         steps.push(step_of(alloc, *act)?)?;
     }
     Ok(steps)
-}
-
-fn make_dir(alloc: Global, disk: &mut MemDisk, text: &str) -> Result<(), Fail> {
-    let path = PathText::parse(alloc, text)?;
-    disk.change(alloc, &Change::MakeDir { path, dev: 0 })?;
-    Ok(())
-}
-
-/// A disk with the objects directory `/o` and the folder of the empty blob.
-fn store(alloc: Global, faults: &[u64]) -> Result<MemDisk, Fail> {
-    let mut disk = MemDisk::with_faults(alloc, faults)?;
-    make_dir(alloc, &mut disk, "/o")?;
-    make_dir(alloc, &mut disk, "/o/e6")?;
-    Ok(disk)
-}
-
-/// The same with a file of the empty blob.
-fn store_with(alloc: Global, faults: &[u64], bytes: &[u8]) -> Result<MemDisk, Fail> {
-    let mut disk = store(alloc, faults)?;
-    let path = PathText::parse(alloc, FILE)?;
-    let bytes = ByteList::from_slice(alloc, bytes)?;
-    let time = 1;
-    disk.change(alloc, &Change::PutFile { path, time, bytes })?;
-    Ok(disk)
-}
-
-/// An outcome in a few words.
-fn told(outcome: &Outcome) -> &'static str {
-    match outcome {
-        Outcome::Applied => "applied",
-        Outcome::Pending => "pending",
-        Outcome::Reply(reply) => told_reply(reply),
-        Outcome::Misuse(why) => told_misuse(*why),
-    }
-}
-
-fn told_misuse(why: Why) -> &'static str {
-    match why {
-        Why::HandleTaken => "handle taken",
-        Why::NoHandle => "no handle",
-        Why::NotRunning => "not running",
-        Why::Busy => "busy",
-        Why::ImpossibleChange => "impossible change",
-    }
-}
-
-fn told_reply(reply: &Reply) -> &'static str {
-    match reply {
-        Reply::Opened { slots: 32 } => "32 slots",
-        Reply::Opened { .. } => "opened",
-        Reply::Found { kind, bytes } => told_object(*kind, bytes.as_slice()),
-        Reply::NotFound => "not found",
-        Reply::Refused(CallError::Open(init::Error::Io)) => "opening failed",
-        Reply::Refused(CallError::Open(_)) => "no opening",
-        Reply::Refused(CallError::Find(find::Error::Loose(error))) => told_loose(error),
-        Reply::Refused(CallError::Find(find::Error::NoMemory)) => "no memory",
-    }
-}
-
-fn told_object(kind: gix_object::Kind, bytes: &[u8]) -> &'static str {
-    match kind {
-        gix_object::Kind::Blob if bytes.is_empty() => "the empty blob",
-        _ => "found",
-    }
-}
-
-fn told_loose(error: &LooseError) -> &'static str {
-    match error {
-        LooseError::SizeMismatch {
-            actual: 1,
-            expected: 0,
-            ..
-        } => "size mismatch",
-        LooseError::SizeMismatch { .. } => "other sizes",
-        LooseError::Decode => "no header",
-        LooseError::Io { path, .. } if !path.is_root() => "loose io",
-        LooseError::Io { .. } => "another path",
-        LooseError::NoMemory => "no memory",
-    }
-}
-
-/// The place of the first outcome that isn't told so, or of the end of the shorter list.
-fn first_other(outcomes: &[Outcome], want: &[&str]) -> Option<usize> {
-    for (i, outcome) in outcomes.iter().enumerate() {
-        if want.get(i) != Some(&told(outcome)) {
-            return Some(i);
-        }
-    }
-    (outcomes.len() != want.len()).then_some(outcomes.len())
 }
 
 // A header that is read as data, or a path whose digits are split elsewhere.
@@ -207,10 +108,12 @@ fn tells_each_misuse(rt: HostRuntime) -> Result<(), Fail> {
     let rows = [
         (Act::Turn, "no handle"),
         (Act::Close, "no handle"),
+        (Act::Ignore, "no handle"),
         (Act::Find, "no handle"),
         (Act::Open, "applied"),
         (Act::Open, "handle taken"),
         (Act::Close, "busy"),
+        (Act::Ignore, "busy"),
         (Act::Find, "busy"),
         (Act::Turn, "32 slots"),
         (Act::Turn, "not running"),
@@ -219,6 +122,7 @@ fn tells_each_misuse(rt: HostRuntime) -> Result<(), Fail> {
         (Act::Turn, "not found"),
         (Act::Remove, "impossible change"),
         (Act::Make, "impossible change"),
+        (Act::Ignore, "applied"),
         (Act::Put, "applied"),
         (Act::Close, "applied"),
     ];

@@ -1,4 +1,4 @@
-use Rattle.gix_odb_world.proofs.RunLemmas.{explains_none}
+use Rattle.gix_odb_world.proofs.WorldLemmas.{explains_none}
 use Rattle.gix_odb_world.proofs.world.World.new.Goals as goal
 
 pub returns : goal.returns

@@ -1,7 +1,9 @@
-use Rattle.std.proofs.Common.{sym}
+use Rattle.std.proofs.Common.{sym, ap}
 use Rattle.std.proofs.lemmas.Result.{on_ok_weaker}
 use Rattle.gix_odb_world.specs.declared.step.Step.TheVariants as steps
-use Rattle.gix_odb_world.proofs.StepLemmas.{misused, begun}
+use Rattle.gix_odb_world.specs.declared.work.Work.TheVariants.{Calling}
+use Rattle.gix_odb_world.proofs.StepLemmas.{misused}
+use Rattle.gix_odb_world.proofs.StartLemmas.{begun}
 use Rattle.gix_odb_world.proofs.world.World.start.Goals as goal
 
 pub returns-in-Some-clause-continues : goal.returns-in-Some-clause-continues
@@ -9,4 +11,6 @@ returns-in-Some-clause-continues c = on_ok_weaker c.misuse.result (misused c.arg
 
 pub returns-clause-continues : goal.returns-clause-continues
 returns-clause-continues c =
-    on_ok_weaker c.note.result (begun c.args.self.now c.set_work.new.self c.note.new.self c.args.number c.args.call (sym c.in_default.ensures) c.set_work.ensures.sets) c.note.ensures.notes
+    on_ok_weaker c.note.result
+    (begun c.args.self.now c.set_work.new.self c.note.new.self c.args.number c.args.call c.in-Some-get.handle.now (Calling c.in_ok-state.state) (sym c.in_default.ensures)
+    (sym c.in-Some-get.ensures.value) (ap Calling c.in_ok-state.ensures) c.set_work.ensures.sets) c.note.ensures.notes

@@ -1,0 +1,63 @@
+-- A call of a disk in memory fails where its number is listed, and nowhere else.
+use Rattle.std.proofs.Common.{◌≡◌, ℕ, Bool, true, false, List, Ok, Err, Result, refl}
+use Rattle.std.specs.Prelude.{if◌then◌else◌}
+use Rattle.odb_disk.specs.Tree.{Tree, tree_of}
+use Rattle.odb_disk.specs.Tree.Follow.{Refusal, Absent, WrongKind, LinkLoop, looked, read_of}
+use Rattle.odb_disk.specs.Tree.Write as writing
+use Rattle.odb_disk.specs.Tree.Write.{change_of_make_dir, change_of_new_file, change_of_append, change_of_rename, change_of_remove}
+use Rattle.odb_disk.specs.MemDisk.{Volume, next_fails, after_call}
+use Rattle.odb_disk.specs.Ask.{answer_of, answer_now, meta_answer, file_answer, write_answer, error_of, error_of_write}
+use Rattle.odb_disk.specs.declared.change.Change.{Change}
+use Rattle.odb_disk.specs.declared.disk.Meta.{Meta}
+use Rattle.odb_disk.specs.declared.disk.DiskError.TheVariants as disk_errors
+use Rattle.odb_disk.specs.declared.ask.DiskAsk.{DiskAsk}
+use Rattle.odb_disk.specs.declared.ask.DiskAsk.TheVariants.{Look, Read, MakeDir, NewFile, Append, Rename, Remove}
+use Rattle.odb_disk.specs.declared.ask.DiskAnswer.{DiskAnswer}
+use Rattle.odb_disk.specs.declared.ask.DiskAnswer.TheVariants as answers
+use Rattle.gix_odb_world.specs.Table.{has_failed}
+
+has_failed-error : (refusal : Refusal) → has_failed (answers.Refused (error_of refusal)) ≡ false
+has_failed-error Absent = refl
+has_failed-error WrongKind = refl
+has_failed-error LinkLoop = refl
+
+has_failed-meta : (told : Result Meta Refusal) → has_failed (meta_answer told) ≡ false
+has_failed-meta (Ok found) = refl
+has_failed-meta (Err refusal) = has_failed-error refusal
+
+has_failed-file : (told : Result (List ℕ × ℕ) Refusal) → has_failed (file_answer told) ≡ false
+has_failed-file (Ok file) = refl
+has_failed-file (Err refusal) = has_failed-error refusal
+
+has_failed-error_write : (refusal : writing.Refusal) → has_failed (answers.Refused (error_of_write refusal)) ≡ false
+has_failed-error_write writing.Absent = refl
+has_failed-error_write writing.WrongKind = refl
+has_failed-error_write writing.LinkLoop = refl
+has_failed-error_write writing.Exists = refl
+has_failed-error_write writing.NotEmpty = refl
+
+has_failed-write : (told : Result Change writing.Refusal) → has_failed (write_answer told) ≡ false
+has_failed-write (Ok change) = refl
+has_failed-write (Err refusal) = has_failed-error_write refusal
+
+has_failed-told : (tree : Tree) (ask : DiskAsk) → has_failed (answer_of tree ask) ≡ false
+unfolding answer_of
+has_failed-told tree (Look path follow) = has_failed-meta (looked tree path follow)
+has_failed-told tree (Read path) = has_failed-file (read_of tree path)
+has_failed-told tree (MakeDir path) = has_failed-write (change_of_make_dir tree path)
+has_failed-told tree (NewFile path) = has_failed-write (change_of_new_file tree path)
+has_failed-told tree (Append path bytes) = has_failed-write (change_of_append tree path bytes)
+has_failed-told tree (Rename from to) = has_failed-write (change_of_rename tree from to)
+has_failed-told tree (Remove path) = has_failed-write (change_of_remove tree path)
+
+has_failed-either : (fails : Bool) (answer : DiskAnswer) → has_failed answer ≡ false → has_failed (if fails then answers.Refused disk_errors.Failed else answer) ≡ fails
+has_failed-either true answer told = refl
+has_failed-either false answer told = told
+
+pub has_failed-now : (disk : Volume) (ask : DiskAsk) → has_failed (answer_now disk ask) ≡ next_fails disk
+has_failed-now disk ask = has_failed-either (next_fails disk) (answer_of (tree_of disk.state) ask) (has_failed-told (tree_of disk.state) ask)
+
+-- a call changes no tree
+pub state-after_call : (disk : Volume) → (after_call disk).state ≡ disk.state
+unfolding after_call
+state-after_call disk = refl

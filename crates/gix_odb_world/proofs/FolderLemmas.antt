@@ -1,0 +1,160 @@
+-- What a folder's reply says of the moment at which the disk answered.
+use Rattle.std.proofs.Common.{◌≡◌, ℕ, ◌≤◌, Bool, true, false, List, Contains, Option, Some, None, Result, Ok, Err, cond, refl, sym, subst, arith}
+use Rattle.odb_base.specs.Path.{Path}
+use Rattle.odb_disk.specs.Tree.{Tree, tree_of}
+use Rattle.odb_disk.specs.Tree.Follow.{read_of}
+use Rattle.odb_disk.specs.MemDisk.{Volume, next_fails, after_call}
+use Rattle.odb_disk.specs.Ask.{answer_now, answer_of, after_ask}
+use Rattle.odb_disk.proofs.WriteLaws.{after_ask-look, after_ask-read}
+use Rattle.odb_disk.specs.declared.ask.DiskAsk.{DiskAsk}
+use Rattle.odb_disk.specs.declared.ask.DiskAsk.TheVariants as asks
+use Rattle.odb_disk.specs.declared.ask.DiskAnswer.{DiskAnswer}
+use Rattle.odb_disk.specs.declared.ask.DiskAnswer.TheVariants as answers
+use Rattle.odb_disk.specs.declared.disk.DiskError.TheVariants as disk_errors
+use Rattle.gix_hash.specs.declared.object_id.ObjectId.{ObjectId}
+use Rattle.gix_object.specs.declared.kind.Kind.{Kind}
+use Rattle.gix_odb_loose.specs.Causes.{Cause}
+use Rattle.gix_odb_loose.specs.Causes.Laws.{Cause-wider}
+use Rattle.gix_odb_loose.specs.LooseFile.{LeadsToFile, loose_path}
+use Rattle.gix_odb_loose.specs.LooseFile as loose_files
+use Rattle.gix_odb_loose.specs.LooseOrder.{disk_ask_of, reply_of, fed, tested_by, found_by, header_by}
+use Rattle.gix_odb_loose.specs.Replies.{Says}
+use Rattle.gix_odb_loose.specs.Replies.Laws.{Says-now}
+use Rattle.gix_odb_loose.specs.declared.call.LooseJob.TheVariants as jobs
+use Rattle.gix_odb_loose.specs.declared.call.LooseReply.{LooseReply}
+use Rattle.gix_odb_loose.specs.declared.call.LooseReply.TheVariants as loose_replies
+use Rattle.gix_odb_loose.specs.declared.find.Error.{Error}
+use Rattle.gix_odb_loose.specs.declared.find.Error.TheVariants as errors
+use Rattle.gix_odb_world.specs.declared.call.Call.{Call}
+use Rattle.gix_odb_world.specs.declared.call.Call.TheVariants.{Find, Header, Test}
+use Rattle.gix_odb_world.specs.declared.call_state.Lead.{Lead}
+use Rattle.gix_odb_world.specs.declared.call_state.Lead.TheVariants as leads
+use Rattle.gix_odb_world.specs.declared.find.Header.TheVariants as headers
+use Rattle.gix_odb_world.specs.CallOrder.{asking, job_of, led_by, loose_store}
+use Rattle.gix_odb_world.specs.Causes.{GaveSometime, LooseCause}
+use Rattle.gix_odb_world.specs.Contents.{Answer, Object, HeaderOf, Presence, LooseFile, Holds, folder_list}
+use Rattle.gix_odb_world.specs.Event.{Store}
+use Rattle.gix_odb_world.specs.Held.{Held}
+use Rattle.gix_odb_world.specs.Promise.{Keeps, claim_of}
+
+-- each call asks a folder with a look or a read, which leaves the tree as it is
+pub ask_found : (limit : Option ℕ) (call : Call) (id : ObjectId) (folder : Path)
+    → (ask : DiskAsk) × (disk_ask_of (asking limit call id folder) ≡ Some ask) × ((disk : Volume) → after_ask disk ask ≡ after_call disk)
+ask_found limit (Find asked) id folder = (asks.Read (loose_path folder id), refl, λ disk. after_ask-read disk (loose_path folder id))
+ask_found limit (Header asked) id folder = (asks.Read (loose_path folder id), refl, λ disk. after_ask-read disk (loose_path folder id))
+ask_found limit (Test asked) id folder = (asks.Look (loose_path folder id) true, refl, λ disk. after_ask-look disk (loose_path folder id) true)
+
+-- What a folder's reply leads to: an answer that was held or an error with its cause, a miss by a call of the disk
+-- that didn't fail, or an error with its cause that is noted.
+abbrev pub LeadSays : (ℕ → Tree) → Type 0 → Store → ℕ → ℕ → Call → ObjectId → Path → (fails : Bool) → Lead → Type 0
+LeadSays trees Failed store begun now call id folder fails (leads.Ends reply) = Keeps trees Failed store begun now call id (claim_of call reply)
+LeadSays trees Failed store begun now call id folder fails leads.Misses = (fails ≡ false) × (¬ (LeadsToFile (trees now) (loose_path folder id)))
+LeadSays trees Failed store begun now call id folder fails (leads.Notes error) = LooseCause trees Failed store begun now call id error
+
+-- a call that failed is no miss
+sound_test : (at : Path) (fails : Bool) (told : DiskAnswer) → tested_by at (cond fails (answers.Refused disk_errors.Failed) told) ≡ Ok false → fails ≡ false
+sound_test at true told e = absurd (cc e)
+sound_test at false told e = refl
+
+sound_find : (at : Path) (limit : Option ℕ) (fails : Bool) (told : DiskAnswer) → found_by at limit (cond fails (answers.Refused disk_errors.Failed) told) ≡ Ok None → fails ≡ false
+sound_find at limit true told e = absurd (cc e)
+sound_find at limit false told e = refl
+
+sound_header : (at : Path) (fails : Bool) (told : DiskAnswer) → header_by at (cond fails (answers.Refused disk_errors.Failed) told) ≡ Ok None → fails ≡ false
+sound_header at true told e = absurd (cc e)
+sound_header at false told e = refl
+
+module _ (trees : ℕ → Tree) (Failed : Type 0) (store : Store) (begun now : ℕ) (later : begun ≤ now) (disk : Volume) (shown : trees now ≡ tree_of disk.state)
+    (fails : next_fails disk ≡ true → Failed) (id : ObjectId) (folder : Path) (among : Contains (folder_list store.parts) folder) where
+  abbrev at : Path
+  at = loose_path folder id
+
+  abbrev SaysNow : Call → LooseReply → Type 0
+  SaysNow call reply = Says at store.parts.limit (job_of call id) (tree_of disk.state) (next_fails disk ≡ true) ⊥ reply
+
+  abbrev Leads : Call → Lead → Type 0
+  Leads call lead = LeadSays trees Failed store begun now call id folder (next_fails disk) lead
+
+  -- a cause of the last moment is one of the call
+  cause_now : (call : Call) (error : Error) → Cause (job_of call id) at store.parts.limit (λ read. read ≡ read_of (tree_of disk.state) at) (next_fails disk ≡ true) ⊥ error
+      → LooseCause trees Failed store begun now call id error
+  cause_now call error c =
+      record {
+        folder = folder;
+        among = among;
+        cause = Cause-wider (λ read. read ≡ read_of (tree_of disk.state) at) (GaveSometime trees begun now at)
+            (λ read is. record { moment = now; from = later; to = omega arith; was = subst (λ tree. read ≡ read_of tree at) (sym shown) is })
+            (next_fails disk ≡ true) Failed ⊥ ⊥ fails (λ never. never) (job_of call id) at store.parts.limit error c;
+      }
+
+  -- what the file at the path holds now was held in the call
+  held_now : (call : Call) (answer : Answer) (P : List ℕ → Type 0) → ((bytes : List ℕ) → P bytes → Holds store.parts call (LooseFile bytes) answer)
+      → loose_files.Gives (read_of (tree_of disk.state) at) P → Held trees store.parts begun now call id answer
+  held_now call answer P holds gives =
+      record {
+        folder = folder;
+        among = among;
+        moment = now;
+        from = later;
+        to = omega arith;
+        contents = LooseFile gives.bytes;
+        shown = (gives.time, subst (λ tree. read_of tree at ≡ Ok (gives.bytes, gives.time)) (sym shown) gives.given);
+        holds = holds gives.bytes gives.holds;
+      }
+
+  missed_now : ¬ (LeadsToFile (tree_of disk.state) at) → ¬ (LeadsToFile (trees now) at)
+  missed_now missed = subst (λ tree. ¬ (LeadsToFile tree at)) (sym shown) missed
+
+  find_says : (asked : ObjectId) (result : Result (Option (Kind × List ℕ)) Error) → SaysNow (Find asked) (loose_replies.Found result) → (result ≡ Ok None → next_fails disk ≡ false)
+      → Leads (Find asked) (led_by (loose_replies.Found result))
+  find_says asked (Ok (Some x)) says sound =
+      held_now (Find asked) (Object x.0 x.1) (λ bytes. loose_files.HoldsObject store.parts.limit bytes x.0 x.1) (λ bytes h. h) (says.held (loose_files.Object x.0 x.1) refl)
+  find_says asked (Ok None) says sound = (sound refl, missed_now (says.missed tt))
+  find_says asked (Err error) says sound = cause_now (Find asked) error (says.refused error refl)
+
+  header_says : (asked : ObjectId) (result : Result (Option (ℕ × Kind)) Error) → SaysNow (Header asked) (loose_replies.Header result) → (result ≡ Ok None → next_fails disk ≡ false)
+      → Leads (Header asked) (led_by (loose_replies.Header result))
+  header_says asked (Ok (Some x)) says sound =
+      held_now (Header asked) (HeaderOf (headers.Loose x.1 x.0)) (λ bytes. loose_files.HoldsHeader bytes x.1 x.0) (λ bytes h. h) (says.held (loose_files.HeaderOf x.1 x.0) refl)
+  header_says asked (Ok None) says sound = (sound refl, missed_now (says.missed tt))
+  header_says asked (Err error) says sound = cause_now (Header asked) error (says.refused error refl)
+
+  test_says : (asked : ObjectId) (result : Result Bool Error) → SaysNow (Test asked) (loose_replies.Contains result) → (result ≡ Ok false → next_fails disk ≡ false)
+      → Leads (Test asked) (led_by (loose_replies.Contains result))
+  test_says asked (Ok true) says sound = held_now (Test asked) Presence (λ bytes. Unit {0}) (λ bytes h. h) (says.held loose_files.Presence refl)
+  test_says asked (Ok false) says sound = (sound refl, missed_now (says.missed tt))
+  test_says asked (Err errors.NoMemory) says sound = cause_now (Test asked) errors.NoMemory (says.refused errors.NoMemory refl)
+  test_says asked (Err errors.Decode) says sound = cause_now (Test asked) errors.Decode (says.refused errors.Decode refl)
+  test_says asked (Err (errors.OutOfMemory size)) says sound = cause_now (Test asked) (errors.OutOfMemory size) (says.refused (errors.OutOfMemory size) refl)
+  test_says asked (Err (errors.Io action path)) says sound = cause_now (Test asked) (errors.Io action path) (says.refused (errors.Io action path) refl)
+  test_says asked (Err (errors.SizeMismatch actual expected path)) says sound =
+      cause_now (Test asked) (errors.SizeMismatch actual expected path) (says.refused (errors.SizeMismatch actual expected path) refl)
+
+  -- the folder's call has its reply after the disk's answer, which says so much
+  pub folder_says : (call : Call)
+      → (reply : LooseReply) × (reply_of (fed (asking store.parts.limit call id folder) (answer_now disk (ask_found store.parts.limit call id folder).0)) ≡ Some reply) × Leads call (led_by reply)
+  unfolding ask_found
+  folder_says (Find asked) =
+      let given = answer_now disk (asks.Read at) in
+      let result = found_by at store.parts.limit given in (
+        loose_replies.Found result,
+        refl,
+        find_says asked result (Says-now (loose_store store.parts.limit id folder) (jobs.Find id) disk (asks.Read at) (loose_replies.Found result) refl refl)
+            (sound_find at store.parts.limit (next_fails disk) (answer_of (tree_of disk.state) (asks.Read at))),
+      )
+  folder_says (Header asked) =
+      let given = answer_now disk (asks.Read at) in
+      let result = header_by at given in (
+        loose_replies.Header result,
+        refl,
+        header_says asked result (Says-now (loose_store store.parts.limit id folder) (jobs.Header id) disk (asks.Read at) (loose_replies.Header result) refl refl)
+            (sound_header at (next_fails disk) (answer_of (tree_of disk.state) (asks.Read at))),
+      )
+  folder_says (Test asked) =
+      let given = answer_now disk (asks.Look at true) in
+      let result = tested_by at given in (
+        loose_replies.Contains result,
+        refl,
+        test_says asked result (Says-now (loose_store store.parts.limit id folder) (jobs.Contains id) disk (asks.Look at true) (loose_replies.Contains result) refl refl)
+            (sound_test at (next_fails disk) (answer_of (tree_of disk.state) (asks.Look at true))),
+      )

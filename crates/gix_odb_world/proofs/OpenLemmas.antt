@@ -1,0 +1,110 @@
+-- The opening and the closing of a handle, and the setting of its mode.
+use Rattle.std.proofs.Common.{◌≡◌, ℕ, ◌+◌, Bool, true, false, List, [], ◌∷◌, ◌++◌, length, Some, None, Option, refl, sym, ◌∙◌, ap, subst, arith}
+use Rattle.std.specs.Map.{keys_of}
+use Rattle.std.specs.Ordering.{eq_by_cmp}
+use Rattle.std.proofs.lemmas.Bool.{and_parts}
+use Rattle.std.proofs.lemmas.List.{length-append}
+use Rattle.std.proofs.lemmas.Map.Made.{update_all_none}
+use Rattle.odb_base.specs.Path.{Path}
+use Rattle.odb_disk.specs.MemDisk.{Volume}
+use Rattle.gix_hash.specs.declared.object_id.ObjectId.{ObjectId}
+use Rattle.gix_odb_world.specs.declared.step.Step.TheVariants as steps
+use Rattle.gix_odb_world.specs.declared.step.Outcome.TheVariants as outcomes
+use Rattle.gix_odb_world.specs.declared.step.Why.{Why}
+use Rattle.gix_odb_world.specs.declared.step.Why.TheVariants.{BadOpen}
+use Rattle.gix_odb_world.specs.declared.init.Options.{Options}
+use Rattle.gix_odb_world.specs.declared.open_state.OpenState.TheVariants.{Looking}
+use Rattle.gix_odb_world.specs.declared.record.Did.TheVariants.{Nothing}
+use Rattle.gix_odb_world.specs.declared.handle.Handle.{Handle}
+use Rattle.gix_odb_world.specs.declared.handle.HandleState.{HandleState}
+use Rattle.gix_odb_world.specs.declared.work.Work.{Work}
+use Rattle.gix_odb_world.specs.declared.work.Work.TheVariants.{Opening}
+use Rattle.gix_odb_world.specs.declared.world.World.{World}
+use Rattle.gix_odb_world.specs.Contents.{id_cmp}
+use Rattle.gix_odb_world.specs.Event.{Event, Store, Status, Free, Resting, Working, store_at, opening_at, ignoring_from}
+use Rattle.gix_odb_world.specs.Handle.{IsHandleOf, IsOpened}
+use Rattle.gix_odb_world.specs.Run.{IsTurnOf}
+use Rattle.gix_odb_world.specs.Running.{Runs}
+use Rattle.gix_odb_world.specs.Valid.{Phase, NoneThere, Idle, Running, why_not_open, why_not_idle, are_distinct, are_good_folders, is_openable}
+use Rattle.gix_odb_world.specs.World.{Continues, Matches, handle_at}
+use Rattle.gix_odb_world.specs.Table.{SetsHandle, Notes, phase_of_handle, phase_of_work, why_not_now, with_ignoring}
+use Rattle.gix_odb_world.proofs.OpeningLemmas.{IsDistinct-by_count, ids_equal}
+use Rattle.gix_odb_world.proofs.RunLemmas.{none_failed_yet}
+use Rattle.gix_odb_world.proofs.StepLemmas.{applied}
+use Rattle.gix_odb_world.proofs.RunningLemmas.{runs-push}
+
+-- an opening that the event begins has seen nothing
+runs_opening : (first : Volume) (events : List Event) (e : Event) (handle : ℕ) (store : Store) → Runs first (events ++ e ∷ []) handle (opening_at (length events + 1) store)
+runs_opening first events e handle store =
+    let whole : length (events ++ e ∷ []) ≡ length events + 1 = length-append events (e ∷ []) in
+    (omega (arith, whole), (refl, refl, none_failed_yet (events ++ e ∷ []) handle (length events + 1) (omega (arith, whole))))
+
+-- each pair's first id is replaced by its second, where no id is replaced twice
+replacements_same : (path : Path) (folders : List Path) (replacements : List (ObjectId × ObjectId)) (options : Options) (n : ℕ) (state : HandleState) → is_openable path folders replacements ≡ true
+    → IsOpened path folders replacements options state → IsHandleOf (store_at n path folders replacements options) false state
+replacements_same path folders replacements options n state good begun =
+    let distinct = and_parts (are_good_folders path folders) (are_distinct id_cmp (keys_of replacements)) good in
+    record {
+      objects = begun.objects_are;
+      folders = begun.folders_are;
+      replacements = λ id. begun.replacements_are.0 id ∙ update_all_none ids_equal (eq_by_cmp id_cmp) (λ x y. refl) replacements id (IsDistinct-by_count ids_equal (keys_of replacements) distinct.1);
+      mode = begun.ignoring;
+      limit = begun.limit;
+      slots = begun.slots;
+    }
+
+pub opened : (old mid new : World) (number : ℕ) (path : Path) (folders : List Path) (replacements : List (ObjectId × ObjectId)) (options : Options) (state : HandleState)
+    → why_not_open (phase_of_handle (handle_at old number)) true ≡ None → is_openable path folders replacements ≡ true → IsOpened path folders replacements options state
+    → SetsHandle old mid number (Some (record { state = state; work = Some (Opening Looking) })) → Notes mid new outcomes.Applied Nothing None
+    → Continues old (steps.Open number path folders replacements options) new
+opened old mid new number path folders replacements options state free good begun sets notes =
+    applied old mid new (steps.Open number path folders replacements options) number (Some (record { state = state; work = Some (Opening Looking) }))
+    (λ n status. opening_at n (store_at n path folders replacements options))
+    (ap (why_not_open (phase_of_handle (handle_at old number))) good ∙ free) sets notes refl refl (λ other turn. cc) (λ n table. refl)
+    (λ n status match. (replacements_same path folders replacements options n state good begun, refl))
+    (λ first events e status no_turn runs. runs_opening first events e number (store_at (length events + 1) path folders replacements options))
+
+-- a bad opening is told where the number is free
+pub bad_open : (phase : Phase) (openable : Bool) → why_not_open phase true ≡ None → openable ≡ false → why_not_open phase openable ≡ Some BadOpen
+bad_open NoneThere openable free bad = rw bad refl
+bad_open Idle openable free bad = absurd (cc free)
+bad_open Running openable free bad = absurd (cc free)
+
+-- a number that isn't free is told first
+pub taken : (phase : Phase) (openable : Bool) (why : Why) → Some why ≡ why_not_open phase true → why_not_open phase openable ≡ Some why
+taken NoneThere openable why is = absurd (cc is)
+taken Idle openable why is = sym is
+taken Running openable why is = sym is
+
+pub closed : (old mid new : World) (number : ℕ) → why_not_now old (steps.Close number) ≡ None
+    → SetsHandle old mid number None → Notes mid new outcomes.Applied Nothing None → Continues old (steps.Close number) new
+closed old mid new number reason sets notes =
+    applied old mid new (steps.Close number) number None (λ n status. Free)
+    reason sets notes refl refl (λ other turn. cc) (λ n table. refl) (λ n status match. tt) (λ first events e status no_turn runs. tt)
+
+-- ---- the mode of an idle handle
+
+matches_ignoring : (status : Status) (handle : Option Handle) → why_not_idle (phase_of_handle handle) ≡ None
+    → Matches status handle → Matches (ignoring_from status) (with_ignoring handle)
+matches_ignoring Free None idle match = tt
+matches_ignoring Free (Some handle) idle match = absurd match
+matches_ignoring (Resting store ignoring) None idle match = absurd match
+matches_ignoring (Resting store ignoring) (Some handle) idle match =
+    (record { objects = match.0.objects; folders = match.0.folders; replacements = match.0.replacements; mode = refl; limit = match.0.limit; slots = match.0.slots }, match.1)
+matches_ignoring (Working store ignoring begun turns work) None idle match = absurd match
+matches_ignoring (Working store ignoring begun turns work) (Some handle) idle match =
+    absurd (cc (subst (λ (w : Option Work). why_not_idle (phase_of_work w) ≡ None) match.1 idle))
+
+runs_ignoring : (number : ℕ) (first : Volume) (events : List Event) (e : Event) (status : Status) → ((other : ℕ) → ¬ IsTurnOf other e.step)
+    → Runs first events number status → Runs first (events ++ e ∷ []) number (ignoring_from status)
+runs_ignoring number first events e Free no_turn runs = tt
+runs_ignoring number first events e (Resting store ignoring) no_turn runs = tt
+runs_ignoring number first events e (Working store ignoring begun turns work) no_turn runs = runs-push first events e number (Working store ignoring begun turns work) (no_turn number) runs
+
+pub ignored : (old mid new : World) (number : ℕ) → why_not_now old (steps.Ignore number) ≡ None
+    → SetsHandle old mid number (with_ignoring (handle_at old number)) → Notes mid new outcomes.Applied Nothing None → Continues old (steps.Ignore number) new
+ignored old mid new number reason sets notes =
+    applied old mid new (steps.Ignore number) number (with_ignoring (handle_at old number)) (λ n status. ignoring_from status)
+    reason sets notes refl refl (λ other turn. cc) (λ n table. refl)
+    (λ n status match. matches_ignoring status (handle_at old number) reason match)
+    (runs_ignoring number)

@@ -1,0 +1,66 @@
+-- What the reply to an opening or a call promises of the moments from its start to the reply.
+use Rattle.std.specs.Prelude.{◌≡◌, ℕ, ◌≤◌, Bool, true, false}
+use Rattle.odb_disk.specs.Tree.{Tree}
+use Rattle.gix_hash.specs.declared.object_id.ObjectId.{ObjectId}
+use Rattle.gix_odb_world.specs.declared.call.Call.{Call}
+use Rattle.gix_odb_world.specs.declared.call.Call.TheVariants.{Find, Header, Test}
+use Rattle.gix_odb_world.specs.declared.call.Reply.{Reply}
+use Rattle.gix_odb_world.specs.declared.call.Reply.TheVariants as replies
+use Rattle.gix_odb_world.specs.declared.call.CallError.TheVariants as call_errors
+use Rattle.gix_odb_world.specs.declared.find.Error as finding
+use Rattle.gix_odb_world.specs.declared.work.Work.{Work}
+use Rattle.gix_odb_world.specs.declared.work.Work.TheVariants.{Opening, Calling}
+use Rattle.gix_odb_world.specs.Contents.{Answer, Object, HeaderOf, Presence, sought}
+use Rattle.gix_odb_world.specs.Held.{Held, Still}
+use Rattle.gix_odb_world.specs.Event.{Store}
+use Rattle.gix_odb_world.specs.Causes.{Sometime, ShowsDirectory, OpeningCause, FindCause}
+use Rattle.gix_odb_world.specs.OpenOrder.{most_slots}
+
+-- An open store has the slots that were asked for, and its objects directory was shown in the opening.
+pub record Opens (trees : ℕ → Tree) (store : Store) (begun now slots : ℕ) : Type 0 where
+  pub as_asked : slots ≡ store.slots
+  pub not_too_many : slots ≤ most_slots
+  pub directory : Sometime begun now (λ moment. ShowsDirectory (trees moment) store.parts.objects)
+
+-- A reply that the object isn't there: no call of the disk failed in the call, and no sound object of the id lay
+-- still throughout.
+pub record Misses (trees : ℕ → Tree) (Failed : Type 0) (store : Store) (begun now : ℕ) (call : Call) (id : ObjectId) : Type 0 where
+  pub no_failure : ¬ Failed
+  pub none_still : ¬ Still trees store.parts begun now call id
+
+-- what a reply claims of its call: an answer that was held, that the object isn't there, an error with its cause; or
+-- the call never ends with it
+pub data Claim : Type 0 where
+  Holding : (answer : Answer) → Claim
+  Missing : Claim
+  Caused : (error : finding.Error) → Claim
+  Never : Claim
+
+abbrev pub claim_of : Call → Reply → Claim
+claim_of (Find id) (replies.Found kind bytes) = Holding (Object kind bytes)
+claim_of (Find id) replies.NotFound = Missing
+claim_of (Header id) (replies.Header header) = Holding (HeaderOf header)
+claim_of (Header id) replies.NotFound = Missing
+claim_of (Test id) (replies.Tested true) = Holding Presence
+claim_of (Test id) (replies.Tested false) = Missing
+claim_of call (replies.Refused (call_errors.Find error)) = Caused error
+claim_of call reply = Never
+
+-- What a claim says, of the sought id.
+abbrev pub Keeps : (ℕ → Tree) → Type 0 → Store → ℕ → ℕ → Call → ObjectId → Claim → Type 0
+Keeps trees Failed store begun now call id (Holding answer) = Held trees store.parts begun now call id answer
+Keeps trees Failed store begun now call id Missing = Misses trees Failed store begun now call id
+Keeps trees Failed store begun now call id (Caused error) = FindCause trees Failed store begun now call id error
+Keeps trees Failed store begun now call id Never = ⊥
+
+-- What a reply to an opening promises. A reply that an opening never ends with promises what nothing can keep.
+abbrev pub OpeningPromise : (ℕ → Tree) → Type 0 → Store → ℕ → ℕ → Reply → Type 0
+OpeningPromise trees Failed store begun now (replies.Opened slots) = Opens trees store begun now slots
+OpeningPromise trees Failed store begun now (replies.Refused (call_errors.Open error)) = OpeningCause trees Failed store begun now error
+OpeningPromise trees Failed store begun now reply = ⊥
+
+-- What a reply promises.
+abbrev pub Promise : (ℕ → Tree) → Type 0 → Store → (ignoring : Bool) → ℕ → ℕ → Work → Reply → Type 0
+Promise trees Failed store ignoring begun now (Opening state) reply = OpeningPromise trees Failed store begun now reply
+Promise trees Failed store ignoring begun now (Calling state) reply =
+    Keeps trees Failed store begun now state.head.call (sought store.parts ignoring state.head.call) (claim_of state.head.call reply)

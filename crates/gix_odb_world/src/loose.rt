@@ -1,2 +1,0 @@
-//! Loose objects: a file for each.
-pub mod find;

@@ -1,0 +1,71 @@
+//! The order of work of an opening.
+ghost use Rattle.std.specs.Prelude.{◌≡◌, true, IfOk};
+ghost use Rattle.gix_odb_world.specs.OpenOrder.{ask_of, opened, opening_reply};
+ghost use Rattle.gix_odb_world.specs.OpenOrder.{fed as fed_with};
+
+use crate::call::{CallError, Reply};
+use crate::handle::HandleState;
+use crate::init;
+use odb_base::NoMemory;
+use odb_disk::{DiskAnswer, DiskAsk, DiskError, Kind};
+use std::alloc::Global;
+
+/// The most slots that a store may have.
+const MAX_SLOTS: u16 = 32767;
+
+/// Where an opening stands.
+#[derive(Debug, Drop, PartialEq, Eq)]
+pub enum OpenState {
+    /// The objects directory is to be looked at.
+    Looking,
+    Done(Reply),
+}
+
+impl OpenState {
+    /// The call of the disk that comes next; there is none where the opening is done.
+    pub fn disk_ask(&self, alloc: Global, handle: &HandleState) -> Result<Option<DiskAsk>, NoMemory>
+        ensures { IfOk result (λ ask. ask ≡ ask_of handle.now.objects self.now) }
+    {
+        match self {
+            OpenState::Looking => Ok(Some(DiskAsk::Look {
+                path: handle.objects.try_clone(alloc)?,
+                follow: true,
+            })),
+            OpenState::Done(_) => Ok(None),
+        }
+    }
+
+    /// The opening after the answer to its call of the disk.
+    pub fn feed(self, slots: u16, answer: &DiskAnswer) -> OpenState
+        ensures { result ≡ fed_with slots self answer.now }
+    {
+        match self {
+            OpenState::Looking => OpenState::Done(reply_to_look(slots, answer)),
+            OpenState::Done(reply) => OpenState::Done(reply),
+        }
+    }
+}
+
+fn reply_to_look(slots: u16, answer: &DiskAnswer) -> Reply
+    ensures { result ≡ opening_reply slots answer.now }
+{
+    let error = match answer {
+        DiskAnswer::Meta(meta) => return open_as(slots, meta.kind),
+        DiskAnswer::Refused(DiskError::Failed) => init::Error::Io,
+        _ => init::Error::NotADirectory,
+    };
+    Reply::Refused(CallError::Open(error))
+}
+
+fn open_as(slots: u16, kind: Kind) -> Reply
+    ensures { result ≡ opened slots kind }
+{
+    let error = match kind {
+        Kind::Dir if slots <= MAX_SLOTS => return Reply::Opened { slots },
+        Kind::Dir => init::Error::TooManySlots {
+            asked: u64::from(slots),
+        },
+        _ => init::Error::NotADirectory,
+    };
+    Reply::Refused(CallError::Open(error))
+}

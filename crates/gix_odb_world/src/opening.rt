@@ -1,0 +1,99 @@
+//! The conditions of opening, and the state of a handle whose opening begins.
+ghost use Rattle.std.specs.Prelude.{◌≡◌, ◌∷◌, ◌≤◌, IfOk, MatchOption, Some, None, true, false, length};
+ghost use Rattle.std.specs.Map.{keys_of};
+ghost use Rattle.std.specs.BTreeMap.{get, IsFromIterResult};
+ghost use Rattle.odb_base.specs.Path.{path_cmp};
+ghost use Rattle.gix_odb_world.specs.Contents.{id_cmp};
+ghost use Rattle.gix_odb_world.specs.Handle.{IsOpened};
+ghost use Rattle.gix_odb_world.specs.Valid.{are_distinct, is_openable};
+
+use crate::handle::HandleState;
+use crate::init::Options;
+use crate::lists::{self, IdPairs, PathList};
+use gix_hash::ObjectId;
+use odb_base::{NoMemory, PathText};
+use std::alloc::Global;
+use std::collections::{BTreeMap, BTreeSet};
+
+/// The most folders of a store beside its objects directory.
+const MAX_FOLDERS: usize = 255;
+
+/// The state of a handle whose opening begins, or nothing where a condition of opening doesn't hold.
+pub fn begun(
+    alloc: Global,
+    path: &PathText,
+    folders: &PathList,
+    replacements: &IdPairs,
+    options: Options,
+) -> Result<Option<HandleState>, NoMemory>
+    ensures { IfOk result (λ begun. MatchOption begun (is_openable path.now folders.now replacements.now ≡ false)
+        (λ state. (is_openable path.now folders.now replacements.now ≡ true) × IsOpened path.now folders.now replacements.now options state)) }
+{
+    if !are_good_folders(alloc, path, folders)? {
+        return Ok(None);
+    }
+    let Some(replacements) = replacement_map(alloc, replacements)? else {
+        return Ok(None);
+    };
+    Ok(Some(HandleState {
+        objects: path.try_clone(alloc)?,
+        folders: lists::copy_of_paths(alloc, folders)?,
+        replacements,
+        ignore_replacements: false,
+        alloc_limit_bytes: options.alloc_limit_bytes,
+        slots: options.slots.count(),
+    }))
+}
+
+/// Whether the conditions of opening hold.
+pub fn is_good(
+    alloc: Global,
+    path: &PathText,
+    folders: &PathList,
+    replacements: &IdPairs,
+) -> Result<bool, NoMemory>
+    ensures { IfOk result (λ good. good ≡ is_openable path.now folders.now replacements.now) }
+{
+    Ok(are_good_folders(alloc, path, folders)? && replacement_map(alloc, replacements)?.is_some())
+}
+
+// Whether the folders are few enough, all distinct, and none of them the objects directory.
+fn are_good_folders(alloc: Global, path: &PathText, folders: &PathList) -> Result<bool, NoMemory>
+    ensures { IfOk result (λ good. good ≡ Rattle.gix_odb_world.specs.Valid.are_good_folders path.now folders.now) }
+{
+    if folders.len() > MAX_FOLDERS {
+        return Ok(false);
+    }
+    let mut paths = BTreeSet::new(alloc);
+    paths.insert(path.try_clone(alloc)?)?;
+    for folder in folders.as_slice() {
+        paths.insert(folder.try_clone(alloc)?)?;
+    }
+    Ok(paths.len() == folders.len() + 1)
+}
+
+// The replacements by the ids that are replaced, or nothing where one of these comes twice.
+fn replacement_map(
+    alloc: Global,
+    pairs: &IdPairs,
+) -> Result<Option<BTreeMap<ObjectId, ObjectId>>, NoMemory>
+    ensures { IfOk result (λ made. MatchOption made (are_distinct id_cmp (keys_of pairs.now) ≡ false)
+        (λ map. (are_distinct id_cmp (keys_of pairs.now) ≡ true) × IsFromIterResult id_cmp pairs.now map)) }
+{
+    let map = collected(alloc, pairs.as_slice())?;
+    if map.len() == pairs.len() {
+        Ok(Some(map))
+    } else {
+        Ok(None)
+    }
+}
+
+// The map of pairs.
+fn collected(
+    alloc: Global,
+    pairs: &[(ObjectId, ObjectId)],
+) -> Result<BTreeMap<ObjectId, ObjectId>, NoMemory>
+    ensures { IfOk result (IsFromIterResult id_cmp pairs.now) }
+{
+    Ok(pairs.iter().copied().collect(alloc)?)
+}

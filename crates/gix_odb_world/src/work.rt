@@ -1,0 +1,60 @@
+//! What a handle is at work on.
+ghost use Rattle.std.specs.Prelude.{◌≡◌, IfOk};
+ghost use Rattle.gix_odb_world.specs.WorkOrder.{ask_in, result_in};
+ghost use Rattle.gix_odb_world.specs.WorkOrder.{fed as fed_with};
+
+use crate::call::Reply;
+use crate::call_state::CallState;
+use crate::handle::HandleState;
+use crate::open_state::OpenState;
+use odb_base::NoMemory;
+use odb_disk::{DiskAnswer, DiskAsk};
+use std::alloc::Global;
+
+/// What a handle is at work on.
+#[derive(Debug, Drop, PartialEq, Eq)]
+pub enum Work {
+    Opening(OpenState),
+    Calling(CallState),
+}
+
+impl Work {
+    /// The call of the disk that comes next; there is none where the work is done.
+    pub fn disk_ask(&self, alloc: Global, handle: &HandleState) -> Result<Option<DiskAsk>, NoMemory>
+        ensures { IfOk result (λ ask. ask ≡ ask_in handle.now.objects self.now) }
+    {
+        match self {
+            Work::Opening(state) => state.disk_ask(alloc, handle),
+            Work::Calling(state) => state.disk_ask(alloc),
+        }
+    }
+
+    /// The work after the answer to its call of the disk.
+    pub fn feed(
+        self,
+        alloc: Global,
+        handle: &HandleState,
+        answer: DiskAnswer,
+    ) -> Result<Work, NoMemory>
+        ensures { IfOk result (λ work. work ≡ fed_with handle.now.slots handle.now.folders handle.now.alloc_limit_bytes self answer) }
+    {
+        match self {
+            Work::Opening(state) => Ok(Work::Opening(state.feed(handle.slots, &answer))),
+            Work::Calling(state) => Ok(Work::Calling(state.feed(alloc, handle, answer)?)),
+        }
+    }
+
+    /// The reply of work that is done, or the work that goes on.
+    pub fn into_reply(self) -> Result<Reply, Work>
+        ensures { result ≡ result_in self }
+    {
+        match self {
+            Work::Opening(OpenState::Done(reply)) => Ok(reply),
+            Work::Opening(OpenState::Looking) => Err(Work::Opening(OpenState::Looking)),
+            Work::Calling(state) => match state.into_reply() {
+                Ok(reply) => Ok(reply),
+                Err(state) => Err(Work::Calling(state)),
+            },
+        }
+    }
+}
