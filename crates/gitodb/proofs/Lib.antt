@@ -1,4 +1,5 @@
 pub mod LineLemmas
+pub mod OptionLemmas
 pub mod ScriptLemmas
 pub mod SplitLemmas
 mod TextLemmas

@@ -15,24 +15,27 @@ use Rattle.odb_base.specs.Path.{Path, is_name, text_of}
 use Rattle.odb_disk.specs.declared.change.Change.TheVariants as changes
 use Rattle.odb_base.specs.PathLaws.{path_of-text_of}
 use Rattle.gix_hash.specs.ObjectId.{IsId, hex_of, is_lower_text, is_lower_digit}
+use Rattle.gix_hash.specs.declared.object_id.ObjectId.{ObjectId}
 use Rattle.gix_hash.specs.declared.object_id.ObjectId.TheVariants as ids
 use Rattle.gix_hash.proofs.ObjectIdLemmas.{id_of-hex_of, is_lower_text-hex_of}
 use Rattle.gix_odb_world.specs.declared.call.Call.TheVariants as calls
-use Rattle.gix_odb_world.specs.declared.init.Slots.TheVariants.{Given}
 use Rattle.gix_odb_world.specs.declared.step.Step.TheVariants as steps
 use Rattle.gix_odb_world.specs.declared.play.Line.TheVariants.{One, Finish}
 use Rattle.gitodb.specs.declared.script.item.Item.TheVariants as items
 use Rattle.gitodb.specs.declared.script.content.Content.TheVariants.{Bytes}
+use Rattle.gitodb.specs.declared.script.word.Question.{Question}
+use Rattle.gitodb.specs.declared.script.word.Question.TheVariants as questions
+use Rattle.gitodb.specs.declared.script.word.Word.TheVariants as words
 use Rattle.gitodb.specs.Word.{word_of, change_word_of}
 use Rattle.gix_object.specs.declared.kind.Kind.{Kind}
 use Rattle.gix_object.specs.declared.kind.Kind.TheVariants.{Commit, Tree, Blob, Tag}
 use Rattle.gix_object.specs.Kind.{kind_word, kind_of_word}
 use Rattle.gix_object.specs.Loose.{header_of}
-use Rattle.gitodb.specs.Content.{data_of, object_of, content_of}
+use Rattle.gitodb.specs.Content.{data_of, object_of, is_encoded, content_of}
 use Rattle.gitodb.specs.Change.{change_of}
-use Rattle.gitodb.specs.Opening.{handle_of, open_of, slots_in}
+use Rattle.gitodb.specs.Opening.{handle_of}
 use Rattle.gitodb.proofs.SplitLemmas.{slice_split-join}
-use Rattle.gitodb.specs.Line.{Fields, fields_of, line_item, item_of}
+use Rattle.gitodb.specs.Line.{Fields, call_of, fields_of, line_item, item_of}
 
 -- ---- fields and their line
 
@@ -68,10 +71,10 @@ IsAscii-from_test (b ∷ text) h zero = let parts = and_parts (nat_lt b 128) (is
 IsAscii-from_test (b ∷ text) h (suc i) = IsAscii-from_test text (and_parts (nat_lt b 128) (is_ascii text) h).1 i
 
 -- a field of plain bytes, by a test
-IsField-from_tests : (text : List ℕ) → is_ascii text ≡ true → has_no_space text ≡ true → IsField text
-IsField-from_tests text ascii plain = record { utf8 = IsUtf8-from_ascii text (IsAscii-from_test text ascii); no_space = plain }
+pub IsField-word : (text : List ℕ) → is_ascii text ≡ true → has_no_space text ≡ true → IsField text
+IsField-word text ascii plain = record { utf8 = IsUtf8-from_ascii text (IsAscii-from_test text ascii); no_space = plain }
 
-IsField-append : (text more : List ℕ) → IsField text → IsField more → IsField (text ++ more)
+pub IsField-append : (text more : List ℕ) → IsField text → IsField more → IsField (text ++ more)
 IsField-append text more first second = record {
   utf8 = IsUtf8-append text more first.utf8 second.utf8;
   no_space = list_all-append (λ b. not (b == 32)) text more ∙ and_from (has_no_space text) (has_no_space more) first.no_space second.no_space;
@@ -119,7 +122,7 @@ plain_digits (d ∷ digits) h =
     let parts = and_parts (is_ascii_digit d) (all_ascii_digits digits) h in
     and_from (not (d == 32)) (has_no_space digits) (plain_byte d (digit_byte d parts.0)).1 (plain_digits digits parts.1)
 
-IsField-decimal : (n : ℕ) → n < 2 ^ 64 → IsField (decimal n)
+pub IsField-decimal : (n : ℕ) → n < 2 ^ 64 → IsField (decimal n)
 IsField-decimal n small =
     record { utf8 = IsUtf8-from_ascii (decimal n) (IsAscii-decimal n small); no_space = plain_digits (decimal n) (digits_decimal own n small) }
 
@@ -132,9 +135,12 @@ lower_digits_are (d ∷ digits) h =
     (and_from (nat_lt d 128) (is_ascii digits) own.0 rest.0, and_from (not (d == 32)) (has_no_space digits) own.1 rest.1)
 
 IsField-lower : (digits : List ℕ) → is_lower_text digits ≡ true → IsField digits
-IsField-lower digits h = IsField-from_tests digits (lower_digits_are digits h).0 (lower_digits_are digits h).1
+IsField-lower digits h = IsField-word digits (lower_digits_are digits h).0 (lower_digits_are digits h).1
 
-handle_of-decimal : (handle : ℕ) → handle < 2 ^ 32 → handle_of (decimal handle) ≡ Some handle
+pub IsField-hex_of : (id : ObjectId) → IsId id → IsField (hex_of id)
+IsField-hex_of id is = IsField-lower (hex_of id) (is_lower_text-hex_of id is)
+
+pub handle_of-decimal : (handle : ℕ) → handle < 2 ^ 32 → handle_of (decimal handle) ≡ Some handle
 handle_of-decimal handle small = number_below-is (2 ^ 32) (decimal handle) handle (number_of-decimal handle (omega arith)) small
 
 -- ---- what is spelled is read
@@ -142,59 +148,77 @@ handle_of-decimal handle small = number_below-is (2 ^ 32) (decimal handle) handl
 pub item_of-fail : (number : ℕ) → number < 2 ^ 64 → item_of (line_of (codes "fail" ∷ decimal number ∷ [])) ≡ items.Fail number
 unfolding word_of line_item
 item_of-fail number small =
-    item_of-line_of 102 (codes "ail") (decimal number ∷ []) refl (IsField-from_tests (codes "fail") refl refl, (IsField-decimal number small, tt))
+    item_of-line_of 102 (codes "ail") (decimal number ∷ []) refl (IsField-word (codes "fail") refl refl, (IsField-decimal number small, tt))
     ∙ rw (number_of-decimal number small) refl
 
 pub item_of-mkdir : (path : Path) → list_all is_name path ≡ true → IsField (text_of path) → item_of (line_of (codes "mkdir" ∷ text_of path ∷ [])) ≡ items.Setup (changes.MakeDir path 0)
 unfolding word_of line_item change_of
 item_of-mkdir path names field =
-    item_of-line_of 109 (codes "kdir") (text_of path ∷ []) refl (IsField-from_tests (codes "mkdir") refl refl, (field, tt))
+    item_of-line_of 109 (codes "kdir") (text_of path ∷ []) refl (IsField-word (codes "mkdir") refl refl, (field, tt))
     ∙ rw (path_of-text_of path names) refl
 
 pub item_of-remove : (path : Path) → list_all is_name path ≡ true → IsField (text_of path) → item_of (line_of (codes "do" ∷ codes "remove" ∷ text_of path ∷ [])) ≡ items.Play (One (steps.Disk (changes.Remove path)))
 unfolding word_of change_word_of line_item change_of
 item_of-remove path names field =
-    item_of-line_of 100 (codes "o") (codes "remove" ∷ text_of path ∷ []) refl (IsField-from_tests (codes "do") refl refl, (IsField-from_tests (codes "remove") refl refl, (field, tt)))
+    item_of-line_of 100 (codes "o") (codes "remove" ∷ text_of path ∷ []) refl (IsField-word (codes "do") refl refl, (IsField-word (codes "remove") refl refl, (field, tt)))
     ∙ rw (path_of-text_of path names) refl
+
+pub item_of-rename : (path to : Path) → list_all is_name path ≡ true → list_all is_name to ≡ true → IsField (text_of path) → IsField (text_of to) → item_of (line_of (codes "do" ∷ codes "rename" ∷ text_of path ∷ text_of to ∷ [])) ≡ items.Play (One (steps.Disk (changes.Rename path to)))
+unfolding word_of change_word_of line_item change_of
+item_of-rename path to names others field other =
+    item_of-line_of 100 (codes "o") (codes "rename" ∷ text_of path ∷ text_of to ∷ []) refl (IsField-word (codes "do") refl refl, (IsField-word (codes "rename") refl refl, (field, (other, tt))))
+    ∙ rw (path_of-text_of path names, path_of-text_of to others) refl
 
 -- contents of a built kind are put as they are
 pub item_of-put : (path : Path) (time : ℕ) (content bytes : List ℕ) → list_all is_name path ≡ true → IsField (text_of path) → time < 2 ^ 64 → IsField content → content_of content ≡ Bytes bytes → item_of (line_of (codes "put" ∷ text_of path ∷ decimal time ∷ content ∷ [])) ≡ items.Setup (changes.PutFile path time bytes)
 unfolding word_of line_item change_of
 item_of-put path time content bytes names field small content_field spelled =
-    item_of-line_of 112 (codes "ut") (text_of path ∷ decimal time ∷ content ∷ []) refl (IsField-from_tests (codes "put") refl refl, (field, (IsField-decimal time small, (content_field, tt))))
+    item_of-line_of 112 (codes "ut") (text_of path ∷ decimal time ∷ content ∷ []) refl (IsField-word (codes "put") refl refl, (field, (IsField-decimal time small, (content_field, tt))))
     ∙ rw (path_of-text_of path names, number_of-decimal time small, spelled) refl
 
 pub item_of-close : (handle : ℕ) → handle < 2 ^ 32 → item_of (line_of (codes "close" ∷ decimal handle ∷ [])) ≡ items.Play (One (steps.Close handle))
 unfolding word_of line_item
 item_of-close handle small =
-    item_of-line_of 99 (codes "lose") (decimal handle ∷ []) refl (IsField-from_tests (codes "close") refl refl, (IsField-decimal handle (omega arith), tt))
+    item_of-line_of 99 (codes "lose") (decimal handle ∷ []) refl (IsField-word (codes "close") refl refl, (IsField-decimal handle (omega arith), tt))
     ∙ rw (handle_of-decimal handle small) refl
 
 pub item_of-turn : (handle : ℕ) → handle < 2 ^ 32 → item_of (line_of (codes "turn" ∷ decimal handle ∷ [])) ≡ items.Play (One (steps.Turn handle))
 unfolding word_of line_item
 item_of-turn handle small =
-    item_of-line_of 116 (codes "urn") (decimal handle ∷ []) refl (IsField-from_tests (codes "turn") refl refl, (IsField-decimal handle (omega arith), tt))
+    item_of-line_of 116 (codes "urn") (decimal handle ∷ []) refl (IsField-word (codes "turn") refl refl, (IsField-decimal handle (omega arith), tt))
     ∙ rw (handle_of-decimal handle small) refl
 
 pub item_of-finish : (handle : ℕ) → handle < 2 ^ 32 → item_of (line_of (codes "finish" ∷ decimal handle ∷ [])) ≡ items.Play (Finish handle)
 unfolding word_of line_item
 item_of-finish handle small =
-    item_of-line_of 102 (codes "inish") (decimal handle ∷ []) refl (IsField-from_tests (codes "finish") refl refl, (IsField-decimal handle (omega arith), tt))
+    item_of-line_of 102 (codes "inish") (decimal handle ∷ []) refl (IsField-word (codes "finish") refl refl, (IsField-decimal handle (omega arith), tt))
     ∙ rw (handle_of-decimal handle small) refl
 
-pub item_of-find : (handle : ℕ) (bytes : List ℕ) → handle < 2 ^ 32 → IsId (ids.Sha1 bytes) → item_of (line_of (codes "find" ∷ decimal handle ∷ hex_of (ids.Sha1 bytes) ∷ [])) ≡ items.Play (One (steps.Start handle (calls.Find (ids.Sha1 bytes))))
+pub item_of-ignore : (handle : ℕ) → handle < 2 ^ 32 → item_of (line_of (codes "ignore" ∷ decimal handle ∷ [])) ≡ items.Play (One (steps.Ignore handle))
 unfolding word_of line_item
-item_of-find handle bytes small is =
-    item_of-line_of 102 (codes "ind") (decimal handle ∷ hex_of (ids.Sha1 bytes) ∷ []) refl (IsField-from_tests (codes "find") refl refl, (IsField-decimal handle (omega arith), (IsField-lower (hex_of (ids.Sha1 bytes)) (is_lower_text-hex_of (ids.Sha1 bytes) is), tt)))
-    ∙ rw (handle_of-decimal handle small, id_of-hex_of (ids.Sha1 bytes) is) refl
+item_of-ignore handle small =
+    item_of-line_of 105 (codes "gnore") (decimal handle ∷ []) refl (IsField-word (codes "ignore") refl refl, (IsField-decimal handle (omega arith), tt))
+    ∙ rw (handle_of-decimal handle small) refl
 
-pub item_of-open : (handle : ℕ) (path : Path) (slots : ℕ) → handle < 2 ^ 32 → list_all is_name path ≡ true → IsField (text_of path) → slots < 2 ^ 16 → item_of (line_of (codes "open" ∷ decimal handle ∷ text_of path ∷ (codes "slots=" ++ decimal slots) ∷ [])) ≡ items.Play (One (steps.Open handle path (record { slots = Given slots })))
-unfolding word_of line_item open_of slots_in
-item_of-open handle path slots small names field few =
-    let number = IsField-decimal slots (omega arith) in
-    let option = IsField-append (codes "slots=") (decimal slots) (IsField-from_tests (codes "slots=") refl refl) number in
-    item_of-line_of 111 (codes "pen") (decimal handle ∷ text_of path ∷ (codes "slots=" ++ decimal slots) ∷ []) refl (IsField-from_tests (codes "open") refl refl, (IsField-decimal handle (omega arith), (field, (option, tt))))
-    ∙ rw (handle_of-decimal handle small, path_of-text_of path names, number_below-is (2 ^ 16) (decimal slots) slots (number_of-decimal slots (omega arith)) few) refl
+-- questions about an id
+module _ (handle : ℕ) (id : List ℕ) (small : handle < 2 ^ 32) (is : IsId (ids.Sha1 id)) where
+  asked : (b : ℕ) (word : List ℕ) (question : Question) → (b == 35) ≡ false → IsField (b ∷ word) → word_of (b ∷ word) ≡ Some (words.Ask question) → item_of (line_of ((b ∷ word) ∷ decimal handle ∷ hex_of (ids.Sha1 id) ∷ [])) ≡ items.Play (One (steps.Start handle (call_of question (ids.Sha1 id))))
+  unfolding line_item
+  asked b word question no_comment field word_is =
+      item_of-line_of b word (decimal handle ∷ hex_of (ids.Sha1 id) ∷ []) no_comment (field, (IsField-decimal handle (omega arith), (IsField-hex_of (ids.Sha1 id) is, tt)))
+      ∙ rw (word_is, handle_of-decimal handle small, id_of-hex_of (ids.Sha1 id) is) refl
+
+  pub item_of-find : item_of (line_of (codes "find" ∷ decimal handle ∷ hex_of (ids.Sha1 id) ∷ [])) ≡ items.Play (One (steps.Start handle (calls.Find (ids.Sha1 id))))
+  unfolding word_of
+  item_of-find = asked 102 (codes "ind") questions.Find refl (IsField-word (codes "find") refl refl) refl
+
+  pub item_of-header : item_of (line_of (codes "header" ∷ decimal handle ∷ hex_of (ids.Sha1 id) ∷ [])) ≡ items.Play (One (steps.Start handle (calls.Header (ids.Sha1 id))))
+  unfolding word_of
+  item_of-header = asked 104 (codes "eader") questions.Header refl (IsField-word (codes "header") refl refl) refl
+
+  pub item_of-test : item_of (line_of (codes "test" ∷ decimal handle ∷ hex_of (ids.Sha1 id) ∷ [])) ≡ items.Play (One (steps.Start handle (calls.Test (ids.Sha1 id))))
+  unfolding word_of
+  item_of-test = asked 116 (codes "est") questions.Test refl (IsField-word (codes "test") refl refl) refl
 
 -- ---- contents
 
@@ -218,3 +242,8 @@ content_of-loose Commit digits bytes e = rw e refl
 content_of-loose Tree digits bytes e = rw e refl
 content_of-loose Blob digits bytes e = rw e refl
 content_of-loose Tag digits bytes e = rw e refl
+
+-- plain data are the bytes of a file
+pub content_of-plain : (digits bytes : List ℕ) → is_encoded digits ≡ false → data_of digits ≡ Some bytes → content_of digits ≡ Bytes bytes
+unfolding content_of
+content_of-plain digits bytes plain e = rw (plain, e) refl

@@ -6,7 +6,7 @@ use Rattle.hex.specs.declared.error.FromHexError.{FromHexError}
 use Rattle.odb_base.specs.Path.{same_name}
 use Rattle.gix_object.specs.declared.kind.Kind.{Kind}
 use Rattle.gitodb.specs.declared.script.content.Content.{Content}
-use Rattle.gitodb.specs.declared.script.content.Content.TheVariants.{Bytes, Later, Wrong}
+use Rattle.gitodb.specs.declared.script.content.Content.TheVariants.{Bytes, NotBuilt, Wrong}
 use Rattle.gix_object.specs.Kind.{kind_of_word}
 use Rattle.gix_object.specs.Loose.{header_of}
 use Rattle.gitodb.specs.Word.{is_one_of}
@@ -35,26 +35,22 @@ abbrev pub bytes_or_wrong : Option (List ℕ) → Content
 bytes_or_wrong None = Wrong
 bytes_or_wrong (Some bytes) = Bytes bytes
 
-abbrev pub later_or_wrong : Option (List ℕ) → Content
-later_or_wrong None = Wrong
-later_or_wrong (Some bytes) = Later
+abbrev pub unbuilt_encodings : List (List ℕ)
+unbuilt_encodings = codes "@pack" ∷ codes "@idx" ∷ codes "@midx" ∷ []
 
-abbrev pub later_encodings : List (List ℕ)
-later_encodings = codes "@pack" ∷ codes "@idx" ∷ codes "@midx" ∷ []
-
--- the word and what follows its colon: `@loose` is built; `@pack`, `@idx` and `@midx` come later
+-- the word and what follows its colon: `@loose` is built; `@pack`, `@idx` and `@midx` aren't built yet
 abbrev pub encoded : List ℕ → List ℕ → Content
 encoded word rest =
     if same_name word (codes "@loose") then bytes_or_wrong (object_of rest)
-    else if is_one_of later_encodings word then Later
+    else if is_one_of unbuilt_encodings word then NotBuilt
     else Wrong
 
 abbrev pub is_encoded : List ℕ → Bool
 is_encoded text = starts_with nat_eq text (codes "@")
 
--- the contents of a file: with `@` first an encoded object, else plain data, which come later
+-- the contents of a file: with `@` first an encoded object, else plain data
 unfoldable pub content_of : List ℕ → Content
 content_of text =
     if is_encoded text
     then encoded (before_first (λ c. c == 58) text) (after_first (λ c. c == 58) text)
-    else later_or_wrong (data_of text)
+    else bytes_or_wrong (data_of text)

@@ -7,6 +7,7 @@ use Rattle.odb_base.specs.Decimal.{number_of}
 use Rattle.gix_hash.specs.ObjectId.{id_of}
 use Rattle.gix_hash.specs.declared.object_id.ObjectId.{ObjectId}
 use Rattle.gix_hash.specs.declared.object_id.ObjectId.TheVariants as ids
+use Rattle.gix_odb_world.specs.declared.call.Call.{Call}
 use Rattle.gix_odb_world.specs.declared.call.Call.TheVariants as calls
 use Rattle.gix_odb_world.specs.declared.step.Step.{Step}
 use Rattle.gix_odb_world.specs.declared.step.Step.TheVariants as steps
@@ -15,6 +16,8 @@ use Rattle.gitodb.specs.declared.script.change.Spelled.{Spelled}
 use Rattle.gitodb.specs.declared.script.change.Spelled.TheVariants as spelled
 use Rattle.gitodb.specs.declared.script.item.Item.{Item}
 use Rattle.gitodb.specs.declared.script.item.Item.TheVariants as items
+use Rattle.gitodb.specs.declared.script.word.Question.{Question}
+use Rattle.gitodb.specs.declared.script.word.Question.TheVariants as questions
 use Rattle.gitodb.specs.declared.script.word.Word.{Word}
 use Rattle.gitodb.specs.declared.script.word.Word.TheVariants as words
 use Rattle.gitodb.specs.Word.{word_of, change_word_of}
@@ -37,12 +40,12 @@ step_item step = items.Play (One step)
 -- a change of the setup, and one that another program makes while the steps are played
 abbrev pub setup_item : Spelled → Item
 setup_item (spelled.Change change) = items.Setup change
-setup_item spelled.Later = items.NotBuilt
+setup_item spelled.NotBuilt = items.NotBuilt
 setup_item spelled.Wrong = items.Refused
 
 abbrev pub outside_item : Spelled → Item
 outside_item (spelled.Change change) = step_item (steps.Disk change)
-outside_item spelled.Later = items.NotBuilt
+outside_item spelled.NotBuilt = items.NotBuilt
 outside_item spelled.Wrong = items.Refused
 
 -- a line that is what is read, or refused where nothing is
@@ -59,24 +62,31 @@ one_handle fields = None
 abbrev pub for_handle : (ℕ → Item) → Fields → Item
 for_handle item fields = item_or_refused item (one_handle fields)
 
--- a find; ids of 64 digits come later
-abbrev pub find_of : Option ℕ → Option ObjectId → Item
-find_of handle None = items.Refused
-find_of handle (Some (ids.Sha256 bytes)) = items.NotBuilt
-find_of None (Some (ids.Sha1 bytes)) = items.Refused
-find_of (Some handle) (Some (ids.Sha1 bytes)) = step_item (steps.Start handle (calls.Find (ids.Sha1 bytes)))
+-- the call that a question about an id is
+abbrev pub call_of : Question → ObjectId → Call
+call_of questions.Find id = calls.Find id
+call_of questions.Header id = calls.Header id
+call_of questions.Test id = calls.Test id
+
+-- the start of a call on an id; ids of 64 digits aren't built yet
+abbrev pub start_of : (ObjectId → Call) → Option ℕ → Option ObjectId → Item
+start_of call handle None = items.Refused
+start_of call handle (Some (ids.Sha256 bytes)) = items.NotBuilt
+start_of call None (Some (ids.Sha1 bytes)) = items.Refused
+start_of call (Some handle) (Some (ids.Sha1 bytes)) = step_item (steps.Start handle (call (ids.Sha1 bytes)))
 
 -- a line by its first word and the fields after it
 unfoldable pub line_item : Option Word → Fields → Item
 line_item None fields = items.Refused
-line_item (Some words.Later) fields = items.NotBuilt
+line_item (Some words.NotBuilt) fields = items.NotBuilt
 line_item (Some words.Fail) (number ∷ []) = item_or_refused items.Fail (number_of number)
 line_item (Some words.Mkdir) fields = setup_item (change_of (Some words.Mkdir) fields)
 line_item (Some words.Put) fields = setup_item (change_of (Some words.Put) fields)
 line_item (Some words.Steps) [] = items.Steps
 line_item (Some words.Open) (handle ∷ path ∷ options) = open_of handle path options
 line_item (Some words.Close) fields = for_handle (λ h. step_item (steps.Close h)) fields
-line_item (Some words.Find) (handle ∷ id ∷ []) = find_of (handle_of handle) (id_of id)
+line_item (Some words.Ignore) fields = for_handle (λ h. step_item (steps.Ignore h)) fields
+line_item (Some (words.Ask question)) (handle ∷ id ∷ []) = start_of (call_of question) (handle_of handle) (id_of id)
 line_item (Some words.Turn) fields = for_handle (λ h. step_item (steps.Turn h)) fields
 line_item (Some words.Finish) fields = for_handle (λ h. items.Play (Finish h)) fields
 line_item (Some words.Do) (word ∷ fields) = outside_item (change_of (change_word_of word) fields)

@@ -1,5 +1,5 @@
 -- What is written: a line for each outcome, and the texts of the statuses.
-use Rattle.std.specs.Prelude.{ℕ, List, [], ◌∷◌, ◌++◌, length, codes, slice_get, Option, Some, None}
+use Rattle.std.specs.Prelude.{ℕ, Bool, true, false, List, [], ◌∷◌, ◌++◌, length, codes, slice_get, Option, Some, None}
 use Rattle.std.specs.List.{flat_map}
 use Rattle.std.specs.Fmt.{decimal}
 use Rattle.hex.specs.Hex.{encode_lower}
@@ -8,17 +8,19 @@ use Rattle.gix_object.specs.Kind.{kind_word}
 use Rattle.gix_odb_world.specs.declared.step.Outcome.{Outcome}
 use Rattle.gix_odb_world.specs.declared.step.Outcome.TheVariants as comes
 use Rattle.gix_odb_world.specs.declared.step.Why.{Why}
-use Rattle.gix_odb_world.specs.declared.step.Why.TheVariants.{HandleTaken, NoHandle, NotRunning, Busy, ImpossibleChange}
+use Rattle.gix_odb_world.specs.declared.step.Why.TheVariants.{HandleTaken, BadOpen, NoHandle, NotRunning, Busy, ImpossibleChange}
 use Rattle.gix_odb_world.specs.declared.call.Reply.{Reply}
 use Rattle.gix_odb_world.specs.declared.call.Reply.TheVariants as replies
 use Rattle.gix_odb_world.specs.declared.call.CallError.{CallError}
 use Rattle.gix_odb_world.specs.declared.call.CallError.TheVariants as call_errors
 use Rattle.gix_odb_world.specs.declared.init.Error as opening
 use Rattle.gix_odb_world.specs.declared.init.Error.TheVariants as opening_errors
+use Rattle.gix_odb_world.specs.declared.find.Header.{Header}
+use Rattle.gix_odb_world.specs.declared.find.Header.TheVariants.{Loose}
 use Rattle.gix_odb_world.specs.declared.find.Error as finding
 use Rattle.gix_odb_world.specs.declared.find.Error.TheVariants as find_errors
-use Rattle.gix_odb_world.specs.declared.loose.find.Error as loose
-use Rattle.gix_odb_world.specs.declared.loose.find.Error.TheVariants as loose_errors
+use Rattle.gix_odb_loose.specs.declared.find.Error as loose
+use Rattle.gix_odb_loose.specs.declared.find.Error.TheVariants as loose_errors
 use Rattle.gitodb.specs.declared.script.reader.Ending.{Ending}
 use Rattle.gitodb.specs.declared.script.reader.Ending.TheVariants.{Whole, RefusedAt, NotBuiltAt}
 
@@ -29,6 +31,7 @@ data_text (byte ∷ bytes) = encode_lower (byte ∷ bytes)
 
 abbrev pub why_text : Why → List ℕ
 why_text HandleTaken = codes "handle-taken"
+why_text BadOpen = codes "bad-open"
 why_text NoHandle = codes "no-handle"
 why_text NotRunning = codes "not-running"
 why_text Busy = codes "busy"
@@ -44,6 +47,7 @@ abbrev pub loose_text : loose.Error → List ℕ
 loose_text (loose_errors.SizeMismatch actual expected path) = (codes "size-mismatch " ++ decimal expected) ++ (codes " " ++ decimal actual)
 loose_text loose_errors.Decode = codes "decode"
 loose_text (loose_errors.Io action path) = codes "io " ++ text_of path
+loose_text (loose_errors.OutOfMemory size) = codes "out-of-memory " ++ decimal size
 loose_text loose_errors.NoMemory = codes "no-memory"
 
 abbrev pub find_text : finding.Error → List ℕ
@@ -54,9 +58,18 @@ abbrev pub error_text : CallError → List ℕ
 error_text (call_errors.Open error) = codes "open " ++ opening_text error
 error_text (call_errors.Find error) = find_text error
 
+abbrev pub header_text : Header → List ℕ
+header_text (Loose kind size) = kind_word kind ++ codes " " ++ decimal size ++ codes " loose"
+
+abbrev pub yes_or_no : Bool → List ℕ
+yes_or_no true = codes "yes"
+yes_or_no false = codes "no"
+
 abbrev pub reply_text : Reply → List ℕ
 reply_text (replies.Opened slots) = codes "opened " ++ decimal slots
 reply_text (replies.Found kind bytes) = codes "found " ++ kind_word kind ++ codes " " ++ decimal (length bytes) ++ codes " " ++ data_text bytes
+reply_text (replies.Header header) = codes "header " ++ header_text header
+reply_text (replies.Tested there) = codes "test " ++ yes_or_no there
 reply_text replies.NotFound = codes "not-found"
 reply_text (replies.Refused error) = codes "error " ++ error_text error
 

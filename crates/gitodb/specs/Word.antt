@@ -2,6 +2,7 @@
 use Rattle.std.specs.Prelude.{ℕ, Bool, List, [], ◌∷◌, codes, Option, Some, None, if◌then◌else◌}
 use Rattle.std.specs.List.{list_any}
 use Rattle.odb_base.specs.Path.{same_name}
+use Rattle.gitodb.specs.declared.script.word.Question.TheVariants as questions
 use Rattle.gitodb.specs.declared.script.word.Word.{Word}
 use Rattle.gitodb.specs.declared.script.word.Word.TheVariants as words
 
@@ -9,13 +10,13 @@ use Rattle.gitodb.specs.declared.script.word.Word.TheVariants as words
 abbrev pub is_one_of : List (List ℕ) → List ℕ → Bool
 is_one_of texts text = list_any (same_name text) texts
 
--- words that come later: those that a line may begin with, and those that may follow `do`
-abbrev pub later_words : List (List ℕ)
-later_words =
-    codes "link" ∷ codes "ids" ∷ codes "clone" ∷ codes "upgrade" ∷ codes "never" ∷ codes "ignore" ∷ codes "header" ∷ codes "test" ∷ codes "prefix" ∷ codes "locate" ∷ codes "entry" ∷ codes "write" ∷ codes "stream" ∷ codes "writeas" ∷ []
+-- words that aren't built yet: those that a line may begin with, and those that may follow `do`
+abbrev pub unbuilt_words : List (List ℕ)
+unbuilt_words =
+    codes "link" ∷ codes "ids" ∷ codes "clone" ∷ codes "upgrade" ∷ codes "never" ∷ codes "prefix" ∷ codes "locate" ∷ codes "entry" ∷ codes "write" ∷ codes "stream" ∷ codes "writeas" ∷ []
 
-abbrev pub later_changes : List (List ℕ)
-later_changes = codes "link" ∷ codes "rename" ∷ codes "time" ∷ []
+abbrev pub unbuilt_changes : List (List ℕ)
+unbuilt_changes = codes "link" ∷ codes "time" ∷ []
 
 -- the word that a line may begin with
 unfoldable pub word_of : List ℕ → Option Word
@@ -26,11 +27,14 @@ word_of text =
     else if same_name text (codes "steps") then Some words.Steps
     else if same_name text (codes "open") then Some words.Open
     else if same_name text (codes "close") then Some words.Close
-    else if same_name text (codes "find") then Some words.Find
+    else if same_name text (codes "ignore") then Some words.Ignore
+    else if same_name text (codes "find") then Some (words.Ask questions.Find)
+    else if same_name text (codes "header") then Some (words.Ask questions.Header)
+    else if same_name text (codes "test") then Some (words.Ask questions.Test)
     else if same_name text (codes "turn") then Some words.Turn
     else if same_name text (codes "finish") then Some words.Finish
     else if same_name text (codes "do") then Some words.Do
-    else if is_one_of later_words text then Some words.Later
+    else if is_one_of unbuilt_words text then Some words.NotBuilt
     else None
 
 -- the word that may follow `do`
@@ -38,6 +42,7 @@ unfoldable pub change_word_of : List ℕ → Option Word
 change_word_of text =
     if same_name text (codes "mkdir") then Some words.Mkdir
     else if same_name text (codes "put") then Some words.Put
+    else if same_name text (codes "rename") then Some words.Rename
     else if same_name text (codes "remove") then Some words.Remove
-    else if is_one_of later_changes text then Some words.Later
+    else if is_one_of unbuilt_changes text then Some words.NotBuilt
     else None

@@ -1,9 +1,10 @@
 //! The lines that are written for outcomes.
 ghost use Rattle.std.specs.Prelude.{◌≡◌, ◌++◌, ◌∷◌, [], OnOk, length, codes};
 ghost use Rattle.std.specs.Fmt.{decimal};
-ghost use Rattle.gitodb.specs.Print.{printed, reply_text, error_text, opening_text, find_text, loose_text, why_text, data_text};
+ghost use Rattle.gitodb.specs.Print.{printed, reply_text, error_text, opening_text, find_text, loose_text, header_text, yes_or_no, why_text, data_text};
 
-use gix_odb_world::{CallError, Outcome, Reply, Why, find, init, loose};
+use gix_odb_loose as loose;
+use gix_odb_world::{CallError, Outcome, Reply, Why, find, init};
 use odb_base::NoMemory;
 use std::alloc::Global;
 
@@ -38,12 +39,35 @@ fn print_reply(alloc: Global, out: &mut Vec<u8>, reply: &Reply) -> Result<(), No
             text(out, b" ")?;
             data(alloc, out, bytes.as_slice())
         }
+        Reply::Header(header) => {
+            text(out, b"header ")?;
+            print_header(alloc, out, *header)
+        }
+        Reply::Tested(there) => {
+            text(out, b"test ")?;
+            text(out, yes_or_no(*there))
+        }
         Reply::NotFound => text(out, b"not-found"),
         Reply::Refused(error) => {
             text(out, b"error ")?;
             print_error(alloc, out, error)
         }
     }
+}
+
+fn print_header(alloc: Global, out: &mut Vec<u8>, header: find::Header) -> Result<(), NoMemory>
+    ensures ok { OnOk result (out.new.items ≡ out.old.items ++ header_text header) }
+{
+    let find::Header::Loose { kind, size } = header;
+    text(out, kind.as_bytes())?;
+    labelled(alloc, out, b" ", size)?;
+    text(out, b" loose")
+}
+
+fn yes_or_no(is_yes: bool) -> &'static [u8]
+    ensures { result.now ≡ yes_or_no is_yes }
+{
+    if is_yes { b"yes" } else { b"no" }
 }
 
 fn print_error(alloc: Global, out: &mut Vec<u8>, error: &CallError) -> Result<(), NoMemory>
@@ -91,6 +115,7 @@ fn print_loose_error(
             ..
         } => print_sizes(alloc, out, *expected, *actual),
         loose::find::Error::Decode => text(out, b"decode"),
+        loose::find::Error::OutOfMemory { size } => labelled(alloc, out, b"out-of-memory ", *size),
         loose::find::Error::Io { path, .. } => {
             text(out, b"io ")?;
             text(out, path.to_text(alloc)?.as_bytes())
@@ -111,6 +136,7 @@ fn word_of(why: Why) -> &'static [u8]
 {
     match why {
         Why::HandleTaken => b"handle-taken",
+        Why::BadOpen => b"bad-open",
         Why::NoHandle => b"no-handle",
         Why::NotRunning => b"not-running",
         Why::Busy => b"busy",

@@ -26,17 +26,22 @@ with `#` say nothing. See docs/SCRIPT.md for the whole language.
   put PATH TIME CONTENT      a file is there at the start
   steps                      the steps begin
 
-  open H PATH slots=N        handle H begins to open the store at PATH
+  open H PATH slots=N        handle H begins to open the store at PATH; further
+                             options: folder=PATH, replace=HEX:HEX, limit=N
   close H                    closes an idle handle
+  ignore H                   an idle handle ignores replacements from now on
   find H HEX                 begins to find an object
+  header H HEX               begins to tell the kind and the size of an object
+  test H HEX                 begins to test whether an object is there
   turn H                     lets H make one call of the disk
   finish H                   turns H until its call has ended
   do mkdir PATH              another program makes a directory
   do put PATH TIME CONTENT   another program puts a file
+  do rename PATH PATH        another program moves a file or a directory
   do remove PATH             another program removes a file or an empty directory
 
-CONTENT is @loose:KIND:DATA. KIND is commit, tree, blob or tag; DATA is hex, or
-`-` for nothing. HEX has 40 lower-case digits. Numbers are decimal.
+CONTENT is DATA or @loose:KIND:DATA. KIND is commit, tree, blob or tag; DATA is
+hex, or `-` for nothing. HEX has 40 lower-case digits. Numbers are decimal.
 
 status  0 done   1 words not understood   2 a line was refused   3 read fault
         4 write fault   5 out of memory   8 a line has a word not built yet

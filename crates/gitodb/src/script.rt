@@ -1,5 +1,6 @@
 //! Scripts: what their lines say, and the disk and the lines to play that they come to.
 mod change;
+mod choice;
 mod content;
 mod item;
 mod opening;

@@ -14,7 +14,7 @@ use std::alloc::Global;
 pub enum Spelled {
     Change(Change),
     /// A change, or contents of a file, that isn't built yet.
-    Later,
+    NotBuilt,
     Wrong,
 }
 
@@ -24,9 +24,10 @@ pub fn change_of(alloc: Global, word: Option<Word>, fields: &[&str]) -> Result<S
     ensures { IfOk result (λ spelled. spelled ≡ change_of word (texts_of fields.now)) }
 {
     match word {
-        Some(Word::Later) => Ok(Spelled::Later),
+        Some(Word::NotBuilt) => Ok(Spelled::NotBuilt),
         Some(Word::Mkdir) => mkdir(alloc, fields),
         Some(Word::Put) => put(alloc, fields),
+        Some(Word::Rename) => rename(alloc, fields),
         Some(Word::Remove) => remove(alloc, fields),
         _ => Ok(Spelled::Wrong),
     }
@@ -63,11 +64,24 @@ fn file_of(path: Option<PathText>, time: Option<u64>, content: Content) -> Spell
     ensures { result ≡ file_of path time content }
 {
     match (path, time, content) {
-        (_, _, Content::Later) => Spelled::Later,
+        (_, _, Content::NotBuilt) => Spelled::NotBuilt,
         (Some(path), Some(time), Content::Bytes(bytes)) => {
             Spelled::Change(Change::PutFile { path, time, bytes })
         }
         _ => Spelled::Wrong,
+    }
+}
+
+#[tactic(auto, unfolding(crate::specs::Change::change_of))]
+fn rename(alloc: Global, fields: &[&str]) -> Result<Spelled, NoMemory>
+    ensures { IfOk result (λ spelled. spelled ≡ change_of (Some Word.Rename) (texts_of fields.now)) }
+{
+    match fields {
+        [from, to] => match (path_of(alloc, from)?, path_of(alloc, to)?) {
+            (Some(from), Some(to)) => Ok(Spelled::Change(Change::Rename { from, to })),
+            _ => Ok(Spelled::Wrong),
+        },
+        _ => Ok(Spelled::Wrong),
     }
 }
 

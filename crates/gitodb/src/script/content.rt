@@ -1,7 +1,7 @@
 ghost use Rattle.std.specs.Prelude.{◌≡◌, ◌==◌, ◌++◌, length, IfOk};
 ghost use Rattle.std.specs.List.{before_first, after_first};
 ghost use Rattle.gix_object.specs.Loose.{header_of};
-ghost use Rattle.gitodb.specs.Content.{content_of, is_encoded, data_of, object_of, bytes_or_wrong, later_or_wrong, encoded};
+ghost use Rattle.gitodb.specs.Content.{content_of, is_encoded, data_of, object_of, bytes_or_wrong, encoded};
 
 use gix_object::{Kind, encode};
 use odb_base::{ByteList, NoMemory};
@@ -12,11 +12,11 @@ use std::alloc::Global;
 pub enum Content {
     Bytes(ByteList),
     /// Contents of a kind that isn't built yet.
-    Later,
+    NotBuilt,
     Wrong,
 }
 
-/// The contents that a word gives: `@loose:KIND:DATA`.
+/// The contents that a word gives: `@loose:KIND:DATA`, or plain data.
 #[tactic(auto, unfolding(crate::specs::Content::content_of))]
 pub fn content_of(alloc: Global, text: &str) -> Result<Content, NoMemory>
     ensures { IfOk result (λ content. content ≡ content_of text.now) }
@@ -37,12 +37,12 @@ fn is_encoded(text: &str) -> bool
     text.starts_with("@")
 }
 
-/// Plain data, which come later.
+/// Plain data.
 fn plain(alloc: Global, text: &str) -> Result<Content, NoMemory>
-    ensures { IfOk result (λ content. content ≡ later_or_wrong (data_of text.now)) }
+    ensures { IfOk result (λ content. content ≡ bytes_or_wrong (data_of text.now)) }
 {
     match data_of(alloc, text)? {
-        Some(_) => Ok(Content::Later),
+        Some(bytes) => Ok(Content::Bytes(bytes)),
         None => Ok(Content::Wrong),
     }
 }
@@ -53,7 +53,7 @@ fn encoded(alloc: Global, word: &str, rest: &str) -> Result<Content, NoMemory>
 {
     match word {
         "@loose" => loose(alloc, rest),
-        "@pack" | "@idx" | "@midx" => Ok(Content::Later),
+        "@pack" | "@idx" | "@midx" => Ok(Content::NotBuilt),
         _ => Ok(Content::Wrong),
     }
 }
@@ -98,7 +98,7 @@ pub fn data_of(alloc: Global, text: &str) -> Result<Option<ByteList>, NoMemory>
 }
 
 /// What stands before the first colon, and what after it. All of a text without one stands before it.
-fn at_colon(text: &str) -> (&str, &str)
+pub fn at_colon(text: &str) -> (&str, &str)
     ensures before { result.0.now ≡ before_first (λ b. b == 58) text.now }
     ensures after { result.1.now ≡ after_first (λ b. b == 58) text.now }
 {

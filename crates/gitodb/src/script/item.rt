@@ -1,11 +1,11 @@
 ghost use Rattle.std.specs.Prelude.{◌≡◌, Some, IfOk};
 ghost use Rattle.std.specs.Option.{MatchOption};
 ghost use Rattle.gix_hash.specs.ObjectId.{id_of};
-ghost use Rattle.gitodb.specs.Line.{item_of, is_blank, fields_of, fields_item, texts_of, one_handle, line_item, find_of, step_item, setup_item, outside_item};
+ghost use Rattle.gitodb.specs.Line.{item_of, is_blank, fields_of, fields_item, texts_of, one_handle, line_item, call_of, start_of, step_item, setup_item, outside_item};
 
 use crate::script::change::{Spelled, change_of};
 use crate::script::opening::{handle_of, open_of};
-use crate::script::word::{Word, change_word_of, word_of};
+use crate::script::word::{Question, Word, change_word_of, word_of};
 use gix_hash::ObjectId;
 use gix_odb_world::{Call, Line, Step};
 use odb_base::{NoMemory, parse_decimal};
@@ -85,17 +85,18 @@ fn line_item(alloc: Global, word: Option<Word>, fields: &[&str]) -> Result<Item,
     ensures { IfOk result (λ item. item ≡ line_item word (texts_of fields.now)) }
 {
     match word {
-        Some(Word::Later) => Ok(Item::NotBuilt),
+        Some(Word::NotBuilt) => Ok(Item::NotBuilt),
         Some(Word::Fail) => Ok(fail(fields)),
         Some(Word::Mkdir | Word::Put) => Ok(setup_item(change_of(alloc, word, fields)?)),
         Some(Word::Steps) => Ok(steps(fields)),
         Some(Word::Open) => open(alloc, fields),
         Some(Word::Close) => Ok(for_handle(fields, |handle| step_item(Step::Close { handle }))),
-        Some(Word::Find) => Ok(find(fields)),
+        Some(Word::Ignore) => Ok(for_handle(fields, |handle| step_item(Step::Ignore { handle }))),
+        Some(Word::Ask(question)) => Ok(ask(question, fields)),
         Some(Word::Turn) => Ok(for_handle(fields, |handle| step_item(Step::Turn { handle }))),
         Some(Word::Finish) => Ok(for_handle(fields, |handle| Item::Play(Line::Finish { handle }))),
         Some(Word::Do) => change(alloc, fields),
-        Some(Word::Remove) | None => Ok(Item::Refused),
+        Some(Word::Rename | Word::Remove) | None => Ok(Item::Refused),
     }
 }
 
@@ -144,24 +145,24 @@ fn for_handle<F: FnOnce(u32) -> Item + Drop>(fields: &[&str], item: F) -> Item
 }
 
 #[tactic(auto, unfolding(crate::specs::Line::line_item))]
-fn find(fields: &[&str]) -> Item
-    ensures { result ≡ line_item (Some Word.Find) (texts_of fields.now) }
+fn ask(question: Question, fields: &[&str]) -> Item
+    ensures { result ≡ line_item (Some (Word.Ask question)) (texts_of fields.now) }
 {
     match fields {
-        [handle, id] => find_of(handle_of(handle), id_of(id)),
+        [handle, id] => start_of(question, handle_of(handle), id_of(id)),
         _ => Item::Refused,
     }
 }
 
-fn id_of(text: &str) -> Option<ObjectId>
+pub fn id_of(text: &str) -> Option<ObjectId>
     ensures { result ≡ id_of text.now }
 {
     ObjectId::from_hex(text.as_bytes()).ok()
 }
 
-/// A find. Ids of 64 digits come later.
-fn find_of(handle: Option<u32>, id: Option<ObjectId>) -> Item
-    ensures { result ≡ find_of handle id }
+/// The start of a call on an id. Ids of 64 digits aren't built yet.
+fn start_of(question: Question, handle: Option<u32>, id: Option<ObjectId>) -> Item
+    ensures { result ≡ start_of (call_of question) handle id }
 {
     match (handle, id) {
         (_, None) => Item::Refused,
@@ -169,8 +170,19 @@ fn find_of(handle: Option<u32>, id: Option<ObjectId>) -> Item
         (None, Some(ObjectId::Sha1(_))) => Item::Refused,
         (Some(handle), Some(id)) => step_item(Step::Start {
             handle,
-            call: Call::Find(id),
+            call: call_of(question, id),
         }),
+    }
+}
+
+/// The call that a question about an id is.
+fn call_of(question: Question, id: ObjectId) -> Call
+    ensures { result ≡ call_of question id }
+{
+    match question {
+        Question::Find => Call::Find(id),
+        Question::Header => Call::Header(id),
+        Question::Test => Call::Test(id),
     }
 }
 
@@ -199,7 +211,7 @@ fn setup_item(spelled: Spelled) -> Item
 {
     match spelled {
         Spelled::Change(change) => Item::Setup(change),
-        Spelled::Later => Item::NotBuilt,
+        Spelled::NotBuilt => Item::NotBuilt,
         Spelled::Wrong => Item::Refused,
     }
 }
@@ -209,7 +221,7 @@ fn outside_item(spelled: Spelled) -> Item
 {
     match spelled {
         Spelled::Change(change) => step_item(Step::Disk(change)),
-        Spelled::Later => Item::NotBuilt,
+        Spelled::NotBuilt => Item::NotBuilt,
         Spelled::Wrong => Item::Refused,
     }
 }

@@ -1,5 +1,13 @@
 ghost use Rattle.std.specs.Prelude.{◌≡◌, Some, None, if◌then◌else◌};
-ghost use Rattle.gitodb.specs.Word.{word_of, change_word_of, later_words, later_changes, is_one_of};
+ghost use Rattle.gitodb.specs.Word.{word_of, change_word_of, unbuilt_words, unbuilt_changes, is_one_of};
+
+/// A question about the object of an id.
+#[derive(Clone, Copy, Debug, PartialEq, Eq)]
+pub enum Question {
+    Find,
+    Header,
+    Test,
+}
 
 /// A word that says what a line is about.
 #[derive(Clone, Copy, Debug, PartialEq, Eq)]
@@ -7,16 +15,19 @@ pub enum Word {
     Fail,
     Mkdir,
     Put,
+    Rename,
     Remove,
     Steps,
     Open,
     Close,
-    Find,
+    Ignore,
+    /// A call that a question is.
+    Ask(Question),
     Turn,
     Finish,
     Do,
     /// A word that isn't built yet.
-    Later,
+    NotBuilt,
 }
 
 /// The word that a line may begin with.
@@ -31,11 +42,14 @@ pub fn word_of(text: &str) -> Option<Word>
         "steps" => Some(Word::Steps),
         "open" => Some(Word::Open),
         "close" => Some(Word::Close),
-        "find" => Some(Word::Find),
+        "ignore" => Some(Word::Ignore),
+        "find" => Some(Word::Ask(Question::Find)),
+        "header" => Some(Word::Ask(Question::Header)),
+        "test" => Some(Word::Ask(Question::Test)),
         "turn" => Some(Word::Turn),
         "finish" => Some(Word::Finish),
         "do" => Some(Word::Do),
-        _ => later(is_later_word(text)),
+        _ => not_built(is_unbuilt_word(text)),
     }
 }
 
@@ -47,14 +61,15 @@ pub fn change_word_of(text: &str) -> Option<Word>
     match text {
         "mkdir" => Some(Word::Mkdir),
         "put" => Some(Word::Put),
+        "rename" => Some(Word::Rename),
         "remove" => Some(Word::Remove),
-        _ => later(is_later_change(text)),
+        _ => not_built(is_unbuilt_change(text)),
     }
 }
 
 /// Whether a line may begin with a word that isn't built yet.
-fn is_later_word(text: &str) -> bool
-    ensures { result ≡ is_one_of later_words text.now }
+fn is_unbuilt_word(text: &str) -> bool
+    ensures { result ≡ is_one_of unbuilt_words text.now }
 {
     matches!(
         text,
@@ -63,9 +78,6 @@ fn is_later_word(text: &str) -> bool
             | "clone"
             | "upgrade"
             | "never"
-            | "ignore"
-            | "header"
-            | "test"
             | "prefix"
             | "locate"
             | "entry"
@@ -76,15 +88,19 @@ fn is_later_word(text: &str) -> bool
 }
 
 /// Whether such a word may follow `do`.
-fn is_later_change(text: &str) -> bool
-    ensures { result ≡ is_one_of later_changes text.now }
+fn is_unbuilt_change(text: &str) -> bool
+    ensures { result ≡ is_one_of unbuilt_changes text.now }
 {
-    matches!(text, "link" | "rename" | "time")
+    matches!(text, "link" | "time")
 }
 
-/// The word for what comes later, if a test found one.
-fn later(is_later: bool) -> Option<Word>
-    ensures { result ≡ (if is_later then Some Word.Later else None) }
+/// The word for what isn't built yet, if a test found one.
+fn not_built(is_unbuilt: bool) -> Option<Word>
+    ensures { result ≡ (if is_unbuilt then Some Word.NotBuilt else None) }
 {
-    if is_later { Some(Word::Later) } else { None }
+    if is_unbuilt {
+        Some(Word::NotBuilt)
+    } else {
+        None
+    }
 }

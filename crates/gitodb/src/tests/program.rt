@@ -55,7 +55,7 @@ fn gives(
 /// A story, its script, what is printed, and the status.
 type Row = (&'static str, &'static str, &'static str, u8);
 
-const ROWS: [Row; 15] = [
+const ROWS: [Row; 20] = [
     ("no script", "", "", 0),
     (
         "a loose object is found",
@@ -159,6 +159,100 @@ const ROWS: [Row; 15] = [
         applied\nerror open not-a-directory\n\
         applied\nerror open too-many-slots 40000\n\
         misuse no-handle\n",
+        0,
+    ),
+    (
+        "headers and tests",
+        "mkdir /o\n\
+        mkdir /o/ce\n\
+        put /o/ce/013625030ba8dba906f756967f9e9ca394464a 1 @loose:blob:68656c6c6f0a\n\
+        steps\n\
+        open 0 /o slots=4\n\
+        finish 0\n\
+        header 0 ce013625030ba8dba906f756967f9e9ca394464a\n\
+        finish 0\n\
+        test 0 ce013625030ba8dba906f756967f9e9ca394464a\n\
+        finish 0\n\
+        header 0 e69de29bb2d1d6434b8b29ae775ad8c2e48c5391\n\
+        finish 0\n\
+        test 0 e69de29bb2d1d6434b8b29ae775ad8c2e48c5391\n\
+        finish 0\n",
+        "applied\nopened 4\n\
+        applied\nheader blob 6 loose\napplied\ntest yes\n\
+        applied\nnot-found\napplied\ntest no\n",
+        0,
+    ),
+    (
+        "two folders",
+        "mkdir /o\n\
+        mkdir /p\n\
+        mkdir /p/ce\n\
+        put /p/ce/013625030ba8dba906f756967f9e9ca394464a 1 @loose:blob:68656c6c6f0a\n\
+        steps\n\
+        open 0 /o slots=4 folder=/p\n\
+        finish 0\n\
+        open 1 /o slots=4\n\
+        finish 1\n\
+        find 0 ce013625030ba8dba906f756967f9e9ca394464a\n\
+        finish 0\n\
+        find 1 ce013625030ba8dba906f756967f9e9ca394464a\n\
+        finish 1\n",
+        "applied\nopened 4\napplied\nopened 4\napplied\nfound blob 6 68656c6c6f0a\napplied\nnot-found\n",
+        0,
+    ),
+    (
+        "a replacement, and a handle that ignores it",
+        "mkdir /o\n\
+        mkdir /o/ce\n\
+        put /o/ce/013625030ba8dba906f756967f9e9ca394464a 1 @loose:blob:68656c6c6f0a\n\
+        mkdir /o/e6\n\
+        put /o/e6/9de29bb2d1d6434b8b29ae775ad8c2e48c5391 0 @loose:blob:-\n\
+        steps\n\
+        open 0 /o slots=4 replace=e69de29bb2d1d6434b8b29ae775ad8c2e48c5391:ce013625030ba8dba906f756967f9e9ca394464a\n\
+        finish 0\n\
+        find 0 e69de29bb2d1d6434b8b29ae775ad8c2e48c5391\n\
+        finish 0\n\
+        find 0 ce013625030ba8dba906f756967f9e9ca394464a\n\
+        finish 0\n\
+        ignore 0\n\
+        find 0 e69de29bb2d1d6434b8b29ae775ad8c2e48c5391\n\
+        finish 0\n",
+        "applied\nopened 4\n\
+        applied\nfound blob 6 68656c6c6f0a\n\
+        applied\nfound blob 6 68656c6c6f0a\n\
+        applied\napplied\nfound blob 0 -\n",
+        0,
+    ),
+    (
+        "a limit",
+        "mkdir /o\n\
+        mkdir /o/ce\n\
+        put /o/ce/013625030ba8dba906f756967f9e9ca394464a 1 @loose:blob:68656c6c6f0a\n\
+        steps\n\
+        open 0 /o slots=4 limit=6 limit=5\n\
+        finish 0\n\
+        open 1 /o slots=4 limit=5 limit=6\n\
+        finish 1\n\
+        find 0 ce013625030ba8dba906f756967f9e9ca394464a\n\
+        finish 0\n\
+        find 1 ce013625030ba8dba906f756967f9e9ca394464a\n\
+        finish 1\n",
+        "applied\nopened 4\napplied\nopened 4\n\
+        applied\nerror loose out-of-memory 6\napplied\nfound blob 6 68656c6c6f0a\n",
+        0,
+    ),
+    (
+        "openings that name a folder or an id twice",
+        "mkdir /o\n\
+        mkdir /p\n\
+        steps\n\
+        open 0 /o slots=4 folder=/o\n\
+        open 0 /o slots=4 folder=/p folder=/p\n\
+        open 0 /o slots=4 \
+        replace=e69de29bb2d1d6434b8b29ae775ad8c2e48c5391:ce013625030ba8dba906f756967f9e9ca394464a \
+        replace=e69de29bb2d1d6434b8b29ae775ad8c2e48c5391:ce013625030ba8dba906f756967f9e9ca394464a\n\
+        open 0 /o slots=4 folder=/p\n",
+        "misuse bad-open\nmisuse bad-open\nmisuse bad-open\napplied\n",
         0,
     ),
     (

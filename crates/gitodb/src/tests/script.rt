@@ -1,6 +1,6 @@
 use crate::script::{Ending, Item, item_of, read};
 use gix_hash::ObjectId;
-use gix_odb_world::{Call, Line, Options, Slots, Step};
+use gix_odb_world::{Call, IdPairs, Line, Options, PathList, Slots, Step};
 use odb_disk::{ByteList, Change, PathText};
 use std::alloc::Global;
 use std::process::Abort;
@@ -10,6 +10,12 @@ use std::test::Fail;
 const EMPTY_BLOB: ObjectId = ObjectId::Sha1([
     0xe6, 0x9d, 0xe2, 0x9b, 0xb2, 0xd1, 0xd6, 0x43, 0x4b, 0x8b, 0x29, 0xae, 0x77, 0x5a, 0xd8, 0xc2,
     0xe4, 0x8c, 0x53, 0x91,
+]);
+
+// Git's id of the blob `hello` with a line feed.
+const HELLO: ObjectId = ObjectId::Sha1([
+    0xce, 0x01, 0x36, 0x25, 0x03, 0x0b, 0xa8, 0xdb, 0xa9, 0x06, 0xf7, 0x56, 0x96, 0x7f, 0x9e, 0x9c,
+    0xa3, 0x94, 0x46, 0x4a,
 ]);
 
 // A word for what a line says.
@@ -30,6 +36,8 @@ fn change_word(change: &Change) -> &'static str {
     match change {
         Change::PutFile { .. } => "put",
         Change::MakeDir { .. } => "mkdir",
+        Change::Rename { .. } => "rename",
+        Change::Append { .. } => "append",
         Change::Remove { .. } => "remove",
     }
 }
@@ -38,9 +46,18 @@ fn step_word(step: &Step) -> &'static str {
     match step {
         Step::Open { .. } => "open",
         Step::Close { .. } => "close",
-        Step::Start { .. } => "find",
+        Step::Ignore { .. } => "ignore",
+        Step::Start { call, .. } => call_word(call),
         Step::Turn { .. } => "turn",
         Step::Disk(_) => "do",
+    }
+}
+
+fn call_word(call: &Call) -> &'static str {
+    match call {
+        Call::Find(_) => "find",
+        Call::Header(_) => "header",
+        Call::Test(_) => "test",
     }
 }
 
@@ -61,16 +78,26 @@ const BUILT: &str = "\
     put|put /a 0 @loose:blob:-\n\
     put|put /a 18446744073709551615 @loose:commit:00ff\n\
     put|put /a 1 @loose:tag:aAbB\n\
+    put|put /a 5 -\n\
+    put|put /a 5 00Ff\n\
     steps|steps\n\
     open|open 0 /a slots=0\n\
     open|open 4294967295 / slots=65535\n\
     open|open 1 /a slots=1 slots=2\n\
+    open|open 1 /a folder=/ slots=1 folder=/b/c\n\
+    open|open 1 /a limit=0 slots=1\n\
+    open|open 1 /a slots=1 limit=18446744073709551615 limit=1\n\
+    open|open 1 /a slots=1 replace=e69de29bb2d1d6434b8b29ae775ad8c2e48c5391:e69de29bb2d1d6434b8b29ae775ad8c2e48c5391\n\
     close|close 0\n\
+    ignore|ignore 4294967295\n\
     find|find 0 e69de29bb2d1d6434b8b29ae775ad8c2e48c5391\n\
+    header|header 0 e69de29bb2d1d6434b8b29ae775ad8c2e48c5391\n\
+    test|test 0 e69de29bb2d1d6434b8b29ae775ad8c2e48c5391\n\
     turn|turn 4294967295\n\
     finish|finish 0\n\
     do|do mkdir /a\n\
     do|do put /a 5 @loose:tree:00\n\
+    do|do rename /a /b\n\
     do|do remove /a\n\
     blank|\n\
     blank|#\n\
@@ -86,16 +113,13 @@ fn tells_built_words(rt: HostRuntime) -> Result<(), Fail> {
     Ok(())
 }
 
-const LATER: &str = "\
+const NOT_BUILT: &str = "\
     link /a /b\n\
     link\n\
     ids\n\
     clone 1 0\n\
     upgrade 0\n\
     never 0\n\
-    ignore\n\
-    header x\n\
-    test 0 x\n\
     prefix 0 e\n\
     locate 0 x\n\
     entry 0 0\n\
@@ -103,30 +127,32 @@ const LATER: &str = "\
     stream\n\
     writeas  \n\
     do link /a /b\n\
-    do rename /a\n\
     do time\n\
     open 0 /a\n\
     open x y\n\
     open 0 /a folder=/b\n\
-    open x y slots=4 folder=\n\
-    open 0 /a replace=x slots=1\n\
-    open 0 /a changes=1\n\
+    open 0 /a slots\n\
+    open 0 /a other=4\n\
     open 0 /a limit=01\n\
-    open 0 /a midx=no\n\
-    open 0 /a hash=sha256\n\
+    open 0 /a slots=1 changes=1\n\
+    open x y slots=4 changes=\n\
+    open 0 /a midx=no slots=1\n\
+    open 0 /a slots=1 hash=sha256\n\
+    open 0 /a slots=x replace=e69de29bb2d1d6434b8b29ae775ad8c2e48c5391:473a0f4c3be8a93681a267e3b1e9a7dcda1185436fe141f7749120a303721813\n\
+    open 0 a slots=1 replace=473a0f4c3be8a93681a267e3b1e9a7dcda1185436fe141f7749120a303721813:e69de29bb2d1d6434b8b29ae775ad8c2e48c5391\n\
+    open 0 /a slots=1 replace=473a0f4c3be8a93681a267e3b1e9a7dcda1185436fe141f7749120a303721813:x\n\
     find 0 473a0f4c3be8a93681a267e3b1e9a7dcda1185436fe141f7749120a303721813\n\
     find x 473a0f4c3be8a93681a267e3b1e9a7dcda1185436fe141f7749120a303721813\n\
-    put /a 5 -\n\
-    put a x 00\n\
-    do put /a 5 00ff\n\
+    header 0 473a0f4c3be8a93681a267e3b1e9a7dcda1185436fe141f7749120a303721813\n\
+    test x 473a0f4c3be8a93681a267e3b1e9a7dcda1185436fe141f7749120a303721813\n\
     put /a 5 @pack:blob:00\n\
     put a x @idx\n\
     put /a 5 @midx:";
 
-// A later word that is refused because of the rest of its line.
+// A word that isn't built yet that is refused because of the rest of its line.
 #[test]
-fn puts_off_later_words(rt: HostRuntime) -> Result<(), Fail> {
-    say(&rt, rt.alloc(), LATER, "not built")
+fn tells_what_is_not_built(rt: HostRuntime) -> Result<(), Fail> {
+    say(&rt, rt.alloc(), NOT_BUILT, "not built")
 }
 
 const REFUSED: &str = "\
@@ -165,9 +191,23 @@ const REFUSED: &str = "\
     open 0 /a slots=\n\
     open 0 /a slots=04\n\
     open 0 /a slots=65536\n\
-    open 0 /a slots\n\
-    open 0 /a =4\n\
-    open 0 /a folder\n\
+    open 0 /a slots=1 slots\n\
+    open 0 /a slots=1 =4\n\
+    open 0 /a slots=65536 slots=1\n\
+    open 0 /a slots=1 folder\n\
+    open 0 /a slots=1 folder=\n\
+    open 0 /a slots=1 folder=b\n\
+    open 0 /a slots=1 folder=/b/\n\
+    open 0 /a slots=1 limit=\n\
+    open 0 /a slots=1 limit=01\n\
+    open 0 /a slots=1 limit=18446744073709551616\n\
+    open 0 /a slots=1 replace=\n\
+    open 0 /a slots=1 replace=e69de29bb2d1d6434b8b29ae775ad8c2e48c5391\n\
+    open 0 /a slots=1 replace=e69de29bb2d1d6434b8b29ae775ad8c2e48c5391:\n\
+    open 0 /a slots=1 replace=:e69de29bb2d1d6434b8b29ae775ad8c2e48c5391\n\
+    open 0 /a slots=1 replace=e69de29bb2d1d6434b8b29ae775ad8c2e48c5391:e69de29bb2d1d6434b8b29ae775ad8c2e48c5391:\n\
+    open 0 /a slots=1 replace=e69de29bb2d1d6434b8b29ae775ad8c2e48c5391=e69de29bb2d1d6434b8b29ae775ad8c2e48c5391\n\
+    open 0 /a slots=1 replace=e69de29bb2d1d6434b8b29ae775ad8c2e48c5391:E69DE29BB2D1D6434B8B29AE775AD8C2E48C5391\n\
     open 0 /a slots=1 other=2\n\
     open 0 /a other=2 slots=1\n\
     open 0 a slots=1\n\
@@ -180,10 +220,22 @@ const REFUSED: &str = "\
     find 4294967296 e69de29bb2d1d6434b8b29ae775ad8c2e48c5391\n\
     find 0 e69de29bb2d1d6434b8b29ae775ad8c2e48c5391 x\n\
     find 0 473A0F4C3BE8A93681A267E3B1E9A7DCDA1185436FE141F7749120A303721813\n\
+    header 0\n\
+    header 0 x\n\
+    header 0 E69DE29BB2D1D6434B8B29AE775AD8C2E48C5391\n\
+    test 0 e69de29bb2d1d6434b8b29ae775ad8c2e48c5391 0\n\
+    test -1 e69de29bb2d1d6434b8b29ae775ad8c2e48c5391\n\
+    ignore\n\
+    ignore x\n\
+    ignore 0 0\n\
     put /a 5\n\
     put /a 05 @loose:blob:00\n\
     put /a 18446744073709551616 @loose:blob:00\n\
     put a 5 @loose:blob:00\n\
+    put a 5 00\n\
+    put /a 5 0\n\
+    do rename /a\n\
+    do rename /a b\n\
     put /a 5 @loose:blob:00 x\n\
     put /a 5 @loose:blob:0\n\
     put /a 5 @loose:blob:\n\
@@ -223,8 +275,9 @@ fn wants_text_but_in_comments(rt: HostRuntime) -> Result<(), Fail> {
 }
 
 fn says(rt: &impl Abort, alloc: Global, line: &[u8], want: Item) -> Result<(), Fail> {
-    let item = item_of(alloc, line)?;
-    assert_eq!(rt; item, want, "{line:?}");
+    let said = format!(in alloc; "{:?}", item_of(alloc, line)?)?;
+    let want = format!(in alloc; "{want:?}")?;
+    assert_eq!(rt; said, want, "{line:?}");
     Ok(())
 }
 
@@ -235,23 +288,65 @@ fn keeps_fields_of_openings(rt: HostRuntime) -> Result<(), Fail> {
     let opening = Step::Open {
         handle: 7,
         path: PathText::parse(alloc, "/a")?,
+        folders: PathList::new(alloc),
+        replacements: IdPairs::new(alloc),
         options: Options {
             slots: Slots::Given(2),
+            alloc_limit_bytes: None,
         },
     };
     let line = b"open 7 /a slots=1 slots=2";
     says(&rt, alloc, line, Item::Play(Line::One(opening)))
 }
 
-// Digits of an id in another order.
+// Folders or replacements in another order, a pair turned round, or one option taken for another.
 #[test]
-fn keeps_fields_of_finds(rt: HostRuntime) -> Result<(), Fail> {
-    let find = Step::Start {
-        handle: 9,
-        call: Call::Find(EMPTY_BLOB),
+fn keeps_options_of_openings(rt: HostRuntime) -> Result<(), Fail> {
+    let alloc = rt.alloc();
+    let mut folders = PathList::new(alloc);
+    folders.push(PathText::parse(alloc, "/c")?)?;
+    folders.push(PathText::parse(alloc, "/b")?)?;
+    let mut replacements = IdPairs::new(alloc);
+    replacements.push((EMPTY_BLOB, HELLO))?;
+    replacements.push((HELLO, HELLO))?;
+    let opening = Step::Open {
+        handle: 7,
+        path: PathText::parse(alloc, "/a")?,
+        folders,
+        replacements,
+        options: Options {
+            slots: Slots::Given(4),
+            alloc_limit_bytes: Some(3),
+        },
     };
-    let line = b"find 9 e69de29bb2d1d6434b8b29ae775ad8c2e48c5391";
-    says(&rt, rt.alloc(), line, Item::Play(Line::One(find)))
+    let line = b"open 7 /a folder=/c \
+        replace=e69de29bb2d1d6434b8b29ae775ad8c2e48c5391:ce013625030ba8dba906f756967f9e9ca394464a limit=9 slots=4 \
+        replace=ce013625030ba8dba906f756967f9e9ca394464a:ce013625030ba8dba906f756967f9e9ca394464a folder=/b limit=3";
+    says(&rt, alloc, line, Item::Play(Line::One(opening)))
+}
+
+// Digits of an id in another order, or one question for another.
+#[test]
+fn keeps_fields_of_questions(rt: HostRuntime) -> Result<(), Fail> {
+    let rows: [(&[u8], Call); 3] = [
+        (
+            b"find 9 e69de29bb2d1d6434b8b29ae775ad8c2e48c5391",
+            Call::Find(EMPTY_BLOB),
+        ),
+        (
+            b"header 9 ce013625030ba8dba906f756967f9e9ca394464a",
+            Call::Header(HELLO),
+        ),
+        (
+            b"test 9 e69de29bb2d1d6434b8b29ae775ad8c2e48c5391",
+            Call::Test(EMPTY_BLOB),
+        ),
+    ];
+    for (line, call) in rows {
+        let start = Step::Start { handle: 9, call };
+        says(&rt, rt.alloc(), line, Item::Play(Line::One(start)))?;
+    }
+    Ok(())
 }
 
 // A handle that is dropped, or a word for another.
@@ -275,6 +370,12 @@ fn keeps_handles(rt: HostRuntime) -> Result<(), Fail> {
         alloc,
         b"close 6",
         Item::Play(Line::One(Step::Close { handle: 6 })),
+    )?;
+    says(
+        &rt,
+        alloc,
+        b"ignore 5",
+        Item::Play(Line::One(Step::Ignore { handle: 5 })),
     )
 }
 
