@@ -1,6 +1,8 @@
 #!/usr/bin/env python3
 """Growth and peak memory of `gitodb world` over many loose objects. See README.md."""
 
+import argparse
+import filecmp
 import hashlib
 import os
 import subprocess
@@ -9,64 +11,93 @@ import tempfile
 import time
 
 SIZES = (4000, 16000, 64000)
-ROUNDS = 3
+ROUNDS = 9
 MOST_GROWTH = 4.8
 MEMORY_FACTOR = 12
 MEMORY_BASE = 32 * 1024 * 1024
 
 
-def script(count):
-    """A script of so many objects with one find each, and the output that it must have."""
-    setup, steps, output = ["mkdir /o"], ["steps", "open 0 /o slots=4", "finish 0"], ["applied", "opened 4"]
+def script(count, objects):
+    """A script of so many objects in a folder with one find each, and the output that it must have."""
+    names = objects.strip("/").split("/")
+    setup = ["mkdir /" + "/".join(names[: depth + 1]) for depth in range(len(names))]
+    steps, output = ["steps", "open 0 %s slots=4" % objects, "finish 0"], ["applied", "opened 4"]
     folders = set()
     for number in range(count):
         data = b"object %d\n" % number
         name = hashlib.sha1(b"blob %d\0" % len(data) + data).hexdigest()
         if name[:2] not in folders:
             folders.add(name[:2])
-            setup.append("mkdir /o/" + name[:2])
-        setup.append("put /o/%s/%s 0 @loose:blob:%s" % (name[:2], name[2:], data.hex()))
+            setup.append("mkdir %s/%s" % (objects, name[:2]))
+        setup.append("put %s/%s/%s 0 @loose:blob:%s" % (objects, name[:2], name[2:], data.hex()))
         steps += ["find 0 " + name, "finish 0"]
         output += ["applied", "found blob %d %s" % (len(data), data.hex())]
-    lines = setup + steps
-    return ("\n".join(lines) + "\n").encode(), ("\n".join(output) + "\n").encode()
+    return "\n".join(setup + steps) + "\n", "\n".join(output) + "\n"
 
 
-def measured(program, text):
-    """Seconds, peak bytes and output of one run."""
-    with tempfile.TemporaryFile() as given, tempfile.TemporaryFile() as taken:
-        given.write(text)
-        given.seek(0)
+def make(folder, objects):
+    """Writes the scripts and their outputs."""
+    for size in SIZES:
+        for name, text in zip(("script", "output"), script(size, objects)):
+            with open(os.path.join(folder, "%d.%s" % (size, name)), "w") as file:
+                file.write(text)
+
+
+def measured(program, folder, size):
+    """Seconds and peak bytes of one run, whose output is right."""
+    got = os.path.join(folder, "got")
+    with open(os.path.join(folder, "%d.script" % size), "rb") as given, open(got, "wb") as taken:
         begun = time.perf_counter()
         child = subprocess.Popen([program, "world"], stdin=given, stdout=taken)
         _, status, usage = os.wait4(child.pid, 0)
         seconds = time.perf_counter() - begun
         child.returncode = os.waitstatus_to_exitcode(status)
-        taken.seek(0)
-        return seconds, usage.ru_maxrss * 1024, child.returncode, taken.read()
+    right = filecmp.cmp(got, os.path.join(folder, "%d.output" % size), shallow=False)
+    if child.returncode != 0 or not right:
+        sys.exit("wrong output at %d objects, status %d" % (size, child.returncode))
+    return seconds, usage.ru_maxrss * 1024
+
+
+def rounds(program, folder):
+    """The best time and the greatest peak of each size over some rounds, in which each size has its turn."""
+    best, most = dict.fromkeys(SIZES, float("inf")), dict.fromkeys(SIZES, 0)
+    for _ in range(ROUNDS):
+        for size in SIZES:
+            seconds, peak = measured(program, folder, size)
+            best[size], most[size] = min(best[size], seconds), max(most[size], peak)
+    return best, most
+
+
+def report(folder, best, most):
+    """Prints a line for each size, and tells whether a bound was missed."""
+    missed, before = False, None
+    print("objects  seconds  growth  peak MiB  peak / script")
+    for size in SIZES:
+        length = os.path.getsize(os.path.join(folder, "%d.script" % size))
+        growth = best[size] / before if before else None
+        missed |= bool(growth and growth > MOST_GROWTH) or most[size] > MEMORY_FACTOR * length + MEMORY_BASE
+        shown = "%6.2f" % growth if growth else "     -"
+        print("%7d  %7.3f  %s  %8.1f  %13.1f" % (size, best[size], shown, most[size] / 2**20, most[size] / length))
+        before = best[size]
+    return missed
 
 
 def main():
     top = os.path.dirname(os.path.dirname(os.path.realpath(__file__)))
-    program = sys.argv[1] if len(sys.argv) > 1 else os.path.join(top, "crates/gitodb/out/gitodb")
-    if not os.access(program, os.X_OK):
-        sys.exit("no program at %s: build it with ./gitodb --version" % program)
-    missed, before = False, None
-    print("objects  seconds  growth  peak MiB  peak / script")
-    for size in SIZES:
-        text, wanted = script(size)
-        best, most = None, 0
-        for _ in range(ROUNDS):
-            seconds, peak, status, output = measured(program, text)
-            if status != 0 or output != wanted:
-                sys.exit("wrong output at %d objects, status %d" % (size, status))
-            best, most = min(best or seconds, seconds), max(most, peak)
-        growth = best / before if before else None
-        missed |= bool(growth and growth > MOST_GROWTH) or most > MEMORY_FACTOR * len(text) + MEMORY_BASE
-        shown = "%6.2f" % growth if growth else "     -"
-        print("%7d  %7.3f  %s  %8.1f  %13.1f" % (size, best, shown, most / 2**20, most / len(text)))
-        before = best
-    sys.exit("a bound was missed" if missed else 0)
+    parser = argparse.ArgumentParser(description=__doc__)
+    parser.add_argument("program", nargs="?", default=os.path.join(top, "crates/gitodb/out/gitodb"))
+    parser.add_argument("--objects", default="/o", help="the objects directory of the scripts")
+    parser.add_argument("--make", metavar="FOLDER", help="only write the scripts and their outputs there")
+    words = parser.parse_args()
+    if words.make:
+        return make(words.make, words.objects)
+    if not os.access(words.program, os.X_OK):
+        sys.exit("no program at %s: build it with ./gitodb --version" % words.program)
+    with tempfile.TemporaryDirectory() as folder:
+        # A process of its own makes them: a child's peak counts what this process has at its start.
+        subprocess.run([sys.executable, __file__, "--make", folder, "--objects", words.objects], check=True)
+        if report(folder, *rounds(words.program, folder)):
+            sys.exit("a bound was missed")
 
 
 if __name__ == "__main__":
