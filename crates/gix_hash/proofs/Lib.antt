@@ -1,3 +1,4 @@
 pub mod ObjectIdLemmas
 pub mod HashLemmas
 mod CallLemmas
+pub mod HexDigitLaws
