@@ -12,6 +12,7 @@ mod WayLemmas
 pub mod WayLaws
 pub mod WayWriteLaws
 pub mod OwnFileLaws
+pub mod OwnWayLaws
 mod AskLemmas
 mod NodeMapLemmas
 mod CallsLemmas

@@ -3,3 +3,4 @@ pub mod Alike
 pub mod Further
 pub mod Trod
 pub mod Spots
+pub mod Stops

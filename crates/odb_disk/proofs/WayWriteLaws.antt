@@ -29,12 +29,12 @@ use Rattle.odb_disk.proofs.WayLaws.{leads_to_spot, spot_kept_below, link_on_way,
 
 -- ---- what is written at the spot of a path is seen there, through the links that the path crosses
 
--- no link is crossed where none stands
+-- no link is crossed where none stands, and one that stands on the way of the directory is
 pub crosses_link : (t : Tree) (path q : Path) → is_link (node_at t q) ≡ false → crosses t path q ≡ false
 unfolding crosses
 crosses_link t path q plain = and_left _ _ plain
 
-crosses_on_way : (t : Tree) (path front q : Path) → parent_of path ≡ Some front → is_link (node_at t q) ≡ true → on_way t true front q ≡ true → crosses t path q ≡ true
+pub crosses_on_way : (t : Tree) (path front q : Path) → parent_of path ≡ Some front → is_link (node_at t q) ≡ true → on_way t true front q ≡ true → crosses t path q ≡ true
 unfolding crosses
 crosses_on_way t path front q parent link on = and_from _ _ link (ap (λ o. on_way_to t o q) parent ∙ on)
 

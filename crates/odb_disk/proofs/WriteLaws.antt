@@ -2,6 +2,7 @@
 use Rattle.std.proofs.Common.{◌≡◌, ◌≢◌, ℕ, Bool, true, false, ◌||◌, List, [], ◌∷◌, ◌++◌, length, drop, Some, None, Result, Ok, Err, refl, sym, ap, ◌∙◌, cond}
 use Rattle.std.specs.Ordering.{eq_by_cmp}
 use Rattle.std.specs.List.{starts_with}
+use Rattle.std.specs.Result.{result_ok}
 use Rattle.std.proofs.lemmas.Bool.{false≢true, or_parts, false_from_ne_true}
 use Rattle.odb_base.specs.Path.{Name, Path, path_cmp, same_name}
 use Rattle.odb_base.specs.PathLaws.{parent_of-push}
@@ -9,7 +10,7 @@ use Rattle.odb_disk.specs.Tree.{Tree, State, IsTree, tree_of, node_at, is_direct
 use Rattle.odb_disk.specs.Tree.Follow.{Place, Refusal, Absent, Missing, past, followed, meta_of, meta_of_place, file_of, file_of_place, looked, read_of}
 use Rattle.odb_disk.specs.Tree.Change.{changed, is_possible_in, is_file_content, least_free, with_longer, longer}
 use Rattle.odb_disk.specs.Tree.Write as writing
-use Rattle.odb_disk.specs.Tree.Write.{spot, spot_below, in_directory, from_followed, and_then, vacant, file_spot, movable, written, after_write, change_of_make_dir, change_of_new_file}
+use Rattle.odb_disk.specs.Tree.Write.{spot, spot_below, in_directory, from_followed, and_then, vacant, file_spot, movable, written, after_write, change_of_append, change_of_make_dir, change_of_new_file, change_of_remove, change_of_rename}
 use Rattle.odb_disk.specs.MemDisk.{Volume, after_call, next_fails}
 use Rattle.odb_disk.specs.Ask.{change_of_ask, after_ask}
 use Rattle.odb_disk.specs.declared.ask.DiskAsk.{DiskAsk}
@@ -27,7 +28,7 @@ use Rattle.odb_disk.proofs.TreeLemmas.Changed.{IsTree-changed, made-rename, made
 use Rattle.odb_disk.proofs.TreeLemmas.Moved.{begins-own, behind-append, moved_target, moved_below, moved_away, moved_other, moved_onto_itself}
 use Rattle.odb_disk.proofs.TreeLemmas.MovedTree.{goes_on, none_below}
 use Rattle.odb_disk.proofs.TreeLemmas.Look.{read_of-put_file}
-use Rattle.odb_disk.proofs.TreeLemmas.Write.{leads_to_itself, file_at, new_file_possible, append_possible}
+use Rattle.odb_disk.proofs.TreeLemmas.Write.{append_possible, file_at, leads_to_itself, make_dir_possible, new_file_possible, remove_possible, rename_possible}
 use Rattle.odb_disk.proofs.MovedNumbersLemmas.{can_rename}
 use Rattle.odb_disk.proofs.WriteCallsLemmas.{change_of_new_file-is, change_of_append-is}
 
@@ -215,3 +216,22 @@ after_ask-look disk path follow = after_ask-unchanged disk (asks.Look path follo
 pub after_ask-read : (disk : Volume) (path : Path) → after_ask disk (asks.Read path) ≡ after_call disk
 unfolding change_of_ask
 after_ask-read disk path = after_ask-unchanged disk (asks.Read path) refl
+
+-- ---- a call leaves a tree
+
+from_ok : {A B : Type 0} (told : Result A B) (x : A) → result_ok told ≡ Some x → told ≡ Ok x
+from_ok (Ok y) x is = cc
+from_ok (Err e) x is = absurd (cc)
+
+pub asked_possible : (t : Tree) → IsTree t → (ask : DiskAsk) (change : Change) → change_of_ask t ask ≡ Some change → is_possible_in t change ≡ true
+unfolding change_of_ask
+asked_possible t is_tree (asks.Look path follow) change is = absurd (cc)
+asked_possible t is_tree (asks.Read path) change is = absurd (cc)
+asked_possible t is_tree (asks.MakeDir path) change is = make_dir_possible t is_tree path change (from_ok (change_of_make_dir t path) change is)
+asked_possible t is_tree (asks.NewFile path) change is = new_file_possible t is_tree path change (from_ok (change_of_new_file t path) change is)
+asked_possible t is_tree (asks.Append path bytes) change is = append_possible t is_tree path change bytes (from_ok (change_of_append t path bytes) change is)
+asked_possible t is_tree (asks.Rename from to) change is = rename_possible t is_tree from change to (from_ok (change_of_rename t from to) change is)
+asked_possible t is_tree (asks.Remove path) change is = remove_possible t is_tree path change (from_ok (change_of_remove t path) change is)
+
+pub IsTree-asked : (t : Tree) → IsTree t → (ask : DiskAsk) (change : Change) → change_of_ask t ask ≡ Some change → IsTree (changed t change)
+IsTree-asked t is_tree ask change is = IsTree-changed t change is_tree (asked_possible t is_tree ask change is)

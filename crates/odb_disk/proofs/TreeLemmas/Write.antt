@@ -28,7 +28,7 @@ pub found_by : {A B : Type 0} (next : A → Result B Refusal) (told : Result A R
 found_by next (Ok first) found is = record { first = first; is = refl; then = is }
 found_by next (Err refusal) found is = absurd (cc)
 
-if_ok : {A : Type 0} (b : Bool) (x y : A) (refusal : Refusal) → cond b (Ok x) (Err refusal) ≡ Ok y → (b ≡ true) × (x ≡ y)
+pub if_ok : {A : Type 0} (b : Bool) (x y : A) (refusal : Refusal) → cond b (Ok x) (Err refusal) ≡ Ok y → (b ≡ true) × (x ≡ y)
 if_ok true x y refusal is = (refl, cc)
 if_ok false x y refusal is = absurd (cc)
 
@@ -47,7 +47,7 @@ pub record SpotIn (t : Tree) (path s : Path) : Type 0 where
   pub directory : is_directory_content place.node.content ≡ true
   pub is : place.path ++ drop (length front) path ≡ s
 
-followed_found : {A : Type 0} (told : Result A following.Refusal) (found : A) → from_followed told ≡ Ok found → told ≡ Ok found
+pub followed_found : {A : Type 0} (told : Result A following.Refusal) (found : A) → from_followed told ≡ Ok found → told ≡ Ok found
 followed_found (Ok x) found is = cc
 followed_found (Err refusal) found is = absurd (cc)
 

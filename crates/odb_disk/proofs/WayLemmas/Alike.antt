@@ -26,7 +26,7 @@ abbrev pub outline : Option Node → Option Node
 outline None = None
 outline (Some node) = Some (outline_node node)
 
-abbrev outline_pass : Pass → Pass
+abbrev pub outline_pass : Pass → Pass
 outline_pass (Reached path node) = Reached path (outline_node node)
 outline_pass (Onward path) = Onward path
 outline_pass Missing = Missing
@@ -67,7 +67,7 @@ led_on-outline further (Onward path) = refl
 led_on-outline further Missing = refl
 led_on-outline further Blocked = refl
 
-onward-outline : (p : Pass) (path : Path) → outline_pass p ≡ Onward path → p ≡ Onward path
+pub onward-outline : (p : Pass) (path : Path) → outline_pass p ≡ Onward path → p ≡ Onward path
 onward-outline (Reached at node) path is = absurd (cc)
 onward-outline (Onward onward) path is = is
 onward-outline Missing path is = absurd (cc)
@@ -92,7 +92,7 @@ abbrev pub Alike : Tree → Tree → List Path → Type 0
 Alike t u ways = (q : Path) → is_front_of_one ways q ≡ true → outline (node_at u q) ≡ outline (node_at t q)
 
 module _ (t u : Tree) (follow : Bool) where
-  pass_alike : (whole : Path) → ((q : Path) → begins whole q ≡ true → outline (node_at u q) ≡ outline (node_at t q)) → (way names : Path) → way ++ names ≡ whole → outline_pass (pass u follow way names) ≡ outline_pass (pass t follow way names)
+  pub pass_alike : (whole : Path) → ((q : Path) → begins whole q ≡ true → outline (node_at u q) ≡ outline (node_at t q)) → (way names : Path) → way ++ names ≡ whole → outline_pass (pass u follow way names) ≡ outline_pass (pass t follow way names)
   unfolding pass
   pass_alike whole alike way [] is =
       let here = alike way (ap (λ w. begins w way) (sym is) ∙ begins-append way []) in

@@ -137,17 +137,17 @@ unfollowed_front t (suc links) path q on =
 
 module _ (t : Tree) (name : Name) where
   -- what a directory at a path says of one name more
-  abbrev next : Bool → Path → Pass
+  abbrev pub next : Bool → Path → Pass
   next follow path = ending follow (path ++ name ∷ []) (node_at t (path ++ name ∷ []))
 
   -- a pass with links followed never reaches one
-  abbrev inside : Content → Pass → Pass
+  abbrev pub inside : Content → Pass → Pass
   inside (File bytes time) further = Blocked
   inside Dir further = further
   inside (Link target) further = Blocked
 
   -- what a pass along a path says of one name more
-  abbrev by_name : Bool → Pass → Pass
+  abbrev pub by_name : Bool → Pass → Pass
   by_name follow (Reached path node) = inside node.content (next follow path)
   by_name follow (Onward path) = Onward (path ++ name ∷ [])
   by_name follow Missing = Missing
@@ -171,7 +171,7 @@ module _ (t : Tree) (name : Name) where
   beyond_by follow names None f g is = refl
   beyond_by follow names (Some node) f g is = past_by follow names node.content f g is
 
-  pass_by : (follow : Bool) (way names : Path) → pass t follow way (names ++ name ∷ []) ≡ by_name follow (pass t true way names)
+  pub pass_by : (follow : Bool) (way names : Path) → pass t follow way (names ++ name ∷ []) ≡ by_name follow (pass t true way names)
   unfolding pass
   pass_by follow way [] = last_by follow way (node_at t way)
   pass_by follow way (x ∷ names) =

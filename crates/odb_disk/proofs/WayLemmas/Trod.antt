@@ -24,14 +24,14 @@ pub data Trod (t : Tree) (last q : Path) : Type 0 where
   Behind : lies_in_directory t q ≡ false → Trod t last q
 
 -- a pass that comes to a node, or to a link that leads on
-abbrev comes : Pass → Bool
+abbrev pub comes : Pass → Bool
 comes (Reached path node) = true
 comes (Onward path) = true
 comes Missing = false
 comes Blocked = false
 
 -- a place that a pass reaches is the last one
-abbrev EndsAt : Path → Pass → Type 0
+abbrev pub EndsAt : Path → Pass → Type 0
 EndsAt last p = (path : Path) (node : Node) → p ≡ Reached path node → path ≡ last
 
 module _ (t : Tree) (is_tree : IsTree t) (follow : Bool) (last : Path) where
@@ -55,7 +55,7 @@ module _ (t : Tree) (is_tree : IsTree t) (follow : Bool) (last : Path) where
   beyond_trod way names further (Some node) at come = passed_trod way names further node node.content at refl come
 
   -- what lies behind what is no directory lies in none
-  behind : (way : Path) (name : Name) (names : Path) → is_directory (node_at t way) ≡ false → lies_in_directory t (way ++ name ∷ names) ≡ false
+  pub behind : (way : Path) (name : Name) (names : Path) → is_directory (node_at t way) ≡ false → lies_in_directory t (way ++ name ∷ names) ≡ false
   behind way name names other =
       let s = split_last (name ∷ names) (λ e. cc) in
       let whole : way ++ name ∷ names ≡ (way ++ s.front) ++ s.name ∷ [] = ap (λ r. way ++ r) s.is ∙ sym (append_assoc way s.front (s.name ∷ [])) in
@@ -74,7 +74,7 @@ module _ (t : Tree) (is_tree : IsTree t) (follow : Bool) (last : Path) where
   further_trod way name names rest further None at come ends next = absurd (false≢true come)
   further_trod way name names rest further (Some node) at come ends next = next_trod way name names rest further node node.content at refl come ends next
 
-  pass_trod : (way names front rest : Path) → names ≡ front ++ rest → comes (pass t follow way names) ≡ true → EndsAt last (pass t follow way names) → Trod t last (way ++ front)
+  pub pass_trod : (way names front rest : Path) → names ≡ front ++ rest → comes (pass t follow way names) ≡ true → EndsAt last (pass t follow way names) → Trod t last (way ++ front)
   unfolding pass
   pass_trod way [] [] rest is come ends = subst (Trod t last) (sym (append-nil way)) (ending_trod way (node_at t way) refl come ends)
   pass_trod way [] (x ∷ front) rest is come ends = absurd (cc)
