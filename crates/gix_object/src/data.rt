@@ -6,12 +6,14 @@ pub struct Data<'a> {
     pub kind: Kind,
     /// The hash of the database that it was found in.
     pub object_hash: gix_hash::Kind,
+    /// All its data.
     pub bytes: &'a [u8],
 }
 
-/// What the header of an object tells: its kind, and the size of its data in bytes.
+/// What the header of an object tells.
 #[derive(Clone, Copy, Debug, PartialEq, Eq, PartialOrd, Ord, Hash)]
 pub struct Header {
     pub kind: Kind,
+    /// How many bytes of data there are.
     pub size: u64,
 }

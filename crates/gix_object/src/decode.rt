@@ -15,8 +15,11 @@ const LONGEST: usize = 64;
 #[error("a loose object begins with its kind, a space, its size in decimal and NUL")]
 pub struct InvalidHeader;
 
-/// The header that a loose object begins with: the kind, the size in bytes that it says, and its own length.
-/// A header is the kind, a space, the size in decimal and NUL, and ends in the first 64 bytes.
+/// The header that a loose object of Git begins with: the kind, the size of the data in bytes that it says, and its
+/// own length in bytes.
+///
+/// A header is the kind's word, a space, the size in decimal without leading zeros, and NUL. It ends in the first 64
+/// bytes, and what follows isn't looked at. Anything else is `InvalidHeader`.
 pub fn loose_header(bytes: &[u8]) -> Result<(Kind, u64, usize), InvalidHeader>
     ensures found { IfOk result (λ header. IsLoose bytes.now header.0 header.1 (drop header.2 bytes.now)) }
     ensures length { IfOk result (λ header. header.2 ≡ length (header_of header.0 header.1)) }

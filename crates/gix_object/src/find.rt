@@ -24,7 +24,7 @@ pub trait Find {
     /// A database is asked for an id, gives an answer, and is another database afterwards.
     ghost finds: { Self → object_id → Result (Option Object) Self.Error → Self → Type 0 };
 
-    /// Finds an object, whose data are put into `out`, cleared before.
+    /// Finds an object, whose data are put into `out`, cleared before. None is an object that isn't there.
     fn try_find<'a, R: Wait>(
         &mut self,
         rt: &R,
@@ -49,7 +49,7 @@ pub trait FindHeader {
     /// A database is asked for the header of an id, gives an answer, and is another database afterwards.
     ghost finds_header: { Self → object_id → Result (Option header_data) Self.Error → Self → Type 0 };
 
-    /// The kind and the size of an object.
+    /// The kind of an object, and the size of its data in bytes. None is an object that isn't there.
     fn try_header<R: Wait>(
         &mut self,
         rt: &R,

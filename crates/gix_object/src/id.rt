@@ -7,7 +7,7 @@ use gix_hash::{Hasher, ObjectId};
 use odb_base::NoMemory;
 use std::alloc::Global;
 
-/// The id of an object: the hash of its header and its data.
+/// The id that Git gives an object: the hash of its header and its data. The only error is want of memory.
 #[tactic(auto, unfolding(crate::specs::Id::object_id))]
 pub fn compute_hash(
     alloc: Global,

@@ -3,7 +3,7 @@ ghost use Rattle.gix_object.specs.Kind.{kind_of_word, kind_word};
 
 use std::fmt;
 
-/// What an object is.
+/// What an object is: one of the four kinds that Git's headers name.
 #[derive(Clone, Copy, Debug, PartialEq, Eq, PartialOrd, Ord, Hash)]
 pub enum Kind {
     Commit,
@@ -13,7 +13,7 @@ pub enum Kind {
 }
 
 impl Kind {
-    /// The kind that a word names: `commit`, `tree`, `blob` or `tag`.
+    /// The kind that a word names: `commit`, `tree`, `blob` or `tag`. Any other word is none.
     #[tactic(auto, unfolding(crate::specs::Kind::kind_of_word))]
     pub fn from_bytes(word: &[u8]) -> Option<Kind>
         ensures { result ≡ kind_of_word word.now }
@@ -31,7 +31,7 @@ impl Kind {
         }
     }
 
-    /// The word for the kind.
+    /// The word for the kind, as it stands in a header.
     pub fn as_bytes(self) -> &'static [u8]
         ensures { result.now ≡ kind_word self }
     {

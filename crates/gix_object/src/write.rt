@@ -30,7 +30,7 @@ pub trait WriteTo {
     fn size(&self) -> u64
         ensures { result ≡ length (bytes self.now) };
 
-    /// Writes the data to a sink.
+    /// Writes the data to a sink, and fails only where the sink failed.
     fn write_to<K: Sink>(&self, out: &mut K) -> Result<(), Failed>
         ensures bytes { Puts (bytes self.now) (K.held out.old) (K.held out.new) result }
         ensures cause { HasCause (K.faults out.old) (K.faults out.new) result };
@@ -54,7 +54,7 @@ pub trait Write {
     /// The same of an object of this kind and size whose bytes come from a source.
     ghost streams: { Self → object_kind → ℕ → Stream → Option id_of_object → Result id_of_object Self.Error → Self → Type 0 };
 
-    /// Writes an object whose data are these bytes.
+    /// Writes an object whose data are these bytes, and answers its id.
     fn write_buf<R: Wait>(
         &mut self,
         rt: &R,
@@ -67,7 +67,7 @@ pub trait Write {
         ensures kind { IfOk result (λ id. kind_of id ≡ hash self.old) }
         ensures hash { hash self.new ≡ hash self.old };
 
-    /// The same under an id that the object is known to have.
+    /// The same under an id that the object is known to have, which is answered.
     fn write_buf_with_known_id<R: Wait>(
         &mut self,
         rt: &R,
@@ -81,7 +81,8 @@ pub trait Write {
         ensures id { IfOk result (λ answered. answered ≡ id) }
         ensures hash { hash self.new ≡ hash self.old };
 
-    /// Writes an object whose data are the bytes of a source, which are to be as many as `size` says.
+    /// Writes an object whose data are the bytes of a source, and answers its id. There are to be `size` bytes: fewer
+    /// or more are refused, and so is a source that fails.
     fn write_stream<S: Source, R: Wait>(
         &mut self,
         rt: &R,
@@ -97,7 +98,7 @@ pub trait Write {
         ensures kind { IfOk result (λ id. kind_of id ≡ hash self.old) }
         ensures hash { hash self.new ≡ hash self.old };
 
-    /// The same under an id that the object is known to have.
+    /// The same under an id that the object is known to have, which is answered.
     fn write_stream_with_known_id<S: Source, R: Wait>(
         &mut self,
         rt: &R,
@@ -114,7 +115,7 @@ pub trait Write {
         ensures id { IfOk result (λ answered. answered ≡ id) }
         ensures hash { hash self.new ≡ hash self.old };
 
-    /// Writes an object that gives its own data.
+    /// Writes an object that gives its own data, and answers its id.
     fn write<O: WriteTo, R: Wait>(
         &mut self,
         rt: &R,

@@ -1,137 +1,369 @@
-ghost use Rattle.std.specs.Prelude.{◌≡◌, ℕ, List, Some, IfOk, IfSome};
+//! A database through each bound of the traits, in words: its calls and what they answer.
+ghost use Rattle.std.specs.Prelude.{◌≡◌, IfOk};
 ghost use Rattle.gix_hash.specs.ObjectId.{kind_of};
-ghost use Rattle.gix_hash.specs.declared.kind.Kind.TheVariants.{Sha1};
 
 use crate::tests::front::Front;
-use crate::tests::shelf::{Shelf, ShelfError};
+use crate::tests::shelf::Shelf;
 use crate::{Data, Exists, Find, FindHeader, Header, Kind, Write, WriteTo};
 use gix_hash::ObjectId;
 use odb_disk::{MemSink, MemSource};
-use std::alloc::Global;
+use std::alloc::{AllocError, Global};
 use std::sync::Wait;
 use std::test::Fail;
 
-// Git's id of the blob `hello`.
-const HELLO: &[u8; 40] = b"b6fc4c620b67d95f953a5c1c1230aaab5db5a1b0";
+// ---- calls through the bounds
 
-fn shelf() -> Front<Shelf>
-    ensures { result.inner.hash ≡ Sha1 }
-{
-    Front {
-        inner: Shelf::new(gix_hash::Kind::Sha1),
-    }
-}
-
-/// The kind of an object, where a database finds it.
-fn kind_found<D: Find, R: Wait>(
+/// What a find answers: the kind and the data, `none` or `refused`.
+fn found<D: Find, R: Wait>(
     rt: &R,
     alloc: Global,
     database: &mut D,
     id: &ObjectId,
-) -> Result<Option<Kind>, D::Error>
+) -> Result<String, AllocError>
     requires { kind_of id.now ≡ D.hash database.old }
-    ensures { IfOk result (λ found. IfSome found (λ kind. (bytes : List ℕ) × D.finds database.old id.now (Ok (Some (record { kind = kind; bytes = bytes }))) database.new)) }
 {
-    let mut out = Vec::new(alloc);
+    let mut out = Vec::from_slice(alloc, b"before")?;
     match database.try_find(rt, alloc, id, &mut out) {
-        Ok(Some(object)) => Ok(Some(object.kind)),
-        Ok(None) => Ok(None),
-        Err(error) => Err(error),
+        Ok(Some(object)) => object_shown(alloc, object.kind, object.bytes),
+        Ok(None) => "none".to_string(alloc),
+        Err(_) => "refused".to_string(alloc),
     }
 }
 
-// A layer that answers something else than the database behind it, or puts the data behind what `out` held.
-#[test]
-fn finds_through_a_layer(rt: HostRuntime) -> Result<(), Fail> {
-    let mut front = shelf();
-    let id = front
-        .write_buf(&rt, rt.alloc(), Kind::Blob, b"hello")
-        .expect(&rt, "written");
-    assert_eq!(rt; Ok(id), ObjectId::from_hex(HELLO));
-    let mut out = Vec::from_slice(rt.alloc(), b"before")?;
-    let found = front.try_find(&rt, rt.alloc(), &id, &mut out);
-    let want = Data {
-        kind: Kind::Blob,
-        object_hash: gix_hash::Kind::Sha1,
-        bytes: b"hello",
-    };
-    assert_eq!(rt; found, Ok(Some(want)));
-    let header = Header {
-        kind: Kind::Blob,
-        size: 5,
-    };
-    assert_eq!(rt; front.try_header(&rt, rt.alloc(), &id), Ok(Some(header)));
-    assert_eq!(rt; front.exists(&rt, rt.alloc(), &id), Ok(true));
-    assert_eq!(rt;
-        kind_found(&rt, rt.alloc(), &mut front, &id),
-        Ok(Some(Kind::Blob))
-    );
-    let other = ObjectId::null(gix_hash::Kind::Sha1);
-    assert_eq!(rt; front.try_header(&rt, rt.alloc(), &other), Ok(None));
-    assert_eq!(rt; front.exists(&rt, rt.alloc(), &other), Ok(false));
-    assert_eq!(rt; kind_found(&rt, rt.alloc(), &mut front, &other), Ok(None));
-    Ok(())
+fn object_shown(alloc: Global, kind: Kind, bytes: &[u8]) -> Result<String, AllocError> {
+    let data = String::from_utf8_lossy(alloc, bytes)?;
+    format!(in alloc; "{kind} {data}")
 }
 
-fn source(alloc: Global, bytes: &[u8], faults: &[u64]) -> Result<MemSource, Fail> {
-    Ok(MemSource::with_faults(alloc, bytes.to_vec(alloc)?, faults)?)
+/// What a look for a header answers: the kind and the size, `none` or `refused`.
+fn header<D: FindHeader, R: Wait>(
+    rt: &R,
+    alloc: Global,
+    database: &mut D,
+    id: &ObjectId,
+) -> Result<String, AllocError>
+    requires { kind_of id.now ≡ D.hash database.old }
+{
+    match database.try_header(rt, alloc, id) {
+        Ok(Some(Header { kind, size })) => format!(in alloc; "{kind} {size}"),
+        Ok(None) => "none".to_string(alloc),
+        Err(_) => "refused".to_string(alloc),
+    }
 }
 
-// A stream that is cut, or taken although it is too short, too long or fails.
-#[test]
-fn writes_through_a_layer(rt: HostRuntime) -> Result<(), Fail> {
-    let hello = ObjectId::from_hex(HELLO).expect(&rt, "an id");
-    let rows: [(&str, u64, &[u64], Result<ObjectId, ShelfError>); 4] = [
-        ("whole", 5, &[], Ok(hello)),
-        ("too long", 4, &[], Err(ShelfError::SizeMismatch)),
-        ("too short", 6, &[], Err(ShelfError::SizeMismatch)),
-        ("failed", 5, &[2], Err(ShelfError::Source)),
-    ];
-    for (name, size, faults, want) in rows {
-        let mut front = shelf();
-        let mut from = source(rt.alloc(), b"hello", faults)?;
-        let answer = front.write_stream(&rt, rt.alloc(), Kind::Blob, size, &mut from);
-        assert_eq!(rt; answer, want, "{name}");
+/// What a test of presence answers: `yes`, `no` or `refused`.
+fn presence<D: Exists, R: Wait>(
+    rt: &R,
+    alloc: Global,
+    database: &mut D,
+    id: &ObjectId,
+) -> &'static str
+    requires { kind_of id.now ≡ D.hash database.old }
+{
+    match database.exists(rt, alloc, id) {
+        Ok(true) => "yes",
+        Ok(false) => "no",
+        Err(_) => "refused",
+    }
+}
+
+/// What a write answers: the id or `refused`.
+fn wrote<E: Drop>(alloc: Global, answer: Result<ObjectId, E>) -> Result<String, AllocError> {
+    match answer {
+        Ok(id) => format!(in alloc; "{id}"),
+        Err(_) => "refused".to_string(alloc),
+    }
+}
+
+fn write_buf<D: Write, R: Wait>(
+    rt: &R,
+    alloc: Global,
+    database: &mut D,
+    kind: Kind,
+    data: &str,
+) -> Result<String, AllocError> {
+    let answer = database.write_buf(rt, alloc, kind, data.as_bytes());
+    wrote(alloc, answer)
+}
+
+fn write_known<D: Write, R: Wait>(
+    rt: &R,
+    alloc: Global,
+    database: &mut D,
+    kind: Kind,
+    data: &str,
+    id: ObjectId,
+) -> Result<String, AllocError>
+    requires { kind_of id ≡ D.hash database.old }
+{
+    let answer = database.write_buf_with_known_id(rt, alloc, kind, data.as_bytes(), id);
+    wrote(alloc, answer)
+}
+
+fn write_object<D: Write, R: Wait>(
+    rt: &R,
+    alloc: Global,
+    database: &mut D,
+    object: &Data,
+) -> Result<String, AllocError> {
+    let answer = database.write(rt, alloc, object);
+    wrote(alloc, answer)
+}
+
+fn write_stream<D: Write, R: Wait>(
+    rt: &R,
+    alloc: Global,
+    database: &mut D,
+    kind: Kind,
+    size: u64,
+    from: &mut MemSource,
+) -> Result<String, AllocError> {
+    let answer = database.write_stream(rt, alloc, kind, size, from);
+    wrote(alloc, answer)
+}
+
+fn write_known_stream<D: Write, R: Wait>(
+    rt: &R,
+    alloc: Global,
+    database: &mut D,
+    kind: Kind,
+    size: u64,
+    from: &mut MemSource,
+    id: ObjectId,
+) -> Result<String, AllocError>
+    requires { kind_of id ≡ D.hash database.old }
+{
+    let answer = database.write_stream_with_known_id(rt, alloc, kind, size, from, id);
+    wrote(alloc, answer)
+}
+
+// ---- rows
+
+fn cut(text: &str) -> (&str, &str) {
+    text.split_once(' ').unwrap_or((text, ""))
+}
+
+/// An id of this hash, by its hex digits.
+fn id_of(hash: gix_hash::Kind, hex: &str) -> Result<ObjectId, Fail>
+    ensures { IfOk result (λ id. kind_of id ≡ hash) }
+{
+    let id = ObjectId::from_hex(hex.as_bytes())?;
+    if id.kind() == hash {
+        return Ok(id);
+    }
+    Err(Fail::new("an id of the other hash"))
+}
+
+fn kind_named(word: &str) -> Result<Kind, Fail> {
+    match Kind::from_bytes(word.as_bytes()) {
+        Some(kind) => Ok(kind),
+        None => Err(Fail::new("no kind")),
+    }
+}
+
+/// `ask HEX`: what a find, a look for a header and a test of presence answer.
+fn asked<R: Wait>(
+    rt: &R,
+    alloc: Global,
+    database: &mut Front<Shelf>,
+    hex: &str,
+) -> Result<String, Fail> {
+    let found = find(rt, alloc, database, hex)?;
+    let head = head(rt, alloc, database, hex)?;
+    let there = there(rt, alloc, database, hex)?;
+    Ok(format!(in alloc; "{found}, {head}, {there}")?)
+}
+
+fn find<R: Wait>(
+    rt: &R,
+    alloc: Global,
+    database: &mut Front<Shelf>,
+    hex: &str,
+) -> Result<String, Fail> {
+    let id = id_of(database.inner.hash, hex)?;
+    Ok(found(rt, alloc, database, &id)?)
+}
+
+fn head<R: Wait>(
+    rt: &R,
+    alloc: Global,
+    database: &mut Front<Shelf>,
+    hex: &str,
+) -> Result<String, Fail> {
+    let id = id_of(database.inner.hash, hex)?;
+    Ok(header(rt, alloc, database, &id)?)
+}
+
+fn there<R: Wait>(
+    rt: &R,
+    alloc: Global,
+    database: &mut Front<Shelf>,
+    hex: &str,
+) -> Result<&'static str, Fail> {
+    let id = id_of(database.inner.hash, hex)?;
+    Ok(presence(rt, alloc, database, &id))
+}
+
+/// `write KIND DATA`
+fn write<R: Wait>(
+    rt: &R,
+    alloc: Global,
+    database: &mut Front<Shelf>,
+    rest: &str,
+) -> Result<String, Fail> {
+    let (kind, data) = cut(rest);
+    let kind = kind_named(kind)?;
+    Ok(write_buf(rt, alloc, database, kind, data)?)
+}
+
+/// `object KIND DATA`
+fn object<R: Wait>(
+    rt: &R,
+    alloc: Global,
+    database: &mut Front<Shelf>,
+    rest: &str,
+) -> Result<String, Fail> {
+    let (kind, data) = cut(rest);
+    let object = Data {
+        kind: kind_named(kind)?,
+        object_hash: database.inner.hash,
+        bytes: data.as_bytes(),
+    };
+    Ok(write_object(rt, alloc, database, &object)?)
+}
+
+/// `as HEX KIND DATA`
+fn known<R: Wait>(
+    rt: &R,
+    alloc: Global,
+    database: &mut Front<Shelf>,
+    rest: &str,
+) -> Result<String, Fail> {
+    let (hex, rest) = cut(rest);
+    let id = id_of(database.inner.hash, hex)?;
+    let (kind, data) = cut(rest);
+    let kind = kind_named(kind)?;
+    Ok(write_known(rt, alloc, database, kind, data, id)?)
+}
+
+/// A source of which the read with this number fails.
+fn source_of(alloc: Global, failing: &str, data: &str) -> Result<MemSource, Fail> {
+    let failing = failing.parse::<u64>()?;
+    let data = data.as_bytes().to_vec(alloc)?;
+    Ok(MemSource::with_faults(alloc, data, &[failing])?)
+}
+
+/// `stream KIND SIZE FAILING DATA`
+fn stream<R: Wait>(
+    rt: &R,
+    alloc: Global,
+    database: &mut Front<Shelf>,
+    rest: &str,
+) -> Result<String, Fail> {
+    let (kind, rest) = cut(rest);
+    let kind = kind_named(kind)?;
+    let (size, rest) = cut(rest);
+    let size = size.parse::<u64>()?;
+    let (failing, data) = cut(rest);
+    let mut from = source_of(alloc, failing, data)?;
+    Ok(write_stream(rt, alloc, database, kind, size, &mut from)?)
+}
+
+/// `streamas HEX KIND SIZE DATA`
+fn known_stream<R: Wait>(
+    rt: &R,
+    alloc: Global,
+    database: &mut Front<Shelf>,
+    rest: &str,
+) -> Result<String, Fail> {
+    let (hex, rest) = cut(rest);
+    let id = id_of(database.inner.hash, hex)?;
+    let (kind, rest) = cut(rest);
+    let kind = kind_named(kind)?;
+    let (size, data) = cut(rest);
+    let size = size.parse::<u64>()?;
+    let mut from = source_of(alloc, "0", data)?;
+    Ok(write_known_stream(rt, alloc, database, kind, size, &mut from, id)?)
+}
+
+fn told<R: Wait>(
+    rt: &R,
+    alloc: Global,
+    database: &mut Front<Shelf>,
+    text: &str,
+) -> Result<String, Fail> {
+    let (verb, rest) = cut(text);
+    match verb {
+        "ask" => asked(rt, alloc, database, rest),
+        "write" => write(rt, alloc, database, rest),
+        "object" => object(rt, alloc, database, rest),
+        "as" => known(rt, alloc, database, rest),
+        "stream" => stream(rt, alloc, database, rest),
+        _ => known_stream(rt, alloc, database, rest),
+    }
+}
+
+/// What each row gives, in turn, through a layer in front of a database of one object.
+fn check<R: Wait>(rt: &R, alloc: Global, rows: &[&str]) -> Result<(), Fail> {
+    let mut database = Front {
+        inner: Shelf::new(gix_hash::Kind::Sha1),
+    };
+    for row in rows {
+        let (text, want) = row.split_once('|').unwrap_or((row, ""));
+        let found = told(rt, alloc, &mut database, text)?;
+        if found.as_str() != want {
+            return Err(Fail::new(format_args!("{text}: {found} in place of {want}")));
+        }
     }
     Ok(())
 }
 
-// An id that was handed in and isn't answered, or data that are stored under another one.
+// Git's id of the blob `hello`.
+const ROWS: [&str; 16] = [
+    "ask b6fc4c620b67d95f953a5c1c1230aaab5db5a1b0|none, none, no",
+    "write blob hello|b6fc4c620b67d95f953a5c1c1230aaab5db5a1b0",
+    "ask b6fc4c620b67d95f953a5c1c1230aaab5db5a1b0|blob hello, blob 5, yes",
+    "ask 0000000000000000000000000000000000000000|none, none, no",
+    "as 0000000000000000000000000000000000000000 tag t|0000000000000000000000000000000000000000",
+    "ask 0000000000000000000000000000000000000000|tag t, tag 1, yes",
+    "ask b6fc4c620b67d95f953a5c1c1230aaab5db5a1b0|none, none, no",
+    "stream blob 4 0 hello|refused",
+    "stream blob 6 0 hello|refused",
+    "stream blob 5 2 hello|refused",
+    "ask 0000000000000000000000000000000000000000|tag t, tag 1, yes",
+    "stream blob 5 0 hello|b6fc4c620b67d95f953a5c1c1230aaab5db5a1b0",
+    "streamas 0000000000000000000000000000000000000000 tree 0 |0000000000000000000000000000000000000000",
+    "ask 0000000000000000000000000000000000000000|tree , tree 0, yes",
+    "object blob hello|b6fc4c620b67d95f953a5c1c1230aaab5db5a1b0",
+    "ask b6fc4c620b67d95f953a5c1c1230aaab5db5a1b0|blob hello, blob 5, yes",
+];
+
+// A layer that answers something else than the database behind it, data behind what `out` held, a stream that is
+// taken although it is too short, too long or fails, an id that was handed in and isn't answered.
 #[test]
-fn writes_under_known_ids(rt: HostRuntime) -> Result<(), Fail> {
-    let mut front = shelf();
-    let id = ObjectId::null(gix_hash::Kind::Sha1);
-    let buffer = front.write_buf_with_known_id(&rt, rt.alloc(), Kind::Tag, b"t", id);
-    assert_eq!(rt; buffer, Ok(id));
-    let mut from = source(rt.alloc(), b"hello", &[])?;
-    let stream = front.write_stream_with_known_id(&rt, rt.alloc(), Kind::Blob, 5, &mut from, id);
-    assert_eq!(rt; stream, Ok(id));
-    assert_eq!(rt;
-        kind_found(&rt, rt.alloc(), &mut front, &id),
-        Ok(Some(Kind::Blob))
-    );
-    Ok(())
+fn through_the_bounds(rt: HostRuntime) -> Result<(), Fail> {
+    check(&rt, rt.alloc(), &ROWS)
 }
 
-// An object that gives other bytes than its data, or goes on after a fault.
-#[test]
-fn writes_an_object_that_was_found(rt: HostRuntime) -> Result<(), Fail> {
+/// What an object of five bytes writes to a sink of which the write with this number fails.
+fn given(alloc: Global, failing: u64) -> Result<String, Fail> {
     let object = Data {
         kind: Kind::Blob,
         object_hash: gix_hash::Kind::Sha1,
         bytes: b"hello",
     };
-    let mut front = shelf();
-    let answer = front.write(&rt, rt.alloc(), &object);
-    assert_eq!(rt;
-        answer.map_err(|_| ()),
-        ObjectId::from_hex(HELLO).map_err(|_| ())
-    );
-    assert_eq!(rt; object.size(), 5);
-    let mut sink = MemSink::with_faults(rt.alloc(), &[1])?;
-    assert!(rt; object.write_to(&mut sink).is_err());
-    assert_eq!(rt; sink.bytes(), b"".as_slice());
-    assert!(rt; object.write_to(&mut sink).is_ok());
-    assert_eq!(rt; sink.bytes(), b"hello".as_slice());
+    let mut sink = MemSink::with_faults(alloc, &[failing])?;
+    let written = object.write_to(&mut sink).is_ok();
+    let text = String::from_utf8_lossy(alloc, sink.bytes())?;
+    let size = object.size();
+    Ok(format!(in alloc; "{written} {size} {text}")?)
+}
+
+// An object that gives other bytes than its data, or goes on after a fault.
+#[test]
+fn objects_give_their_data(rt: HostRuntime) -> Result<(), Fail> {
+    let whole = given(rt.alloc(), 0)?;
+    let failed = given(rt.alloc(), 1)?;
+    assert!(rt; whole.as_str() == "true 5 hello" && failed.as_str() == "false 5 ");
     Ok(())
 }
