@@ -1,7 +1,6 @@
 -- Each answer leaves a call with fewer asks, for callers: a call with so many asks left has at most so many turns.
-use Rattle.std.proofs.Common.{◌≡◌, ◌<◌, ◌≤◌, ◌+◌, ◌-◌, ◌==◌, ℕ, Bool, true, false, List, length, take, drop, Option, Some, None, Result, Ok, Err, refl, cond, sym, ap, ◌∙◌, subst, arith}
+use Rattle.std.proofs.Common.{◌≡◌, ◌<◌, ◌≤◌, ◌+◌, ◌-◌, ◌==◌, ℕ, Bool, true, false, length, drop, Some, Err, refl, sym, ap, ◌∙◌, subst, arith}
 use Rattle.std.specs.Prelude.{nat_lt, nat_le, min, if◌then◌else◌}
-use Rattle.std.proofs.lemmas.Bool.{cases_lt}
 use Rattle.std.proofs.lemmas.Grind.{common_steps}
 use Rattle.std.proofs.lemmas.List.{length-take, length-drop}
 use Rattle.odb_disk.specs.declared.ask.DiskAsk.{DiskAsk}
@@ -12,7 +11,7 @@ use Rattle.gix_hash.specs.declared.object_id.ObjectId.{ObjectId}
 use Rattle.gix_odb_loose.specs.LooseOrder.{fed, disk_ask_of, stage_ask, next_stage, asks_left, written_to}
 use Rattle.gix_odb_loose.specs.WriteOrder.{made_by, headed_by, filled_by, foldered_by, moved_by, next_write, ended_with, written_in, room_behind, grown}
 use Rattle.gix_odb_loose.specs.WriteNames.{name_for}
-use Rattle.gix_odb_loose.specs.WriteJobs.{is_at_end, supplied, supplied_to, piece_at, piece_of, next_in, led_by, led_in, pieces_of, writes_left}
+use Rattle.gix_odb_loose.specs.WriteJobs.{supplied, piece_at, piece_of, next_in, led_by, pieces_of, writes_left}
 use Rattle.gix_odb_loose.specs.declared.call.LooseCall.{LooseCall}
 use Rattle.gix_odb_loose.specs.declared.call.Stage.{Stage as CallStage}
 use Rattle.gix_odb_loose.specs.declared.call.Stage.TheVariants as calls
@@ -115,15 +114,15 @@ module _ (job : WriteJob) where
   moved_left number id (answers.File bytes time) = omega arith
   moved_left number id (answers.Refused error) = omega arith
 
-  abbrev piece : ℕ → ℕ
+  abbrev pub piece : ℕ → ℕ
   piece written = length (piece_at job.head.size job.bytes written)
 
   -- where more than this piece are left and the piece fits, it is a whole one
-  whole_piece : (size written len room : ℕ) (b : Bool) → nat_lt written size ≡ b → room ≡ (if b then min 65536 (size - written + 1) else 1) → len ≡ min room (n - written) → written + len < n → written + len ≤ size → len ≡ 65536
+  pub whole_piece : (size written len room : ℕ) (b : Bool) → nat_lt written size ≡ b → room ≡ (if b then min 65536 (size - written + 1) else 1) → len ≡ min room (n - written) → written + len < n → written + len ≤ size → len ≡ 65536
   whole_piece size written len room true e room_is len_is more fits = grind (arith, common_steps, e, room_is, len_is, more, fits)
   whole_piece size written len room false e room_is len_is more fits = absurd (grind (arith, common_steps, e, room_is, len_is, more, fits))
 
-  piece_is : (written : ℕ) → piece written ≡ min (room_behind job.head.size written) (n - written)
+  pub piece_is : (written : ℕ) → piece written ≡ min (room_behind job.head.size written) (n - written)
   piece_is written = length-take (room_behind job.head.size written) (drop written job.bytes) ∙ ap (min (room_behind job.head.size written)) (length-drop written job.bytes)
 
   grown_left : (number written : ℕ) (past : Bool) → nat_le n (written + piece written) ≡ past → written + piece written ≤ job.head.size

@@ -1,10 +1,11 @@
 -- What is taken from a source, read after read.
-use Rattle.std.specs.Prelude.{◌≡◌, ◌≢◌, ℕ, ◌+◌, ◌-◌, ◌<◌, ◌≤◌, List, [], ◌∷◌, ◌++◌, length, take, drop, Option, Some, None, Result, Ok, Err, IfSome, OnErr, refl}
-use Rattle.std.proofs.Common.{sym, ap, ◌∙◌, subst, arith, append-nil, append_assoc, take-append-drop}
+use Rattle.std.specs.Prelude.{◌≡◌, ℕ, ◌+◌, ◌<◌, ◌≤◌, List, [], ◌++◌, length, take, Option, Some, None, Result, Ok, Err, IfSome, OnErr, refl}
+use Rattle.std.proofs.Common.{sym, ap, ◌∙◌, arith, append-nil, append_assoc, take-append-drop}
 use Rattle.std.proofs.lemmas.List.{length-append, length-take}
-use Rattle.odb_disk.specs.Source.{Takes, Reads}
+use Rattle.odb_disk.specs.Source.{Reads}
 use Rattle.odb_disk.specs.declared.source.Failed.{Failed}
-use Rattle.gix_odb_loose.specs.WriteStreams.{Draws, IsAtEnd, Loses}
+use Rattle.gix_odb_loose.specs.StreamJobs.{Loses}
+use Rattle.gix_odb_loose.specs.WriteStreams.{Draws, IsAtEnd}
 
 pub Draws-none : (left : Option (List ℕ)) → Draws left left []
 Draws-none None = refl

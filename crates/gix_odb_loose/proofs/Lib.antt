@@ -1,10 +1,23 @@
 mod LooseExamples
 mod DrawLemmas
+mod RoomLemmas
 mod StreamLemmas
+mod TurnsLeftLemmas
 mod StreamTurnLemmas
+mod StreamEndLemmas
 mod LoosePathLemmas
 mod RunLemmas
 mod WriteRunLemmas
 mod WriteCallLemmas
 mod TurnLemmas
+pub mod RefusalLaws
 pub mod AsksLeftLemmas
+pub mod WriteHistoryLaws
+pub mod WriteShownLaws
+pub mod WriteCauseLaws
+pub mod WriteJobLaws
+pub mod SameAsksLaws
+pub mod ReadBackLaws
+pub mod FoundLaws
+pub mod NameLaws
+pub mod WriteMadeLaws

@@ -1,25 +1,25 @@
 -- What a write reads on, and how it goes on to a stage.
 use Rattle.std.specs.Result.{IsErr}
-use Rattle.std.specs.Prelude.{◌≡◌, ◌≢◌, ℕ, ◌+◌, ◌-◌, ◌^◌, ◌<◌, ◌≤◌, ◌==◌, Bool, true, false, nat_lt, min, List, [], ◌∷◌, ◌++◌, length, Option, Some, None, Result, Ok, Err, IfSome, if◌then◌else◌, refl}
-use Rattle.std.proofs.Common.{inl, sym, ap, ◌∙◌, subst, arith, append-nil, append_assoc}
+use Rattle.std.specs.Prelude.{◌≡◌, ◌≢◌, ℕ, ◌+◌, ◌-◌, ◌≤◌, ◌==◌, Bool, true, false, nat_lt, List, [], ◌++◌, length, Option, Some, None, Result, Ok, Err, IfSome, if◌then◌else◌, refl}
+use Rattle.std.proofs.Common.{inl, sym, ap, ◌∙◌, subst, arith, append-nil}
 use Rattle.std.proofs.lemmas.Grind.{common_steps}
 use Rattle.std.proofs.lemmas.List.{length-append}
 use Rattle.odb_base.specs.Faults.{Rose}
-use Rattle.odb_base.specs.Path.{Path}
 use Rattle.odb_disk.specs.Tree.{State}
 use Rattle.gix_hash.specs.declared.kind.Kind.{Kind as HashKind}
 use Rattle.gix_hash.specs.declared.object_id.ObjectId.{ObjectId}
-use Rattle.gix_odb_loose.specs.Exchanges.{Exchange, MadeOnly}
 use Rattle.gix_odb_loose.specs.WriteHistory.{IsHistory}
-use Rattle.gix_odb_loose.specs.WriteHistory.Laws.{IsHistory-ended}
+use Rattle.gix_odb_loose.proofs.WriteHistoryLaws.{IsHistory-ended}
 use Rattle.gix_odb_loose.specs.WriteNames.{name_for, Names}
-use Rattle.gix_odb_loose.specs.WriteOrder.{written_in, room_behind, ended_with, source_failed, temporary_of, number_made}
-use Rattle.gix_odb_loose.specs.WriteStreams.{Begun, Draws, IsAtEnd, Loses, Takes, NamedBy, OtherLength, SourceFailed, Did, Took, HasPiece, Named, HoldsFed, Holds, StandsAt, IsFed, BreaksAt, GoesOn, IsEnded, removal_at, temporary_at, turns_left}
+use Rattle.gix_odb_loose.specs.WriteOrder.{written_in, room_behind, ended_with, source_failed}
+use Rattle.gix_odb_loose.specs.StreamJobs.{Begun, Loses, Takes, NamedBy, SourceFailed, Took, HasPiece, IsNext, StandsAt, IsFed, BreaksAt, GoesOn, IsEnded}
+use Rattle.gix_odb_loose.specs.WriteStreams.{Draws, IsAtEnd, OtherLength}
 use Rattle.gix_odb_loose.specs.declared.stream_job.StreamJob.{StreamJob}
 use Rattle.gix_odb_loose.specs.declared.write_call.Refusal.TheVariants as refusals
 use Rattle.gix_odb_loose.specs.declared.write_call.WriteHead.{WriteHead}
 use Rattle.gix_odb_loose.specs.declared.write_call.WriteStage.{WriteStage}
 use Rattle.gix_odb_loose.specs.declared.write_call.WriteStage.TheVariants as stages
+use Rattle.gix_odb_loose.proofs.RoomLemmas.{has_room, room_within}
 use Rattle.gix_odb_loose.proofs.DrawLemmas.{Draws-more, Draws-end}
 
 -- a stage that waits for data
@@ -30,21 +30,6 @@ filling_is (stages.Filling number before) written e = let same : before ≡ writ
 filling_is (stages.Foldering number id) written e = absurd (cc e)
 filling_is (stages.Moving number id) written e = absurd (cc e)
 filling_is (stages.Removing number refusal) written e = absurd (cc e)
-
--- a piece has room, and one byte above the size at most
-room_some : (size written : ℕ) (b : Bool) → nat_lt written size ≡ b → 1 ≤ (if b then min 65536 (size - written + 1) else 1)
-room_some size written true e = grind (arith, common_steps)
-room_some size written false e = omega arith
-
-room_most : (size written : ℕ) (b : Bool) → nat_lt written size ≡ b → written ≤ size → written + (if b then min 65536 (size - written + 1) else 1) ≤ size + 1
-room_most size written true e within = let less : written < size = grind (arith, common_steps, e) in grind (arith, common_steps, less)
-room_most size written false e within = omega (arith, within)
-
-pub has_room : (size written : ℕ) → 1 ≤ room_behind size written
-has_room size written = room_some size written (nat_lt written size) refl
-
-pub room_within : (size written : ℕ) → written ≤ size → written + room_behind size written ≤ size + 1
-room_within size written within = room_most size written (nat_lt written size) refl within
 
 -- ---- the name and the length of all data
 
@@ -67,13 +52,13 @@ module _ (w : Begun) (state : Option State) (now : ℕ) where
 
   module _ (rest : Option (List ℕ)) (source_now : ℕ) (job : StreamJob) (number written : ℕ) (fed : IsFed w state now rest source_now job (stages.Filling number written)) where
     all_appended : fed.all ≡ fed.appended
-    all_appended = fed.holds.is ∙ append-nil fed.appended
+    all_appended = fed.holds.0.is ∙ append-nil fed.appended
 
     so_far : written ≡ length fed.all
     so_far = fed.history.0 ∙ ap length (sym all_appended)
 
     few_more : (more : List ℕ) → length more ≤ room_behind w.head.size written → length fed.all + length more ≤ w.head.size + 1
-    few_more more few = let room = room_within w.head.size written fed.holds.within in omega (arith, room, few, so_far)
+    few_more more few = let room = room_within w.head.size written fed.holds.0.within in omega (arith, room, few, so_far)
 
     -- the end of the data is told
     module _ (at_end : IsAtEnd rest) (new : StreamJob) (head : new.head ≡ job.head) (removal : new.removal ≡ job.removal) where
@@ -86,7 +71,7 @@ module _ (w : Begun) (state : Option State) (now : ℕ) where
       ended_history : IsHistory w.head (NamedBy w) (SourceFailed w source_now) (OtherLength w.left w.head.size) fed.appended (ended_with w.head.size id (stages.Filling number written)) fed.past
       ended_history =
           IsHistory-ended w.head (NamedBy w) (SourceFailed w source_now) (OtherLength w.left w.head.size) number written id fed.appended fed.past (named_from w.left w.known w.hash w.head fed.all whole)
-          (counts_from w.left w.head.size written fed.all whole so_far fed.holds.within) fed.history
+          (counts_from w.left w.head.size written fed.all whole so_far fed.holds.0.within) fed.history
 
       by_length : (same : Bool) → (written == w.head.size) ≡ same → StandsAt w state now rest source_now new (if same then stages.Foldering number id else stages.Removing number (refusals.SizeMismatch written))
       by_length true e =
@@ -95,8 +80,6 @@ module _ (w : Begun) (state : Option State) (now : ℕ) where
             appended = fed.appended;
             all = fed.all;
             did = fed.did;
-            renamed = fed.renamed;
-            made = fed.made;
             took = fed.took;
             head = head ∙ fed.head;
             removal = removal ∙ fed.removal;
@@ -110,8 +93,6 @@ module _ (w : Begun) (state : Option State) (now : ℕ) where
             appended = fed.appended;
             all = fed.all;
             did = fed.did;
-            renamed = fed.renamed;
-            made = fed.made;
             took = fed.took;
             head = head ∙ fed.head;
             removal = removal ∙ fed.removal;
@@ -133,7 +114,7 @@ module _ (w : Begun) (state : Option State) (now : ℕ) where
       -- for want of memory
       pub breaks_lost : (new : StreamJob) → new.removal ≡ job.removal → BreaksAt w state now last later new (stages.Filling number written)
       breaks_lost new removal =
-          record { past = fed.past; all = fed.all ++ loses.lost; did = fed.did; renamed = fed.renamed; made = fed.made; took = took_lost; removal = removal ∙ fed.removal }
+          record { past = fed.past; appended = fed.appended; all = fed.all ++ loses.lost; did = fed.did; took = took_lost; removal = removal ∙ fed.removal; history = fed.history }
 
       -- by a failure of the source
       pub stands_failed : Rose source_now later → (new : StreamJob) → new.head ≡ job.head → new.removal ≡ job.removal → StandsAt w state now last later new (source_failed (stages.Filling number written))
@@ -143,18 +124,16 @@ module _ (w : Begun) (state : Option State) (now : ℕ) where
             appended = fed.appended;
             all = fed.all ++ loses.lost;
             did = fed.did;
-            renamed = fed.renamed;
-            made = fed.made;
             took = took_lost;
             head = head ∙ fed.head;
             removal = removal ∙ fed.removal;
-            history = (refl, inl (grind (arith, rose, fed.took.later)));
+            history = inl (grind (arith, rose, fed.took.later), (fed.appended, fed.history.1));
             holds = tt;
           }
 
     -- a piece is taken
     module _ (last : Option (List ℕ)) (later : ℕ) (piece : List ℕ) (takes : Takes (room_behind w.head.size written) rest last source_now later piece) (new : StreamJob) (head : new.head ≡ job.head) (removal : new.removal ≡ job.removal)
-        (is : new.piece ≡ piece) (ended : new.has_ended ≡ nat_lt (length piece) (room_behind w.head.size written)) (named : Names w.known w.hash w.head (fed.all ++ piece) new.naming) where
+        (is : new.piece ≡ piece) (ended : new.has_ended ≡ nat_lt (length piece) (room_behind w.head.size written)) (named : Names w.known w.hash w.head (fed.all ++ piece) new.naming) (open' : job.has_ended ≡ false) where
       took_piece : Took w last later (fed.all ++ piece)
       took_piece = took_more rest last source_now later fed.all piece fed.took takes.drawn (few_more piece takes.few) takes.later
 
@@ -163,7 +142,16 @@ module _ (w : Begun) (state : Option State) (now : ℕ) where
 
       has_piece : HasPiece w last written fed.appended (fed.all ++ piece) new.piece new
       has_piece =
-          record { is = ap (λ (xs : List ℕ). xs ++ piece) all_appended ∙ ap (λ (xs : List ℕ). fed.appended ++ xs) (sym is); named = named; within = fed.holds.within; ended = shorter }
+          record { is = ap (λ (xs : List ℕ). xs ++ piece) all_appended ∙ ap (λ (xs : List ℕ). fed.appended ++ xs) (sym is); named = named; within = fed.holds.0.within; ended = shorter }
+
+      next : new.piece ≢ [] → IsNext w written new
+      next some =
+          record {
+            some = some;
+            few = subst (λ (p : List ℕ). length p ≤ room_behind w.head.size written) (sym is) takes.few;
+            in_pieces = fed.holds.1 open';
+            full = λ e. ap length is ∙ (let whole = sym ended ∙ e in grind (arith, common_steps, whole, takes.few));
+          }
 
       pub stands_piece : new.piece ≢ [] → StandsAt w state now last later new (stages.Filling number written)
       stands_piece some =
@@ -172,13 +160,11 @@ module _ (w : Begun) (state : Option State) (now : ℕ) where
             appended = fed.appended;
             all = fed.all ++ piece;
             did = fed.did;
-            renamed = fed.renamed;
-            made = fed.made;
             took = took_piece;
             head = head ∙ fed.head;
             removal = removal ∙ fed.removal;
             history = fed.history;
-            holds = (has_piece, some);
+            holds = (has_piece, next some);
           }
 
       pub fed_nothing : new.piece ≡ [] → IsFed w state now last later new (stages.Filling number written)
@@ -188,14 +174,12 @@ module _ (w : Begun) (state : Option State) (now : ℕ) where
             appended = fed.appended;
             all = fed.all ++ piece;
             did = fed.did;
-            renamed = fed.renamed;
-            made = fed.made;
             took = took_piece;
             head = head ∙ fed.head;
             none = none;
             removal = removal ∙ fed.removal;
             history = fed.history;
-            holds = subst (λ (p : List ℕ). HasPiece w last written fed.appended (fed.all ++ piece) p new) none has_piece;
+            holds = (subst (λ (p : List ℕ). HasPiece w last written fed.appended (fed.all ++ piece) p new) none has_piece, λ e. fed.holds.1 open');
           }
 
       pub at_end_nothing : new.piece ≡ [] → IsAtEnd last
@@ -219,8 +203,8 @@ module _ (w : Begun) (state : Option State) (now : ℕ) (rest : Option (List ℕ
   -- the source is at its end
   pub on_end : job.has_ended ≡ true → (new : StreamJob) → new.head ≡ job.head → new.removal ≡ job.removal → IsEnded job new → StandsAt w state now rest source_now new new.stage
   on_end last new head removal ended =
-      stands_ended w state now rest source_now job number written filling (filling.holds.ended last) new head removal
-      (ended.stage ∙ ap (ended_with job.head.size ended.id) is_filling ∙ ap (λ (id : ObjectId). ended_with job.head.size id (stages.Filling number written)) (ended.named w.known w.hash w.head filling.all filling.holds.named))
+      stands_ended w state now rest source_now job number written filling (filling.holds.0.ended last) new head removal
+      (ended.stage ∙ ap (ended_with job.head.size ended.id) is_filling ∙ ap (λ (id : ObjectId). ended_with job.head.size id (stages.Filling number written)) (ended.named w.known w.hash w.head filling.all filling.holds.0.named))
 
   module _ (most : ℕ) (room : most ≡ room_behind job.head.size written) (last : Option (List ℕ)) (later : ℕ) where
     abbrev room_is : most ≡ room_behind w.head.size written
@@ -238,7 +222,7 @@ module _ (w : Begun) (state : Option State) (now : ℕ) (rest : Option (List ℕ
 
     module _ (piece : List ℕ) (takes : Takes most rest last source_now later piece) (taken : StreamJob) (head : taken.head ≡ job.head) (removal : taken.removal ≡ job.removal) (same : taken.stage ≡ job.stage) (is : taken.piece ≡ piece)
         (ended : taken.has_ended ≡ nat_lt (length piece) most)
-        (named : (known : Option ObjectId) (hash : HashKind) (head : WriteHead) (before : List ℕ) → Names known hash head before job.naming → Names known hash head (before ++ piece) taken.naming) where
+        (named : (known : Option ObjectId) (hash : HashKind) (head : WriteHead) (before : List ℕ) → Names known hash head before job.naming → Names known hash head (before ++ piece) taken.naming) (open' : job.has_ended ≡ false) where
       takes_room : Takes (room_behind w.head.size written) rest last source_now later piece
       takes_room = subst (λ (n : ℕ). Takes n rest last source_now later piece) room_is takes
 
@@ -246,18 +230,18 @@ module _ (w : Begun) (state : Option State) (now : ℕ) (rest : Option (List ℕ
       ended_is = ended ∙ ap (nat_lt (length piece)) room_is
 
       abbrev names : Names w.known w.hash w.head (filling.all ++ piece) taken.naming
-      names = named w.known w.hash w.head filling.all filling.holds.named
+      names = named w.known w.hash w.head filling.all filling.holds.0.named
 
       pub on_piece : taken.piece ≢ [] → StandsAt w state now last later taken taken.stage
       on_piece some =
           subst (λ (s : WriteStage). StandsAt w state now last later taken s) (sym (same ∙ is_filling))
-          (stands_piece w state now rest source_now job number written filling last later piece takes_room taken head removal is ended_is names some)
+          (stands_piece w state now rest source_now job number written filling last later piece takes_room taken head removal is ended_is names open' some)
 
       pub on_nothing : taken.piece ≡ [] → (new : StreamJob) → new.head ≡ taken.head → new.removal ≡ taken.removal → IsEnded taken new → StandsAt w state now last later new new.stage
       unfolding fed_nothing
       on_nothing none new head' removal' ended' =
-          let fed' = fed_nothing w state now rest source_now job number written filling last later piece takes_room taken head removal is ended_is names none in
-          let at_end = at_end_nothing w state now rest source_now job number written filling last later piece takes_room taken head removal is ended_is names none in
+          let fed' = fed_nothing w state now rest source_now job number written filling last later piece takes_room taken head removal is ended_is names open' none in
+          let at_end = at_end_nothing w state now rest source_now job number written filling last later piece takes_room taken head removal is ended_is names open' none in
           stands_ended w state now last later taken number written fed' at_end new head' removal'
           (ended'.stage ∙ ap (ended_with taken.head.size ended'.id) (same ∙ is_filling) ∙ ap (λ (id : ObjectId). ended_with taken.head.size id (stages.Filling number written)) (ended'.named w.known w.hash w.head fed'.all names))
 

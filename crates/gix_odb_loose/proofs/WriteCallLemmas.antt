@@ -1,10 +1,9 @@
 -- From the run of a write to the clauses of each call.
-use Rattle.std.specs.Prelude.{◌≡◌, ⊤, ℕ, ◌+◌, ◌≤◌, List, [], ◌++◌, length, drop, Option, Some, None, Result, Ok, Err, IfOk, IfSome, is_err, false, refl}
-use Rattle.std.proofs.Common.{sym, ap, ◌∙◌, subst, arith}
+use Rattle.std.specs.Prelude.{◌≡◌, ⊤, ℕ, List, [], ◌++◌, length, drop, Option, Some, None, Result, Ok, Err, IfOk, IfSome, is_err, false, refl}
+use Rattle.std.proofs.Common.{inl, inr, sym, ap, ◌∙◌}
 use Rattle.std.proofs.Math.Seq.{drop-append_seam}
 use Rattle.odb_base.specs.Faults.{Rose}
 use Rattle.odb_disk.specs.Tree.{State}
-use Rattle.odb_disk.specs.declared.ask.DiskAsk.{DiskAsk}
 use Rattle.gix_hash.specs.Hash.{hash_of}
 use Rattle.gix_hash.specs.ObjectId.{kind_of}
 use Rattle.gix_hash.specs.declared.kind.Kind.{Kind as HashKind}
@@ -16,10 +15,17 @@ use Rattle.gix_object.specs.Stream.{IsDrawn, IsWhole, stream_of}
 use Rattle.gix_object.specs.Stream as streams
 use Rattle.gix_odb_loose.specs.Causes.WriteLaws.{WriteCause-wider}
 use Rattle.gix_odb_loose.specs.WriteNames.{name_for}
-use Rattle.gix_odb_loose.specs.WriteRuns.{Refuses, FoundThere, Writes, WriteRuns, TakesFrom}
-use Rattle.gix_odb_loose.specs.WriteStreams.{Draws, IsAtEnd, OtherLength}
+use Rattle.gix_odb_loose.specs.Exchanges.{Exchange}
+use Rattle.gix_odb_loose.specs.WriteHistory.{DoneIn, IsStopped, IsHistory}
+use Rattle.gix_odb_loose.specs.WriteRuns.{Refuses, FoundThere, IsRefusedWrite, NamedFrom, WriteRuns}
+use Rattle.gix_odb_loose.specs.WriteStreams.{Draws, IsAtEnd, OtherLength, TakesFrom}
 use Rattle.gix_odb_loose.specs.declared.write.Error.{Error}
+use Rattle.gix_odb_loose.specs.declared.write.Message.TheVariants as messages
+use Rattle.gix_odb_loose.specs.declared.write_call.Refusal.{Refusal}
+use Rattle.gix_odb_loose.specs.declared.write_call.Refusal.TheVariants as refusals
 use Rattle.gix_odb_loose.specs.declared.write_call.WriteHead.{WriteHead}
+use Rattle.gix_odb_loose.specs.declared.write_call.WriteStage.{WriteStage}
+use Rattle.gix_odb_loose.specs.declared.write_call.WriteStage.TheVariants as stages
 
 pub if_ok : {A E : Type 0} (P : A → Type 0) (result : Result A E) → ((x : A) → result ≡ Ok x → P x) → IfOk result P
 if_ok P (Ok x) h = h x refl
@@ -29,6 +35,33 @@ if_ok P (Err error) h = tt
 object_named : (hash : HashKind) (head : WriteHead) (bytes : List ℕ) → length bytes ≡ head.size → name_for None hash head bytes ≡ object_id hash head.kind bytes
 unfolding object_id
 object_named hash head bytes size = ap (λ (n : ℕ). hash_of hash (header_of head.kind n ++ bytes)) (sym size)
+
+-- a source that never fails stops no write
+module _ (head : WriteHead) (Named : ObjectId → Type 0) (Counted : ℕ → Type 0) (SourceFailed : Type 0) (none : SourceFailed → ⊥) where
+  unfailing_stop : (number : ℕ) (refusal : Refusal) (past : List Exchange) → IsStopped head Named SourceFailed Counted number refusal past → IsStopped head Named ⊥ Counted number refusal past
+  unfailing_stop number (refusals.Io messages.CreateTempFile) past h = h
+  unfailing_stop number (refusals.Io messages.WriteHeader) past h = h
+  unfailing_stop number (refusals.Io messages.StreamData) past h = elim h [ inl failed ↦ absurd (none failed.0) | inr one ↦ inr one ]
+  unfailing_stop number refusals.IoRaw past h = h
+  unfailing_stop number (refusals.Persist id) past h = h
+  unfailing_stop number (refusals.SizeMismatch actual) past h = h
+  unfailing_stop number refusals.NoMemory past h = h
+
+  unfailing_history : (appended : List ℕ) (stage : WriteStage) (past : List Exchange) → IsHistory head Named SourceFailed Counted appended stage past → IsHistory head Named ⊥ Counted appended stage past
+  unfailing_history appended (stages.Making number) past h = h
+  unfailing_history appended (stages.Heading number) past h = h
+  unfailing_history appended (stages.Filling number written) past h = h
+  unfailing_history appended (stages.Foldering number id) past h = h
+  unfailing_history appended (stages.Moving number id) past h = h
+  unfailing_history appended (stages.Removing number refusal) past h = unfailing_stop number refusal past h
+
+  unfailing_write : (past : List Exchange) (error : Error) → IsRefusedWrite head Named SourceFailed Counted past error → IsRefusedWrite head Named ⊥ Counted past error
+  unfailing_write past error h =
+      elim h [
+        | inl run ↦ inl (run.0, elim run.1 [ inl unmade ↦ inl unmade | inr one ↦ inr (one.0, one.1, unfailing_stop one.0 run.0 one.1 one.2, one.3) ], run.2)
+        | inr broken ↦
+            inr (record { stage = broken.0.stage; appended = broken.0.appended; before = broken.0.before; history = unfailing_history broken.0.appended broken.0.stage broken.0.before broken.0.history; removed = broken.0.removed }, broken.1)
+      ]
 
 module _ (head : WriteHead) (hash : HashKind) (source : Option (List ℕ)) (SourceFailed : Type 0) (state new : Option State) (before now : ℕ) (result : Result ObjectId Error) where
   module _ (run : WriteRuns head hash None source SourceFailed state new before now result) where
@@ -75,14 +108,16 @@ module _ (head : WriteHead) (hash : HashKind) (source : Option (List ℕ)) (Sour
         exchanges = run.exchanges;
         given = run.given;
         left = run.left;
+        own = run.own;
         wrote = run.wrote;
+        stopped = λ error is. unfailing_write head (NamedFrom head hash known source) (OtherLength source head.size) SourceFailed none run.exchanges error (run.stopped error is);
         unnamed = run.unnamed;
         cleared = run.cleared;
+        untouched = run.untouched;
         refused =
             λ error is.
-            WriteCause-wider head (Refuses state (Rose before now) run.exchanges) (Refuses state (Rose before now) run.exchanges) (FoundThere run.exchanges) (FoundThere run.exchanges) (λ ask m r. r) (λ ask t. t) SourceFailed ⊥ none
-            (λ id. IfSome source (λ bytes. id ≡ name_for known hash head bytes)) (λ id. IfSome source (λ bytes. id ≡ name_for known hash head bytes)) (λ id n. n) ⊤ ⊤ (λ m. m) (OtherLength source head.size) (OtherLength source head.size) (λ n k. k) error
-            (run.refused error is);
+            WriteCause-wider head (Refuses state (Rose before now) run.exchanges) (Refuses state (Rose before now) run.exchanges) (FoundThere run.exchanges) (FoundThere run.exchanges) (DoneIn run.exchanges) (DoneIn run.exchanges) (λ ask m r. r) (λ ask t. t) (λ ask d. d)
+            SourceFailed ⊥ none (NamedFrom head hash known source) (NamedFrom head hash known source) (λ id n. n) ⊤ ⊤ (λ m. m) (OtherLength source head.size) (OtherLength source head.size) (λ n k. k) error (run.refused error is);
       }
 
 -- what is taken from the front

@@ -1,18 +1,12 @@
 -- From the end of a write to what the calls of a store promise.
 use Rattle.std.specs.Result.{IsErrAnd}
-use Rattle.std.specs.Prelude.{◌≡◌, ◌⊎◌, ⊤, ℕ, Bool, true, false, drop, if◌then◌else◌, zero, suc, ◌+◌, ◌<◌, ◌≤◌, ◌^◌, List, [], ◌∷◌, ◌++◌, length, slice_index_or, Contains, All, Option, Some, None, Result, Ok, Err, IfOk, IfSome, refl}
+use Rattle.std.specs.Prelude.{◌≡◌, ◌⊎◌, ⊤, ℕ, zero, suc, ◌<◌, List, [], ◌∷◌, length, slice_index_or, Contains, Option, Some, None, Result, Ok, Err, IfSome, refl}
 use Rattle.std.proofs.Common.{inl, inr, sym, ap, ◌∙◌, subst, arith}
-use Rattle.std.proofs.lemmas.List.Elements.{All-nil}
 use Rattle.odb_base.specs.Faults.{Rose}
-use Rattle.odb_base.specs.Path.{Path, parent_of}
 use Rattle.odb_disk.specs.Ask.{AnswersAsk, answer_of, state_told_after, write_answer, error_of_write}
-use Rattle.odb_disk.specs.Tree.{State, Tree, IsTree, tree_of, node_at, is_directory, is_directory_content}
-use Rattle.odb_disk.specs.Tree.Change.{is_file_content, device_of, parent_node}
-use Rattle.odb_disk.specs.declared.node.Node.{Node}
-use Rattle.odb_disk.specs.declared.change.Change.TheVariants.{PutFile, MakeDir, Rename, Append}
-use Rattle.odb_disk.specs.Tree.Follow as following
+use Rattle.odb_disk.specs.Tree.{State, Tree, IsTree, tree_of}
 use Rattle.odb_disk.specs.Tree.Write as writing
-use Rattle.odb_disk.specs.Tree.Write.{and_then, from_followed, in_directory, spot, spot_below, vacant, vacant_spot, movable, movable_spot, replaceable, file_spot, file_path, change_of_make_dir, change_of_new_file, change_of_append, change_of_rename}
+use Rattle.odb_disk.specs.Tree.Write.{change_of_make_dir, change_of_new_file, change_of_append, change_of_rename}
 use Rattle.odb_disk.specs.declared.change.Change.{Change}
 use Rattle.odb_disk.specs.declared.ask.DiskAsk.{DiskAsk}
 use Rattle.odb_disk.specs.declared.ask.DiskAsk.TheVariants as asks
@@ -20,123 +14,31 @@ use Rattle.odb_disk.specs.declared.ask.DiskAnswer.{DiskAnswer}
 use Rattle.odb_disk.specs.declared.ask.DiskAnswer.TheVariants as answers
 use Rattle.odb_disk.specs.declared.disk.DiskError.{DiskError}
 use Rattle.odb_disk.specs.declared.disk.DiskError.TheVariants as disk_errors
-use Rattle.gix_hash.specs.declared.kind.Kind.{Kind as HashKind}
+use Rattle.gix_odb_loose.proofs.RefusalLaws.{Never, there, full, new_file-never, make_dir-never, append-never, rename-never}
 use Rattle.gix_hash.specs.declared.object_id.ObjectId.{ObjectId}
 use Rattle.gix_odb_loose.specs.Causes.{WriteCause}
 use Rattle.gix_odb_loose.specs.Causes.WriteLaws.{IsMaking, WriteCause-wider}
-use Rattle.gix_odb_loose.specs.Exchanges.{Exchange, exchanged, left_by, AreGiven, FailByFaults, RenamedNothing, MadeOnly, file_made}
+use Rattle.gix_odb_loose.specs.Exchanges.{Exchange, exchanged, left_by, AreGiven, FailByFaults, RenamedNothing}
 use Rattle.std.proofs.lemmas.List.{length-append}
 use Rattle.gix_odb_loose.specs.LooseFile.{loose_path}
-use Rattle.gix_odb_loose.specs.WriteRuns.ReadBack.{ReadsBack, moved_reads_back}
-use Rattle.gix_odb_loose.specs.WriteHistory.{IsMoved, IsRefused, IsHistory, IsHistoryOfEnd, RefusedIn, TakenIn, WantedIn, HasCauseIn}
-use Rattle.gix_odb_loose.specs.WriteNames.{name_for}
+use Rattle.gix_odb_loose.specs.WriteRuns.ReadBack.{ReadsBack}
+use Rattle.gix_odb_loose.proofs.ReadBackLaws.{moved_reads_back}
+use Rattle.gix_odb_loose.specs.WriteHistory.{IsMoved, IsRefused, RefusedIn, TakenIn, DoneIn, WantedIn, HasCauseIn, IsRefusedRun, IsBrokenRun, tried}
+use Rattle.gix_odb_loose.specs.WriteOwn.{AreOwn, LeavesNothing}
 use Rattle.gix_odb_loose.specs.WriteOrder.{error_from, temp_path}
-use Rattle.gix_odb_loose.specs.WriteRuns.{IsOnWay, Refuses, FoundThere, Writes, WriteRuns, TakesFrom}
-use Rattle.gix_odb_loose.specs.WriteStreams.{Begun, Draws, IsAtEnd, NamedBy, OtherLength, SourceFailed, Did, Took, Named, LeavesNothing, EndsWith, IsAtItsEnd, IsBrokenOff}
+use Rattle.gix_odb_loose.specs.WriteRuns.{IsOnWay, Refuses, FoundThere, IsRefusedWrite, Writes, WriteRuns}
+use Rattle.gix_odb_loose.specs.StreamJobs.{Begun, NamedBy, SourceFailed, Did, Took, IsAtItsEnd, IsBrokenOff}
+use Rattle.gix_odb_loose.specs.WriteStreams.{OtherLength, TakesFrom}
+use Rattle.gix_odb_loose.proofs.WriteShownLaws.{refused_unnamed, refused_cleared, refused_own, broken_unnamed, broken_cleared, broken_own, moved_own, moved_below, unmade_left}
+use Rattle.gix_odb_loose.proofs.WriteCauseLaws.{refused_cause}
 use Rattle.gix_odb_loose.specs.declared.write.Error.{Error}
 use Rattle.gix_odb_loose.specs.declared.write.Error.TheVariants as errors
 use Rattle.gix_odb_loose.specs.declared.write_call.Refusal.{Refusal}
 use Rattle.gix_odb_loose.specs.declared.write_call.WriteHead.{WriteHead}
+use Rattle.gix_odb_loose.specs.declared.write_call.WriteStage.TheVariants as stages
+use Rattle.gix_odb_loose.specs.declared.write.Message.TheVariants as messages
+use Rattle.odb_base.specs.Path.{Path}
 use Rattle.gix_odb_loose.proofs.DrawLemmas.{Draws-end, Draws-none}
-
--- ---- a call that makes something is refused by its way, or because something is there
-
--- a step is never refused so
-abbrev Never : {A : Type 0} → writing.Refusal → Result A writing.Refusal → Type 0
-Never refusal result = result ≡ Err refusal → ⊥
-
-and_then-never : {A B : Type 0} (refusal : writing.Refusal) (next : A → Result B writing.Refusal) (result : Result A writing.Refusal) → Never refusal result → ((x : A) → Never refusal (next x)) → Never refusal (and_then next result)
-and_then-never refusal next (Ok x) before after = after x
-and_then-never refusal next (Err other) before after = λ e. before (let same : other ≡ refusal = cc e in ap (λ (r : writing.Refusal). Err r) same)
-
--- neither of the two refusals that no way gives
-data OffWay : writing.Refusal → Type 0 where
-  there : OffWay writing.Exists
-  full : OffWay writing.NotEmpty
-
-from_followed-never : {A : Type 0} (refusal : writing.Refusal) → OffWay refusal → (result : Result A following.Refusal) → Never refusal (from_followed result)
-from_followed-never refusal off (Ok x) e = cc e
-from_followed-never writing.Exists off (Err following.Absent) e = cc e
-from_followed-never writing.Exists off (Err following.WrongKind) e = cc e
-from_followed-never writing.Exists off (Err following.LinkLoop) e = cc e
-from_followed-never writing.NotEmpty off (Err following.Absent) e = cc e
-from_followed-never writing.NotEmpty off (Err following.WrongKind) e = cc e
-from_followed-never writing.NotEmpty off (Err following.LinkLoop) e = cc e
-from_followed-never writing.Absent off (Err refusal) e = elim off [ ]
-from_followed-never writing.WrongKind off (Err refusal) e = elim off [ ]
-from_followed-never writing.LinkLoop off (Err refusal) e = elim off [ ]
-
-either-never : {A : Type 0} (refusal : writing.Refusal) → OffWay refusal → (b : Bool) (x : A) → Never refusal (if b then Ok x else Err writing.WrongKind)
-either-never refusal off true x e = cc e
-either-never writing.Exists off false x e = cc e
-either-never writing.NotEmpty off false x e = cc e
-either-never writing.Absent off false x e = elim off [ ]
-either-never writing.WrongKind off false x e = elim off [ ]
-either-never writing.LinkLoop off false x e = elim off [ ]
-
-otherwise-never : {A : Type 0} (refusal : writing.Refusal) → OffWay refusal → (b : Bool) (x : A) → Never refusal (if b then Err writing.WrongKind else Ok x)
-otherwise-never refusal off false x e = cc e
-otherwise-never writing.Exists off true x e = cc e
-otherwise-never writing.NotEmpty off true x e = cc e
-otherwise-never writing.Absent off true x e = elim off [ ]
-otherwise-never writing.WrongKind off true x e = elim off [ ]
-otherwise-never writing.LinkLoop off true x e = elim off [ ]
-
-module _ (refusal : writing.Refusal) (off : OffWay refusal) (tree : Tree) where
-  below-never : (path : Path) (front : Option Path) → Never refusal (spot_below tree path front)
-  below-never path None = λ e. cc e
-  below-never path (Some front) =
-      and_then-never refusal (in_directory (drop (length front) path)) (from_followed (following.followed tree true front)) (from_followed-never refusal off (following.followed tree true front))
-      (λ place. either-never refusal off (is_directory_content place.node.content) (place.path ++ drop (length front) path))
-
-  spot-never : (path : Path) → Never refusal (spot tree path)
-  unfolding spot
-  spot-never path = below-never path (parent_of path)
-
-  append-never : (path : Path) (bytes : List ℕ) → Never refusal (change_of_append tree path bytes)
-  unfolding change_of_append file_spot
-  append-never path bytes =
-      and_then-never refusal (λ place. Ok (Append place bytes)) (and_then file_path (from_followed (following.followed tree true path)))
-      (and_then-never refusal file_path (from_followed (following.followed tree true path)) (from_followed-never refusal off (following.followed tree true path)) (λ place. either-never refusal off (is_file_content place.node.content) place.path))
-      (λ place e. cc e)
-
-  movable-never : (place : Path) (node : Option Node) → Never refusal (movable_spot place node)
-  movable-never place None = absent_never refusal off
-    where
-      absent_never : (refusal : writing.Refusal) → OffWay refusal → Never {A = Path} refusal (Err writing.Absent)
-      absent_never writing.Exists off e = cc e
-      absent_never writing.NotEmpty off e = cc e
-      absent_never writing.Absent off e = elim off [ ]
-      absent_never writing.WrongKind off e = elim off [ ]
-      absent_never writing.LinkLoop off e = elim off [ ]
-  movable-never place (Some node) = otherwise-never refusal off (is_directory_content node.content) place
-
-  rename-never : (from to : Path) → Never refusal (change_of_rename tree from to)
-  unfolding change_of_rename movable replaceable
-  rename-never from to =
-      and_then-never refusal (λ source. and_then (λ target. Ok (Rename source target)) (and_then (λ place. if is_directory (node_at tree place) then Err writing.WrongKind else Ok place) (spot tree to)))
-      (and_then (λ place. movable_spot place (node_at tree place)) (spot tree from))
-      (and_then-never refusal (λ place. movable_spot place (node_at tree place)) (spot tree from) (spot-never from) (λ place. movable-never place (node_at tree place)))
-      (λ source.
-      and_then-never refusal (λ target. Ok (Rename source target)) (and_then (λ place. if is_directory (node_at tree place) then Err writing.WrongKind else Ok place) (spot tree to))
-      (and_then-never refusal (λ place. if is_directory (node_at tree place) then Err writing.WrongKind else Ok place) (spot tree to) (spot-never to) (λ place. otherwise-never refusal off (is_directory (node_at tree place)) place))
-      (λ target e. cc e))
-
-vacant_spot-never : (place : Path) (node : Option Node) → Never writing.NotEmpty (vacant_spot place node)
-vacant_spot-never place None e = cc e
-vacant_spot-never place (Some node) e = cc e
-
-vacant-never : (tree : Tree) (path : Path) → Never writing.NotEmpty (vacant tree path)
-unfolding vacant
-vacant-never tree path = and_then-never writing.NotEmpty (λ place. vacant_spot place (node_at tree place)) (spot tree path) (spot-never writing.NotEmpty full tree path) (λ place. vacant_spot-never place (node_at tree place))
-
-new_file-never : (tree : Tree) (path : Path) → Never writing.NotEmpty (change_of_new_file tree path)
-unfolding change_of_new_file
-new_file-never tree path = and_then-never writing.NotEmpty (λ place. Ok (PutFile place 0 [])) (vacant tree path) (vacant-never tree path) (λ place e. cc e)
-
-make_dir-never : (tree : Tree) (path : Path) → Never writing.NotEmpty (change_of_make_dir tree path)
-unfolding change_of_make_dir
-make_dir-never tree path = and_then-never writing.NotEmpty (λ place. Ok (MakeDir place (device_of (parent_node tree place)))) (vacant tree path) (vacant-never tree path) (λ place e. cc e)
 
 -- ---- what a refused ask was answered
 
@@ -212,11 +114,11 @@ given_at (y ∷ ys) state (suc k) x given less e = from_told state y (GivenBySom
 
 refuses_told : (state : Option State) (Failed : Type 0) (xs : List Exchange) (ask : DiskAsk) (answer : DiskAnswer) → IsMaking ask → Contains xs (exchanged ask answer) → IsRefused ask answer → (answer ≡ answers.Refused disk_errors.Failed → Failed)
     → IfSome state (λ _. GivenBySome (exchanged ask answer)) → Refuses state Failed xs ask
-refuses_told None Failed xs ask answer making has refused failed given = inr (disk_errors.Absent, tt, tt)
+refuses_told None Failed xs ask answer making has refused failed given = (answer, has, refused, inr tt)
 refuses_told (Some s) Failed xs ask answer making has refused failed given =
     elim (making_refused given.0 ask making answer given.1 refused) [
-      | inl e ↦ inl (failed e)
-      | inr by ↦ inr (by.0, by.1, subst (λ (a : DiskAnswer). Contains xs (exchanged ask a)) by.2 has)
+      | inl e ↦ (answer, has, refused, inl (e, failed e))
+      | inr by ↦ (answer, has, refused, inr by)
     ]
 
 failed_at : (before now : ℕ) (xs : List Exchange) (ask : DiskAsk) (answer : DiskAnswer) → FailByFaults before now xs → Contains xs (exchanged ask answer) → answer ≡ answers.Refused disk_errors.Failed → Rose before now
@@ -243,24 +145,39 @@ module _ (w : Begun) (state : Option State) (now : ℕ) (rest : Option (List ℕ
   Runs result = WriteRuns w.head w.hash w.known w.left (Rose w.source_faults source_now) w.state state w.faults now result
 
   abbrev Refused : List Exchange → Error → Type 0
-  Refused past error = WriteCause w.head (NamedBy w) (Refuses w.state (Rose w.faults now) past) (FoundThere past) (Rose w.source_faults source_now) ⊤ (OtherLength w.left w.head.size) error
+  Refused past error = WriteCause w.head (NamedBy w) (Refuses w.state (Rose w.faults now) past) (FoundThere past) (DoneIn past) (Rose w.source_faults source_now) ⊤ (OtherLength w.left w.head.size) error
+
+  abbrev Stopped : List Exchange → Error → Type 0
+  Stopped past error = IsRefusedWrite w.head (NamedBy w) (SourceFailed w source_now) (OtherLength w.left w.head.size) past error
 
   -- the cause, as the disk told it
   cause_told : (past : List Exchange) (error : Error) → Did w state now past → HasCauseIn w.head (NamedBy w) (SourceFailed w source_now) (OtherLength w.left w.head.size) past error → Refused past error
   cause_told past error did h =
-      WriteCause-wider w.head (RefusedIn past) (Refuses w.state (Rose w.faults now) past) (TakenIn past) (FoundThere past) (refuses_in w.state w.faults now past did.given did.failed) (λ ask t. t) (Rose w.source_faults source_now) (Rose w.source_faults source_now) (λ f. f) (NamedBy w)
-      (NamedBy w) (λ id n. n) (WantedIn past) ⊤ (λ m. tt) (OtherLength w.left w.head.size) (OtherLength w.left w.head.size) (λ n k. k) error h
+      WriteCause-wider w.head (RefusedIn past) (Refuses w.state (Rose w.faults now) past) (TakenIn past) (FoundThere past) (DoneIn past) (DoneIn past) (refuses_in w.state w.faults now past did.given did.failed) (λ ask t. t) (λ ask d. d) (Rose w.source_faults source_now)
+      (Rose w.source_faults source_now) (λ f. f) (NamedBy w) (NamedBy w) (λ id n. n) (WantedIn past) ⊤ (λ m. tt) (OtherLength w.left w.head.size) (OtherLength w.left w.head.size) (λ n k. k) error h
 
-  runs_refused : (past : List Exchange) (error : Error) (result : Result ObjectId Error) → result ≡ Err error → Did w state now past → RenamedNothing past → LeavesNothing w.head past → Refused past error → Runs result
-  runs_refused past error result is did renamed leaves cause =
+  -- what a refused write shows
+  record Shows (past : List Exchange) (error : Error) : Type 0 where
+    own : AreOwn w.head (NamedBy w) past
+    stopped : Stopped past error
+    unnamed : RenamedNothing past
+    cleared : LeavesNothing w.head past
+    untouched : (at : Path) → error ≡ errors.Io messages.CreateTempFile at → left_by w.state past ≡ w.state
+    cause : Refused past error
+
+  runs_refused : (past : List Exchange) (error : Error) (result : Result ObjectId Error) → result ≡ Err error → Did w state now past → Shows past error → Runs result
+  runs_refused past error result is did shows =
       record {
         exchanges = past;
         given = did.given;
         left = did.left;
+        own = shows.own;
         wrote = λ id e. absurd (let both : Ok id ≡ Err error = sym e ∙ is in cc both);
-        unnamed = λ other e. renamed;
-        cleared = λ other e. leaves;
-        refused = λ other e. let same : error ≡ other = cc (sym is ∙ e) in subst (Refused past) same cause;
+        stopped = λ other e. let same : error ≡ other = cc (sym is ∙ e) in subst (Stopped past) same shows.stopped;
+        unnamed = λ other e. shows.unnamed;
+        cleared = λ other e. shows.cleared;
+        untouched = λ at e. did.left ∙ shows.untouched at (let same : error ≡ errors.Io messages.CreateTempFile at = cc (sym is ∙ e) in same);
+        refused = λ other e. let same : error ≡ other = cc (sym is ∙ e) in subst (Refused past) same shows.cause;
       }
 
   -- a write that got its name
@@ -270,9 +187,12 @@ module _ (w : Begun) (state : Option State) (now : ℕ) (rest : Option (List ℕ
         exchanges = at.past;
         given = at.did.given;
         left = at.did.left;
+        own = moved_own w.head (NamedBy w) at.ends.0.2.0 id at.appended at.past at.ends.0.1 at.ends.0.2.1;
         wrote = λ other e. let same : id ≡ other = cc (sym is ∙ e) in subst (λ (i : ObjectId). Writes w.head w.hash w.known w.left w.state state at.past i) same writes;
+        stopped = λ error e. absurd (let both : Err error ≡ Ok id = sym e ∙ is in cc both);
         unnamed = λ error e. absurd (let both : Err error ≡ Ok id = sym e ∙ is in cc both);
         cleared = λ error e. absurd (let both : Err error ≡ Ok id = sym e ∙ is in cc both);
+        untouched = λ at e. absurd (let both : Err (errors.Io messages.CreateTempFile at) ≡ Ok id = sym e ∙ is in cc both);
         refused = λ error e. absurd (let both : Err error ≡ Ok id = sym e ∙ is in cc both);
       }
     where
@@ -281,6 +201,7 @@ module _ (w : Begun) (state : Option State) (now : ℕ) (rest : Option (List ℕ
           record {
             bytes = at.appended;
             number = at.ends.0.2.0;
+            below = moved_below w.head at.ends.0.2.0 id at.appended at.past at.ends.0.2.1;
             moved = at.ends.0.2.1;
             size = at.ends.0.0;
             name = at.ends.1.2;
@@ -289,35 +210,54 @@ module _ (w : Begun) (state : Option State) (now : ℕ) (rest : Option (List ℕ
           }
 
   -- a write that was refused, or had no memory to tell why
-  pub runs_ended : (refusal : Refusal) → IsAtItsEnd w state now rest source_now (Err refusal) → (result : Result ObjectId Error) → result ≡ Err (error_from w.head refusal) → Runs result
-  runs_ended refusal at result is = runs_refused at.past (error_from w.head refusal) result is at.did at.ends.1 at.ends.2 (cause_told at.past (error_from w.head refusal) at.did at.ends.0)
+  module _ (refusal : Refusal) (at : IsAtItsEnd w state now rest source_now (Err refusal)) where
+    abbrev run : IsRefusedRun w.head (NamedBy w) (SourceFailed w source_now) (OtherLength w.left w.head.size) refusal at.past
+    run = at.ends
 
-  pub runs_untold : (refusal : Refusal) → IsAtItsEnd w state now rest source_now (Err refusal) → (result : Result ObjectId Error) → result ≡ Err errors.NoMemory → Runs result
-  runs_untold refusal at result is = runs_refused at.past errors.NoMemory result is at.did at.ends.1 at.ends.2 tt
+    shown : (error : Error) → (error ≡ error_from w.head refusal) ⊎ (error ≡ errors.NoMemory) → ((path : Path) → error ≡ errors.Io messages.CreateTempFile path → left_by w.state at.past ≡ w.state) → Refused at.past error → Shows at.past error
+    shown error is untouched cause =
+        record {
+          own = refused_own w.head (NamedBy w) (SourceFailed w source_now) (OtherLength w.left w.head.size) refusal at.past run;
+          stopped = inl (refusal, run, is);
+          unnamed = refused_unnamed w.head (NamedBy w) (SourceFailed w source_now) (OtherLength w.left w.head.size) refusal at.past run;
+          cleared = refused_cleared w.head (NamedBy w) (SourceFailed w source_now) (OtherLength w.left w.head.size) refusal at.past run;
+          untouched = untouched;
+          cause = cause;
+        }
+
+    pub runs_ended : (result : Result ObjectId Error) → result ≡ Err (error_from w.head refusal) → Runs result
+    runs_ended result is =
+        runs_refused at.past (error_from w.head refusal) result is at.did
+        (shown (error_from w.head refusal) (inl refl) (λ path e. unmade_left w.head (NamedBy w) (SourceFailed w source_now) (OtherLength w.left w.head.size) w.state refusal path at.past e run)
+        (cause_told at.past (error_from w.head refusal) at.did (refused_cause w.head (NamedBy w) (SourceFailed w source_now) (OtherLength w.left w.head.size) refusal at.past run)))
+
+    pub runs_untold : (result : Result ObjectId Error) → result ≡ Err errors.NoMemory → Runs result
+    runs_untold result is = runs_refused at.past errors.NoMemory result is at.did (shown errors.NoMemory (inr refl) (λ path e. absurd (cc e)) tt)
+
+  shown_broken : (past : List Exchange) → IsBrokenRun w.head (NamedBy w) (SourceFailed w source_now) (OtherLength w.left w.head.size) past → Shows past errors.NoMemory
+  shown_broken past run =
+      record {
+        own = broken_own w.head (NamedBy w) (SourceFailed w source_now) (OtherLength w.left w.head.size) past run;
+        stopped = inr (run, refl);
+        unnamed = broken_unnamed w.head (NamedBy w) (SourceFailed w source_now) (OtherLength w.left w.head.size) past run;
+        cleared = broken_cleared w.head (NamedBy w) (SourceFailed w source_now) (OtherLength w.left w.head.size) past run;
+        untouched = λ path e. absurd (cc e);
+        cause = tt;
+      }
 
   pub runs_broken : IsBrokenOff w state now rest source_now → (result : Result ObjectId Error) → result ≡ Err errors.NoMemory → Runs result
-  runs_broken off result is = runs_refused off.past errors.NoMemory result is off.did off.renamed off.leaves tt
+  runs_broken off result is = runs_refused off.past errors.NoMemory result is off.did (shown_broken off.past off.run)
 
-  -- what it took
-  pub took_from : (all : List ℕ) → Took w rest source_now all → TakesFrom w.head.size w.left rest w.source_faults source_now
-  took_from all took = record { all = all; drawn = took.drawn; few = took.few; later = took.later }
+-- what it took
+pub took_from : (w : Begun) (rest : Option (List ℕ)) (source_now : ℕ) (all : List ℕ) → Took w rest source_now all → TakesFrom w.head.size w.left rest w.source_faults source_now
+took_from w rest source_now all took = record { all = all; drawn = took.drawn; few = took.few; later = took.later }
 
 -- a write that didn't begin
 pub runs_nothing : (w : Begun) (result : Result ObjectId Error) → result ≡ Err errors.NoMemory → Runs w w.state w.faults w.left w.source_faults result
-unfolding AreGiven left_by
+unfolding AreGiven left_by tried
 runs_nothing w result is =
-    record {
-      exchanges = [];
-      given = tt;
-      left = refl;
-      wrote = λ id e. absurd (let both : Ok id ≡ Err errors.NoMemory = sym e ∙ is in cc both);
-      unnamed = λ other e k d l. absurd (omega (arith, l));
-      cleared = λ other e. inl (λ k d l. absurd (omega (arith, l)));
-      refused =
-          λ other e.
-          let same : errors.NoMemory ≡ other = cc (sym is ∙ e) in
-          subst (λ (x : Error). WriteCause w.head (NamedBy w) (Refuses w.state (Rose w.faults w.faults) []) (FoundThere []) (Rose w.source_faults w.source_faults) ⊤ (OtherLength w.left w.head.size) x) same tt;
-    }
+    runs_refused w w.state w.faults w.left w.source_faults [] errors.NoMemory result is (record { given = tt; left = refl; failed = λ k d l. absurd (omega (arith, l)); later = omega arith; tree = inl refl })
+    (shown_broken w w.state w.faults w.left w.source_faults [] (record { stage = stages.Making 0; appended = []; before = []; history = (omega arith, refl, refl); removed = refl }))
 
 pub took_nothing : (size : ℕ) (left : Option (List ℕ)) (faults : ℕ) → TakesFrom size left left faults faults
 took_nothing size left faults = record { all = []; drawn = Draws-none left; few = omega arith; later = omega arith }

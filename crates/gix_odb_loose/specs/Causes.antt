@@ -2,8 +2,9 @@
 --
 -- `Gave read` says that a read of the object's path gave `read` in the call, `Failed` that a call of the disk failed
 -- in it, and `Wanting` that memory ran out. `Refuses ask` says that this call of the disk failed, or found a part of
--- its way absent, of the wrong kind or a link loop, and `Exists ask` that something was there already. A store's
--- call, the machine and a run over a changing tree each have their own.
+-- its way absent, of the wrong kind or a link loop, `Exists ask` that something was there already, and `Done ask` that
+-- it was done. A write removes its file last, so a file that it made and then appends to or renames was not removed by
+-- it. A store's call, the machine and a run over a changing tree each have their own.
 pub mod Laws
 pub mod WriteLaws
 use Rattle.std.specs.Prelude.{◌≡◌, ◌≢◌, ◌⊎◌, ℕ, ◌<◌, List, [], length, Option, Some, None, Ok, Err}
@@ -105,19 +106,23 @@ Cause (jobs.Write kind size bytes id) path limit Gave Failed Wanting error = ⊥
 -- ---- a write
 
 -- What each message says: a temporary file couldn't be made, or all sixteen names were taken, each when it was tried; the
--- header or a piece of the data couldn't be appended to it; or the source of the data failed.
-abbrev pub IoCause : WriteHead → (Refuses Exists : DiskAsk → Type 0) (SourceFailed : Type 0) → Message → Type 0
-IoCause head Refuses Exists SourceFailed messages.CreateTempFile =
-    ((number : ℕ) × Refuses (asks.NewFile (temp_path head.objects number))) ⊎ ((number : ℕ) → number < 16 → Exists (asks.NewFile (temp_path head.objects number)))
-IoCause head Refuses Exists SourceFailed messages.WriteHeader = (number : ℕ) × Refuses (asks.Append (temp_path head.objects number) (header_of head.kind head.size))
-IoCause head Refuses Exists SourceFailed messages.StreamData = SourceFailed ⊎ ((number : ℕ) × (piece : List ℕ) × Refuses (asks.Append (temp_path head.objects number) piece))
+-- header or a piece of the data couldn't be appended to the file that was made; or the source of the data failed.
+abbrev pub IoCause : WriteHead → (Refuses Exists Done : DiskAsk → Type 0) (SourceFailed : Type 0) → Message → Type 0
+IoCause head Refuses Exists Done SourceFailed messages.CreateTempFile =
+    ((number : ℕ) × (number < 16) × Refuses (asks.NewFile (temp_path head.objects number))) ⊎ ((number : ℕ) → number < 16 → Exists (asks.NewFile (temp_path head.objects number)))
+IoCause head Refuses Exists Done SourceFailed messages.WriteHeader =
+    (number : ℕ) × Done (asks.NewFile (temp_path head.objects number)) × Refuses (asks.Append (temp_path head.objects number) (header_of head.kind head.size))
+IoCause head Refuses Exists Done SourceFailed messages.StreamData =
+    SourceFailed ⊎ ((number : ℕ) × (piece : List ℕ) × Done (asks.NewFile (temp_path head.objects number)) × Refuses (asks.Append (temp_path head.objects number) piece))
 
 -- What each error of a write says, where `Named id` says that the object gets this id, and `Counted actual` that there
--- were so many bytes of data, and not as many as were told.
-abbrev pub WriteCause : WriteHead → (Named : ObjectId → Type 0) (Refuses Exists : DiskAsk → Type 0) (SourceFailed Wanting : Type 0) (Counted : ℕ → Type 0) → WriteError → Type 0
-WriteCause head Named Refuses Exists SourceFailed Wanting Counted (write_errors.Io message at) = (at ≡ head.objects) × IoCause head Refuses Exists SourceFailed message
-WriteCause head Named Refuses Exists SourceFailed Wanting Counted write_errors.IoRaw = (id : ObjectId) × Named id × Refuses (asks.MakeDir (prefix_path head.objects id))
-WriteCause head Named Refuses Exists SourceFailed Wanting Counted (write_errors.Persist target) =
-    (id : ObjectId) × Named id × (target ≡ loose_path head.objects id) × ((number : ℕ) × Refuses (asks.Rename (temp_path head.objects number) target))
-WriteCause head Named Refuses Exists SourceFailed Wanting Counted (write_errors.SizeMismatch expected actual) = (expected ≡ head.size) × Counted actual
-WriteCause head Named Refuses Exists SourceFailed Wanting Counted write_errors.NoMemory = Wanting
+-- were so many bytes of data, and not as many as were told. A file is renamed that was made, after the directory of the
+-- object was made or was there.
+abbrev pub WriteCause : WriteHead → (Named : ObjectId → Type 0) (Refuses Exists Done : DiskAsk → Type 0) (SourceFailed Wanting : Type 0) (Counted : ℕ → Type 0) → WriteError → Type 0
+WriteCause head Named Refuses Exists Done SourceFailed Wanting Counted (write_errors.Io message at) = (at ≡ head.objects) × IoCause head Refuses Exists Done SourceFailed message
+WriteCause head Named Refuses Exists Done SourceFailed Wanting Counted write_errors.IoRaw = (id : ObjectId) × Named id × Refuses (asks.MakeDir (prefix_path head.objects id))
+WriteCause head Named Refuses Exists Done SourceFailed Wanting Counted (write_errors.Persist target) =
+    (id : ObjectId) × Named id × (target ≡ loose_path head.objects id)
+    × ((number : ℕ) × Done (asks.NewFile (temp_path head.objects number)) × (Done (asks.MakeDir (prefix_path head.objects id)) ⊎ Exists (asks.MakeDir (prefix_path head.objects id))) × Refuses (asks.Rename (temp_path head.objects number) target))
+WriteCause head Named Refuses Exists Done SourceFailed Wanting Counted (write_errors.SizeMismatch expected actual) = (expected ≡ head.size) × Counted actual
+WriteCause head Named Refuses Exists Done SourceFailed Wanting Counted write_errors.NoMemory = Wanting

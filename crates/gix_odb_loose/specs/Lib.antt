@@ -6,9 +6,12 @@ pub mod Answers
 pub mod WriteOrder
 pub mod WriteNames
 pub mod WriteJobs
+pub mod WritePieces
 pub mod WriteHistory
+pub mod WriteOwn
 pub mod WriteStreams
 pub mod WriteRuns
+pub mod StreamJobs
 pub mod LooseOrder
 pub mod Replies
 pub mod Runs

@@ -1,5 +1,5 @@
 -- The order of work of a write: a temporary file, its header and data, the directory of the object, and its name last.
-use Rattle.std.specs.Prelude.{ℕ, ◌+◌, ◌-◌, ◌^◌, ◌==◌, Bool, nat_lt, nat_le, min, List, [], ◌∷◌, ◌++◌, length, take, drop, codes, Option, Some, None, Result, Ok, Err, if◌then◌else◌}
+use Rattle.std.specs.Prelude.{ℕ, ◌+◌, ◌-◌, ◌^◌, ◌==◌, nat_lt, nat_le, min, List, [], ◌∷◌, ◌++◌, take, codes, Option, Some, None, Result, Ok, Err, if◌then◌else◌}
 use Rattle.std.specs.Fmt.{decimal}
 use Rattle.odb_base.specs.Path.{Name, Path}
 use Rattle.odb_disk.specs.declared.ask.DiskAsk.{DiskAsk}
@@ -10,7 +10,6 @@ use Rattle.odb_disk.specs.declared.disk.DiskError.TheVariants as disk_errors
 use Rattle.gix_hash.specs.ObjectId.{hex_of}
 use Rattle.gix_hash.specs.declared.object_id.ObjectId.{ObjectId}
 use Rattle.gix_object.specs.Loose.{header_of}
-use Rattle.gix_object.specs.declared.kind.Kind.{Kind}
 use Rattle.gix_odb_loose.specs.LooseFile.{loose_path}
 use Rattle.gix_odb_loose.specs.declared.write.Error.{Error}
 use Rattle.gix_odb_loose.specs.declared.write.Error.TheVariants as errors

@@ -1,5 +1,5 @@
 //! A call of a store as a machine: it names a call of the disk, is fed the answer, and comes to a reply.
-ghost use Rattle.std.specs.Prelude.{◌≡◌, true, IfOk, OnOk, OnErr};
+ghost use Rattle.std.specs.Prelude.{◌≡◌, true, is_some, IfOk, OnOk, OnErr};
 ghost use Rattle.gix_hash.specs.ObjectId.{kind_of};
 ghost use Rattle.gix_odb_loose.specs.Store.{store_hash};
 ghost use Rattle.gix_odb_loose.specs.LooseFile.{id_asked};
@@ -157,6 +157,13 @@ impl LooseCall {
             Stage::Writing(job) => job.temporary_file(alloc),
             _ => Ok(None),
         }
+    }
+
+    /// Whether the call is done: it has its reply, and asks nothing more.
+    pub fn is_done(&self) -> bool
+        ensures done { result ≡ is_some (reply_of self.now) }
+    {
+        matches!(self.stage, Stage::Done(_))
     }
 
     /// The reply, where the call is done.

@@ -1,6 +1,6 @@
 //! The next bytes of a source.
 ghost use Rattle.std.specs.Prelude.{IfOk, OnErr};
-ghost use Rattle.gix_odb_loose.specs.WriteStreams.{Fetches, Loses};
+ghost use Rattle.gix_odb_loose.specs.StreamJobs.{Fetches, Loses};
 
 use odb_base::{ByteList, NoMemory};
 use odb_disk::Source;
@@ -21,7 +21,7 @@ pub fn next_piece<S: Source>(alloc: Global, from: &mut S, most: usize) -> Result
     ensures fetched { IfOk result (Fetches most (S.left from.old) (S.left from.new) (S.faults from.old) (S.faults from.new)) }
     ensures lost { OnErr result (Loses most (S.left from.old) (S.left from.new) (S.faults from.old) (S.faults from.new)) }
 {
-    let mut bytes = Vec::new(alloc);
+    let mut bytes = Vec::with_capacity(alloc, most)?;
     let mut chunk = [0u8; CHUNK];
     'reads: while bytes.len() < most {
         let wanted = CHUNK.min(most - bytes.len());

@@ -13,10 +13,10 @@ use std::alloc::Global;
 pub fn object_path(alloc: Global, objects: &PathText, id: &ObjectId) -> Result<PathText, NoMemory>
     ensures { IfOk result (λ path. path ≡ loose_path_of objects.now id.now) }
 {
+    let folder = prefix_folder(alloc, objects, id)?;
     let hex = id.to_hex(alloc)?;
     prove!(id.as_bytes().len() > 1);
-    let (prefix, rest) = hex.as_str().split_at(2);
-    let folder = joined(alloc, objects, prefix)?;
+    let (_, rest) = hex.as_str().split_at(2);
     joined(alloc, &folder, rest)
 }
 

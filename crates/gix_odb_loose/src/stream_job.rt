@@ -7,7 +7,7 @@ ghost use Rattle.gix_odb_loose.specs.declared.write_call.WriteHead.{WriteHead as
 ghost use Rattle.gix_hash.specs.declared.kind.Kind.{Kind as hash_kind};
 ghost use Rattle.gix_hash.specs.declared.object_id.ObjectId.{ObjectId as id_of_object};
 ghost use Rattle.gix_odb_loose.specs.WriteNames.{Names};
-ghost use Rattle.gix_odb_loose.specs.WriteStreams.{Begun, IsFed, IsUnderway, GoesOn, IsEnded, TurnsTo, IsBroken, IsBrokenOff, turns_left};
+ghost use Rattle.gix_odb_loose.specs.StreamJobs.{Begun, IsFed, IsUnderway, GoesOn, IsEnded, TurnsTo, IsBroken, IsBrokenOff, turns_left};
 
 use crate::fetch::{Fetched, next_piece};
 use crate::naming::Naming;

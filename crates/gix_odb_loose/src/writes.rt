@@ -5,8 +5,8 @@ ghost use Rattle.gix_hash.specs.ObjectId.{kind_of};
 ghost use Rattle.gix_object.specs.Id.{object_id};
 ghost use Rattle.gix_object.specs.Stream.{stream_of, IsDrawn, IsWhole};
 ghost use Rattle.gix_odb_loose.specs.Store.{store_hash};
-ghost use Rattle.gix_odb_loose.specs.WriteRuns.{WriteRuns, TakesFrom, write_head};
-ghost use Rattle.gix_odb_loose.specs.WriteStreams.{IsAtEnd};
+ghost use Rattle.gix_odb_loose.specs.WriteRuns.{WriteRuns, write_head};
+ghost use Rattle.gix_odb_loose.specs.WriteStreams.{IsAtEnd, TakesFrom};
 
 use crate::lent::Lent;
 use crate::stream_job::StreamJob;

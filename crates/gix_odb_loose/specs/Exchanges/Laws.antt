@@ -1,12 +1,8 @@
 -- One exchange more.
-use Rattle.std.specs.Prelude.{◌≡◌, ◌⊎◌, ℕ, ◌≤◌, Bool, true, false, List, [], ◌∷◌, ◌++◌, All, Option, Some, None, IfSome, refl}
-use Rattle.std.proofs.Common.{inl, inr, arith}
-use Rattle.std.proofs.lemmas.List.Elements.{All-append, All-map}
-use Rattle.odb_base.specs.Faults.{Rose}
-use Rattle.odb_base.specs.Path.{Path}
+use Rattle.std.specs.Prelude.{◌≡◌, List, [], ◌∷◌, ◌++◌, Option, refl}
 use Rattle.odb_disk.specs.Ask.{state_told_after}
 use Rattle.odb_disk.specs.Tree.{State}
-use Rattle.gix_odb_loose.specs.Exchanges.{Exchange, left_by, IsGiven, AreGiven, FailByFaults, MadeOnly, file_made}
+use Rattle.gix_odb_loose.specs.Exchanges.{Exchange, left_by, IsGiven, AreGiven}
 
 pub left_by-push : (state : Option State) (xs : List Exchange) (x : Exchange) → left_by state (xs ++ x ∷ []) ≡ state_told_after (left_by state xs) x.ask x.answer
 unfolding left_by

@@ -1,110 +1,78 @@
-use crate::tests::{FILE, answers, disk_with, hello, make_dir, put, store_at};
+use crate::tests::calls::{check, store_at};
+use crate::tests::words::{compare, id_of};
+use crate::tests::{FILE, HELLO};
 use gix_hash::Kind::{Sha1, Sha256};
-use gix_hash::ObjectId;
-use odb_base::PathText;
-use odb_disk::{Change, MemDisk};
+use std::alloc::Global;
 use std::test::Fail;
 
-/// More bytes than a header has, without a NUL.
-const LONG: [u8; 100] = [49; 100];
+/// Damaged files, other nodes at the object's path or on its way, and none.
+const FINDS: [&str; 32] = [
+    "hello|none, none, no",
+    "mkdir /o|done",
+    "hello|none, none, no",
+    "put /o/b6 blob 5\0hello|done",
+    "hello|io, io, no",
+    "take /o/b6|done",
+    "mkdir /o/b6|done",
+    "hello|none, none, no",
+    "mkdir /o/b6/fc4c620b67d95f953a5c1c1230aaab5db5a1b0|done",
+    "hello|io, io, no",
+    "take /o/b6/fc4c620b67d95f953a5c1c1230aaab5db5a1b0|done",
+    "hello|none, none, no",
+    "file blob 5\0hello|blob hello, blob 5, yes",
+    "ask 0000000000000000000000000000000000000000|none, none, no",
+    "file tree 0\0|tree , tree 0, yes",
+    "file tag 3\0a\0b|tag a\0b, tag 3, yes",
+    "file commit 1\0x|commit x, commit 1, yes",
+    "file blob 5\0hello!|size, blob 5, yes",
+    "file blob 5\0hell|size, blob 5, yes",
+    "file blob 18446744073709551615\0x|size, blob 18446744073709551615, yes",
+    "file |io, io, yes",
+    "file 1111111111111111111111111111111111111111111111111111111111111111111111|decode, decode, yes",
+    "file blob 5|decode, decode, yes",
+    "file \0|decode, decode, yes",
+    "file blob\0|decode, decode, yes",
+    "file blob \0|decode, decode, yes",
+    "file blob 18446744073709551616\0|decode, decode, yes",
+    "file blob 05\0hello|decode, decode, yes",
+    "file blob +5\0hello|decode, decode, yes",
+    "file blob  5\0hello|decode, decode, yes",
+    "file blub 5\0hello|decode, decode, yes",
+    "file Blob 5\0hello|decode, decode, yes",
+];
+
+const SHA256: [&str; 5] = [
+    "mkdir /o|done",
+    "mkdir /o/8a|done",
+    "put /o/8a/ec4e4876f854f688d0ebfc8f37598f38e5fd6903cccc850ca36591175aeb60 blob 5\0hello|done",
+    "ask 8aec4e4876f854f688d0ebfc8f37598f38e5fd6903cccc850ca36591175aeb60|blob hello, blob 5, yes",
+    "ask 0000000000000000000000000000000000000000000000000000000000000000|none, none, no",
+];
 
 // A damaged file that is taken, or is refused by another error than its own; a header that isn't told because of
-// the data behind it.
+// the data behind it; data behind what `out` held; a directory answered as an object, a blocked way as absent; an
+// object of SHA-256 that isn't found at its path, or is found by another id.
 #[test]
-fn damaged_files(rt: HostRuntime) -> Result<(), Fail> {
-    let alloc = rt.alloc();
-    let store = store_at(alloc, "/o", Sha1, None)?;
-    let id = hello(alloc, Sha1)?;
-    for (bytes, want) in [
-        (b"blob 5\0hello".as_slice(), "blob hello, blob 5, yes"),
-        (b"tree 0\0".as_slice(), "tree , tree 0, yes"),
-        (b"tag 3\0a\0b".as_slice(), "tag a\0b, tag 3, yes"),
-        (b"commit 1\0x".as_slice(), "commit x, commit 1, yes"),
-        (b"blob 5\0hello!".as_slice(), "size, blob 5, yes"),
-        (b"blob 5\0hell".as_slice(), "size, blob 5, yes"),
-        (
-            b"blob 18446744073709551615\0x".as_slice(),
-            "size, blob 18446744073709551615, yes",
-        ),
-        (b"".as_slice(), "io, io, yes"),
-        (LONG.as_slice(), "decode, decode, yes"),
-        (b"blob 5".as_slice(), "decode, decode, yes"),
-        (b"\0".as_slice(), "decode, decode, yes"),
-        (b"blob\0".as_slice(), "decode, decode, yes"),
-        (b"blob \0".as_slice(), "decode, decode, yes"),
-        (
-            b"blob 18446744073709551616\0".as_slice(),
-            "decode, decode, yes",
-        ),
-        (b"blob 05\0hello".as_slice(), "decode, decode, yes"),
-        (b"blob +5\0hello".as_slice(), "decode, decode, yes"),
-        (b"blob  5\0hello".as_slice(), "decode, decode, yes"),
-        (b"blub 5\0hello".as_slice(), "decode, decode, yes"),
-        (b"Blob 5\0hello".as_slice(), "decode, decode, yes"),
-    ] {
-        let mut disk = disk_with(alloc, bytes, &[])?;
-        let text = String::from_utf8_lossy(alloc, bytes)?;
-        let told = answers(alloc, &store, &mut disk, &id)?;
-        assert_eq!(rt; told.as_str(), want, "{text}");
-    }
-    Ok(())
+fn finds(rt: HostRuntime) -> Result<(), Fail> {
+    check(rt.alloc(), Sha1, None, &[], &FINDS)?;
+    check(rt.alloc(), Sha256, None, &[], &SHA256)
 }
 
 // A limit that is off by one, that isn't tested first, or that counts for a header.
 #[test]
-fn limit(rt: HostRuntime) -> Result<(), Fail> {
-    let alloc = rt.alloc();
-    let id = hello(alloc, Sha1)?;
-    for (limit, bytes, want) in [
-        (None, b"blob 5\0hello".as_slice(), "blob hello, blob 5, yes"),
-        (
-            Some(5),
-            b"blob 5\0hello".as_slice(),
-            "blob hello, blob 5, yes",
-        ),
-        (Some(4), b"blob 5\0hello".as_slice(), "limit, blob 5, yes"),
-        (Some(0), b"blob 0\0".as_slice(), "blob , blob 0, yes"),
-        (Some(5), b"blob 5\0hello!".as_slice(), "size, blob 5, yes"),
-        (Some(4), b"blob 5\0hello!".as_slice(), "limit, blob 5, yes"),
-        (Some(4), b"blob 4\0hello".as_slice(), "size, blob 4, yes"),
-        (Some(0), b"".as_slice(), "io, io, yes"),
-        (Some(0), b"blob".as_slice(), "decode, decode, yes"),
+fn limits(rt: HostRuntime) -> Result<(), Fail> {
+    for (limit, row) in [
+        (5, "file blob 5\0hello|blob hello, blob 5, yes"),
+        (4, "file blob 5\0hello|limit, blob 5, yes"),
+        (0, "file blob 0\0|blob , blob 0, yes"),
+        (5, "file blob 5\0hello!|size, blob 5, yes"),
+        (4, "file blob 5\0hello!|limit, blob 5, yes"),
+        (4, "file blob 4\0hello|size, blob 4, yes"),
+        (0, "file |io, io, yes"),
+        (0, "file blob|decode, decode, yes"),
     ] {
-        let store = store_at(alloc, "/o", Sha1, limit)?;
-        let mut disk = disk_with(alloc, bytes, &[])?;
-        let told = answers(alloc, &store, &mut disk, &id)?;
-        assert_eq!(rt; told.as_str(), want, "{limit:?} {want}");
-    }
-    Ok(())
-}
-
-// A directory answered as an object, a blocked way answered as absent.
-#[test]
-fn other_nodes(rt: HostRuntime) -> Result<(), Fail> {
-    let alloc = rt.alloc();
-    let store = store_at(alloc, "/o", Sha1, None)?;
-    let id = hello(alloc, Sha1)?;
-    let mut disk = MemDisk::new(alloc)?;
-    for (node, want) in [
-        ("nothing", "none, none, no"),
-        ("folder", "none, none, no"),
-        ("file in the way", "io, io, no"),
-        ("prefix folder", "none, none, no"),
-        ("directory", "io, io, no"),
-    ] {
-        match node {
-            "nothing" => {}
-            "folder" => make_dir(alloc, &mut disk, "/o")?,
-            "file in the way" => put(alloc, &mut disk, "/o/b6", b"blob 5\0hello")?,
-            "prefix folder" => {
-                let path = PathText::parse(alloc, "/o/b6")?;
-                disk.change(alloc, &Change::Remove { path })?;
-                make_dir(alloc, &mut disk, "/o/b6")?;
-            }
-            _ => make_dir(alloc, &mut disk, FILE)?,
-        }
-        let told = answers(alloc, &store, &mut disk, &id)?;
-        assert_eq!(rt; told.as_str(), want, "{node}");
+        let rows = ["mkdir /o|done", "mkdir /o/b6|done", row];
+        check(rt.alloc(), Sha1, Some(limit), &[], &rows)?;
     }
     Ok(())
 }
@@ -112,73 +80,65 @@ fn other_nodes(rt: HostRuntime) -> Result<(), Fail> {
 // A failed call answered as a no, or an answer that changes after one.
 #[test]
 fn faults(rt: HostRuntime) -> Result<(), Fail> {
-    let alloc = rt.alloc();
-    let store = store_at(alloc, "/o", Sha1, None)?;
-    let id = hello(alloc, Sha1)?;
-    for (failing, want) in [
-        ([1, 4], "io, blob 5, yes"),
-        ([2, 5], "blob hello, io, yes"),
-        ([3, 6], "blob hello, blob 5, io"),
-    ] {
-        let mut disk = disk_with(alloc, b"blob 5\0hello", &failing)?;
-        for round in 0..3 {
-            let told = answers(alloc, &store, &mut disk, &id)?;
-            let after = if round < 2 {
-                want
-            } else {
-                "blob hello, blob 5, yes"
-            };
-            assert_eq!(rt; told.as_str(), after, "round {round}");
-        }
-        assert_eq!(rt; disk.calls(), 9);
-    }
-    Ok(())
-}
-
-// A path that is cut at another digit, or after an id of the other hash. The second id is told by `git hash-object`
-// in a repository of SHA-256.
-#[test]
-fn paths(rt: HostRuntime) -> Result<(), Fail> {
-    let alloc = rt.alloc();
-    for (hash, path) in [
-        (Sha1, FILE),
+    for (failing, first, second) in [
         (
-            Sha256,
-            "/o/8a/ec4e4876f854f688d0ebfc8f37598f38e5fd6903cccc850ca36591175aeb60",
+            [1, 4],
+            "file blob 5\0hello|io, blob 5, yes",
+            "hello|io, blob 5, yes",
+        ),
+        (
+            [2, 5],
+            "file blob 5\0hello|blob hello, io, yes",
+            "hello|blob hello, io, yes",
+        ),
+        (
+            [3, 6],
+            "file blob 5\0hello|blob hello, blob 5, io",
+            "hello|blob hello, blob 5, io",
         ),
     ] {
-        let store = store_at(alloc, "/o", hash, None)?;
-        let id = hello(alloc, hash)?;
-        assert_eq!(rt;
-            store.object_path(alloc, &id)?,
-            PathText::parse(alloc, path)?
-        );
-        assert_eq!(rt; store.object_hash(), hash);
-        assert_eq!(rt; *store.path(), PathText::parse(alloc, "/o")?);
-        assert_eq!(rt; store.try_clone(alloc)?, store);
+        let last = "hello|blob hello, blob 5, yes";
+        let rows = [
+            "mkdir /o|done",
+            "mkdir /o/b6|done",
+            first,
+            second,
+            last,
+            "calls|9",
+        ];
+        check(rt.alloc(), Sha1, None, &failing, &rows)?;
     }
     Ok(())
 }
 
-// An object of SHA-256 that isn't found at its path, or is found by another id.
+/// The path of an object of a copy of a store in `/o`, as a text.
+fn path_of(alloc: Global, hash: gix_hash::Kind, hex: &str) -> Result<String, Fail> {
+    let store = store_at(alloc, "/o", hash, None)?.try_clone(alloc)?;
+    let id = id_of(&store, hex)?;
+    Ok(store.object_path(alloc, &id)?.to_text(alloc)?)
+}
+
+// A path that is cut at another digit, or after an id of the other hash. The second id is told by `git hash-object` in
+// a repository of SHA-256, the third is Git's example of a blob, `hello` and a line feed.
 #[test]
-fn sha256(rt: HostRuntime) -> Result<(), Fail> {
-    let alloc = rt.alloc();
-    let store = store_at(alloc, "/o", Sha256, None)?;
-    let id = hello(alloc, Sha256)?;
-    let mut disk = MemDisk::new(alloc)?;
-    make_dir(alloc, &mut disk, "/o")?;
-    make_dir(alloc, &mut disk, "/o/8a")?;
-    put(
-        alloc,
-        &mut disk,
-        "/o/8a/ec4e4876f854f688d0ebfc8f37598f38e5fd6903cccc850ca36591175aeb60",
-        b"blob 5\0hello",
-    )?;
-    let told = answers(alloc, &store, &mut disk, &id)?;
-    assert_eq!(rt; told.as_str(), "blob hello, blob 5, yes");
-    let other = ObjectId::null(Sha256);
-    let told = answers(alloc, &store, &mut disk, &other)?;
-    assert_eq!(rt; told.as_str(), "none, none, no");
-    Ok(())
+fn paths(rt: HostRuntime) -> Result<(), Fail> {
+    for (hash, hex, path) in [
+        (Sha1, HELLO, FILE),
+        (
+            Sha256,
+            "8aec4e4876f854f688d0ebfc8f37598f38e5fd6903cccc850ca36591175aeb60",
+            "/o/8a/ec4e4876f854f688d0ebfc8f37598f38e5fd6903cccc850ca36591175aeb60",
+        ),
+        (
+            Sha1,
+            "ce013625030ba8dba906f756967f9e9ca394464a",
+            "/o/ce/013625030ba8dba906f756967f9e9ca394464a",
+        ),
+    ] {
+        let found = path_of(rt.alloc(), hash, hex)?;
+        compare(hex, found.as_str(), path)?;
+    }
+    let store = store_at(rt.alloc(), "/o/p", Sha1, None)?;
+    let folder = store.path().to_text(rt.alloc())?;
+    compare("folder", folder.as_str(), "/o/p")
 }

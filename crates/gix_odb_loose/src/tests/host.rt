@@ -1,82 +1,124 @@
-use crate::tests::{answers, hello, store_at};
+//! A real disk.
+use crate::Store;
+use crate::tests::calls::{called, store_at};
+use crate::tests::words::{compare, cut, halves};
 use gix_hash::Kind::Sha1;
-use gix_object::Kind;
 use odb_disk::HostDisk;
+use std::os::fd::AsRawFd;
 use std::os::unix::fs::symlink;
 use std::test::Fail;
 use std::{env, fs, io};
 
-const NAME: &str = "b6/fc4c620b67d95f953a5c1c1230aaab5db5a1b0";
-
-/// Makes a folder with the prefix folder `b6`, and goes there.
-fn enter_folder(rt: &HostRuntime, folder: &str) -> io::Result<()> {
+/// Makes a folder, goes there, and gives the store that lies in it.
+fn enter_folder(rt: &HostRuntime, folder: &str) -> Result<Store, Fail> {
     let _ = fs::remove_dir_all(rt, folder);
     fs::create_dir_all(rt, folder)?;
     env::set_current_dir(rt, folder)?;
-    fs::create_dir(rt, "b6")
+    let here = env::current_dir(rt)?;
+    store_at(rt.alloc(), here.as_str(), Sha1, None)
 }
 
-// A real folder that is answered otherwise than one in memory: nothing, a file, a link to one, other bytes, no
-// bytes, a directory, a device.
-#[test]
-fn finds_on_a_real_disk(rt: HostRuntime) -> Result<(), Fail> {
-    let alloc = rt.alloc();
-    enter_folder(&rt, "out/finds")?;
-    let folder = env::current_dir(&rt)?;
-    let store = store_at(alloc, folder.as_str(), Sha1, None)?;
-    let id = hello(alloc, Sha1)?;
-    let mut disk = HostDisk::new(&rt);
-    for (node, want) in [
-        ("nothing", "none, none, no"),
-        ("file", "blob hello, blob 5, yes"),
-        ("link", "blob hello, blob 5, yes"),
-        ("other", "decode, decode, yes"),
-        ("empty", "io, io, yes"),
-        ("directory", "io, io, no"),
-        ("device", "io, io, io"),
-    ] {
-        match node {
-            "nothing" => {}
-            "file" => fs::write(&rt, NAME, b"blob 5\0hello")?,
-            "link" => {
-                fs::rename(&rt, NAME, "b6/object")?;
-                symlink(&rt, "object", NAME)?;
-            }
-            "other" => fs::write(&rt, NAME, b"other bytes")?,
-            "empty" => fs::write(&rt, NAME, b"")?,
-            "directory" => {
-                fs::remove_file(&rt, NAME)?;
-                fs::create_dir(&rt, NAME)?;
-            }
-            _ => {
-                fs::remove_dir(&rt, NAME)?;
-                symlink(&rt, "/dev/null", NAME)?;
-            }
-        }
-        let told = answers(alloc, &store, &mut disk, &id)?;
-        assert_eq!(rt; told.as_str(), want, "{node}");
+/// What another program makes of a name in that folder: `file NAME TEXT`, `mkdir NAME`, `link NAME TARGET`,
+/// `move NAME OTHER`, or `take NAME`.
+fn make(rt: &HostRuntime, verb: &str, rest: &str) -> io::Result<()> {
+    let (name, more) = cut(rest);
+    match verb {
+        "file" => fs::write(rt, name, more.as_bytes()),
+        "mkdir" => fs::create_dir(rt, name),
+        "link" => symlink(rt, more, name),
+        "move" => fs::rename(rt, name, more),
+        _ => fs::remove_file(rt, name),
     }
-    assert_eq!(rt; disk.faults(), 3);
-    fs::remove_file(&rt, NAME)?;
+}
+
+/// What a row gives: such a change, `bytes NAME` of a file there, `there NAME`, or a call of the store.
+fn told(
+    rt: &HostRuntime,
+    store: &Store,
+    disk: &mut HostDisk<&HostRuntime>,
+    text: &str,
+) -> Result<String, Fail> {
+    let (verb, rest) = cut(text);
+    match verb {
+        "bytes" => Ok(fs::read_to_string(rt, rest)?),
+        "there" => Ok(fs::exists(rt, rest)?.to_string(rt.alloc())?),
+        "file" | "mkdir" | "link" | "move" | "take" => {
+            make(rt, verb, rest)?;
+            Ok("done".to_string(rt.alloc())?)
+        }
+        _ => called(rt.alloc(), store, disk, text),
+    }
+}
+
+/// What each row gives, in turn. Tells how many calls failed.
+fn check(rt: &HostRuntime, store: &Store, rows: &[&str]) -> Result<u64, Fail> {
+    let mut disk = HostDisk::new(rt);
+    for row in rows {
+        let (text, want) = halves(row);
+        let found = told(rt, store, &mut disk, text)?;
+        compare(text, found.as_str(), want)?;
+    }
+    Ok(disk.faults())
+}
+
+const FINDS: [&str; 20] = [
+    "hello|none, none, no",
+    "mkdir b6|done",
+    "hello|none, none, no",
+    "file b6/fc4c620b67d95f953a5c1c1230aaab5db5a1b0 blob 5\0hello|done",
+    "hello|blob hello, blob 5, yes",
+    "move b6/fc4c620b67d95f953a5c1c1230aaab5db5a1b0 b6/object|done",
+    "link b6/fc4c620b67d95f953a5c1c1230aaab5db5a1b0 object|done",
+    "hello|blob hello, blob 5, yes",
+    "file b6/fc4c620b67d95f953a5c1c1230aaab5db5a1b0 other bytes|done",
+    "hello|decode, decode, yes",
+    "file b6/fc4c620b67d95f953a5c1c1230aaab5db5a1b0 |done",
+    "hello|io, io, yes",
+    "take b6/fc4c620b67d95f953a5c1c1230aaab5db5a1b0|done",
+    "mkdir b6/fc4c620b67d95f953a5c1c1230aaab5db5a1b0|done",
+    "hello|io, io, no",
+    "move b6/fc4c620b67d95f953a5c1c1230aaab5db5a1b0 b6/folder|done",
+    "there b6/folder|true",
+    "link b6/fc4c620b67d95f953a5c1c1230aaab5db5a1b0 /dev/null|done",
+    "hello|io, io, io",
+    "take b6/fc4c620b67d95f953a5c1c1230aaab5db5a1b0|done",
+];
+
+// A real folder that is answered otherwise than one in memory: nothing, a file, a link to one, other bytes, no
+// bytes, a directory; a device or a pipe that is read, which would wait for bytes that nobody writes.
+#[test]
+fn finds(rt: HostRuntime) -> Result<(), Fail> {
+    let store = enter_folder(&rt, "out/finds")?;
+    let faults = check(&rt, &store, &FINDS)?;
+    let (reader, writer) = io::pipe(&rt)?;
+    let number = reader.as_raw_fd();
+    let name = "b6/fc4c620b67d95f953a5c1c1230aaab5db5a1b0";
+    let link = format!(in rt.alloc(); "link {name} /proc/self/fd/{number}|done")?;
+    let more = check(&rt, &store, &[link.as_str(), "hello|io, io, io"])?;
+    drop(writer);
+    assert!(rt; faults == 3 && more == 3);
     Ok(())
 }
 
-// A real file of other bytes than the header and the data, or a temporary file that stays.
+const WRITES: [&str; 10] = [
+    "write blob hello|b6fc4c620b67d95f953a5c1c1230aaab5db5a1b0",
+    "bytes b6/fc4c620b67d95f953a5c1c1230aaab5db5a1b0|blob 5\0hello",
+    "there tmp_obj_0|false",
+    "hello|blob hello, blob 5, yes",
+    "write blob hello\n|ce013625030ba8dba906f756967f9e9ca394464a",
+    "ask ce013625030ba8dba906f756967f9e9ca394464a|blob hello\n, blob 6, yes",
+    "stream 70000 0 70000|a4468a72cf236519af2d10907beb2b1877bfc244",
+    "ask a4468a72cf236519af2d10907beb2b1877bfc244|blob 70000, blob 70000, yes",
+    "stream 70001 0 70000|size",
+    "there tmp_obj_0|false",
+];
+
+// A real file of other bytes than the header and the data, or that isn't found; bytes that are lost between two
+// pieces; a temporary file that stays.
 #[test]
-fn writes_on_a_real_disk(rt: HostRuntime) -> Result<(), Fail> {
-    let alloc = rt.alloc();
-    let _ = fs::remove_dir_all(&rt, "out/writes");
-    fs::create_dir_all(&rt, "out/writes")?;
-    env::set_current_dir(&rt, "out/writes")?;
-    let folder = env::current_dir(&rt)?;
-    let store = store_at(alloc, folder.as_str(), Sha1, None)?;
-    let mut disk = HostDisk::new(&rt);
-    let id = store.write_buf(alloc, &mut disk, Kind::Blob, b"hello")?;
-    assert!(rt; id == hello(alloc, Sha1)?);
-    assert_eq!(rt;
-        fs::read(&rt, NAME)?.as_slice(),
-        b"blob 5\0hello".as_slice()
-    );
-    assert!(rt; !fs::exists(&rt, "tmp_obj_0")?);
+fn writes(rt: HostRuntime) -> Result<(), Fail> {
+    let store = enter_folder(&rt, "out/writes")?;
+    let faults = check(&rt, &store, &WRITES)?;
+    assert!(rt; faults == 0);
     Ok(())
 }

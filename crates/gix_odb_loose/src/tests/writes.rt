@@ -1,166 +1,185 @@
-use crate::tests::{FILE, answers, hello, make_dir, put, store_at};
-use crate::write::Error;
-use gix_hash::Kind::Sha1;
-use gix_hash::ObjectId;
-use gix_object::{Data, Kind};
-use odb_base::PathText;
-use odb_disk::{Disk, DiskError, MemDisk, MemSource};
-use std::alloc::Global;
+use crate::tests::calls::{changed, check, check_on, store_at};
+use gix_hash::Kind::{Sha1, Sha256};
+use odb_disk::MemDisk;
 use std::test::Fail;
 
-/// The folder `/o`, whose calls with these numbers fail.
-fn folder(alloc: Global, faults: &[u64]) -> Result<MemDisk, Fail> {
-    let mut disk = MemDisk::with_faults(alloc, faults)?;
-    make_dir(alloc, &mut disk, "/o")?;
-    Ok(disk)
-}
+/// Git's example of a blob, and the blob `hello` by each call, under its own id and as a known one.
+const WRITES: [&str; 19] = [
+    "mkdir /o|done",
+    "write blob hello\n|ce013625030ba8dba906f756967f9e9ca394464a",
+    "ask ce013625030ba8dba906f756967f9e9ca394464a|blob hello\n, blob 6, yes",
+    "object blob hello|b6fc4c620b67d95f953a5c1c1230aaab5db5a1b0",
+    "hello|blob hello, blob 5, yes",
+    "read /o/b6/fc4c620b67d95f953a5c1c1230aaab5db5a1b0|blob 5\0hello",
+    "read /o/tmp_obj_0|Absent",
+    "write blob hello|b6fc4c620b67d95f953a5c1c1230aaab5db5a1b0",
+    "stream 5 0 hello|b6fc4c620b67d95f953a5c1c1230aaab5db5a1b0",
+    "hello|blob hello, blob 5, yes",
+    "as tag other|b6fc4c620b67d95f953a5c1c1230aaab5db5a1b0",
+    "hello|tag other, tag 5, yes",
+    "as tree |b6fc4c620b67d95f953a5c1c1230aaab5db5a1b0",
+    "hello|tree , tree 0, yes",
+    "streamas 5 0 other|b6fc4c620b67d95f953a5c1c1230aaab5db5a1b0",
+    "hello|blob other, blob 5, yes",
+    "streamas 6 0 hello|size",
+    "hello|blob other, blob 5, yes",
+    "read /o/tmp_obj_0|Absent",
+];
 
-/// Whether nothing is at a path.
-fn is_absent(alloc: Global, disk: &mut MemDisk, path: &str) -> Result<bool, Fail> {
-    let path = PathText::parse(alloc, path)?;
-    Ok(disk.look(alloc, &path, false) == Err(DiskError::Absent))
-}
+/// After so many bytes there were so many calls more: one for each piece and four, and one for the find.
+const PIECES: [&str; 16] = [
+    "mkdir /o|done",
+    "as blob 0|b6fc4c620b67d95f953a5c1c1230aaab5db5a1b0",
+    "calls|4",
+    "find b6fc4c620b67d95f953a5c1c1230aaab5db5a1b0|blob ",
+    "as blob a|b6fc4c620b67d95f953a5c1c1230aaab5db5a1b0",
+    "calls|10",
+    "find b6fc4c620b67d95f953a5c1c1230aaab5db5a1b0|blob a",
+    "as blob 65536|b6fc4c620b67d95f953a5c1c1230aaab5db5a1b0",
+    "calls|16",
+    "find b6fc4c620b67d95f953a5c1c1230aaab5db5a1b0|blob 65536",
+    "as blob 65537|b6fc4c620b67d95f953a5c1c1230aaab5db5a1b0",
+    "calls|23",
+    "find b6fc4c620b67d95f953a5c1c1230aaab5db5a1b0|blob 65537",
+    "as blob 200000|b6fc4c620b67d95f953a5c1c1230aaab5db5a1b0",
+    "calls|32",
+    "find b6fc4c620b67d95f953a5c1c1230aaab5db5a1b0|blob 200000",
+];
 
-/// An error in one word.
-fn word_of(error: &Error) -> &'static str {
-    match error {
-        Error::Io { .. } => "io",
-        Error::IoRaw => "raw",
-        Error::Persist { .. } => "persist",
-        Error::SizeMismatch { .. } => "size",
-        Error::NoMemory => "memory",
-    }
-}
+const STREAMS: [&str; 13] = [
+    "mkdir /o|done",
+    "stream 0 0 |e69de29bb2d1d6434b8b29ae775ad8c2e48c5391",
+    "read /o/tmp_obj_0|Absent",
+    "stream 6 0 hello|size",
+    "read /o/tmp_obj_0|Absent",
+    "stream 4 0 hello|size",
+    "read /o/tmp_obj_0|Absent",
+    "stream 5 1 hello|io",
+    "read /o/tmp_obj_0|Absent",
+    "stream 70000 9 70000|io",
+    "read /o/tmp_obj_0|Absent",
+    "hello|none, none, no",
+    "ask a4468a72cf236519af2d10907beb2b1877bfc244|none, none, no",
+];
 
-/// What a write answers, in one word.
-fn outcome(written: Result<ObjectId, Error>) -> &'static str {
-    match written {
-        Ok(_) => "wrote",
-        Err(error) => word_of(&error),
-    }
-}
+const BLOCKED: [&str; 13] = [
+    "write blob hello|io",
+    "read /o|Absent",
+    "put /o other|done",
+    "write blob hello|io",
+    "read /o|other",
+    "take /o|done",
+    "mkdir /o|done",
+    "put /o/b6 other|done",
+    "write blob hello|persist",
+    "take /o/b6|done",
+    "mkdir /o/b6|done",
+    "mkdir /o/b6/fc4c620b67d95f953a5c1c1230aaab5db5a1b0|done",
+    "write blob hello|persist",
+];
 
-// An object that isn't found under the id that Git gives it, or a temporary file that stays.
+// Git 2.39.5 told these ids by `git hash-object --literally -t KIND --stdin`: of nothing, of `hello` and a line feed,
+// and of 70,000 bytes `a`.
+const IDS: [&str; 13] = [
+    "mkdir /o|done",
+    "write commit |dcf5b16e76cce7425d0beaef62d79a7d10fce1f5",
+    "write commit hello\n|656d88de433ec9f9c5d4ed9b2c643844127a0fb4",
+    "write commit 70000|d3ba4ff38491724dcc06ae5832f3e1924ac59eab",
+    "write tree |4b825dc642cb6eb9a060e54bf8d69288fbee4904",
+    "write tree hello\n|149e5b19a5281f340f976d2ba38d4f02d8a6e967",
+    "write tree 70000|72d99c3ac98c3db55aa13ef5cd42626ce0496699",
+    "write blob |e69de29bb2d1d6434b8b29ae775ad8c2e48c5391",
+    "write blob hello\n|ce013625030ba8dba906f756967f9e9ca394464a",
+    "stream 70000 0 70000|a4468a72cf236519af2d10907beb2b1877bfc244",
+    "object tag |d994c6bb648123a17e8f70a966857c546b2a6f94",
+    "write tag hello\n|57f49ce8d3d3f00202b6d7e56edbb69bc94b7aa8",
+    "object tag 70000|b8cdcae309f3ca53e6ad77acb3c61bc33147d9ab",
+];
+
+// The same in a repository made by `git init --object-format=sha256`.
+const LONG_IDS: [&str; 13] = [
+    "mkdir /o|done",
+    "write commit |9f2a7f3b00f22334f6adc2721fb1f89cd969f02264d37cf6a2c32ba09beb6822",
+    "write commit hello\n|0dc599b3b0ab7db2ef28ab7bcd9a37ac991827a78d0d53a1ae438f3731f374d7",
+    "write commit 70000|a7e291bd67dd0e7fe8a9dd479c70db7c7de83d259a221d97d01c84e234f8251a",
+    "write tree |6ef19b41225c5369f1c104d45d8d85efa9b057b53b14b4b9b939dd74decc5321",
+    "write tree hello\n|ae1e4b5e47ccab8d4387bf290e90c0d2d633e15d9a929cb082d628942ddcaa51",
+    "write tree 70000|e87914195e11f09fd5687212910d23a203c14403b754eb25c8613f05cbe78045",
+    "write blob |473a0f4c3be8a93681a267e3b1e9a7dcda1185436fe141f7749120a303721813",
+    "write blob hello\n|2cf8d83d9ee29543b34a87727421fdecb7e3f3a183d337639025de576db9ebb4",
+    "stream 70000 0 70000|52215a03cfffe1009159eb9f4b440d5b469e224737d258cdf4d3c36f97840679",
+    "object tag |6e7ed4b07c5862439af3921bf57e6533151bf440e1297a331c8124ac15cdd16a",
+    "write tag hello\n|c554f36acda28e3357190737ffedd6673c915f9a9baf0d10d052c7a9bd4ef5dc",
+    "object tag 70000|0f8f927495694e51d75426181127216d0117a4ad6af2608afd51866f0df1aebe",
+];
+
+// An object that isn't found under the id that Git gives it, or under its known one; more or fewer calls of the disk
+// than are stated, or bytes that are lost between pieces; a source that gives fewer or more bytes than were told, or
+// that fails, and is taken for a good one; a way that is blocked and answered by another error than its own; a
+// temporary file that stays.
 #[test]
-fn written_and_found(rt: HostRuntime) -> Result<(), Fail> {
-    let alloc = rt.alloc();
-    let store = store_at(alloc, "/o", Sha1, None)?;
-    let id = hello(alloc, Sha1)?;
-    let mut disk = folder(alloc, &[])?;
-    let object = Data {
-        kind: Kind::Blob,
-        object_hash: Sha1,
-        bytes: b"hello",
-    };
-    assert!(rt; store.write(alloc, &mut disk, &object) == Ok(id));
-    let told = answers(alloc, &store, &mut disk, &id)?;
-    assert_eq!(rt; told.as_str(), "blob hello, blob 5, yes");
-    assert!(rt; is_absent(alloc, &mut disk, "/o/tmp_obj_0")?);
-    Ok(())
-}
-
-// More or fewer calls of the disk than one for each piece and four, or bytes that are lost between pieces.
-#[test]
-fn pieces(rt: HostRuntime) -> Result<(), Fail> {
-    let alloc = rt.alloc();
-    let store = store_at(alloc, "/o", Sha1, None)?;
-    for (len, calls) in [(0, 4), (1, 5), (65_536, 5), (65_537, 6), (200_000, 8)] {
-        let mut disk = folder(alloc, &[])?;
-        let bytes = vec![in alloc; 7u8; len]?;
-        let id = hello(alloc, Sha1)?;
-        let written = store.write_buf_with_known_id(
-            alloc,
-            &mut disk,
-            Kind::Blob,
-            bytes.as_slice(),
-            id,
-        );
-        assert_eq!(rt; (outcome(written), disk.calls()), ("wrote", calls));
-        let mut out = Vec::new(alloc);
-        let found = store.try_find(alloc, &mut disk, &id, &mut out)?;
-        assert!(rt;
-            found.is_some_and(|object| object.bytes == bytes.as_slice()),
-            "{len}"
-        );
-    }
-    Ok(())
-}
-
-// A source that gives fewer or more bytes than were told, or that fails, and is taken for a good one.
-#[test]
-fn streams(rt: HostRuntime) -> Result<(), Fail> {
-    let alloc = rt.alloc();
-    let store = store_at(alloc, "/o", Sha1, None)?;
-    for (len, size, failing, want) in [
-        (0, 0, 0, "wrote"),
-        (5, 5, 0, "wrote"),
-        (5, 6, 0, "size"),
-        (5, 4, 0, "size"),
-        (5, 5, 1, "io"),
-        (70_000, 70_000, 0, "wrote"),
-        (70_000, 70_000, 9, "io"),
+fn writes(rt: HostRuntime) -> Result<(), Fail> {
+    for rows in [
+        WRITES.as_slice(),
+        PIECES.as_slice(),
+        STREAMS.as_slice(),
+        BLOCKED.as_slice(),
+        IDS.as_slice(),
     ] {
-        let mut disk = folder(alloc, &[])?;
-        let mut from = MemSource::with_faults(alloc, vec![in alloc; 7u8; len]?, &[failing])?;
-        let written = store.write_stream(alloc, &mut disk, Kind::Blob, size, &mut from);
-        assert_eq!(rt; outcome(written), want);
-        assert!(rt; is_absent(alloc, &mut disk, "/o/tmp_obj_0")?);
+        check(rt.alloc(), Sha1, None, &[], rows)?;
     }
-    Ok(())
-}
-
-// Other ids than Git's.
-#[test]
-fn ids_of_git(rt: HostRuntime) -> Result<(), Fail> {
-    let alloc = rt.alloc();
-    let store = store_at(alloc, "/o", Sha1, None)?;
-    let mut disk = folder(alloc, &[])?;
-    for (kind, want) in [
-        (Kind::Blob, "e69de29bb2d1d6434b8b29ae775ad8c2e48c5391"),
-        (Kind::Tree, "4b825dc642cb6eb9a060e54bf8d69288fbee4904"),
-    ] {
-        let id = store.write_buf(alloc, &mut disk, kind, b"")?;
-        assert_eq!(rt; format!(in alloc; "{id}")?.as_str(), want);
-    }
-    Ok(())
+    check(rt.alloc(), Sha256, None, &[], &LONG_IDS)
 }
 
 // A call whose failure is answered by another error, or leaves a file behind.
 #[test]
 fn faults(rt: HostRuntime) -> Result<(), Fail> {
-    let alloc = rt.alloc();
-    let store = store_at(alloc, "/o", Sha1, None)?;
-    for (failing, want, left) in [
-        ([1, 0], "io", false),
-        ([2, 0], "io", false),
-        ([3, 0], "io", false),
-        ([4, 0], "raw", false),
-        ([5, 0], "persist", false),
-        ([5, 6], "persist", true),
+    for (failing, write, left) in [
+        ([1, 0], "write blob hello|io", "read /o/tmp_obj_0|Absent"),
+        ([2, 0], "write blob hello|io", "read /o/tmp_obj_0|Absent"),
+        ([3, 0], "write blob hello|io", "read /o/tmp_obj_0|Absent"),
+        ([4, 0], "write blob hello|raw", "read /o/tmp_obj_0|Absent"),
+        (
+            [5, 0],
+            "write blob hello|persist",
+            "read /o/tmp_obj_0|Absent",
+        ),
+        (
+            [5, 6],
+            "write blob hello|persist",
+            "read /o/tmp_obj_0|blob 5\0hello",
+        ),
     ] {
-        let mut disk = folder(alloc, &failing)?;
-        let written = store.write_buf(alloc, &mut disk, Kind::Blob, b"hello");
-        let gone = is_absent(alloc, &mut disk, "/o/tmp_obj_0")?;
-        assert_eq!(rt; (outcome(written), gone), (want, !left));
-        assert!(rt; is_absent(alloc, &mut disk, FILE)?);
+        let rows = ["mkdir /o|done", write, left, "hello|none, none, no"];
+        check(rt.alloc(), Sha1, None, &failing, &rows)?;
     }
     Ok(())
 }
 
+const NAMES_TAKEN: [&str; 6] = [
+    "calls|200",
+    "write tree |io",
+    "calls|216",
+    "read /o/4b|Absent",
+    "read /o/tmp_obj_16|Absent",
+    "read /o/tmp_obj_0|other",
+];
+
 // A temporary name that is used though it is there, or a seventeenth that is tried.
 #[test]
 fn temporary_names(rt: HostRuntime) -> Result<(), Fail> {
-    let alloc = rt.alloc();
-    let store = store_at(alloc, "/o", Sha1, None)?;
-    let mut disk = folder(alloc, &[])?;
+    let store = store_at(rt.alloc(), "/o", Sha1, None)?;
+    let mut disk = MemDisk::new(rt.alloc())?;
+    check_on(rt.alloc(), &store, &mut disk, &["mkdir /o|done"])?;
     for number in 0..16 {
-        let written = store.write_buf(alloc, &mut disk, Kind::Blob, b"hello");
-        assert_eq!(rt; outcome(written), "wrote");
-        let path = format!(in alloc; "/o/tmp_obj_{number}")?;
-        put(alloc, &mut disk, path.as_str(), b"other")?;
+        check_on(
+            rt.alloc(),
+            &store,
+            &mut disk,
+            &["write blob hello|b6fc4c620b67d95f953a5c1c1230aaab5db5a1b0"],
+        )?;
+        let name = format!(in rt.alloc(); "/o/tmp_obj_{number} other")?;
+        changed(rt.alloc(), &mut disk, "put", name.as_str())?;
     }
-    assert_eq!(rt; disk.calls(), 200);
-    let written = store.write_buf(alloc, &mut disk, Kind::Blob, b"new");
-    assert_eq!(rt; (outcome(written), disk.calls()), ("io", 216));
-    Ok(())
+    check_on(rt.alloc(), &store, &mut disk, &NAMES_TAKEN)
 }

@@ -1,17 +1,15 @@
-use Rattle.std.proofs.Common.{◌∙◌}
-use Rattle.gix_odb_loose.proofs.LoosePathLemmas.{cut_at_two, is_name-front, is_name-rest, loose_path-joined}
+use Rattle.std.proofs.Common.{◌∙◌, refl}
+use Rattle.gix_odb_loose.proofs.LoosePathLemmas.{cut_at_two, is_name-rest, prefix_path-joined, loose_path-joined}
 use Rattle.gix_odb_loose.proofs.paths.object_path.Goals as goal
 
 pub split_at-requires : goal.split_at-requires
 split_at-requires c = cut_at_two c.args.id.now _ c.as_bytes.ensures.id (c.as_str.ensures.value ∙ c.in_ok-hex.ensures)
 
 pub joined-requires : goal.joined-requires
-joined-requires c = is_name-front c.args.id.now _ _ c.as_bytes.ensures.id c.split_at.ensures.front (c.as_str.ensures.value ∙ c.in_ok-hex.ensures)
-
-pub joined-requires-2 : goal.joined-requires-2
-joined-requires-2 c = is_name-rest c.args.id.now _ _ c.as_bytes.ensures.id c.split_at.ensures.back (c.as_str.ensures.value ∙ c.in_ok-hex.ensures)
+joined-requires c = is_name-rest c.args.id.now _ _ c.as_bytes.ensures.id c.split_at.ensures.back (c.as_str.ensures.value ∙ c.in_ok-hex.ensures)
 
 pub returns : goal.returns
 returns c =
-    rw (loose_path-joined c.args.objects.now _ c.args.id.now _ _ _ (c.as_str.ensures.value ∙ c.in_ok-hex.ensures) c.split_at.ensures.front c.split_at.ensures.back c.in_ok-folder.ensures)
-    c.joined-2.ensures
+    rw (loose_path-joined c.args.objects.now _ c.args.id.now _ _ _ (c.as_str.ensures.value ∙ c.in_ok-hex.ensures) refl c.split_at.ensures.back
+    (c.in_ok-folder.ensures ∙ prefix_path-joined c.args.objects.now c.args.id.now _ _ (c.as_str.ensures.value ∙ c.in_ok-hex.ensures) refl))
+    c.joined.ensures

@@ -1,5 +1,4 @@
-use Rattle.std.proofs.Common.{sym, ap, ◌∙◌, subst, ◌<◌}
-use Rattle.gix_odb_loose.specs.LooseOrder.{asks_left}
+use Rattle.std.proofs.Common.{sym, ◌∙◌}
 use Rattle.gix_odb_loose.proofs.AsksLeftLemmas.{asks_fewer}
 use Rattle.gix_odb_loose.proofs.store.turn.Goals as goal
 

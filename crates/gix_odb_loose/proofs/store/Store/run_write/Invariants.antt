@@ -1,6 +1,7 @@
 use Rattle.std.proofs.Common.{◌≡◌, ◌≤◌}
-use Rattle.gix_odb_loose.specs.WriteRuns.{begun_in, write_head}
-use Rattle.gix_odb_loose.specs.WriteStreams.{IsUnderway, turns_left}
+use Rattle.gix_odb_loose.specs.StreamJobs.{begun_in}
+use Rattle.gix_odb_loose.specs.WriteRuns.{write_head}
+use Rattle.gix_odb_loose.specs.StreamJobs.{IsUnderway, turns_left}
 use Rattle.gix_odb_loose.proofs.store.Store.run_write.Given as goal
 
 -- the write is underway since the start of the call

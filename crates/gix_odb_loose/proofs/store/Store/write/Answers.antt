@@ -1,6 +1,7 @@
 use Rattle.std.proofs.Common.{arith, None, Some, ◌≡◌, length, refl, sym, subst, ◌∙◌}
 use Rattle.gix_odb_loose.specs.Store.{store_hash}
-use Rattle.gix_odb_loose.specs.WriteRuns.{WriteRuns, write_head, begun_in}
+use Rattle.gix_odb_loose.specs.StreamJobs.{begun_in}
+use Rattle.gix_odb_loose.specs.WriteRuns.{WriteRuns, write_head}
 use Rattle.gix_odb_loose.proofs.WriteCallLemmas.{put_all, runs_unfailing}
 use Rattle.gix_odb_loose.proofs.WriteRunLemmas.{runs_nothing}
 use Rattle.gix_odb_loose.proofs.store.Store.write.Goals as goal

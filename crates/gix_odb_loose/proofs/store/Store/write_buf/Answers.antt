@@ -1,6 +1,6 @@
 use Rattle.std.specs.Prelude.{IfOk, ◌≡◌}
 use Rattle.gix_object.specs.Id.{object_id}
-use Rattle.std.proofs.Common.{Some, None, ap, subst, length, arith}
+use Rattle.std.proofs.Common.{Some, None, subst, length, arith}
 use Rattle.gix_odb_loose.specs.Store.{store_hash}
 use Rattle.gix_odb_loose.specs.WriteRuns.{write_head, WriteRuns}
 use Rattle.gix_odb_loose.proofs.WriteCallLemmas.{runs_unfailing, wrote_id, wrote_kind}

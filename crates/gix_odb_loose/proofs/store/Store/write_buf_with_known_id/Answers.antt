@@ -1,4 +1,4 @@
-use Rattle.std.proofs.Common.{Some, None, ap, subst, length, arith}
+use Rattle.std.proofs.Common.{Some, subst, length, arith}
 use Rattle.gix_odb_loose.specs.Store.{store_hash}
 use Rattle.gix_odb_loose.specs.WriteRuns.{write_head, WriteRuns}
 use Rattle.gix_odb_loose.proofs.WriteCallLemmas.{runs_unfailing, wrote_known}

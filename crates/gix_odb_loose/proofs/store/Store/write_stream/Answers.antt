@@ -1,4 +1,4 @@
-use Rattle.std.proofs.Common.{Some, None}
+use Rattle.std.proofs.Common.{None}
 use Rattle.gix_odb_loose.specs.WriteRuns.{write_head}
 use Rattle.gix_odb_loose.proofs.WriteCallLemmas.{drawn_from, wrote_whole, wrote_id, wrote_kind}
 use Rattle.gix_odb_loose.proofs.store.Store.write_stream.Goals as goal

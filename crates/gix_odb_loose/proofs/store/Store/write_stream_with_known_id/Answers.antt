@@ -1,4 +1,4 @@
-use Rattle.std.proofs.Common.{Some, None}
+use Rattle.std.proofs.Common.{Some}
 use Rattle.gix_odb_loose.specs.WriteRuns.{write_head}
 use Rattle.gix_odb_loose.proofs.WriteCallLemmas.{drawn_from, wrote_whole, wrote_known}
 use Rattle.gix_odb_loose.proofs.store.Store.write_stream_with_known_id.Goals as goal

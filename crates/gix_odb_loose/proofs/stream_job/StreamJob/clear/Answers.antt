@@ -1,6 +1,6 @@
 use Rattle.std.specs.Prelude.{is_some}
 use Rattle.std.proofs.Common.{sym, ap, ◌∙◌}
-use Rattle.gix_odb_loose.proofs.StreamTurnLemmas.{off_unmade, off_removed}
+use Rattle.gix_odb_loose.proofs.StreamEndLemmas.{off_unmade, off_removed}
 use Rattle.gix_odb_loose.proofs.stream_job.StreamJob.clear.Goals as goal
 
 pub returns-then-is_some-clause-cleared : goal.returns-then-is_some-clause-cleared

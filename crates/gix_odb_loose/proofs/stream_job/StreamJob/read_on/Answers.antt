@@ -1,7 +1,7 @@
-use Rattle.std.proofs.Common.{◌≤◌, refl, sym, subst, ◌∙◌, ap}
-use Rattle.gix_odb_loose.specs.WriteStreams.{turns_left, GoesOn}
+use Rattle.std.proofs.Common.{◌≤◌, refl, sym, subst}
+use Rattle.gix_odb_loose.specs.StreamJobs.{turns_left}
 use Rattle.gix_odb_loose.proofs.StreamLemmas.{on_end, on_lost, on_failed, on_piece, on_nothing, goes_on_broken}
-use Rattle.gix_odb_loose.proofs.StreamTurnLemmas.{ended_fewer, failed_fewer}
+use Rattle.gix_odb_loose.proofs.TurnsLeftLemmas.{ended_fewer}
 use Rattle.gix_odb_loose.proofs.stream_job.StreamJob.read_on.Goals as goal
 
 pub returns-then-self-clause-goes_on : goal.returns-then-self-clause-goes_on
@@ -21,7 +21,7 @@ pub returns-then-not-is_empty-clause-goes_on : goal.returns-then-not-is_empty-cl
 returns-then-not-is_empty-clause-goes_on g c =
     λ w state now fed.
     on_piece w state now _ _ c.args.self.now c.args.written c.requires fed c.room-most.result c.room-most.ensures.room _ _ c.in-Piece.piece (let fetched = c.in_ok-next_piece.ensures.fetched in rw c.in-Piece.is at fetched) c.take.new.self c.take.ensures.head c.take.ensures.removal c.take.ensures.stage c.take.ensures.piece
-    c.take.ensures.has_ended c.take.ensures.naming (λ e. cc (c.is_empty.ensures.1 e, c.if-not-is_empty.true))
+    c.take.ensures.has_ended c.take.ensures.naming c.if-self.false (λ e. cc (c.is_empty.ensures.1 e, c.if-not-is_empty.true))
 
 pub returns-in-Failed-clause-goes_on : goal.returns-in-Failed-clause-goes_on
 returns-in-Failed-clause-goes_on g c =
@@ -31,7 +31,7 @@ pub returns-else-not-is_empty-clause-goes_on : goal.returns-else-not-is_empty-cl
 returns-else-not-is_empty-clause-goes_on g c =
     λ w state now fed.
     on_nothing w state now _ _ c.args.self.now c.args.written c.requires fed c.room-most.result c.room-most.ensures.room _ _ c.in-Piece.piece (let fetched = c.in_ok-next_piece.ensures.fetched in rw c.in-Piece.is at fetched) c.take.new.self c.take.ensures.head c.take.ensures.removal c.take.ensures.stage c.take.ensures.piece
-    c.take.ensures.has_ended c.take.ensures.naming (c.is_empty.ensures.0 c.if-not-is_empty.false) c.end-in-Piece.new.self c.end-in-Piece.ensures.head c.end-in-Piece.ensures.removal c.end-in-Piece.ensures.stage
+    c.take.ensures.has_ended c.take.ensures.naming c.if-self.false (c.is_empty.ensures.0 c.if-not-is_empty.false) c.end-in-Piece.new.self c.end-in-Piece.ensures.head c.end-in-Piece.ensures.removal c.end-in-Piece.ensures.stage
 
 pub returns-else-not-is_empty-clause-fewer : goal.returns-else-not-is_empty-clause-fewer
 returns-else-not-is_empty-clause-fewer g c =

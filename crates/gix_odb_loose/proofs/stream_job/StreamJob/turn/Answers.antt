@@ -1,6 +1,6 @@
-use Rattle.std.proofs.Common.{sym, ◌∙◌, subst, arith, ◌<◌, refl}
-use Rattle.gix_odb_loose.specs.WriteStreams.{turns_left, IsFed, IsAtItsEnd}
-use Rattle.gix_odb_loose.proofs.StreamTurnLemmas.{turn_led, turn_fewer, turns_broken, broken_first, any_ok, Leads}
+use Rattle.std.proofs.Common.{arith}
+use Rattle.gix_odb_loose.proofs.StreamTurnLemmas.{turn_led, turn_fewer}
+use Rattle.gix_odb_loose.proofs.StreamEndLemmas.{turns_broken, broken_first}
 use Rattle.gix_odb_loose.proofs.stream_job.StreamJob.turn.Goals as goal
 
 pub returns-in_err-ask-clause-turned : goal.returns-in_err-ask-clause-turned

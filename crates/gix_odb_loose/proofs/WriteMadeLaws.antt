@@ -1,0 +1,66 @@
+-- Laws of the temporary file of a write, for callers: a write that stands at a stage after the making of its file has asked
+-- for that file, and was answered that it is made.
+use Rattle.std.proofs.Common.{◌≡◌, ◌⊎◌, inl, inr, ℕ, ◌<◌, List, [], ◌∷◌, ◌++◌, Contains, Some, refl, sym, ap, ◌∙◌, subst, arith}
+use Rattle.std.proofs.lemmas.List.Elements.{Contains-append_left, Contains-append_right}
+use Rattle.odb_disk.specs.declared.ask.DiskAsk.{DiskAsk}
+use Rattle.odb_disk.specs.declared.ask.DiskAsk.TheVariants as asks
+use Rattle.odb_disk.specs.declared.ask.DiskAnswer.{DiskAnswer}
+use Rattle.odb_disk.specs.declared.ask.DiskAnswer.TheVariants as answers
+use Rattle.gix_hash.specs.declared.object_id.ObjectId.{ObjectId}
+use Rattle.gix_object.specs.Loose.{header_of}
+use Rattle.gix_odb_loose.specs.Exchanges.{Exchange, exchanged}
+use Rattle.gix_odb_loose.specs.WriteHistory.{GoesWell, IsAnswered, IsFilled, IsFoldered, IsHistory, IsRefused, IsStopped, Wants, made, tried}
+use Rattle.gix_odb_loose.specs.WriteOrder.{number_made, temp_path}
+use Rattle.gix_odb_loose.specs.declared.write.Message.TheVariants as messages
+use Rattle.gix_odb_loose.specs.declared.write_call.Refusal.{Refusal}
+use Rattle.gix_odb_loose.specs.declared.write_call.Refusal.TheVariants as refusals
+use Rattle.gix_odb_loose.specs.declared.write_call.WriteHead.{WriteHead}
+use Rattle.gix_odb_loose.specs.declared.write_call.WriteStage.{WriteStage}
+use Rattle.gix_odb_loose.specs.declared.write_call.WriteStage.TheVariants as stages
+
+module _ (head : WriteHead) (Named : ObjectId → Type 0) (number : ℕ) where
+  abbrev making : Exchange
+  making = exchanged (asks.NewFile (temp_path head.objects number)) answers.Done
+
+  one : Contains (making ∷ []) making
+  one = (0, omega arith, refl)
+
+  in_made : Contains (made head number) making
+  in_made = Contains-append_right (tried head number) (making ∷ []) making one
+
+  in_filled : (appended : List ℕ) (past : List Exchange) → IsFilled head number appended past → Contains past making
+  in_filled appended past h = subst (λ xs. Contains xs making) (sym h.is) (Contains-append_left _ _ making (Contains-append_left (made head number) _ making in_made))
+
+  in_foldered : (id : ObjectId) (appended : List ℕ) (past : List Exchange) → IsFoldered head number id appended past → Contains past making
+  in_foldered id appended past h = subst (λ xs. Contains xs making) (sym h.is) (Contains-append_left h.before _ making (in_filled appended h.before h.filled))
+
+  in_well : (stage : WriteStage) (appended : List ℕ) (past : List Exchange) → number_made stage ≡ Some number → GoesWell head Named appended stage past → Contains past making
+  in_well (stages.Making n) appended past e h = absurd (cc e)
+  in_well (stages.Heading n) appended past e h = let same : n ≡ number = cc e in subst (λ xs. Contains xs making) (sym (h.1 ∙ ap (made head) same)) in_made
+  in_well (stages.Filling n written) appended past e h = let same : n ≡ number = cc e in in_filled appended past (subst (λ (m : ℕ). IsFilled head m appended past) same h.1)
+  in_well (stages.Foldering n id) appended past e h = let same : n ≡ number = cc e in in_filled appended past (subst (λ (m : ℕ). IsFilled head m appended past) same h.2)
+  in_well (stages.Moving n id) appended past e h = let same : n ≡ number = cc e in in_foldered id appended past (subst (λ (m : ℕ). IsFoldered head m id appended past) same h.2)
+  in_well (stages.Removing n refusal) appended past e h = absurd h
+
+  in_answered : (So : DiskAsk → DiskAnswer → Type 0) (stage : WriteStage) (past : List Exchange) → number_made stage ≡ Some number → IsAnswered head Named So stage past → Contains past making
+  in_answered So stage past e h = subst (λ xs. Contains xs making) (sym h.is) (Contains-append_left h.before _ making (in_well stage h.appended h.before e h.well))
+
+  module _ (SourceFailed : Type 0) (Counted : ℕ → Type 0) where
+    in_stopped : (refusal : Refusal) (past : List Exchange) → IsStopped head Named SourceFailed Counted number refusal past → Contains past making
+    in_stopped (refusals.Io messages.CreateTempFile) past h = absurd h
+    in_stopped (refusals.Io messages.WriteHeader) past h = in_answered IsRefused (stages.Heading number) past refl h
+    in_stopped (refusals.Io messages.StreamData) past h =
+        elim h [ inl failed ↦ in_filled failed.1.0 past failed.1.1 | inr one ↦ in_answered IsRefused (stages.Filling number one.0) past refl one.1 ]
+    in_stopped refusals.IoRaw past h = in_answered IsRefused (stages.Foldering number h.0) past refl h.1
+    in_stopped (refusals.Persist id) past h = in_answered IsRefused (stages.Moving number id) past refl h
+    in_stopped (refusals.SizeMismatch actual) past h = in_filled h.1.0 past h.1.1
+    in_stopped refusals.NoMemory past h = in_answered Wants h.0 past h.1 h.2
+
+    pub history_makes : (stage : WriteStage) (appended : List ℕ) (past : List Exchange) → number_made stage ≡ Some number → IsHistory head Named SourceFailed Counted appended stage past → Contains past making
+    history_makes (stages.Making n) appended past e h = absurd (cc e)
+    history_makes (stages.Heading n) appended past e h = in_well (stages.Heading n) appended past e h
+    history_makes (stages.Filling n written) appended past e h = in_well (stages.Filling n written) appended past e h
+    history_makes (stages.Foldering n id) appended past e h = in_well (stages.Foldering n id) appended past e h
+    history_makes (stages.Moving n id) appended past e h = in_well (stages.Moving n id) appended past e h
+    history_makes (stages.Removing n refusal) appended past e h =
+        let same : n ≡ number = cc e in in_stopped refusal past (subst (λ (m : ℕ). IsStopped head Named SourceFailed Counted m refusal past) same h)
