@@ -10,15 +10,15 @@ use Rattle.gix_odb_loose.specs.LooseFile.{LeadsToFile, loose_path}
 use Rattle.gix_odb_loose.specs.LooseOrder as loose_order
 use Rattle.gix_odb_loose.specs.declared.call.LooseReply.{LooseReply}
 use Rattle.gix_odb_loose.specs.declared.find.Error as loose
-use Rattle.gix_odb_world.specs.declared.call.Call.{Call}
-use Rattle.gix_odb_world.specs.declared.call.Call.TheVariants.{Find, Header, Test}
+use Rattle.gix_odb_world.specs.declared.query.Query.{Query}
+use Rattle.gix_odb_world.specs.declared.query.Query.TheVariants.{Find, Header, Test}
 use Rattle.gix_odb_world.specs.declared.call.Reply.{Reply}
-use Rattle.gix_odb_world.specs.declared.call_state.CallState.{CallState}
-use Rattle.gix_odb_world.specs.declared.call_state.Head.{Head}
-use Rattle.gix_odb_world.specs.declared.call_state.Lead.{Lead}
-use Rattle.gix_odb_world.specs.declared.call_state.Lead.TheVariants as leads
-use Rattle.gix_odb_world.specs.declared.call_state.Stage.TheVariants as stages
-use Rattle.gix_odb_world.specs.CallOrder.{asking, at_next, by_reply, ended, first_of, led, led_by, next_stage, result_at}
+use Rattle.gix_odb_world.specs.declared.look_state.LookState.{LookState}
+use Rattle.gix_odb_world.specs.declared.look_state.Head.{Head}
+use Rattle.gix_odb_world.specs.declared.look_state.Lead.{Lead}
+use Rattle.gix_odb_world.specs.declared.look_state.Lead.TheVariants as leads
+use Rattle.gix_odb_world.specs.declared.look_state.Stage.TheVariants as stages
+use Rattle.gix_odb_world.specs.LookOrder.{asking, at_next, by_reply, ended, first_of, led, led_by, next_stage, result_at}
 use Rattle.gix_odb_world.specs.Causes.{LooseCause}
 use Rattle.gix_odb_world.specs.Contents.{LooseFile, Contents, Shows, folder_list}
 use Rattle.gix_odb_world.specs.Event.{Store}
@@ -62,14 +62,14 @@ module _ (trees : ℕ → Tree) (Failed : Type 0) (store : Store) (begun now tur
   ahead = drop turns store.parts.folders
 
   -- what a turn comes to: a reply that keeps its promise, or a call that goes on and knows as much
-  abbrev pub Comes : Result Reply CallState → Type 0
-  Comes (Ok reply) = Keeps trees Failed store begun now head.call head.id (claim_of head.call reply)
+  abbrev pub Comes : Result Reply LookState → Type 0
+  Comes (Ok reply) = Keeps trees Failed store begun now head.query head.id (claim_of head.query reply)
   Comes (Err state) =
-      (state.head ≡ head) × (Seeks trees Failed store begun now (turns + 1) head.call head.id state.stage) × (turns + 1 < length (folder_list store.parts))
+      (state.head ≡ head) × (Seeks trees Failed store begun now (turns + 1) head.query head.id state.stage) × (turns + 1 < length (folder_list store.parts))
 
   -- what is known behind the asked folder
   abbrev Behind : Option loose.Error → Type 0
-  Behind (Some error) = LooseCause trees Failed store begun now head.call head.id error
+  Behind (Some error) = LooseCause trees Failed store begun now head.query head.id error
   Behind None = (¬ Failed) × ((folder : Path) → Contains (folder_list store.parts) folder → Passed trees begun now head.id folder ⊎ Contains ahead folder)
 
   -- ---- the end
@@ -81,7 +81,7 @@ module _ (trees : ℕ → Tree) (Failed : Type 0) (store : Store) (begun now tur
       let shown = always passed.moment passed.from passed.to in
       passed.was (shows_file (trees passed.moment) folder head.id shown.0 shown.1)
 
-  missed : (call : Call) → ahead ≡ [] → (¬ Failed) × ((folder : Path) → Contains (folder_list store.parts) folder → Passed trees begun now head.id folder ⊎ Contains ahead folder)
+  missed : (call : Query) → ahead ≡ [] → (¬ Failed) × ((folder : Path) → Contains (folder_list store.parts) folder → Passed trees begun now head.id folder ⊎ Contains ahead folder)
       → Misses trees Failed store begun now call head.id
   missed call none behind =
       record {
@@ -93,7 +93,7 @@ module _ (trees : ℕ → Tree) (Failed : Type 0) (store : Store) (begun now tur
             ];
       }
 
-  ended_keeps : (call : Call) (noted : Option loose.Error) → head.call ≡ call → ahead ≡ [] → Behind noted → Keeps trees Failed store begun now call head.id (claim_of call (ended call noted))
+  ended_keeps : (call : Query) (noted : Option loose.Error) → head.query ≡ call → ahead ≡ [] → Behind noted → Keeps trees Failed store begun now call head.id (claim_of call (ended call noted))
   ended_keeps (Find asked) (Some error) is none behind = subst (λ call. LooseCause trees Failed store begun now call head.id error) is behind
   ended_keeps (Header asked) (Some error) is none behind = subst (λ call. LooseCause trees Failed store begun now call head.id error) is behind
   ended_keeps (Test asked) (Some error) is none behind = subst (λ call. LooseCause trees Failed store begun now call head.id error) is behind
@@ -104,7 +104,7 @@ module _ (trees : ℕ → Tree) (Failed : Type 0) (store : Store) (begun now tur
   -- ---- the next folder
 
   noted_next : (folder : Path) (noted : Option loose.Error) → ahead ≡ folder ∷ drop (turns + 1) store.parts.folders → Behind noted
-      → Noted trees Failed store begun now head.call head.id folder (drop (turns + 1) store.parts.folders) noted
+      → Noted trees Failed store begun now head.query head.id folder (drop (turns + 1) store.parts.folders) noted
   noted_next folder (Some error) is behind = behind
   noted_next folder None is behind = (
     behind.0,
@@ -117,7 +117,7 @@ module _ (trees : ℕ → Tree) (Failed : Type 0) (store : Store) (begun now tur
 
   next_comes : (noted : Option loose.Error) (next : Option Path) → slice_get store.parts.folders turns ≡ next → Behind noted
       → Comes (result_at head (at_next store.parts.limit head turns noted next))
-  next_comes noted None is behind = ended_keeps head.call noted refl (none_ahead store.parts.folders turns is) behind
+  next_comes noted None is behind = ended_keeps head.query noted refl (none_ahead store.parts.folders turns is) behind
   next_comes noted (Some folder) is behind = (
     refl,
     record {
@@ -135,11 +135,11 @@ module _ (trees : ℕ → Tree) (Failed : Type 0) (store : Store) (begun now tur
   module _ (disk : Volume) (shown : trees now ≡ tree_of disk.state) (asked : Path) where
     -- what is known before the answer, of all but the call of the disk that is answered
     abbrev pub Carried : Option loose.Error → Type 0
-    Carried (Some error) = LooseCause trees Failed store begun now head.call head.id error
+    Carried (Some error) = LooseCause trees Failed store begun now head.query head.id error
     Carried None = (next_fails disk ≡ false → ¬ Failed) × Leaves trees store begun now head.id asked ahead
 
     abbrev Leads : Lead → Type 0
-    Leads lead = LeadSays trees Failed store begun now head.call head.id asked (next_fails disk) lead
+    Leads lead = LeadSays trees Failed store begun now head.query head.id asked (next_fails disk) lead
 
     behind_missed : (noted : Option loose.Error) → Leads leads.Misses → Carried noted → Behind noted
     behind_missed (Some error) says carried = carried
@@ -166,9 +166,9 @@ module _ (trees : ℕ → Tree) (Failed : Type 0) (store : Store) (begun now tur
 
     -- the whole turn of a call that asks a folder
     pub turn_comes : (fails : next_fails disk ≡ true → Failed) (among : Contains (folder_list store.parts) asked) (noted : Option loose.Error) → Carried noted
-        → Comes (result_at head (next_stage store.parts.folders store.parts.limit head (stages.Loose turns noted (asking store.parts.limit head.call head.id asked))
-        (answer_now disk (ask_found store.parts.limit head.call head.id asked).0)))
+        → Comes (result_at head (next_stage store.parts.folders store.parts.limit head (stages.Loose turns noted (asking store.parts.limit head.query head.id asked))
+        (answer_now disk (ask_found store.parts.limit head.query head.id asked).0)))
     turn_comes fails among noted carried =
-        let says = folder_says trees Failed store begun now later disk shown fails head.id asked among head.call in
-        let folder = loose_order.fed (asking store.parts.limit head.call head.id asked) (answer_now disk (ask_found store.parts.limit head.call head.id asked).0) in
+        let says = folder_says trees Failed store begun now later disk shown fails head.id asked among head.query in
+        let folder = loose_order.fed (asking store.parts.limit head.query head.id asked) (answer_now disk (ask_found store.parts.limit head.query head.id asked).0) in
         subst (λ (reply : Option LooseReply). Comes (result_at head (by_reply store.parts.folders store.parts.limit head turns noted folder reply))) (sym says.1) (led_comes noted (led_by says.0) says.2 carried)

@@ -3,9 +3,8 @@ use Rattle.std.proofs.Common.{◌≡◌, ℕ, ◌≤◌, Bool, true, false, List
 use Rattle.odb_base.specs.Path.{Path}
 use Rattle.odb_disk.specs.Tree.{Tree, tree_of}
 use Rattle.odb_disk.specs.Tree.Follow.{read_of}
-use Rattle.odb_disk.specs.MemDisk.{Volume, next_fails, after_call}
-use Rattle.odb_disk.specs.Ask.{answer_now, answer_of, after_ask}
-use Rattle.odb_disk.proofs.WriteLaws.{after_ask-look, after_ask-read}
+use Rattle.odb_disk.specs.MemDisk.{Volume, next_fails}
+use Rattle.odb_disk.specs.Ask.{answer_now, answer_of, change_of_ask}
 use Rattle.odb_disk.specs.declared.ask.DiskAsk.{DiskAsk}
 use Rattle.odb_disk.specs.declared.ask.DiskAsk.TheVariants as asks
 use Rattle.odb_disk.specs.declared.ask.DiskAnswer.{DiskAnswer}
@@ -25,28 +24,37 @@ use Rattle.gix_odb_loose.specs.declared.call.LooseReply.{LooseReply}
 use Rattle.gix_odb_loose.specs.declared.call.LooseReply.TheVariants as loose_replies
 use Rattle.gix_odb_loose.specs.declared.find.Error.{Error}
 use Rattle.gix_odb_loose.specs.declared.find.Error.TheVariants as errors
-use Rattle.gix_odb_world.specs.declared.call.Call.{Call}
-use Rattle.gix_odb_world.specs.declared.call.Call.TheVariants.{Find, Header, Test}
-use Rattle.gix_odb_world.specs.declared.call_state.Lead.{Lead}
-use Rattle.gix_odb_world.specs.declared.call_state.Lead.TheVariants as leads
+use Rattle.gix_odb_world.specs.declared.query.Query.{Query}
+use Rattle.gix_odb_world.specs.declared.query.Query.TheVariants.{Find, Header, Test}
+use Rattle.gix_odb_world.specs.declared.look_state.Lead.{Lead}
+use Rattle.gix_odb_world.specs.declared.look_state.Lead.TheVariants as leads
 use Rattle.gix_odb_world.specs.declared.find.Header.TheVariants as headers
-use Rattle.gix_odb_world.specs.CallOrder.{asking, job_of, led_by, loose_store}
+use Rattle.gix_odb_world.specs.LookOrder.{asking, job_of, led_by, loose_store}
 use Rattle.gix_odb_world.specs.Causes.{GaveSometime, LooseCause}
 use Rattle.gix_odb_world.specs.Contents.{Answer, Object, HeaderOf, Presence, LooseFile, Holds, folder_list}
 use Rattle.gix_odb_world.specs.Event.{Store}
 use Rattle.gix_odb_world.specs.Held.{Held}
 use Rattle.gix_odb_world.specs.Promise.{Keeps, claim_of}
 
--- each call asks a folder with a look or a read, which leaves the tree as it is
-pub ask_found : (limit : Option ℕ) (call : Call) (id : ObjectId) (folder : Path)
-    → (ask : DiskAsk) × (disk_ask_of (asking limit call id folder) ≡ Some ask) × ((disk : Volume) → after_ask disk ask ≡ after_call disk)
-ask_found limit (Find asked) id folder = (asks.Read (loose_path folder id), refl, λ disk. after_ask-read disk (loose_path folder id))
-ask_found limit (Header asked) id folder = (asks.Read (loose_path folder id), refl, λ disk. after_ask-read disk (loose_path folder id))
-ask_found limit (Test asked) id folder = (asks.Look (loose_path folder id) true, refl, λ disk. after_ask-look disk (loose_path folder id) true)
+-- a look and a read make no change
+pub look_quiet : (path : Path) (follow : Bool) (tree : Tree) → change_of_ask tree (asks.Look path follow) ≡ None
+unfolding change_of_ask
+look_quiet path follow tree = refl
+
+read_quiet : (path : Path) (tree : Tree) → change_of_ask tree (asks.Read path) ≡ None
+unfolding change_of_ask
+read_quiet path tree = refl
+
+-- each query asks a folder with a look or a read
+pub ask_found : (limit : Option ℕ) (call : Query) (id : ObjectId) (folder : Path)
+    → (ask : DiskAsk) × (disk_ask_of (asking limit call id folder) ≡ Some ask) × ((tree : Tree) → change_of_ask tree ask ≡ None)
+ask_found limit (Find asked) id folder = (asks.Read (loose_path folder id), refl, read_quiet (loose_path folder id))
+ask_found limit (Header asked) id folder = (asks.Read (loose_path folder id), refl, read_quiet (loose_path folder id))
+ask_found limit (Test asked) id folder = (asks.Look (loose_path folder id) true, refl, look_quiet (loose_path folder id) true)
 
 -- What a folder's reply leads to: an answer that was held or an error with its cause, a miss by a call of the disk
 -- that didn't fail, or an error with its cause that is noted.
-abbrev pub LeadSays : (ℕ → Tree) → Type 0 → Store → ℕ → ℕ → Call → ObjectId → Path → (fails : Bool) → Lead → Type 0
+abbrev pub LeadSays : (ℕ → Tree) → Type 0 → Store → ℕ → ℕ → Query → ObjectId → Path → (fails : Bool) → Lead → Type 0
 LeadSays trees Failed store begun now call id folder fails (leads.Ends reply) = Keeps trees Failed store begun now call id (claim_of call reply)
 LeadSays trees Failed store begun now call id folder fails leads.Misses = (fails ≡ false) × (¬ (LeadsToFile (trees now) (loose_path folder id)))
 LeadSays trees Failed store begun now call id folder fails (leads.Notes error) = LooseCause trees Failed store begun now call id error
@@ -69,14 +77,14 @@ module _ (trees : ℕ → Tree) (Failed : Type 0) (store : Store) (begun now : �
   abbrev at : Path
   at = loose_path folder id
 
-  abbrev SaysNow : Call → LooseReply → Type 0
+  abbrev SaysNow : Query → LooseReply → Type 0
   SaysNow call reply = Says at store.parts.limit (job_of call id) (tree_of disk.state) (next_fails disk ≡ true) ⊥ reply
 
-  abbrev Leads : Call → Lead → Type 0
+  abbrev Leads : Query → Lead → Type 0
   Leads call lead = LeadSays trees Failed store begun now call id folder (next_fails disk) lead
 
   -- a cause of the last moment is one of the call
-  cause_now : (call : Call) (error : Error) → Cause (job_of call id) at store.parts.limit (λ read. read ≡ read_of (tree_of disk.state) at) (next_fails disk ≡ true) ⊥ error
+  cause_now : (call : Query) (error : Error) → Cause (job_of call id) at store.parts.limit (λ read. read ≡ read_of (tree_of disk.state) at) (next_fails disk ≡ true) ⊥ error
       → LooseCause trees Failed store begun now call id error
   cause_now call error c =
       record {
@@ -88,7 +96,7 @@ module _ (trees : ℕ → Tree) (Failed : Type 0) (store : Store) (begun now : �
       }
 
   -- what the file at the path holds now was held in the call
-  held_now : (call : Call) (answer : Answer) (P : List ℕ → Type 0) → ((bytes : List ℕ) → P bytes → Holds store.parts call (LooseFile bytes) answer)
+  held_now : (call : Query) (answer : Answer) (P : List ℕ → Type 0) → ((bytes : List ℕ) → P bytes → Holds store.parts call (LooseFile bytes) answer)
       → loose_files.Gives (read_of (tree_of disk.state) at) P → Held trees store.parts begun now call id answer
   held_now call answer P holds gives =
       record {
@@ -131,7 +139,7 @@ module _ (trees : ℕ → Tree) (Failed : Type 0) (store : Store) (begun now : �
       cause_now (Test asked) (errors.SizeMismatch actual expected path) (says.refused (errors.SizeMismatch actual expected path) refl)
 
   -- the folder's call has its reply after the disk's answer, which says so much
-  pub folder_says : (call : Call)
+  pub folder_says : (call : Query)
       → (reply : LooseReply) × (reply_of (fed (asking store.parts.limit call id folder) (answer_now disk (ask_found store.parts.limit call id folder).0)) ≡ Some reply) × Leads call (led_by reply)
   unfolding ask_found
   folder_says (Find asked) =

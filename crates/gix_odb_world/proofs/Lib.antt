@@ -6,6 +6,12 @@ mod OpenLemmas
 mod OpeningLemmas
 mod PlayLemmas
 mod RunLemmas
+mod RunSteps
+mod FileSteps
+mod OwnFiles
+mod StandAlone
+mod NameSteps
+mod RunEnds
 mod RunningLemmas
 mod StartLemmas
 mod StepLemmas
@@ -13,3 +19,10 @@ mod TurnLaw
 mod TurnLemmas
 mod WorkLemmas
 mod WorldLemmas
+mod WriteKept
+mod WriteTimeLemmas
+mod WriteTurn
+mod WriteGoes
+mod WriteFive
+mod WriteAsk
+mod RefusedLemmas

@@ -62,7 +62,7 @@ opened old mid new number path folders replacements options state free good begu
     (λ n status. opening_at n (store_at n path folders replacements options))
     (ap (why_not_open (phase_of_handle (handle_at old number))) good ∙ free) sets notes refl refl (λ other turn. cc) (λ n table. refl)
     (λ n status match. (replacements_same path folders replacements options n state good begun, refl))
-    (λ first events e status no_turn runs. runs_opening first events e number (store_at (length events + 1) path folders replacements options))
+    (λ first events e status starts no_turn runs. runs_opening first events e number (store_at (length events + 1) path folders replacements options))
 
 -- a bad opening is told where the number is free
 pub bad_open : (phase : Phase) (openable : Bool) → why_not_open phase true ≡ None → openable ≡ false → why_not_open phase openable ≡ Some BadOpen
@@ -80,7 +80,7 @@ pub closed : (old mid new : World) (number : ℕ) → why_not_now old (steps.Clo
     → SetsHandle old mid number None → Notes mid new outcomes.Applied Nothing None → Continues old (steps.Close number) new
 closed old mid new number reason sets notes =
     applied old mid new (steps.Close number) number None (λ n status. Free)
-    reason sets notes refl refl (λ other turn. cc) (λ n table. refl) (λ n status match. tt) (λ first events e status no_turn runs. tt)
+    reason sets notes refl refl (λ other turn. cc) (λ n table. refl) (λ n status match. tt) (λ first events e status starts no_turn runs. tt)
 
 -- ---- the mode of an idle handle
 
@@ -107,4 +107,4 @@ ignored old mid new number reason sets notes =
     applied old mid new (steps.Ignore number) number (with_ignoring (handle_at old number)) (λ n status. ignoring_from status)
     reason sets notes refl refl (λ other turn. cc) (λ n table. refl)
     (λ n status match. matches_ignoring status (handle_at old number) reason match)
-    (runs_ignoring number)
+    (λ first events e status starts. runs_ignoring number first events e status)

@@ -27,7 +27,7 @@ slice_get-last [] x = refl
 slice_get-last (z ∷ xs) x = slice_get-last xs x
 
 -- all of it
-take-push : {A : Type 0} (xs : List A) (x : A) → take (length xs + 1) (xs ++ x ∷ []) ≡ xs ++ x ∷ []
+pub take-push : {A : Type 0} (xs : List A) (x : A) → take (length xs + 1) (xs ++ x ∷ []) ≡ xs ++ x ∷ []
 take-push xs x =
     let whole : length xs + 1 ≡ length (xs ++ x ∷ []) = omega (arith, length-append xs (x ∷ [])) in
     rw whole (take-length (xs ++ x ∷ []))
@@ -61,7 +61,7 @@ tree_at-before first events e moment within = ap (λ es. tree_of (disk_after fir
 
 -- ---- failed calls
 
-slice_get-kept : {A : Type 0} (xs : List A) (x : A) (place : ℕ) (y : A) → slice_get xs place ≡ Some y → slice_get (xs ++ x ∷ []) place ≡ Some y
+pub slice_get-kept : {A : Type 0} (xs : List A) (x : A) (place : ℕ) (y : A) → slice_get xs place ≡ Some y → slice_get (xs ++ x ∷ []) place ≡ Some y
 slice_get-kept [] x place y e = absurd (cc e)
 slice_get-kept (z ∷ xs) x zero y e = e
 slice_get-kept (z ∷ xs) x (suc place) y e = slice_get-kept xs x place y e

@@ -11,15 +11,17 @@ use Rattle.gix_hash.specs.declared.object_id.ObjectId.{ObjectId}
 use Rattle.gix_odb_loose.specs.Causes.Laws.{Cause-wider}
 use Rattle.gix_odb_loose.specs.LooseFile.{Reading, LeadsToFile, loose_path}
 use Rattle.gix_odb_loose.specs.declared.find.Error as loose
-use Rattle.gix_odb_world.specs.declared.call.Call.{Call}
-use Rattle.gix_odb_world.specs.declared.call_state.Stage.{Stage}
+use Rattle.gix_odb_world.specs.declared.query.Query.{Query}
+use Rattle.gix_odb_world.specs.declared.call_state.CallState.TheVariants.{Looking, Writing, Written}
+use Rattle.gix_odb_world.specs.declared.look_state.Stage.{Stage}
 use Rattle.gix_odb_world.specs.declared.work.Work.{Work}
 use Rattle.gix_odb_world.specs.declared.work.Work.TheVariants.{Opening, Calling}
-use Rattle.gix_odb_world.specs.CallOrder.{job_of}
+use Rattle.gix_odb_world.specs.LookOrder.{job_of}
 use Rattle.gix_odb_world.specs.Causes.{Sometime, GaveSometime, LooseCause}
 use Rattle.gix_odb_world.specs.Event.{Event, Store, Status, Free, Resting, Working, with_status}
 use Rattle.gix_odb_world.specs.Run.{tree_at, IsTurnOf, FailedSince}
-use Rattle.gix_odb_world.specs.Running.{Passed, Leaves, Noted, Seeks, Seen, Runs}
+use Rattle.gix_odb_world.specs.Running.{Passed, Leaves, Noted, Seeks, Seen, Knows, Runs}
+use Rattle.gix_odb_world.proofs.WriteKept.{writing_push}
 use Rattle.gix_odb_world.proofs.RunLemmas.{tree_at-before, failed-kept, failed_before}
 
 -- more moments of the same trees
@@ -41,7 +43,7 @@ module _ (trees wider : ℕ → Tree) (begun now later : ℕ) (le : now ≤ late
   leaves_wider store id asked ahead leaves folder among = elim (leaves folder among) [ inl p ↦ inl (passed_wider id folder p) | inr rest ↦ inr rest ]
 
   module _ (Failed Fails : Type 0) (store : Store) (fails : Failed → Fails) where
-    pub cause_wider : (call : Call) (id : ObjectId) (error : loose.Error) → LooseCause trees Failed store begun now call id error → LooseCause wider Fails store begun later call id error
+    pub cause_wider : (call : Query) (id : ObjectId) (error : loose.Error) → LooseCause trees Failed store begun now call id error → LooseCause wider Fails store begun later call id error
     cause_wider call id error c =
         record {
           folder = c.folder;
@@ -51,20 +53,39 @@ module _ (trees wider : ℕ → Tree) (begun now later : ℕ) (le : now ≤ late
         }
 
     module _ (failed : Fails → Failed) where
-      noted_wider : (call : Call) (id : ObjectId) (asked : Path) (ahead : List Path) (noted : Option loose.Error) → Noted trees Failed store begun now call id asked ahead noted
+      noted_wider : (call : Query) (id : ObjectId) (asked : Path) (ahead : List Path) (noted : Option loose.Error) → Noted trees Failed store begun now call id asked ahead noted
           → Noted wider Fails store begun later call id asked ahead noted
       noted_wider call id asked ahead None seen = (λ f. seen.0 (failed f), leaves_wider store id asked ahead seen.1)
       noted_wider call id asked ahead (Some error) seen = cause_wider call id error seen
 
-      seeks_wider : (turns : ℕ) (call : Call) (id : ObjectId) (stage : Stage) → Seeks trees Failed store begun now turns call id stage → Seeks wider Fails store begun later turns call id stage
+      seeks_wider : (turns : ℕ) (call : Query) (id : ObjectId) (stage : Stage) → Seeks trees Failed store begun now turns call id stage → Seeks wider Fails store begun later turns call id stage
       seeks_wider turns call id stage s =
           record { noted = s.noted; folder = s.folder; among = s.among; stage_is = s.stage_is; seen = noted_wider call id s.folder (drop turns store.parts.folders) s.noted s.seen }
 
       pub seen_wider : (ignoring : Bool) (turns : ℕ) (work : Work) → Seen trees Failed store ignoring begun now turns work → Seen wider Fails store ignoring begun later turns work
       seen_wider ignoring turns (Opening state) seen = (seen.0, seen.1, λ f. seen.2 (failed f))
-      seen_wider ignoring turns (Calling state) seen = (seen.0, seeks_wider turns state.head.call state.head.id state.stage seen.1)
+      seen_wider ignoring turns (Calling (Looking state)) seen = (seen.0, seeks_wider turns state.head.query state.head.id state.stage seen.1)
+      seen_wider ignoring turns (Calling (Writing folder)) seen = absurd seen
+      seen_wider ignoring turns (Calling (Written reply)) seen = absurd seen
 
 -- ---- handles after one more event
+
+-- an opening or a query knows as much over an event that isn't its turn
+look_push : (first : Volume) (events : List Event) (e : Event) (handle : ℕ) (store : Store) (ignoring : Bool) (begun turns : ℕ) (work : Work) → ¬ IsTurnOf handle e.step
+    → Seen (tree_at first events) (FailedSince events handle begun) store ignoring begun (length events) turns work
+    → Seen (tree_at first (events ++ e ∷ [])) (FailedSince (events ++ e ∷ []) handle begun) store ignoring begun (length (events ++ e ∷ [])) turns work
+look_push first events e handle store ignoring begun turns work other seen =
+    let longer : length events ≤ length (events ++ e ∷ []) = omega (arith, length-append events (e ∷ [])) in
+    seen_wider (tree_at first events) (tree_at first (events ++ e ∷ [])) begun (length events) (length (events ++ e ∷ [])) longer (tree_at-before first events e)
+    (FailedSince events handle begun) (FailedSince (events ++ e ∷ []) handle begun) store (failed-kept events e handle begun)
+    (failed_before events e handle begun (λ turn. absurd (other turn))) ignoring turns work seen
+
+knows_push : (first : Volume) (events : List Event) (e : Event) (handle : ℕ) (store : Store) (ignoring : Bool) (begun turns : ℕ) (work : Work) → ¬ IsTurnOf handle e.step
+    → Knows first events handle store ignoring begun turns work → Knows first (events ++ e ∷ []) handle store ignoring begun turns work
+knows_push first events e handle store ignoring begun turns (Opening state) other knows = look_push first events e handle store ignoring begun turns (Opening state) other knows
+knows_push first events e handle store ignoring begun turns (Calling (Looking state)) other knows = look_push first events e handle store ignoring begun turns (Calling (Looking state)) other knows
+knows_push first events e handle store ignoring begun turns (Calling (Writing folder)) other knows = writing_push first events e handle begun turns store.parts.objects folder other knows
+knows_push first events e handle store ignoring begun turns (Calling (Written reply)) other knows = absurd knows
 
 -- a handle at work goes on as it is over an event that isn't its turn
 pub runs-push : (first : Volume) (events : List Event) (e : Event) (handle : ℕ) (status : Status) → ¬ IsTurnOf handle e.step → Runs first events handle status → Runs first (events ++ e ∷ []) handle status
@@ -73,9 +94,7 @@ runs-push first events e handle (Resting store ignoring) other runs = tt
 runs-push first events e handle (Working store ignoring begun turns work) other runs =
     let longer : length events ≤ length (events ++ e ∷ []) = omega (arith, length-append events (e ∷ [])) in (
       omega (arith, longer, runs.0),
-      seen_wider (tree_at first events) (tree_at first (events ++ e ∷ [])) begun (length events) (length (events ++ e ∷ [])) longer (tree_at-before first events e)
-          (FailedSince events handle begun) (FailedSince (events ++ e ∷ []) handle begun) store (failed-kept events e handle begun)
-          (failed_before events e handle begun (λ turn. absurd (other turn))) ignoring turns work runs.1,
+      knows_push first events e handle store ignoring begun turns work other runs.1,
     )
 
 runs_either : (first : Volume) (events : List Event) (e : Event) (number : ℕ) (status : Status) (other : ℕ) (before : Status) (b : Bool) → (other == number) ≡ b

@@ -6,7 +6,11 @@ use Rattle.gix_hash.specs.declared.object_id.ObjectId.{ObjectId}
 use Rattle.gix_odb_world.specs.declared.step.Step.TheVariants as steps
 use Rattle.gix_odb_world.specs.declared.step.Outcome.TheVariants as outcomes
 use Rattle.gix_odb_world.specs.declared.call.Call.{Call}
-use Rattle.gix_odb_world.specs.declared.call.Call.TheVariants.{Find, Header, Test}
+use Rattle.gix_odb_world.specs.declared.call.Call.TheVariants as call_kinds
+use Rattle.gix_odb_world.specs.declared.call_state.CallState.TheVariants.{Looking}
+use Rattle.gix_odb_world.specs.declared.query.Query.{Query}
+use Rattle.gix_odb_world.specs.declared.query.Query.TheVariants.{Find, Header, Test}
+use Rattle.gix_odb_world.specs.LookOrder as looks
 use Rattle.gix_odb_world.specs.declared.record.Did.TheVariants.{Nothing}
 use Rattle.gix_odb_world.specs.declared.handle.Handle.{Handle}
 use Rattle.gix_odb_world.specs.declared.handle.HandleState.{HandleState}
@@ -14,11 +18,18 @@ use Rattle.gix_odb_world.specs.declared.work.Work.{Work}
 use Rattle.gix_odb_world.specs.declared.work.Work.TheVariants.{Calling}
 use Rattle.gix_odb_world.specs.declared.world.World.{World}
 use Rattle.gix_odb_world.specs.CallOrder as calls
+use Rattle.gix_odb_world.specs.CallOrder.{HasSize, hash_to_write}
+use Rattle.gix_hash.specs.ObjectId.{kind_of}
+use Rattle.gix_hash.specs.declared.kind.Kind.{Kind as HashKind}
+use Rattle.gix_object.specs.Id.Laws.{kind_of-object_id}
+use Rattle.gix_object.specs.declared.kind.Kind.{Kind}
+use Rattle.gix_odb_loose.specs.LooseFile.{id_asked}
+use Rattle.gix_odb_loose.specs.declared.call.LooseJob.TheVariants as jobs
 use Rattle.gix_odb_world.specs.Contents.{or_itself, replaced, replacement_in, sought}
 use Rattle.gix_odb_world.specs.Event.{Event, Store, Status, Free, Resting, Working, started, call_started}
 use Rattle.gix_odb_world.specs.Handle.{IsHandleOf, replaced_by, replacement_of, sought_by}
-use Rattle.gix_odb_world.specs.Run.{IsTurnOf}
-use Rattle.gix_odb_world.specs.Running.{Runs}
+use Rattle.gix_odb_world.specs.Run.{IsTurnOf, FailedSince, tree_at}
+use Rattle.gix_odb_world.specs.Running.{Knows, Runs, Seen}
 use Rattle.gix_odb_world.specs.Valid.{why_not_idle}
 use Rattle.gix_odb_world.specs.World.{Continues, Matches, handle_at}
 use Rattle.gix_odb_world.specs.Table.{SetsHandle, Notes, phase_of_handle, phase_of_work, why_not_now, with_work}
@@ -26,14 +37,19 @@ use Rattle.gix_odb_world.proofs.CallLemmas.{first_or_later}
 use Rattle.gix_odb_world.proofs.RunLemmas.{none_failed_yet}
 use Rattle.gix_odb_world.proofs.StepLemmas.{applied}
 use Rattle.gix_odb_world.proofs.RunningLemmas.{runs-push}
+use Rattle.gix_odb_world.proofs.WriteKept.{writing_begun}
+
+-- the id that a write is about is of the hash that it is written with
+pub start_fits : (kind : Kind) (size : ℕ) (bytes : List ℕ) (known : Option ObjectId) (hash : HashKind) → hash ≡ hash_to_write known → kind_of (id_asked hash (jobs.Write kind size bytes known)) ≡ hash
+start_fits kind size bytes None hash is = kind_of-object_id hash kind bytes
+start_fits kind size bytes (Some id) hash is = sym is
 
 -- the call of the code is that of the store
 work_started : (store : Store) (ignoring : Bool) (state : HandleState) (call : Call) → IsHandleOf store ignoring state
-    → Calling (calls.started state.objects state.alloc_limit_bytes call (sought_by state call)) ≡ call_started store ignoring call
+    → Calling (calls.started state.objects state.alloc_limit_bytes (sought_by state) call) ≡ call_started store ignoring call
 work_started store ignoring state call own =
-    ap (λ objects. Calling (calls.started objects state.alloc_limit_bytes call (sought_by state call))) own.objects
-    ∙ (ap (λ limit. Calling (calls.started store.parts.objects limit call (sought_by state call))) own.limit
-    ∙ ap (λ id. Calling (calls.started store.parts.objects store.parts.limit call id)) (sought_same store ignoring state call own))
+    ap (λ objects. Calling (calls.started objects state.alloc_limit_bytes (sought_by state) call)) own.objects
+    ∙ (ap (λ limit. Calling (calls.started store.parts.objects limit (sought_by state) call)) own.limit ∙ by_call call)
   where
     replaced_same : (store : Store) (ignoring : Bool) (state : HandleState) (id : ObjectId) → IsHandleOf store ignoring state → replaced_by state id ≡ replaced (replacement_in store.parts) ignoring id
     replaced_same store ignoring state id own =
@@ -43,53 +59,73 @@ work_started store ignoring state call own =
         by_mode true = refl
         by_mode false = ap (λ other. or_itself other id) (own.replacements id)
 
-    sought_same : (store : Store) (ignoring : Bool) (state : HandleState) (call : Call) → IsHandleOf store ignoring state → sought_by state call ≡ sought store.parts ignoring call
+    sought_same : (store : Store) (ignoring : Bool) (state : HandleState) (query : Query) → IsHandleOf store ignoring state → sought_by state query ≡ sought store.parts ignoring query
     sought_same store ignoring state (Find id) own = replaced_same store ignoring state id own
     sought_same store ignoring state (Header id) own = replaced_same store ignoring state id own
     sought_same store ignoring state (Test id) own = refl
 
+    looked_for : (query : Query) → Calling (Looking (looks.started store.parts.objects store.parts.limit query (sought_by state query))) ≡ Calling (Looking (looks.started store.parts.objects store.parts.limit query (sought store.parts ignoring query)))
+    looked_for query = ap (λ id. Calling (Looking (looks.started store.parts.objects store.parts.limit query id))) (sought_same store ignoring state query own)
+
+    by_call : (call : Call) → Calling (calls.started store.parts.objects store.parts.limit (sought_by state) call) ≡ call_started store ignoring call
+    by_call (call_kinds.Find id) = looked_for (Find id)
+    by_call (call_kinds.Header id) = looked_for (Header id)
+    by_call (call_kinds.Test id) = looked_for (Test id)
+    by_call (call_kinds.Write kind size bytes id) = refl
+
 matches_started : (n : ℕ) (call : Call) (status : Status) (handle : Handle) (work : Work) → why_not_idle (phase_of_handle (Some handle)) ≡ None
-    → work ≡ Calling (calls.started handle.state.objects handle.state.alloc_limit_bytes call (sought_by handle.state call))
+    → work ≡ Calling (calls.started handle.state.objects handle.state.alloc_limit_bytes (sought_by handle.state) call)
     → Matches status (Some handle) → Matches (started n call status) (with_work (Some work) (Some handle))
 matches_started n call Free handle work idle is match = absurd match
 matches_started n call (Resting store ignoring) handle work idle is match = (match.0, ap Some (is ∙ work_started store ignoring handle.state call match.0))
 matches_started n call (Working store ignoring begun turns own) handle work idle is match =
     absurd (cc (subst (λ (w : Option Work). why_not_idle (phase_of_work w) ≡ None) match.1 idle))
 
--- a call that the event begins asks the objects directory, and all folders are ahead
-runs_calling : (first : Volume) (events : List Event) (e : Event) (handle : ℕ) (store : Store) (ignoring : Bool) (call : Call)
-    → Runs first (events ++ e ∷ []) handle (Working store ignoring (length events + 1) 0 (call_started store ignoring call))
-runs_calling first events e handle store ignoring call =
+-- a query that the event begins asks the objects directory, and all folders are ahead
+seen_querying : (first : Volume) (events : List Event) (e : Event) (handle : ℕ) (store : Store) (ignoring : Bool) (query : Query)
+    → Seen (tree_at first (events ++ e ∷ [])) (FailedSince (events ++ e ∷ []) handle (length events + 1)) store ignoring (length events + 1) (length (events ++ e ∷ [])) 0 (Calling (Looking (looks.started store.parts.objects store.parts.limit query (sought store.parts ignoring query))))
+seen_querying first events e handle store ignoring query =
     let whole : length (events ++ e ∷ []) ≡ length events + 1 = length-append events (e ∷ []) in (
-      omega (arith, whole),
-      (
-        refl,
-        record {
-          noted = None;
-          folder = store.parts.objects;
-          among = (0, omega arith, refl);
-          stage_is = refl;
-          seen = (
-            none_failed_yet (events ++ e ∷ []) handle (length events + 1) (omega (arith, whole)),
-            λ folder among. inr (first_or_later store.parts.objects store.parts.folders folder among),
-          );
-        },
-      ),
+      refl,
+      record {
+        noted = None;
+        folder = store.parts.objects;
+        among = (0, omega arith, refl);
+        stage_is = refl;
+        seen = (
+          none_failed_yet (events ++ e ∷ []) handle (length events + 1) (omega (arith, whole)),
+          λ folder among. inr (first_or_later store.parts.objects store.parts.folders folder among),
+        );
+      },
     )
 
-runs_started : (number : ℕ) (call : Call) (first : Volume) (events : List Event) (e : Event) (status : Status) → ((other : ℕ) → ¬ IsTurnOf other e.step)
-    → Runs first events number status → Runs first (events ++ e ∷ []) number (started (length events + 1) call status)
-runs_started number call first events e Free no_turn runs = tt
-runs_started number call first events e (Resting store ignoring) no_turn runs = runs_calling first events e number store ignoring call
-runs_started number call first events e (Working store ignoring begun turns work) no_turn runs = runs-push first events e number (Working store ignoring begun turns work) (no_turn number) runs
+-- a call that the event begins knows so much
+knows_calling : (first : Volume) (events : List Event) (e : Event) (handle : ℕ) (store : Store) (ignoring : Bool) (call : Call) → HasSize call → e.step ≡ steps.Start handle call
+    → Knows first (events ++ e ∷ []) handle store ignoring (length events + 1) 0 (call_started store ignoring call)
+knows_calling first events e handle store ignoring (call_kinds.Find id) sized starts = seen_querying first events e handle store ignoring (Find id)
+knows_calling first events e handle store ignoring (call_kinds.Header id) sized starts = seen_querying first events e handle store ignoring (Header id)
+knows_calling first events e handle store ignoring (call_kinds.Test id) sized starts = seen_querying first events e handle store ignoring (Test id)
+knows_calling first events e handle store ignoring (call_kinds.Write kind size bytes id) sized starts = writing_begun first events e handle store.parts.objects kind size bytes id sized starts
 
-pub begun : (old mid new : World) (number : ℕ) (call : Call) (handle : Handle) (work : Work) → why_not_now old (steps.Start number call) ≡ None → handle_at old number ≡ Some handle
-    → work ≡ Calling (calls.started handle.state.objects handle.state.alloc_limit_bytes call (sought_by handle.state call))
+runs_calling : (first : Volume) (events : List Event) (e : Event) (handle : ℕ) (store : Store) (ignoring : Bool) (call : Call) → HasSize call → e.step ≡ steps.Start handle call
+    → Runs first (events ++ e ∷ []) handle (Working store ignoring (length events + 1) 0 (call_started store ignoring call))
+runs_calling first events e handle store ignoring call sized starts =
+    let whole : length (events ++ e ∷ []) ≡ length events + 1 = length-append events (e ∷ []) in
+    (omega (arith, whole), knows_calling first events e handle store ignoring call sized starts)
+
+runs_started : (number : ℕ) (call : Call) → HasSize call → (first : Volume) (events : List Event) (e : Event) (status : Status) → e.step ≡ steps.Start number call → ((other : ℕ) → ¬ IsTurnOf other e.step)
+    → Runs first events number status → Runs first (events ++ e ∷ []) number (started (length events + 1) call status)
+runs_started number call sized first events e Free starts no_turn runs = tt
+runs_started number call sized first events e (Resting store ignoring) starts no_turn runs = runs_calling first events e number store ignoring call sized starts
+runs_started number call sized first events e (Working store ignoring begun turns work) starts no_turn runs = runs-push first events e number (Working store ignoring begun turns work) (no_turn number) runs
+
+pub begun : (old mid new : World) (number : ℕ) (call : Call) (handle : Handle) (work : Work) → HasSize call → why_not_now old (steps.Start number call) ≡ None → handle_at old number ≡ Some handle
+    → work ≡ Calling (calls.started handle.state.objects handle.state.alloc_limit_bytes (sought_by handle.state) call)
     → SetsHandle old mid number (with_work (Some work) (handle_at old number)) → Notes mid new outcomes.Applied Nothing None → Continues old (steps.Start number call) new
-begun old mid new number call handle work reason there is sets notes =
+begun old mid new number call handle work sized reason there is sets notes =
     applied old mid new (steps.Start number call) number (with_work (Some work) (handle_at old number)) (λ n status. started n call status)
     reason sets notes refl refl (λ other turn. cc) (λ n table. refl)
     (λ n status match.
     subst (λ (h : Option Handle). Matches (started n call status) (with_work (Some work) h)) (sym there)
     (matches_started n call status handle work (subst (λ (h : Option Handle). why_not_idle (phase_of_handle h) ≡ None) there reason) is (subst (Matches status) there match)))
-    (runs_started number call)
+    (runs_started number call sized)

@@ -19,12 +19,12 @@ use Rattle.gix_odb_world.specs.Event.{Event, Status, Free, Resting, Working, sta
 use Rattle.gix_odb_world.specs.Run.{disk_after, disk_after_record, disk_after_change, IsTurnOf}
 use Rattle.gix_odb_world.specs.Running.{Runs}
 use Rattle.gix_odb_world.specs.Valid.{phase_of, why_not, why_not_after, why_not_open, why_not_idle, why_not_running, misuse_of, is_openable}
-use Rattle.gix_odb_world.specs.Headline.{Law, Suits, change_made}
+use Rattle.gix_odb_world.specs.Headline.{Law, Suits, ChangesAs}
 use Rattle.gix_odb_world.specs.World.{Explains, GoesOn, Continues, IsRunOf, Matches, handle_at}
 use Rattle.gix_odb_world.specs.Table.{SetsHandle, Notes, phase_of_handle, phase_of_work, why_not_now}
 use Rattle.gix_odb_world.proofs.RunLemmas.{status_of-push, disk_after-push, IsLawful-push}
 use Rattle.gix_odb_world.proofs.RunningLemmas.{runs-push, runs_set}
-use Rattle.gix_odb_world.proofs.WorldLemmas.{matches_set}
+use Rattle.gix_odb_world.proofs.WorldLemmas.{matches_set, throughout-push}
 
 -- ---- the reason for misuse, by the history and by the world
 
@@ -66,6 +66,8 @@ goes_on first events old new e explains law outcomes records disk handles runnin
         handles = λ handle. subst (λ (table : ℕ → Status). Matches (table handle) (handle_at new handle)) (sym (status_of-push events e)) (handles handle);
         running = λ handle. subst (λ (table : ℕ → Status). Runs first (events ++ e ∷ []) handle (table handle)) (sym (status_of-push events e)) (running handle);
         lawful = IsLawful-push first events e explains.lawful law;
+        start = explains.start;
+        throughout = throughout-push first events e explains.throughout (λ handle. subst (λ (table : ℕ → Status). Runs first (events ++ e ∷ []) handle (table handle)) (sym (status_of-push events e)) (running handle));
       };
     }
 
@@ -82,7 +84,7 @@ no_quiet_turn handle (outcomes.Misuse why) suits valid no_reply not_pending = cc
 
 -- it is lawful where it is no reply, and no call goes on
 law_quiet : (first : Volume) (past : List Event) (step : Step) (outcome : Outcome) (change : Option Change) (faults : ℕ)
-    → misuse_of outcome ≡ why_not_after first past step → Suits step outcome Nothing → change ≡ change_made step outcome
+    → misuse_of outcome ≡ why_not_after first past step → Suits step outcome Nothing → ChangesAs step outcome change
     → faults ≡ (disk_after_change (disk_after first past) change).calls.faults → ((reply : Reply) → outcome ≢ outcomes.Reply reply) → outcome ≢ outcomes.Pending
     → Law first past (quiet step outcome change faults)
 law_quiet first past step outcome change faults valid suits made counted no_reply not_pending =
@@ -97,7 +99,7 @@ law_quiet first past step outcome change faults valid suits made counted no_repl
           subst (λ s. misuse_of outcome ≡ why_not_after first past s) turn.step valid ∙ ap (λ s. why_not_running (phase_of s)) turn.status in
           absurd (no_quiet_turn handle outcome (subst (λ s. Suits s outcome Nothing) turn.step suits) valid_turn no_reply not_pending);
       promise = λ handle store ignoring begun turns work reply turn is. absurd (no_reply reply is);
-      in_time = λ handle store ignoring begun turns work entries turn is most. absurd (not_pending is);
+      in_time = λ handle store ignoring begun turns work entries write turn is most many. absurd (not_pending is);
     }
 
 -- ---- a misused step
@@ -110,13 +112,13 @@ suits_misused (steps.Start handle call) why = refl
 suits_misused (steps.Turn handle) why = refl
 suits_misused (steps.Disk change) why = refl
 
-change_made-misused : (step : Step) (why : Why) → change_made step (outcomes.Misuse why) ≡ None
-change_made-misused (steps.Open handle path folders replacements options) why = refl
-change_made-misused (steps.Close handle) why = refl
-change_made-misused (steps.Ignore handle) why = refl
-change_made-misused (steps.Start handle call) why = refl
-change_made-misused (steps.Turn handle) why = refl
-change_made-misused (steps.Disk change) why = refl
+changes_misused : (step : Step) (why : Why) → ChangesAs step (outcomes.Misuse why) None
+changes_misused (steps.Open handle path folders replacements options) why = refl
+changes_misused (steps.Close handle) why = refl
+changes_misused (steps.Ignore handle) why = refl
+changes_misused (steps.Start handle call) why = refl
+changes_misused (steps.Turn handle) why = refl
+changes_misused (steps.Disk change) why = refl
 
 status_after-misused : (number : ℕ) (step : Step) (why : Why) (table : ℕ → Status) → status_after number step (outcomes.Misuse why) None table ≡ table
 status_after-misused number (steps.Open handle path folders replacements options) why table = refl
@@ -140,7 +142,7 @@ misused old new step why reason notes first events explains =
     let e : Event = quiet step (outcomes.Misuse why) None old.disk.calls.faults in (
       outcomes.Misuse why,
       goes_on first events old new e explains
-          (law_quiet first events step (outcomes.Misuse why) None old.disk.calls.faults (sym same) (suits_misused step why) (sym (change_made-misused step why)) (ap (λ (disk : Volume). disk.calls.faults) explains.disk) (λ reply is. cc) (λ is. cc))
+          (law_quiet first events step (outcomes.Misuse why) None old.disk.calls.faults (sym same) (suits_misused step why) (changes_misused step why) (ap (λ (disk : Volume). disk.calls.faults) explains.disk) (λ reply is. cc) (λ is. cc))
           notes.outcomes notes.records notes.disk
           (λ handle. rw (status_after-misused (length events + 1) step why (status_of events)) (subst (λ handles. Matches (status_of events handle) (handle_at (record new { handles = handles }) handle)) (sym notes.handles) (explains.handles handle)))
           (λ handle. rw (status_after-misused (length events + 1) step why (status_of events))
@@ -158,10 +160,10 @@ table_noted old mid new number handle outcome did change sets notes other =
 -- a step sets one handle, and its status goes on as the handle does
 pub applied : (old mid new : World) (step : Step) (number : ℕ) (handle : Option Handle) (next : ℕ → Status → Status)
     → why_not_now old step ≡ None → SetsHandle old mid number handle → Notes mid new outcomes.Applied Nothing None
-    → Suits step outcomes.Applied Nothing → None ≡ change_made step outcomes.Applied → ((other : ℕ) → ¬ IsTurnOf other step)
+    → Suits step outcomes.Applied Nothing → ChangesAs step outcomes.Applied None → ((other : ℕ) → ¬ IsTurnOf other step)
     → ((n : ℕ) (table : ℕ → Status) → status_after n step outcomes.Applied None table ≡ with_status table number (next n (table number)))
     → ((n : ℕ) (status : Status) → Matches status (handle_at old number) → Matches (next n status) handle)
-    → ((first : Volume) (events : List Event) (e : Event) (status : Status) → ((other : ℕ) → ¬ IsTurnOf other e.step) → Runs first events number status → Runs first (events ++ e ∷ []) number (next (length events + 1) status))
+    → ((first : Volume) (events : List Event) (e : Event) (status : Status) → e.step ≡ step → ((other : ℕ) → ¬ IsTurnOf other e.step) → Runs first events number status → Runs first (events ++ e ∷ []) number (next (length events + 1) status))
     → Continues old step new
 applied old mid new step number handle next reason sets notes suits made no_turn after matches runs first events explains =
     let e : Event = quiet step outcomes.Applied None mid.disk.calls.faults in
@@ -176,7 +178,7 @@ applied old mid new step number handle next reason sets notes suits made no_turn
           (λ other. rw (after (length events + 1) table)
           (matches_set old new table number (next (length events + 1) (table number)) handle explains.handles (table_noted old mid new number handle outcomes.Applied Nothing None sets notes) (matches (length events + 1) (table number) (explains.handles number)) other))
           (λ other. rw (after (length events + 1) table)
-          (runs_set first events e table number (next (length events + 1) (table number)) explains.running (λ o apart. no_turn o) (runs first events e (table number) no_turn (explains.running number)) other)),
+          (runs_set first events e table number (next (length events + 1) (table number)) explains.running (λ o apart. no_turn o) (runs first events e (table number) refl no_turn (explains.running number)) other)),
     )
 
 -- ---- a change

@@ -2,7 +2,10 @@
 use Rattle.std.proofs.Common.{◌≡◌, ℕ, ◌+◌, Bool, true, false, List, [], ◌∷◌, ◌++◌, length, Some, None, Ok, Err, Option, Result, refl, sym, ◌∙◌, ap, subst}
 use Rattle.std.specs.Prelude.{if◌then◌else◌, ◌==◌}
 use Rattle.odb_disk.specs.MemDisk.{Volume, after_call}
-use Rattle.odb_disk.specs.Ask.{answer_now, after_ask}
+use Rattle.odb_disk.specs.Ask.{answer_now, after_ask, change_of_ask}
+use Rattle.odb_disk.specs.Tree.{IsTree, tree_of}
+use Rattle.odb_disk.specs.Tree.Write.{written}
+use Rattle.odb_disk.specs.declared.change.Change.{Change}
 use Rattle.odb_disk.specs.declared.ask.DiskAnswer.{DiskAnswer}
 use Rattle.gix_odb_world.specs.declared.step.Step.TheVariants as steps
 use Rattle.gix_odb_world.specs.declared.step.Outcome.{Outcome}
@@ -19,10 +22,13 @@ use Rattle.gix_odb_world.specs.Running.{Runs}
 use Rattle.gix_odb_world.specs.Headline.{outcome_of}
 use Rattle.gix_odb_world.specs.WorkOrder.{ask_in, fed, result_in}
 use Rattle.gix_odb_world.specs.World.{Explains, Continues, GoesOn, Matches, handle_at}
-use Rattle.gix_odb_world.specs.Table.{SetsHandle, Notes, after_turn, did_now, did_of, disk_now, work_now}
+use Rattle.gix_odb_world.specs.Table.{SetsHandle, Notes, after_turn, change_now, did_now, did_of, disk_now, work_now}
 use Rattle.gix_odb_world.proofs.RunningLemmas.{runs_set}
 use Rattle.gix_odb_world.proofs.StepLemmas.{goes_on, table_noted}
+use Rattle.gix_odb_world.specs.Run.{change_by}
+use Rattle.gix_odb_world.proofs.FailedLemmas.{has_failed-now}
 use Rattle.gix_odb_world.proofs.WorkLemmas.{Acts}
+use Rattle.gix_odb_world.proofs.WriteAsk.{after_ask-change}
 use Rattle.gix_odb_world.proofs.WorldLemmas.{matches_set}
 use Rattle.gix_odb_world.proofs.TurnLaw.{act, come, event, law, matches_next, runs_next}
 
@@ -46,19 +52,21 @@ set_twice true handle before = refl
 set_twice false handle before = refl
 
 -- what the code did in a turn of a handle
-record Took (old took mid new : World) (disk : Volume) (number : ℕ) (state : HandleState) (work after : Work) (did : Did) (outcome : Outcome) (handle : Option Handle) : Type 0 where
+record Took (old took mid new : World) (disk : Volume) (number : ℕ) (state : HandleState) (work after : Work) (did : Did) (change : Option Change) (outcome : Outcome) (handle : Option Handle) : Type 0 where
   there : handle_at old number ≡ Some (record { state = state; work = Some work })
   takes : SetsHandle old took number None
   did_is : did ≡ did_now took.disk (ask_in state.objects work)
+  change_is : change ≡ change_now took.disk (ask_in state.objects work)
+  tree : IsTree (tree_of took.disk.state)
   after_is : after ≡ work_now took.disk state work (ask_in state.objects work)
   disk_is : disk ≡ disk_now took.disk (ask_in state.objects work)
   outcome_is : outcome ≡ outcome_of (result_in after)
   handle_is : handle ≡ after_turn state (result_in after)
   sets : SetsHandle (record took { disk = disk }) mid number handle
-  notes : Notes mid new outcome did None
+  notes : Notes mid new outcome did change
 
-module _ (old took mid new : World) (disk : Volume) (number : ℕ) (state : HandleState) (work left : Work) (did : Did) (outcome : Outcome) (handle : Option Handle)
-    (took_it : Took old took mid new disk number state work left did outcome handle) (first : Volume) (events : List Event) (explains : Explains first events old) where
+module _ (old took mid new : World) (disk : Volume) (number : ℕ) (state : HandleState) (work left : Work) (did : Did) (change : Option Change) (outcome : Outcome) (handle : Option Handle)
+    (took_it : Took old took mid new disk number state work left did change outcome handle) (first : Volume) (events : List Event) (explains : Explains first events old) where
   -- by the store of the handle, and the work that it is at
   goes_at : (store : Store) (ignoring : Bool) (begun turns : ℕ) → status_of events number ≡ Working store ignoring begun turns work → IsHandleOf store ignoring state
       → (o : Outcome) × GoesOn first events (steps.Turn number) o new
@@ -73,34 +81,39 @@ module _ (old took mid new : World) (disk : Volume) (number : ℕ) (state : Hand
       took_it.after_is ∙ (ap (work_now took.disk state work) asked ∙ (ap (λ d. work_now d state work (Some does.ask)) same_disk
       ∙ (ap (λ slots. fed slots state.folders state.alloc_limit_bytes work answer) own.slots
       ∙ (ap (λ folders. fed store.slots folders state.alloc_limit_bytes work answer) own.folders ∙ ap (λ limit. fed store.slots store.parts.folders limit work answer) own.limit)))) in
-      let disk_is : disk ≡ after_call old.disk = took_it.disk_is ∙ (ap (disk_now took.disk) asked ∙ (ap (λ d. after_ask d does.ask) same_disk ∙ does.quiet old.disk)) in
+      let disk_is : disk ≡ record (after_call old.disk) { state = written old.disk.state (change_by old.disk does.ask) } =
+      took_it.disk_is ∙ (ap (disk_now took.disk) asked ∙ (ap (λ d. after_ask d does.ask) same_disk ∙ after_ask-change old.disk does.ask)) in
+      let change_is : change ≡ change_by old.disk does.ask =
+      took_it.change_is ∙ (ap (change_now took.disk) asked ∙ (ap (λ d. change_now d (Some does.ask)) same_disk ∙ ap (λ b. if b then None else change_of_ask (tree_of old.disk.state) does.ask) (has_failed-now old.disk does.ask))) in
+      let tree : IsTree (tree_of old.disk.state) = subst (λ (d : Volume). IsTree (tree_of d.state)) same_disk took_it.tree in
       let result : Result Reply Work = result_in going in
       let outcome_is : outcome ≡ outcome_of result = took_it.outcome_is ∙ ap (λ w. outcome_of (result_in w)) left_is in
       let handle_is : handle ≡ after_turn state result = took_it.handle_is ∙ ap (λ w. after_turn state (result_in w)) left_is in
       let counted : mid.disk.calls.faults ≡ (after_call old.disk).calls.faults = ap (λ (d : Volume). d.calls.faults) (took_it.sets.disk ∙ disk_is) in
-      let e : Event = event first events old number store ignoring begun turns work explains status mid.disk.calls.faults counted in
+      let e : Event = event first events old number store ignoring begun turns work explains status tree mid.disk.calls.faults counted in
       let table : ℕ → Status = status_of events in
       let next : Status = next_from answer (table number) result in
       let next_same : next ≡ next_from answer (Working store ignoring begun turns work) result = next_is answer store ignoring begun turns work (table number) result status in
       let put : (other : ℕ) → handle_at new other ≡ (if other == number then handle else handle_at old other) =
       λ other.
-      table_noted (record took { disk = disk }) mid new number handle outcome did None took_it.sets took_it.notes other
+      table_noted (record took { disk = disk }) mid new number handle outcome did change took_it.sets took_it.notes other
       ∙ (ap (λ before. if other == number then handle else before) (took_it.takes.table other) ∙ set_twice (other == number) handle (handle_at old other)) in
       let here : Matches next handle =
       subst (λ s. Matches s handle) (sym next_same)
       (subst (Matches (next_from answer (Working store ignoring begun turns work) result)) (sym handle_is)
-      (matches_next first events old number store ignoring begun turns work explains status mid.disk.calls.faults counted state own result refl)) in
+      (matches_next first events old number store ignoring begun turns work explains status tree mid.disk.calls.faults counted state own result refl)) in
       let on : Runs first (events ++ e ∷ []) number next =
       subst (Runs first (events ++ e ∷ []) number) (sym next_same)
-      (runs_next first events old number store ignoring begun turns work explains status mid.disk.calls.faults counted result refl
-      (come first events old number store ignoring begun turns work explains status mid.disk.calls.faults counted)) in (
+      (runs_next first events old number store ignoring begun turns work explains status tree mid.disk.calls.faults counted result refl
+      (come first events old number store ignoring begun turns work explains status tree mid.disk.calls.faults counted)) in (
         outcome_of result,
         goes_on first events old new e explains
-            (law first events old number store ignoring begun turns work explains status mid.disk.calls.faults counted)
+            (law first events old number store ignoring begun turns work explains status tree mid.disk.calls.faults counted)
             (took_it.notes.outcomes ∙ (ap (λ os. os ++ outcome ∷ []) (took_it.sets.outcomes ∙ took_it.takes.outcomes) ∙ ap (λ o. old.outcomes ++ o ∷ []) outcome_is))
             (took_it.notes.records
-            ∙ (ap (λ rs. rs ++ record { did = did; change = None; faults = mid.disk.calls.faults } ∷ []) (took_it.sets.records ∙ took_it.takes.records)
-            ∙ ap (λ d. old.records ++ record { did = d; change = None; faults = mid.disk.calls.faults } ∷ []) did_is))
+            ∙ (ap (λ rs. rs ++ record { did = did; change = change; faults = mid.disk.calls.faults } ∷ []) (took_it.sets.records ∙ took_it.takes.records)
+            ∙ (ap (λ d. old.records ++ record { did = d; change = change; faults = mid.disk.calls.faults } ∷ []) did_is
+            ∙ ap (λ c. old.records ++ record { did = did_of does.ask answer; change = c; faults = mid.disk.calls.faults } ∷ []) change_is)))
             (took_it.notes.disk ∙ (took_it.sets.disk ∙ disk_is))
             (λ other. rw (status_after-turn (length events + 1) number answer result table) (matches_set old new table number next handle explains.handles put here other))
             (λ other. rw (status_after-turn (length events + 1) number answer result table) (runs_set first events e table number next explains.running (λ o apart turns_it. apart (cc turns_it)) on other)),
@@ -113,12 +126,12 @@ module _ (old took mid new : World) (disk : Volume) (number : ℕ) (state : Hand
       let same : own ≡ work = cc match.1 in goes_at store ignoring begun turns (is ∙ ap (Working store ignoring begun turns) same) match.0
 
 -- each history goes on by the turn
-pub turned_on : (old took mid new : World) (disk : Volume) (number : ℕ) (state : HandleState) (work left : Work) (did : Did) (outcome : Outcome) (handle : Option Handle)
+pub turned_on : (old took mid new : World) (disk : Volume) (number : ℕ) (state : HandleState) (work left : Work) (did : Did) (change : Option Change) (outcome : Outcome) (handle : Option Handle)
     → handle_at old number ≡ Some (record { state = state; work = Some work }) → SetsHandle old took number None
-    → did ≡ did_now took.disk (ask_in state.objects work) → left ≡ work_now took.disk state work (ask_in state.objects work) → disk ≡ disk_now took.disk (ask_in state.objects work)
+    → did ≡ did_now took.disk (ask_in state.objects work) → change ≡ change_now took.disk (ask_in state.objects work) → IsTree (tree_of took.disk.state) → left ≡ work_now took.disk state work (ask_in state.objects work) → disk ≡ disk_now took.disk (ask_in state.objects work)
     → outcome ≡ outcome_of (result_in left) → handle ≡ after_turn state (result_in left)
-    → SetsHandle (record took { disk = disk }) mid number handle → Notes mid new outcome did None → Continues old (steps.Turn number) new
-turned_on old took mid new disk number state work left did outcome handle there takes did_is left_is disk_is outcome_is handle_is sets notes first events explains =
-    by_status old took mid new disk number state work left did outcome handle
-    (record { there = there; takes = takes; did_is = did_is; after_is = left_is; disk_is = disk_is; outcome_is = outcome_is; handle_is = handle_is; sets = sets; notes = notes })
+    → SetsHandle (record took { disk = disk }) mid number handle → Notes mid new outcome did change → Continues old (steps.Turn number) new
+turned_on old took mid new disk number state work left did change outcome handle there takes did_is change_is tree left_is disk_is outcome_is handle_is sets notes first events explains =
+    by_status old took mid new disk number state work left did change outcome handle
+    (record { there = there; takes = takes; did_is = did_is; change_is = change_is; tree = tree; after_is = left_is; disk_is = disk_is; outcome_is = outcome_is; handle_is = handle_is; sets = sets; notes = notes })
     first events explains (status_of events number) refl (subst (Matches (status_of events number)) there (explains.handles number))

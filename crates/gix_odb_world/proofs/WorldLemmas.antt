@@ -1,17 +1,27 @@
 -- The table of a world's handles stands for what the handles do.
-use Rattle.std.proofs.Common.{◌≡◌, ℕ, Bool, true, false, [], Option, refl, sym}
+use Rattle.std.proofs.Common.{◌≡◌, ℕ, zero, suc, ◌+◌, Bool, true, false, List, [], ◌∷◌, ◌++◌, length, take, Option, refl, sym, ap, ◌∙◌, subst, arith, inl, inr}
 use Rattle.std.specs.Prelude.{if◌then◌else◌, ◌==◌}
+use Rattle.std.proofs.lemmas.Bool.{cases_lt}
+use Rattle.std.proofs.lemmas.List.{length-append, take-append-le}
+use Rattle.odb_disk.specs.MemDisk.{Volume}
+use Rattle.odb_disk.specs.Tree.{IsTree, tree_of}
 use Rattle.gix_odb_world.specs.declared.handle.Handle.{Handle}
 use Rattle.gix_odb_world.specs.declared.world.World.{World}
-use Rattle.gix_odb_world.specs.Event.{Status, with_status, statuses_from}
+use Rattle.gix_odb_world.specs.Event.{Event, Status, status_of, statuses_from, with_status}
 use Rattle.gix_odb_world.specs.Run.{disk_after}
+use Rattle.gix_odb_world.specs.Running.{Runs, RunsThroughout}
 use Rattle.gix_odb_world.specs.World.{Explains, Matches, handle_at}
-use Rattle.gix_odb_world.proofs.RunLemmas.{IsLawful-none}
+use Rattle.gix_odb_world.proofs.RunLemmas.{IsLawful-none, take-push}
+
+throughout_none : (first : Volume) (now handle : ℕ) → Runs first (take now []) handle (status_of (take now []) handle)
+unfolding statuses_from
+throughout_none first zero handle = tt
+throughout_none first (suc now) handle = tt
 
 -- nothing has happened in a world with no handles and no outcomes
-pub explains_none : (world : World) → world.handles.entries ≡ [] → world.outcomes ≡ [] → world.records ≡ [] → Explains world.disk [] world
+pub explains_none : (world : World) → IsTree (tree_of world.disk.state) → world.handles.entries ≡ [] → world.outcomes ≡ [] → world.records ≡ [] → Explains world.disk [] world
 unfolding disk_after statuses_from
-explains_none world handles outcomes records =
+explains_none world is_tree handles outcomes records =
     record {
       outcomes = sym outcomes;
       records = sym records;
@@ -19,6 +29,8 @@ explains_none world handles outcomes records =
       handles = λ handle. rw handles tt;
       running = λ handle. tt;
       lawful = IsLawful-none world.disk;
+      start = is_tree;
+      throughout = λ now handle within. throughout_none world.disk now handle;
     }
 
 matches_either : (b : Bool) (s t : Status) (h k : Option Handle) → Matches s h → Matches t k → Matches (if b then s else t) (if b then h else k)
@@ -30,3 +42,13 @@ pub matches_set : (old new : World) (table : ℕ → Status) (number : ℕ) (sta
     → (other : ℕ) → Matches (with_status table number status other) (handle_at new other)
 matches_set old new table number status handle before sets here other =
     rw (sets other) (matches_either (other == number) status (table other) handle (handle_at old other) here (before other))
+
+-- what held of each handle so far, and holds after one event more, holds throughout
+pub throughout-push : (first : Volume) (events : List Event) (e : Event) → RunsThroughout first events → ((handle : ℕ) → Runs first (events ++ e ∷ []) handle (status_of (events ++ e ∷ []) handle)) → RunsThroughout first (events ++ e ∷ [])
+throughout-push first events e before here now handle within = elim (cases_lt (length events) now) [
+  | inl late ↦
+      let long = length-append events (e ∷ []) in
+      let last : length events + 1 ≡ now = omega (arith, late, within, long) in
+      subst (λ es. Runs first es handle (status_of es handle)) (sym (ap (λ n. take n (events ++ e ∷ [])) (sym last) ∙ take-push events e)) (here handle)
+  | inr soon ↦ subst (λ es. Runs first es handle (status_of es handle)) (sym (take-append-le now events (e ∷ []) soon)) (before now handle soon)
+]

@@ -1,129 +1,94 @@
--- The order of work of a call: the loose objects of each folder are asked in order, until one answers.
-use Rattle.std.specs.Prelude.{ℕ, ◌+◌, true, false, List, slice_get, Option, Some, None, Result, Ok, Err, Bool}
+-- The order of work of a call: an object is looked for in the folders, or written into the objects directory.
+use Rattle.std.specs.Prelude.{ℕ, ◌<◌, ◌^◌, List, Option, Some, None, Result, Ok, Err}
 use Rattle.odb_base.specs.Path.{Path}
 use Rattle.odb_disk.specs.declared.ask.DiskAsk.{DiskAsk}
 use Rattle.odb_disk.specs.declared.ask.DiskAnswer.{DiskAnswer}
 use Rattle.gix_hash.specs.ObjectId.{kind_of}
+use Rattle.gix_hash.specs.declared.kind.Kind.{Kind as HashKind}
+use Rattle.gix_hash.specs.declared.kind.Kind.TheVariants.{Sha1}
 use Rattle.gix_hash.specs.declared.object_id.ObjectId.{ObjectId}
+use Rattle.gix_object.specs.declared.kind.Kind.{Kind}
 use Rattle.gix_odb_loose.specs.LooseOrder.{disk_ask_of, reply_of}
 use Rattle.gix_odb_loose.specs.LooseOrder as loose_order
 use Rattle.gix_odb_loose.specs.declared.call.LooseCall.{LooseCall}
-use Rattle.gix_odb_loose.specs.declared.call.LooseJob.{LooseJob}
 use Rattle.gix_odb_loose.specs.declared.call.LooseJob.TheVariants as jobs
 use Rattle.gix_odb_loose.specs.declared.call.LooseReply.{LooseReply}
 use Rattle.gix_odb_loose.specs.declared.call.LooseReply.TheVariants as loose_replies
-use Rattle.gix_odb_loose.specs.declared.find.Error.{Error}
-use Rattle.gix_odb_loose.specs.declared.find.Error.TheVariants as errors
 use Rattle.gix_odb_loose.specs.declared.store.Store as loose
 use Rattle.gix_odb_world.specs.declared.call.Call.{Call}
-use Rattle.gix_odb_world.specs.declared.call.Call.TheVariants.{Find, Header, Test}
+use Rattle.gix_odb_world.specs.declared.call.Call.TheVariants as call_kinds
 use Rattle.gix_odb_world.specs.declared.call.CallError.TheVariants as call_errors
 use Rattle.gix_odb_world.specs.declared.call.Reply.{Reply}
 use Rattle.gix_odb_world.specs.declared.call.Reply.TheVariants as replies
 use Rattle.gix_odb_world.specs.declared.call_state.CallState.{CallState}
-use Rattle.gix_odb_world.specs.declared.call_state.Head.{Head}
-use Rattle.gix_odb_world.specs.declared.call_state.Lead.{Lead}
-use Rattle.gix_odb_world.specs.declared.call_state.Lead.TheVariants as leads
-use Rattle.gix_odb_world.specs.declared.call_state.Stage.{Stage}
-use Rattle.gix_odb_world.specs.declared.call_state.Stage.TheVariants as stages
-use Rattle.gix_odb_world.specs.declared.find.Error.TheVariants as find_errors
-use Rattle.gix_odb_world.specs.declared.find.Header.TheVariants as headers
+use Rattle.gix_odb_world.specs.declared.call_state.CallState.TheVariants.{Looking, Writing, Written}
+use Rattle.gix_odb_world.specs.declared.look_state.LookState.{LookState}
+use Rattle.gix_odb_world.specs.declared.query.Query.{Query}
+use Rattle.gix_odb_world.specs.declared.query.Query.TheVariants.{Find, Header, Test}
+use Rattle.gix_odb_world.specs.declared.write.Error.TheVariants as write_errors
+use Rattle.gix_odb_world.specs.LookOrder as looks
 
--- ---- what one folder is asked
+-- ---- a write
 
--- the loose objects of a folder, for ids of the hash of one
-abbrev pub loose_store : (limit : Option ℕ) → ObjectId → Path → loose.Store
-loose_store limit id folder = record { path = folder; object_hash = kind_of id; options = record { alloc_limit_bytes = limit } }
+-- the hash of a known id, and SHA-1 where none is known
+abbrev pub hash_to_write : Option ObjectId → HashKind
+hash_to_write None = Sha1
+hash_to_write (Some id) = kind_of id
 
--- what a folder is to do for a call that seeks an id
-abbrev pub job_of : Call → ObjectId → LooseJob
-job_of (Find asked) id = jobs.Find id
-job_of (Header asked) id = jobs.Header id
-job_of (Test asked) id = jobs.Contains id
+-- the objects directory as the folder that is written into
+abbrev pub write_store : Path → Option ObjectId → loose.Store
+write_store objects known = record { path = objects; object_hash = hash_to_write known; options = record { alloc_limit_bytes = None } }
 
--- a folder is asked
-abbrev pub asking : (limit : Option ℕ) → Call → ObjectId → Path → LooseCall
-asking limit call id folder = loose_order.started (loose_store limit id folder) (job_of call id)
+-- an object is written into the objects directory
+abbrev pub writing : Path → Kind → (size : ℕ) → List ℕ → (known : Option ObjectId) → LooseCall
+writing objects kind size bytes known = loose_order.started (write_store objects known) (jobs.Write kind size bytes known)
 
--- ---- what its reply leads to
+-- what a write came to. It comes to nothing but the first two
+abbrev pub wrote_as : LooseReply → Reply
+wrote_as (loose_replies.Wrote (Ok id)) = replies.Wrote id
+wrote_as (loose_replies.Wrote (Err error)) = replies.Refused (call_errors.Write (write_errors.LooseWrite error))
+wrote_as reply = replies.NotFound
 
--- an error of a folder is told as it is
-abbrev pub refused : Error → Reply
-refused error = replies.Refused (call_errors.Find (find_errors.Loose error))
+abbrev pub written_by : LooseCall → Option LooseReply → CallState
+written_by folder None = Writing folder
+written_by folder (Some reply) = Written (wrote_as reply)
 
--- A file is a yes. A look that failed is noted, so that another folder may still say yes.
-abbrev pub tested_leads : Result Bool Error → Lead
-tested_leads (Ok true) = leads.Ends (replies.Tested true)
-tested_leads (Ok false) = leads.Misses
-tested_leads (Err errors.NoMemory) = leads.Ends (refused errors.NoMemory)
-tested_leads (Err error) = leads.Notes error
+-- a write goes on, or has its reply
+abbrev pub after_write : LooseCall → CallState
+after_write folder = written_by folder (reply_of folder)
 
--- An object, a header and an error end the call; nothing at the path is a miss.
-abbrev pub led_by : LooseReply → Lead
-led_by (loose_replies.Contains answer) = tested_leads answer
-led_by (loose_replies.Found (Ok (Some found))) = leads.Ends (replies.Found found.0 found.1)
-led_by (loose_replies.Header (Ok (Some found))) = leads.Ends (replies.Header (headers.Loose found.1 found.0))
-led_by (loose_replies.Found (Err error)) = leads.Ends (refused error)
-led_by (loose_replies.Header (Err error)) = leads.Ends (refused error)
-led_by reply = leads.Misses
+-- the size of a write has 64 bits
+abbrev pub HasSize : Call → Type 0
+HasSize (call_kinds.Write kind size bytes id) = size < 2 ^ 64
+HasSize call = Unit {0}
 
--- ---- the stages
+-- ---- any call
 
--- a new call asks the objects directory
-abbrev pub started : Path → (limit : Option ℕ) → Call → ObjectId → CallState
-started objects limit call id = record { head = record { call = call; id = id }; stage = stages.Loose 0 None (asking limit call id objects) }
-
-abbrev pub ask_at : Stage → Option DiskAsk
-ask_at (stages.Loose next noted folder) = disk_ask_of folder
-ask_at (stages.Done reply) = None
+-- a new call, where `sought` tells the id that is sought
+abbrev pub started : Path → (limit : Option ℕ) → (sought : Query → ObjectId) → Call → CallState
+started objects limit sought (call_kinds.Find id) = Looking (looks.started objects limit (Find id) (sought (Find id)))
+started objects limit sought (call_kinds.Header id) = Looking (looks.started objects limit (Header id) (sought (Header id)))
+started objects limit sought (call_kinds.Test id) = Looking (looks.started objects limit (Test id) (sought (Test id)))
+started objects limit sought (call_kinds.Write kind size bytes id) = Writing (writing objects kind size bytes id)
 
 -- the next call of the disk, if there is one
 abbrev pub ask_of : CallState → Option DiskAsk
-ask_of state = ask_at state.stage
+ask_of (Looking state) = looks.ask_of state
+ask_of (Writing folder) = disk_ask_of folder
+ask_of (Written reply) = None
 
-abbrev pub result_at : Head → Stage → Result Reply CallState
-result_at head (stages.Loose next noted folder) = Err (record { head = head; stage = stages.Loose next noted folder })
-result_at head (stages.Done reply) = Ok reply
+abbrev pub looking_result : Result Reply LookState → Result Reply CallState
+looking_result (Ok reply) = Ok reply
+looking_result (Err state) = Err (Looking state)
 
 -- the reply of a call that is done, or the call
 abbrev pub result_of : CallState → Result Reply CallState
-result_of state = result_at state.head state.stage
-
--- where no folder answered, the noted error is told, else that the object isn't there
-abbrev pub ended : Call → Option Error → Reply
-ended call (Some error) = refused error
-ended (Test id) None = replies.Tested false
-ended call None = replies.NotFound
-
--- the first error is the one that is told
-abbrev pub first_of : Option Error → Error → Option Error
-first_of None error = Some error
-first_of (Some first) error = Some first
-
--- the next folder is asked, if there is one
-abbrev pub at_next : (limit : Option ℕ) → Head → (next : ℕ) → (noted : Option Error) → Option Path → Stage
-at_next limit head next noted None = stages.Done (ended head.call noted)
-at_next limit head next noted (Some folder) = stages.Loose (next + 1) noted (asking limit head.call head.id folder)
-
--- what a folder's reply leads to
-abbrev pub led : List Path → (limit : Option ℕ) → Head → (next : ℕ) → (noted : Option Error) → Lead → Stage
-led folders limit head next noted (leads.Ends reply) = stages.Done reply
-led folders limit head next noted leads.Misses = at_next limit head next noted (slice_get folders next)
-led folders limit head next noted (leads.Notes error) = at_next limit head next (first_of noted error) (slice_get folders next)
-
--- a folder's call goes on, or its reply leads the call on
-abbrev pub by_reply : List Path → (limit : Option ℕ) → Head → (next : ℕ) → (noted : Option Error) → LooseCall → Option LooseReply → Stage
-by_reply folders limit head next noted folder None = stages.Loose next noted folder
-by_reply folders limit head next noted folder (Some reply) = led folders limit head next noted (led_by reply)
-
-abbrev pub after_folder : List Path → (limit : Option ℕ) → Head → (next : ℕ) → (noted : Option Error) → LooseCall → Stage
-after_folder folders limit head next noted folder = by_reply folders limit head next noted folder (reply_of folder)
-
--- a folder's call is fed the answer; a call that is done stays as it is
-abbrev pub next_stage : List Path → (limit : Option ℕ) → Head → Stage → DiskAnswer → Stage
-next_stage folders limit head (stages.Loose next noted folder) answer = after_folder folders limit head next noted (loose_order.fed folder answer)
-next_stage folders limit head (stages.Done reply) answer = stages.Done reply
+result_of (Looking state) = looking_result (looks.result_of state)
+result_of (Writing folder) = Err (Writing folder)
+result_of (Written reply) = Ok reply
 
 -- a call after the answer to its call of the disk
 abbrev pub fed : List Path → (limit : Option ℕ) → CallState → DiskAnswer → CallState
-fed folders limit state answer = record state { stage = next_stage folders limit state.head state.stage answer }
+fed folders limit (Looking state) answer = Looking (looks.fed folders limit state answer)
+fed folders limit (Writing folder) answer = after_write (loose_order.fed folder answer)
+fed folders limit (Written reply) answer = Written reply

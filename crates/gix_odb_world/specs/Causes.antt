@@ -9,12 +9,12 @@ use Rattle.gix_hash.specs.declared.object_id.ObjectId.{ObjectId}
 use Rattle.gix_odb_loose.specs.Causes.{Cause}
 use Rattle.gix_odb_loose.specs.LooseFile.{Reading, loose_path}
 use Rattle.gix_odb_loose.specs.declared.find.Error as loose
-use Rattle.gix_odb_world.specs.declared.call.Call.{Call}
+use Rattle.gix_odb_world.specs.declared.query.Query.{Query}
 use Rattle.gix_odb_world.specs.declared.init.Error as opening
 use Rattle.gix_odb_world.specs.declared.init.Error.TheVariants as opening_errors
 use Rattle.gix_odb_world.specs.declared.find.Error as finding
 use Rattle.gix_odb_world.specs.declared.find.Error.TheVariants as find_errors
-use Rattle.gix_odb_world.specs.CallOrder.{job_of}
+use Rattle.gix_odb_world.specs.LookOrder.{job_of}
 use Rattle.gix_odb_world.specs.Contents.{folder_list}
 use Rattle.gix_odb_world.specs.Event.{Store}
 use Rattle.gix_odb_world.specs.OpenOrder.{most_slots}
@@ -47,12 +47,12 @@ abbrev pub GaveSometime : (ℕ → Tree) → ℕ → ℕ → Path → Reading �
 GaveSometime trees begun now path read = Sometime begun now (λ moment. read ≡ read_of (trees moment) path)
 
 -- An error of the loose objects has its cause at the loose path of the sought id in some folder of the store.
-pub record LooseCause (trees : ℕ → Tree) (Failed : Type 0) (store : Store) (begun now : ℕ) (call : Call) (id : ObjectId) (error : loose.Error) : Type 0 where
+pub record LooseCause (trees : ℕ → Tree) (Failed : Type 0) (store : Store) (begun now : ℕ) (call : Query) (id : ObjectId) (error : loose.Error) : Type 0 where
   pub folder : Path
   pub among : Contains (folder_list store.parts) folder
   pub cause : Cause (job_of call id) (loose_path folder id) store.parts.limit (GaveSometime trees begun now (loose_path folder id)) Failed ⊥ error
 
 -- What each error of a call says, where `Failed` says that a call of the disk failed in it.
-abbrev pub FindCause : (ℕ → Tree) → Type 0 → Store → ℕ → ℕ → Call → ObjectId → finding.Error → Type 0
+abbrev pub FindCause : (ℕ → Tree) → Type 0 → Store → ℕ → ℕ → Query → ObjectId → finding.Error → Type 0
 FindCause trees Failed store begun now call id (find_errors.Loose error) = LooseCause trees Failed store begun now call id error
 FindCause trees Failed store begun now call id find_errors.NoMemory = ⊥

@@ -10,8 +10,8 @@ use Rattle.gix_hash.specs.contracts.object_id.ObjectIdOrd.TheImpl as id_order
 use Rattle.gix_hash.specs.declared.object_id.ObjectId.{ObjectId}
 use Rattle.gix_object.specs.declared.kind.Kind.{Kind}
 use Rattle.gix_odb_loose.specs.LooseFile.{loose_path, HoldsObject, HoldsHeader}
-use Rattle.gix_odb_world.specs.declared.call.Call.{Call}
-use Rattle.gix_odb_world.specs.declared.call.Call.TheVariants.{Find, Header, Test}
+use Rattle.gix_odb_world.specs.declared.query.Query.{Query}
+use Rattle.gix_odb_world.specs.declared.query.Query.TheVariants.{Find, Header, Test}
 use Rattle.gix_odb_world.specs.declared.find.Header as headers
 use Rattle.gix_odb_world.specs.declared.find.Header.TheVariants.{Loose}
 
@@ -52,7 +52,7 @@ replaced replacement true id = id
 replaced replacement false id = or_itself (replacement id) id
 
 -- the id that a call seeks: for a find and a header the replacement of the asked id, one and no chain
-abbrev pub sought_with : (ObjectId → Option ObjectId) → (ignoring : Bool) → Call → ObjectId
+abbrev pub sought_with : (ObjectId → Option ObjectId) → (ignoring : Bool) → Query → ObjectId
 sought_with replacement ignoring (Find id) = replaced replacement ignoring id
 sought_with replacement ignoring (Header id) = replaced replacement ignoring id
 sought_with replacement ignoring (Test id) = id
@@ -61,7 +61,7 @@ sought_with replacement ignoring (Test id) = id
 abbrev pub replacement_in : StoreData → ObjectId → Option ObjectId
 replacement_in store id = lookup (eq_by_cmp id_cmp id) store.replacements
 
-abbrev pub sought : StoreData → (ignoring : Bool) → Call → ObjectId
+abbrev pub sought : StoreData → (ignoring : Bool) → Query → ObjectId
 sought store ignoring call = sought_with (replacement_in store) ignoring call
 
 -- a folder of a tree shows contents for an id: its loose path leads to a file with those bytes
@@ -70,12 +70,12 @@ Shows tree folder id (LooseFile bytes) = (time : ℕ) × (read_of tree (loose_pa
 
 -- Contents hold an answer of a call. A find is answered by a loose file of that kind and data, the data as long as
 -- its header says and within the limit; a header by the file's header alone; a test by any file.
-abbrev pub Holds : StoreData → Call → Contents → Answer → Type 0
+abbrev pub Holds : StoreData → Query → Contents → Answer → Type 0
 Holds store (Find id) (LooseFile bytes) (Object kind found) = HoldsObject store.limit bytes kind found
 Holds store (Header id) (LooseFile bytes) (HeaderOf (Loose kind size)) = HoldsHeader bytes kind size
 Holds store (Test id) (LooseFile bytes) Presence = Unit {0}
 Holds store call contents answer = ⊥
 
 -- contents are sound for a call where they hold some answer of it
-abbrev pub IsSound : StoreData → Call → Contents → Type 0
+abbrev pub IsSound : StoreData → Query → Contents → Type 0
 IsSound store call contents = (answer : Answer) × Holds store call contents answer

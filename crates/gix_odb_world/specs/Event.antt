@@ -63,7 +63,7 @@ ignoring_from status = status
 
 -- the call that a store's handle starts
 abbrev pub call_started : Store → (ignoring : Bool) → Call → Work
-call_started store ignoring call = Calling (calls.started store.parts.objects store.parts.limit call (sought store.parts ignoring call))
+call_started store ignoring call = Calling (calls.started store.parts.objects store.parts.limit (sought store.parts ignoring) call)
 
 -- a started call works from its step on
 abbrev pub started : ℕ → Call → Status → Status

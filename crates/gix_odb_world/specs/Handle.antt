@@ -5,7 +5,7 @@ use Rattle.odb_base.specs.Path.{Path}
 use Rattle.gix_hash.specs.declared.object_id.ObjectId.{ObjectId}
 use Rattle.gix_odb_world.specs.Contents.{id_cmp, replaced, replacement_in, sought_with}
 use Rattle.gix_odb_world.specs.Event.{Store, given_slots}
-use Rattle.gix_odb_world.specs.declared.call.Call.{Call}
+use Rattle.gix_odb_world.specs.declared.query.Query.{Query}
 use Rattle.gix_odb_world.specs.declared.handle.HandleState.{HandleState}
 use Rattle.gix_odb_world.specs.declared.init.Options.{Options}
 
@@ -18,7 +18,7 @@ abbrev pub replaced_by : HandleState → ObjectId → ObjectId
 replaced_by handle id = replaced (replacement_of handle) handle.ignore_replacements id
 
 -- the id that a call seeks
-abbrev pub sought_by : HandleState → Call → ObjectId
+abbrev pub sought_by : HandleState → Query → ObjectId
 sought_by handle call = sought_with (replacement_of handle) handle.ignore_replacements call
 
 -- the handle has what its open step was handed

@@ -1,11 +1,23 @@
 -- What is promised of every run: for every disk, options and list of steps there is one outcome for each step;
--- what is found was held by the store's files, a not-found means that no sound object lay still, each call ends
--- within its bound, and each error has its cause.
-use Rattle.std.specs.Prelude.{◌≡◌, ℕ, ◌+◌, ◌<◌, Bool, List, [], ◌∷◌, ◌++◌, map, length, take, slice_get, Option, Some, None, Result, Ok, Err}
+-- what is found was held by the store's files, a not-found means that no sound object lay still, a write names its
+-- object last and changes nothing else of the tree than five changes tell, each call ends within its bound, and each
+-- error has its cause.
+use Rattle.std.specs.Prelude.{◌≡◌, ℕ, ◌+◌, ◌<◌, ◌≤◌, Bool, List, [], ◌∷◌, ◌++◌, map, length, take, slice_get, Option, Some, None, Result, Ok, Err}
 use Rattle.odb_disk.specs.MemDisk.{Volume, next_fails}
 use Rattle.odb_disk.specs.Ask.{op_of, path_asked, answer_now}
 use Rattle.odb_disk.specs.declared.ask.DiskAsk.{DiskAsk}
+use Rattle.odb_base.specs.Path.{Path}
+use Rattle.odb_disk.specs.Tree.{Tree, tree_of}
+use Rattle.odb_disk.specs.Tree.Write.{spot, file_spot}
 use Rattle.odb_disk.specs.declared.change.Change.{Change}
+use Rattle.odb_disk.specs.declared.change.Change.TheVariants.{PutFile, MakeDir, Rename, Append, Remove}
+use Rattle.gix_hash.specs.declared.object_id.ObjectId.{ObjectId}
+use Rattle.gix_odb_loose.specs.LooseFile.{loose_path}
+use Rattle.gix_odb_loose.specs.WriteNames.{name_for}
+use Rattle.gix_odb_loose.specs.WriteOrder.{temp_path, prefix_path}
+use Rattle.gix_odb_loose.specs.declared.call.Stage.{Stage}
+use Rattle.gix_odb_loose.specs.declared.call.Stage.TheVariants as loose_stages
+use Rattle.gix_odb_world.specs.declared.call_state.CallState.TheVariants.{Writing}
 use Rattle.gix_odb_world.specs.declared.call.Reply.{Reply}
 use Rattle.gix_odb_world.specs.declared.step.Step.{Step}
 use Rattle.gix_odb_world.specs.declared.step.Step.TheVariants as steps
@@ -15,12 +27,16 @@ use Rattle.gix_odb_world.specs.declared.record.Did.{Did}
 use Rattle.gix_odb_world.specs.declared.record.Did.TheVariants.{Nothing, Disk}
 use Rattle.gix_odb_world.specs.declared.record.Run.{Run}
 use Rattle.gix_odb_world.specs.declared.work.Work.{Work}
+use Rattle.gix_odb_world.specs.declared.work.Work.TheVariants.{Calling}
 use Rattle.gix_odb_world.specs.Event.{Event, Store, Working, fed_in, status_of}
-use Rattle.gix_odb_world.specs.Run.{disk_after, tree_at, FailedSince}
+use Rattle.gix_odb_world.specs.Run.{change_by, disk_after, tree_at}
+use Rattle.gix_odb_world.specs.Undisturbed.{WritesStandAlone}
+use Rattle.gix_odb_world.specs.WholeNames.{NamesStayWhole}
 use Rattle.gix_odb_world.specs.WorkOrder.{ask_in, result_in}
 use Rattle.gix_odb_world.specs.Valid.{why_not_after, misuse_of}
-use Rattle.gix_odb_world.specs.Bound.{HasAtMost, bound_of_work}
+use Rattle.gix_odb_world.specs.Bound.{HasAtMost, WritesSoMany, bound_of_work}
 use Rattle.gix_odb_world.specs.Promise.{Promise}
+use Rattle.gix_odb_world.specs.Writing.{number_at}
 
 -- The outcomes that a step may have, and what its record did: a turn makes at most one call of the disk, and
 -- makes one where its call goes on; all other steps, and all misused ones, did nothing.
@@ -35,10 +51,37 @@ Suits step outcomes.Pending did = ⊥
 Suits step (outcomes.Reply reply) did = ⊥
 Suits step (outcomes.Misuse why) did = did ≡ Nothing
 
--- the change that a record has: that of an applied change
-abbrev pub change_made : Step → Outcome → Option Change
-change_made (steps.Disk change) outcomes.Applied = Some change
-change_made step outcome = None
+-- The change that a record has: that of an applied change, and in a turn that isn't misused that of its call of the disk,
+-- which the order of work tells. All other steps make none.
+abbrev pub ChangesAs : Step → Outcome → Option Change → Type 0
+ChangesAs (steps.Turn handle) outcomes.Pending made = Unit {0}
+ChangesAs (steps.Turn handle) (outcomes.Reply reply) made = Unit {0}
+ChangesAs (steps.Disk change) outcomes.Applied made = made ≡ Some change
+ChangesAs step outcome made = made ≡ None
+
+-- One of the five changes of a write into an objects directory, whose temporary path has a number, and whose object an id:
+-- an empty file with time 0 at the spot of the temporary path; at most 65,536 bytes more in the file to which that path
+-- leads; the directory of the object; a rename from the spot of the temporary path to that of the object's path; the
+-- removal of the spot of the temporary path.
+abbrev pub IsOneOfFive : Tree → Path → (number : ℕ) → ObjectId → Change → Type 0
+IsOneOfFive tree objects number id (PutFile path time bytes) = (time ≡ 0) × (bytes ≡ []) × (spot tree (temp_path objects number) ≡ Ok path)
+IsOneOfFive tree objects number id (Append path bytes) = (length bytes ≤ 65536) × (file_spot tree (temp_path objects number) ≡ Ok path)
+IsOneOfFive tree objects number id (MakeDir path dev) = spot tree (prefix_path objects id) ≡ Ok path
+IsOneOfFive tree objects number id (Rename from to) = (spot tree (temp_path objects number) ≡ Ok from) × (spot tree (loose_path objects id) ≡ Ok to)
+IsOneOfFive tree objects number id (Remove path) = spot tree (temp_path objects number) ≡ Ok path
+
+-- A write changes the tree by one of its five changes. Its temporary path has the number that its stage tries to make, or
+-- that it made and keeps from then on; its object has the id that the write names.
+abbrev pub ChangesAtStage : Tree → Path → Stage → Change → Type 0
+ChangesAtStage tree objects (loose_stages.Writing job) change =
+    (number_at job.stage < 16) × IsOneOfFive tree objects (number_at job.stage) (name_for job.known job.hash job.head job.bytes) change
+ChangesAtStage tree objects stage change = ⊥
+
+-- a turn changes the tree in a write alone
+abbrev pub ChangesInWork : Tree → Path → Work → Option Change → Type 0
+ChangesInWork tree objects work None = Unit {0}
+ChangesInWork tree objects (Calling (Writing folder)) (Some change) = ChangesAtStage tree objects folder.stage change
+ChangesInWork tree objects work (Some change) = ⊥
 
 -- a call of the disk fails exactly where its number is listed
 abbrev pub FailsAsListed : Volume → Did → Type 0
@@ -63,13 +106,16 @@ pub record Works (disk : Volume) (store : Store) (work : Work) (e : Event) : Typ
   pub asked : e.entry.did ≡ Disk (op_of ask) (path_asked ask) (next_fails disk)
   pub told : e.told ≡ Some (answer_now disk ask)
   pub goes : e.outcome ≡ outcome_of (result_in (fed_in store work (answer_now disk ask)))
+  -- the change of the record is that of the call
+  pub changed : e.entry.change ≡ change_by disk ask
+  pub five : ChangesInWork (tree_of disk.state) store.parts.objects work e.entry.change
 
 -- What an event may be after those before it.
 pub record Law (first : Volume) (past : List Event) (e : Event) : Type 0 where
   -- it is misused exactly where the step isn't valid, with the first reason
   pub valid : misuse_of e.outcome ≡ why_not_after first past e.step
   pub suits : Suits e.step e.outcome e.entry.did
-  pub change : e.entry.change ≡ change_made e.step e.outcome
+  pub change : ChangesAs e.step e.outcome e.entry.change
   pub failed : FailsAsListed (disk_after first past) e.entry.did
   -- the record has the disk's count of faults after the step
   pub faults : e.entry.faults ≡ (disk_after first (past ++ e ∷ [])).calls.faults
@@ -77,30 +123,30 @@ pub record Law (first : Volume) (past : List Event) (e : Event) : Type 0 where
   pub worked : (handle : ℕ) (store : Store) (ignoring : Bool) (begun turns : ℕ) (work : Work) → Turns past e handle store ignoring begun turns work → Works (disk_after first past) store work e
   -- a reply keeps its promise
   pub promise : (handle : ℕ) (store : Store) (ignoring : Bool) (begun turns : ℕ) (work : Work) (reply : Reply) → Turns past e handle store ignoring begun turns work → e.outcome ≡ outcomes.Reply reply
-      → Promise (tree_at first (past ++ e ∷ [])) (FailedSince (past ++ e ∷ []) handle begun) store ignoring begun (length past + 1) work reply
+      → Promise first (past ++ e ∷ []) handle store ignoring begun work reply
   -- a call that goes on has had fewer turns than its bound
-  pub in_time : (handle : ℕ) (store : Store) (ignoring : Bool) (begun turns : ℕ) (work : Work) (entries : ℕ) → Turns past e handle store ignoring begun turns work → e.outcome ≡ outcomes.Pending
-      → HasAtMost (tree_at first (past ++ e ∷ [])) store.parts begun (length past + 1) entries → turns + 1 < bound_of_work store work entries
+  pub in_time : (handle : ℕ) (store : Store) (ignoring : Bool) (begun turns : ℕ) (work : Work) (entries : ℕ) (write : Option ℕ) → Turns past e handle store ignoring begun turns work → e.outcome ≡ outcomes.Pending
+      → HasAtMost (tree_at first (past ++ e ∷ [])) store.parts begun (length past + 1) entries → WritesSoMany past handle begun work write → turns + 1 < bound_of_work store work entries write
 
 -- each event is lawful after those before it
 abbrev pub IsLawful : Volume → List Event → Type 0
 IsLawful first events = (place : ℕ) (e : Event) → slice_get events place ≡ Some e → Law first (take place events) e
 
--- A run is what these events come to: their outcomes and records, each event lawful after those before it, and
--- the disk after the last one.
+-- A run is what these events come to.
 pub record IsRun (first : Volume) (events : List Event) (run : Run) : Type 0 where
+  -- one outcome and one record for each event
   pub outcomes_are : map (λ e. e.outcome) events ≡ run.outcomes
   pub records_are : map (λ e. e.entry) events ≡ run.records
+  -- each event is lawful after those before it
   pub lawful : IsLawful first events
+  -- the disk handed back has the last state and the counts that the records give
   pub disk : run.disk ≡ disk_after first events
+  -- where the run is undisturbed, no write touches the temporary file of another, and a name that a write made stays whole
+  pub alone : WritesStandAlone first events
+  pub names : NamesStayWhole first events
 
 -- The theorem about a run of steps from a disk.
 pub record Headline (first : Volume) (steps : List Step) (run : Run) : Type 0 where
   pub events : List Event
-  -- one outcome and one record for each step
   pub steps_are : map (λ e. e.step) events ≡ steps
-  pub outcomes_are : map (λ e. e.outcome) events ≡ run.outcomes
-  pub records_are : map (λ e. e.entry) events ≡ run.records
-  pub lawful : IsLawful first events
-  -- the disk handed back has the last state and the counts that the records give
-  pub disk : run.disk ≡ disk_after first events
+  pub is_run : IsRun first events run

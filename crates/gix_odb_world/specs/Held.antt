@@ -3,11 +3,11 @@ use Rattle.std.specs.Prelude.{ℕ, ◌≤◌, Contains}
 use Rattle.odb_base.specs.Path.{Path}
 use Rattle.odb_disk.specs.Tree.{Tree}
 use Rattle.gix_hash.specs.declared.object_id.ObjectId.{ObjectId}
-use Rattle.gix_odb_world.specs.declared.call.Call.{Call}
+use Rattle.gix_odb_world.specs.declared.query.Query.{Query}
 use Rattle.gix_odb_world.specs.Contents.{StoreData, folder_list, Contents, Answer, Shows, Holds, IsSound}
 
 -- In one folder, at some moment from `begun` to `now`, contents were shown for the sought id that hold the answer.
-pub record Held (trees : ℕ → Tree) (store : StoreData) (begun now : ℕ) (call : Call) (id : ObjectId) (answer : Answer) : Type 0 where
+pub record Held (trees : ℕ → Tree) (store : StoreData) (begun now : ℕ) (call : Query) (id : ObjectId) (answer : Answer) : Type 0 where
   pub folder : Path
   pub among : Contains (folder_list store) folder
   pub moment : ℕ
@@ -18,7 +18,7 @@ pub record Held (trees : ℕ → Tree) (store : StoreData) (begun now : ℕ) (ca
   pub holds : Holds store call contents answer
 
 -- In one folder, at every moment from `begun` to `now`, contents that are sound for the call were shown for the id.
-pub record Still (trees : ℕ → Tree) (store : StoreData) (begun now : ℕ) (call : Call) (id : ObjectId) : Type 0 where
+pub record Still (trees : ℕ → Tree) (store : StoreData) (begun now : ℕ) (call : Query) (id : ObjectId) : Type 0 where
   pub folder : Path
   pub among : Contains (folder_list store) folder
   pub always : (moment : ℕ) → begun ≤ moment → moment ≤ now → (contents : Contents) × Shows (trees moment) folder id contents × IsSound store call contents

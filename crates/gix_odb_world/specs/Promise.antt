@@ -1,18 +1,22 @@
 -- What the reply to an opening or a call promises of the moments from its start to the reply.
-use Rattle.std.specs.Prelude.{◌≡◌, ℕ, ◌≤◌, Bool, true, false}
+use Rattle.std.specs.Prelude.{◌≡◌, ℕ, ◌≤◌, Bool, true, false, List, length}
 use Rattle.odb_disk.specs.Tree.{Tree}
+use Rattle.odb_disk.specs.MemDisk.{Volume}
 use Rattle.gix_hash.specs.declared.object_id.ObjectId.{ObjectId}
-use Rattle.gix_odb_world.specs.declared.call.Call.{Call}
-use Rattle.gix_odb_world.specs.declared.call.Call.TheVariants.{Find, Header, Test}
+use Rattle.gix_odb_world.specs.declared.query.Query.{Query}
+use Rattle.gix_odb_world.specs.declared.query.Query.TheVariants.{Find, Header, Test}
 use Rattle.gix_odb_world.specs.declared.call.Reply.{Reply}
 use Rattle.gix_odb_world.specs.declared.call.Reply.TheVariants as replies
 use Rattle.gix_odb_world.specs.declared.call.CallError.TheVariants as call_errors
 use Rattle.gix_odb_world.specs.declared.find.Error as finding
+use Rattle.gix_odb_world.specs.declared.call_state.CallState.TheVariants.{Looking, Writing, Written}
 use Rattle.gix_odb_world.specs.declared.work.Work.{Work}
 use Rattle.gix_odb_world.specs.declared.work.Work.TheVariants.{Opening, Calling}
 use Rattle.gix_odb_world.specs.Contents.{Answer, Object, HeaderOf, Presence, sought}
 use Rattle.gix_odb_world.specs.Held.{Held, Still}
-use Rattle.gix_odb_world.specs.Event.{Store}
+use Rattle.gix_odb_world.specs.Event.{Event, Store}
+use Rattle.gix_odb_world.specs.Run.{tree_at, FailedSince}
+use Rattle.gix_odb_world.specs.Written.{KeepsWrite}
 use Rattle.gix_odb_world.specs.Causes.{Sometime, ShowsDirectory, OpeningCause, FindCause}
 use Rattle.gix_odb_world.specs.OpenOrder.{most_slots}
 
@@ -24,7 +28,7 @@ pub record Opens (trees : ℕ → Tree) (store : Store) (begun now slots : ℕ) 
 
 -- A reply that the object isn't there: no call of the disk failed in the call, and no sound object of the id lay
 -- still throughout.
-pub record Misses (trees : ℕ → Tree) (Failed : Type 0) (store : Store) (begun now : ℕ) (call : Call) (id : ObjectId) : Type 0 where
+pub record Misses (trees : ℕ → Tree) (Failed : Type 0) (store : Store) (begun now : ℕ) (call : Query) (id : ObjectId) : Type 0 where
   pub no_failure : ¬ Failed
   pub none_still : ¬ Still trees store.parts begun now call id
 
@@ -36,7 +40,7 @@ pub data Claim : Type 0 where
   Caused : (error : finding.Error) → Claim
   Never : Claim
 
-abbrev pub claim_of : Call → Reply → Claim
+abbrev pub claim_of : Query → Reply → Claim
 claim_of (Find id) (replies.Found kind bytes) = Holding (Object kind bytes)
 claim_of (Find id) replies.NotFound = Missing
 claim_of (Header id) (replies.Header header) = Holding (HeaderOf header)
@@ -47,7 +51,7 @@ claim_of call (replies.Refused (call_errors.Find error)) = Caused error
 claim_of call reply = Never
 
 -- What a claim says, of the sought id.
-abbrev pub Keeps : (ℕ → Tree) → Type 0 → Store → ℕ → ℕ → Call → ObjectId → Claim → Type 0
+abbrev pub Keeps : (ℕ → Tree) → Type 0 → Store → ℕ → ℕ → Query → ObjectId → Claim → Type 0
 Keeps trees Failed store begun now call id (Holding answer) = Held trees store.parts begun now call id answer
 Keeps trees Failed store begun now call id Missing = Misses trees Failed store begun now call id
 Keeps trees Failed store begun now call id (Caused error) = FindCause trees Failed store begun now call id error
@@ -59,8 +63,19 @@ OpeningPromise trees Failed store begun now (replies.Opened slots) = Opens trees
 OpeningPromise trees Failed store begun now (replies.Refused (call_errors.Open error)) = OpeningCause trees Failed store begun now error
 OpeningPromise trees Failed store begun now reply = ⊥
 
--- What a reply promises.
-abbrev pub Promise : (ℕ → Tree) → Type 0 → Store → (ignoring : Bool) → ℕ → ℕ → Work → Reply → Type 0
-Promise trees Failed store ignoring begun now (Opening state) reply = OpeningPromise trees Failed store begun now reply
-Promise trees Failed store ignoring begun now (Calling state) reply =
-    Keeps trees Failed store begun now state.head.call (sought store.parts ignoring state.head.call) (claim_of state.head.call reply)
+-- What the reply to an opening or a query promises.
+abbrev pub LookPromise : (ℕ → Tree) → Type 0 → Store → (ignoring : Bool) → ℕ → ℕ → Work → Reply → Type 0
+LookPromise trees Failed store ignoring begun now (Opening state) reply = OpeningPromise trees Failed store begun now reply
+LookPromise trees Failed store ignoring begun now (Calling (Looking state)) reply =
+    Keeps trees Failed store begun now state.head.query (sought store.parts ignoring state.head.query) (claim_of state.head.query reply)
+LookPromise trees Failed store ignoring begun now (Calling (Writing folder)) reply = ⊥
+LookPromise trees Failed store ignoring begun now (Calling (Written own)) reply = ⊥
+
+-- What a reply promises that the last event gives.
+abbrev pub Promise : Volume → List Event → (handle : ℕ) → Store → (ignoring : Bool) → ℕ → Work → Reply → Type 0
+Promise first events handle store ignoring begun (Calling (Writing folder)) reply = KeepsWrite first events handle begun store.parts.objects reply
+Promise first events handle store ignoring begun (Calling (Written own)) reply = ⊥
+Promise first events handle store ignoring begun (Calling (Looking state)) reply =
+    LookPromise (tree_at first events) (FailedSince events handle begun) store ignoring begun (length events) (Calling (Looking state)) reply
+Promise first events handle store ignoring begun (Opening state) reply =
+    LookPromise (tree_at first events) (FailedSince events handle begun) store ignoring begun (length events) (Opening state) reply

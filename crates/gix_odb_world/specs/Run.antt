@@ -1,8 +1,12 @@
 -- The disk and its states over a run: state 0 is the handed-in one, and each record takes the disk one step on.
-use Rattle.std.specs.Prelude.{◌≡◌, ℕ, ◌≤◌, true, List, fold, take, slice_get, Option, Some, None}
+use Rattle.std.specs.Prelude.{◌≡◌, ℕ, ◌+◌, ◌≤◌, true, List, fold, take, slice_get, Option, Some, None, if◌then◌else◌}
 use Rattle.odb_disk.specs.Tree.{Tree, tree_of}
-use Rattle.odb_disk.specs.MemDisk.{Volume, after_call, after_outside_change}
+use Rattle.odb_disk.specs.Tree.Write.{written}
+use Rattle.odb_disk.specs.Ask.{change_of_ask}
+use Rattle.odb_disk.specs.MemDisk.{Volume, next_fails, after_call, after_outside_change}
+use Rattle.odb_disk.specs.declared.ask.DiskAsk.{DiskAsk}
 use Rattle.odb_disk.specs.declared.change.Change.{Change}
+use Rattle.gix_odb_world.specs.declared.call.Call.{Call}
 use Rattle.gix_odb_world.specs.declared.record.Did.{Did}
 use Rattle.gix_odb_world.specs.declared.record.Did.TheVariants.{Nothing, Disk}
 use Rattle.gix_odb_world.specs.declared.record.Record.{Record}
@@ -10,18 +14,22 @@ use Rattle.gix_odb_world.specs.declared.step.Step.{Step}
 use Rattle.gix_odb_world.specs.declared.step.Step.TheVariants as steps
 use Rattle.gix_odb_world.specs.Event.{Event}
 
--- a call of the disk is counted, and fails where its number is listed
-abbrev pub disk_after_call : Volume → Did → Volume
-disk_after_call disk Nothing = disk
-disk_after_call disk (Disk op path failed) = after_call disk
-
 abbrev pub disk_after_change : Volume → Option Change → Volume
 disk_after_change disk None = disk
 disk_after_change disk (Some change) = after_outside_change disk change
 
+-- A call of the disk is counted, and makes its change. A change without a call is another program's.
+abbrev pub disk_after_did : Volume → Did → Option Change → Volume
+disk_after_did disk Nothing change = disk_after_change disk change
+disk_after_did disk (Disk op path failed) change = record (after_call disk) { state = written disk.state change }
+
 -- the disk after the step that has a record
 abbrev pub disk_after_record : Volume → Record → Volume
-disk_after_record disk entry = disk_after_change (disk_after_call disk entry.did) entry.change
+disk_after_record disk entry = disk_after_did disk entry.did entry.change
+
+-- the change that a call of the disk makes: none where it fails or is refused
+abbrev pub change_by : Volume → DiskAsk → Option Change
+change_by disk ask = if next_fails disk then None else change_of_ask (tree_of disk.state) ask
 
 -- the disk after all events
 unfoldable pub disk_after : Volume → List Event → Volume
@@ -33,6 +41,14 @@ tree_at first events number = tree_of (disk_after first (take number events)).st
 
 abbrev pub IsTurnOf : ℕ → Step → Type 0
 IsTurnOf handle step = step ≡ steps.Turn handle
+
+-- the event that has the number `begun` started a call on a handle
+pub record BegunBy (events : List Event) (handle begun : ℕ) (call : Call) : Type 0 where
+  pub place : ℕ
+  pub number : begun ≡ place + 1
+  pub event : Event
+  pub there : slice_get events place ≡ Some event
+  pub starts : event.step ≡ steps.Start handle call
 
 abbrev pub Fails : Did → Type 0
 Fails Nothing = ⊥

@@ -1,6 +1,7 @@
 -- What the code of a world does with its table of handles and its lists. No public clause cites this.
 use Rattle.std.specs.Prelude.{◌≡◌, ℕ, ◌==◌, Bool, true, false, [], ◌∷◌, ◌++◌, Option, Some, None, Result, Ok, Err, if◌then◌else◌}
-use Rattle.odb_disk.specs.Ask.{op_of, path_asked, answer_now, after_ask}
+use Rattle.odb_disk.specs.Ask.{op_of, path_asked, answer_now, after_ask, change_of_ask}
+use Rattle.odb_disk.specs.Tree.{tree_of}
 use Rattle.odb_disk.specs.MemDisk.{Volume}
 use Rattle.odb_disk.specs.declared.ask.DiskAsk.{DiskAsk}
 use Rattle.odb_disk.specs.declared.ask.DiskAnswer.{DiskAnswer}
@@ -86,6 +87,11 @@ did_of ask answer = done.Disk (op_of ask) (path_asked ask) (has_failed answer)
 abbrev pub did_now : Volume → Option DiskAsk → Did
 did_now disk None = done.Nothing
 did_now disk (Some ask) = did_of ask (answer_now disk ask)
+
+-- the change of a turn whose work asked so: none where the call failed
+abbrev pub change_now : Volume → Option DiskAsk → Option Change
+change_now disk None = None
+change_now disk (Some ask) = if has_failed (answer_now disk ask) then None else change_of_ask (tree_of disk.state) ask
 
 -- the work of a handle after a turn in which it asked so
 abbrev pub work_now : Volume → HandleState → Work → Option DiskAsk → Work

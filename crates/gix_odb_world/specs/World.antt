@@ -3,6 +3,7 @@ use Rattle.std.specs.Prelude.{◌≡◌, ℕ, List, [], ◌∷◌, ◌++◌, map
 use Rattle.std.specs.Ordering.{nat_cmp}
 use Rattle.std.specs.BTreeMap.{get}
 use Rattle.odb_disk.specs.MemDisk.{Volume}
+use Rattle.odb_disk.specs.Tree.{IsTree, tree_of}
 use Rattle.gix_odb_world.specs.declared.step.Step.{Step}
 use Rattle.gix_odb_world.specs.declared.step.Outcome.{Outcome}
 use Rattle.gix_odb_world.specs.declared.handle.Handle.{Handle}
@@ -10,7 +11,7 @@ use Rattle.gix_odb_world.specs.declared.world.World.{World}
 use Rattle.gix_odb_world.specs.Event.{Event, Status, Free, Resting, Working, status_of}
 use Rattle.gix_odb_world.specs.Handle.{IsHandleOf}
 use Rattle.gix_odb_world.specs.Run.{disk_after}
-use Rattle.gix_odb_world.specs.Running.{Runs}
+use Rattle.gix_odb_world.specs.Running.{Runs, RunsThroughout}
 use Rattle.gix_odb_world.specs.Headline.{Law, IsLawful}
 
 -- the handle of a world that has a number
@@ -34,6 +35,9 @@ pub record Explains (first : Volume) (events : List Event) (world : World) : Typ
   pub handles : (handle : ℕ) → Matches (status_of events handle) (handle_at world handle)
   pub running : (handle : ℕ) → Runs first events handle (status_of events handle)
   pub lawful : IsLawful first events
+  -- it began with a tree, and each handle had seen what its status says after each event
+  pub start : IsTree (tree_of first.state)
+  pub throughout : RunsThroughout first events
 
 -- a step takes the history one event on
 pub record GoesOn (first : Volume) (events : List Event) (step : Step) (outcome : Outcome) (world : World) : Type 0 where

@@ -1,14 +1,15 @@
 ghost use Rattle.std.specs.Prelude.{◌≡◌, IfOk};
 
-use crate::{find, init};
+use crate::{find, init, write};
 use gix_hash::ObjectId;
+use gix_object::Kind;
 use odb_base::NoMemory;
 use odb_disk::ByteList;
 use std::alloc::Global;
 use thiserror::Error;
 
 /// A call on an open handle.
-#[derive(Clone, Copy, Debug, PartialEq, Eq, Hash)]
+#[derive(Debug, Drop, PartialEq, Eq)]
 pub enum Call {
     /// Finds an object by its id.
     Find(ObjectId),
@@ -16,23 +17,51 @@ pub enum Call {
     Header(ObjectId),
     /// Tests whether an object is there.
     Test(ObjectId),
+    /// Writes an object, whose data are to be so many bytes, under the id where it is known to have one.
+    Write {
+        kind: Kind,
+        size: u64,
+        bytes: ByteList,
+        id: Option<ObjectId>,
+    },
+}
+
+impl Call {
+    /// A copy of the call.
+    pub fn try_clone(&self, alloc: Global) -> Result<Call, NoMemory>
+        ensures { IfOk result (λ copy. copy ≡ self.now) }
+    {
+        match self {
+            Call::Find(id) => Ok(Call::Find(*id)),
+            Call::Header(id) => Ok(Call::Header(*id)),
+            Call::Test(id) => Ok(Call::Test(*id)),
+            Call::Write {
+                kind,
+                size,
+                bytes,
+                id,
+            } => Ok(Call::Write {
+                kind: *kind,
+                size: *size,
+                bytes: bytes.try_clone(alloc)?,
+                id: *id,
+            }),
+        }
+    }
 }
 
 /// What a call, or an opening, ends with.
 #[derive(Debug, Drop, PartialEq, Eq)]
 pub enum Reply {
     /// The store is open, and has so many slots.
-    Opened {
-        slots: u16,
-    },
-    Found {
-        kind: gix_object::Kind,
-        bytes: ByteList,
-    },
+    Opened { slots: u16 },
+    Found { kind: Kind, bytes: ByteList },
     Header(find::Header),
     /// Whether the object is there.
     Tested(bool),
     NotFound,
+    /// The object has its name, by this id.
+    Wrote(ObjectId),
     Refused(CallError),
 }
 
@@ -50,6 +79,7 @@ impl Reply {
             Reply::Header(header) => Ok(Reply::Header(*header)),
             Reply::Tested(there) => Ok(Reply::Tested(*there)),
             Reply::NotFound => Ok(Reply::NotFound),
+            Reply::Wrote(id) => Ok(Reply::Wrote(*id)),
             Reply::Refused(error) => Ok(Reply::Refused(error.try_clone(alloc)?)),
         }
     }
@@ -62,6 +92,8 @@ pub enum CallError {
     Open(init::Error),
     #[error("{0}")]
     Find(find::Error),
+    #[error("{0}")]
+    Write(write::Error),
 }
 
 impl CallError {
@@ -72,6 +104,7 @@ impl CallError {
         match self {
             CallError::Open(error) => Ok(CallError::Open(*error)),
             CallError::Find(error) => Ok(CallError::Find(error.try_clone(alloc)?)),
+            CallError::Write(error) => Ok(CallError::Write(error.try_clone(alloc)?)),
         }
     }
 }

@@ -1,82 +1,102 @@
-//! The order of work of a call on a handle: the loose objects of each folder of the store, one after another.
-ghost use Rattle.std.specs.Prelude.{◌≡◌, slice_get, None, IfOk};
+//! The order of work of a call on a handle: an object is looked for, or written.
+ghost use Rattle.std.specs.Prelude.{◌≡◌, ◌<◌, ◌^◌, IfOk};
+ghost use Rattle.gix_odb_loose.specs.LooseOrder as loose_order;
+ghost use Rattle.gix_odb_world.specs.LookOrder as looks;
+ghost use Rattle.gix_odb_world.specs.CallOrder.{HasSize, after_write, ask_of, hash_to_write, result_of, started, writing, wrote_as};
+ghost use Rattle.gix_odb_world.specs.CallOrder.{fed as fed_with};
 ghost use Rattle.gix_odb_world.specs.Handle.{sought_by};
-ghost use Rattle.gix_odb_world.specs.CallOrder.{ask_of, asking, at_next, started};
-ghost use Rattle.gix_odb_world.specs.CallOrder.{fed as fed_with, first_of, job_of as loose_job, led as led_to, led_by as leads_to, next_stage as stage_after};
 
 use crate::call::{Call, CallError, Reply};
-use crate::find;
 use crate::handle::HandleState;
+use crate::look_state::LookState;
+use crate::query::Query;
+use crate::write;
 use gix_hash::ObjectId;
+use gix_object::Kind;
 use gix_odb_loose::{LooseCall, LooseJob, LooseReply};
 use odb_base::{NoMemory, PathText};
-use odb_disk::{DiskAnswer, DiskAsk};
+use odb_disk::{ByteList, DiskAnswer, DiskAsk};
 use std::alloc::Global;
+use std::marker::Model;
 
 /// A call on a handle on its way.
 ///
 /// `disk_ask` names the next call of the disk, `feed` takes its answer, and so on until the call has its reply.
 #[derive(Debug, Drop, PartialEq, Eq)]
-pub struct CallState {
-    head: Head,
-    stage: Stage,
+pub enum CallState {
+    /// An object is looked for in the folders of the store.
+    Looking(LookState),
+    /// An object is being written into the objects directory.
+    Writing(WriteState),
+    /// The write has its reply.
+    Written(Reply),
 }
 
-/// What stays the same in a call.
-#[derive(Clone, Copy, Debug, PartialEq, Eq)]
-pub struct Head {
-    pub call: Call,
-    /// The id that is sought.
-    pub id: ObjectId,
-}
-
-/// Where a call stands.
+/// A write on its way.
 #[derive(Debug, Drop, PartialEq, Eq)]
-pub enum Stage {
-    /// The loose objects of a folder are asked.
-    Loose {
-        /// The place of the folder that comes next, among those beside the objects directory.
-        next: usize,
-        /// The first error that a test of presence noted.
-        noted: Option<gix_odb_loose::find::Error>,
-        folder: LooseCall,
-    },
-    Done(Reply),
+pub struct WriteState {
+    folder: LooseCall,
 }
 
-/// What the reply of one folder leads to.
-pub enum Lead {
-    /// The call ends.
-    Ends(Reply),
-    /// The next folder is asked.
-    Misses,
-    /// The error is noted, and the next folder is asked.
-    Notes(gix_odb_loose::find::Error),
+/// Clauses see it as the call of the folder, which is one that writes.
+impl Model for WriteState {
+    ghost use Rattle.gix_odb_loose.specs.LooseOrder.{IsWriteStage};
+    ghost use Rattle.gix_odb_loose.specs.declared.call.LooseCall.{LooseCall};
+
+    ghost Value = { LooseCall };
+
+    ghost view = { λ write. write.folder };
+
+    ghost inverse = { λ folder. record { folder = folder } };
+
+    ghost invariant = { λ write. IsWriteStage write.folder.stage };
+}
+
+impl WriteState {
+    fn disk_ask(&self, alloc: Global) -> Result<Option<DiskAsk>, NoMemory>
+        ensures { IfOk result (λ ask. ask ≡ loose_order.disk_ask_of self.now) }
+    {
+        self.folder.disk_ask(alloc)
+    }
+
+    // The write after the answer to its call of the disk.
+    fn feed(self, alloc: Global, answer: DiskAnswer) -> Result<CallState, NoMemory>
+        ensures { IfOk result (λ state. state ≡ after_write (loose_order.fed self answer)) }
+    {
+        let WriteState { folder } = self;
+        let mut folder = folder;
+        folder.feed(alloc, answer)?;
+        Ok(after(folder))
+    }
 }
 
 impl CallState {
     /// A new call. It asks nothing of the disk yet.
-    pub fn start(alloc: Global, handle: &HandleState, call: Call) -> Result<CallState, NoMemory>
-        ensures { IfOk result (λ state. state ≡ started handle.now.objects handle.now.alloc_limit_bytes call (sought_by handle.now call)) }
+    pub fn start(alloc: Global, handle: &HandleState, call: &Call) -> Result<CallState, NoMemory>
+        ensures begun { IfOk result (λ state. state ≡ started handle.now.objects handle.now.alloc_limit_bytes (sought_by handle.now) call.now) }
+        ensures sized { HasSize call.now }
     {
-        let id = handle.sought(call);
-        let head = Head { call, id };
-        let folder = head.asked(alloc, &handle.objects, handle.alloc_limit_bytes)?;
-        let stage = Stage::Loose {
-            next: 0,
-            noted: None,
-            folder,
-        };
-        Ok(CallState { head, stage })
+        match call {
+            Call::Find(id) => looking(alloc, handle, Query::Find(*id)),
+            Call::Header(id) => looking(alloc, handle, Query::Header(*id)),
+            Call::Test(id) => looking(alloc, handle, Query::Test(*id)),
+            Call::Write {
+                kind,
+                size,
+                bytes,
+                id,
+            } => begun(alloc, &handle.objects, *kind, *size, bytes, *id),
+        }
     }
 
     /// The call of the disk that comes next; there is none where the call is done.
     pub fn disk_ask(&self, alloc: Global) -> Result<Option<DiskAsk>, NoMemory>
         ensures { IfOk result (λ ask. ask ≡ ask_of self.now) }
     {
-        match &self.stage {
-            Stage::Loose { folder, .. } => folder.disk_ask(alloc),
-            Stage::Done(_) => Ok(None),
+        match self {
+            CallState::Looking(state) => state.disk_ask(alloc),
+            CallState::Writing(write) => write.disk_ask(alloc),
+            CallState::Written(_) => Ok(None),
         }
     }
 
@@ -89,209 +109,98 @@ impl CallState {
     ) -> Result<CallState, NoMemory>
         ensures { IfOk result (λ state. state ≡ fed_with handle.now.folders handle.now.alloc_limit_bytes self answer) }
     {
-        let CallState { head, stage } = self;
-        let stage = head.next_stage(alloc, handle, stage, answer)?;
-        Ok(CallState { head, stage })
+        match self {
+            CallState::Looking(state) => {
+                Ok(CallState::Looking(state.feed(alloc, handle, answer)?))
+            }
+            CallState::Writing(write) => write.feed(alloc, answer),
+            CallState::Written(reply) => Ok(CallState::Written(reply)),
+        }
     }
 
     /// The reply of a call that is done, or the call that goes on.
     pub fn into_reply(self) -> Result<Reply, CallState>
-        ensures { result ≡ Rattle.gix_odb_world.specs.CallOrder.result_of self }
+        ensures { result ≡ result_of self }
     {
-        let CallState { head, stage } = self;
-        match stage {
-            Stage::Done(reply) => Ok(reply),
-            Stage::Loose {
-                next,
-                noted,
-                folder,
-            } => Err(CallState {
-                head,
-                stage: Stage::Loose {
-                    next,
-                    noted,
-                    folder,
-                },
-            }),
+        match self {
+            CallState::Looking(state) => match state.into_reply() {
+                Ok(reply) => Ok(reply),
+                Err(state) => Err(CallState::Looking(state)),
+            },
+            CallState::Writing(write) => Err(CallState::Writing(write)),
+            CallState::Written(reply) => Ok(reply),
         }
     }
 }
 
-impl Head {
-    // A folder that is asked for the object.
-    fn asked(
-        self,
-        alloc: Global,
-        folder: &PathText,
-        limit: Option<u64>,
-    ) -> Result<LooseCall, NoMemory>
-        ensures { IfOk result (λ folder_call. folder_call ≡ asking limit self.call self.id folder.now) }
-    {
-        let options = gix_odb_loose::Options {
-            alloc_limit_bytes: limit,
-        };
-        let store = gix_odb_loose::Store::at_opts(alloc, folder, self.id.kind(), options)?;
-        LooseCall::start(alloc, &store, job_of(self.call, self.id))
-    }
-
-    // A stage after the answer to its call of the disk.
-    fn next_stage(
-        self,
-        alloc: Global,
-        handle: &HandleState,
-        stage: Stage,
-        answer: DiskAnswer,
-    ) -> Result<Stage, NoMemory>
-        ensures { IfOk result (λ next. next ≡ stage_after handle.now.folders handle.now.alloc_limit_bytes self stage answer) }
-    {
-        match stage {
-            Stage::Loose {
-                next,
-                noted,
-                folder,
-            } => {
-                let mut folder = folder;
-                folder.feed(alloc, answer)?;
-                self.after_folder(alloc, handle, next, noted, folder)
-            }
-            Stage::Done(reply) => Ok(Stage::Done(reply)),
-        }
-    }
-
-    // The stage after a folder was fed an answer.
-    fn after_folder(
-        self,
-        alloc: Global,
-        handle: &HandleState,
-        next: usize,
-        noted: Option<gix_odb_loose::find::Error>,
-        folder: LooseCall,
-    ) -> Result<Stage, NoMemory>
-        ensures { IfOk result (λ stage. stage ≡ Rattle.gix_odb_world.specs.CallOrder.after_folder handle.now.folders handle.now.alloc_limit_bytes self next noted folder) }
-    {
-        if folder.disk_ask(alloc)?.is_some() {
-            return Ok(Stage::Loose {
-                next,
-                noted,
-                folder,
-            });
-        }
-        match folder.into_reply() {
-            Some(reply) => self.led(alloc, handle, next, noted, led_by(reply)),
-            None => unreachable!("a folder that asks nothing has its reply"),
-        }
-    }
-
-    // The stage that a folder's reply leads to.
-    fn led(
-        self,
-        alloc: Global,
-        handle: &HandleState,
-        next: usize,
-        noted: Option<gix_odb_loose::find::Error>,
-        lead: Lead,
-    ) -> Result<Stage, NoMemory>
-        ensures { IfOk result (λ stage. stage ≡ led_to handle.now.folders handle.now.alloc_limit_bytes self next noted lead) }
-    {
-        match lead {
-            Lead::Ends(reply) => Ok(Stage::Done(reply)),
-            Lead::Misses => self.ask_next(alloc, handle, next, noted),
-            Lead::Notes(error) => self.ask_next(alloc, handle, next, first_error(noted, error)),
-        }
-    }
-
-    // The folder that comes next is asked, or the call ends.
-    fn ask_next(
-        self,
-        alloc: Global,
-        handle: &HandleState,
-        next: usize,
-        noted: Option<gix_odb_loose::find::Error>,
-    ) -> Result<Stage, NoMemory>
-        ensures { IfOk result (λ stage. stage ≡ at_next handle.now.alloc_limit_bytes self next noted (slice_get handle.now.folders next)) }
-    {
-        let folders = handle.folders.as_slice();
-        if next < folders.len() {
-            let folder = self.asked(alloc, &folders[next], handle.alloc_limit_bytes)?;
-            let next = next + 1;
-            Ok(Stage::Loose {
-                next,
-                noted,
-                folder,
-            })
-        } else {
-            Ok(Stage::Done(ended(self.call, noted)))
-        }
-    }
-}
-
-fn job_of(call: Call, id: ObjectId) -> LooseJob
-    ensures { result ≡ loose_job call id }
+fn looking(alloc: Global, handle: &HandleState, query: Query) -> Result<CallState, NoMemory>
+    ensures { IfOk result (λ state. state ≡ CallState.Looking (looks.started handle.now.objects handle.now.alloc_limit_bytes query (sought_by handle.now query))) }
 {
-    match call {
-        Call::Find(_) => LooseJob::Find(id),
-        Call::Header(_) => LooseJob::Header(id),
-        Call::Test(_) => LooseJob::Contains(id),
+    Ok(CallState::Looking(LookState::start(alloc, handle, query)?))
+}
+
+// The write of an object into a folder.
+fn begun(
+    alloc: Global,
+    folder: &PathText,
+    kind: Kind,
+    size: u64,
+    bytes: &ByteList,
+    id: Option<ObjectId>,
+) -> Result<CallState, NoMemory>
+    ensures begun { IfOk result (λ state. state ≡ CallState.Writing (writing folder.now kind size bytes.now id)) }
+    ensures sized { size < 2 ^ 64 }
+{
+    let bytes = bytes.try_clone(alloc)?;
+    let options = gix_odb_loose::Options {
+        alloc_limit_bytes: None,
+    };
+    let store = gix_odb_loose::Store::at_opts(alloc, folder, hash_of(id), options)?;
+    let job = LooseJob::Write {
+        kind,
+        size,
+        bytes,
+        id,
+    };
+    let folder = LooseCall::start(alloc, &store, job)?;
+    Ok(CallState::Writing(WriteState { folder }))
+}
+
+// The hash of an id that is known, and SHA-1 where none is.
+fn hash_of(id: Option<ObjectId>) -> gix_hash::Kind
+    ensures { result ≡ hash_to_write id }
+{
+    match id {
+        Some(id) => id.kind(),
+        None => gix_hash::Kind::Sha1,
     }
 }
 
-fn led_by(reply: LooseReply) -> Lead
-    ensures { result ≡ leads_to reply }
+// A write after it was fed an answer.
+fn after(folder: LooseCall) -> CallState
+    requires { loose_order.IsWriteStage folder.stage }
+    ensures { result ≡ after_write folder }
+{
+    if !folder.is_done() {
+        return CallState::Writing(WriteState { folder });
+    }
+    match folder.into_reply() {
+        Some(reply) => CallState::Written(told(reply)),
+        None => unreachable!("a write that is done has its reply"),
+    }
+}
+
+fn told(reply: LooseReply) -> Reply
+    requires { loose_order.IsWriteReply reply }
+    ensures { result ≡ wrote_as reply }
 {
     match reply {
-        LooseReply::Contains(answer) => tested(answer),
-        LooseReply::Found(Ok(Some((kind, bytes)))) => Lead::Ends(Reply::Found { kind, bytes }),
-        LooseReply::Header(Ok(Some((size, kind)))) => {
-            Lead::Ends(Reply::Header(find::Header::Loose { kind, size }))
+        LooseReply::Wrote(Ok(id)) => Reply::Wrote(id),
+        LooseReply::Wrote(Err(error)) => {
+            Reply::Refused(CallError::Write(write::Error::LooseWrite(error)))
         }
-        LooseReply::Found(Err(error)) => Lead::Ends(refused(error)),
-        LooseReply::Header(Err(error)) => Lead::Ends(refused(error)),
-        LooseReply::Found(Ok(None)) => Lead::Misses,
-        LooseReply::Header(Ok(None)) => Lead::Misses,
-        // No folder is asked to write.
-        LooseReply::Wrote(_) => Lead::Misses,
-    }
-}
-
-// A look that failed is noted, so that another folder may still answer.
-fn tested(answer: Result<bool, gix_odb_loose::find::Error>) -> Lead
-    ensures { result ≡ Rattle.gix_odb_world.specs.CallOrder.tested_leads answer }
-{
-    match answer {
-        Ok(true) => Lead::Ends(Reply::Tested(true)),
-        Ok(false) => Lead::Misses,
-        Err(gix_odb_loose::find::Error::NoMemory) => {
-            Lead::Ends(refused(gix_odb_loose::find::Error::NoMemory))
+        LooseReply::Contains(_) | LooseReply::Found(_) | LooseReply::Header(_) => {
+            unreachable!("a write comes to nothing else")
         }
-        Err(error) => Lead::Notes(error),
-    }
-}
-
-fn first_error(
-    noted: Option<gix_odb_loose::find::Error>,
-    error: gix_odb_loose::find::Error,
-) -> Option<gix_odb_loose::find::Error>
-    ensures { result ≡ first_of noted error }
-{
-    match noted {
-        Some(first) => Some(first),
-        None => Some(error),
-    }
-}
-
-fn refused(error: gix_odb_loose::find::Error) -> Reply
-    ensures { result ≡ Rattle.gix_odb_world.specs.CallOrder.refused error }
-{
-    Reply::Refused(CallError::Find(find::Error::Loose(error)))
-}
-
-// The reply where no folder answered.
-fn ended(call: Call, noted: Option<gix_odb_loose::find::Error>) -> Reply
-    ensures { result ≡ Rattle.gix_odb_world.specs.CallOrder.ended call noted }
-{
-    match (noted, call) {
-        (Some(error), _) => refused(error),
-        (None, Call::Test(_)) => Reply::Tested(false),
-        (None, _) => Reply::NotFound,
     }
 }

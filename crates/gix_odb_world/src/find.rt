@@ -7,7 +7,7 @@ use std::alloc::Global;
 use thiserror::Error;
 
 /// The header of an object, by where it stands.
-#[derive(Clone, Copy, Debug, PartialEq, Eq, Hash)]
+#[derive(Clone, Copy, Debug, PartialEq, Eq, PartialOrd, Ord, Hash)]
 pub enum Header {
     /// In a loose file. The size is in bytes.
     Loose { kind: Kind, size: u64 },

@@ -2,8 +2,8 @@
 ghost use Rattle.std.specs.Prelude.{◌≡◌};
 ghost use Rattle.gix_odb_world.specs.Handle.{sought_by};
 
-use crate::call::Call;
 use crate::lists::PathList;
+use crate::query::Query;
 use crate::work::Work;
 use gix_hash::ObjectId;
 use odb_disk::PathText;
@@ -32,15 +32,15 @@ pub struct Handle {
 }
 
 impl HandleState {
-    /// The id that a call seeks: the replacement of its own, where there is one and it isn't ignored. A test seeks
+    /// The id that a query seeks: the replacement of its own, where there is one and it isn't ignored. A test seeks
     /// its own.
-    pub fn sought(&self, call: Call) -> ObjectId
-        ensures { result ≡ sought_by self.now call }
+    pub fn sought(&self, query: Query) -> ObjectId
+        ensures { result ≡ sought_by self.now query }
     {
-        match call {
-            Call::Find(id) => self.replaced(id),
-            Call::Header(id) => self.replaced(id),
-            Call::Test(id) => id,
+        match query {
+            Query::Find(id) => self.replaced(id),
+            Query::Header(id) => self.replaced(id),
+            Query::Test(id) => id,
         }
     }
 

@@ -1,7 +1,7 @@
 //! Interleaved runs of calls over one disk that other programs change too.
 //!
-//! A world takes steps: it opens stores over some folders, starts calls, lets a handle make one call of the disk, and
-//! lets other programs change the tree. For every disk and every list of steps `World::run` gives one outcome for
+//! A world takes steps: it opens stores over some folders, starts calls that look for objects or write them, lets a
+//! handle make one call of the disk, and lets other programs change the tree. For every disk and every list of steps `World::run` gives one outcome for
 //! each step; what is found was held by the store's files, a not-found means that no sound object lay still,
 //! each call ends within its bound, and each error has its cause: `specs/Headline.antt` says it.
 //! ```rust
@@ -17,15 +17,18 @@ pub mod find;
 mod handle;
 pub mod init;
 mod lists;
+mod look_state;
 mod open_state;
 mod opening;
 mod play;
+mod query;
 mod record;
 mod step;
 #[cfg(test)]
 mod tests;
 mod work;
 mod world;
+pub mod write;
 
 pub use bound::bound_of;
 pub use call::{Call, CallError, Reply};

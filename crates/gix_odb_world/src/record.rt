@@ -35,7 +35,7 @@ impl Did {
 #[derive(Debug, Drop, PartialEq, Eq)]
 pub struct Record {
     pub did: Did,
-    /// The change of the tree, if the step made one.
+    /// The change of the tree, if the step made one: another program's, or that of a turn's call of the disk.
     pub change: Option<Change>,
     /// The disk's count of faults after the step.
     pub faults: u64,

@@ -65,7 +65,7 @@ impl Step {
             Step::Ignore { handle } => Ok(Step::Ignore { handle: *handle }),
             Step::Start { handle, call } => Ok(Step::Start {
                 handle: *handle,
-                call: *call,
+                call: call.try_clone(alloc)?,
             }),
             Step::Turn { handle } => Ok(Step::Turn { handle: *handle }),
             Step::Disk(change) => Ok(Step::Disk(change.try_clone(alloc)?)),

@@ -1,4 +1,50 @@
-mod fixtures;
-mod folders;
-mod opening;
-mod world;
+//! What no clause says: values from outside, printed texts, and that calls succeed.
+mod finds;
+mod openings;
+mod others;
+mod played;
+mod steps;
+mod words;
+mod writes;
+
+use self::played::{check_each, check_faults, check_run};
+use std::test::Fail;
+
+// Each table's steps are made in turn, and so many calls of the disk.
+#[test]
+fn steps_in_turn(rt: HostRuntime) -> Result<(), Fail> {
+    for (rows, calls) in [
+        (finds::FOUND, 2),
+        (finds::FOLDERS, 26),
+        (finds::REPLACED, 16),
+        (writes::WRITES, 39),
+        (others::READER, 10),
+        (steps::MISUSES, 10),
+    ] {
+        let run = check_run(rt.alloc(), rows)?;
+        assert!(rt; run.disk.calls() == calls);
+    }
+    Ok(())
+}
+
+// Each row is made on a disk of its own, after the table's front.
+#[test]
+fn steps_alone(rt: HostRuntime) -> Result<(), Fail> {
+    for (front, rows) in [
+        (finds::FILE_FRONT, finds::FILES),
+        (writes::NAMES_FRONT, writes::NAMES),
+        (others::WRITERS_FRONT, others::WRITERS),
+        (others::CHANGES_FRONT, others::CHANGES),
+        ("make /o", openings::OPENINGS),
+    ] {
+        check_each(rt.alloc(), front, rows)?;
+    }
+    Ok(())
+}
+
+// Each row has calls that fail.
+#[test]
+fn steps_with_faults(rt: HostRuntime) -> Result<(), Fail> {
+    check_faults(rt.alloc(), finds::FAULT_STEPS, finds::FAULTS)?;
+    check_faults(rt.alloc(), writes::FAULT_STEPS, writes::FAULTS)
+}

@@ -1,13 +1,14 @@
-ghost use Rattle.std.specs.Prelude.{◌≡◌, ◌≢◌, ◌<◌, ◌^◌, ◌↔◌, IsTrue, ◌++◌, ◌∷◌, [], List, IfOk, OnOk, length, map, true, None};
+ghost use Rattle.std.specs.Prelude.{if◌then◌else◌, ◌≡◌, ◌≢◌, ◌<◌, ◌^◌, ◌↔◌, IsTrue, ◌++◌, ◌∷◌, [], List, IfOk, OnOk, length, map, true, None};
 ghost use Rattle.odb_disk.specs.MemDisk.{Volume};
+ghost use Rattle.odb_disk.specs.Tree.{IsTree, tree_of};
 ghost use Rattle.gix_odb_world.specs.Event.{Event};
+ghost use Rattle.gix_odb_world.specs.Valid as reasons;
 ghost use Rattle.gix_odb_world.specs.Valid.{why_not_after, is_openable};
-ghost use Rattle.gix_odb_world.specs.Headline.{Headline, IsRun};
-ghost use Rattle.gix_odb_world.specs.Headline.{outcome_of};
+ghost use Rattle.gix_odb_world.specs.Headline.{Headline, IsRun, outcome_of};
 ghost use Rattle.gix_odb_world.specs.WorkOrder.{ask_in, result_in};
 ghost use Rattle.gix_odb_world.specs.World.{Explains, GoesOn, Continues, handle_at};
-ghost use Rattle.gix_odb_world.specs.Table.{HasOneMore, Notes, SetsHandle, did_now, disk_now, phase_of_handle, with_ignoring, with_work, work_now, why_not_now};
-ghost use Rattle.gix_odb_world.specs.Table.{after_turn};
+ghost use Rattle.gix_odb_world.specs.Table as tables;
+ghost use Rattle.gix_odb_world.specs.Table.{HasOneMore, Notes, SetsHandle, after_turn, change_now, did_now, disk_now, has_failed, phase_of_handle, with_ignoring, with_work, work_now, why_not_now};
 
 use crate::call::{Call, CallError, Reply};
 use crate::call_state::CallState;
@@ -20,7 +21,7 @@ use crate::record::{Did, OutcomeList, Record, RecordList, Run};
 use crate::step::{Outcome, Step, Why};
 use crate::work::Work;
 use odb_base::NoMemory;
-use odb_disk::{Change, Impossible, MemDisk, PathText};
+use odb_disk::{Change, DiskAnswer, DiskError, Impossible, MemDisk, PathText};
 use std::alloc::Global;
 use std::collections::BTreeMap;
 
@@ -64,6 +65,8 @@ impl World {
     pub fn new(alloc: Global, disk: MemDisk) -> World
         ensures explained { Explains disk [] result }
     {
+        // A disk shows a tree: each node lies in a directory.
+        let _ = disk.tree();
         World {
             disk,
             handles: BTreeMap::new(alloc),
@@ -93,7 +96,6 @@ impl World {
 
     /// The run of the steps so far. Every history that leads to the world is its own.
     pub fn finish(self) -> Run
-        ensures headline { (first : Volume) (events : List Event) → Explains first events self → Headline first (map (λ e. e.step) events) result }
         ensures run { (first : Volume) (events : List Event) → Explains first events self → IsRun first events result }
     {
         let World {
@@ -124,7 +126,7 @@ impl World {
             } => self.open(alloc, *handle, path, folders, replacements, *options),
             Step::Close { handle } => self.close(*handle),
             Step::Ignore { handle } => self.ignore(*handle),
-            Step::Start { handle, call } => self.start(alloc, *handle, *call),
+            Step::Start { handle, call } => self.start(alloc, *handle, call),
             Step::Turn { handle } => self.turn(alloc, *handle),
             Step::Disk(change) => self.change(alloc, change),
         }
@@ -196,8 +198,8 @@ impl World {
     }
 
     /// Begins a call on an idle handle.
-    fn start(&mut self, alloc: Global, number: u32, call: Call) -> Result<(), NoMemory>
-        ensures continues { OnOk result (Continues self.old (Step.Start number call) self.new) }
+    fn start(&mut self, alloc: Global, number: u32, call: &Call) -> Result<(), NoMemory>
+        ensures continues { OnOk result (Continues self.old (Step.Start number call.now) self.new) }
         ensures noted { OnOk result (HasOneMore self.old self.new) }
     {
         if let Some(why) = self.why_not_idle(number) {
@@ -225,10 +227,10 @@ impl World {
         let Some(work) = work else {
             unreachable!("a handle that runs a call is at work");
         };
-        let (did, work) = carried_out(alloc, &mut self.disk, &state, work)?;
+        let (did, change, work) = carried_out(alloc, &mut self.disk, &state, work)?;
         let (outcome, handle) = settled(state, work);
         self.set(number, handle)?;
-        self.note(outcome, did, None)
+        self.note(outcome, did, change)
     }
 
     /// Makes a change that another program makes.
@@ -305,7 +307,7 @@ impl World {
         folders: &PathList,
         replacements: &IdPairs,
     ) -> Result<Option<Why>, NoMemory>
-        ensures { IfOk result (λ why. why ≡ Rattle.gix_odb_world.specs.Valid.why_not_open (phase_of_handle (handle_at self.now number)) (is_openable path.now folders.now replacements.now)) }
+        ensures { IfOk result (λ why. why ≡ reasons.why_not_open (phase_of_handle (handle_at self.now number)) (is_openable path.now folders.now replacements.now)) }
     {
         if let Some(why) = self.why_not_free(number) {
             return Ok(Some(why));
@@ -319,7 +321,7 @@ impl World {
 
     /// Why a number isn't free.
     fn why_not_free(&self, number: u32) -> Option<Why>
-        ensures { result ≡ Rattle.gix_odb_world.specs.Valid.why_not_open (phase_of_handle (handle_at self.now number)) true }
+        ensures { result ≡ reasons.why_not_open (phase_of_handle (handle_at self.now number)) true }
     {
         match self.handles.get(&number) {
             None => None,
@@ -329,7 +331,7 @@ impl World {
 
     /// Why a step that needs an idle handle isn't valid.
     fn why_not_idle(&self, number: u32) -> Option<Why>
-        ensures { result ≡ Rattle.gix_odb_world.specs.Valid.why_not_idle (phase_of_handle (handle_at self.now number)) }
+        ensures { result ≡ reasons.why_not_idle (phase_of_handle (handle_at self.now number)) }
     {
         let Some(handle) = self.handles.get(&number) else {
             return Some(Why::NoHandle);
@@ -342,7 +344,7 @@ impl World {
 
     /// Why a turn isn't valid.
     fn why_not_running(&self, number: u32) -> Option<Why>
-        ensures { result ≡ Rattle.gix_odb_world.specs.Valid.why_not_running (phase_of_handle (handle_at self.now number)) }
+        ensures { result ≡ reasons.why_not_running (phase_of_handle (handle_at self.now number)) }
     {
         let Some(handle) = self.handles.get(&number) else {
             return Some(Why::NoHandle);
@@ -374,24 +376,41 @@ impl World {
     }
 }
 
-/// Carries out the one call of the disk that a piece of work names: what it did, and the work after the answer.
+/// Carries out the one call of the disk that a piece of work names: what it did, the change that it made, and the work
+/// after the answer.
 fn carried_out(
     alloc: Global,
     disk: &mut MemDisk,
     state: &HandleState,
     work: Work,
-) -> Result<(Did, Work), NoMemory>
+) -> Result<(Did, Option<Change>, Work), NoMemory>
     ensures did { IfOk result (λ done. done.0 ≡ did_now disk.old (ask_in state.now.objects work)) }
-    ensures work { IfOk result (λ done. done.1 ≡ work_now disk.old state.now work (ask_in state.now.objects work)) }
+    ensures change { IfOk result (λ done. done.1 ≡ change_now disk.old (ask_in state.now.objects work)) }
+    ensures work { IfOk result (λ done. done.2 ≡ work_now disk.old state.now work (ask_in state.now.objects work)) }
     ensures left { OnOk result (disk.new ≡ disk_now disk.old (ask_in state.now.objects work)) }
+    ensures is_tree { IsTree (tree_of disk.old.state) }
 {
+    // A disk shows a tree: each node lies in a directory.
+    let _ = disk.tree();
     let Some(ask) = work.disk_ask(alloc, state)? else {
-        return Ok((Did::Nothing, work));
+        return Ok((Did::Nothing, None, work));
     };
+    let change = disk.change_of(alloc, &ask)?;
     let answer = disk.carry_out(alloc, &ask)?;
+    let change = change_unless_failed(change, &answer);
     let did = Did::of(alloc, &ask, &answer)?;
     let work = work.feed(alloc, state, answer)?;
-    Ok((did, work))
+    Ok((did, change, work))
+}
+
+/// The change that a call of the disk makes where it doesn't fail, or none where it failed.
+fn change_unless_failed(change: Option<Change>, answer: &DiskAnswer) -> Option<Change>
+    ensures { result ≡ (if has_failed answer.now then None else change) }
+{
+    match answer {
+        DiskAnswer::Refused(DiskError::Failed) => None,
+        _ => change,
+    }
 }
 
 /// What a turn came to that left its work so, and the handle after it.
@@ -413,7 +432,7 @@ fn settled(state: HandleState, work: Work) -> (Outcome, Option<Handle>)
 
 /// A handle after the reply to its work: none after a refused opening, else at rest.
 fn at_rest(state: HandleState, reply: &Reply) -> Option<Handle>
-    ensures { result ≡ Rattle.gix_odb_world.specs.Table.after_reply state reply.now }
+    ensures { result ≡ tables.after_reply state reply.now }
 {
     match reply {
         Reply::Refused(CallError::Open(_)) => None,

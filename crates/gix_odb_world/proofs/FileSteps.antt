@@ -1,0 +1,258 @@
+-- What a writer changes in a turn, and what stands at the path of his temporary file when he has made it.
+use Rattle.std.proofs.Common.{◌≡◌, ℕ, ◌+◌, ◌<◌, Bool, true, false, List, [], take, Option, Some, None, Result, Ok, Err, refl, sym, ap, ◌∙◌, subst, arith}
+use Rattle.std.specs.Prelude.{if◌then◌else◌, ◌==◌}
+use Rattle.std.specs.Result.{result_ok}
+use Rattle.std.proofs.lemmas.Bool.{eqb-true}
+use Rattle.odb_base.specs.Path.{Path}
+use Rattle.odb_disk.specs.Ask.{change_of_ask, op_of, path_asked}
+use Rattle.odb_disk.specs.MemDisk.{Volume, next_fails}
+use Rattle.odb_disk.specs.Tree.{IsTree, Tree, tree_of}
+use Rattle.odb_disk.specs.Tree.Change.{changed}
+use Rattle.odb_disk.specs.Tree.Write as writing
+use Rattle.odb_disk.specs.Tree.Write.{change_of_append, change_of_make_dir, change_of_new_file, change_of_remove, change_of_rename, vacant}
+use Rattle.odb_disk.specs.declared.ask.DiskAnswer.{DiskAnswer}
+use Rattle.odb_disk.specs.declared.ask.DiskAnswer.TheVariants as answers
+use Rattle.odb_disk.specs.declared.ask.DiskAsk.{DiskAsk}
+use Rattle.odb_disk.specs.declared.ask.DiskAsk.TheVariants as asks
+use Rattle.odb_disk.specs.declared.ask.Op.TheVariants as ops
+use Rattle.odb_disk.specs.declared.change.Change.{Change}
+use Rattle.odb_disk.specs.declared.change.Change.TheVariants.{PutFile, MakeDir, Rename, Append, Remove}
+use Rattle.odb_disk.proofs.OwnWayLaws.{Cut, IsOwnChange, OwnSpot, cut_no_append, cut_no_dir, cut_no_remove, cut_no_rename, own_append, own_dir_change, own_new, own_new_change, own_remove, own_rename}
+use Rattle.odb_disk.proofs.TreeLemmas.Write.{replaceable_at}
+use Rattle.odb_disk.proofs.WayWriteLaws.{append_change, make_dir_change, new_file_change, remove_change}
+use Rattle.gix_hash.specs.declared.object_id.ObjectId.{ObjectId}
+use Rattle.gix_odb_loose.specs.LooseFile.{loose_path}
+use Rattle.gix_odb_loose.specs.WriteOrder.{number_made, prefix_path, temp_path}
+use Rattle.gix_odb_loose.specs.declared.call.LooseCall.{LooseCall}
+use Rattle.gix_odb_loose.specs.declared.write_call.WriteStage.{WriteStage}
+use Rattle.gix_odb_loose.specs.declared.write_call.WriteStage.TheVariants as stages
+use Rattle.gix_odb_loose.proofs.NameLaws.{IsTemporary, object_spot, prefix_path-is, temp_path-is}
+use Rattle.gix_odb_world.specs.declared.call.Call.{Call}
+use Rattle.gix_odb_world.specs.declared.call.CallError.TheVariants as call_errors
+use Rattle.gix_odb_world.specs.declared.call.Reply.{Reply}
+use Rattle.gix_odb_world.specs.declared.call.Reply.TheVariants as replies
+use Rattle.gix_odb_world.specs.declared.call_state.CallState.TheVariants.{Looking, Writing, Written}
+use Rattle.gix_odb_world.specs.declared.record.Did.TheVariants.{Nothing, Disk}
+use Rattle.gix_odb_world.specs.declared.step.Outcome.{Outcome}
+use Rattle.gix_odb_world.specs.declared.step.Outcome.TheVariants as outcomes
+use Rattle.gix_odb_world.specs.declared.step.Step.{Step}
+use Rattle.gix_odb_world.specs.declared.step.Step.TheVariants as steps
+use Rattle.gix_odb_world.specs.declared.work.Work.{Work}
+use Rattle.gix_odb_world.specs.declared.work.Work.TheVariants.{Opening, Calling}
+use Rattle.gix_odb_world.specs.Event.{Event, Free, Resting, Status, Store, Working, after_reply, ignoring_from, replied, started, status_after, turned, with_status}
+use Rattle.gix_odb_world.specs.Headline.{IsLawful}
+use Rattle.gix_odb_world.specs.Run.{change_by, disk_after, tree_at}
+use Rattle.gix_odb_world.specs.Writing.{AskedAt, ToWrite}
+use Rattle.gix_odb_world.proofs.RunSteps.{IsLeft, Made, Quiet, Turned, change_by_some, is_tree_at, kind_at, left_at}
+use Rattle.gix_odb_world.proofs.WriteAsk.{Told, done_made, told_append, told_make_dir, told_new_file, told_remove, told_rename}
+use Rattle.gix_odb_world.proofs.WriteGoes.{ask_at_stage}
+
+abbrev pub NotTemporary : Path → Type 0
+NotTemporary path = ¬ (IsTemporary path)
+
+-- ---- the change of a writer at a stage
+
+from_ok : {A B : Type 0} (told : Result A B) (x : A) → result_ok told ≡ Some x → told ≡ Ok x
+from_ok (Ok y) x is = cc
+from_ok (Err e) x is = absurd (cc)
+
+-- it is that of the call which the stage makes
+abbrev pub WriterMoves : Tree → Path → WriteStage → Change → Type 0
+WriterMoves t objects (stages.Making number) c = change_of_new_file t (temp_path objects number) ≡ Ok c
+WriterMoves t objects (stages.Heading number) c = (more : List ℕ) × (change_of_append t (temp_path objects number) more ≡ Ok c)
+WriterMoves t objects (stages.Filling number written) c = (more : List ℕ) × (change_of_append t (temp_path objects number) more ≡ Ok c)
+WriterMoves t objects (stages.Foldering number id) c = change_of_make_dir t (prefix_path objects id) ≡ Ok c
+WriterMoves t objects (stages.Moving number id) c = change_of_rename t (temp_path objects number) (loose_path objects id) ≡ Ok c
+WriterMoves t objects (stages.Removing number refusal) c = change_of_remove t (temp_path objects number) ≡ Ok c
+
+told_change : (t : Tree) (ask : DiskAsk) (told : Result Change writing.Refusal) (c : Change) → Told t ask told → change_of_ask t ask ≡ Some c → told ≡ Ok c
+told_change t ask told c tells is = from_ok told c (sym tells.change ∙ is)
+
+pub writer_moves : (disk : Volume) (w : ToWrite) (stage : WriteStage) (c : Change) → change_by disk (ask_at_stage w stage) ≡ Some c → WriterMoves (tree_of disk.state) w.objects stage c
+writer_moves disk w (stages.Making number) c is = told_change _ _ _ c (told_new_file _ _) (change_by_some disk _ c is)
+writer_moves disk w (stages.Heading number) c is = (_, told_change _ _ _ c (told_append _ _ _) (change_by_some disk _ c is))
+writer_moves disk w (stages.Filling number written) c is = (_, told_change _ _ _ c (told_append _ _ _) (change_by_some disk _ c is))
+writer_moves disk w (stages.Foldering number id) c is = told_change _ _ _ c (told_make_dir _ _) (change_by_some disk _ c is)
+writer_moves disk w (stages.Moving number id) c is = told_change _ _ _ c (told_rename _ _ _) (change_by_some disk _ c is)
+writer_moves disk w (stages.Removing number refusal) c is = told_change _ _ _ c (told_remove _ _) (change_by_some disk _ c is)
+
+-- a change of a writer whose file stands at s; where it moves it, then not to the place of a temporary file
+pub record Does (t : Tree) (s : Path) (c : Change) : Type 0 where
+  pub own : IsOwnChange t s c
+  pub onto : (p : Path) → c ≡ Rename s p → NotTemporary p
+
+module _ (t : Tree) (is_tree : IsTree t) (objects : Path) (c : Change) where
+  does_new : (path s : Path) → change_of_new_file t path ≡ Ok c → Does t s c
+  does_new path s is = record { own = own_new_change t is_tree path c s is; onto = λ p renames. let n = new_file_change t path c is in let both : PutFile n.0 0 [] ≡ Rename s p = sym n.2 ∙ renames in absurd (cc both) }
+
+  does_dir : (path s : Path) → change_of_make_dir t path ≡ Ok c → Does t s c
+  does_dir path s is = record { own = own_dir_change t is_tree path c s is; onto = λ p renames. let n = make_dir_change t path c is in let both : MakeDir n.0 _ ≡ Rename s p = sym n.2 ∙ renames in absurd (cc both) }
+
+  module _ (path s : Path) (own : OwnSpot t path s) where
+    does_append : (more : List ℕ) → change_of_append t path more ≡ Ok c → Does t s c
+    does_append more is = record { own = own_append t is_tree path c s own more is; onto = λ p renames. let n = append_change t path c more is in let both : Append n.0 more ≡ Rename s p = sym n.2 ∙ renames in absurd (cc both) }
+
+    does_remove : change_of_remove t path ≡ Ok c → Does t s c
+    does_remove is = record { own = own_remove t is_tree path c s own is; onto = λ p renames. let n = remove_change t path c is in let both : Remove n.0 ≡ Rename s p = sym n.2 ∙ renames in absurd (cc both) }
+
+    does_rename : (id : ObjectId) → change_of_rename t path (loose_path objects id) ≡ Ok c → Does t s c
+    does_rename id is =
+        let r = own_rename t is_tree path c s own (loose_path objects id) is in
+        record {
+          own = r.3;
+          onto = λ p renames.
+              let both : Rename s r.0 ≡ Rename s p = sym r.1 ∙ renames in
+              let same : r.0 ≡ p = cc both in
+              object_spot t objects id p (subst (λ q. writing.spot t (loose_path objects id) ≡ Ok q) same (replaceable_at t (loose_path objects id) r.0 r.2).is);
+        }
+
+  -- a writer that has made his file
+  pub does : (stage : WriteStage) (number : ℕ) (s : Path) → number_made stage ≡ Some number → OwnSpot t (temp_path objects number) s → WriterMoves t objects stage c → Does t s c
+  does (stages.Making n) number s made own moves = absurd (cc made)
+  does (stages.Heading n) number s made own moves = let same : number ≡ n = cc made in does_append (temp_path objects n) s (subst (λ m. OwnSpot t (temp_path objects m) s) same own) moves.0 moves.1
+  does (stages.Filling n written) number s made own moves = let same : number ≡ n = cc made in does_append (temp_path objects n) s (subst (λ m. OwnSpot t (temp_path objects m) s) same own) moves.0 moves.1
+  does (stages.Foldering n id) number s made own moves = does_dir (prefix_path objects id) s moves
+  does (stages.Moving n id) number s made own moves = let same : number ≡ n = cc made in does_rename (temp_path objects n) s (subst (λ m. OwnSpot t (temp_path objects m) s) same own) id moves
+  does (stages.Removing n refusal) number s made own moves = let same : number ≡ n = cc made in does_remove (temp_path objects n) s (subst (λ m. OwnSpot t (temp_path objects m) s) same own) moves
+
+  -- one that has none yet makes it
+  pub does_first : (stage : WriteStage) (s : Path) → number_made stage ≡ None → WriterMoves t objects stage c → Does t s c
+  does_first (stages.Making n) s none moves = does_new (temp_path objects n) s moves
+  does_first (stages.Heading n) s none moves = absurd (cc none)
+  does_first (stages.Filling n written) s none moves = absurd (cc none)
+  does_first (stages.Foldering n id) s none moves = absurd (cc none)
+  does_first (stages.Moving n id) s none moves = absurd (cc none)
+  does_first (stages.Removing n refusal) s none moves = absurd (cc none)
+
+  -- one that was cut off changes nothing
+  pub does_nothing : (stage : WriteStage) (number : ℕ) → number_made stage ≡ Some number → Cut NotTemporary t objects → ¬ (WriterMoves t objects stage c)
+  does_nothing (stages.Making n) number made cut moves = cc made
+  does_nothing (stages.Heading n) number made cut moves = cut_no_append NotTemporary t is_tree objects _ cut c moves.0 (ap (λ p. change_of_append t p moves.0) (sym (temp_path-is objects n)) ∙ moves.1)
+  does_nothing (stages.Filling n written) number made cut moves = cut_no_append NotTemporary t is_tree objects _ cut c moves.0 (ap (λ p. change_of_append t p moves.0) (sym (temp_path-is objects n)) ∙ moves.1)
+  does_nothing (stages.Foldering n id) number made cut moves = cut_no_dir NotTemporary t is_tree objects _ cut c (ap (change_of_make_dir t) (sym (prefix_path-is objects id)) ∙ moves)
+  does_nothing (stages.Moving n id) number made cut moves = cut_no_rename NotTemporary t is_tree objects _ cut c (loose_path objects id) (ap (λ p. change_of_rename t p (loose_path objects id)) (sym (temp_path-is objects n)) ∙ moves)
+  does_nothing (stages.Removing n refusal) number made cut moves = cut_no_remove NotTemporary t is_tree objects _ cut c (ap (change_of_remove t) (sym (temp_path-is objects n)) ∙ moves)
+
+-- ---- the making of a temporary file
+
+new_file_ask : (ask : DiskAsk) (path : Path) → op_of ask ≡ ops.NewFile → path_asked ask ≡ path → ask ≡ asks.NewFile path
+new_file_ask (asks.Look p follow) path op is = absurd (cc)
+new_file_ask (asks.Read p) path op is = absurd (cc)
+new_file_ask (asks.MakeDir p) path op is = absurd (cc)
+new_file_ask (asks.NewFile p) path op is = ap asks.NewFile is
+new_file_ask (asks.Append p bytes) path op is = absurd (cc)
+new_file_ask (asks.Rename from to) path op is = absurd (cc)
+new_file_ask (asks.Remove p) path op is = absurd (cc)
+
+-- where a temporary file was made, at a spot where nothing stood
+pub record IsNewAt (first : Volume) (events : List Event) (made : ℕ) (e : Event) (path : Path) : Type 0 where
+  pub spot : Path
+  pub put : e.entry.change ≡ Some (PutFile spot 0 [])
+  pub free : vacant (tree_at first events made) path ≡ Ok spot
+  pub own : OwnSpot (tree_at first events (made + 1)) path spot
+
+module _ (first : Volume) (events : List Event) (start : IsTree (tree_of first.state)) (lawful : IsLawful first events) where
+  pub new_at : (handle made : ℕ) (path : Path) (a : AskedAt first events handle made (asks.NewFile path) answers.Done) → IsNewAt first events made a.event path
+  new_at handle made path a = elim (kind_at first events start lawful made a.event a.there) [
+    | Quiet q ↦ absurd (let both : Nothing ≡ Disk ops.NewFile path (next_fails (disk_after first (take made events))) = sym q.did ∙ a.did in cc both)
+    | Made m ↦ absurd (let both : Nothing ≡ Disk ops.NewFile path (next_fails (disk_after first (take made events))) = sym m.did ∙ a.did in cc both)
+    | Turned t ↦
+        let disk = disk_after first (take made events) in
+        let before = tree_at first events made in
+        let both : Disk (op_of t.works.ask) (path_asked t.works.ask) (next_fails disk) ≡ Disk ops.NewFile path (next_fails disk) = sym t.works.asked ∙ a.did in
+        let ask = new_file_ask t.works.ask path (cc both) (cc both) in
+        let m = done_made disk (asks.NewFile path) (change_of_new_file before path) (told_new_file before path) a.given in
+        let makes : a.event.entry.change ≡ Some m.change = t.works.changed ∙ (ap (change_by disk) ask ∙ m.made) in
+        let n = own_new before (is_tree_at first events start lawful made) path m.change m.is in
+        let after : tree_at first events (made + 1) ≡ changed before m.change = subst (IsLeft before (tree_at first events (made + 1))) makes (left_at first events start lawful made a.event a.there) in
+        record { spot = n.0; put = makes ∙ ap Some n.1; free = n.2; own = subst (λ u. OwnSpot u path n.0) (sym after) n.3 }
+  ]
+
+-- ---- a handle that is at a write was at it before
+
+-- a handle is at a write that it began at a step
+pub record AtWrite (store : Store) (ignoring : Bool) (begun : ℕ) (status : Status) : Type 0 where
+  pub turns : ℕ
+  pub folder : LooseCall
+  pub is : status ≡ Working store ignoring begun turns (Calling (Writing folder))
+
+module _ (store : Store) (ignoring : Bool) (begun : ℕ) where
+  abbrev Before : Status → Type 0
+  Before = AtWrite store ignoring begun
+
+  rests : (own : Store) (mode : Bool) (reply : Reply) → ¬ (Before (after_reply own mode reply))
+  rests own mode (replies.Refused (call_errors.Open error)) a = cc a.is
+  rests own mode (replies.Refused (call_errors.Find error)) a = cc a.is
+  rests own mode (replies.Refused (call_errors.Write error)) a = cc a.is
+  rests own mode (replies.Opened slots) a = cc a.is
+  rests own mode (replies.Found kind bytes) a = cc a.is
+  rests own mode (replies.Header header) a = cc a.is
+  rests own mode (replies.Tested there) a = cc a.is
+  rests own mode replies.NotFound a = cc a.is
+  rests own mode (replies.Wrote id) a = cc a.is
+
+  -- a reply ends it
+  pub ended : (reply : Reply) (status : Status) → ¬ (Before (replied reply status))
+  ended reply Free a = cc a.is
+  ended reply (Resting own mode) a = cc a.is
+  ended reply (Working own mode since turns work) a = rests own mode reply a
+
+  fed_before : (own : Store) (mode : Bool) (since turns : ℕ) (work : Work) (answer : DiskAnswer) → Before (turned (Some answer) (Working own mode since turns work)) → Before (Working own mode since turns work)
+  fed_before own mode since turns (Opening state) answer a = absurd (cc a.is)
+  fed_before own mode since turns (Calling (Looking state)) answer a = absurd (cc a.is)
+  fed_before own mode since turns (Calling (Written reply)) answer a = absurd (cc a.is)
+  fed_before own mode since turns (Calling (Writing folder)) answer a =
+      let one : own ≡ store = cc a.is in
+      let two : mode ≡ ignoring = cc a.is in
+      let three : since ≡ begun = cc a.is in
+      record { turns = turns; folder = folder; is = ap (λ o. Working o mode since turns (Calling (Writing folder))) one ∙ ap (λ m. Working store m since turns (Calling (Writing folder))) two ∙ ap (λ b. Working store ignoring b turns (Calling (Writing folder))) three }
+
+  turned_before : (told : Option DiskAnswer) (status : Status) → Before (turned told status) → Before status
+  turned_before None status a = a
+  turned_before (Some answer) Free a = absurd (cc a.is)
+  turned_before (Some answer) (Resting own mode) a = absurd (cc a.is)
+  turned_before (Some answer) (Working own mode since turns work) a = fed_before own mode since turns work answer a
+
+  ignoring_before : (status : Status) → Before (ignoring_from status) → Before status
+  ignoring_before Free a = a
+  ignoring_before (Resting own mode) a = absurd (cc a.is)
+  ignoring_before (Working own mode since turns work) a = a
+
+  started_before : (number : ℕ) (call : Call) (status : Status) → begun < number → Before (started number call status) → Before status
+  started_before number call Free soon a = a
+  started_before number call (Resting own mode) soon a = absurd (let same : number ≡ begun = cc a.is in omega (arith, same, soon))
+  started_before number call (Working own mode since turns work) soon a = a
+
+  module _ (table : ℕ → Status) (handle : ℕ) where
+    set_before : (number : ℕ) (status : Status) → (Before status → Before (table number)) → Before (with_status table number status handle) → Before (table handle)
+    set_before number status back = by_number (handle == number) refl
+      where
+        by_number : (same : Bool) → (handle == number) ≡ same → Before (if same then status else table handle) → Before (table handle)
+        by_number true is a = subst (λ n. Before (table n)) (sym (eqb-true handle number is)) (back a)
+        by_number false is a = a
+
+    pub write_before : (number : ℕ) (step : Step) (outcome : Outcome) (told : Option DiskAnswer) → begun < number → Before (status_after number step outcome told table handle) → Before (table handle)
+    write_before number (steps.Open h path folders replacements options) outcomes.Applied told soon a = set_before h _ (λ b. absurd (cc b.is)) a
+    write_before number (steps.Open h path folders replacements options) outcomes.Pending told soon a = a
+    write_before number (steps.Open h path folders replacements options) (outcomes.Reply reply) told soon a = a
+    write_before number (steps.Open h path folders replacements options) (outcomes.Misuse why) told soon a = a
+    write_before number (steps.Close h) outcomes.Applied told soon a = set_before h _ (λ b. absurd (cc b.is)) a
+    write_before number (steps.Close h) outcomes.Pending told soon a = a
+    write_before number (steps.Close h) (outcomes.Reply reply) told soon a = a
+    write_before number (steps.Close h) (outcomes.Misuse why) told soon a = a
+    write_before number (steps.Ignore h) outcomes.Applied told soon a = set_before h _ (ignoring_before (table h)) a
+    write_before number (steps.Ignore h) outcomes.Pending told soon a = a
+    write_before number (steps.Ignore h) (outcomes.Reply reply) told soon a = a
+    write_before number (steps.Ignore h) (outcomes.Misuse why) told soon a = a
+    write_before number (steps.Start h call) outcomes.Applied told soon a = set_before h _ (started_before number call (table h) soon) a
+    write_before number (steps.Start h call) outcomes.Pending told soon a = a
+    write_before number (steps.Start h call) (outcomes.Reply reply) told soon a = a
+    write_before number (steps.Start h call) (outcomes.Misuse why) told soon a = a
+    write_before number (steps.Turn h) outcomes.Applied told soon a = a
+    write_before number (steps.Turn h) outcomes.Pending told soon a = set_before h _ (turned_before told (table h)) a
+    write_before number (steps.Turn h) (outcomes.Reply reply) told soon a = set_before h _ (λ b. absurd (ended reply (table h) b)) a
+    write_before number (steps.Turn h) (outcomes.Misuse why) told soon a = a
+    write_before number (steps.Disk change) outcomes.Applied told soon a = a
+    write_before number (steps.Disk change) outcomes.Pending told soon a = a
+    write_before number (steps.Disk change) (outcomes.Reply reply) told soon a = a
+    write_before number (steps.Disk change) (outcomes.Misuse why) told soon a = a

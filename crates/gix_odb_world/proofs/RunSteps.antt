@@ -1,0 +1,254 @@
+-- Laws of the events of a lawful run, one by one: what each does to the tree, and that each tree is one.
+use Rattle.std.proofs.Common.{◌≡◌, ◌⊎◌, inl, inr, ℕ, zero, suc, ◌+◌, ◌<◌, ◌≤◌, Bool, true, false, List, [], ◌∷◌, ◌++◌, length, take, Option, Some, None, refl, sym, ap, ◌∙◌, subst, arith}
+use Rattle.std.specs.Prelude.{slice_get, if◌then◌else◌}
+use Rattle.odb_disk.specs.Ask.{change_of_ask}
+use Rattle.odb_disk.specs.MemDisk.{Volume, after_outside_change, next_fails}
+use Rattle.odb_disk.specs.Tree.{IsTree, Tree, tree_of}
+use Rattle.odb_disk.specs.Tree.Change.{changed, is_possible}
+use Rattle.odb_disk.specs.Tree.Write.{written}
+use Rattle.odb_disk.specs.declared.ask.DiskAsk.{DiskAsk}
+use Rattle.odb_disk.specs.declared.change.Change.{Change}
+use Rattle.odb_disk.proofs.TreeLemmas.Changed.{IsTree-changed, after_change-tree, is_possible-tree_of}
+use Rattle.odb_disk.proofs.WriteLaws.{IsTree-asked, tree_of-written}
+use Rattle.gix_odb_world.specs.declared.record.Did.{Did}
+use Rattle.gix_odb_world.specs.declared.record.Did.TheVariants.{Nothing}
+use Rattle.gix_odb_world.specs.declared.step.Outcome.{Outcome}
+use Rattle.gix_odb_world.specs.declared.step.Outcome.TheVariants as outcomes
+use Rattle.gix_odb_world.specs.declared.step.Step.{Step}
+use Rattle.gix_odb_world.specs.declared.step.Step.TheVariants as steps
+use Rattle.gix_odb_world.specs.declared.step.Why.{Why}
+use Rattle.gix_odb_world.specs.declared.work.Work.{Work}
+use Rattle.gix_odb_world.specs.Event.{Event, Free, Resting, Status, Store, Working, status_after, status_of}
+use Rattle.gix_odb_world.specs.Headline.{ChangesAs, IsLawful, Law, Suits, Turns, Works}
+use Rattle.gix_odb_world.specs.Run.{change_by, disk_after, disk_after_did, disk_after_record, tree_at}
+use Rattle.gix_odb_world.specs.Undisturbed.{IsOutside}
+use Rattle.gix_odb_world.specs.Valid.{misuse_of, phase_of, why_not_after, why_not_running}
+use Rattle.gix_odb_world.proofs.RunLemmas.{disk_after-push, status_of-push}
+
+-- ---- fronts of a list
+
+take_suc : {A : Type 0} (xs : List A) (place : ℕ) (x : A) → slice_get xs place ≡ Some x → take (suc place) xs ≡ take place xs ++ x ∷ []
+take_suc [] place x is = absurd (cc)
+take_suc (z ∷ zs) zero x is = let same : z ≡ x = cc in ap (λ y. y ∷ []) same
+take_suc (z ∷ zs) (suc place) x is = ap (λ ys. z ∷ ys) (take_suc zs place x is)
+
+pub take_next : {A : Type 0} (xs : List A) (place : ℕ) (x : A) → slice_get xs place ≡ Some x → take (place + 1) xs ≡ take place xs ++ x ∷ []
+take_next xs place x is = let next : place + 1 ≡ suc place = omega arith in ap (λ n. take n xs) next ∙ take_suc xs place x is
+
+pub take_none : {A : Type 0} (xs : List A) (place : ℕ) → slice_get xs place ≡ None → take (suc place) xs ≡ take place xs
+take_none [] zero is = refl
+take_none [] (suc place) is = refl
+take_none (z ∷ zs) zero is = absurd (cc)
+take_none (z ∷ zs) (suc place) is = ap (λ ys. z ∷ ys) (take_none zs place is)
+
+pub none_beyond : {A : Type 0} (xs : List A) (place : ℕ) → slice_get xs place ≡ None → length xs ≤ place
+none_beyond [] place is = omega arith
+none_beyond (z ∷ zs) zero is = absurd (cc)
+none_beyond (z ∷ zs) (suc place) is = omega (arith, none_beyond zs place is)
+
+-- at a place an event stands, or the run is over
+pub event_or_end : (events : List Event) (place : ℕ) → ((e : Event) × (slice_get events place ≡ Some e)) ⊎ (slice_get events place ≡ None)
+event_or_end events place = elim (slice_get events place) as (λ o. slice_get events place ≡ o → ((e : Event) × (slice_get events place ≡ Some e)) ⊎ (slice_get events place ≡ None)) [
+  | Some e ↦ λ is. inl (e, is)
+  | None ↦ λ is. inr is
+] refl
+
+-- the front of a list has what stands there
+pub there_in_front : {A : Type 0} (xs : List A) (place count : ℕ) (x : A) → place < count → slice_get xs place ≡ Some x → slice_get (take count xs) place ≡ Some x
+there_in_front [] place count x within is = absurd (cc)
+there_in_front (z ∷ zs) place zero x within is = absurd (omega (arith, within))
+there_in_front (z ∷ zs) zero (suc count) x within is = is
+there_in_front (z ∷ zs) (suc place) (suc count) x within is = there_in_front zs place count x (omega (arith, within)) is
+
+pub there_in_whole : {A : Type 0} (xs : List A) (place count : ℕ) (x : A) → slice_get (take count xs) place ≡ Some x → (place < count) × (slice_get xs place ≡ Some x)
+there_in_whole [] place zero x is = absurd (cc)
+there_in_whole [] place (suc count) x is = absurd (cc)
+there_in_whole (z ∷ zs) place zero x is = absurd (cc)
+there_in_whole (z ∷ zs) zero (suc count) x is = (omega arith, is)
+there_in_whole (z ∷ zs) (suc place) (suc count) x is = let rest = there_in_whole zs place count x is in (omega (arith, rest.0), rest.1)
+
+pub front_of_front : {A : Type 0} (xs : List A) (place count : ℕ) → place ≤ count → take place (take count xs) ≡ take place xs
+front_of_front [] zero zero within = refl
+front_of_front [] zero (suc count) within = refl
+front_of_front [] (suc place) zero within = refl
+front_of_front [] (suc place) (suc count) within = refl
+front_of_front (z ∷ zs) zero zero within = refl
+front_of_front (z ∷ zs) zero (suc count) within = refl
+front_of_front (z ∷ zs) (suc place) zero within = absurd (omega (arith, within))
+front_of_front (z ∷ zs) (suc place) (suc count) within = ap (λ ys. z ∷ ys) (front_of_front zs place count (omega (arith, within)))
+
+pub length_take : {A : Type 0} (xs : List A) (place : ℕ) (x : A) → slice_get xs place ≡ Some x → length (take place xs) ≡ place
+length_take [] place x is = absurd (cc)
+length_take (z ∷ zs) zero x is = refl
+length_take (z ∷ zs) (suc place) x is = ap (λ n. suc n) (length_take zs place x is)
+
+-- ---- what an event is
+
+-- a handle was turned, and made the call of the disk that its work names
+pub record IsTurned (first : Volume) (past : List Event) (e : Event) : Type 0 where
+  pub handle : ℕ
+  pub store : Store
+  pub ignoring : Bool
+  pub begun : ℕ
+  pub turns : ℕ
+  pub work : Work
+  pub turn : Turns past e handle store ignoring begun turns work
+  pub works : Works (disk_after first past) store work e
+
+-- another program made a change, which was possible
+pub record IsMade (first : Volume) (past : List Event) (e : Event) : Type 0 where
+  pub change : Change
+  pub outside : IsOutside e
+  pub makes : e.entry.change ≡ Some change
+  pub did : e.entry.did ≡ Nothing
+  pub possible : is_possible (disk_after first past).state change ≡ true
+
+-- nothing changed
+pub record IsQuiet (e : Event) : Type 0 where
+  pub none : e.entry.change ≡ None
+  pub did : e.entry.did ≡ Nothing
+
+pub data Kind (first : Volume) (past : List Event) (e : Event) : Type 0 where
+  Turned : IsTurned first past e → Kind first past e
+  Made : IsMade first past e → Kind first past e
+  Quiet : IsQuiet e → Kind first past e
+
+pub record AtWork (status : Status) : Type 0 where
+  pub store : Store
+  pub ignoring : Bool
+  pub begun : ℕ
+  pub turns : ℕ
+  pub work : Work
+  pub is : status ≡ Working store ignoring begun turns work
+
+at_work : (status : Status) → None ≡ why_not_running (phase_of status) → AtWork status
+at_work Free valid = absurd (cc)
+at_work (Resting store ignoring) valid = absurd (cc)
+at_work (Working store ignoring begun turns work) valid = record { store = store; ignoring = ignoring; begun = begun; turns = turns; work = work; is = refl }
+
+possible_by : (b : Bool) (why : Why) → None ≡ (if b then None else Some why) → b ≡ true
+possible_by true why valid = refl
+possible_by false why valid = absurd (cc)
+
+module _ (first : Volume) (past : List Event) (e : Event) (law : Law first past e) where
+  turned : (handle : ℕ) → e.step ≡ steps.Turn handle → None ≡ why_not_after first past (steps.Turn handle) → Kind first past e
+  turned handle step valid =
+      let a = at_work (status_of past handle) valid in
+      let turn : Turns past e handle a.store a.ignoring a.begun a.turns a.work = record { step = step; status = a.is } in
+      Turned (record { handle = handle; store = a.store; ignoring = a.ignoring; begun = a.begun; turns = a.turns; work = a.work; turn = turn; works = law.worked handle a.store a.ignoring a.begun a.turns a.work turn })
+
+  kind_by : (step : Step) (outcome : Outcome) → e.step ≡ step → e.outcome ≡ outcome → Suits step outcome e.entry.did → ChangesAs step outcome e.entry.change → misuse_of outcome ≡ why_not_after first past step → Kind first past e
+  kind_by (steps.Turn handle) outcomes.Applied s o suits made valid = absurd suits
+  kind_by (steps.Turn handle) outcomes.Pending s o suits made valid = turned handle s valid
+  kind_by (steps.Turn handle) (outcomes.Reply reply) s o suits made valid = turned handle s valid
+  kind_by (steps.Turn handle) (outcomes.Misuse why) s o suits made valid = Quiet (record { none = made; did = suits })
+  kind_by (steps.Disk change) outcomes.Applied s o suits made valid = Made (record { change = change; outside = (change, s, o); makes = made; did = suits; possible = possible_by _ _ valid })
+  kind_by (steps.Disk change) outcomes.Pending s o suits made valid = absurd suits
+  kind_by (steps.Disk change) (outcomes.Reply reply) s o suits made valid = absurd suits
+  kind_by (steps.Disk change) (outcomes.Misuse why) s o suits made valid = Quiet (record { none = made; did = suits })
+  kind_by (steps.Open handle path folders replacements options) outcomes.Applied s o suits made valid = Quiet (record { none = made; did = suits })
+  kind_by (steps.Open handle path folders replacements options) outcomes.Pending s o suits made valid = absurd suits
+  kind_by (steps.Open handle path folders replacements options) (outcomes.Reply reply) s o suits made valid = absurd suits
+  kind_by (steps.Open handle path folders replacements options) (outcomes.Misuse why) s o suits made valid = Quiet (record { none = made; did = suits })
+  kind_by (steps.Close handle) outcomes.Applied s o suits made valid = Quiet (record { none = made; did = suits })
+  kind_by (steps.Close handle) outcomes.Pending s o suits made valid = absurd suits
+  kind_by (steps.Close handle) (outcomes.Reply reply) s o suits made valid = absurd suits
+  kind_by (steps.Close handle) (outcomes.Misuse why) s o suits made valid = Quiet (record { none = made; did = suits })
+  kind_by (steps.Ignore handle) outcomes.Applied s o suits made valid = Quiet (record { none = made; did = suits })
+  kind_by (steps.Ignore handle) outcomes.Pending s o suits made valid = absurd suits
+  kind_by (steps.Ignore handle) (outcomes.Reply reply) s o suits made valid = absurd suits
+  kind_by (steps.Ignore handle) (outcomes.Misuse why) s o suits made valid = Quiet (record { none = made; did = suits })
+  kind_by (steps.Start handle call) outcomes.Applied s o suits made valid = Quiet (record { none = made; did = suits })
+  kind_by (steps.Start handle call) outcomes.Pending s o suits made valid = absurd suits
+  kind_by (steps.Start handle call) (outcomes.Reply reply) s o suits made valid = absurd suits
+  kind_by (steps.Start handle call) (outcomes.Misuse why) s o suits made valid = Quiet (record { none = made; did = suits })
+
+  pub kind_of : Kind first past e
+  kind_of = kind_by e.step e.outcome refl refl law.suits law.change law.valid
+
+-- ---- what it does to the tree
+
+-- a tree was left as it was, or changed
+abbrev pub IsLeft : (before after : Tree) → Option Change → Type 0
+IsLeft before after None = after ≡ before
+IsLeft before after (Some change) = after ≡ changed before change
+
+module _ (first : Volume) (past : List Event) (e : Event) where
+  abbrev pub disk : Volume
+  disk = disk_after first past
+
+  abbrev pub after : Tree
+  after = tree_of (disk_after_record disk e.entry).state
+
+  after_by : (did : Did) (change : Option Change) → e.entry.did ≡ did → e.entry.change ≡ change → after ≡ tree_of (disk_after_did disk did change).state
+  after_by did change did_is change_is = ap (λ d. tree_of (disk_after_did disk d e.entry.change).state) did_is ∙ ap (λ c. tree_of (disk_after_did disk did c).state) change_is
+
+  quietly : IsQuiet e → after ≡ tree_of disk.state
+  quietly q = after_by Nothing None q.did q.none
+
+  made_outside : (m : IsMade first past e) → after ≡ changed (tree_of disk.state) m.change
+  unfolding after_outside_change
+  made_outside m = after_by Nothing (Some m.change) m.did m.makes ∙ after_change-tree disk.state m.change
+
+  left_by_turn : (change : Option Change) → after ≡ tree_of (written disk.state change) → IsLeft (tree_of disk.state) after change
+  left_by_turn None is = is
+  left_by_turn (Some change) is = is ∙ tree_of-written disk.state change
+
+  pub turned_left : (t : IsTurned first past e) → IsLeft (tree_of disk.state) after e.entry.change
+  turned_left t = left_by_turn e.entry.change (ap (λ d. tree_of (disk_after_did disk d e.entry.change).state) t.works.asked)
+
+  pub left : Kind first past e → IsLeft (tree_of disk.state) after e.entry.change
+  left (Turned t) = turned_left t
+  left (Made m) = subst (IsLeft (tree_of disk.state) after) (sym m.makes) (made_outside m)
+  left (Quiet q) = subst (IsLeft (tree_of disk.state) after) (sym q.none) (quietly q)
+
+pub change_by_some : (disk : Volume) (ask : DiskAsk) (change : Change) → change_by disk ask ≡ Some change → change_of_ask (tree_of disk.state) ask ≡ Some change
+change_by_some disk ask change is = by_failing (next_fails disk) is
+  where
+    by_failing : (fails : Bool) → (if fails then None else change_of_ask (tree_of disk.state) ask) ≡ Some change → change_of_ask (tree_of disk.state) ask ≡ Some change
+    by_failing true e = absurd (cc e)
+    by_failing false e = e
+
+tree_after : (first : Volume) (past : List Event) (e : Event) → IsTree (tree_of (disk_after first past).state) → Kind first past e → IsTree (after first past e)
+tree_after first past e is_tree (Quiet q) = subst IsTree (sym (quietly first past e q)) is_tree
+tree_after first past e is_tree (Made m) =
+    subst IsTree (sym (made_outside first past e m))
+    (IsTree-changed (tree_of (disk_after first past).state) m.change is_tree (sym (is_possible-tree_of (disk_after first past).state m.change) ∙ m.possible))
+tree_after first past e is_tree (Turned t) = by_change e.entry.change refl (turned_left first past e t)
+  where
+    by_change : (change : Option Change) → e.entry.change ≡ change → IsLeft (tree_of (disk_after first past).state) (after first past e) change → IsTree (after first past e)
+    by_change None is left = subst IsTree (sym left) is_tree
+    by_change (Some c) is left =
+        subst IsTree (sym left) (IsTree-asked (tree_of (disk_after first past).state) is_tree t.works.ask c (change_by_some (disk_after first past) t.works.ask c (sym t.works.changed ∙ is)))
+
+-- ---- along a run
+
+module _ (first : Volume) (events : List Event) (start : IsTree (tree_of first.state)) (lawful : IsLawful first events) where
+  pub kind_at : (place : ℕ) (e : Event) → slice_get events place ≡ Some e → Kind first (take place events) e
+  kind_at place e there = kind_of first (take place events) e (lawful place e there)
+
+  pub tree_next : (place : ℕ) (e : Event) → slice_get events place ≡ Some e → tree_at first events (place + 1) ≡ after first (take place events) e
+  tree_next place e there =
+      ap (λ es. tree_of (disk_after first es).state) (take_next events place e there) ∙ ap (λ (d : Volume). tree_of d.state) (disk_after-push first (take place events) e)
+
+  -- the tree after an event, by its change
+  pub left_at : (place : ℕ) (e : Event) → slice_get events place ≡ Some e → IsLeft (tree_at first events place) (tree_at first events (place + 1)) e.entry.change
+  left_at place e there = subst (λ u. IsLeft (tree_at first events place) u e.entry.change) (sym (tree_next place e there)) (left first (take place events) e (kind_at place e there))
+
+  pub status_next : (place : ℕ) (e : Event) → slice_get events place ≡ Some e → status_of (take (place + 1) events) ≡ status_after (place + 1) e.step e.outcome e.told (status_of (take place events))
+  status_next place e there =
+      ap status_of (take_next events place e there) ∙ status_of-push (take place events) e
+      ∙ ap (λ n. status_after (n + 1) e.step e.outcome e.told (status_of (take place events))) (length_take events place e there)
+
+  tree_zero : IsTree (tree_at first events 0)
+  unfolding disk_after
+  tree_zero = start
+
+  pub is_tree_at : (place : ℕ) → IsTree (tree_at first events place)
+  is_tree_at zero = tree_zero
+  is_tree_at (suc place) = elim (event_or_end events place) [
+    | inl at ↦
+        let next : suc place ≡ place + 1 = omega arith in
+        subst (λ n. IsTree (tree_at first events n)) (sym next) (subst IsTree (sym (tree_next place at.0 at.1)) (tree_after first (take place events) at.0 (is_tree_at place) (kind_at place at.0 at.1)))
+    | inr over ↦ subst (λ es. IsTree (tree_of (disk_after first es).state)) (sym (take_none events place over)) (is_tree_at place)
+  ]

@@ -1,0 +1,153 @@
+-- The change that a turn of a running write makes is one of its five.
+use Rattle.std.proofs.Common.{◌≡◌, ℕ, ◌<◌, ◌≤◌, ◌^◌, List, length, drop, Option, Some, None, refl, sym, subst, arith, inl, inr}
+use Rattle.std.proofs.lemmas.List.{length-take}
+use Rattle.odb_base.specs.Path.{Path}
+use Rattle.odb_disk.specs.MemDisk.{Volume}
+use Rattle.odb_disk.specs.Tree.{Tree, tree_of}
+use Rattle.odb_disk.specs.Tree.Write.{change_of_append, change_of_make_dir, change_of_new_file, change_of_remove, change_of_rename}
+use Rattle.odb_disk.specs.declared.ask.DiskAsk.TheVariants as asks
+use Rattle.odb_disk.specs.declared.change.Change.{Change}
+use Rattle.odb_disk.proofs.TreeLemmas.Write.{movable_at, removable_at, replaceable_at, vacant_at}
+use Rattle.odb_disk.proofs.WayWriteLaws.{append_change, make_dir_change, new_file_change, remove_change, rename_change}
+use Rattle.gix_hash.specs.declared.object_id.ObjectId.{ObjectId}
+use Rattle.gix_object.specs.Loose.{header_of}
+use Rattle.gix_object.specs.Loose.Laws.{length-header_of-fits}
+use Rattle.gix_odb_loose.specs.Exchanges.{Exchange}
+use Rattle.gix_odb_loose.specs.LooseFile.{loose_path}
+use Rattle.gix_odb_loose.specs.WriteHistory.{GoesWell, IsHistory, IsStopped}
+use Rattle.gix_odb_loose.specs.WriteJobs.{piece_of}
+use Rattle.gix_odb_loose.specs.WriteOrder.{number_made, prefix_path, room_behind, temp_path}
+use Rattle.gix_odb_loose.specs.WriteStreams.{OtherLength}
+use Rattle.gix_odb_loose.specs.declared.call.LooseCall.{LooseCall}
+use Rattle.gix_odb_loose.specs.declared.write.Message.TheVariants as messages
+use Rattle.gix_odb_loose.specs.declared.write_call.Refusal.{Refusal}
+use Rattle.gix_odb_loose.specs.declared.write_call.Refusal.TheVariants as refusals
+use Rattle.gix_odb_loose.specs.declared.write_call.WriteHead.{WriteHead}
+use Rattle.gix_odb_loose.specs.declared.write_call.WriteStage.{WriteStage}
+use Rattle.gix_odb_loose.specs.declared.write_call.WriteStage.TheVariants as stages
+use Rattle.gix_odb_world.specs.declared.call_state.CallState.TheVariants.{Writing}
+use Rattle.gix_odb_world.specs.declared.work.Work.TheVariants.{Calling}
+use Rattle.gix_odb_world.specs.Event.{Event}
+use Rattle.gix_odb_world.specs.Headline.{ChangesInWork, IsOneOfFive}
+use Rattle.gix_odb_world.specs.Run.{change_by}
+use Rattle.gix_odb_world.specs.Running.{IsWriting, StandsAt, write_at}
+use Rattle.gix_odb_world.specs.Writing.{ToWrite, head_to_write, name_to_write, number_at}
+use Rattle.gix_odb_world.proofs.WriteAsk.{change_by-all, told_append, told_make_dir, told_new_file, told_remove, told_rename}
+use Rattle.gix_odb_world.proofs.WriteGoes.{ask_at_stage}
+use Rattle.gix_odb_world.proofs.WriteTimeLemmas.{room_small}
+
+-- ---- its number
+
+module _ (head : WriteHead) (Named : ObjectId → Type 0) (Counted : ℕ → Type 0) where
+  well_below : (stage : WriteStage) (appended : List ℕ) (past : List Exchange) → GoesWell head Named appended stage past → number_at stage < 16
+  well_below (stages.Making number) appended past well = well.0
+  well_below (stages.Heading number) appended past well = well.2
+  well_below (stages.Filling number written) appended past well = well.1.below
+  well_below (stages.Foldering number id) appended past well = well.2.below
+  well_below (stages.Moving number id) appended past well = well.2.filled.below
+  well_below (stages.Removing number refusal) appended past well = absurd well
+
+  made_at : (stage : WriteStage) (number : ℕ) → number_made stage ≡ Some number → number_at stage < 16 → number < 16
+  made_at (stages.Making number) other made below = absurd (cc made)
+  made_at (stages.Heading number) other made below = let same : number ≡ other = cc made in subst (λ n. n < 16) same below
+  made_at (stages.Filling number written) other made below = let same : number ≡ other = cc made in subst (λ n. n < 16) same below
+  made_at (stages.Foldering number id) other made below = let same : number ≡ other = cc made in subst (λ n. n < 16) same below
+  made_at (stages.Moving number id) other made below = let same : number ≡ other = cc made in subst (λ n. n < 16) same below
+  made_at (stages.Removing number refusal) other made below = let same : number ≡ other = cc made in subst (λ n. n < 16) same below
+
+  stopped_below : (number : ℕ) (refusal : Refusal) (past : List Exchange) → IsStopped head Named ⊥ Counted number refusal past → number < 16
+  stopped_below number (refusals.Io messages.CreateTempFile) past h = absurd h
+  stopped_below number (refusals.Io messages.WriteHeader) past h = well_below (stages.Heading number) h.appended h.before h.well
+  stopped_below number (refusals.Io messages.StreamData) past h = elim h [ inl failed ↦ absurd failed.0 | inr one ↦ well_below (stages.Filling number one.0) one.1.appended one.1.before one.1.well ]
+  stopped_below number refusals.IoRaw past h = well_below (stages.Foldering number h.0) h.1.appended h.1.before h.1.well
+  stopped_below number (refusals.Persist id) past h = well_below (stages.Moving number id) h.appended h.before h.well
+  stopped_below number (refusals.SizeMismatch actual) past h = h.1.1.below
+  stopped_below number refusals.NoMemory past h = made_at h.0 number h.1 (well_below h.0 h.2.appended h.2.before h.2.well)
+
+  below : (stage : WriteStage) (appended : List ℕ) (past : List Exchange) → IsHistory head Named ⊥ Counted appended stage past → number_at stage < 16
+  below (stages.Making number) appended past h = well_below (stages.Making number) appended past h
+  below (stages.Heading number) appended past h = well_below (stages.Heading number) appended past h
+  below (stages.Filling number written) appended past h = well_below (stages.Filling number written) appended past h
+  below (stages.Foldering number id) appended past h = well_below (stages.Foldering number id) appended past h
+  below (stages.Moving number id) appended past h = well_below (stages.Moving number id) appended past h
+  below (stages.Removing number refusal) appended past h = stopped_below number refusal past h
+
+-- ---- its change
+
+module _ (disk : Volume) (objects : Path) (number : ℕ) (id : ObjectId) where
+  abbrev tree : Tree
+  tree = tree_of disk.state
+
+  abbrev temporary : Path
+  temporary = temp_path objects number
+
+  abbrev One : Change → Type 0
+  One change = IsOneOfFive tree objects number id change
+
+  abbrev Five : Option Change → Type 0
+  Five None = Unit {0}
+  Five (Some change) = One change
+
+  five_made : Five (change_by disk (asks.NewFile temporary))
+  five_made =
+      change_by-all disk (asks.NewFile temporary) (change_of_new_file tree temporary) (told_new_file tree temporary) Five tt
+      (λ change told. let c = new_file_change tree temporary change told in subst One (sym c.2) (refl, refl, (vacant_at tree temporary c.0 c.1).is))
+
+  five_appended : (more : List ℕ) → length more ≤ 65536 → Five (change_by disk (asks.Append temporary more))
+  five_appended more few =
+      change_by-all disk (asks.Append temporary more) (change_of_append tree temporary more) (told_append tree temporary more) Five tt
+      (λ change told. let c = append_change tree temporary change more told in subst One (sym c.2) (few, c.1))
+
+  five_foldered : Five (change_by disk (asks.MakeDir (prefix_path objects id)))
+  five_foldered =
+      change_by-all disk (asks.MakeDir (prefix_path objects id)) (change_of_make_dir tree (prefix_path objects id)) (told_make_dir tree (prefix_path objects id)) Five tt
+      (λ change told. let c = make_dir_change tree (prefix_path objects id) change told in subst One (sym c.2) (vacant_at tree (prefix_path objects id) c.0 c.1).is)
+
+  five_moved : Five (change_by disk (asks.Rename temporary (loose_path objects id)))
+  five_moved =
+      change_by-all disk (asks.Rename temporary (loose_path objects id)) (change_of_rename tree temporary (loose_path objects id)) (told_rename tree temporary (loose_path objects id)) Five tt
+      (λ change told.
+      let c = rename_change tree temporary change (loose_path objects id) told in
+      subst One (sym c.4) ((movable_at tree temporary c.0 c.2).is, (replaceable_at tree (loose_path objects id) c.1 c.3).is))
+
+  five_removed : Five (change_by disk (asks.Remove temporary))
+  five_removed =
+      change_by-all disk (asks.Remove temporary) (change_of_remove tree temporary) (told_remove tree temporary) Five tt
+      (λ change told. let c = remove_change tree temporary change told in subst One (sym c.2) (removable_at tree temporary c.0 c.1).is)
+
+module _ (first : Volume) (events : List Event) (handle begun turns : ℕ) (disk : Volume) where
+  abbrev FiveAt : ToWrite → WriteStage → Option Change → Type 0
+  FiveAt w stage change = Five disk w.objects (number_at stage) (name_to_write w) change
+
+  -- each stage of a write makes one of its five changes, or none
+  five_at : (w : ToWrite) (stage : WriteStage) → w.size < 2 ^ 64 → StandsAt first events handle begun turns w stage → FiveAt w stage (change_by disk (ask_at_stage w stage))
+  five_at w (stages.Making number) fits s = five_made disk w.objects number (name_to_write w)
+  five_at w (stages.Heading number) fits s =
+      let few = length-header_of-fits w.kind w.size fits in five_appended disk w.objects number (name_to_write w) (header_of w.kind w.size) (omega (arith, few))
+  five_at w (stages.Filling number written) fits s =
+      let few = length-take (room_behind w.size written) (drop written w.bytes) in
+      let small = room_small w.size written in
+      five_appended disk w.objects number (name_to_write w) (piece_of w.size w.bytes (Some written)) (omega (arith, few, small))
+  five_at w (stages.Foldering number id) fits s =
+      subst (λ (own : ObjectId). Five disk w.objects number own (change_by disk (asks.MakeDir (prefix_path w.objects id)))) s.history.1 (five_foldered disk w.objects number id)
+  five_at w (stages.Moving number id) fits s =
+      subst (λ (own : ObjectId). Five disk w.objects number own (change_by disk (asks.Rename (temp_path w.objects number) (loose_path w.objects id)))) s.history.1 (five_moved disk w.objects number id)
+  five_at w (stages.Removing number refusal) fits s = five_removed disk w.objects number (name_to_write w)
+
+  module _ (objects : Path) (folder : LooseCall) (writes : IsWriting first events handle begun turns objects folder) where
+    abbrev pub w : ToWrite
+    w = writes.write
+
+    abbrev pub stage : WriteStage
+    stage = writes.stage
+
+    by_change : (change : Option Change) → FiveAt w stage change → ChangesInWork (tree_of disk.state) w.objects (Calling (Writing (write_at w stage))) change
+    by_change None five = tt
+    by_change (Some change) five = (below (head_to_write w) (λ id. id ≡ name_to_write w) (λ n. OtherLength (Some w.bytes) w.size n) stage writes.stands.appended writes.stands.past writes.stands.history, five)
+
+    -- so does a running write
+    pub five_written : ChangesInWork (tree_of disk.state) objects (Calling (Writing folder)) (change_by disk (ask_at_stage w stage))
+    five_written =
+        subst (λ (call : LooseCall). ChangesInWork (tree_of disk.state) objects (Calling (Writing call)) (change_by disk (ask_at_stage w stage))) (sym writes.is)
+        (subst (λ (o : Path). ChangesInWork (tree_of disk.state) o (Calling (Writing (write_at w stage))) (change_by disk (ask_at_stage w stage))) writes.into
+        (by_change (change_by disk (ask_at_stage w stage)) (five_at w stage writes.fits writes.stands)))

@@ -1,0 +1,69 @@
+-- How a write on a handle ends, and what that promises.
+use Rattle.std.specs.Prelude.{◌≡◌, ◌⊎◌, ℕ, ◌+◌, ◌≤◌, false, List, [], ◌∷◌, ◌++◌, length, Option, Some, None, Ok}
+use Rattle.odb_base.specs.Path.{Path}
+use Rattle.odb_disk.specs.MemDisk.{Volume}
+use Rattle.odb_disk.specs.Tree.Follow.{read_of}
+use Rattle.odb_disk.specs.Tree.Way.{crosses}
+use Rattle.odb_disk.specs.Tree.Write.{change_of_rename}
+use Rattle.odb_disk.specs.declared.ask.DiskAnswer.{DiskAnswer}
+use Rattle.odb_disk.specs.declared.ask.DiskAnswer.TheVariants as answers
+use Rattle.odb_disk.specs.declared.ask.DiskAsk.TheVariants as asks
+use Rattle.odb_disk.specs.declared.change.Change.TheVariants.{Rename}
+use Rattle.gix_hash.specs.declared.object_id.ObjectId.{ObjectId}
+use Rattle.gix_object.specs.Loose.{header_of}
+use Rattle.gix_odb_loose.specs.LooseFile.{loose_path}
+use Rattle.gix_odb_loose.specs.WriteOrder.{temp_path}
+use Rattle.gix_odb_loose.specs.declared.write.Error as loose_write
+use Rattle.gix_odb_loose.specs.declared.write.Error.TheVariants as loose_errors
+use Rattle.gix_odb_loose.specs.declared.write.Message.TheVariants as messages
+use Rattle.gix_odb_world.specs.Event.{Event}
+use Rattle.gix_odb_world.specs.Run.{BegunBy, tree_at}
+use Rattle.gix_odb_world.specs.Writing.{AskedAt, CauseOfWrite, ChangedNothing, LeftAlone, MadeOnly, RenamedNothing, ToWrite, call_to_write, name_to_write}
+use Rattle.gix_odb_world.specs.declared.call.CallError.TheVariants as call_errors
+use Rattle.gix_odb_world.specs.declared.call.Reply.{Reply}
+use Rattle.gix_odb_world.specs.declared.call.Reply.TheVariants as replies
+use Rattle.gix_odb_world.specs.declared.write.Error.TheVariants as write_errors
+
+-- A write that gave the object its name, in the last event. The temporary file was made at the place `made`.
+pub record HasWritten (first : Volume) (events : List Event) (handle begun : ℕ) (w : ToWrite) (id : ObjectId) : Type 0 where
+  pub size : length w.bytes ≡ w.size
+  pub name : id ≡ name_to_write w
+  pub past : List Event
+  pub last : Event
+  pub is : events ≡ past ++ last ∷ []
+  pub number : ℕ
+  pub made : ℕ
+  pub later : begun ≤ made
+  pub makes : AskedAt first events handle made (asks.NewFile (temp_path w.objects number)) answers.Done
+  -- the last turn alone renamed
+  pub source : Path
+  pub target : Path
+  pub renames : change_of_rename (tree_at first events (length past)) (temp_path w.objects number) (loose_path w.objects id) ≡ Ok (Rename source target)
+  pub change : last.entry.change ≡ Some (Rename source target)
+  pub only : RenamedNothing past handle begun
+  -- where nobody else touched the file, and no link was replaced on the way of the object's path, this reads as the object
+  pub reads : LeftAlone first events handle (temp_path w.objects number) (made + 1) (length past) → crosses (tree_at first events (length past)) (loose_path w.objects id) target ≡ false
+      → read_of (tree_at first events (length past + 1)) (loose_path w.objects id) ≡ Ok (header_of w.kind w.size ++ w.bytes, 0)
+
+-- A refused write made no name of an object. It made no file, or its last turn asked to remove the one that it made.
+pub record WasRefused (first : Volume) (events : List Event) (handle begun : ℕ) (w : ToWrite) (error : loose_write.Error) : Type 0 where
+  pub unnamed : RenamedNothing events handle begun
+  pub made : Option ℕ
+  pub makes : MadeOnly events handle begun w.objects made
+  pub cleared : (made ≡ None) ⊎ ((number : ℕ) × (past : ℕ) × (made ≡ Some number) × (length events ≡ past + 1) × ((answer : DiskAnswer) × AskedAt first events handle past (asks.Remove (temp_path w.objects number)) answer))
+  -- where no temporary file could be made, it changed nothing
+  pub untouched : (at : Path) → error ≡ loose_errors.Io messages.CreateTempFile at → ChangedNothing events handle begun
+  pub cause : CauseOfWrite first events handle begun w error
+
+-- what the reply to a write promises. A write ends with no other reply
+abbrev pub PromiseOfWrite : Volume → List Event → (handle begun : ℕ) → ToWrite → Reply → Type 0
+PromiseOfWrite first events handle begun w (replies.Wrote id) = HasWritten first events handle begun w id
+PromiseOfWrite first events handle begun w (replies.Refused (call_errors.Write (write_errors.LooseWrite error))) = WasRefused first events handle begun w error
+PromiseOfWrite first events handle begun w reply = ⊥
+
+-- the same of the write that the handle began
+pub record KeepsWrite (first : Volume) (events : List Event) (handle begun : ℕ) (objects : Path) (reply : Reply) : Type 0 where
+  pub write : ToWrite
+  pub begins : BegunBy events handle begun (call_to_write write)
+  pub into : write.objects ≡ objects
+  pub keeps : PromiseOfWrite first events handle begun write reply

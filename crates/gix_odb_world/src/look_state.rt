@@ -1,0 +1,298 @@
+//! The order of work of a query on a handle: the loose objects of each folder of the store, one after another.
+ghost use Rattle.std.specs.Prelude.{◌≡◌, slice_get, None, IfOk};
+ghost use Rattle.gix_odb_world.specs.Handle.{sought_by};
+ghost use Rattle.gix_odb_world.specs.LookOrder.{ask_of, asking, at_next, started};
+ghost use Rattle.gix_odb_world.specs.LookOrder.{fed as fed_with, first_of, job_of as loose_job, led as led_to, led_by as leads_to, next_stage as stage_after};
+
+use crate::call::{CallError, Reply};
+use crate::find;
+use crate::handle::HandleState;
+use crate::query::Query;
+use gix_hash::ObjectId;
+use gix_odb_loose::{LooseCall, LooseJob, LooseReply};
+use odb_base::{NoMemory, PathText};
+use odb_disk::{DiskAnswer, DiskAsk};
+use std::alloc::Global;
+
+/// A query on a handle on its way.
+///
+/// `disk_ask` names the next call of the disk, `feed` takes its answer, and so on until the call has its reply.
+#[derive(Debug, Drop, PartialEq, Eq)]
+pub struct LookState {
+    head: Head,
+    stage: Stage,
+}
+
+/// What stays the same in a query.
+#[derive(Clone, Copy, Debug, PartialEq, Eq)]
+pub struct Head {
+    pub query: Query,
+    /// The id that is sought.
+    pub id: ObjectId,
+}
+
+/// Where a call stands.
+#[derive(Debug, Drop, PartialEq, Eq)]
+pub enum Stage {
+    /// The loose objects of a folder are asked.
+    Loose {
+        /// The place of the folder that comes next, among those beside the objects directory.
+        next: usize,
+        /// The first error that a test of presence noted.
+        noted: Option<gix_odb_loose::find::Error>,
+        folder: LooseCall,
+    },
+    Done(Reply),
+}
+
+/// What the reply of one folder leads to.
+pub enum Lead {
+    /// The call ends.
+    Ends(Reply),
+    /// The next folder is asked.
+    Misses,
+    /// The error is noted, and the next folder is asked.
+    Notes(gix_odb_loose::find::Error),
+}
+
+impl LookState {
+    /// A new call. It asks nothing of the disk yet.
+    pub fn start(alloc: Global, handle: &HandleState, query: Query) -> Result<LookState, NoMemory>
+        ensures { IfOk result (λ state. state ≡ started handle.now.objects handle.now.alloc_limit_bytes query (sought_by handle.now query)) }
+    {
+        let id = handle.sought(query);
+        let head = Head { query, id };
+        let folder = head.asked(alloc, &handle.objects, handle.alloc_limit_bytes)?;
+        let stage = Stage::Loose {
+            next: 0,
+            noted: None,
+            folder,
+        };
+        Ok(LookState { head, stage })
+    }
+
+    /// The call of the disk that comes next; there is none where the call is done.
+    pub fn disk_ask(&self, alloc: Global) -> Result<Option<DiskAsk>, NoMemory>
+        ensures { IfOk result (λ ask. ask ≡ ask_of self.now) }
+    {
+        match &self.stage {
+            Stage::Loose { folder, .. } => folder.disk_ask(alloc),
+            Stage::Done(_) => Ok(None),
+        }
+    }
+
+    /// The call after the answer to its call of the disk, on the handle that it was started on.
+    pub fn feed(
+        self,
+        alloc: Global,
+        handle: &HandleState,
+        answer: DiskAnswer,
+    ) -> Result<LookState, NoMemory>
+        ensures { IfOk result (λ state. state ≡ fed_with handle.now.folders handle.now.alloc_limit_bytes self answer) }
+    {
+        let LookState { head, stage } = self;
+        let stage = head.next_stage(alloc, handle, stage, answer)?;
+        Ok(LookState { head, stage })
+    }
+
+    /// The reply of a call that is done, or the call that goes on.
+    pub fn into_reply(self) -> Result<Reply, LookState>
+        ensures { result ≡ Rattle.gix_odb_world.specs.LookOrder.result_of self }
+    {
+        let LookState { head, stage } = self;
+        match stage {
+            Stage::Done(reply) => Ok(reply),
+            Stage::Loose {
+                next,
+                noted,
+                folder,
+            } => Err(LookState {
+                head,
+                stage: Stage::Loose {
+                    next,
+                    noted,
+                    folder,
+                },
+            }),
+        }
+    }
+}
+
+impl Head {
+    // A folder that is asked for the object.
+    fn asked(
+        self,
+        alloc: Global,
+        folder: &PathText,
+        limit: Option<u64>,
+    ) -> Result<LooseCall, NoMemory>
+        ensures { IfOk result (λ folder_call. folder_call ≡ asking limit self.query self.id folder.now) }
+    {
+        let options = gix_odb_loose::Options {
+            alloc_limit_bytes: limit,
+        };
+        let store = gix_odb_loose::Store::at_opts(alloc, folder, self.id.kind(), options)?;
+        LooseCall::start(alloc, &store, job_of(self.query, self.id))
+    }
+
+    // A stage after the answer to its call of the disk.
+    fn next_stage(
+        self,
+        alloc: Global,
+        handle: &HandleState,
+        stage: Stage,
+        answer: DiskAnswer,
+    ) -> Result<Stage, NoMemory>
+        ensures { IfOk result (λ next. next ≡ stage_after handle.now.folders handle.now.alloc_limit_bytes self stage answer) }
+    {
+        match stage {
+            Stage::Loose {
+                next,
+                noted,
+                folder,
+            } => {
+                let mut folder = folder;
+                folder.feed(alloc, answer)?;
+                self.after_folder(alloc, handle, next, noted, folder)
+            }
+            Stage::Done(reply) => Ok(Stage::Done(reply)),
+        }
+    }
+
+    // The stage after a folder was fed an answer.
+    fn after_folder(
+        self,
+        alloc: Global,
+        handle: &HandleState,
+        next: usize,
+        noted: Option<gix_odb_loose::find::Error>,
+        folder: LooseCall,
+    ) -> Result<Stage, NoMemory>
+        ensures { IfOk result (λ stage. stage ≡ Rattle.gix_odb_world.specs.LookOrder.after_folder handle.now.folders handle.now.alloc_limit_bytes self next noted folder) }
+    {
+        if !folder.is_done() {
+            return Ok(Stage::Loose {
+                next,
+                noted,
+                folder,
+            });
+        }
+        match folder.into_reply() {
+            Some(reply) => self.led(alloc, handle, next, noted, led_by(reply)),
+            None => unreachable!("a folder that is done has its reply"),
+        }
+    }
+
+    // The stage that a folder's reply leads to.
+    fn led(
+        self,
+        alloc: Global,
+        handle: &HandleState,
+        next: usize,
+        noted: Option<gix_odb_loose::find::Error>,
+        lead: Lead,
+    ) -> Result<Stage, NoMemory>
+        ensures { IfOk result (λ stage. stage ≡ led_to handle.now.folders handle.now.alloc_limit_bytes self next noted lead) }
+    {
+        match lead {
+            Lead::Ends(reply) => Ok(Stage::Done(reply)),
+            Lead::Misses => self.ask_next(alloc, handle, next, noted),
+            Lead::Notes(error) => self.ask_next(alloc, handle, next, first_error(noted, error)),
+        }
+    }
+
+    // The folder that comes next is asked, or the call ends.
+    fn ask_next(
+        self,
+        alloc: Global,
+        handle: &HandleState,
+        next: usize,
+        noted: Option<gix_odb_loose::find::Error>,
+    ) -> Result<Stage, NoMemory>
+        ensures { IfOk result (λ stage. stage ≡ at_next handle.now.alloc_limit_bytes self next noted (slice_get handle.now.folders next)) }
+    {
+        let folders = handle.folders.as_slice();
+        if next < folders.len() {
+            let folder = self.asked(alloc, &folders[next], handle.alloc_limit_bytes)?;
+            let next = next + 1;
+            Ok(Stage::Loose {
+                next,
+                noted,
+                folder,
+            })
+        } else {
+            Ok(Stage::Done(ended(self.query, noted)))
+        }
+    }
+}
+
+fn job_of(query: Query, id: ObjectId) -> LooseJob
+    ensures { result ≡ loose_job query id }
+{
+    match query {
+        Query::Find(_) => LooseJob::Find(id),
+        Query::Header(_) => LooseJob::Header(id),
+        Query::Test(_) => LooseJob::Contains(id),
+    }
+}
+
+fn led_by(reply: LooseReply) -> Lead
+    ensures { result ≡ leads_to reply }
+{
+    match reply {
+        LooseReply::Contains(answer) => tested(answer),
+        LooseReply::Found(Ok(Some((kind, bytes)))) => Lead::Ends(Reply::Found { kind, bytes }),
+        LooseReply::Header(Ok(Some((size, kind)))) => {
+            Lead::Ends(Reply::Header(find::Header::Loose { kind, size }))
+        }
+        LooseReply::Found(Err(error)) => Lead::Ends(refused(error)),
+        LooseReply::Header(Err(error)) => Lead::Ends(refused(error)),
+        LooseReply::Found(Ok(None)) => Lead::Misses,
+        LooseReply::Header(Ok(None)) => Lead::Misses,
+        // No folder is asked to write.
+        LooseReply::Wrote(_) => Lead::Misses,
+    }
+}
+
+// A look that failed is noted, so that another folder may still answer.
+fn tested(answer: Result<bool, gix_odb_loose::find::Error>) -> Lead
+    ensures { result ≡ Rattle.gix_odb_world.specs.LookOrder.tested_leads answer }
+{
+    match answer {
+        Ok(true) => Lead::Ends(Reply::Tested(true)),
+        Ok(false) => Lead::Misses,
+        Err(gix_odb_loose::find::Error::NoMemory) => {
+            Lead::Ends(refused(gix_odb_loose::find::Error::NoMemory))
+        }
+        Err(error) => Lead::Notes(error),
+    }
+}
+
+fn first_error(
+    noted: Option<gix_odb_loose::find::Error>,
+    error: gix_odb_loose::find::Error,
+) -> Option<gix_odb_loose::find::Error>
+    ensures { result ≡ first_of noted error }
+{
+    match noted {
+        Some(first) => Some(first),
+        None => Some(error),
+    }
+}
+
+fn refused(error: gix_odb_loose::find::Error) -> Reply
+    ensures { result ≡ Rattle.gix_odb_world.specs.LookOrder.refused error }
+{
+    Reply::Refused(CallError::Find(find::Error::Loose(error)))
+}
+
+// The reply where no folder answered.
+fn ended(query: Query, noted: Option<gix_odb_loose::find::Error>) -> Reply
+    ensures { result ≡ Rattle.gix_odb_world.specs.LookOrder.ended query noted }
+{
+    match (noted, query) {
+        (Some(error), _) => refused(error),
+        (None, Query::Test(_)) => Reply::Tested(false),
+        (None, _) => Reply::NotFound,
+    }
+}

@@ -1,0 +1,98 @@
+//! Writes: their ends, and each of their calls that fails.
+use super::played::{told, tree_shown};
+use super::words::compare;
+use crate::World;
+use odb_disk::MemDisk;
+use std::alloc::Global;
+use std::test::Fail;
+
+// An id of the data without their header, a write that answers another id than it wrote under, a length that isn't
+// tested, a temporary file that stays, or a temporary name that is taken though another file has it.
+pub(super) const WRITES: &str = "\
+    make /o; open 0 /o; finish 0|1: 32 slots\n\
+    write 0 5 - hello; finish 0|5: wrote b6fc4c620b67d95f953a5c1c1230aaab5db5a1b0\n\
+    find 0 H; finish 0; header 0 H; finish 0|1: Blob hello; 1: Loose { kind: Blob, size: 5 }\n\
+    write 0 5 - hello; finish 0|5: wrote b6fc4c620b67d95f953a5c1c1230aaab5db5a1b0\n\
+    write 0 0 -; finish 0|4: wrote e69de29bb2d1d6434b8b29ae775ad8c2e48c5391\n\
+    write 0 0 Z; finish 0|4: wrote 0000000000000000000000000000000000000001\n\
+    find 0 Z; finish 0; find 0 E; finish 0|1: Blob ; 1: Blob \n\
+    write 0 6 - hello; finish 0|4: expected 6 bytes of data, and got 5\n\
+    write 0 4 - hello; finish 0|4: expected 4 bytes of data, and got 5\n\
+    write 0 0 - hello; finish 0|4: expected 0 bytes of data, and got 1\n\
+    take /o/tmp_obj_0|misuse ImpossibleChange\n\
+    put /o/tmp_obj_0 x; put /o/tmp_obj_2 y; write 0 5 - hello; turn 0; turn 0; take /o/tmp_obj_1; finish 0|\
+    pending; pending; 2: could not write header to tempfile in /o";
+
+pub(super) const FAULT_STEPS: &str = "\
+    make /o; open 0 /o; finish 0; write 0 5 - hello; finish 0; find 0 H; finish 0; take /o/tmp_obj_0";
+
+// The opening makes call 1, and the write those from 2 on. The last column is of the temporary file that isn't there.
+// An error that is told of another call, a name that stands nevertheless, or a temporary file that is left though it
+// could be removed.
+pub(super) const FAULTS: &str = "\
+    99|1: 32 slots; 5: wrote b6fc4c620b67d95f953a5c1c1230aaab5db5a1b0; 1: Blob hello; misuse ImpossibleChange\n\
+    2|1: 32 slots; 1: could not create named temp file in /o; 1: not found; misuse ImpossibleChange\n\
+    3|1: 32 slots; 3: could not write header to tempfile in /o; 1: not found; misuse ImpossibleChange\n\
+    4|1: 32 slots; 4: could not stream all data into tempfile in /o; 1: not found; misuse ImpossibleChange\n\
+    5|1: 32 slots; 5: could not make the directory of the object; 1: not found; misuse ImpossibleChange\n\
+    6|1: 32 slots; 6: could not turn the temporary file into /o/b6/fc4c620b67d95f953a5c1c1230aaab5db5a1b0; \
+    1: not found; misuse ImpossibleChange\n\
+    3 4|1: 32 slots; 3: could not write header to tempfile in /o; 1: not found\n\
+    4 5|1: 32 slots; 4: could not stream all data into tempfile in /o; 1: not found\n\
+    5 6|1: 32 slots; 5: could not make the directory of the object; 1: not found\n\
+    6 7|1: 32 slots; 6: could not turn the temporary file into /o/b6/fc4c620b67d95f953a5c1c1230aaab5db5a1b0; \
+    1: not found\n\
+    7|1: 32 slots; 5: wrote b6fc4c620b67d95f953a5c1c1230aaab5db5a1b0; \
+    1: could not open or map /o/b6/fc4c620b67d95f953a5c1c1230aaab5db5a1b0; misuse ImpossibleChange";
+
+pub(super) const NAMES_FRONT: &str = "make /o; open 0 /o; finish 0";
+
+// A directory or a file in the way that is told otherwise, or a write that goes to another folder, takes a
+// replacement, or heeds the limit.
+pub(super) const NAMES: &str = "\
+    make /o/b6; write 0 5 - hello; finish 0|5: wrote b6fc4c620b67d95f953a5c1c1230aaab5db5a1b0\n\
+    put /o/b6 x; write 0 5 - hello; finish 0; take /o/tmp_obj_0|\
+    6: could not turn the temporary file into /o/b6/fc4c620b67d95f953a5c1c1230aaab5db5a1b0; misuse ImpossibleChange\n\
+    make /o/b6; make /o:H; write 0 5 - hello; finish 0; find 0 H; finish 0|\
+    6: could not turn the temporary file into /o/b6/fc4c620b67d95f953a5c1c1230aaab5db5a1b0; \
+    1: could not open or map /o/b6/fc4c620b67d95f953a5c1c1230aaab5db5a1b0\n\
+    make /o/b6; put /o:H x; find 0 H; finish 0; write 0 5 - hello; finish 0; find 0 H; finish 0|\
+    1: the loose object has no header; 5: wrote b6fc4c620b67d95f953a5c1c1230aaab5db5a1b0; 1: Blob hello\n\
+    make /p; open 1 /o folder=/p; finish 1; write 1 5 - hello; finish 1; take /o:H; find 1 H; finish 1|\
+    1: 32 slots; 5: wrote b6fc4c620b67d95f953a5c1c1230aaab5db5a1b0; 2: not found\n\
+    open 1 /o replace=H:E limit=0; finish 1; write 1 5 - hello; finish 1; find 1 H; finish 1; find 0 H; finish 0|\
+    1: 32 slots; 5: wrote b6fc4c620b67d95f953a5c1c1230aaab5db5a1b0; 1: not found; 1: Blob hello";
+
+/// A disk on which all temporary names are taken.
+fn taken(alloc: Global) -> Result<MemDisk, Fail> {
+    let mut world = World::new(alloc, MemDisk::new(alloc)?);
+    told(alloc, &mut world, "make /o")?;
+    for number in 0..16_u8 {
+        let step = format!(in alloc; "put /o/tmp_obj_{number} x")?;
+        told(alloc, &mut world, step.as_str())?;
+    }
+    Ok(world.finish().disk)
+}
+
+/// What steps on a disk come to, and the disk after them.
+fn told_on(alloc: Global, disk: MemDisk, steps: &str) -> Result<(String, MemDisk), Fail> {
+    let mut world = World::new(alloc, disk);
+    let told = told(alloc, &mut world, steps)?;
+    Ok((told, world.finish().disk))
+}
+
+// A seventeenth name, one of the others' files that is written or removed, or anything else that changes.
+#[test]
+fn leaves_all_names_that_are_taken(rt: HostRuntime) -> Result<(), Fail> {
+    let alloc = rt.alloc();
+    let disk = taken(alloc)?;
+    let before = tree_shown(alloc, &disk)?;
+    let steps = "open 0 /o; finish 0; write 0 0 -; finish 0";
+    let (found, disk) = told_on(alloc, disk, steps)?;
+    let want = "1: 32 slots; 16: could not create named temp file in /o";
+    compare(steps, found.as_str(), want)?;
+    let after = tree_shown(alloc, &disk)?;
+    compare("the tree", after.as_str(), before.as_str())?;
+    assert!(rt; disk.calls() == 17);
+    Ok(())
+}

@@ -1,0 +1,28 @@
+//! Why a write was refused.
+ghost use Rattle.std.specs.Prelude.{◌≡◌, IfOk};
+
+use odb_base::NoMemory;
+use std::alloc::Global;
+use thiserror::Error;
+
+/// Why a write was refused. No name of an object was made then.
+#[derive(Debug, Drop, PartialEq, Eq, Error)]
+pub enum Error {
+    /// By the loose objects of the objects directory.
+    #[error("{0}")]
+    LooseWrite(gix_odb_loose::write::Error),
+    #[error("out of memory")]
+    NoMemory,
+}
+
+impl Error {
+    /// A copy of the error.
+    pub fn try_clone(&self, alloc: Global) -> Result<Error, NoMemory>
+        ensures { IfOk result (λ copy. copy ≡ self.now) }
+    {
+        match self {
+            Error::LooseWrite(error) => Ok(Error::LooseWrite(error.try_clone(alloc)?)),
+            Error::NoMemory => Ok(Error::NoMemory),
+        }
+    }
+}
