@@ -1,7 +1,7 @@
 #!/usr/bin/env bash
 # Runs each script of this folder and compares what it prints with the `.output` file beside it.
 # The program is the one that `rt ci`, or ../gitodb, built.
-set -u
+set -u -o pipefail
 cd "$(dirname "$0")" || exit 1
 program=${1:-../crates/gitodb/out/gitodb}
 if [ ! -x "$program" ]; then

@@ -1,5 +1,6 @@
 pub mod LineLemmas
 pub mod OptionLemmas
+pub mod ContentLemmas
 pub mod ScriptLemmas
 pub mod SplitLemmas
 mod TextLemmas

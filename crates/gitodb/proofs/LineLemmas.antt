@@ -1,5 +1,5 @@
 -- Laws of lines: what is spelled is read.
-use Rattle.std.proofs.Common.{◌≡◌, ℕ, zero, suc, ◌^◌, ◌<◌, ◌≤◌, ◌==◌, ◌&&◌, Bool, true, false, not, List, [], ◌∷◌, ◌++◌, length, codes, slice_index, ◌/◌, nat_lt, nat_le, ◌≢◌, Some, refl, ◌∙◌, arith}
+use Rattle.std.proofs.Common.{◌≡◌, ℕ, zero, suc, ◌^◌, ◌<◌, ◌≤◌, ◌==◌, ◌&&◌, Bool, true, false, not, List, [], ◌∷◌, ◌++◌, length, codes, nat_lt, nat_le, ◌≢◌, Some, None, refl, ◌∙◌, arith}
 use Rattle.std.specs.Fmt.{decimal}
 use Rattle.std.specs.Char.{is_ascii_digit}
 use Rattle.std.specs.List.{list_all, join_with_byte, AllByRecursion}
@@ -8,8 +8,6 @@ use Rattle.std.proofs.lemmas.Bool.{and_parts, and_from, ne_eqb}
 use Rattle.std.proofs.lemmas.Fmt.{IsAscii-decimal, digits_decimal}
 use Rattle.std.proofs.lemmas.Str.{IsUtf8-append, IsUtf8-from_ascii, is_utf8-from_IsUtf8}
 use Rattle.std.proofs.lemmas.List.Folds.{list_all-append}
-use Rattle.hex.specs.Hex.{lower_digits, encode_with, encode_lower, IsBytes}
-use Rattle.hex.proofs.HexLemmas.{decode_of-encode_lower}
 use Rattle.odb_base.proofs.DecimalLemmas.{own, number_of-decimal, number_below-is}
 use Rattle.odb_base.specs.Path.{Path, is_name, text_of}
 use Rattle.odb_disk.specs.declared.change.Change.TheVariants as changes
@@ -29,9 +27,9 @@ use Rattle.gitodb.specs.declared.script.word.Word.TheVariants as words
 use Rattle.gitodb.specs.Word.{word_of, change_word_of}
 use Rattle.gix_object.specs.declared.kind.Kind.{Kind}
 use Rattle.gix_object.specs.declared.kind.Kind.TheVariants.{Commit, Tree, Blob, Tag}
-use Rattle.gix_object.specs.Kind.{kind_word, kind_of_word}
-use Rattle.gix_object.specs.Loose.{header_of}
-use Rattle.gitodb.specs.Content.{data_of, object_of, is_encoded, content_of}
+use Rattle.gix_object.specs.Kind.{kind_word}
+use Rattle.gix_object.specs.Kind.Laws.{kind_of_word-kind_word}
+use Rattle.gitodb.specs.Content.{data_of, content_of}
 use Rattle.gitodb.specs.Change.{change_of}
 use Rattle.gitodb.specs.Opening.{handle_of}
 use Rattle.gitodb.proofs.SplitLemmas.{slice_split-join}
@@ -220,30 +218,28 @@ module _ (handle : ℕ) (id : List ℕ) (small : handle < 2 ^ 32) (is : IsId (id
   unfolding word_of
   item_of-test = asked 116 (codes "est") questions.Test refl (IsField-word (codes "test") refl refl) refl
 
--- ---- contents
+-- writes of data that are spelled as a field
+IsField-kind_word : (kind : Kind) → IsField (kind_word kind)
+IsField-kind_word Commit = IsField-word (codes "commit") refl refl
+IsField-kind_word Tree = IsField-word (codes "tree") refl refl
+IsField-kind_word Blob = IsField-word (codes "blob") refl refl
+IsField-kind_word Tag = IsField-word (codes "tag") refl refl
 
--- data as hex digits, and nothing as `-`
-pub data_of-nothing : data_of (codes "-") ≡ Some []
-unfolding data_of
-data_of-nothing = refl
+module _ (handle : ℕ) (kind : Kind) (digits bytes : List ℕ) (small : handle < 2 ^ 32) (field : IsField digits) (spelled : data_of digits ≡ Some bytes) where
+  pub item_of-write : item_of (line_of (codes "write" ∷ decimal handle ∷ kind_word kind ∷ digits ∷ [])) ≡ items.Play (One (steps.Start handle (calls.Write kind (length bytes) bytes None)))
+  unfolding word_of line_item
+  item_of-write =
+      item_of-line_of 119 (codes "rite") (decimal handle ∷ kind_word kind ∷ digits ∷ []) refl (IsField-word (codes "write") refl refl, (IsField-decimal handle (omega arith), (IsField-kind_word kind, (field, tt))))
+      ∙ rw (handle_of-decimal handle small, kind_of_word-kind_word kind, spelled) refl
 
-and-false : (b : Bool) → (b && false) ≡ false
-and-false true = refl
-and-false false = refl
+  pub item_of-stream : (size : ℕ) → size < 2 ^ 64 → item_of (line_of (codes "stream" ∷ decimal handle ∷ kind_word kind ∷ decimal size ∷ digits ∷ [])) ≡ items.Play (One (steps.Start handle (calls.Write kind size bytes None)))
+  unfolding word_of line_item
+  item_of-stream size fits =
+      item_of-line_of 115 (codes "tream") (decimal handle ∷ kind_word kind ∷ decimal size ∷ digits ∷ []) refl (IsField-word (codes "stream") refl refl, (IsField-decimal handle (omega arith), (IsField-kind_word kind, (IsField-decimal size fits, (field, tt)))))
+      ∙ rw (handle_of-decimal handle small, kind_of_word-kind_word kind, number_of-decimal size fits, spelled) refl
 
-pub data_of-hex : (b : ℕ) (bytes : List ℕ) → IsBytes (b ∷ bytes) → data_of (encode_lower (b ∷ bytes)) ≡ Some (b ∷ bytes)
-unfolding data_of encode_with
-data_of-hex b bytes are = rw (and-false (slice_index lower_digits (b / 16) == 45), decode_of-encode_lower (b ∷ bytes) are) refl
-
--- an object of some kind is the bytes of its loose file
-pub content_of-loose : (kind : Kind) (digits bytes : List ℕ) → data_of digits ≡ Some bytes → content_of (codes "@loose:" ++ kind_word kind ++ 58 ∷ digits) ≡ Bytes (header_of kind (length bytes) ++ bytes)
-unfolding content_of object_of kind_of_word
-content_of-loose Commit digits bytes e = rw e refl
-content_of-loose Tree digits bytes e = rw e refl
-content_of-loose Blob digits bytes e = rw e refl
-content_of-loose Tag digits bytes e = rw e refl
-
--- plain data are the bytes of a file
-pub content_of-plain : (digits bytes : List ℕ) → is_encoded digits ≡ false → data_of digits ≡ Some bytes → content_of digits ≡ Bytes bytes
-unfolding content_of
-content_of-plain digits bytes plain e = rw (plain, e) refl
+  pub item_of-writeas : (id : List ℕ) → IsId (ids.Sha1 id) → item_of (line_of (codes "writeas" ∷ decimal handle ∷ kind_word kind ∷ hex_of (ids.Sha1 id) ∷ digits ∷ [])) ≡ items.Play (One (steps.Start handle (calls.Write kind (length bytes) bytes (Some (ids.Sha1 id)))))
+  unfolding word_of line_item
+  item_of-writeas id is =
+      item_of-line_of 119 (codes "riteas") (decimal handle ∷ kind_word kind ∷ hex_of (ids.Sha1 id) ∷ digits ∷ []) refl (IsField-word (codes "writeas") refl refl, (IsField-decimal handle (omega arith), (IsField-kind_word kind, (IsField-hex_of (ids.Sha1 id) is, (field, tt)))))
+      ∙ rw (handle_of-decimal handle small, kind_of_word-kind_word kind, id_of-hex_of (ids.Sha1 id) is, spelled) refl

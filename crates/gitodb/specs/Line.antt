@@ -1,5 +1,5 @@
 -- What one line of a script says. Fields are split by one space.
-use Rattle.std.specs.Prelude.{ℕ, ◌==◌, Bool, true, List, [], ◌∷◌, Option, Some, None, if◌then◌else◌, map}
+use Rattle.std.specs.Prelude.{ℕ, ◌==◌, Bool, true, List, [], ◌∷◌, length, Option, Some, None, if◌then◌else◌, map}
 use Rattle.std.specs.Borrow.{Bor}
 use Rattle.std.specs.List.{slice_split}
 use Rattle.std.specs.Str.{is_utf8}
@@ -7,6 +7,8 @@ use Rattle.odb_base.specs.Decimal.{number_of}
 use Rattle.gix_hash.specs.ObjectId.{id_of}
 use Rattle.gix_hash.specs.declared.object_id.ObjectId.{ObjectId}
 use Rattle.gix_hash.specs.declared.object_id.ObjectId.TheVariants as ids
+use Rattle.gix_object.specs.Kind.{kind_of_word}
+use Rattle.gix_object.specs.declared.kind.Kind.{Kind}
 use Rattle.gix_odb_world.specs.declared.call.Call.{Call}
 use Rattle.gix_odb_world.specs.declared.call.Call.TheVariants as calls
 use Rattle.gix_odb_world.specs.declared.step.Step.{Step}
@@ -21,6 +23,7 @@ use Rattle.gitodb.specs.declared.script.word.Question.TheVariants as questions
 use Rattle.gitodb.specs.declared.script.word.Word.{Word}
 use Rattle.gitodb.specs.declared.script.word.Word.TheVariants as words
 use Rattle.gitodb.specs.Word.{word_of, change_word_of}
+use Rattle.gitodb.specs.Content.{data_of}
 use Rattle.gitodb.specs.Change.{change_of}
 use Rattle.gitodb.specs.Opening.{handle_of, open_of}
 
@@ -75,6 +78,25 @@ start_of call handle (Some (ids.Sha256 bytes)) = items.NotBuilt
 start_of call None (Some (ids.Sha1 bytes)) = items.Refused
 start_of call (Some handle) (Some (ids.Sha1 bytes)) = step_item (steps.Start handle (call (ids.Sha1 bytes)))
 
+-- how many bytes data have
+abbrev pub size_of : Option (List ℕ) → Option ℕ
+size_of None = None
+size_of (Some bytes) = Some (length bytes)
+
+-- the start of a write of data, which are said to have a size
+abbrev pub write_of : Option ℕ → Option Kind → Option ℕ → Option (List ℕ) → Option ObjectId → Item
+write_of None kind size bytes id = items.Refused
+write_of (Some handle) None size bytes id = items.Refused
+write_of (Some handle) (Some kind) None bytes id = items.Refused
+write_of (Some handle) (Some kind) (Some size) None id = items.Refused
+write_of (Some handle) (Some kind) (Some size) (Some bytes) id = step_item (steps.Start handle (calls.Write kind size bytes id))
+
+-- the start of a write under an id that is known; ids of 64 digits aren't built yet
+abbrev pub write_under : Option ℕ → Option Kind → Option ObjectId → Option (List ℕ) → Item
+write_under handle kind None bytes = items.Refused
+write_under handle kind (Some (ids.Sha256 digest)) bytes = items.NotBuilt
+write_under handle kind (Some (ids.Sha1 digest)) bytes = write_of handle kind (size_of bytes) bytes (Some (ids.Sha1 digest))
+
 -- a line by its first word and the fields after it
 unfoldable pub line_item : Option Word → Fields → Item
 line_item None fields = items.Refused
@@ -87,6 +109,9 @@ line_item (Some words.Open) (handle ∷ path ∷ options) = open_of handle path 
 line_item (Some words.Close) fields = for_handle (λ h. step_item (steps.Close h)) fields
 line_item (Some words.Ignore) fields = for_handle (λ h. step_item (steps.Ignore h)) fields
 line_item (Some (words.Ask question)) (handle ∷ id ∷ []) = start_of (call_of question) (handle_of handle) (id_of id)
+line_item (Some words.Write) (handle ∷ kind ∷ digits ∷ []) = write_of (handle_of handle) (kind_of_word kind) (size_of (data_of digits)) (data_of digits) None
+line_item (Some words.Stream) (handle ∷ kind ∷ size ∷ digits ∷ []) = write_of (handle_of handle) (kind_of_word kind) (number_of size) (data_of digits) None
+line_item (Some words.WriteAs) (handle ∷ kind ∷ id ∷ digits ∷ []) = write_under (handle_of handle) (kind_of_word kind) (id_of id) (data_of digits)
 line_item (Some words.Turn) fields = for_handle (λ h. step_item (steps.Turn h)) fields
 line_item (Some words.Finish) fields = for_handle (λ h. items.Play (Finish h)) fields
 line_item (Some words.Do) (word ∷ fields) = outside_item (change_of (change_word_of word) fields)

@@ -4,6 +4,7 @@ use Rattle.std.specs.List.{flat_map}
 use Rattle.std.specs.Fmt.{decimal}
 use Rattle.hex.specs.Hex.{encode_lower}
 use Rattle.odb_base.specs.Path.{text_of}
+use Rattle.gix_hash.specs.ObjectId.{hex_of}
 use Rattle.gix_object.specs.Kind.{kind_word}
 use Rattle.gix_odb_world.specs.declared.step.Outcome.{Outcome}
 use Rattle.gix_odb_world.specs.declared.step.Outcome.TheVariants as comes
@@ -19,6 +20,10 @@ use Rattle.gix_odb_world.specs.declared.find.Header.{Header}
 use Rattle.gix_odb_world.specs.declared.find.Header.TheVariants.{Loose}
 use Rattle.gix_odb_world.specs.declared.find.Error as finding
 use Rattle.gix_odb_world.specs.declared.find.Error.TheVariants as find_errors
+use Rattle.gix_odb_world.specs.declared.write.Error as writing
+use Rattle.gix_odb_world.specs.declared.write.Error.TheVariants as write_errors
+use Rattle.gix_odb_loose.specs.declared.write.Error as loose_write
+use Rattle.gix_odb_loose.specs.declared.write.Error.TheVariants as loose_write_errors
 use Rattle.gix_odb_loose.specs.declared.find.Error as loose
 use Rattle.gix_odb_loose.specs.declared.find.Error.TheVariants as loose_errors
 use Rattle.gitodb.specs.declared.script.reader.Ending.{Ending}
@@ -43,8 +48,11 @@ opening_text (opening_errors.TooManySlots asked) = codes "too-many-slots " ++ de
 opening_text opening_errors.Io = codes "io"
 opening_text opening_errors.NoMemory = codes "no-memory"
 
+abbrev pub sizes_text : ℕ → ℕ → List ℕ
+sizes_text expected actual = (codes "size-mismatch " ++ decimal expected) ++ (codes " " ++ decimal actual)
+
 abbrev pub loose_text : loose.Error → List ℕ
-loose_text (loose_errors.SizeMismatch actual expected path) = (codes "size-mismatch " ++ decimal expected) ++ (codes " " ++ decimal actual)
+loose_text (loose_errors.SizeMismatch actual expected path) = sizes_text expected actual
 loose_text loose_errors.Decode = codes "decode"
 loose_text (loose_errors.Io action path) = codes "io " ++ text_of path
 loose_text (loose_errors.OutOfMemory size) = codes "out-of-memory " ++ decimal size
@@ -54,9 +62,21 @@ abbrev pub find_text : finding.Error → List ℕ
 find_text (find_errors.Loose error) = codes "loose " ++ loose_text error
 find_text find_errors.NoMemory = codes "no-memory"
 
+abbrev pub loose_write_text : loose_write.Error → List ℕ
+loose_write_text (loose_write_errors.Io message path) = codes "io"
+loose_write_text loose_write_errors.IoRaw = codes "io-raw"
+loose_write_text (loose_write_errors.Persist target) = codes "persist"
+loose_write_text (loose_write_errors.SizeMismatch expected actual) = sizes_text expected actual
+loose_write_text loose_write_errors.NoMemory = codes "no-memory"
+
+abbrev pub write_text : writing.Error → List ℕ
+write_text (write_errors.LooseWrite error) = loose_write_text error
+write_text write_errors.NoMemory = codes "no-memory"
+
 abbrev pub error_text : CallError → List ℕ
 error_text (call_errors.Open error) = codes "open " ++ opening_text error
 error_text (call_errors.Find error) = find_text error
+error_text (call_errors.Write error) = codes "write " ++ write_text error
 
 abbrev pub header_text : Header → List ℕ
 header_text (Loose kind size) = kind_word kind ++ codes " " ++ decimal size ++ codes " loose"
@@ -70,6 +90,7 @@ reply_text (replies.Opened slots) = codes "opened " ++ decimal slots
 reply_text (replies.Found kind bytes) = codes "found " ++ kind_word kind ++ codes " " ++ decimal (length bytes) ++ codes " " ++ data_text bytes
 reply_text (replies.Header header) = codes "header " ++ header_text header
 reply_text (replies.Tested there) = codes "test " ++ yes_or_no there
+reply_text (replies.Wrote id) = codes "wrote " ++ hex_of id
 reply_text replies.NotFound = codes "not-found"
 reply_text (replies.Refused error) = codes "error " ++ error_text error
 

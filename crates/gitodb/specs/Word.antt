@@ -13,7 +13,7 @@ is_one_of texts text = list_any (same_name text) texts
 -- words that aren't built yet: those that a line may begin with, and those that may follow `do`
 abbrev pub unbuilt_words : List (List ℕ)
 unbuilt_words =
-    codes "link" ∷ codes "ids" ∷ codes "clone" ∷ codes "upgrade" ∷ codes "never" ∷ codes "prefix" ∷ codes "locate" ∷ codes "entry" ∷ codes "write" ∷ codes "stream" ∷ codes "writeas" ∷ []
+    codes "link" ∷ codes "ids" ∷ codes "clone" ∷ codes "upgrade" ∷ codes "never" ∷ codes "prefix" ∷ codes "locate" ∷ codes "entry" ∷ []
 
 abbrev pub unbuilt_changes : List (List ℕ)
 unbuilt_changes = codes "link" ∷ codes "time" ∷ []
@@ -31,6 +31,9 @@ word_of text =
     else if same_name text (codes "find") then Some (words.Ask questions.Find)
     else if same_name text (codes "header") then Some (words.Ask questions.Header)
     else if same_name text (codes "test") then Some (words.Ask questions.Test)
+    else if same_name text (codes "write") then Some words.Write
+    else if same_name text (codes "stream") then Some words.Stream
+    else if same_name text (codes "writeas") then Some words.WriteAs
     else if same_name text (codes "turn") then Some words.Turn
     else if same_name text (codes "finish") then Some words.Finish
     else if same_name text (codes "do") then Some words.Do

@@ -1,10 +1,10 @@
 //! The lines that are written for outcomes.
-ghost use Rattle.std.specs.Prelude.{◌≡◌, ◌++◌, ◌∷◌, [], OnOk, length, codes};
+ghost use Rattle.std.specs.Prelude.{◌≡◌, ◌++◌, ◌∷◌, [], OnOk, length};
 ghost use Rattle.std.specs.Fmt.{decimal};
-ghost use Rattle.gitodb.specs.Print.{printed, reply_text, error_text, opening_text, find_text, loose_text, header_text, yes_or_no, why_text, data_text};
+ghost use Rattle.gitodb.specs.Print.{printed, reply_text, error_text, opening_text, find_text, loose_text, sizes_text, write_text, loose_write_text, header_text, yes_or_no, why_text, data_text};
 
 use gix_odb_loose as loose;
-use gix_odb_world::{CallError, Outcome, Reply, Why, find, init};
+use gix_odb_world::{CallError, Outcome, Reply, Why, find, init, write};
 use odb_base::NoMemory;
 use std::alloc::Global;
 
@@ -47,6 +47,10 @@ fn print_reply(alloc: Global, out: &mut Vec<u8>, reply: &Reply) -> Result<(), No
             text(out, b"test ")?;
             text(out, yes_or_no(*there))
         }
+        Reply::Wrote(id) => {
+            text(out, b"wrote ")?;
+            text(out, id.to_hex(alloc)?.as_bytes())
+        }
         Reply::NotFound => text(out, b"not-found"),
         Reply::Refused(error) => {
             text(out, b"error ")?;
@@ -83,6 +87,10 @@ fn print_error(alloc: Global, out: &mut Vec<u8>, error: &CallError) -> Result<()
             print_loose_error(alloc, out, error)
         }
         CallError::Find(find::Error::NoMemory) => text(out, b"no-memory"),
+        CallError::Write(error) => {
+            text(out, b"write ")?;
+            print_write_error(alloc, out, error)
+        }
     }
 }
 
@@ -124,8 +132,35 @@ fn print_loose_error(
     }
 }
 
+fn print_write_error(alloc: Global, out: &mut Vec<u8>, error: &write::Error) -> Result<(), NoMemory>
+    ensures ok { OnOk result (out.new.items ≡ out.old.items ++ write_text error.now) }
+{
+    match error {
+        write::Error::LooseWrite(error) => print_loose_write_error(alloc, out, error),
+        write::Error::NoMemory => text(out, b"no-memory"),
+    }
+}
+
+fn print_loose_write_error(
+    alloc: Global,
+    out: &mut Vec<u8>,
+    error: &loose::write::Error,
+) -> Result<(), NoMemory>
+    ensures ok { OnOk result (out.new.items ≡ out.old.items ++ loose_write_text error.now) }
+{
+    match error {
+        loose::write::Error::Io { .. } => text(out, b"io"),
+        loose::write::Error::IoRaw => text(out, b"io-raw"),
+        loose::write::Error::Persist { .. } => text(out, b"persist"),
+        loose::write::Error::SizeMismatch { expected, actual } => {
+            print_sizes(alloc, out, *expected, *actual)
+        }
+        loose::write::Error::NoMemory => text(out, b"no-memory"),
+    }
+}
+
 fn print_sizes(alloc: Global, out: &mut Vec<u8>, expected: u64, actual: u64) -> Result<(), NoMemory>
-    ensures ok { OnOk result (out.new.items ≡ out.old.items ++ ((codes "size-mismatch " ++ decimal expected) ++ (codes " " ++ decimal actual))) }
+    ensures ok { OnOk result (out.new.items ≡ out.old.items ++ sizes_text expected actual) }
 {
     labelled(alloc, out, b"size-mismatch ", expected)?;
     labelled(alloc, out, b" ", actual)

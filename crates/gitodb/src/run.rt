@@ -33,6 +33,9 @@ with `#` say nothing. See docs/SCRIPT.md for the whole language.
   find H HEX                 begins to find an object
   header H HEX               begins to tell the kind and the size of an object
   test H HEX                 begins to test whether an object is there
+  write H KIND DATA          begins to write an object
+  stream H KIND SIZE DATA    the same, of data that are said to have SIZE bytes
+  writeas H KIND HEX DATA    the same, under an id that is known
   turn H                     lets H make one call of the disk
   finish H                   turns H until its call has ended
   do mkdir PATH              another program makes a directory

@@ -6,6 +6,7 @@ mod item;
 mod opening;
 mod reader;
 mod word;
+mod write;
 
 pub use item::{Item, item_of};
 pub use reader::{Ending, Reading, SCRIPT_LIMIT, Script, read};

@@ -6,6 +6,7 @@ ghost use Rattle.gitodb.specs.Line.{item_of, is_blank, fields_of, fields_item, t
 use crate::script::change::{Spelled, change_of};
 use crate::script::opening::{handle_of, open_of};
 use crate::script::word::{Question, Word, change_word_of, word_of};
+use crate::script::write::{stream, write, writeas};
 use gix_hash::ObjectId;
 use gix_odb_world::{Call, Line, Step};
 use odb_base::{NoMemory, parse_decimal};
@@ -93,6 +94,9 @@ fn line_item(alloc: Global, word: Option<Word>, fields: &[&str]) -> Result<Item,
         Some(Word::Close) => Ok(for_handle(fields, |handle| step_item(Step::Close { handle }))),
         Some(Word::Ignore) => Ok(for_handle(fields, |handle| step_item(Step::Ignore { handle }))),
         Some(Word::Ask(question)) => Ok(ask(question, fields)),
+        Some(Word::Write) => write(alloc, fields),
+        Some(Word::Stream) => stream(alloc, fields),
+        Some(Word::WriteAs) => writeas(alloc, fields),
         Some(Word::Turn) => Ok(for_handle(fields, |handle| step_item(Step::Turn { handle }))),
         Some(Word::Finish) => Ok(for_handle(fields, |handle| Item::Play(Line::Finish { handle }))),
         Some(Word::Do) => change(alloc, fields),
@@ -154,6 +158,7 @@ fn ask(question: Question, fields: &[&str]) -> Item
     }
 }
 
+/// The id that a text spells.
 pub fn id_of(text: &str) -> Option<ObjectId>
     ensures { result ≡ id_of text.now }
 {
@@ -200,7 +205,8 @@ fn change(alloc: Global, fields: &[&str]) -> Result<Item, NoMemory>
     }
 }
 
-fn step_item(step: Step) -> Item
+/// A line to play that is one step.
+pub fn step_item(step: Step) -> Item
     ensures { result ≡ step_item step }
 {
     Item::Play(Line::One(step))

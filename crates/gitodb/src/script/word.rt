@@ -23,6 +23,9 @@ pub enum Word {
     Ignore,
     /// A call that a question is.
     Ask(Question),
+    Write,
+    Stream,
+    WriteAs,
     Turn,
     Finish,
     Do,
@@ -46,6 +49,9 @@ pub fn word_of(text: &str) -> Option<Word>
         "find" => Some(Word::Ask(Question::Find)),
         "header" => Some(Word::Ask(Question::Header)),
         "test" => Some(Word::Ask(Question::Test)),
+        "write" => Some(Word::Write),
+        "stream" => Some(Word::Stream),
+        "writeas" => Some(Word::WriteAs),
         "turn" => Some(Word::Turn),
         "finish" => Some(Word::Finish),
         "do" => Some(Word::Do),
@@ -73,17 +79,7 @@ fn is_unbuilt_word(text: &str) -> bool
 {
     matches!(
         text,
-        "link"
-            | "ids"
-            | "clone"
-            | "upgrade"
-            | "never"
-            | "prefix"
-            | "locate"
-            | "entry"
-            | "write"
-            | "stream"
-            | "writeas"
+        "link" | "ids" | "clone" | "upgrade" | "never" | "prefix" | "locate" | "entry"
     )
 }
 
