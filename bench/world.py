@@ -43,36 +43,41 @@ def make(folder, objects):
                 file.write(text)
 
 
-def measured(program, folder, size):
-    """Seconds and peak bytes of one run, whose output is right."""
-    got = os.path.join(folder, "got")
-    with open(os.path.join(folder, "%d.script" % size), "rb") as given, open(got, "wb") as taken:
+def run(program, script_path, output_path):
+    """Seconds, peak bytes and status of one run."""
+    with open(script_path, "rb") as given, open(output_path, "wb") as taken:
         begun = time.perf_counter()
         child = subprocess.Popen([program, "world"], stdin=given, stdout=taken)
         _, status, usage = os.wait4(child.pid, 0)
         seconds = time.perf_counter() - begun
         child.returncode = os.waitstatus_to_exitcode(status)
-    right = filecmp.cmp(got, os.path.join(folder, "%d.output" % size), shallow=False)
-    if child.returncode != 0 or not right:
-        sys.exit("wrong output at %d objects, status %d" % (size, child.returncode))
-    return seconds, usage.ru_maxrss * 1024
+    return seconds, usage.ru_maxrss * 1024, child.returncode
 
 
-def rounds(program, folder):
+def measured(program, folder, size):
+    """Seconds and peak bytes of one run, whose output is right."""
+    got = os.path.join(folder, "got")
+    seconds, peak, status = run(program, os.path.join(folder, "%d.script" % size), got)
+    if status != 0 or not filecmp.cmp(got, os.path.join(folder, "%d.output" % size), shallow=False):
+        sys.exit("wrong output at size %d, status %d" % (size, status))
+    return seconds, peak
+
+
+def rounds(program, folder, sizes):
     """The best time and the greatest peak of each size over some rounds, in which each size has its turn."""
-    best, most = dict.fromkeys(SIZES, float("inf")), dict.fromkeys(SIZES, 0)
+    best, most = dict.fromkeys(sizes, float("inf")), dict.fromkeys(sizes, 0)
     for _ in range(ROUNDS):
-        for size in SIZES:
+        for size in sizes:
             seconds, peak = measured(program, folder, size)
             best[size], most[size] = min(best[size], seconds), max(most[size], peak)
     return best, most
 
 
-def report(folder, best, most):
+def report(folder, sizes, title, best, most):
     """Prints a line for each size, and tells whether a bound was missed."""
     missed, before = False, None
-    print("objects  seconds  growth  peak MiB  peak / script")
-    for size in SIZES:
+    print("%7s  seconds  growth  peak MiB  peak / script" % title)
+    for size in sizes:
         length = os.path.getsize(os.path.join(folder, "%d.script" % size))
         growth = best[size] / before if before else None
         missed |= bool(growth and growth > MOST_GROWTH) or most[size] > MEMORY_FACTOR * length + MEMORY_BASE
@@ -96,7 +101,7 @@ def main():
     with tempfile.TemporaryDirectory() as folder:
         # A process of its own makes them: a child's peak counts what this process has at its start.
         subprocess.run([sys.executable, __file__, "--make", folder, "--objects", words.objects], check=True)
-        if report(folder, *rounds(words.program, folder)):
+        if report(folder, SIZES, "objects", *rounds(words.program, folder, SIZES)):
             sys.exit("a bound was missed")
 
 
