@@ -13,6 +13,8 @@ pub mod WayLaws
 pub mod WayWriteLaws
 pub mod OwnFileLaws
 pub mod OwnWayLaws
+pub mod CrossesLaws
+pub mod RefusalLaws
 mod AskLemmas
 mod NodeMapLemmas
 mod CallsLemmas

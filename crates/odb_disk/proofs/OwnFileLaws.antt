@@ -3,22 +3,17 @@
 use Rattle.std.proofs.Common.{◌≡◌, ◌≢◌, ℕ, true, false, List, [], ◌++◌, Ok, sym, ap, ◌∙◌, subst}
 use Rattle.std.proofs.lemmas.Bool.{false≢true, false_from_ne_true}
 use Rattle.odb_base.specs.Path.{Path}
+use Rattle.odb_disk.specs.OwnFile.{HasFile}
 use Rattle.odb_disk.specs.Tree.{Tree, IsTree, node_at}
 use Rattle.odb_disk.specs.Tree.Follow.{read_of}
 use Rattle.odb_disk.specs.Tree.Change.{changed}
-use Rattle.odb_disk.specs.Tree.Write.{spot, vacant, replaceable, file_spot, change_of_new_file, change_of_append, change_of_rename, change_of_remove}
+use Rattle.odb_disk.specs.Tree.Write.{vacant, replaceable, file_spot, change_of_new_file, change_of_append, change_of_rename, change_of_remove}
 use Rattle.odb_disk.specs.Tree.Way.{on_way, is_link, crosses, SameOnWay}
 use Rattle.odb_disk.specs.declared.change.Change.{Change}
 use Rattle.odb_disk.specs.declared.change.Change.TheVariants.{PutFile, MakeDir, Rename, Append, Remove}
 use Rattle.odb_disk.proofs.WriteLaws.{read_at_spot}
 use Rattle.odb_disk.proofs.WayLaws.{read_kept, file_spot_kept, spot_kept, same_unfollowed, same_put_file, same_make_dir, same_append, same_remove, same_rename, vacant_off_file, file_off_file, replaced_on_file, file_spot_own}
 use Rattle.odb_disk.proofs.WayWriteLaws.{new_file_spot, new_file_file_spot, new_file_read_through, append_spot, append_file_spot, append_read_through, rename_read_through, new_file_change, append_change, file_renamed, file_removed}
-
--- the spot of a path is a file with these bytes and this time
-pub record HasFile (t : Tree) (path s : Path) (bytes : List ℕ) (time : ℕ) : Type 0 where
-  pub is : spot t path ≡ Ok s
-  pub leads : file_spot t path ≡ Ok s
-  pub reads : read_of t path ≡ Ok (bytes, time)
 
 -- ---- what its owner does
 

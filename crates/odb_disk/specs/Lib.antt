@@ -8,6 +8,7 @@ pub mod Source
 pub mod MemStream
 pub mod Calls
 pub mod HostDisk
+pub mod OwnFile
 pub mod TreeNumbers
 pub mod TreeCalls
 pub mod TreeMoves
