@@ -1,8 +1,7 @@
 -- What was read from a source so far.
-use Rattle.std.proofs.Common.{◌≡◌, ℕ, ◌<◌, List, [], ◌++◌, length, take, drop, refl, sym, ap, ◌∙◌, subst, Option, Some, None, IfSome, Ok, Err, append_assoc}
+use Rattle.std.proofs.Common.{◌≡◌, ℕ, ◌<◌, List, [], ◌++◌, length, take, drop, refl, sym, ap, ◌∙◌, subst, Option, Some, None, IfSome, Ok, append_assoc}
 use Rattle.std.proofs.lemmas.List.{append-nil, take-append-drop}
 use Rattle.std.proofs.Math.Seq.{drop-append_seam}
-use Rattle.odb_disk.specs.declared.source.Failed.{Failed}
 use Rattle.odb_disk.specs.Source.{Reads, Takes as takes_once}
 use Rattle.gix_object.specs.Stream.{Takes}
 
@@ -10,10 +9,6 @@ use Rattle.gix_object.specs.Stream.{Takes}
 abbrev pub ReadSoFar : Option (List ℕ) → Option (List ℕ) → List ℕ → Type 0
 ReadSoFar None now bytes = now ≡ None
 ReadSoFar (Some left) now bytes = (rest : List ℕ) × (left ≡ bytes ++ rest) × (now ≡ Some rest)
-
-pub ReadSoFar-nothing : (left : Option (List ℕ)) → ReadSoFar left left []
-ReadSoFar-nothing None = refl
-ReadSoFar-nothing (Some left) = (left, refl, refl)
 
 taken_of : (rest : List ℕ) (next : Option (List ℕ)) (buffer : List ℕ) (n : ℕ) → Reads (Some rest) next buffer (Ok n) → (after : List ℕ) × (next ≡ Some after) × takes_once rest after buffer n
 taken_of rest None buffer n reads = absurd reads
@@ -28,18 +23,6 @@ ReadSoFar-more (Some left) now next bytes buffer n so_far reads =
     let taken = taken_of so_far.0 next buffer n (subst P so_far.2 reads) in
     let t = taken.2 in
     (taken.0, so_far.1 ∙ ap (λ r. bytes ++ r) (sym (take-append-drop n so_far.0) ∙ ap (λ f. f ++ drop n so_far.0) (sym t.front) ∙ ap (λ r. take n buffer ++ r) (sym t.rest_is)) ∙ sym (append_assoc bytes (take n buffer) taken.0), taken.1)
-
-failed_of : (rest : List ℕ) (next : Option (List ℕ)) (buffer : List ℕ) (e : Failed) → Reads (Some rest) next buffer (Err e) → next ≡ Some rest
-failed_of rest None buffer e reads = absurd reads
-failed_of rest (Some after) buffer e reads = ap Some reads
-
--- a read that failed
-pub ReadSoFar-failed : (left now next : Option (List ℕ)) (bytes buffer : List ℕ) (e : Failed) → ReadSoFar left now bytes → Reads now next buffer (Err e) → ReadSoFar left next bytes
-ReadSoFar-failed None now next bytes buffer e so_far reads =
-    let P : Option (List ℕ) → Type 0 = λ o. Reads o next buffer (Err e) in subst P so_far reads
-ReadSoFar-failed (Some left) now next bytes buffer e so_far reads =
-    let P : Option (List ℕ) → Type 0 = λ o. Reads o next buffer (Err e) in
-    (so_far.0, so_far.1, failed_of so_far.0 next buffer e (subst P so_far.2 reads))
 
 -- what was read came from the front
 pub Takes-ReadSoFar : (left now : Option (List ℕ)) (bytes : List ℕ) → ReadSoFar left now bytes → Takes left now

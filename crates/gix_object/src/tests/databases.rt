@@ -23,11 +23,17 @@ fn found<D: Find, R: Wait>(
     requires { kind_of id.now ≡ D.hash database.old }
 {
     let mut out = Vec::from_slice(alloc, b"before")?;
-    match database.try_find(rt, alloc, id, &mut out) {
-        Ok(Some(object)) => object_shown(alloc, object.kind, object.bytes),
-        Ok(None) => "none".to_string(alloc),
-        Err(_) => "refused".to_string(alloc),
-    }
+    let shown = match database.try_find(rt, alloc, id, &mut out) {
+        Ok(Some(object)) => return object_shown(alloc, object.kind, object.bytes),
+        Ok(None) => "none",
+        Err(_) => "refused",
+    };
+    let left = if out.is_empty() {
+        ""
+    } else {
+        " with what was there"
+    };
+    format!(in alloc; "{shown}{left}")
 }
 
 fn object_shown(alloc: Global, kind: Kind, bytes: &[u8]) -> Result<String, AllocError> {

@@ -1,4 +1,4 @@
-ghost use Rattle.std.specs.Prelude.{◌≡◌, IfOk, IfSome, Some};
+ghost use Rattle.std.specs.Prelude.{◌≡◌, ◌↔◌, length, false, IfNone, IfOk, IfSome, IsSome, IsTrue, Some};
 ghost use Rattle.gix_object.specs.Stream.{stream_of, IsDrawn, IsWhole};
 
 use crate::{Data, Exists, Find, FindHeader, Header, Kind, Write, WriteTo, compute_hash};
@@ -59,6 +59,7 @@ impl Shelf {
     fn stored(&self, id: &ObjectId) -> Option<&Stored>
         ensures id { IfSome result (λ stored. stored.now.id ≡ id.now) }
         ensures there { IfSome result (λ stored. self.now.object ≡ Some stored.now) }
+        ensures none { IfNone result (IfSome self.now.object (λ stored. stored.id ≡ id.now → ⊥)) }
     {
         let stored = self.object.as_ref()?;
         if stored.id == *id { Some(stored) } else { None }
@@ -77,7 +78,7 @@ impl Find for Shelf {
 
     ghost hash = { λ shelf. shelf.hash };
 
-    ghost finds = { λ shelf id answer after. (after ≡ shelf) × IfOk answer (λ found. IfSome found (λ object. shelf.object ≡ Some (record { id = id; kind = object.kind; bytes = object.bytes }))) };
+    ghost finds = { λ shelf id answer after. (after ≡ shelf) × IfOk answer (λ found. IfSome found (λ object. shelf.object ≡ Some (record { id = id; kind = object.kind; bytes = object.bytes })) × IfNone found (IfSome shelf.object (λ stored. stored.id ≡ id → ⊥))) };
 
     fn try_find<'a, R: Wait>(
         &mut self,
@@ -86,10 +87,10 @@ impl Find for Shelf {
         id: &ObjectId,
         out: &'a mut Vec<u8>,
     ) -> Result<Option<Data<'a>>, ShelfError> {
+        out.clear();
         let Some(stored) = self.stored(id) else {
             return Ok(None);
         };
-        out.clear();
         out.extend_from_slice(stored.bytes.as_slice())?;
         Ok(Some(Data {
             kind: stored.kind,
@@ -104,7 +105,7 @@ impl FindHeader for Shelf {
 
     ghost hash = { λ shelf. shelf.hash };
 
-    ghost finds_header = { λ shelf id answer after. after ≡ shelf };
+    ghost finds_header = { λ shelf id answer after. (after ≡ shelf) × IfOk answer (λ found. IfSome found (λ header. IsSome shelf.object × IfSome shelf.object (λ stored. (stored.id ≡ id) × (header.kind ≡ stored.kind) × (header.size ≡ length stored.bytes))) × IfNone found (IfSome shelf.object (λ stored. stored.id ≡ id → ⊥))) };
 
     fn try_header<R: Wait>(
         &mut self,
@@ -127,7 +128,7 @@ impl Exists for Shelf {
 
     ghost hash = { λ shelf. shelf.hash };
 
-    ghost tests = { λ shelf id answer after. after ≡ shelf };
+    ghost tests = { λ shelf id answer after. (after ≡ shelf) × IfOk answer (λ there. IfSome shelf.object (λ stored. IsTrue there ↔ (stored.id ≡ id)) × IfNone shelf.object (there ≡ false)) };
 
     fn exists<R: Wait>(
         &mut self,
