@@ -1,9 +1,8 @@
 -- What is taken from a source, read after read.
-use Rattle.std.specs.Prelude.{◌≡◌, ℕ, ◌+◌, ◌<◌, ◌≤◌, List, [], ◌++◌, length, take, Option, Some, None, Result, Ok, Err, IfSome, OnErr, refl}
+use Rattle.std.specs.Prelude.{◌≡◌, ℕ, ◌+◌, ◌≤◌, List, [], ◌++◌, length, take, Option, Some, None, Result, Ok, Err, IfSome, OnErr, refl}
 use Rattle.std.proofs.Common.{sym, ap, ◌∙◌, arith, append-nil, append_assoc, take-append-drop}
 use Rattle.std.proofs.lemmas.List.{length-append, length-take}
 use Rattle.odb_disk.specs.Source.{Reads}
-use Rattle.odb_disk.specs.declared.source.Failed.{Failed}
 use Rattle.gix_odb_loose.specs.StreamJobs.{Loses}
 use Rattle.gix_odb_loose.specs.WriteStreams.{Draws, IsAtEnd}
 
@@ -23,19 +22,6 @@ pub Draws-read : (left rest : Option (List ℕ)) (buffer : List ℕ) (n : ℕ) �
 Draws-read None rest buffer n r = r
 Draws-read (Some left) None buffer n r = absurd r
 Draws-read (Some left) (Some rest) buffer n r = rw (r.front, r.rest_is) (take-append-drop n left)
-
--- a failed read took none
-pub Draws-failed : (left rest : Option (List ℕ)) (buffer : List ℕ) (failed : Failed) → Reads left rest buffer (Err failed) → Draws left rest []
-Draws-failed None rest buffer failed r = r
-Draws-failed (Some left) None buffer failed r = absurd r
-Draws-failed (Some left) (Some rest) buffer failed r = r
-
--- a read of nothing into a buffer with room is at the end
-pub at_end_read : (left rest : Option (List ℕ)) (buffer : List ℕ) → Reads left rest buffer (Ok 0) → 0 < length buffer → IsAtEnd rest
-at_end_read None None buffer r l = tt
-at_end_read None (Some rest) buffer r l = absurd (cc r)
-at_end_read (Some left) None buffer r l = absurd r
-at_end_read (Some left) (Some rest) buffer r l = let none : left ≡ [] = r.at_end refl l in r.rest_is ∙ none
 
 -- at the end all was taken
 pub Draws-end : (left rest : Option (List ℕ)) (all : List ℕ) → Draws left rest all → IsAtEnd rest → IfSome left (λ bytes. bytes ≡ all)

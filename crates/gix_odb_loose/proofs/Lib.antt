@@ -1,6 +1,8 @@
 mod LooseExamples
 mod DrawLemmas
 mod RoomLemmas
+pub mod AskLaws
+mod StreamAskLemmas
 mod StreamLemmas
 mod TurnsLeftLemmas
 mod StreamTurnLemmas
@@ -10,13 +12,10 @@ mod RunLemmas
 mod WriteRunLemmas
 mod WriteCallLemmas
 mod TurnLemmas
-pub mod RefusalLaws
 pub mod AsksLeftLemmas
 pub mod WriteHistoryLaws
 pub mod WriteShownLaws
 pub mod WriteCauseLaws
-pub mod WriteJobLaws
-pub mod SameAsksLaws
 pub mod ReadBackLaws
 pub mod FoundLaws
 pub mod NameLaws

@@ -16,7 +16,8 @@ use Rattle.odb_disk.specs.declared.ask.DiskAnswer.TheVariants as answers
 use Rattle.odb_disk.specs.declared.disk.DiskError.TheVariants as disk_errors
 use Rattle.odb_disk.specs.declared.change.Change.{Change}
 use Rattle.odb_disk.specs.declared.change.Change.TheVariants.{MakeDir, Rename}
-use Rattle.odb_disk.proofs.OwnFileLaws.{HasFile, has_new_file, has_file_kept, has_more, moves_file, moved_reads, kept_by_make_dir}
+use Rattle.odb_disk.specs.OwnFile.{HasFile}
+use Rattle.odb_disk.proofs.OwnFileLaws.{has_new_file, has_file_kept, has_more, moves_file, moved_reads, kept_by_make_dir}
 use Rattle.odb_disk.proofs.TreeLemmas.Changed.{IsTree-changed}
 use Rattle.odb_disk.proofs.TreeLemmas.Write.{new_file_possible, append_possible, make_dir_possible}
 use Rattle.odb_disk.proofs.WayWriteLaws.{make_dir_change}
@@ -178,7 +179,7 @@ module _ (head : WriteHead) (number : ℕ) (id : ObjectId) (bytes : List ℕ) (s
       (holds_there temporary (prefix_path head.objects id) (header_of head.kind head.size ++ bytes) _ is.answer is.there (holds_filled is.before is.filled (before_given is.before x all)) (last_given is.before x all))
 
   -- an object that got its name is read back
-  pub moved_reads_back : (past : List Exchange) → IsMoved head number id bytes past → AreGiven (Some s) past → ReadsBack head number id bytes (left_by (Some s) past)
+  pub moved_reads_back : (past : List Exchange) → (is : IsMoved head number id bytes past) → AreGiven (Some s) past → ReadsBack head number id bytes (left_by (Some s) is.before) (left_by (Some s) past)
   moved_reads_back past is given =
       let to = loose_path head.objects id in
       let x = exchanged (asks.Rename temporary to) answers.Done in
@@ -189,6 +190,7 @@ module _ (head : WriteHead) (number : ℕ) (id : ObjectId) (bytes : List ℕ) (s
       let renames : change_of_rename (tree_of h.state) temporary to ≡ Ok (Rename h.spot move.0) = step.is ∙ ap (λ (c : Change). Ok c) move.2 in
       record {
         state = h.state;
+        reached = h.is;
         source = h.spot;
         target = move.0;
         renames = renames;

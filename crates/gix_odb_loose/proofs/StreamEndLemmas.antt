@@ -1,6 +1,6 @@
 -- What a turn of a write from a source comes to, and where memory runs out.
 use Rattle.std.specs.Result.{IsErr}
-use Rattle.std.specs.Prelude.{is_some, IfOk, ◌≡◌, ℕ, ◌+◌, ◌-◌, ◌≤◌, true, false, List, [], ◌∷◌, ◌++◌, Option, Some, None, Result, Ok, Err, IfSome, refl}
+use Rattle.std.specs.Prelude.{is_some, ◌≡◌, ℕ, ◌+◌, ◌-◌, ◌≤◌, true, false, List, [], ◌∷◌, ◌++◌, Option, Some, None, Result, Ok, Err, IfSome, refl}
 use Rattle.std.proofs.Common.{inl, sym, ap, subst, arith}
 use Rattle.odb_base.specs.Faults.{Rose}
 use Rattle.odb_disk.specs.Ask.{AnswersAsk, answer_of, state_told_after}
@@ -15,12 +15,14 @@ use Rattle.gix_odb_loose.specs.Exchanges.{exchanged, left_by, AreGiven}
 use Rattle.gix_odb_loose.specs.WriteHistory.{IsRemovedAfter, tried}
 use Rattle.gix_odb_loose.specs.WriteNames.{Names}
 use Rattle.gix_odb_loose.specs.WriteOrder.{temp_path, number_made}
-use Rattle.gix_odb_loose.specs.StreamJobs.{Begun, StandsAt, IsReady, IsAtItsEnd, BreaksAt, IsBrokenOff, TurnsTo, removal_at}
+use Rattle.gix_odb_loose.specs.StreamJobs.{Begun, at_hand, SourceFailed, StandsAt, IsReady, IsAtItsEnd, BreaksAt, IsBrokenOff, TurnsTo, removal_at}
 use Rattle.gix_odb_loose.specs.declared.stream_job.StreamJob.{StreamJob}
 use Rattle.gix_odb_loose.specs.declared.write_call.Refusal.{Refusal}
 use Rattle.gix_odb_loose.specs.declared.write_call.WriteStage.{WriteStage}
 use Rattle.gix_odb_loose.specs.declared.write_call.WriteStage.TheVariants as stages
+use Rattle.gix_odb_loose.proofs.AskLaws.{IsAlong-start}
 use Rattle.gix_odb_loose.proofs.DrawLemmas.{Draws-none}
+use Rattle.gix_odb_loose.proofs.StreamAskLemmas.{cuts_at, cut_off}
 use Rattle.gix_odb_loose.proofs.StreamTurnLemmas.{did_next}
 
 -- ---- what a turn comes to
@@ -35,7 +37,7 @@ pub broken_first : (w : Begun) (state : Option State) (now : ℕ) (rest : Option
     → BreaksAt w state now rest source_now fed fed.stage
 broken_first w state now rest source_now job fed same at =
     subst (λ (j : StreamJob). BreaksAt w state now rest source_now j j.stage) (sym same)
-    (record { past = at.past; appended = at.appended; all = at.all; did = at.did; took = at.took; removal = ready job.stage at.removal; history = at.history })
+    (record { past = at.past; appended = at.appended; all = at.all; did = at.did; took = at.took; removal = ready job.stage at.removal; history = at.history; follows = λ bytes told. cuts_at w bytes (SourceFailed w source_now) job.stage at.past (at.follows bytes told) })
   where
     ready : (stage : WriteStage) → job.removal ≡ removal_at w stage → IsReady w job.removal stage
     ready (stages.Making number) e = tt
@@ -45,17 +47,13 @@ broken_first w state now rest source_now job fed same at =
     ready (stages.Moving number id) e = e
     ready (stages.Removing number refusal) e = e
 
-pub any_ok : {A E : Type 0} (P : A → Type 0) (result : Result A E) → IsErr result → IfOk result P
-any_ok P (Ok x) err = absurd (cc err)
-any_ok P (Err error) err = tt
-
 -- ---- where memory ran out
 
 module _ (w : Begun) (state : Option State) (now : ℕ) (rest : Option (List ℕ)) (source_now : ℕ) (job : StreamJob) where
   -- no file was made
   pub off_unmade : (stage : WriteStage) → is_some (number_made stage) ≡ false → BreaksAt w state now rest source_now job stage → IsBrokenOff w state now rest source_now
   off_unmade (stages.Making number) e at =
-      record { past = at.past; all = at.all; did = at.did; run = record { stage = stages.Making number; appended = at.appended; before = at.past; history = at.history; removed = refl }; took = at.took }
+      record { past = at.past; all = at.all; did = at.did; run = record { stage = stages.Making number; appended = at.appended; before = at.past; history = at.history; removed = refl }; took = at.took; follows = λ bytes told. cut_off w bytes (stages.Making number) at.past at.past (at.follows bytes told) refl }
   off_unmade (stages.Heading number) e at = absurd (cc e)
   off_unmade (stages.Filling number written) e at = absurd (cc e)
   off_unmade (stages.Foldering number id) e at = absurd (cc e)
@@ -76,12 +74,14 @@ module _ (w : Begun) (state : Option State) (now : ℕ) (rest : Option (List ℕ
                 appended = at.appended;
                 before = at.past;
                 history = at.history;
-                removed =
-                    subst (λ (n : Option ℕ). IsRemovedAfter w.head n at.past (at.past ++ exchanged job.removal answer ∷ [])) (sym made)
-                    (answer, ap (λ (a : DiskAsk). at.past ++ exchanged a answer ∷ []) ready);
+                removed = removal_asked;
               };
           took = at.took;
+          follows = λ bytes told. cut_off w bytes stage at.past (at.past ++ exchanged job.removal answer ∷ []) (at.follows bytes told) removal_asked;
         }
+      where
+        removal_asked : IsRemovedAfter w.head (number_made stage) at.past (at.past ++ exchanged job.removal answer ∷ [])
+        removal_asked = subst (λ (n : Option ℕ). IsRemovedAfter w.head n at.past (at.past ++ exchanged job.removal answer ∷ [])) (sym made) (answer, ap (λ (a : DiskAsk). at.past ++ exchanged a answer ∷ []) ready)
 
     -- the file that was made was asked to be removed
     pub off_removed : (stage : WriteStage) → is_some (number_made stage) ≡ true → BreaksAt w state now rest source_now job stage → IsBrokenOff w new later rest source_now
@@ -109,6 +109,7 @@ stands_first w job head stage ended named removal =
       removal = removal;
       history = (omega arith, refl, refl);
       holds = (refl, ended, named);
+      follows = λ bytes told. inl (IsAlong-start (at_hand w bytes));
     })
 
 -- ---- what a turn came to, by its result

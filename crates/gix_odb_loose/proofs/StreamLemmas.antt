@@ -1,26 +1,29 @@
 -- What a write reads on, and how it goes on to a stage.
 use Rattle.std.specs.Result.{IsErr}
-use Rattle.std.specs.Prelude.{◌≡◌, ◌≢◌, ℕ, ◌+◌, ◌-◌, ◌≤◌, ◌==◌, Bool, true, false, nat_lt, List, [], ◌++◌, length, Option, Some, None, Result, Ok, Err, IfSome, if◌then◌else◌, refl}
-use Rattle.std.proofs.Common.{inl, sym, ap, ◌∙◌, subst, arith, append-nil}
+use Rattle.std.specs.Prelude.{◌≡◌, ◌≢◌, ℕ, ◌+◌, ◌-◌, ◌<◌, ◌≤◌, ◌==◌, Bool, true, false, nat_lt, List, [], ◌∷◌, ◌++◌, length, Option, Some, None, Result, Ok, Err, IfSome, if◌then◌else◌, refl}
+use Rattle.std.proofs.Common.{inl, inr, sym, ap, ◌∙◌, subst, arith, append-nil}
 use Rattle.std.proofs.lemmas.Grind.{common_steps}
 use Rattle.std.proofs.lemmas.List.{length-append}
 use Rattle.odb_base.specs.Faults.{Rose}
 use Rattle.odb_disk.specs.Tree.{State}
 use Rattle.gix_hash.specs.declared.kind.Kind.{Kind as HashKind}
 use Rattle.gix_hash.specs.declared.object_id.ObjectId.{ObjectId}
+use Rattle.gix_odb_loose.specs.WriteAsks.{IsAlong}
 use Rattle.gix_odb_loose.specs.WriteHistory.{IsHistory}
 use Rattle.gix_odb_loose.proofs.WriteHistoryLaws.{IsHistory-ended}
 use Rattle.gix_odb_loose.specs.WriteNames.{name_for, Names}
 use Rattle.gix_odb_loose.specs.WriteOrder.{written_in, room_behind, ended_with, source_failed}
-use Rattle.gix_odb_loose.specs.StreamJobs.{Begun, Loses, Takes, NamedBy, SourceFailed, Took, HasPiece, IsNext, StandsAt, IsFed, BreaksAt, GoesOn, IsEnded}
+use Rattle.gix_odb_loose.specs.StreamJobs.{Begun, at_hand, Loses, Takes, NamedBy, SourceFailed, Took, HasPiece, HoldsFed, IsNext, StandsAt, IsFed, BreaksAt, GoesOn, IsEnded}
 use Rattle.gix_odb_loose.specs.WriteStreams.{Draws, IsAtEnd, OtherLength}
 use Rattle.gix_odb_loose.specs.declared.stream_job.StreamJob.{StreamJob}
+use Rattle.gix_odb_loose.specs.declared.write_call.Onward.TheVariants.{Stage}
 use Rattle.gix_odb_loose.specs.declared.write_call.Refusal.TheVariants as refusals
 use Rattle.gix_odb_loose.specs.declared.write_call.WriteHead.{WriteHead}
 use Rattle.gix_odb_loose.specs.declared.write_call.WriteStage.{WriteStage}
 use Rattle.gix_odb_loose.specs.declared.write_call.WriteStage.TheVariants as stages
 use Rattle.gix_odb_loose.proofs.RoomLemmas.{has_room, room_within}
-use Rattle.gix_odb_loose.proofs.DrawLemmas.{Draws-more, Draws-end}
+use Rattle.gix_odb_loose.proofs.DrawLemmas.{Draws-more, Draws-end, Draws-length}
+use Rattle.gix_odb_loose.proofs.StreamAskLemmas.{cuts_fed, follows_piece, follows_end}
 
 -- a stage that waits for data
 pub filling_is : (stage : WriteStage) (written : ℕ) → written_in stage ≡ Some written → (number : ℕ) × (stage ≡ stages.Filling number written)
@@ -40,6 +43,10 @@ named_from (Some bytes) known hash head all h = ap (name_for known hash head) (s
 counts_from : (left : Option (List ℕ)) (size written : ℕ) (all : List ℕ) → IfSome left (λ bytes. bytes ≡ all) → written ≡ length all → written ≤ size → (written ≡ size → ⊥) → OtherLength left size written
 counts_from None size written all h is within differs = tt
 counts_from (Some bytes) size written all h is within differs = let long : length bytes ≡ length all = ap length h in inl (omega (arith, within, differs, is, long), is ∙ sym long)
+
+some_bytes : (piece : List ℕ) → piece ≢ [] → 1 ≤ length piece
+some_bytes [] some = absurd (some refl)
+some_bytes (b ∷ bs) some = omega arith
 
 module _ (w : Begun) (state : Option State) (now : ℕ) where
   took_more : (rest last : Option (List ℕ)) (source_now later : ℕ) (all more : List ℕ) → Took w rest source_now all → Draws rest last more → length all + length more ≤ w.head.size + 1 → source_now ≤ later → Took w last later (all ++ more)
@@ -73,6 +80,9 @@ module _ (w : Begun) (state : Option State) (now : ℕ) where
           IsHistory-ended w.head (NamedBy w) (SourceFailed w source_now) (OtherLength w.left w.head.size) number written id fed.appended fed.past (named_from w.left w.known w.hash w.head fed.all whole)
           (counts_from w.left w.head.size written fed.all whole so_far fed.holds.0.within) fed.history
 
+      ended_follows : (bytes : List ℕ) → w.left ≡ Some bytes → IsAlong (at_hand w bytes) (Stage (ended_with w.head.size id (stages.Filling number written))) fed.past
+      ended_follows bytes is = follows_end w bytes number written fed.past fed.all (subst (λ (left : Option (List ℕ)). IfSome left (λ bytes. bytes ≡ fed.all)) is whole) so_far (fed.follows bytes is)
+
       by_length : (same : Bool) → (written == w.head.size) ≡ same → StandsAt w state now rest source_now new (if same then stages.Foldering number id else stages.Removing number (refusals.SizeMismatch written))
       by_length true e =
           record {
@@ -86,6 +96,7 @@ module _ (w : Begun) (state : Option State) (now : ℕ) where
             history =
                 subst (λ (b : Bool). IsHistory w.head (NamedBy w) (SourceFailed w source_now) (OtherLength w.left w.head.size) fed.appended (if b then stages.Foldering number id else stages.Removing number (refusals.SizeMismatch written)) fed.past) e ended_history;
             holds = (at_end, all_appended, ap (name_for w.known w.hash w.head) all_appended);
+            follows = λ bytes is. inl (subst (λ (b : Bool). IsAlong (at_hand w bytes) (Stage (if b then stages.Foldering number id else stages.Removing number (refusals.SizeMismatch written))) fed.past) e (ended_follows bytes is));
           }
       by_length false e =
           record {
@@ -99,6 +110,7 @@ module _ (w : Begun) (state : Option State) (now : ℕ) where
             history =
                 subst (λ (b : Bool). IsHistory w.head (NamedBy w) (SourceFailed w source_now) (OtherLength w.left w.head.size) fed.appended (if b then stages.Foldering number id else stages.Removing number (refusals.SizeMismatch written)) fed.past) e ended_history;
             holds = tt;
+            follows = λ bytes is. inl (subst (λ (b : Bool). IsAlong (at_hand w bytes) (Stage (if b then stages.Foldering number id else stages.Removing number (refusals.SizeMismatch written))) fed.past) e (ended_follows bytes is));
           }
 
       pub stands_ended : new.stage ≡ ended_with job.head.size id (stages.Filling number written) → StandsAt w state now rest source_now new new.stage
@@ -114,7 +126,7 @@ module _ (w : Begun) (state : Option State) (now : ℕ) where
       -- for want of memory
       pub breaks_lost : (new : StreamJob) → new.removal ≡ job.removal → BreaksAt w state now last later new (stages.Filling number written)
       breaks_lost new removal =
-          record { past = fed.past; appended = fed.appended; all = fed.all ++ loses.lost; did = fed.did; took = took_lost; removal = removal ∙ fed.removal; history = fed.history }
+          record { past = fed.past; appended = fed.appended; all = fed.all ++ loses.lost; did = fed.did; took = took_lost; removal = removal ∙ fed.removal; history = fed.history; follows = λ bytes is. cuts_fed w bytes (stages.Filling number written) fed.past (fed.follows bytes is) }
 
       -- by a failure of the source
       pub stands_failed : Rose source_now later → (new : StreamJob) → new.head ≡ job.head → new.removal ≡ job.removal → StandsAt w state now last later new (source_failed (stages.Filling number written))
@@ -129,6 +141,10 @@ module _ (w : Begun) (state : Option State) (now : ℕ) where
             removal = removal ∙ fed.removal;
             history = inl (grind (arith, rose, fed.took.later), (fed.appended, fed.history.1));
             holds = tt;
+            follows =
+                λ bytes is.
+                let cuts = cuts_fed w bytes (stages.Filling number written) fed.past (fed.follows bytes is) in
+                inr (record { number = number; failed = grind (arith, rose, fed.took.later); is = refl; cuts = record { reached = cuts.reached; made = cuts.made; along = cuts.along } });
           }
 
     -- a piece is taken
@@ -153,6 +169,13 @@ module _ (w : Begun) (state : Option State) (now : ℕ) where
             full = λ e. ap length is ∙ (let whole = sym ended ∙ e in grind (arith, common_steps, whole, takes.few));
           }
 
+      -- a piece with some bytes was left
+      more_left : (bytes : List ℕ) → w.left ≡ Some bytes → new.piece ≢ [] → written < length bytes
+      more_left bytes told some =
+          let all = subst (λ (left : Option (List ℕ)). IfSome left (λ bytes. length (fed.all ++ piece) ≤ length bytes)) told (Draws-length w.left last (fed.all ++ piece) took_piece.drawn) in
+          let one = some_bytes piece (λ e. some (is ∙ e)) in
+          omega (arith, all, one, so_far, length-append fed.all piece)
+
       pub stands_piece : new.piece ≢ [] → StandsAt w state now last later new (stages.Filling number written)
       stands_piece some =
           record {
@@ -165,6 +188,7 @@ module _ (w : Begun) (state : Option State) (now : ℕ) where
             removal = removal ∙ fed.removal;
             history = fed.history;
             holds = (has_piece, next some);
+            follows = λ bytes told. inl (follows_piece w bytes number written fed.past (more_left bytes told some) (fed.follows bytes told));
           }
 
       pub fed_nothing : new.piece ≡ [] → IsFed w state now last later new (stages.Filling number written)
@@ -180,6 +204,7 @@ module _ (w : Begun) (state : Option State) (now : ℕ) where
             removal = removal ∙ fed.removal;
             history = fed.history;
             holds = (subst (λ (p : List ℕ). HasPiece w last written fed.appended (fed.all ++ piece) p new) none has_piece, λ e. fed.holds.1 open');
+            follows = fed.follows;
           }
 
       pub at_end_nothing : new.piece ≡ [] → IsAtEnd last
@@ -248,3 +273,44 @@ module _ (w : Begun) (state : Option State) (now : ℕ) (rest : Option (List ℕ
 pub goes_on_broken : {E : Type 0} (w : Begun) (state : Option State) (now : ℕ) (rest : Option (List ℕ)) (source_now : ℕ) (job : StreamJob) (result : Result (Unit {0}) E) → IsErr result → BreaksAt w state now rest source_now job job.stage → GoesOn w state now rest source_now job result
 goes_on_broken w state now rest source_now job (Ok x) err broken = absurd (cc err)
 goes_on_broken w state now rest source_now job (Err error) err broken = broken
+
+-- ---- a job that was set to a stage
+
+module _ (w : Begun) (state : Option State) (now : ℕ) (rest : Option (List ℕ)) (source_now : ℕ) (job : StreamJob) (set : WriteStage) where
+  holds_staged : (appended all : List ℕ) (stage : WriteStage) → HoldsFed w rest appended all job stage → HoldsFed w rest appended all (record job { stage = set }) stage
+  holds_staged appended all (stages.Making _) h = h
+  holds_staged appended all (stages.Heading _) h = h
+  holds_staged appended all (stages.Filling _ written) h = (record { is = h.0.is; named = h.0.named; within = h.0.within; ended = h.0.ended }, h.1)
+  holds_staged appended all (stages.Foldering _ _) h = h
+  holds_staged appended all (stages.Moving _ _) h = h
+  holds_staged appended all (stages.Removing _ refusal) h = h
+
+  pub fed_staged : (stage : WriteStage) → IsFed w state now rest source_now job stage → IsFed w state now rest source_now (record job { stage = set }) stage
+  fed_staged stage fed =
+      record {
+        past = fed.past;
+        appended = fed.appended;
+        all = fed.all;
+        did = fed.did;
+        took = fed.took;
+        head = fed.head;
+        none = fed.none;
+        removal = fed.removal;
+        history = fed.history;
+        holds = holds_staged fed.appended fed.all stage fed.holds;
+        follows = fed.follows;
+      }
+
+  -- memory ran out there
+  pub fed_breaks : (stage : WriteStage) → IsFed w state now rest source_now job stage → BreaksAt w state now rest source_now (record job { stage = set }) stage
+  fed_breaks stage fed =
+      record {
+        past = fed.past;
+        appended = fed.appended;
+        all = fed.all;
+        did = fed.did;
+        took = fed.took;
+        removal = fed.removal;
+        history = fed.history;
+        follows = λ bytes told. cuts_fed w bytes stage fed.past (fed.follows bytes told);
+      }

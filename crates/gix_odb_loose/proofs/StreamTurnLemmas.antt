@@ -21,7 +21,7 @@ use Rattle.gix_odb_loose.proofs.WriteHistoryLaws.{IsHistory-next, CountsTooMany,
 use Rattle.gix_odb_loose.specs.WriteNames.{Names}
 use Rattle.gix_odb_loose.specs.WriteOrder.{room_behind, temp_path, write_ask, next_write, made_by, headed_by, filled_by, foldered_by, moved_by, grown}
 use Rattle.gix_odb_loose.specs.StreamJobs.{Begun, NamedBy, SourceFailed, Did, Took, HasPiece, IsNext, Named, HoldsFed, Holds, StandsAt, IsFed, IsReady, IsAtItsEnd, removal_at, turns_left}
-use Rattle.gix_odb_loose.specs.WriteStreams.{OtherLength}
+use Rattle.gix_odb_loose.specs.WriteStreams.{Draws, OtherLength}
 use Rattle.gix_odb_loose.specs.declared.stream_job.StreamJob.{StreamJob}
 use Rattle.gix_odb_loose.specs.declared.write.Message.TheVariants as messages
 use Rattle.gix_odb_loose.specs.declared.write_call.Onward.{Onward}
@@ -31,6 +31,7 @@ use Rattle.gix_odb_loose.specs.declared.write_call.WriteHead.{WriteHead}
 use Rattle.gix_odb_loose.specs.declared.write_call.WriteStage.{WriteStage}
 use Rattle.gix_odb_loose.specs.declared.write_call.WriteStage.TheVariants as stages
 use Rattle.gix_odb_loose.proofs.DrawLemmas.{Draws-length}
+use Rattle.gix_odb_loose.proofs.StreamAskLemmas.{IsNextOf, FollowsTo, piece_next, follows_next}
 use Rattle.gix_odb_loose.proofs.RoomLemmas.{room_few}
 use Rattle.gix_odb_loose.proofs.TurnsLeftLemmas.{onward_left, HasSome, fewer_left}
 
@@ -216,8 +217,26 @@ module _ (w : Begun) (state new : Option State) (now later : ℕ) (rest : Option
   did' : Did w new later past'
   did' = did_next w state new now later ask answer given left more cause tree at.past at.did
 
-  led_to : (appended : List ℕ) (onward : Onward) → IsHistoryOnward w.head (NamedBy w) (SourceFailed w source_now) (OtherLength w.left w.head.size) appended onward past' → Kept w rest job fed removal naming ended appended at.all onward → Leads w new later rest source_now fed onward
-  led_to appended (Stage onward) history kept =
+  -- a piece that is to be appended is the next of the data
+  is_next : (stage : WriteStage) (bytes : List ℕ) → w.left ≡ Some bytes → IsHistory w.head (NamedBy w) (SourceFailed w source_now) (OtherLength w.left w.head.size) at.appended stage at.past → Holds w rest at.appended at.all job stage → IsNextOf w bytes stage job.piece
+  is_next (stages.Making number) bytes told history holds = tt
+  is_next (stages.Heading number) bytes told history holds = tt
+  is_next (stages.Filling number written) bytes told history holds =
+      piece_next bytes at.appended job.piece at.all rest (room_behind w.head.size written) written job.has_ended (subst (λ (l : Option (List ℕ)). Draws l rest at.all) told at.took.drawn) holds.0.is history.0 holds.1.few holds.0.ended holds.1.full
+  is_next (stages.Foldering number id) bytes told history holds = tt
+  is_next (stages.Moving number id) bytes told history holds = tt
+  is_next (stages.Removing number refusal) bytes told history holds = tt
+
+  abbrev Followed : Onward → Type 0
+  Followed onward = (bytes : List ℕ) → w.left ≡ Some bytes → FollowsTo w bytes (SourceFailed w source_now) onward past'
+
+  followed : ask ≡ write_ask w.head job.piece stage → Followed (next_write w.head.size (length job.piece) stage answer)
+  followed is = λ bytes told.
+      subst (λ (a : DiskAsk). FollowsTo w bytes (SourceFailed w source_now) (next_write w.head.size (length job.piece) stage answer) (at.past ++ exchanged a answer ∷ [])) (sym is)
+      (follows_next w bytes (SourceFailed w source_now) stage job.piece at.past answer (is_next stage bytes told at.history at.holds) (at.follows bytes told))
+
+  led_to : (appended : List ℕ) (onward : Onward) → IsHistoryOnward w.head (NamedBy w) (SourceFailed w source_now) (OtherLength w.left w.head.size) appended onward past' → Kept w rest job fed removal naming ended appended at.all onward → Followed onward → Leads w new later rest source_now fed onward
+  led_to appended (Stage onward) history kept follows =
       record {
         past = past';
         appended = appended;
@@ -229,9 +248,10 @@ module _ (w : Begun) (state new : Option State) (now later : ℕ) (rest : Option
         removal = kept.1;
         history = history;
         holds = kept.0;
+        follows = follows;
       }
-  led_to appended (End (Ok id)) history kept = record { past = past'; appended = appended; all = at.all; did = did'; took = at.took; ends = (history, kept) }
-  led_to appended (End (Err refusal)) history kept = record { past = past'; appended = appended; all = at.all; did = did'; took = at.took; ends = history }
+  led_to appended (End (Ok id)) history kept follows = record { past = past'; appended = appended; all = at.all; did = did'; took = at.took; ends = (history, kept); follows = follows }
+  led_to appended (End (Err refusal)) history kept follows = record { past = past'; appended = appended; all = at.all; did = did'; took = at.took; ends = history; follows = follows }
 
   pub led : ask ≡ write_ask w.head job.piece stage → Leads w new later rest source_now fed (next_write w.head.size (length job.piece) stage answer)
   led is =
@@ -239,7 +259,7 @@ module _ (w : Begun) (state new : Option State) (now later : ℕ) (rest : Option
       (subst (λ (a : DiskAsk). IsHistoryOnward w.head (NamedBy w) (SourceFailed w source_now) (OtherLength w.left w.head.size) (data_after stage job.piece answer at.appended) (next_write w.head.size (length job.piece) stage answer) (at.past ++ exchanged a answer ∷ [])) (sym is)
       (IsHistory-next w.head (NamedBy w) (SourceFailed w source_now) (OtherLength w.left w.head.size) stage at.appended job.piece at.past answer (counts w rest job fed removal naming ended source_now at.appended at.all at.past stage at.history at.holds at.took)
       (next_piece w rest job fed removal naming ended source_now at.appended at.all at.past stage at.holds) at.history))
-      (kept w rest job fed removal naming ended source_now at.appended at.all at.past stage answer at.history at.holds at.removal)
+      (kept w rest job fed removal naming ended source_now at.appended at.all at.past stage answer at.history at.holds at.removal) (followed is)
 
 -- ---- a turn as the code has it
 

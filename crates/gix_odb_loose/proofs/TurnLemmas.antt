@@ -1,24 +1,17 @@
 -- The turns of a finding call: it asks once, and leaves the disk as it was.
-use Rattle.std.specs.Prelude.{◌≡◌, ◌⊎◌, ◌≤◌, ℕ, Bool, true, false, Option, Some, None, IfSome, refl}
+use Rattle.std.specs.Prelude.{◌≡◌, ◌≤◌, ℕ, Bool, true, false, Option, Some, None, refl}
 use Rattle.std.proofs.Common.{inl, inr, sym, ap, ◌∙◌, subst, arith}
 use Rattle.odb_base.specs.Faults.{Rose}
 use Rattle.odb_disk.specs.Ask.{state_told_after, change_of_ask}
-use Rattle.odb_disk.specs.Tree.{State, tree_of}
-use Rattle.odb_disk.specs.Tree.Write.{written}
+use Rattle.odb_disk.specs.Tree.{State}
 use Rattle.odb_disk.specs.declared.ask.DiskAsk.{DiskAsk}
 use Rattle.odb_disk.specs.declared.ask.DiskAsk.TheVariants as asks
 use Rattle.odb_disk.specs.declared.ask.DiskAnswer.{DiskAnswer}
 use Rattle.odb_disk.specs.declared.ask.DiskAnswer.TheVariants as answers
 use Rattle.gix_odb_loose.specs.LooseFile.{IsFinding, loose_path}
-use Rattle.gix_odb_loose.specs.LooseOrder.{started, fed, disk_ask_of, reply_of, next_stage, written_to, IsWriteStage}
-use Rattle.gix_odb_loose.specs.Runs.{Gave, Goes, Led, Turned, Turns, Broke, ComesToReply}
+use Rattle.gix_odb_loose.specs.LooseOrder.{started, fed, disk_ask_of, reply_of}
+use Rattle.gix_odb_loose.specs.Runs.{Goes, Led, Turned, Turns, Broke, ComesToReply}
 use Rattle.gix_odb_loose.specs.Store.{store_path}
-use Rattle.gix_odb_loose.specs.WriteJobs.{led_in}
-use Rattle.gix_odb_loose.specs.declared.write_job.Led as written
-use Rattle.gix_odb_loose.specs.declared.write_job.Led.TheVariants as leds
-use Rattle.gix_odb_loose.specs.declared.write_job.WriteJob.{WriteJob}
-use Rattle.gix_odb_loose.specs.declared.call.Stage.{Stage}
-use Rattle.gix_odb_loose.specs.declared.call.Stage.TheVariants as stages
 use Rattle.gix_odb_loose.specs.declared.store.Store.{Store}
 use Rattle.gix_odb_loose.specs.declared.call.LooseCall.{LooseCall}
 use Rattle.gix_odb_loose.specs.declared.call.LooseReply.{LooseReply}
@@ -123,21 +116,3 @@ module _ (state : Option State) (before now : ℕ) (store : Store) (job : LooseJ
         gave = record { told = led.gave.told; failed = λ f. rose_until later then (led.gave.failed f) };
         replied = sym (ap reply_of (turned.1 ∙ led.is)) ∙ replied;
       }
-
--- ---- a write
-
-write_led : (job : WriteJob) (led : written.Led) → IsWriteStage (written_to job led)
-write_led job (leds.On stage) = tt
-write_led job (leds.Wrote answer) = tt
-
-write_next : (stage : Stage) (given : DiskAnswer) → IsWriteStage stage → IsWriteStage (next_stage stage given)
-write_next (stages.Writing job) given is = write_led job (led_in job given)
-write_next (stages.Done reply) given is = is
-write_next (stages.Testing path) given is = absurd is
-write_next (stages.Finding path limit) given is = absurd is
-write_next (stages.Heading path) given is = absurd is
-
--- a write stays one
-pub write_turn : (state new : Option State) (before now : ℕ) (call after : LooseCall) (more : Bool) → Turns more state new before now call after → IsWriteStage call.stage → IsWriteStage after.stage
-write_turn state new before now call after true turned is = subst (λ c. IsWriteStage c.stage) (sym turned.is) (write_next call.stage turned.given is)
-write_turn state new before now call after false turned is = subst (λ c. IsWriteStage c.stage) (sym turned.1) is

@@ -6,7 +6,7 @@ use Rattle.odb_disk.specs.declared.ask.DiskAnswer.{DiskAnswer}
 use Rattle.odb_disk.specs.declared.ask.DiskAnswer.TheVariants as answers
 use Rattle.odb_disk.specs.declared.disk.DiskError.TheVariants as disk_errors
 use Rattle.gix_hash.specs.declared.object_id.ObjectId.{ObjectId}
-use Rattle.gix_odb_loose.specs.WriteOrder.{next_write, made_by, headed_by, filled_by, foldered_by, moved_by, grown, ended_with, source_failed}
+use Rattle.gix_odb_loose.specs.WriteOrder.{next_write, made_by, headed_by, filled_by, foldered_by, moved_by, grown, ended_with}
 use Rattle.gix_odb_loose.specs.StreamJobs.{turns_left}
 use Rattle.gix_odb_loose.specs.declared.write.Message.TheVariants as messages
 use Rattle.gix_odb_loose.specs.declared.write_call.Onward.{Onward}
@@ -95,11 +95,3 @@ module _ (size : ℕ) where
   ended_fewer total id (stages.Foldering number other) = omega arith
   ended_fewer total id (stages.Moving number other) = omega arith
   ended_fewer total id (stages.Removing number refusal) = omega arith
-
-  pub failed_fewer : (stage : WriteStage) → turns_left size (source_failed stage) ≤ turns_left size stage
-  failed_fewer (stages.Making number) = omega arith
-  failed_fewer (stages.Heading number) = omega arith
-  failed_fewer (stages.Filling number written) = omega arith
-  failed_fewer (stages.Foldering number id) = omega arith
-  failed_fewer (stages.Moving number id) = omega arith
-  failed_fewer (stages.Removing number refusal) = omega arith

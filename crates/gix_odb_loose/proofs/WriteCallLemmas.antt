@@ -16,6 +16,7 @@ use Rattle.gix_object.specs.Stream as streams
 use Rattle.gix_odb_loose.specs.Causes.WriteLaws.{WriteCause-wider}
 use Rattle.gix_odb_loose.specs.WriteNames.{name_for}
 use Rattle.gix_odb_loose.specs.Exchanges.{Exchange}
+use Rattle.gix_odb_loose.specs.WriteAsks.{write_of, RunsAlong}
 use Rattle.gix_odb_loose.specs.WriteHistory.{DoneIn, IsStopped, IsHistory}
 use Rattle.gix_odb_loose.specs.WriteRuns.{Refuses, FoundThere, IsRefusedWrite, NamedFrom, WriteRuns}
 use Rattle.gix_odb_loose.specs.WriteStreams.{Draws, IsAtEnd, OtherLength, TakesFrom}
@@ -26,6 +27,7 @@ use Rattle.gix_odb_loose.specs.declared.write_call.Refusal.TheVariants as refusa
 use Rattle.gix_odb_loose.specs.declared.write_call.WriteHead.{WriteHead}
 use Rattle.gix_odb_loose.specs.declared.write_call.WriteStage.{WriteStage}
 use Rattle.gix_odb_loose.specs.declared.write_call.WriteStage.TheVariants as stages
+use Rattle.gix_odb_loose.specs.declared.write_job.WriteJob.{WriteJob}
 
 pub if_ok : {A E : Type 0} (P : A → Type 0) (result : Result A E) → ((x : A) → result ≡ Ok x → P x) → IfOk result P
 if_ok P (Ok x) h = h x refl
@@ -101,6 +103,9 @@ module _ (head : WriteHead) (hash : HashKind) (source : Option (List ℕ)) (Sour
       by_result (Ok id) is e = let writes = run.wrote id is in record { size_is = whole source writes.bytes writes.whole writes.size; at_end = at_end source rest takes.all takes.drawn e }
       by_result (Err error) is e = tt
 
+  unfailing_asks : (job : WriteJob) (past : List Exchange) → (SourceFailed → ⊥) → RunsAlong job SourceFailed past result → RunsAlong job ⊥ past result
+  unfailing_asks job past none h = elim h [ inl ended ↦ inl ended | inr cut ↦ inr (cut.0, elim cut.1 [ inl failed ↦ absurd (none failed.0) | inr no_memory ↦ inr no_memory ]) ]
+
   -- a source that never fails is no cause
   pub runs_unfailing : (known : Option ObjectId) → (SourceFailed → ⊥) → WriteRuns head hash known source SourceFailed state new before now result → WriteRuns head hash known source ⊥ state new before now result
   runs_unfailing known none run =
@@ -109,6 +114,7 @@ module _ (head : WriteHead) (hash : HashKind) (source : Option (List ℕ)) (Sour
         given = run.given;
         left = run.left;
         own = run.own;
+        asks = λ bytes told. unfailing_asks (write_of head hash known bytes) run.exchanges none (run.asks bytes told);
         wrote = run.wrote;
         stopped = λ error is. unfailing_write head (NamedFrom head hash known source) (OtherLength source head.size) SourceFailed none run.exchanges error (run.stopped error is);
         unnamed = run.unnamed;

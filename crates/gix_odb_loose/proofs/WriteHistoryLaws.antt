@@ -16,7 +16,7 @@ use Rattle.gix_hash.specs.declared.object_id.ObjectId.{ObjectId}
 use Rattle.gix_object.specs.Loose.{header_of}
 use Rattle.gix_odb_loose.specs.LooseFile.{loose_path}
 use Rattle.gix_odb_loose.specs.Exchanges.{Exchange, exchanged}
-use Rattle.gix_odb_loose.specs.WriteOrder.{temp_path, prefix_path, write_ask, next_write, made_by, headed_by, filled_by, foldered_by, moved_by, refused_by, grown, ended_with, source_failed}
+use Rattle.gix_odb_loose.specs.WriteOrder.{temp_path, prefix_path, write_ask, next_write, made_by, headed_by, filled_by, foldered_by, moved_by, refused_by, grown, ended_with}
 use Rattle.gix_odb_loose.specs.WriteHistory.{tried, made, headed, filled, IsFilled, IsFoldered, IsThere, IsRefused, IsRefusedByExists, GoesWell, IsAnswered, Wants, IsStopped, IsUnmade, IsHistory, IsHistoryOnward, data_after}
 use Rattle.gix_odb_loose.specs.WritePieces.{IsInPieces, IsLast, IsCut}
 use Rattle.gix_odb_loose.specs.declared.write.Message.TheVariants as messages
@@ -277,13 +277,3 @@ module _ (head : WriteHead) (Named : ObjectId → Type 0) (SourceFailed : Type 0
           → IsHistory head Named SourceFailed Counted appended (if same then stages.Foldering number id else stages.Removing number (refusals.SizeMismatch written)) past
       by_length true e = (let same : written ≡ head.size = grind (arith, common_steps, e) in sym is.0 ∙ same, named, is.1)
       by_length false e = (counts (grind (arith, common_steps, e)), (appended, is.1))
-
-  -- So does a failure of the source.
-  pub IsHistory-failed : (stage : WriteStage) (appended : List ℕ) (past : List Exchange) → SourceFailed → IsHistory head Named SourceFailed Counted appended stage past
-      → IsHistory head Named SourceFailed Counted appended (source_failed stage) past
-  IsHistory-failed (stages.Making number) appended past failed is = is
-  IsHistory-failed (stages.Heading number) appended past failed is = is
-  IsHistory-failed (stages.Filling number written) appended past failed is = inl (failed, (appended, is.1))
-  IsHistory-failed (stages.Foldering number id) appended past failed is = is
-  IsHistory-failed (stages.Moving number id) appended past failed is = is
-  IsHistory-failed (stages.Removing number refusal) appended past failed is = is

@@ -14,7 +14,7 @@ use Rattle.odb_disk.specs.declared.ask.DiskAnswer.{DiskAnswer}
 use Rattle.odb_disk.specs.declared.ask.DiskAnswer.TheVariants as answers
 use Rattle.odb_disk.specs.declared.disk.DiskError.{DiskError}
 use Rattle.odb_disk.specs.declared.disk.DiskError.TheVariants as disk_errors
-use Rattle.gix_odb_loose.proofs.RefusalLaws.{Never, there, full, new_file-never, make_dir-never, append-never, rename-never}
+use Rattle.odb_disk.proofs.RefusalLaws.{Never, there, full, new_file-never, make_dir-never, append-never, rename-never}
 use Rattle.gix_hash.specs.declared.object_id.ObjectId.{ObjectId}
 use Rattle.gix_odb_loose.specs.Causes.{WriteCause}
 use Rattle.gix_odb_loose.specs.Causes.WriteLaws.{IsMaking, WriteCause-wider}
@@ -23,11 +23,12 @@ use Rattle.std.proofs.lemmas.List.{length-append}
 use Rattle.gix_odb_loose.specs.LooseFile.{loose_path}
 use Rattle.gix_odb_loose.specs.WriteRuns.ReadBack.{ReadsBack}
 use Rattle.gix_odb_loose.proofs.ReadBackLaws.{moved_reads_back}
+use Rattle.gix_odb_loose.specs.WriteAsks.{RunsAlong}
 use Rattle.gix_odb_loose.specs.WriteHistory.{IsMoved, IsRefused, RefusedIn, TakenIn, DoneIn, WantedIn, HasCauseIn, IsRefusedRun, IsBrokenRun, tried}
 use Rattle.gix_odb_loose.specs.WriteOwn.{AreOwn, LeavesNothing}
 use Rattle.gix_odb_loose.specs.WriteOrder.{error_from, temp_path}
 use Rattle.gix_odb_loose.specs.WriteRuns.{IsOnWay, Refuses, FoundThere, IsRefusedWrite, Writes, WriteRuns}
-use Rattle.gix_odb_loose.specs.StreamJobs.{Begun, NamedBy, SourceFailed, Did, Took, IsAtItsEnd, IsBrokenOff}
+use Rattle.gix_odb_loose.specs.StreamJobs.{Begun, at_hand, NamedBy, SourceFailed, Did, Took, IsAtItsEnd, IsBrokenOff}
 use Rattle.gix_odb_loose.specs.WriteStreams.{OtherLength, TakesFrom}
 use Rattle.gix_odb_loose.proofs.WriteShownLaws.{refused_unnamed, refused_cleared, refused_own, broken_unnamed, broken_cleared, broken_own, moved_own, moved_below, unmade_left}
 use Rattle.gix_odb_loose.proofs.WriteCauseLaws.{refused_cause}
@@ -38,7 +39,9 @@ use Rattle.gix_odb_loose.specs.declared.write_call.WriteHead.{WriteHead}
 use Rattle.gix_odb_loose.specs.declared.write_call.WriteStage.TheVariants as stages
 use Rattle.gix_odb_loose.specs.declared.write.Message.TheVariants as messages
 use Rattle.odb_base.specs.Path.{Path}
-use Rattle.gix_odb_loose.proofs.DrawLemmas.{Draws-end, Draws-none}
+use Rattle.gix_odb_loose.proofs.AskLaws.{IsAlong-start}
+use Rattle.gix_odb_loose.proofs.DrawLemmas.{Draws-end}
+use Rattle.gix_odb_loose.proofs.StreamAskLemmas.{runs_end}
 
 -- ---- what a refused ask was answered
 
@@ -131,13 +134,13 @@ refuses_in state before now xs given fail ask making refused =
 -- ---- the promise of a write
 
 -- an object that got its name is read back, where the states are told
-reads_back : (first new : Option State) (head : WriteHead) (number : ℕ) (id : ObjectId) (bytes : List ℕ) (past : List Exchange) → IsMoved head number id bytes past → AreGiven first past → new ≡ left_by first past
-    → (past ≡ []) ⊎ IfSome first (λ s. IsTree (tree_of s)) → IfSome first (λ _. ReadsBack head number id bytes new)
+reads_back : (first new : Option State) (head : WriteHead) (number : ℕ) (id : ObjectId) (bytes : List ℕ) (past : List Exchange) → (moved : IsMoved head number id bytes past) → AreGiven first past → new ≡ left_by first past
+    → (past ≡ []) ⊎ IfSome first (λ s. IsTree (tree_of s)) → IfSome first (λ _. ReadsBack head number id bytes (left_by first moved.before) new)
 reads_back None new head number id bytes past moved given left tree = tt
 reads_back (Some s) new head number id bytes past moved given left tree =
     elim tree [
       | inl none ↦ absurd (let long = ap length (sym moved.is ∙ none) in omega (arith, long, length-append moved.before (exchanged (asks.Rename (temp_path head.objects number) (loose_path head.objects id)) answers.Done ∷ [])))
-      | inr is ↦ subst (ReadsBack head number id bytes) (sym left) (moved_reads_back head number id bytes s is past moved given)
+      | inr is ↦ subst (ReadsBack head number id bytes (left_by (Some s) moved.before)) (sym left) (moved_reads_back head number id bytes s is past moved given)
     ]
 
 module _ (w : Begun) (state : Option State) (now : ℕ) (rest : Option (List ℕ)) (source_now : ℕ) where
@@ -165,13 +168,18 @@ module _ (w : Begun) (state : Option State) (now : ℕ) (rest : Option (List ℕ
     untouched : (at : Path) → error ≡ errors.Io messages.CreateTempFile at → left_by w.state past ≡ w.state
     cause : Refused past error
 
-  runs_refused : (past : List Exchange) (error : Error) (result : Result ObjectId Error) → result ≡ Err error → Did w state now past → Shows past error → Runs result
-  runs_refused past error result is did shows =
+  -- what it asked, where the source tells its data
+  abbrev Asked : List Exchange → Result ObjectId Error → Type 0
+  Asked past result = (bytes : List ℕ) → w.left ≡ Some bytes → RunsAlong (at_hand w bytes) (SourceFailed w source_now) past result
+
+  runs_refused : (past : List Exchange) (error : Error) (result : Result ObjectId Error) → result ≡ Err error → Did w state now past → Shows past error → Asked past result → Runs result
+  runs_refused past error result is did shows asked =
       record {
         exchanges = past;
         given = did.given;
         left = did.left;
         own = shows.own;
+        asks = asked;
         wrote = λ id e. absurd (let both : Ok id ≡ Err error = sym e ∙ is in cc both);
         stopped = λ other e. let same : error ≡ other = cc (sym is ∙ e) in subst (Stopped past) same shows.stopped;
         unnamed = λ other e. shows.unnamed;
@@ -188,6 +196,7 @@ module _ (w : Begun) (state : Option State) (now : ℕ) (rest : Option (List ℕ
         given = at.did.given;
         left = at.did.left;
         own = moved_own w.head (NamedBy w) at.ends.0.2.0 id at.appended at.past at.ends.0.1 at.ends.0.2.1;
+        asks = λ bytes told. runs_end w bytes (SourceFailed w source_now) (Ok id) at.past result (inl is) (at.follows bytes told);
         wrote = λ other e. let same : id ≡ other = cc (sym is ∙ e) in subst (λ (i : ObjectId). Writes w.head w.hash w.known w.left w.state state at.past i) same writes;
         stopped = λ error e. absurd (let both : Err error ≡ Ok id = sym e ∙ is in cc both);
         unnamed = λ error e. absurd (let both : Err error ≡ Ok id = sym e ∙ is in cc both);
@@ -230,9 +239,12 @@ module _ (w : Begun) (state : Option State) (now : ℕ) (rest : Option (List ℕ
         runs_refused at.past (error_from w.head refusal) result is at.did
         (shown (error_from w.head refusal) (inl refl) (λ path e. unmade_left w.head (NamedBy w) (SourceFailed w source_now) (OtherLength w.left w.head.size) w.state refusal path at.past e run)
         (cause_told at.past (error_from w.head refusal) at.did (refused_cause w.head (NamedBy w) (SourceFailed w source_now) (OtherLength w.left w.head.size) refusal at.past run)))
+        (λ bytes told. runs_end w bytes (SourceFailed w source_now) (Err refusal) at.past result (inl is) (at.follows bytes told))
 
     pub runs_untold : (result : Result ObjectId Error) → result ≡ Err errors.NoMemory → Runs result
-    runs_untold result is = runs_refused at.past errors.NoMemory result is at.did (shown errors.NoMemory (inr refl) (λ path e. absurd (cc e)) tt)
+    runs_untold result is =
+        runs_refused at.past errors.NoMemory result is at.did (shown errors.NoMemory (inr refl) (λ path e. absurd (cc e)) tt)
+        (λ bytes told. runs_end w bytes (SourceFailed w source_now) (Err refusal) at.past result (inr is) (at.follows bytes told))
 
   shown_broken : (past : List Exchange) → IsBrokenRun w.head (NamedBy w) (SourceFailed w source_now) (OtherLength w.left w.head.size) past → Shows past errors.NoMemory
   shown_broken past run =
@@ -246,7 +258,7 @@ module _ (w : Begun) (state : Option State) (now : ℕ) (rest : Option (List ℕ
       }
 
   pub runs_broken : IsBrokenOff w state now rest source_now → (result : Result ObjectId Error) → result ≡ Err errors.NoMemory → Runs result
-  runs_broken off result is = runs_refused off.past errors.NoMemory result is off.did (shown_broken off.past off.run)
+  runs_broken off result is = runs_refused off.past errors.NoMemory result is off.did (shown_broken off.past off.run) (λ bytes told. inr (off.follows bytes told, inr is))
 
 -- what it took
 pub took_from : (w : Begun) (rest : Option (List ℕ)) (source_now : ℕ) (all : List ℕ) → Took w rest source_now all → TakesFrom w.head.size w.left rest w.source_faults source_now
@@ -258,9 +270,7 @@ unfolding AreGiven left_by tried
 runs_nothing w result is =
     runs_refused w w.state w.faults w.left w.source_faults [] errors.NoMemory result is (record { given = tt; left = refl; failed = λ k d l. absurd (omega (arith, l)); later = omega arith; tree = inl refl })
     (shown_broken w w.state w.faults w.left w.source_faults [] (record { stage = stages.Making 0; appended = []; before = []; history = (omega arith, refl, refl); removed = refl }))
-
-pub took_nothing : (size : ℕ) (left : Option (List ℕ)) (faults : ℕ) → TakesFrom size left left faults faults
-took_nothing size left faults = record { all = []; drawn = Draws-none left; few = omega arith; later = omega arith }
+    (λ bytes told. inr (record { stage = stages.Making 0; before = []; along = IsAlong-start (at_hand w bytes); removed = refl }, inr is))
 
 -- a call that was refused for want of memory
 pub for_memory : {A : Type 0} (result : Result A Error) → IsErrAnd result (λ e. e ≡ errors.NoMemory) → result ≡ Err errors.NoMemory

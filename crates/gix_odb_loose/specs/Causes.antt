@@ -23,7 +23,7 @@ use Rattle.odb_base.specs.Path.{Path}
 use Rattle.odb_disk.specs.Tree.Follow.{WrongKind, LinkLoop}
 use Rattle.gix_object.specs.Loose.{IsLoose}
 use Rattle.gix_object.specs.declared.kind.Kind.{Kind}
-use Rattle.gix_odb_loose.specs.LooseFile.{Reading}
+use Rattle.gix_odb_loose.specs.LooseFile.{Reading, IsWithin}
 use Rattle.gix_odb_loose.specs.declared.find.Error.{Error}
 use Rattle.gix_odb_loose.specs.declared.find.Error.TheVariants as errors
 use Rattle.gix_odb_loose.specs.declared.find.Action.TheVariants.{OpenOrMap}
@@ -61,20 +61,21 @@ pub record HasLargeSize (limit : Option ℕ) (size : ℕ) (read : Reading) : Typ
   pub header : IsLoose bytes kind size rest
   pub above : IsAbove limit size
 
--- a read gave a file whose data have another length than its header says
-pub record HasOtherLength (expected actual : ℕ) (read : Reading) : Type 0 where
+-- a read gave a file whose header says a size within the limit, and whose data have another length
+pub record HasOtherLength (limit : Option ℕ) (expected actual : ℕ) (read : Reading) : Type 0 where
   pub bytes : List ℕ
   pub time : ℕ
   pub kind : Kind
   pub rest : List ℕ
   pub given : read ≡ Ok (bytes, time)
   pub header : IsLoose bytes kind expected rest
+  pub within : IsWithin limit expected
   pub length_is : length rest ≡ actual
   pub differs : actual ≢ expected
 
 -- What each error of a find says, of the path of the sought object.
 abbrev pub FindCause : (path : Path) (limit : Option ℕ) (Gave : Reading → Type 0) (Failed Wanting : Type 0) → Error → Type 0
-FindCause path limit Gave Failed Wanting (errors.SizeMismatch actual expected at) = (at ≡ path) × Seen Gave (HasOtherLength expected actual)
+FindCause path limit Gave Failed Wanting (errors.SizeMismatch actual expected at) = (at ≡ path) × Seen Gave (HasOtherLength limit expected actual)
 FindCause path limit Gave Failed Wanting errors.Decode = Seen Gave HasNoHeader
 FindCause path limit Gave Failed Wanting (errors.OutOfMemory size) = Seen Gave (HasLargeSize limit size)
 FindCause path limit Gave Failed Wanting (errors.Io action at) = (action ≡ OpenOrMap) × (at ≡ path) × (Failed ⊎ Seen Gave IsUnreadable)

@@ -10,6 +10,7 @@ pub mod WritePieces
 pub mod WriteHistory
 pub mod WriteOwn
 pub mod WriteStreams
+pub mod WriteAsks
 pub mod WriteRuns
 pub mod StreamJobs
 pub mod LooseOrder

@@ -12,17 +12,23 @@ use Rattle.gix_odb_loose.specs.Store.{store_hash}
 use Rattle.gix_odb_loose.specs.WriteHistory.{IsHistory, IsHistoryOfEnd, IsBrokenRun}
 use Rattle.gix_odb_loose.specs.WritePieces.{IsInPieces}
 use Rattle.gix_odb_loose.specs.WriteNames.{name_for, Names}
-use Rattle.gix_odb_loose.specs.WriteOrder.{temp_path, ended_with, room_behind}
+use Rattle.gix_odb_loose.specs.WriteAsks.{write_of, IsAlong, IsCutOff}
+use Rattle.gix_odb_loose.specs.WriteJobs.{supplied_to}
+use Rattle.gix_odb_loose.specs.WriteOrder.{temp_path, ended_with, number_made, room_behind}
 use Rattle.gix_odb_loose.specs.WriteRuns.{write_head}
 use Rattle.gix_odb_loose.specs.WriteStreams.{Draws, IsAtEnd, OtherLength}
 use Rattle.gix_odb_loose.specs.declared.fetch.Fetched.{Fetched}
 use Rattle.gix_odb_loose.specs.declared.fetch.Fetched.TheVariants.{Piece, Failed}
 use Rattle.gix_odb_loose.specs.declared.store.Store.{Store}
 use Rattle.gix_odb_loose.specs.declared.stream_job.StreamJob.{StreamJob}
+use Rattle.gix_odb_loose.specs.declared.write.Message.TheVariants as messages
+use Rattle.gix_odb_loose.specs.declared.write_call.Onward.TheVariants.{Stage, End}
 use Rattle.gix_odb_loose.specs.declared.write_call.Refusal.{Refusal}
+use Rattle.gix_odb_loose.specs.declared.write_call.Refusal.TheVariants as refusals
 use Rattle.gix_odb_loose.specs.declared.write_call.WriteHead.{WriteHead}
 use Rattle.gix_odb_loose.specs.declared.write_call.WriteStage.{WriteStage}
 use Rattle.gix_odb_loose.specs.declared.write_call.WriteStage.TheVariants as stages
+use Rattle.gix_odb_loose.specs.declared.write_job.WriteJob.{WriteJob}
 
 -- ---- what one read takes
 
@@ -137,6 +143,31 @@ abbrev pub IsReady : Begun → DiskAsk → WriteStage → Type 0
 IsReady w removal (stages.Making number) = Unit {0}
 IsReady w removal stage = removal ≡ removal_at w stage
 
+-- ---- what it asks, where its source tells its data
+
+-- the same write with its data at hand
+abbrev pub at_hand : Begun → List ℕ → WriteJob
+at_hand w bytes = write_of w.head w.hash w.known bytes
+
+-- where a write is broken off at a stage, what it asked led to one with the same temporary file
+pub record CutsAt (job : WriteJob) (stage : WriteStage) (past : List Exchange) : Type 0 where
+  pub reached : WriteStage
+  pub made : number_made reached ≡ number_made stage
+  pub along : IsAlong job (Stage reached) past
+
+-- the source failed, and the temporary file is to be removed
+pub record FailsAt (job : WriteJob) (Stopped : Type 0) (stage : WriteStage) (past : List Exchange) : Type 0 where
+  pub number : ℕ
+  pub failed : Stopped
+  pub is : stage ≡ stages.Removing number (refusals.Io messages.StreamData)
+  pub cuts : CutsAt job stage past
+
+abbrev pub FollowsAt : WriteJob → (Stopped : Type 0) → WriteStage → List Exchange → Type 0
+FollowsAt job Stopped stage past = IsAlong job (Stage stage) past ⊎ FailsAt job Stopped stage past
+
+abbrev pub FollowsToEnd : WriteJob → (Stopped : Type 0) → Result ObjectId Refusal → List Exchange → Type 0
+FollowsToEnd job Stopped end past = IsAlong job (End end) past ⊎ (Stopped × (end ≡ Err (refusals.Io messages.StreamData)) × IsCutOff job past)
+
 -- a write that stands at a stage
 pub record StandsAt (w : Begun) (state : Option State) (now : ℕ) (rest : Option (List ℕ)) (source_now : ℕ) (job : StreamJob) (stage : WriteStage) : Type 0 where
   pub past : List Exchange
@@ -148,6 +179,7 @@ pub record StandsAt (w : Begun) (state : Option State) (now : ℕ) (rest : Optio
   pub removal : job.removal ≡ removal_at w stage
   pub history : IsHistory w.head (NamedBy w) (SourceFailed w source_now) (OtherLength w.left w.head.size) appended stage past
   pub holds : Holds w rest appended all job stage
+  pub follows : (bytes : List ℕ) → w.left ≡ Some bytes → FollowsAt (at_hand w bytes) (SourceFailed w source_now) stage past
 
 abbrev pub IsUnderway : Begun → Option State → ℕ → Option (List ℕ) → ℕ → StreamJob → Type 0
 IsUnderway w state now rest source_now job = StandsAt w state now rest source_now job job.stage
@@ -164,6 +196,7 @@ pub record IsFed (w : Begun) (state : Option State) (now : ℕ) (rest : Option (
   pub removal : IsReady w job.removal stage
   pub history : IsHistory w.head (NamedBy w) (SourceFailed w source_now) (OtherLength w.left w.head.size) appended stage past
   pub holds : HoldsFed w rest appended all job stage
+  pub follows : (bytes : List ℕ) → w.left ≡ Some bytes → IsAlong (at_hand w bytes) (Stage (supplied_to (at_hand w bytes) stage)) past
 
 -- a write that memory ran out of between two asks: its removal is ready, where it made its file
 pub record BreaksAt (w : Begun) (state : Option State) (now : ℕ) (rest : Option (List ℕ)) (source_now : ℕ) (job : StreamJob) (stage : WriteStage) : Type 0 where
@@ -174,6 +207,7 @@ pub record BreaksAt (w : Begun) (state : Option State) (now : ℕ) (rest : Optio
   pub took : Took w rest source_now all
   pub removal : IsReady w job.removal stage
   pub history : IsHistory w.head (NamedBy w) (SourceFailed w source_now) (OtherLength w.left w.head.size) appended stage past
+  pub follows : (bytes : List ℕ) → w.left ≡ Some bytes → CutsAt (at_hand w bytes) stage past
 
 abbrev pub IsBroken : Begun → Option State → ℕ → Option (List ℕ) → ℕ → StreamJob → Type 0
 IsBroken w state now rest source_now job = BreaksAt w state now rest source_now job job.stage
@@ -202,6 +236,7 @@ pub record IsAtItsEnd (w : Begun) (state : Option State) (now : ℕ) (rest : Opt
   pub did : Did w state now past
   pub took : Took w rest source_now all
   pub ends : EndsWith w rest source_now appended all past end
+  pub follows : (bytes : List ℕ) → w.left ≡ Some bytes → FollowsToEnd (at_hand w bytes) (SourceFailed w source_now) end past
 
 -- a write that memory ran out of, and that has asked to remove the temporary file that it made
 pub record IsBrokenOff (w : Begun) (state : Option State) (now : ℕ) (rest : Option (List ℕ)) (source_now : ℕ) : Type 0 where
@@ -210,6 +245,7 @@ pub record IsBrokenOff (w : Begun) (state : Option State) (now : ℕ) (rest : Op
   pub did : Did w state now past
   pub run : IsBrokenRun w.head (NamedBy w) (SourceFailed w source_now) (OtherLength w.left w.head.size) past
   pub took : Took w rest source_now all
+  pub follows : (bytes : List ℕ) → w.left ≡ Some bytes → IsCutOff (at_hand w bytes) past
 
 -- what one turn comes to: the write goes on, ends, or wants memory
 abbrev pub TurnsTo : {E : Type 0} → Begun → Option State → ℕ → Option (List ℕ) → ℕ → StreamJob → Result (Option (Result ObjectId Refusal)) E → Type 0

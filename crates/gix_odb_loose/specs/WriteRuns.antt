@@ -1,6 +1,6 @@
 -- What one write of a store does to its disk, and why it ends so.
 pub mod ReadBack
-use Rattle.std.specs.Prelude.{◌≡◌, ◌⊎◌, ⊤, ℕ, ◌<◌, List, length, Contains, Option, Result, Ok, Err, IfSome}
+use Rattle.std.specs.Prelude.{◌≡◌, ◌⊎◌, ⊤, ℕ, ◌<◌, List, length, Contains, Option, Some, Result, Ok, Err, IfSome}
 use Rattle.odb_base.specs.Faults.{Rose}
 use Rattle.odb_base.specs.Path.{Path}
 use Rattle.odb_disk.specs.Tree.{State}
@@ -16,6 +16,7 @@ use Rattle.gix_odb_loose.specs.Causes.{WriteCause}
 use Rattle.gix_odb_loose.specs.Exchanges.{Exchange, exchanged, left_by, AreGiven, RenamedNothing}
 use Rattle.gix_odb_loose.specs.Store.{store_path}
 use Rattle.gix_odb_loose.specs.WriteHistory.{IsMoved, IsRefused, DoneIn, IsRefusedRun, IsBrokenRun}
+use Rattle.gix_odb_loose.specs.WriteAsks.{write_of, RunsAlong}
 use Rattle.gix_odb_loose.specs.WriteOwn.{AreOwn, LeavesNothing}
 use Rattle.gix_odb_loose.specs.WriteNames.{name_for}
 use Rattle.gix_odb_loose.specs.WriteOrder.{error_from}
@@ -77,7 +78,7 @@ pub record Writes (head : WriteHead) (hash : HashKind) (known : Option ObjectId)
   pub name : id ≡ name_for known hash head bytes
   pub whole : IfSome source (λ all. all ≡ bytes)
   -- where the disk tells its states, the object's path reads as the header and the data
-  pub read_back : IfSome state (λ _. ReadsBack head number id bytes new)
+  pub read_back : IfSome state (λ _. ReadsBack head number id bytes (left_by state moved.before) new)
 
 -- A write of these data, where the source of them tells which: the states of the disk, its counts of faults, and what the
 -- call answered.
@@ -88,6 +89,9 @@ pub record WriteRuns (head : WriteHead) (hash : HashKind) (known : Option Object
   pub left : new ≡ left_by state exchanges
   -- each is one of the write's own
   pub own : AreOwn head (NamedFrom head hash known source) exchanges
+  -- and they are those of a write that has the same data at hand, where the source tells them: each is the one that the
+  -- answers before it led to, up to the end, or to where the source failed or memory ran out
+  pub asks : (bytes : List ℕ) → source ≡ Some bytes → RunsAlong (write_of head hash known bytes) SourceFailed exchanges result
   -- an object that was written got its name last
   pub wrote : (id : ObjectId) → result ≡ Ok id → Writes head hash known source state new exchanges id
   -- a refused write went well up to what refused it, and removed last the temporary file that it made

@@ -1,8 +1,9 @@
 //! A folder of loose objects: a file for each, with a header and then the data.
 //!
 //! What a call finds is what the file at the object's path holds; nothing at that path is no error, and each
-//! error has its cause. `LooseCall` is the order of work of every call, one call of the disk at a time, and the
-//! calls of `Store` are loops over it. Read `store` first; `specs/LooseFile.antt` says what a file holds.
+//! error has its cause. `LooseCall` is the order of work of every call, one call of the disk at a time: the finding
+//! calls of `Store` are loops over it, and its writing calls go through the same stages while they read their data.
+//! Read `store` first; `specs/LooseFile.antt` says what a file holds.
 //! ```rust
 //! let store = Store::at(alloc, &PathText::parse(alloc, "/o")?, gix_hash::Kind::Sha1)?;
 //! let mut out = Vec::new(alloc);

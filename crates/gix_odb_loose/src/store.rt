@@ -131,7 +131,8 @@ impl Store {
         }
     }
 
-    /// Finds an object, whose data are put into `out`, cleared before.
+    /// Finds an object, whose data are put into `out`, cleared before. Where none is found, or the find is refused,
+    /// `out` is left empty.
     ///
     /// None means that nothing is at the object's path. An empty file is `Io`, one without a header `Decode`, one
     /// whose header says more than the limit `OutOfMemory`, and one with data of another length `SizeMismatch`, in

@@ -182,7 +182,7 @@ module _ (path : Path) (Gave : Reading → Type 0) (Failed Wanting : Type 0) whe
     sizes_cause bytes time gave object loose false false a l error e =
         let is : errors.SizeMismatch (length object.rest) object.size path ≡ error = cc e in
         subst (FindCause path limit Gave Failed Wanting) is
-        (refl, (Ok (bytes, time), gave, record { bytes = bytes; time = time; kind = object.kind; rest = object.rest; given = refl; header = loose; length_is = refl; differs = eqb-false _ _ l }))
+        (refl, (Ok (bytes, time), gave, record { bytes = bytes; time = time; kind = object.kind; rest = object.rest; given = refl; header = loose; within = is_above-false limit object.size a; length_is = refl; differs = eqb-false _ _ l }))
 
     object_from-Err : (bytes : List ℕ) (time : ℕ) → Gave (Ok (bytes, time)) → (spelled : Result LooseObject Flaw) → spelled_in bytes ≡ spelled → (error : Error) → object_from path limit spelled ≡ Err error
         → FindCause path limit Gave Failed Wanting error

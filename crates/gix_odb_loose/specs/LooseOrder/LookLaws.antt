@@ -18,18 +18,6 @@ use Rattle.gix_odb_loose.specs.LooseOrder.{unreadable, is_file, tested_by}
 use Rattle.gix_odb_loose.specs.declared.find.Error.{Error}
 use Rattle.gix_odb_loose.specs.declared.find.Error.TheVariants as errors
 
--- a look that is answered by a file is a yes, and by anything else but a failed call a no
-pub tested_by-true : (path : Path) (given : DiskAnswer) → tested_by path given ≡ Ok true → (meta : Meta) × (given ≡ answers.Meta meta) × (meta.kind ≡ nodes.File)
-tested_by-true path (answers.Meta meta) e = (meta, refl, a_file meta.kind (cc e))
-  where
-    a_file : (kind : NodeKind) → is_file kind ≡ true → kind ≡ nodes.File
-    a_file nodes.File is = refl
-    a_file nodes.Dir is = absurd (cc is)
-    a_file nodes.Link is = absurd (cc is)
-tested_by-true path (answers.Refused disk_errors.Failed) e = absurd (cc e)
-tested_by-true path (answers.Refused disk_errors.NoMemory) e = absurd (cc e)
-tested_by-true path given e = absurd (cc e)
-
 -- ---- the answer to a look
 
 -- a test is refused only by a call that failed, and by want of memory

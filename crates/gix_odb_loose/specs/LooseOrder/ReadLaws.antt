@@ -7,7 +7,6 @@ use Rattle.odb_disk.specs.Tree.Follow.{Absent, WrongKind, LinkLoop}
 use Rattle.odb_disk.specs.declared.ask.DiskAnswer.{DiskAnswer}
 use Rattle.odb_disk.specs.declared.ask.DiskAnswer.TheVariants as answers
 use Rattle.odb_disk.specs.declared.disk.DiskError.TheVariants as disk_errors
-use Rattle.gix_object.specs.declared.kind.Kind.{Kind}
 use Rattle.gix_odb_loose.specs.LooseFile.{Reading, HoldsObject, HoldsHeader}
 use Rattle.gix_odb_loose.specs.Causes.{Seen, IsUnreadable, FindCause, HeaderCause}
 use Rattle.gix_odb_loose.specs.Answers.{ComesTo, AnswersRead}
@@ -31,25 +30,6 @@ pub read_by-None : {A : Type 0} (from : List ℕ → Result (Option A) Error) (p
 read_by-None from path (answers.File bytes time) never e = absurd (never bytes e)
 read_by-None from path (answers.Refused disk_errors.Absent) never e = refl
 read_by-None from path given never e = absurd (cc e)
-
--- what a find found is an object that the file holds, and what a header tells is that of the file
-pub found_by-Some : (path : Path) (limit : Option ℕ) (given : DiskAnswer) (x : Kind × List ℕ) → found_by path limit given ≡ Ok (Some x)
-    → (bytes : List ℕ) × (time : ℕ) × (given ≡ answers.File bytes time) × HoldsObject limit bytes x.0 x.1
-found_by-Some path limit given x e =
-    let file = read_by-Some (object_in path limit) path given x e in
-    (file.0, file.1, file.2, object_in-Some path limit file.0 x file.3)
-
-pub found_by-None : (path : Path) (limit : Option ℕ) (given : DiskAnswer) → found_by path limit given ≡ Ok None → given ≡ answers.Refused disk_errors.Absent
-found_by-None path limit given e = read_by-None (object_in path limit) path given (object_in-None path limit) e
-
-pub header_by-Some : (path : Path) (given : DiskAnswer) (x : ℕ × Kind) → header_by path given ≡ Ok (Some x)
-    → (bytes : List ℕ) × (time : ℕ) × (given ≡ answers.File bytes time) × HoldsHeader bytes x.1 x.0
-header_by-Some path given x e =
-    let file = read_by-Some (header_in path) path given x e in
-    (file.0, file.1, file.2, header_in-Some path file.0 x file.3)
-
-pub header_by-None : (path : Path) (given : DiskAnswer) → header_by path given ≡ Ok None → given ≡ answers.Refused disk_errors.Absent
-header_by-None path given e = read_by-None (header_in path) path given (header_in-None path) e
 
 -- what a tree answered to a read
 pub file_given : (read : Reading) (bytes : List ℕ) (time : ℕ) → answers.File bytes time ≡ file_answer read → read ≡ Ok (bytes, time)

@@ -19,7 +19,7 @@ use Rattle.odb_disk.specs.declared.disk.DiskError.TheVariants as disk_errors
 use Rattle.gix_hash.specs.declared.object_id.ObjectId.{ObjectId}
 use Rattle.gix_object.specs.declared.kind.Kind.{Kind}
 use Rattle.gix_odb_loose.specs.Store.{store_path, store_hash, store_limit}
-use Rattle.gix_odb_loose.specs.LooseFile.{IsFinding, Answer, Object, HeaderOf, Presence, Gives, Holds, LeadsToFile, id_asked, loose_path}
+use Rattle.gix_odb_loose.specs.LooseFile.{Answer, Object, HeaderOf, Presence, Gives, Holds, LeadsToFile, id_asked, loose_path}
 use Rattle.gix_odb_loose.specs.Causes.{Cause}
 use Rattle.gix_odb_loose.specs.LooseOrder.{begun, started, fed, disk_ask_of, stage_reply, written_to, reply_of, tested_by, found_by, header_by}
 use Rattle.gix_odb_loose.specs.LooseOrder.ReadLaws.{found_by-AnswersRead, found_by-Err, header_by-AnswersRead, header_by-Err}
@@ -129,13 +129,6 @@ asks_read path ask tree given is asked = let same : asks.Read path ≡ ask = cc 
 asks_look : (path : Path) (ask : DiskAsk) (tree : Tree) (given : DiskAnswer) → Some (asks.Look path true) ≡ Some ask → AnswersAsk given (answer_of tree ask) → AnswersAsk given (meta_answer (looked tree path true))
 unfolding answer_of
 asks_look path ask tree given is asked = let same : asks.Look path true ≡ ask = cc is in subst (λ a. AnswersAsk given (answer_of tree a)) (sym same) asked
-
--- a finding call makes one ask, and is done after the answer
-pub reply_of-fed : (store : Store) (job : LooseJob) (given : DiskAnswer) → IsFinding job → (reply : LooseReply) × (reply_of (fed (started store job) given) ≡ Some reply)
-reply_of-fed store (jobs.Contains id) given finding = (replies.Contains (tested_by (loose_path (store_path store) id) given), refl)
-reply_of-fed store (jobs.Find id) given finding = (replies.Found (found_by (loose_path (store_path store) id) (store_limit store) given), refl)
-reply_of-fed store (jobs.Header id) given finding = (replies.Header (header_by (loose_path (store_path store) id) given), refl)
-reply_of-fed store (jobs.Write kind size bytes id) given finding = absurd finding
 
 -- the reply of a write answers no find, and isn't its miss or its error
 says_led : (path : Path) (limit : Option ℕ) (job : LooseJob) (tree : Tree) (Failed Wanting : Type 0) (write : WriteJob) (led : Led) (reply : LooseReply) → stage_reply (written_to write led) ≡ Some reply → Says path limit job tree Failed Wanting reply

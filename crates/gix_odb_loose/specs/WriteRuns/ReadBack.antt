@@ -14,9 +14,10 @@ use Rattle.gix_odb_loose.specs.declared.write_call.WriteHead.{WriteHead}
 
 -- The last change of a write moves the temporary file to the object's path. Then this path reads as the header and the
 -- data, unless a link was replaced that is crossed on the way of the path.
-pub record ReadsBack (head : WriteHead) (number : ℕ) (id : ObjectId) (bytes : List ℕ) (left : Option State) : Type 0 where
-  -- the state at the rename
+pub record ReadsBack (head : WriteHead) (number : ℕ) (id : ObjectId) (bytes : List ℕ) (before left : Option State) : Type 0 where
+  -- the state at the rename, which the calls before it left
   pub state : State
+  pub reached : before ≡ Some state
   pub source : Path
   pub target : Path
   pub renames : change_of_rename (tree_of state) (temp_path head.objects number) (loose_path head.objects id) ≡ Ok (Rename source target)

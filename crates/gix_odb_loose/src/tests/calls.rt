@@ -40,6 +40,14 @@ fn find<D: Disk>(alloc: Global, store: &Store, disk: &mut D, hex: &str) -> Resul
     }
 }
 
+/// `left HEX`: what a find leaves in what it was lent, which held `before`.
+fn left<D: Disk>(alloc: Global, store: &Store, disk: &mut D, hex: &str) -> Result<String, Fail> {
+    let id = id_of(store, hex)?;
+    let mut out = Vec::from_slice(alloc, b"before")?;
+    drop(store.try_find(alloc, disk, &id, &mut out));
+    Ok(String::from_utf8_lossy(alloc, out.as_slice())?)
+}
+
 /// `ask HEX`: the answers of a find, of a look for a header and of a test of presence.
 fn answers<D: Disk>(alloc: Global, store: &Store, disk: &mut D, hex: &str) -> Result<String, Fail> {
     let found = find(alloc, store, disk, hex)?;
@@ -123,6 +131,7 @@ pub fn called<D: Disk>(
         "hello" => answers(alloc, store, disk, HELLO),
         "ask" => answers(alloc, store, disk, rest),
         "find" => find(alloc, store, disk, rest),
+        "left" => left(alloc, store, disk, rest),
         "read" => read(alloc, disk, rest),
         "stream" | "streamas" => write_from_source(alloc, store, disk, verb, rest),
         _ => write_at_hand(alloc, store, disk, verb, rest),

@@ -1,7 +1,10 @@
-use crate::tests::calls::{check, store_at};
+use crate::tests::calls::{check, check_on, store_at};
 use crate::tests::words::{compare, id_of};
 use crate::tests::{FILE, HELLO};
+use crate::{Options, Store};
 use gix_hash::Kind::{Sha1, Sha256};
+use odb_base::PathText;
+use odb_disk::MemDisk;
 use std::alloc::Global;
 use std::test::Fail;
 
@@ -56,6 +59,30 @@ const SHA256: [&str; 5] = [
 fn finds(rt: HostRuntime) -> Result<(), Fail> {
     check(rt.alloc(), Sha1, None, &[], &FINDS)?;
     check(rt.alloc(), Sha256, None, &[], &SHA256)
+}
+
+/// What a find leaves in what it was lent: the data, or nothing. The second file has more data than its header says.
+const LEFT: [&str; 8] = [
+    "mkdir /o|done",
+    "left b6fc4c620b67d95f953a5c1c1230aaab5db5a1b0|",
+    "write blob hello|b6fc4c620b67d95f953a5c1c1230aaab5db5a1b0",
+    "left b6fc4c620b67d95f953a5c1c1230aaab5db5a1b0|hello",
+    "take /o/b6/fc4c620b67d95f953a5c1c1230aaab5db5a1b0|done",
+    "put /o/b6/fc4c620b67d95f953a5c1c1230aaab5db5a1b0 blob 4\0hello|done",
+    "left b6fc4c620b67d95f953a5c1c1230aaab5db5a1b0|",
+    "hello|size, blob 4, yes",
+];
+
+// What stood in the lent bytes before, or data that weren't found. The store has no limit by default.
+#[test]
+fn lent_bytes(rt: HostRuntime) -> Result<(), Fail> {
+    let alloc = rt.alloc();
+    let path = PathText::parse(alloc, "/o")?;
+    let store = Store::at(alloc, &path, Sha1)?;
+    let mut disk = MemDisk::new(alloc)?;
+    check_on(alloc, &store, &mut disk, &LEFT)?;
+    let same = Store::at_opts(alloc, &path, Sha1, Options::default())?;
+    check_on(alloc, &same, &mut disk, &["hello|size, blob 4, yes"])
 }
 
 // A limit that is off by one, that isn't tested first, or that counts for a header.
