@@ -104,6 +104,9 @@ module _ (first : Volume) (events : List Event) (start : IsTree (tree_of first.s
         let as_replied = subst (λ v. HasWritten first upto gives.handle gives.begun v ends.0) write_is keeps.keeps in
         subst (HasWritten first upto gives.handle gives.begun w) as_replied.name as_replied
 
+    full : length w.bytes ≡ w.size
+    full = written.size
+
     within : place < length events
     within = slice_get_within events place gives.event gives.there
 
@@ -246,6 +249,7 @@ module _ (first : Volume) (events : List Event) (start : IsTree (tree_of first.s
             gives = record { write = w; to = to; gives = gives; onto = target_is place w to gives before };
             since = λ step later soon. absurd (omega (arith, later, soon));
             whole = whole_after place w to gives before free;
+            full = full place w to gives;
           };
           spot = to;
           own = spot_after place w to gives before free;
@@ -263,6 +267,7 @@ module _ (first : Volume) (events : List Event) (start : IsTree (tree_of first.s
             gives = k.gives;
             since = λ step later soon. by_step step later soon (step == now) refl;
             whole = read_kept (tree now) (tree (now + 1)) path alone ∙ k.whole;
+            full = k.full;
           };
           spot = h.spot;
           own = own_kept (tree now) (tree (now + 1)) path h.spot alone h.own;
@@ -284,6 +289,7 @@ module _ (first : Volume) (events : List Event) (start : IsTree (tree_of first.s
             gives = again;
             since = λ step later soon. absurd (omega (arith, later, soon));
             whole = whole_again now again.write again.to again.gives calm path there;
+            full = full now again.write again.to again.gives;
           };
           spot = again.to;
           own = spot_again now again.write again.to again.gives calm path there;

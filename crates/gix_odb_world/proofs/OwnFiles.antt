@@ -7,7 +7,7 @@ use Rattle.odb_base.specs.Path.{Name, Path, parent_of}
 use Rattle.odb_base.specs.PathLaws.{parent_of-push, parent_of-some}
 use Rattle.odb_disk.specs.Ask.{answer_now, op_of}
 use Rattle.odb_disk.specs.MemDisk.{Volume, next_fails}
-use Rattle.odb_disk.specs.Tree.{IsTree, Tree, node_at, tree_of}
+use Rattle.odb_disk.specs.Tree.{IsTree, Tree, tree_of}
 use Rattle.odb_disk.specs.Tree.Change.{changed}
 use Rattle.odb_disk.specs.Tree.Way.{SameOnWay, crosses}
 use Rattle.odb_disk.specs.Tree.Write.{change_of_append, file_spot, spot, vacant}
@@ -17,7 +17,7 @@ use Rattle.odb_disk.specs.declared.ask.DiskAsk.TheVariants as asks
 use Rattle.odb_disk.specs.declared.change.Change.{Change}
 use Rattle.odb_disk.specs.declared.change.Change.TheVariants.{PutFile, MakeDir, Rename, Append, Remove}
 use Rattle.odb_disk.proofs.OwnWayLaws as ways
-use Rattle.odb_disk.proofs.OwnWayLaws.{Cut, IsOwnChange, OwnSpot, cut_after, cut_kept, cut_no_file, own_after, own_appended, own_foldered, own_kept, own_not_vacant, own_stops, stop_below_root}
+use Rattle.odb_disk.proofs.OwnWayLaws.{Cut, OwnSpot, cut_after, cut_kept, cut_no_file, own_after, own_appended, own_foldered, own_kept, own_not_vacant, own_stops, stop_below_root}
 use Rattle.odb_disk.proofs.WayWriteLaws.{append_change, make_dir_change, new_file_change, remove_change, rename_change}
 use Rattle.gix_hash.specs.declared.object_id.ObjectId.{ObjectId}
 use Rattle.gix_odb_loose.specs.Exchanges.{exchanged}
@@ -56,7 +56,7 @@ pub one_event : {A : Type 0} (xs : List A) (place : ℕ) (x y : A) → slice_get
 one_event xs place x y is other = let both : Some x ≡ Some y = sym is ∙ other in cc both
 
 same_tree_on_way : (t u : Tree) (path : Path) → u ≡ t → SameOnWay t u true path
-same_tree_on_way t u path same q on = ap (λ v. node_at v q) same
+same_tree_on_way t u path same = subst (λ (v : Tree). SameOnWay t v true path) (sym same) (λ q on. refl)
 
 -- a write that removes its file ends with the turn
 removing_ends : (store : Store) (w : ToWrite) (number : ℕ) (refusal : Refusal) (answer : DiskAnswer)

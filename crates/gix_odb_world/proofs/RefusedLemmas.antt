@@ -13,7 +13,7 @@ use Rattle.odb_disk.specs.declared.ask.DiskAsk.TheVariants as asks
 use Rattle.odb_disk.specs.declared.change.Change.{Change}
 use Rattle.odb_disk.specs.declared.disk.DiskError.{DiskError}
 use Rattle.odb_disk.specs.declared.disk.DiskError.TheVariants as disk_errors
-use Rattle.gix_odb_loose.proofs.RefusalLaws.{append-never, full, make_dir-never, new_file-never, rename-never, there}
+use Rattle.odb_disk.proofs.RefusalLaws.{append-never, full, make_dir-never, new_file-never, rename-never, there}
 use Rattle.gix_odb_loose.specs.Causes.WriteLaws.{IsMaking}
 use Rattle.gix_odb_loose.specs.WriteHistory.{IsRefused}
 use Rattle.gix_odb_loose.specs.WriteRuns.{IsOnWay}

@@ -20,7 +20,8 @@ use Rattle.odb_disk.specs.declared.ask.DiskAsk.TheVariants as asks
 use Rattle.odb_disk.specs.declared.change.Change.{Change}
 use Rattle.odb_disk.specs.declared.change.Change.TheVariants.{PutFile, MakeDir, Rename, Append, Remove}
 use Rattle.odb_disk.specs.declared.disk.DiskError.TheVariants as disk_errors
-use Rattle.odb_disk.proofs.OwnFileLaws.{HasFile, has_file_kept, has_more, has_new_file, kept_by_make_dir, moved_reads, moves_file}
+use Rattle.odb_disk.specs.OwnFile.{HasFile}
+use Rattle.odb_disk.proofs.OwnFileLaws.{has_file_kept, has_more, has_new_file, kept_by_make_dir, moved_reads, moves_file}
 use Rattle.odb_disk.proofs.WayWriteLaws.{append_change, make_dir_change, new_file_change, remove_change, rename_change}
 use Rattle.odb_disk.proofs.WriteLaws.{tree_of-written}
 use Rattle.gix_hash.specs.declared.object_id.ObjectId.{ObjectId}

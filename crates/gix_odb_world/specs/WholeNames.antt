@@ -1,5 +1,5 @@
 -- How long the name of an object that a write made holds a whole encoding.
-use Rattle.std.specs.Prelude.{◌≡◌, ◌⊎◌, ℕ, ◌+◌, ◌<◌, ◌≤◌, Bool, false, true, List, ◌++◌, take, slice_get, Some, Ok}
+use Rattle.std.specs.Prelude.{◌≡◌, ◌⊎◌, ℕ, ◌+◌, ◌<◌, ◌≤◌, Bool, false, true, List, ◌++◌, length, take, slice_get, Some, Ok}
 use Rattle.odb_base.specs.Path.{Path}
 use Rattle.odb_disk.specs.MemDisk.{Volume}
 use Rattle.odb_disk.specs.Tree.Follow.{read_of}
@@ -52,8 +52,8 @@ pub record GivesAgain (first : Volume) (events : List Event) (path : Path) (plac
 abbrev pub LeavesAlone : Volume → List Event → Path → (place : ℕ) → Type 0
 LeavesAlone first events path place = SameOnWay (tree_at first events place) (tree_at first events (place + 1)) true path
 
--- A path holds the whole encoding of the write that was the last to move its file onto that very name, and since then
--- nothing changed the path or its way.
+-- A path holds the whole encoding of the write that was the last to move its file onto that very name, whose data are as
+-- many as its header says, and since then nothing changed the path or its way.
 pub record HoldsWhole (first : Volume) (events : List Event) (path : Path) (place now : ℕ) : Type 0 where
   pub last : ℕ
   pub later : place ≤ last
@@ -61,6 +61,7 @@ pub record HoldsWhole (first : Volume) (events : List Event) (path : Path) (plac
   pub gives : GivesAgain first events path last
   pub since : (step : ℕ) → last < step → step < now → LeavesAlone first events path step
   pub whole : ReadsWhole first events path gives.write now
+  pub full : length gives.write.bytes ≡ gives.write.size
 
 -- In an undisturbed run, a name that a write made, whose rename replaced no link that its path crosses, holds a whole encoding
 -- from its rename on, until a step other than a write's rename onto that very name changes the path or the way to it.

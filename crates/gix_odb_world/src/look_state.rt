@@ -1,5 +1,6 @@
 //! The order of work of a query on a handle: the loose objects of each folder of the store, one after another.
 ghost use Rattle.std.specs.Prelude.{◌≡◌, slice_get, None, IfOk};
+ghost use Rattle.gix_odb_loose.specs.LooseOrder as loose_order;
 ghost use Rattle.gix_odb_world.specs.Handle.{sought_by};
 ghost use Rattle.gix_odb_world.specs.LookOrder.{ask_of, asking, at_next, started};
 ghost use Rattle.gix_odb_world.specs.LookOrder.{fed as fed_with, first_of, job_of as loose_job, led as led_to, led_by as leads_to, next_stage as stage_after};
@@ -13,6 +14,7 @@ use gix_odb_loose::{LooseCall, LooseJob, LooseReply};
 use odb_base::{NoMemory, PathText};
 use odb_disk::{DiskAnswer, DiskAsk};
 use std::alloc::Global;
+use std::marker::Model;
 
 /// A query on a handle on its way.
 ///
@@ -40,9 +42,29 @@ pub enum Stage {
         next: usize,
         /// The first error that a test of presence noted.
         noted: Option<gix_odb_loose::find::Error>,
-        folder: LooseCall,
+        folder: FolderLook,
     },
     Done(Reply),
+}
+
+/// A folder that is asked, on its way.
+#[derive(Debug, Drop, PartialEq, Eq)]
+pub struct FolderLook {
+    call: LooseCall,
+}
+
+/// Clauses see it as the call of the folder, which is none that writes.
+impl Model for FolderLook {
+    ghost use Rattle.gix_odb_loose.specs.LooseOrder.{IsWriteStage};
+    ghost use Rattle.gix_odb_loose.specs.declared.call.LooseCall.{LooseCall};
+
+    ghost Value = { LooseCall };
+
+    ghost view = { λ look. look.call };
+
+    ghost inverse = { λ call. record { call = call } };
+
+    ghost invariant = { λ look. ¬ (IsWriteStage look.call.stage) };
 }
 
 /// What the reply of one folder leads to.
@@ -76,7 +98,7 @@ impl LookState {
         ensures { IfOk result (λ ask. ask ≡ ask_of self.now) }
     {
         match &self.stage {
-            Stage::Loose { folder, .. } => folder.disk_ask(alloc),
+            Stage::Loose { folder, .. } => folder.call.disk_ask(alloc),
             Stage::Done(_) => Ok(None),
         }
     }
@@ -125,14 +147,15 @@ impl Head {
         alloc: Global,
         folder: &PathText,
         limit: Option<u64>,
-    ) -> Result<LooseCall, NoMemory>
-        ensures { IfOk result (λ folder_call. folder_call ≡ asking limit self.query self.id folder.now) }
+    ) -> Result<FolderLook, NoMemory>
+        ensures { IfOk result (λ look. look ≡ asking limit self.query self.id folder.now) }
     {
         let options = gix_odb_loose::Options {
             alloc_limit_bytes: limit,
         };
         let store = gix_odb_loose::Store::at_opts(alloc, folder, self.id.kind(), options)?;
-        LooseCall::start(alloc, &store, job_of(self.query, self.id))
+        let call = LooseCall::start(alloc, &store, job_of(self.query, self.id))?;
+        Ok(FolderLook { call })
     }
 
     // A stage after the answer to its call of the disk.
@@ -151,9 +174,10 @@ impl Head {
                 noted,
                 folder,
             } => {
-                let mut folder = folder;
-                folder.feed(alloc, answer)?;
-                self.after_folder(alloc, handle, next, noted, folder)
+                let FolderLook { call } = folder;
+                let mut call = call;
+                call.feed(alloc, answer)?;
+                self.after_folder(alloc, handle, next, noted, call)
             }
             Stage::Done(reply) => Ok(Stage::Done(reply)),
         }
@@ -166,18 +190,20 @@ impl Head {
         handle: &HandleState,
         next: usize,
         noted: Option<gix_odb_loose::find::Error>,
-        folder: LooseCall,
+        call: LooseCall,
     ) -> Result<Stage, NoMemory>
-        ensures { IfOk result (λ stage. stage ≡ Rattle.gix_odb_world.specs.LookOrder.after_folder handle.now.folders handle.now.alloc_limit_bytes self next noted folder) }
+        requires { ¬ (loose_order.IsWriteStage call.stage) }
+        ensures { IfOk result (λ stage. stage ≡ Rattle.gix_odb_world.specs.LookOrder.after_folder handle.now.folders handle.now.alloc_limit_bytes self next noted call) }
     {
-        if !folder.is_done() {
+        if !call.is_done() {
+            let folder = FolderLook { call };
             return Ok(Stage::Loose {
                 next,
                 noted,
                 folder,
             });
         }
-        match folder.into_reply() {
+        match call.into_reply() {
             Some(reply) => self.led(alloc, handle, next, noted, led_by(reply)),
             None => unreachable!("a folder that is done has its reply"),
         }
@@ -237,6 +263,7 @@ fn job_of(query: Query, id: ObjectId) -> LooseJob
 }
 
 fn led_by(reply: LooseReply) -> Lead
+    requires { ¬ (loose_order.IsWriteReply reply) }
     ensures { result ≡ leads_to reply }
 {
     match reply {
@@ -249,8 +276,7 @@ fn led_by(reply: LooseReply) -> Lead
         LooseReply::Header(Err(error)) => Lead::Ends(refused(error)),
         LooseReply::Found(Ok(None)) => Lead::Misses,
         LooseReply::Header(Ok(None)) => Lead::Misses,
-        // No folder is asked to write.
-        LooseReply::Wrote(_) => Lead::Misses,
+        LooseReply::Wrote(_) => unreachable!("no folder is asked to write"),
     }
 }
 
