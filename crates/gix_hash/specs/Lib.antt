@@ -1,3 +1,4 @@
 pub mod Kind
 pub mod ObjectId
+pub mod Prefix
 pub mod Hash

@@ -13,9 +13,11 @@
 mod hasher;
 mod kind;
 mod object_id;
+mod prefix;
 #[cfg(test)]
 mod tests;
 
 pub use hasher::Hasher;
 pub use kind::Kind;
 pub use object_id::{HexError, ObjectId};
+pub use prefix::{Prefix, PrefixError};

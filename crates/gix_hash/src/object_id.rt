@@ -89,8 +89,9 @@ impl ObjectId {
     }
 
     // The hex text, written into a buffer that has room for the longer kind.
-    fn write_hex<'a>(&self, room: &'a mut [u8; 64]) -> &'a str
-        ensures { result.now ≡ hex_of self.now }
+    pub(crate) fn write_hex<'a>(&self, room: &'a mut [u8; 64]) -> &'a str
+        ensures text { result.now ≡ hex_of self.now }
+        ensures id { IsId self.now }
     {
         let bytes = self.as_bytes();
         let text = &mut room[..2 * bytes.len()];

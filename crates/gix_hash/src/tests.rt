@@ -1,7 +1,7 @@
 ghost use Rattle.std.specs.Prelude.{◌≡◌, ◌<◌};
 ghost use Rattle.gix_hash.specs.ObjectId.{id_cmp};
 
-use crate::{Hasher, HexError, Kind, ObjectId};
+use crate::{Hasher, HexError, Kind, ObjectId, Prefix, PrefixError};
 use std::cmp::Ordering;
 use std::test::Fail;
 
@@ -117,6 +117,49 @@ fn orders_by_kind_and_then_bytes(rt: HostRuntime) {
     for (name, a, b, want) in rows {
         assert_eq!(rt; order(&a, &b), want, "{name}");
     }
+}
+
+// A length that is tested after the digits, or a text of more than 40 digits taken for SHA-1.
+#[test]
+fn reads_prefixes(rt: HostRuntime) {
+    let rows: [(&[u8], Result<Kind, PrefixError>); 8] = [
+        (b"e69d", Ok(Kind::Sha1)),
+        (&SHA1[..39], Ok(Kind::Sha1)),
+        (SHA1, Ok(Kind::Sha1)),
+        (&SHA256[..41], Ok(Kind::Sha256)),
+        (SHA256, Ok(Kind::Sha256)),
+        (b"E69", Err(PrefixError::TooShort { hex_len: 3 })),
+        (&[b'g'; 65], Err(PrefixError::TooLong { hex_len: 65 })),
+        (b"E69D", Err(PrefixError::Invalid)),
+    ];
+    for (text, want) in rows {
+        let read = Prefix::from_hex(text).map(|prefix| prefix.as_oid().kind());
+        assert_eq!(rt; read, want, "{}", text.len());
+    }
+}
+
+// A prefix that ignores half a byte, or takes the wrong half. The id begins with `e69de2`.
+#[test]
+fn compares_prefixes(rt: HostRuntime) -> Result<(), Fail> {
+    let rows: [(&[u8], Ordering); 7] = [
+        (b"e69d", Ordering::Equal),
+        (b"e69de", Ordering::Equal),
+        (SHA1, Ordering::Equal),
+        (b"e69c", Ordering::Less),
+        (b"e69e", Ordering::Greater),
+        (b"e69dd", Ordering::Less),
+        (b"e69df", Ordering::Greater),
+    ];
+    let id = ObjectId::from_hex(SHA1)?;
+    for (text, want) in rows {
+        assert_eq!(rt;
+            Prefix::from_hex(text)?.cmp_oid(&id),
+            want,
+            "{}",
+            text.len()
+        );
+    }
+    Ok(())
 }
 
 #[test]

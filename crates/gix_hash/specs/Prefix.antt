@@ -1,0 +1,45 @@
+-- Prefixes of ids: the first digits of an id's hex text, and which ids begin with them.
+use Rattle.std.specs.Prelude.{◌≡◌, ℕ, ◌-◌, ◌*◌, ◌≤◌, List, length, take, drop, replicate, nat_le, if◌then◌else◌}
+use Rattle.std.specs.Ordering.{nat_cmp, then_cmp, on, ordering_then}
+use Rattle.std.specs.Cmp.Lexicographic.{slice_cmp}
+use Rattle.std.specs.declared.cmp.Ordering.{Ordering}
+use Rattle.gix_hash.specs.Kind.{len_in_bytes_of}
+use Rattle.gix_hash.specs.ObjectId.{kind_of, hex_of, rank_of, IsId}
+use Rattle.gix_hash.specs.declared.kind.Kind.{Kind}
+use Rattle.gix_hash.specs.declared.kind.Kind.TheVariants.{Sha1, Sha256}
+use Rattle.gix_hash.specs.declared.object_id.ObjectId.{ObjectId}
+
+-- how many hex digits an id of this kind has
+abbrev pub digits_in : Kind → ℕ
+digits_in kind = 2 * len_in_bytes_of kind
+
+-- a prefix as an id with this many digits in front
+pub record PrefixOf : Type 0 where
+  pub id : ObjectId
+  pub hex_len : ℕ
+
+-- the digits of a prefix
+abbrev pub digits_of : PrefixOf → List ℕ
+digits_of prefix = take prefix.hex_len (hex_of prefix.id)
+
+-- what holds of every prefix: it has from four digits to all that its kind has, and zeros (byte 48) stand behind them
+pub record IsPrefix (prefix : PrefixOf) : Type 0 where
+  pub id : IsId prefix.id
+  pub not_short : 4 ≤ prefix.hex_len
+  pub not_long : prefix.hex_len ≤ digits_in (kind_of prefix.id)
+  pub zeros : drop prefix.hex_len (hex_of prefix.id) ≡ replicate (digits_in (kind_of prefix.id) - prefix.hex_len) 48
+
+-- an id is of the prefix's kind, and its text begins with the prefix
+pub record HasPrefix (prefix : PrefixOf) (id : ObjectId) : Type 0 where
+  pub kind : kind_of id ≡ kind_of prefix.id
+  pub digits : take prefix.hex_len (hex_of id) ≡ digits_of prefix
+
+-- the place of a prefix in the order of ids: kinds first, and then the digits that it has
+abbrev pub prefix_cmp : PrefixOf → ObjectId → Ordering
+prefix_cmp prefix id =
+    ordering_then (nat_cmp (rank_of (kind_of prefix.id)) (rank_of (kind_of id)))
+    (slice_cmp nat_cmp (digits_of prefix) (take prefix.hex_len (hex_of id)))
+
+-- the kind that a text of so many digits is a prefix of
+abbrev pub kind_of_digits : ℕ → Kind
+kind_of_digits digits = if nat_le digits 40 then Sha1 else Sha256
