@@ -1,0 +1,371 @@
+-- Multi-pack indices as they are written: their chunks, and the table of these.
+use Rattle.std.proofs.Common.{◌≡◌, ℕ, zero, suc, ◌+◌, ◌-◌, ◌*◌, ◌%◌, ◌^◌, ◌<◌, ◌≤◌, ◌||◌, ◌&&◌, nat_lt, not, Bool, true, false, List, [], ◌∷◌, ◌++◌, length, map, drop, get_or, replicate, codes, append_assoc, length-append, refl, sym, ap, subst, ◌∙◌, arith}
+use Rattle.std.specs.List.{AllByRecursion, flat_map, list_all, sum_by, zip}
+use Rattle.std.specs.Int.{w32, w64, to_be_bytes}
+use Rattle.std.proofs.lemmas.Bool.{or_parts}
+use Rattle.std.proofs.lemmas.List.{append-nil, drop_all, drop_more, length-map}
+use Rattle.std.proofs.lemmas.List.Sums.{sum_by-cons}
+use Rattle.gix_hash.specs.Hash.{hash_of}
+use Rattle.gix_hash.specs.ObjectId.{bytes_of}
+use Rattle.gix_hash.specs.declared.kind.Kind.{Kind}
+use Rattle.gix_hash.specs.declared.object_id.ObjectId.{ObjectId}
+use Rattle.gix_pack.specs.MultiIndex.{Chunk, are_names, is_index_name, names_rise}
+use Rattle.gix_pack.specs.MultiIndexChunks.{below_first, bytes_over, chunk_seen, objects_over, offset_chunks}
+use Rattle.gix_pack.specs.PlacedRow.{id_of, offset_of, pack_of, pack_row_of, placed_from, placed_in, IsPlaced}
+use Rattle.gix_pack.specs.Rows.{PackRow, counts_of, is_rising}
+use Rattle.gix_pack.specs.WrittenIndex.{is_wide, narrow_from, number_bytes, table_of}
+use Rattle.gix_pack.specs.WrittenMultiIndex.{Named, chunk_table, chunks_written, hash_number, multi_bytes, multi_front, multi_index_of_packs, name_bytes, named_seen, names_of, needs_wide, pack_and_offset, padded, rows_in_packs, IsMultiIndexOf}
+use Rattle.gix_pack.specs.WrittenPack.{object_seen}
+use Rattle.gix_pack.specs.declared.multi_index.writing.Chunk as kept
+use Rattle.gix_pack.specs.declared.object.NamedPack as given
+use Rattle.gix_pack.specs.declared.table.Placed.{Placed}
+use Rattle.gix_pack.proofs.PlacedLemmas.{length-placed_in, map_map, pack_rows_placed}
+use Rattle.gix_pack.proofs.TableLemmas.{each_of_table, is_table, length-table_of, map-table_of, rising-table_of}
+
+-- ---- loops
+
+-- the first pack that is left, and the others
+pub packs_step : (hash : Kind) (number : ℕ) (packs : List given.NamedPack) (i : ℕ) (pack : given.NamedPack) → i < length packs → pack ≡ get_or packs i pack
+    → placed_in hash number (map named_seen (drop i packs)) ≡ placed_from hash number 12 (map object_seen pack.objects) ++ placed_in hash (number + 1) (map named_seen (drop (i + 1) packs))
+packs_step hash number packs i pack below is =
+    ap (λ (rest : List given.NamedPack). placed_in hash number (map named_seen rest)) (drop_more packs i pack below ∙ ap (λ (p : given.NamedPack). p ∷ drop (i + 1) packs) (sym is))
+
+pub packs_end : (hash : Kind) (number : ℕ) (packs : List given.NamedPack) (i : ℕ) → length packs ≤ i → placed_in hash number (map named_seen (drop i packs)) ≡ []
+packs_end hash number packs i past = ap (λ (rest : List given.NamedPack). placed_in hash number (map named_seen rest)) (drop_all i packs past)
+
+pub names_step : (packs : List given.NamedPack) (i : ℕ) (pack : given.NamedPack) → i < length packs → pack ≡ get_or packs i pack
+    → name_bytes (names_of (map named_seen (drop i packs))) ≡ (pack.name ++ 0 ∷ []) ++ name_bytes (names_of (map named_seen (drop (i + 1) packs)))
+names_step packs i pack below is =
+    ap (λ (rest : List given.NamedPack). name_bytes (names_of (map named_seen rest))) (drop_more packs i pack below ∙ ap (λ (p : given.NamedPack). p ∷ drop (i + 1) packs) (sym is))
+
+pub names_end : (packs : List given.NamedPack) (i : ℕ) → length packs ≤ i → name_bytes (names_of (map named_seen (drop i packs))) ≡ []
+names_end packs i past = ap (λ (rest : List given.NamedPack). name_bytes (names_of (map named_seen rest))) (drop_all i packs past)
+
+pub chunks_step : (place : ℕ) (chunks : List kept.Chunk) (i : ℕ) (chunk : kept.Chunk) → i < length chunks → chunk ≡ get_or chunks i chunk
+    → chunk_table place (map chunk_seen (drop i chunks)) ≡ (chunk.name ++ to_be_bytes w64 place) ++ chunk_table (place + length chunk.bytes) (map chunk_seen (drop (i + 1) chunks))
+unfolding chunk_table
+chunks_step place chunks i chunk below is =
+    ap (λ (rest : List kept.Chunk). chunk_table place (map chunk_seen rest)) (drop_more chunks i chunk below ∙ ap (λ (c : kept.Chunk). c ∷ drop (i + 1) chunks) (sym is))
+
+pub chunks_end : (place : ℕ) (chunks : List kept.Chunk) (i : ℕ) → length chunks ≤ i → chunk_table place (map chunk_seen (drop i chunks)) ≡ replicate 4 0 ++ to_be_bytes w64 place
+unfolding chunk_table
+chunks_end place chunks i past = ap (λ (rest : List kept.Chunk). chunk_table place (map chunk_seen rest)) (drop_all i chunks past)
+
+pub bytes_step : (chunks : List kept.Chunk) (i : ℕ) (chunk : kept.Chunk) → i < length chunks → chunk ≡ get_or chunks i chunk
+    → flat_map (λ (c : Chunk). c.bytes) (map chunk_seen (drop i chunks)) ≡ chunk.bytes ++ flat_map (λ (c : Chunk). c.bytes) (map chunk_seen (drop (i + 1) chunks))
+bytes_step chunks i chunk below is =
+    ap (λ (rest : List kept.Chunk). flat_map (λ (c : Chunk). c.bytes) (map chunk_seen rest)) (drop_more chunks i chunk below ∙ ap (λ (c : kept.Chunk). c ∷ drop (i + 1) chunks) (sym is))
+
+pub bytes_end : (chunks : List kept.Chunk) (i : ℕ) → length chunks ≤ i → flat_map (λ (c : Chunk). c.bytes) (map chunk_seen (drop i chunks)) ≡ []
+bytes_end chunks i past = ap (λ (rest : List kept.Chunk). flat_map (λ (c : Chunk). c.bytes) (map chunk_seen rest)) (drop_all i chunks past)
+
+-- what is written of packs and offsets
+abbrev pub wholes : List Placed → List ℕ
+wholes rows = flat_map pack_and_offset (zip (map pack_of rows) (map offset_of rows))
+
+abbrev pub narrow_rows : ℕ → List Placed → List ℕ
+narrow_rows wide rows = flat_map pack_and_offset (zip (map pack_of rows) (narrow_from wide (map offset_of rows)))
+
+pub narrow_rows_yes : (wide : ℕ) (row : Placed) (rows : List Placed) → is_wide row.offset ≡ true → narrow_rows wide (row ∷ rows) ≡ (to_be_bytes w32 row.pack ++ to_be_bytes w32 (2 ^ 31 + wide)) ++ narrow_rows (wide + 1) rows
+unfolding narrow_from
+narrow_rows_yes wide row rows is = rw is refl
+
+pub narrow_rows_no : (wide : ℕ) (row : Placed) (rows : List Placed) → is_wide row.offset ≡ false → narrow_rows wide (row ∷ rows) ≡ (to_be_bytes w32 row.pack ++ to_be_bytes w32 row.offset) ++ narrow_rows wide rows
+unfolding narrow_from
+narrow_rows_no wide row rows is = rw is refl
+
+-- where no offset needs eight bytes, each fits four
+pub fits_four : (rows : List Placed) (i : ℕ) (d : Placed) → i < length rows → needs_wide (map offset_of rows) ≡ false → (get_or rows i d).offset < 2 ^ 32
+fits_four [] i d below none = absurd (omega arith)
+fits_four (row ∷ rows) zero d below none = by_test row.offset (or_parts (not (nat_lt row.offset (2 ^ 32))) (needs_wide (map offset_of rows)) none).0
+  where
+    by_test : (offset : ℕ) → not (nat_lt offset (2 ^ 32)) ≡ false → offset < 2 ^ 32
+    by_test offset h = grind arith
+fits_four (row ∷ rows) (suc i) d below none =
+    fits_four rows i d (omega arith) (or_parts (not (nat_lt row.offset (2 ^ 32))) (needs_wide (map offset_of rows)) none).1
+
+-- ---- the whole
+
+abbrev id_seen : PackRow → ObjectId
+id_seen row = row.id
+
+abbrev offset_seen : PackRow → ℕ
+offset_seen row = row.offset
+
+abbrev pack_seen : PackRow → ℕ
+pack_seen row = row.pack
+
+-- the chunks as they are written of rows
+pub chunks_seen : (names : List (List ℕ)) (rows : List Placed) → chunks_written names (map pack_row_of rows)
+    ≡ record { name = codes "PNAM"; bytes = padded (name_bytes names) } ∷ record { name = codes "OIDF"; bytes = number_bytes (counts_of (map id_of rows)) }
+    ∷ record { name = codes "OIDL"; bytes = flat_map bytes_of (map id_of rows) } ∷ offset_chunks (map pack_of rows) (map offset_of rows)
+unfolding chunks_written
+chunks_seen names rows =
+    let ids : map id_seen (map pack_row_of rows) ≡ map id_of rows = map_map id_seen pack_row_of rows in
+    let offsets : map offset_seen (map pack_row_of rows) ≡ map offset_of rows = map_map offset_seen pack_row_of rows in
+    let packs : map pack_seen (map pack_row_of rows) ≡ map pack_of rows = map_map pack_seen pack_row_of rows in
+    rw (ids, offsets, packs) refl
+
+abbrev pub multi_placed : Kind → List Named → List Placed
+multi_placed hash packs = table_of id_of (placed_in hash 0 packs)
+
+pub multi_table_seen : (hash : Kind) (packs : List Named) → map pack_row_of (multi_placed hash packs) ≡ table_of id_seen (rows_in_packs hash packs)
+multi_table_seen hash packs = map-table_of pack_row_of id_of id_seen (λ (row : Placed). refl) (placed_in hash 0 packs) ∙ ap (table_of id_seen) (pack_rows_placed hash packs)
+
+-- a multi-index of some chunks without its hash
+abbrev pub front_with : Kind → ℕ → List Chunk → List ℕ
+front_with hash packs chunks =
+    codes "MIDX" ++ 1 ∷ hash_number hash ∷ length chunks ∷ 0 ∷ to_be_bytes w32 packs ++ chunk_table (12 + 12 * (length chunks + 1)) chunks ++ flat_map (λ (chunk : Chunk). chunk.bytes) chunks
+
+-- the header, the table and the chunks one behind another
+pub front_steps : (hash : Kind) (packs : List given.NamedPack) (own chunks : List kept.Chunk) (l0 l1 l2 l3 : List ℕ) → chunks ≡ own → l0 ≡ []
+    → l1 ≡ l0 ++ (codes "MIDX" ++ 1 ∷ hash_number hash ∷ length chunks ∷ 0 ∷ to_be_bytes w32 (length packs)) → l2 ≡ l1 ++ chunk_table (12 + 12 * (length chunks + 1)) (map chunk_seen chunks)
+    → l3 ≡ l2 ++ flat_map (λ (c : Chunk). c.bytes) (map chunk_seen chunks) → l3 ≡ front_with hash (length (map named_seen packs)) (map chunk_seen own)
+front_steps hash packs own chunks l0 l1 l2 l3 same empty a b c =
+    let seen = map chunk_seen chunks in
+    let behind = flat_map (λ (d : Chunk). d.bytes) seen in
+    let one = b ∙ ap (λ (l : List ℕ). l ++ chunk_table (12 + 12 * (length chunks + 1)) seen) (a ∙ ap (λ (l : List ℕ). l ++ (codes "MIDX" ++ 1 ∷ hash_number hash ∷ length chunks ∷ 0 ∷ to_be_bytes w32 (length packs))) empty) in
+    c ∙ ap (λ (l : List ℕ). l ++ behind) one
+    ∙ ap (λ (n : ℕ). (codes "MIDX" ++ 1 ∷ hash_number hash ∷ n ∷ 0 ∷ to_be_bytes w32 (length packs)) ++ chunk_table (12 + 12 * (n + 1)) seen ++ behind) (sym (length-map chunks chunk_seen))
+    ∙ ap (λ (n : ℕ). front_with hash n seen) (sym (length-map packs named_seen)) ∙ ap (λ (cs : List kept.Chunk). front_with hash (length (map named_seen packs)) (map chunk_seen cs)) same
+
+pub multi_written : (hash : Kind) (packs : List Named) (rows : List Placed) (chunks : List Chunk) (front : List ℕ) → rows ≡ multi_placed hash packs
+    → chunks ≡ chunks_written (names_of packs) (map pack_row_of rows) → front ≡ front_with hash (length packs) chunks → front ++ bytes_of (hash_of hash front) ≡ multi_index_of_packs hash packs
+unfolding multi_index_of_packs multi_bytes multi_front
+multi_written hash packs rows chunks front rows_are chunks_are front_is =
+    let seen : map pack_row_of rows ≡ table_of id_seen (rows_in_packs hash packs) = ap (map pack_row_of) rows_are ∙ multi_table_seen hash packs in
+    ap (λ (bytes : List ℕ). bytes ++ bytes_of (hash_of hash bytes))
+    (front_is ∙ ap (λ (n : ℕ). front_with hash n chunks) (sym (length-map packs (λ (pack : Named). pack.name)))
+    ∙ ap (multi_front hash (names_of packs)) (chunks_are ∙ ap (chunks_written (names_of packs)) seen))
+
+pub is_multi_index_of : (hash : Kind) (packs : List Named) → IsMultiIndexOf hash packs (multi_index_of_packs hash packs)
+unfolding multi_index_of_packs
+is_multi_index_of hash packs =
+    record {
+      rows = table_of id_seen (rows_in_packs hash packs);
+      table = is_table id_seen (rows_in_packs hash packs);
+      bytes_are = refl;
+    }
+
+-- ---- what is known of the rows on the way
+
+pub multi_rows_are : (hash : Kind) (packs : List Named) (given table rows : List Placed) → given ≡ placed_in hash 0 packs → table ≡ table_of id_of given → rows ≡ table → rows ≡ multi_placed hash packs
+multi_rows_are hash packs given table rows given_is table_is rows_is = rows_is ∙ table_is ∙ ap (table_of id_of) given_is
+
+module _ (hash : Kind) (packs : List Named) (rows : List Placed) (are : rows ≡ multi_placed hash packs) where
+  pub multi_few : sum_by (λ (pack : Named). length pack.objects) packs < 2 ^ 31 → length rows < 2 ^ 31
+  multi_few few =
+      let fewer = length-table_of id_of (placed_in hash 0 packs) in
+      let as_many = length-placed_in hash 0 packs in
+      let same : length rows ≡ length (multi_placed hash packs) = ap (λ (r : List Placed). length r) are in
+      omega arith
+
+  pub multi_rising : is_rising (map id_of rows) ≡ true
+  multi_rising = ap (λ (r : List Placed). is_rising (map id_of r)) are ∙ rising-table_of id_of (placed_in hash 0 packs)
+
+  pub multi_each : AllByRecursion (IsPlaced hash) (placed_in hash 0 packs) → AllByRecursion (IsPlaced hash) rows
+  multi_each placed = subst (AllByRecursion (IsPlaced hash)) (sym are) (each_of_table id_of (IsPlaced hash) (placed_in hash 0 packs) placed)
+
+-- ---- whether a multi-index can be written
+
+objects_more : (packs : List given.NamedPack) (i : ℕ) (pack : given.NamedPack) → i < length packs → pack ≡ get_or packs i pack
+    → objects_over (map named_seen (drop i packs)) ≡ length pack.objects + objects_over (map named_seen (drop (i + 1) packs))
+objects_more packs i pack below is =
+    ap (λ (rest : List given.NamedPack). objects_over (map named_seen rest)) (drop_more packs i pack below ∙ ap (λ (p : given.NamedPack). p ∷ drop (i + 1) packs) (sym is))
+    ∙ sum_by-cons (λ (p : Named). length p.objects) (named_seen pack) (map named_seen (drop (i + 1) packs))
+    ∙ ap (λ (n : ℕ). n + objects_over (map named_seen (drop (i + 1) packs))) (length-map pack.objects object_seen)
+
+-- what is left of the limit, one pack on
+pub left_on : (packs : List given.NamedPack) (i left next : ℕ) (pack : given.NamedPack) → i < length packs → pack ≡ get_or packs i pack → length pack.objects ≤ left → next + length pack.objects ≡ left
+    → objects_over (map named_seen packs) + left ≡ 2 ^ 31 - 1 + objects_over (map named_seen (drop i packs)) → objects_over (map named_seen packs) + next ≡ 2 ^ 31 - 1 + objects_over (map named_seen (drop (i + 1) packs))
+left_on packs i left next pack below is fits next_is so_far = let more = objects_more packs i pack below is in omega arith
+
+pub left_over : (packs : List given.NamedPack) (i left : ℕ) (pack : given.NamedPack) → i < length packs → pack ≡ get_or packs i pack → left < length pack.objects → left ≤ 2 ^ 31 - 1
+    → objects_over (map named_seen packs) + left ≡ 2 ^ 31 - 1 + objects_over (map named_seen (drop i packs)) → 2 ^ 31 ≤ objects_over (map named_seen packs)
+left_over packs i left pack below is over within so_far = let more = objects_more packs i pack below is in omega arith
+
+pub left_all : (packs : List given.NamedPack) (i left : ℕ) → length packs ≤ i → left ≤ 2 ^ 31 - 1
+    → objects_over (map named_seen packs) + left ≡ 2 ^ 31 - 1 + objects_over (map named_seen (drop i packs)) → objects_over (map named_seen packs) < 2 ^ 31
+left_all packs i left past within so_far =
+    let none : objects_over (map named_seen (drop i packs)) ≡ 0 = ap (λ (rest : List given.NamedPack). objects_over (map named_seen rest)) (drop_all i packs past) in
+    omega arith
+
+rise_more : (name : List ℕ) (names : List (List ℕ)) → names_rise (name ∷ names) ≡ (below_first name names && names_rise names)
+unfolding names_rise
+rise_more name [] = refl
+rise_more name (next ∷ names) = refl
+
+shuffled : (a b c d : Bool) → ((a && b) && (c && d)) ≡ ((a && c) && (b && d))
+shuffled true true c d = refl
+shuffled true false true d = refl
+shuffled true false false d = refl
+shuffled false b c d = refl
+
+-- the first name, and the others
+pub names_more : (name : List ℕ) (names : List (List ℕ)) → are_names (name ∷ names) ≡ ((is_index_name name && below_first name names) && are_names names)
+names_more name names =
+    ap (λ (rise : Bool). (is_index_name name && list_all is_index_name names) && rise) (rise_more name names)
+    ∙ shuffled (is_index_name name) (list_all is_index_name names) (below_first name names) (names_rise names)
+
+pub no_names : are_names [] ≡ true
+unfolding names_rise
+no_names = refl
+
+-- ---- a loop over rows
+
+regroup : (list one two rest : List ℕ) → ((list ++ one) ++ two) ++ rest ≡ list ++ ((one ++ two) ++ rest)
+regroup list one two rest = append_assoc (list ++ one) two rest ∙ append_assoc list one (two ++ rest) ∙ ap (λ (l : List ℕ). list ++ l) (sym (append_assoc one two rest))
+
+narrow_rows_at : (wide : ℕ) (rows : List Placed) (i : ℕ) (d : Placed) → i < length rows → narrow_rows wide (drop i rows) ≡ narrow_rows wide (get_or rows i d ∷ drop (i + 1) rows)
+narrow_rows_at wide rows i d below = ap (narrow_rows wide) (drop_more rows i d below)
+
+pub row_on_wide : (list middle new whole : List ℕ) (rows : List Placed) (i wide next : ℕ) (d : Placed) → i < length rows → is_wide (get_or rows i d).offset ≡ true → middle ≡ list ++ to_be_bytes w32 (get_or rows i d).pack
+    → new ≡ middle ++ to_be_bytes w32 (2 ^ 31 + wide) → next ≡ wide + 1 → list ++ narrow_rows wide (drop i rows) ≡ whole → new ++ narrow_rows next (drop (i + 1) rows) ≡ whole
+row_on_wide list middle new whole rows i wide next d below is middle_is new_is next_is so_far =
+    let row = get_or rows i d in
+    let left = narrow_rows (wide + 1) (drop (i + 1) rows) in
+    ap (λ (n : ℕ). new ++ narrow_rows n (drop (i + 1) rows)) next_is
+    ∙ ap (λ (l : List ℕ). l ++ left) (new_is ∙ ap (λ (l : List ℕ). l ++ to_be_bytes w32 (2 ^ 31 + wide)) middle_is)
+    ∙ regroup list (to_be_bytes w32 row.pack) (to_be_bytes w32 (2 ^ 31 + wide)) left
+    ∙ ap (λ (rest : List ℕ). list ++ rest) (sym (narrow_rows_at wide rows i d below ∙ narrow_rows_yes wide row (drop (i + 1) rows) is)) ∙ so_far
+
+pub row_on_low : (list middle new whole : List ℕ) (rows : List Placed) (i wide next : ℕ) (d : Placed) → i < length rows → is_wide (get_or rows i d).offset ≡ false → middle ≡ list ++ to_be_bytes w32 (get_or rows i d).pack
+    → new ≡ middle ++ to_be_bytes w32 (get_or rows i d).offset → next ≡ wide → list ++ narrow_rows wide (drop i rows) ≡ whole → new ++ narrow_rows next (drop (i + 1) rows) ≡ whole
+row_on_low list middle new whole rows i wide next d below is middle_is new_is next_is so_far =
+    let row = get_or rows i d in
+    let left = narrow_rows wide (drop (i + 1) rows) in
+    ap (λ (n : ℕ). new ++ narrow_rows n (drop (i + 1) rows)) next_is
+    ∙ ap (λ (l : List ℕ). l ++ left) (new_is ∙ ap (λ (l : List ℕ). l ++ to_be_bytes w32 row.offset) middle_is)
+    ∙ regroup list (to_be_bytes w32 row.pack) (to_be_bytes w32 row.offset) left
+    ∙ ap (λ (rest : List ℕ). list ++ rest) (sym (narrow_rows_at wide rows i d below ∙ narrow_rows_no wide row (drop (i + 1) rows) is)) ∙ so_far
+
+narrow_rows_none : (wide : ℕ) → narrow_rows wide [] ≡ []
+unfolding narrow_from
+narrow_rows_none wide = refl
+
+pub rows_end : (list whole : List ℕ) (rows : List Placed) (i wide : ℕ) → length rows ≤ i → list ++ narrow_rows wide (drop i rows) ≡ whole → list ≡ whole
+rows_end list whole rows i wide past so_far =
+    sym (append-nil list) ∙ ap (λ (rest : List ℕ). list ++ rest) (sym (ap (narrow_rows wide) (drop_all i rows past) ∙ narrow_rows_none wide)) ∙ so_far
+
+-- the header, one part behind another
+pub front_put : (old l1 l2 l3 : List ℕ) (hash chunks packs : ℕ) → l1 ≡ old ++ codes "MIDX" → l2 ≡ l1 ++ (1 ∷ hash ∷ chunks ∷ 0 ∷ []) → l3 ≡ l2 ++ to_be_bytes w32 packs
+    → l3 ≡ old ++ (codes "MIDX" ++ 1 ∷ hash ∷ chunks ∷ 0 ∷ to_be_bytes w32 packs)
+front_put old l1 l2 l3 hash chunks packs a b c =
+    c ∙ ap (λ (l : List ℕ). l ++ to_be_bytes w32 packs) (b ∙ ap (λ (l : List ℕ). l ++ (1 ∷ hash ∷ chunks ∷ 0 ∷ [])) a)
+    ∙ append_assoc (old ++ codes "MIDX") (1 ∷ hash ∷ chunks ∷ 0 ∷ []) (to_be_bytes w32 packs) ∙ append_assoc old (codes "MIDX") (1 ∷ hash ∷ chunks ∷ 0 ∷ to_be_bytes w32 packs)
+
+-- ---- the chunk table, row by row
+
+pub table_on : (list l1 l2 whole : List ℕ) (chunks : List kept.Chunk) (i place next : ℕ) (chunk : kept.Chunk) → i < length chunks → chunk ≡ get_or chunks i chunk → l1 ≡ list ++ chunk.name → l2 ≡ l1 ++ to_be_bytes w64 place
+    → next ≡ place + length chunk.bytes → list ++ chunk_table place (map chunk_seen (drop i chunks)) ≡ whole → l2 ++ chunk_table next (map chunk_seen (drop (i + 1) chunks)) ≡ whole
+table_on list l1 l2 whole chunks i place next chunk below is a b next_is so_far =
+    let left = chunk_table (place + length chunk.bytes) (map chunk_seen (drop (i + 1) chunks)) in
+    ap (λ (n : ℕ). l2 ++ chunk_table n (map chunk_seen (drop (i + 1) chunks))) next_is
+    ∙ ap (λ (l : List ℕ). l ++ left) (b ∙ ap (λ (l : List ℕ). l ++ to_be_bytes w64 place) a) ∙ regroup list chunk.name (to_be_bytes w64 place) left
+    ∙ ap (λ (rest : List ℕ). list ++ rest) (sym (chunks_step place chunks i chunk below is)) ∙ so_far
+
+pub end_on : (chunks : List kept.Chunk) (i place next end : ℕ) (chunk : kept.Chunk) → i < length chunks → chunk ≡ get_or chunks i chunk → next ≡ place + length chunk.bytes
+    → place + bytes_over (map chunk_seen (drop i chunks)) ≡ end → next + bytes_over (map chunk_seen (drop (i + 1) chunks)) ≡ end
+end_on chunks i place next end chunk below is next_is so_far =
+    let step : bytes_over (map chunk_seen (drop i chunks)) ≡ length (chunk.bytes ++ flat_map (λ (c : Chunk). c.bytes) (map chunk_seen (drop (i + 1) chunks))) = ap (λ (l : List ℕ). length l) (bytes_step chunks i chunk below is) in
+    let both = length-append chunk.bytes (flat_map (λ (c : Chunk). c.bytes) (map chunk_seen (drop (i + 1) chunks))) in
+    omega arith
+
+pub table_all : (list l1 l2 whole : List ℕ) (chunks : List kept.Chunk) (i place : ℕ) → length chunks ≤ i → l1 ≡ list ++ replicate 4 0 → l2 ≡ l1 ++ to_be_bytes w64 place
+    → list ++ chunk_table place (map chunk_seen (drop i chunks)) ≡ whole → l2 ≡ whole
+table_all list l1 l2 whole chunks i place past a b so_far =
+    b ∙ ap (λ (l : List ℕ). l ++ to_be_bytes w64 place) a ∙ append_assoc list (replicate 4 0) (to_be_bytes w64 place)
+    ∙ ap (λ (rest : List ℕ). list ++ rest) (sym (chunks_end place chunks i past)) ∙ so_far
+
+pub end_all : (chunks : List kept.Chunk) (i place end : ℕ) → length chunks ≤ i → place < 2 ^ 64 → place + bytes_over (map chunk_seen (drop i chunks)) ≡ end → end < 2 ^ 64
+end_all chunks i place end past small so_far =
+    let none : bytes_over (map chunk_seen (drop i chunks)) ≡ 0 = ap (λ (l : List ℕ). length l) (bytes_end chunks i past) in
+    omega arith
+
+-- ---- whether an offset doesn't fit four bytes
+
+abbrev wide_in : List Placed → Bool
+wide_in rows = needs_wide (map offset_of rows)
+
+wide_here : (offset : ℕ) (rest : Bool) → 2 ^ 32 ≤ offset → (not (nat_lt offset (2 ^ 32)) || rest) ≡ true
+wide_here offset rest high = grind arith
+
+fits_here : (offset : ℕ) (rest : Bool) → offset < 2 ^ 32 → (not (nat_lt offset (2 ^ 32)) || rest) ≡ rest
+fits_here offset rest low = grind arith
+
+pub wide_found : (rows : List Placed) (i : ℕ) (d : Placed) → i < length rows → 2 ^ 32 ≤ (get_or rows i d).offset → needs_wide (map offset_of (drop i rows)) ≡ true
+wide_found rows i d below high = ap wide_in (drop_more rows i d below) ∙ wide_here (get_or rows i d).offset (wide_in (drop (i + 1) rows)) high
+
+pub wide_not_yet : (rows : List Placed) (i : ℕ) (d : Placed) → i < length rows → (get_or rows i d).offset < 2 ^ 32 → needs_wide (map offset_of (drop i rows)) ≡ needs_wide (map offset_of (drop (i + 1) rows))
+wide_not_yet rows i d below low = ap wide_in (drop_more rows i d below) ∙ fits_here (get_or rows i d).offset (wide_in (drop (i + 1) rows)) low
+
+pub wide_nowhere : (rows : List Placed) (i : ℕ) → length rows ≤ i → needs_wide (map offset_of (drop i rows)) ≡ false
+wide_nowhere rows i past = ap wide_in (drop_all i rows past)
+
+-- ---- the chunks, one put behind another
+
+abbrev chunk_of : List ℕ → List ℕ → kept.Chunk
+chunk_of name bytes = record { name = name; bytes = bytes }
+
+abbrev three : List ℕ → List ℕ → List ℕ → List Chunk → List Chunk
+three names counts ids others = record { name = codes "PNAM"; bytes = names } ∷ record { name = codes "OIDF"; bytes = counts } ∷ record { name = codes "OIDL"; bytes = ids } ∷ others
+
+pub chunks_put : (packs : List given.NamedPack) (rows : List Placed) (n0 n1 n2 c0 c1 i0 i1 : List ℕ) (len : ℕ) (k0 k1 k2 k3 k4 : List kept.Chunk) → n0 ≡ [] → n1 ≡ n0 ++ name_bytes (names_of (map named_seen packs)) → len ≡ length n1
+    → n2 ≡ n1 ++ replicate ((4 - len % 4) % 4) 0 → c0 ≡ [] → c1 ≡ c0 ++ number_bytes (counts_of (map id_of rows)) → i0 ≡ [] → i1 ≡ i0 ++ flat_map bytes_of (map id_of rows)
+    → k0 ≡ [] → k1 ≡ k0 ++ chunk_of (codes "PNAM") n2 ∷ [] → k2 ≡ k1 ++ chunk_of (codes "OIDF") c1 ∷ [] → k3 ≡ k2 ++ chunk_of (codes "OIDL") i1 ∷ []
+    → map chunk_seen k4 ≡ map chunk_seen k3 ++ offset_chunks (map pack_of rows) (map offset_of rows) → map chunk_seen k4 ≡ chunks_written (names_of (map named_seen packs)) (map pack_row_of rows)
+chunks_put packs rows n0 n1 n2 c0 c1 i0 i1 len k0 k1 k2 k3 k4 a b c d e f g h i j k l m =
+    let others = offset_chunks (map pack_of rows) (map offset_of rows) in
+    let names = name_bytes (names_of (map named_seen packs)) in
+    let first : n1 ≡ names = b ∙ ap (λ (n : List ℕ). n ++ names) a in
+    let padding : n2 ≡ padded names = d ∙ ap (λ (n : ℕ). n1 ++ replicate ((4 - n % 4) % 4) 0) c ∙ ap padded first in
+    let counts : c1 ≡ number_bytes (counts_of (map id_of rows)) = f ∙ ap (λ (n : List ℕ). n ++ number_bytes (counts_of (map id_of rows))) e in
+    let ids : i1 ≡ flat_map bytes_of (map id_of rows) = h ∙ ap (λ (n : List ℕ). n ++ flat_map bytes_of (map id_of rows)) g in
+    let all : k3 ≡ chunk_of (codes "PNAM") n2 ∷ chunk_of (codes "OIDF") c1 ∷ chunk_of (codes "OIDL") i1 ∷ [] =
+    l ∙ ap (λ (ks : List kept.Chunk). ks ++ chunk_of (codes "OIDL") i1 ∷ [])
+    (k ∙ ap (λ (ks : List kept.Chunk). ks ++ chunk_of (codes "OIDF") c1 ∷ []) (j ∙ ap (λ (ks : List kept.Chunk). ks ++ chunk_of (codes "PNAM") n2 ∷ []) i)) in
+    m ∙ ap (λ (ks : List kept.Chunk). map chunk_seen ks ++ others) all ∙ ap (λ (n : List ℕ). three n c1 i1 others) padding ∙ ap (λ (n : List ℕ). three (padded names) n i1 others) counts
+    ∙ ap (λ (n : List ℕ). three (padded names) (number_bytes (counts_of (map id_of rows))) n others) ids ∙ sym (chunks_seen (names_of (map named_seen packs)) rows)
+
+-- ---- the names, one pack on
+
+names_at : (packs : List given.NamedPack) (i : ℕ) (pack : given.NamedPack) → i < length packs → pack ≡ get_or packs i pack
+    → are_names (names_of (map named_seen (drop i packs))) ≡ ((is_index_name pack.name && below_first pack.name (names_of (map named_seen (drop (i + 1) packs)))) && are_names (names_of (map named_seen (drop (i + 1) packs))))
+names_at packs i pack below is =
+    ap (λ (rest : List given.NamedPack). are_names (names_of (map named_seen rest))) (drop_more packs i pack below ∙ ap (λ (p : given.NamedPack). p ∷ drop (i + 1) packs) (sym is))
+    ∙ names_more pack.name (names_of (map named_seen (drop (i + 1) packs)))
+
+no_name : (a b c : Bool) → a ≡ false → ((a && b) && c) ≡ false
+no_name a b c x = rw x refl
+
+no_order : (a b c : Bool) → b ≡ false → ((a && b) && c) ≡ false
+no_order true b c x = rw x refl
+no_order false b c x = refl
+
+both : (a b c : Bool) → a ≡ true → b ≡ true → ((a && b) && c) ≡ c
+both a b c x y = rw (x, y) refl
+
+pub names_bad : (packs : List given.NamedPack) (i : ℕ) (pack : given.NamedPack) → i < length packs → pack ≡ get_or packs i pack → is_index_name pack.name ≡ false → are_names (names_of (map named_seen (drop i packs))) ≡ false
+names_bad packs i pack below is h = names_at packs i pack below is ∙ no_name (is_index_name pack.name) _ _ h
+
+pub names_out : (packs : List given.NamedPack) (i : ℕ) (pack : given.NamedPack) → i < length packs → pack ≡ get_or packs i pack → below_first pack.name (names_of (map named_seen (drop (i + 1) packs))) ≡ false
+    → are_names (names_of (map named_seen (drop i packs))) ≡ false
+names_out packs i pack below is h = names_at packs i pack below is ∙ no_order (is_index_name pack.name) _ _ h
+
+pub names_good : (packs : List given.NamedPack) (i : ℕ) (pack : given.NamedPack) → i < length packs → pack ≡ get_or packs i pack → is_index_name pack.name ≡ true
+    → below_first pack.name (names_of (map named_seen (drop (i + 1) packs))) ≡ true → are_names (names_of (map named_seen (drop i packs))) ≡ are_names (names_of (map named_seen (drop (i + 1) packs)))
+names_good packs i pack below is h o = names_at packs i pack below is ∙ both (is_index_name pack.name) _ _ h o
+
+pub names_all : (packs : List given.NamedPack) (i : ℕ) → length packs ≤ i → are_names (names_of (map named_seen (drop i packs))) ≡ true
+names_all packs i past = ap (λ (rest : List given.NamedPack). are_names (names_of (map named_seen rest))) (drop_all i packs past) ∙ no_names
+
+-- ---- the chunks at the end of the file
+
+pub bytes_all : (list start : List ℕ) (chunks : List kept.Chunk) (i : ℕ) → length chunks ≤ i
+    → list ++ flat_map (λ (c : Chunk). c.bytes) (map chunk_seen (drop i chunks)) ≡ start ++ flat_map (λ (c : Chunk). c.bytes) (map chunk_seen chunks) → list ≡ start ++ flat_map (λ (c : Chunk). c.bytes) (map chunk_seen chunks)
+bytes_all list start chunks i past so_far = sym (append-nil list) ∙ ap (λ (rest : List ℕ). list ++ rest) (sym (bytes_end chunks i past)) ∙ so_far
+
+pub small_seen : (own chunks : List kept.Chunk) → chunks ≡ own → 12 + 12 * (length chunks + 1) + bytes_over (map chunk_seen chunks) < 2 ^ 64 → 12 + 12 * (length (map chunk_seen own) + 1) + bytes_over (map chunk_seen own) < 2 ^ 64
+small_seen own chunks same small =
+    subst (λ (cs : List kept.Chunk). 12 + 12 * (length (map chunk_seen cs) + 1) + bytes_over (map chunk_seen cs) < 2 ^ 64) same
+    (subst (λ (n : ℕ). 12 + 12 * (n + 1) + bytes_over (map chunk_seen chunks) < 2 ^ 64) (sym (length-map chunks chunk_seen)) small)

@@ -1,0 +1,11 @@
+use Rattle.std.proofs.Common.{ℕ, List, subst, sym}
+use Rattle.gix_hash.specs.declared.object_id.ObjectId.{ObjectId}
+use Rattle.gix_pack.specs.Rows.{ids_of, IsPrefixRun}
+use Rattle.gix_pack.proofs.PackRowLemmas.{ids_in_rows}
+use Rattle.gix_pack.proofs.multi_index.rows.rows_of_prefix.Goals as goal
+
+-- the same of the ids of the rows
+pub returns : goal.returns
+returns c =
+    subst (λ (ids : List ObjectId). IsPrefixRun ids c.args.prefix.now c.rows_of_prefix.result.start c.rows_of_prefix.result.end) (sym (ids_in_rows c.args.kind c.args.layout c.args.bytes.now))
+    (subst (λ (bytes : List ℕ). IsPrefixRun (ids_of c.args.kind c.args.layout.count bytes) c.args.prefix.now c.rows_of_prefix.result.start c.rows_of_prefix.result.end) c.span_in.ensures c.rows_of_prefix.ensures)

@@ -1,0 +1,68 @@
+//! Numbers and ids at places of a file's bytes.
+ghost use Rattle.std.specs.Prelude.{◌≡◌, ◌+◌, ◌≤◌, drop, length};
+ghost use Rattle.gix_hash.specs.Kind.{len_in_bytes_of};
+ghost use Rattle.gix_pack.specs.Bytes.{long_number_at, number_at as number_of, part};
+ghost use Rattle.gix_pack.specs.Rows.{id_from};
+
+use gix_hash::{Kind, ObjectId};
+
+// The number of four bytes at a place.
+pub(crate) fn number_at(bytes: &[u8], place: usize) -> u32
+    requires { place + 4 ≤ length bytes.now }
+    ensures { result ≡ number_of place bytes.now }
+{
+    let (_, rest) = bytes.split_at(place);
+    let (front, _) = rest.split_at(4);
+    u32::from_be_bytes([front[0], front[1], front[2], front[3]])
+}
+
+// The number of eight bytes at a place.
+pub(crate) fn long_at(bytes: &[u8], place: usize) -> u64
+    requires { place + 8 ≤ length bytes.now }
+    ensures { result ≡ long_number_at place bytes.now }
+{
+    let (_, rest) = bytes.split_at(place);
+    let (front, _) = rest.split_at(8);
+    u64::from_be_bytes([
+        front[0], front[1], front[2], front[3], front[4], front[5], front[6], front[7],
+    ])
+}
+
+// The id that has these bytes.
+pub(crate) fn id_of(kind: Kind, bytes: &[u8]) -> ObjectId
+    requires { length bytes.now ≡ len_in_bytes_of kind }
+    ensures { result ≡ id_from kind bytes.now }
+{
+    match kind {
+        Kind::Sha1 => ObjectId::Sha1(array_of(bytes)),
+        Kind::Sha256 => ObjectId::Sha256(array_of(bytes)),
+    }
+}
+
+// The bytes as an array.
+fn array_of<const N: usize>(bytes: &[u8]) -> [u8; N]
+    requires { length bytes.now ≡ N }
+    ensures { result ≡ bytes.now }
+{
+    let mut array = [0; N];
+    array.copy_from_slice(bytes);
+    array
+}
+
+// The bytes behind the first so many.
+pub(crate) fn behind_first(bytes: &[u8], size: usize) -> &[u8]
+    requires { size ≤ length bytes.now }
+    ensures { result.now ≡ drop size bytes.now }
+{
+    let (_, rest) = bytes.split_at(size);
+    rest
+}
+
+// So many bytes from a place on.
+pub(crate) fn part_of(bytes: &[u8], place: usize, size: usize) -> &[u8]
+    requires { place + size ≤ length bytes.now }
+    ensures { result.now ≡ part place size bytes.now }
+{
+    let (_, rest) = bytes.split_at(place);
+    &rest[..size]
+}

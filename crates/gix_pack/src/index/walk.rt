@@ -1,0 +1,34 @@
+//! A walk through the rows of an index.
+ghost use Rattle.std.specs.Iterator.{YieldsFirstBy, item_count};
+ghost use Rattle.gix_pack.specs.IndexRows.{row_seen, rows_left};
+
+use super::{Entry, File};
+
+/// The rows of an index, in the order of their ids.
+#[derive(Drop)]
+pub struct Iter<'a> {
+    pub(super) index: &'a File,
+    pub(super) row: u32,
+}
+
+impl<'a> Iterator for Iter<'a> {
+    type Item = Entry;
+
+    ghost next_gives = { YieldsFirstBy row_seen rows_left };
+
+    ghost remaining = { item_count rows_left };
+
+    #[tactic(auto, using(crate::proofs::IndexRowsLemmas::rows_more, crate::proofs::IndexRowsLemmas::rows_end))]
+    fn next(&mut self) -> Option<Entry> {
+        if self.row >= self.index.num_objects() {
+            return None;
+        }
+        let row = self.row;
+        self.row += 1;
+        Some(Entry {
+            oid: self.index.oid_at_index(row),
+            pack_offset: self.index.pack_offset_at_index(row),
+            crc32: None,
+        })
+    }
+}

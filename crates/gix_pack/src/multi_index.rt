@@ -1,0 +1,189 @@
+//! Multi-pack indices, version 1: where the objects of several packs stand.
+ghost use Rattle.std.specs.Prelude.{◌≡◌, ◌⊎◌, ◌<◌, length, map, option_map, slice_get, true, Some, Err, Ok, IfOk, IfErr};
+ghost use Rattle.gix_pack.specs.Bytes.{is_within as fits};
+ghost use Rattle.gix_pack.specs.MultiIndex.{multi_index_of, read_of, told};
+ghost use Rattle.gix_pack.specs.MultiIndexRows.{rows_left};
+ghost use Rattle.gix_pack.specs.Rows.{PackRow, IsPrefixRun, IsRowOf};
+
+mod chunks;
+mod layout;
+mod names;
+mod parts;
+mod rows;
+mod walk;
+mod writing;
+
+use gix_hash::{Kind, ObjectId, Prefix};
+use layout::Layout;
+use odb_base::{ByteList, NoMemory, PathName, Sequence};
+use parts::read;
+use std::alloc::Global;
+use std::marker::Model;
+use std::ops::Range;
+use thiserror::Error;
+pub use walk::Iter;
+pub use writing::{can_be_written, encode};
+
+/// Why bytes are no multi-pack index.
+#[derive(Clone, Copy, Debug, PartialEq, Eq, Error)]
+pub enum Error {
+    /// The bytes are outside the format.
+    #[error("the bytes are no multi-pack index of version 1")]
+    BadMultiIndex,
+    /// There are more bytes than the limit allows.
+    #[error("the multi-pack index is longer than the limit")]
+    AboveLimit,
+    #[error("out of memory")]
+    NoMemory,
+}
+
+impl From<NoMemory> for Error {
+    ghost use Rattle.std.specs.Prelude.{◌≡◌};
+    ghost use Rattle.gix_pack.specs.declared.multi_index.Error.TheVariants.{NoMemory as out_of_memory};
+
+    ghost from_gives = { λ _ e. e ≡ out_of_memory };
+
+    fn from(_: NoMemory) -> Self {
+        Error::NoMemory
+    }
+}
+
+/// A multi-pack index.
+///
+/// It is seen as its bytes, which tell the hash of its ids, the names of its packs, and its rows.
+#[derive(Debug, Drop)]
+pub struct File {
+    kind: Kind,
+    bytes: ByteList,
+    names: Sequence<PathName>,
+    layout: Layout,
+}
+
+impl Model for File {
+    ghost use Rattle.std.specs.Prelude.{List, ℕ};
+    ghost use Rattle.gix_pack.specs.MultiIndexLayout.{IsRead};
+
+    ghost Value = { List ℕ };
+
+    ghost view = { λ file. file.bytes };
+
+    ghost invariant = { λ file. IsRead file.kind file.names file.layout file.bytes };
+}
+
+/// A row of a multi-pack index.
+#[derive(Clone, Copy, Debug, PartialEq, Eq)]
+pub struct Entry {
+    pub oid: ObjectId,
+    pub pack_offset: u64,
+    pub pack_index: u32,
+}
+
+impl File {
+    /// Reads a multi-pack index from its bytes, which it keeps. The limit, if there is one, is tested first: bytes that are
+    /// longer are `AboveLimit`, and others that are no multi-pack index `BadMultiIndex`.
+    #[tactic(auto, using(crate::proofs::ReadLemmas::above, crate::proofs::ReadLemmas::outside, crate::proofs::ReadLemmas::inside))]
+    pub fn parse(alloc: Global, bytes: ByteList, limit: Option<u64>) -> Result<File, Error>
+        ensures kept { IfOk result (λ file. file ≡ bytes) }
+        ensures usable { IfOk result (λ _. read_of limit bytes ≡ Ok (told bytes)) }
+        ensures refused { IfErr result (λ error. (read_of limit bytes ≡ Err error) ⊎ ((error ≡ Error.NoMemory) × (fits limit (length bytes) ≡ true))) }
+    {
+        if !is_within(limit, bytes.len() as u64) {
+            return Err(Error::AboveLimit);
+        }
+        match read(alloc, bytes.as_slice())? {
+            None => Err(Error::BadMultiIndex),
+            Some(found) => Ok(File {
+                kind: found.kind,
+                bytes,
+                names: found.names,
+                layout: found.layout,
+            }),
+        }
+    }
+
+    /// The hash of the ids.
+    #[tactic(auto, using(crate::proofs::ReadLemmas::told_kind))]
+    pub fn object_hash(&self) -> Kind
+        ensures { result ≡ (told self.now).kind }
+    {
+        self.kind
+    }
+
+    /// How many packs there are.
+    #[tactic(auto, using(crate::proofs::ReadLemmas::told_names))]
+    pub fn num_indices(&self) -> u32
+        ensures { result ≡ length (told self.now).names }
+    {
+        self.names.len() as u32
+    }
+
+    /// How many objects there are.
+    #[tactic(auto, using(crate::proofs::ReadLemmas::told_count, crate::proofs::ReadLemmas::is_told))]
+    pub fn num_objects(&self) -> u32
+        ensures count { result ≡ length (told self.now).rows }
+        ensures multi_index { multi_index_of self.now ≡ Some (told self.now) }
+    {
+        self.layout.count
+    }
+
+    /// The names of the packs' indices.
+    #[tactic(auto, using(crate::proofs::ReadLemmas::told_names))]
+    pub fn index_names(&self) -> &[PathName]
+        ensures { result.now ≡ (told self.now).names }
+    {
+        self.names.as_slice()
+    }
+
+    /// The id of a row.
+    #[tactic(auto, using(crate::proofs::ReadLemmas::told_rows, crate::proofs::ReadLemmas::told_count))]
+    pub fn oid_at_index(&self, n: u32) -> ObjectId
+        requires { n < length (told self.now).rows }
+        ensures { option_map (λ (row : PackRow). row.id) (slice_get (told self.now).rows n) ≡ Some result }
+    {
+        rows::id_at(self.bytes.as_slice(), self.kind, self.layout, n)
+    }
+
+    /// The number of a row's pack among the names, and the place of the row's object in that pack.
+    #[tactic(auto, using(crate::proofs::ReadLemmas::told_rows, crate::proofs::ReadLemmas::told_count))]
+    pub fn pack_id_and_pack_offset_at_index(&self, n: u32) -> (u32, u64)
+        requires { n < length (told self.now).rows }
+        ensures pack { option_map (λ (row : PackRow). row.pack) (slice_get (told self.now).rows n) ≡ Some result.0 }
+        ensures offset { option_map (λ (row : PackRow). row.offset) (slice_get (told self.now).rows n) ≡ Some result.1 }
+    {
+        rows::place_at(self.bytes.as_slice(), self.kind, self.layout, n)
+    }
+
+    /// The row of an id, if it has one.
+    pub fn lookup(&self, id: &ObjectId) -> Option<u32>
+        ensures { IsRowOf (map (λ (row : PackRow). row.id) (told self.now).rows) id.now result }
+    {
+        rows::row_of(self.bytes.as_slice(), self.kind, self.layout, id)
+    }
+
+    /// The rows whose ids begin with a prefix.
+    pub fn lookup_prefix(&self, prefix: &Prefix) -> Range<u32>
+        ensures { IsPrefixRun (map (λ (row : PackRow). row.id) (told self.now).rows) prefix.now result.start result.end }
+    {
+        rows::rows_of_prefix(self.bytes.as_slice(), self.kind, self.layout, prefix)
+    }
+
+    /// The rows, in the order of their ids.
+    pub fn iter(&self) -> Iter<'_>
+        ensures { rows_left result ≡ (told self.now).rows }
+    {
+        Iter {
+            index: self,
+            row: 0,
+        }
+    }
+}
+
+// Whether so many bytes are within a limit, if there is one.
+fn is_within(limit: Option<u64>, len: u64) -> bool
+    ensures { result ≡ fits limit len }
+{
+    match limit {
+        None => true,
+        Some(limit) => len <= limit,
+    }
+}

@@ -1,0 +1,280 @@
+//! Multi-pack indices written: the header, the chunk table, the chunks one behind another, and the hash.
+ghost use Rattle.std.specs.Prelude.{◌≡◌, ◌+◌, ◌*◌, ◌++◌, ◌∷◌, [], ◌^◌, ◌<◌, ◌≤◌, ◌↔◌, true, false, codes, length, map, IfOk, IsTrue, OnOk};
+ghost use Rattle.std.specs.Int.{w32, to_be_bytes};
+ghost use Rattle.std.specs.List.{flat_map, zip, AllByRecursion};
+ghost use Rattle.gix_pack.specs.MultiIndex.{are_names};
+ghost use Rattle.gix_pack.specs.MultiIndexChunks.{below_first, bytes_over, chunk_seen, objects_over, offset_chunks};
+ghost use Rattle.gix_pack.specs.PlacedRow.{id_of, offset_of, pack_of, pack_row_of, placed_in, IsPlaced};
+ghost use Rattle.gix_pack.specs.Rows.{is_rising};
+ghost use Rattle.gix_pack.specs.WrittenIndex.{narrow_from};
+ghost use Rattle.gix_pack.specs.WrittenMultiIndex.{chunk_table, chunks_written, hash_number, multi_index_of_packs, name_bytes, named_seen, names_of, needs_wide as need_wide, pack_and_offset, CanBeWritten, IsMultiIndexOf, ReadsMultiIndex};
+
+use super::names::is_name;
+use crate::NamedPack;
+use crate::put::{hash_of_bytes, put_long, put_number, put_zeros};
+use crate::put_rows::{is_wide, put_counts, put_ids, put_wide};
+use crate::table::{Placed, put_rows, table_of};
+use gix_hash::Kind;
+use odb_base::{ByteList, NoMemory, PathName};
+use std::alloc::Global;
+
+// There are fewer packs than this, and fewer objects over all of them.
+const LIMIT: usize = 1 << 31;
+
+// A chunk: its name, and its bytes.
+#[derive(Drop)]
+struct Chunk {
+    name: [u8; 4],
+    bytes: ByteList,
+}
+
+/// Whether a multi-pack index can be written of some packs: fewer than 2^31 with fewer than 2^31 objects over all of them,
+/// and names of indices, each of which is below the next by its bytes.
+pub fn can_be_written(packs: &[NamedPack]) -> bool
+    ensures { IsTrue result ↔ CanBeWritten (map named_seen packs.now) }
+{
+    packs.len() < LIMIT && have_few(packs) && have_names(packs)
+}
+
+// Whether the packs have fewer than 2^31 objects over all.
+#[tactic(auto, using(crate::proofs::WrittenMultiIndexLemmas::left_on, crate::proofs::WrittenMultiIndexLemmas::left_over, crate::proofs::WrittenMultiIndexLemmas::left_all))]
+fn have_few(packs: &[NamedPack]) -> bool
+    ensures { IsTrue result ↔ (objects_over (map named_seen packs.now) < 2 ^ 31) }
+{
+    let mut left = LIMIT - 1;
+    for pack in packs {
+        if pack.objects.len() > left {
+            return false;
+        }
+        left -= pack.objects.len();
+    }
+    true
+}
+
+// Whether the names are those of indices, and rise.
+#[tactic(auto, using(crate::proofs::WrittenMultiIndexLemmas::names_bad, crate::proofs::WrittenMultiIndexLemmas::names_out, crate::proofs::WrittenMultiIndexLemmas::names_good, crate::proofs::WrittenMultiIndexLemmas::names_all))]
+fn have_names(packs: &[NamedPack]) -> bool
+    ensures { result ≡ are_names (names_of (map named_seen packs.now)) }
+{
+    for (i, pack) in packs.iter().enumerate() {
+        if !is_name(pack.name.as_str().as_bytes()) {
+            return false;
+        }
+        let (_, behind) = packs.split_at(i + 1);
+        if !is_below(&pack.name, behind) {
+            return false;
+        }
+    }
+    true
+}
+
+// Whether a name is below that of the first of some packs, if there is one.
+fn is_below(name: &PathName, packs: &[NamedPack]) -> bool
+    ensures { result ≡ below_first name.now (names_of (map named_seen packs.now)) }
+{
+    match packs {
+        [] => true,
+        [pack, ..] => *name < pack.name,
+    }
+}
+
+/// The multi-pack index (Git's, version 1) of some packs: of objects with one id it has the first one in the first pack that has it.
+///
+/// Wide offsets are written where an offset doesn't fit four bytes. The only error is want of memory.
+#[tactic(auto, using(crate::proofs::WrittenMultiIndexLemmas::bytes_step, crate::proofs::WrittenMultiIndexLemmas::bytes_end))]
+pub fn encode(alloc: Global, packs: &[NamedPack], kind: Kind) -> Result<ByteList, NoMemory>
+    requires { CanBeWritten (map named_seen packs.now) }
+    ensures written { IfOk result (λ file. file ≡ multi_index_of_packs kind (map named_seen packs.now)) }
+    ensures table { IfOk result (IsMultiIndexOf kind (map named_seen packs.now)) }
+    ensures read_back { IfOk result (ReadsMultiIndex kind (map named_seen packs.now)) }
+{
+    let rows = rows_of(alloc, packs, kind)?;
+    let table = table_of(alloc, rows)?;
+    let kept = chunks_of(alloc, packs, table.as_slice(), kind)?;
+    let chunks = kept.as_slice();
+    let mut file = ByteList::new(alloc);
+    put_front(&mut file, packs.len() as u32, chunks.len() as u8, kind)?;
+    put_table(&mut file, chunks)?;
+    for chunk in chunks {
+        file.extend_from_slice(chunk.bytes.as_slice())?;
+    }
+    let hash = hash_of_bytes(kind, file.as_slice());
+    file.extend_from_slice(hash.as_bytes())?;
+    Ok(file)
+}
+
+// The rows of all packs, in the order of the packs and of their objects.
+#[tactic(auto, using(crate::proofs::WrittenMultiIndexLemmas::packs_step, crate::proofs::WrittenMultiIndexLemmas::packs_end))]
+fn rows_of(alloc: Global, packs: &[NamedPack], kind: Kind) -> Result<Vec<Placed>, NoMemory>
+    requires { length packs.now < 2 ^ 31 }
+    ensures rows { IfOk result (λ rows. rows.items ≡ placed_in kind 0 (map named_seen packs.now)) }
+    ensures placed { IfOk result (λ rows. AllByRecursion (IsPlaced kind) rows.items) }
+{
+    let mut rows = Vec::new(alloc);
+    let mut number = 0u32;
+    for pack in packs {
+        put_rows(alloc, &mut rows, number, pack.objects.as_slice(), kind)?;
+        number += 1;
+    }
+    Ok(rows)
+}
+
+// The header: so many packs, and so many chunks.
+fn put_front(file: &mut ByteList, packs: u32, chunks: u8, kind: Kind) -> Result<(), NoMemory>
+    ensures { OnOk result (file.new ≡ file.old ++ (codes "MIDX" ++ 1 ∷ hash_number kind ∷ chunks ∷ 0 ∷ to_be_bytes w32 packs)) }
+{
+    file.extend_from_slice(b"MIDX")?;
+    file.extend_from_slice(&[1, number_of(kind), chunks, 0])?;
+    put_number(file, packs)?;
+    Ok(())
+}
+
+// The number that stands for a hash.
+fn number_of(kind: Kind) -> u8
+    ensures { result ≡ hash_number kind }
+{
+    match kind {
+        Kind::Sha1 => 1,
+        Kind::Sha256 => 2,
+    }
+}
+
+// The chunk table. Places of 2^64 and more want more memory than there is.
+fn put_table(file: &mut ByteList, chunks: &[Chunk]) -> Result<(), NoMemory>
+    requires { length chunks.now < 256 }
+    ensures table { OnOk result (file.new ≡ file.old ++ chunk_table (12 + 12 * (length chunks.now + 1)) (map chunk_seen chunks.now)) }
+    ensures small { OnOk result (12 + 12 * (length chunks.now + 1) + bytes_over (map chunk_seen chunks.now) < 2 ^ 64) }
+{
+    let mut place = 12 + 12 * (chunks.len() as u64 + 1);
+    for chunk in chunks {
+        file.extend_from_slice(&chunk.name)?;
+        put_long(file, place)?;
+        place = place.checked_add(chunk.bytes.len() as u64).ok_or(NoMemory)?;
+    }
+    put_zeros(file, 4)?;
+    put_long(file, place)?;
+    Ok(())
+}
+
+// The chunks.
+fn chunks_of(
+    alloc: Global,
+    packs: &[NamedPack],
+    rows: &[Placed],
+    kind: Kind,
+) -> Result<Vec<Chunk>, NoMemory>
+    requires few { length rows.now < 2 ^ 31 }
+    requires rising { is_rising (map id_of rows.now) ≡ true }
+    requires placed { AllByRecursion (IsPlaced kind) rows.now }
+    ensures chunks { IfOk result (λ chunks. map chunk_seen chunks.items ≡ chunks_written (names_of (map named_seen packs.now)) (map pack_row_of rows.now)) }
+    ensures few { IfOk result (λ chunks. length chunks.items ≤ 5) }
+{
+    let mut names = ByteList::new(alloc);
+    put_names(&mut names, packs)?;
+    let padding = (4 - names.len() % 4) % 4;
+    put_zeros(&mut names, padding)?;
+    let mut counts = ByteList::new(alloc);
+    put_counts(&mut counts, rows, kind)?;
+    let mut ids = ByteList::new(alloc);
+    put_ids(&mut ids, rows)?;
+    let mut chunks = Vec::new(alloc);
+    chunks.push(Chunk {
+        name: *b"PNAM",
+        bytes: names,
+    })?;
+    chunks.push(Chunk {
+        name: *b"OIDF",
+        bytes: counts,
+    })?;
+    chunks.push(Chunk {
+        name: *b"OIDL",
+        bytes: ids,
+    })?;
+    push_offsets(alloc, &mut chunks, rows)?;
+    Ok(chunks)
+}
+
+// The names, each ended by NUL.
+#[tactic(auto, using(crate::proofs::WrittenMultiIndexLemmas::names_step, crate::proofs::WrittenMultiIndexLemmas::names_end))]
+fn put_names(list: &mut ByteList, packs: &[NamedPack]) -> Result<(), NoMemory>
+    ensures { OnOk result (list.new ≡ list.old ++ name_bytes (names_of (map named_seen packs.now))) }
+{
+    for pack in packs {
+        list.extend_from_slice(pack.name.as_str().as_bytes())?;
+        list.push(0)?;
+    }
+    Ok(())
+}
+
+// The chunk of the packs and offsets, and that of the wide offsets where one is needed.
+fn push_offsets(alloc: Global, chunks: &mut Vec<Chunk>, rows: &[Placed]) -> Result<(), NoMemory>
+    requires { length rows.now < 2 ^ 31 }
+    ensures chunks { OnOk result (map chunk_seen chunks.new.items ≡ map chunk_seen chunks.old.items ++ offset_chunks (map pack_of rows.now) (map offset_of rows.now)) }
+    ensures few { OnOk result (length chunks.new.items ≤ length chunks.old.items + 2) }
+{
+    let mut offsets = ByteList::new(alloc);
+    if needs_wide(rows) {
+        put_narrow(&mut offsets, rows)?;
+        chunks.push(Chunk {
+            name: *b"OOFF",
+            bytes: offsets,
+        })?;
+        let mut wide = ByteList::new(alloc);
+        put_wide(&mut wide, rows)?;
+        chunks.push(Chunk {
+            name: *b"LOFF",
+            bytes: wide,
+        })?;
+    } else {
+        put_whole(&mut offsets, rows)?;
+        chunks.push(Chunk {
+            name: *b"OOFF",
+            bytes: offsets,
+        })?;
+    }
+    Ok(())
+}
+
+// Whether an offset doesn't fit four bytes.
+#[tactic(auto, using(crate::proofs::WrittenMultiIndexLemmas::wide_found, crate::proofs::WrittenMultiIndexLemmas::wide_not_yet, crate::proofs::WrittenMultiIndexLemmas::wide_nowhere))]
+fn needs_wide(rows: &[Placed]) -> bool
+    ensures { result ≡ need_wide (map offset_of rows.now) }
+{
+    for row in rows {
+        if row.offset >= 1 << 32 {
+            return true;
+        }
+    }
+    false
+}
+
+// Packs and offsets, each of which fits four bytes.
+#[tactic(auto, using(crate::proofs::WrittenMultiIndexLemmas::fits_four))]
+fn put_whole(list: &mut ByteList, rows: &[Placed]) -> Result<(), NoMemory>
+    requires { need_wide (map offset_of rows.now) ≡ false }
+    ensures { OnOk result (list.new ≡ list.old ++ flat_map pack_and_offset (zip (map pack_of rows.now) (map offset_of rows.now))) }
+{
+    for row in rows {
+        put_number(list, row.pack)?;
+        put_number(list, row.offset as u32)?;
+    }
+    Ok(())
+}
+
+// Packs and offsets: a wide one is the high bit and its number among the wide ones.
+fn put_narrow(list: &mut ByteList, rows: &[Placed]) -> Result<(), NoMemory>
+    requires { length rows.now < 2 ^ 31 }
+    ensures { OnOk result (list.new ≡ list.old ++ flat_map pack_and_offset (zip (map pack_of rows.now) (narrow_from 0 (map offset_of rows.now)))) }
+{
+    let mut wide = 0u32;
+    for row in rows {
+        put_number(list, row.pack)?;
+        if is_wide(row.offset) {
+            put_number(list, (1 << 31) + wide)?;
+            wide += 1;
+        } else {
+            put_number(list, row.offset as u32)?;
+        }
+    }
+    Ok(())
+}

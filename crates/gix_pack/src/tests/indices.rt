@@ -1,0 +1,331 @@
+use super::joined;
+use crate::index::{BadIndex, File};
+use gix_hash::{Kind, ObjectId, Prefix};
+use odb_base::{ByteList, NoMemory};
+use std::alloc::Global;
+use std::ops::Range;
+use std::test::Fail;
+
+const SIGNATURE: &[u8] = b"\xfftOc\x00\x00\x00\x02";
+
+// Git's ids of the blobs `version 2` and `version 1`, each with a line feed.
+const SECOND: &[u8] = b"1f7a7a472abf3dd9643fd615f6da379c4acb3e3a";
+
+const FIRST: &[u8] = b"83baae61804e65cc73a7201a7252750c76066a30";
+
+// The counts of two ids that begin with 31 and 131: how many rows have which number.
+const TWO_COUNTS: &[(u16, u8)] = &[(31, 0), (100, 1), (125, 2)];
+
+// The offsets 23 and 12, and 12 behind one that names the first wide offset.
+const OFFSETS: &[u8] = &[0, 0, 0, 23, 0, 0, 0, 12];
+
+const ONE_WIDE: &[u8] = &[128, 0, 0, 0, 0, 0, 0, 12];
+
+// The parts of an index.
+#[derive(Clone, Copy)]
+struct Parts<'a> {
+    counts: &'a [(u16, u8)],
+    ids: &'a [&'a [u8]],
+    checks: &'a [u8],
+    offsets: &'a [u8],
+    wides: &'a [u8],
+    hashes: [&'a [u8]; 2],
+}
+
+// The index of the two versions: `version 2` is its first row. Its CRC values and hashes are zeros.
+const VERSIONS: Parts<'static> = Parts {
+    counts: TWO_COUNTS,
+    ids: &[SECOND, FIRST],
+    checks: &[0; 8],
+    offsets: OFFSETS,
+    wides: &[],
+    hashes: [&NO_HASH, &NO_HASH],
+};
+
+const NO_HASH: [u8; 40] = [b'0'; 40];
+
+// An index from its parts.
+fn index_of(alloc: Global, parts: Parts<'_>) -> Result<ByteList, Fail> {
+    let mut bytes = ByteList::from_slice(alloc, SIGNATURE)?;
+    for (times, count) in parts.counts {
+        for _ in 0..*times {
+            bytes.extend_from_slice(&[0, 0, 0, *count])?;
+        }
+    }
+    for id in parts.ids {
+        bytes.extend_from_slice(ObjectId::from_hex(id)?.as_bytes())?;
+    }
+    bytes.extend_from_slice(parts.checks)?;
+    bytes.extend_from_slice(parts.offsets)?;
+    bytes.extend_from_slice(parts.wides)?;
+    for hash in parts.hashes {
+        bytes.extend_from_slice(ObjectId::from_hex(hash)?.as_bytes())?;
+    }
+    Ok(bytes)
+}
+
+// The rows as `git show-index` tells them, without their CRC values.
+fn shown(alloc: Global, index: &File) -> Result<String, Fail> {
+    let mut text = String::new(alloc);
+    for entry in index.iter() {
+        text.push_str(&format!(in alloc; "{} {}\n", entry.pack_offset, entry.oid)?)?;
+    }
+    Ok(text)
+}
+
+// Indices that git made of five blobs, the numbers 285, 914 and 3446 (of SHA-256: 2690, 673 and 2189) and the texts
+// `version 1` and `version 2`, each with a line feed:
+//     git init --object-format=sha1; echo 285 | git hash-object -w --stdin; ..
+//     git pack-objects five; git index-pack --index-version=2,0x20 -o wide.idx five-*.pack
+// The second has a wide offset from the place 32 on.
+const SHA1: Parts<'static> = Parts {
+    counts: &[(31, 0), (77, 1), (23, 4), (125, 5)],
+    ids: &[
+        SECOND,
+        b"6cf44528e2d9c5e4b4b27a4fc1456eb5b2987a97",
+        b"6cf44bc0b0a2c1d11d2939b6a406f951ea73213b",
+        b"6cf44d4c8cb9f8e073927d06d0153bdb82fce224",
+        FIRST,
+    ],
+    checks: b"\xd3\xbc\xc3\xa7\x6c\x7a\x53\xcf\x70\xf7\x9a\xb3\x24\x27\x8c\x9d\xc4\xef\x12\x65",
+    offsets: b"\0\0\0\x1f\0\0\0\x32\0\0\0\x3f\0\0\0\x4c\0\0\0\x0c",
+    wides: &[],
+    hashes: [
+        b"5160769dd7e6e6e9121f8f94c7ab57fd8321b15a",
+        b"82f418d483d38f62dfd40a335c8a98c1848ddd45",
+    ],
+};
+
+const SHA1_WIDE: Parts<'static> = Parts {
+    counts: &[(31, 0), (77, 1), (23, 4), (125, 5)],
+    ids: &[
+        SECOND,
+        b"6cf44528e2d9c5e4b4b27a4fc1456eb5b2987a97",
+        b"6cf44bc0b0a2c1d11d2939b6a406f951ea73213b",
+        b"6cf44d4c8cb9f8e073927d06d0153bdb82fce224",
+        FIRST,
+    ],
+    checks: b"\xd3\xbc\xc3\xa7\x6c\x7a\x53\xcf\x70\xf7\x9a\xb3\x24\x27\x8c\x9d\xc4\xef\x12\x65",
+    offsets: b"\0\0\0\x1f\x80\0\0\0\x80\0\0\x01\x80\0\0\x02\0\0\0\x0c",
+    wides: b"\0\0\0\0\0\0\0\x32\0\0\0\0\0\0\0\x3f\0\0\0\0\0\0\0\x4c",
+    hashes: [
+        b"5160769dd7e6e6e9121f8f94c7ab57fd8321b15a",
+        b"ac03c86beb115e8b3ad0aa2b7fb7775f02b9430d",
+    ],
+};
+
+const SHA256: Parts<'static> = Parts {
+    counts: &[(7, 0), (81, 3), (101, 4), (67, 5)],
+    ids: &[
+        b"074c16a503059469fd8edcc4ff84fe4beca57592e4e4da9562be0a8645e728b5",
+        b"074c19a69a148ae5f9b55f273986af07097bd0c6060e8332cbfe2a9b95afaecb",
+        b"074c2799e340164e9372ff06cb4acac1c68490aac8b52517fe089785a3880ab4",
+        b"58a67ed1c161a4e89a110968310fe31e39920ef68d4c7c7e0d6695797533f50d",
+        b"bd965fae20eb0dd136c5fb90b7c99ea1863ab46bb9a2647be049f38751749e61",
+    ],
+    checks: b"\x11\xf0\x95\x01\x42\x89\xfc\x2e\xc3\xf3\xe9\xa0\xc4\xef\x12\x65\xd3\xbc\xc3\xa7",
+    offsets: b"\0\0\0\x32\0\0\0\x40\0\0\0\x4d\0\0\0\x0c\0\0\0\x1f",
+    wides: &[],
+    hashes: [
+        b"2be7448fe2e729f0af7e8f830df0f4610cdde106dad03b61e57d285a7761176d",
+        b"ce44b1c87697e5bb97c6b07436d56abbeedcc111df75c2c991d33e3a8be920c8",
+    ],
+};
+
+const SHOWN_VERSIONS: &str = "23 1f7a7a472abf3dd9643fd615f6da379c4acb3e3a
+12 83baae61804e65cc73a7201a7252750c76066a30
+";
+
+const SHOWN_SHA1: &str = "31 1f7a7a472abf3dd9643fd615f6da379c4acb3e3a
+50 6cf44528e2d9c5e4b4b27a4fc1456eb5b2987a97
+63 6cf44bc0b0a2c1d11d2939b6a406f951ea73213b
+76 6cf44d4c8cb9f8e073927d06d0153bdb82fce224
+12 83baae61804e65cc73a7201a7252750c76066a30
+";
+
+const SHOWN_SHA256: &str = "50 074c16a503059469fd8edcc4ff84fe4beca57592e4e4da9562be0a8645e728b5
+64 074c19a69a148ae5f9b55f273986af07097bd0c6060e8332cbfe2a9b95afaecb
+77 074c2799e340164e9372ff06cb4acac1c68490aac8b52517fe089785a3880ab4
+12 58a67ed1c161a4e89a110968310fe31e39920ef68d4c7c7e0d6695797533f50d
+31 bd965fae20eb0dd136c5fb90b7c99ea1863ab46bb9a2647be049f38751749e61
+";
+
+// How many ids are found in the rows of their order, up to the first that is not.
+fn rows_found(index: &File, ids: &[&[u8]]) -> Result<u32, Fail> {
+    let mut row = 0u32;
+    for text in ids {
+        if index.lookup(&ObjectId::from_hex(text)?) != Some(row) {
+            return Ok(row);
+        }
+        row = row.saturating_add(1);
+    }
+    Ok(row)
+}
+
+// A row whose offset is the neighbour's, a wide offset that is not followed, or ids of the other length.
+#[test]
+fn reads_indices_of_git(rt: HostRuntime) -> Result<(), Fail> {
+    let rows: [(&str, Parts<'static>, Kind, &str); 4] = [
+        ("two rows", VERSIONS, Kind::Sha1, SHOWN_VERSIONS),
+        ("SHA-1", SHA1, Kind::Sha1, SHOWN_SHA1),
+        ("wide offsets", SHA1_WIDE, Kind::Sha1, SHOWN_SHA1),
+        ("SHA-256", SHA256, Kind::Sha256, SHOWN_SHA256),
+    ];
+    for (name, parts, kind, want) in rows {
+        let index = File::parse(index_of(rt.alloc(), parts)?, kind).expect(&rt, name);
+        assert!(rt; shown(rt.alloc(), &index)?.as_str() == want, "{name}");
+        let found = rows_found(&index, parts.ids)?;
+        assert_eq!(rt; found, index.num_objects(), "{name}: rows of ids");
+        let other = match kind {
+            Kind::Sha1 => Kind::Sha256,
+            Kind::Sha256 => Kind::Sha1,
+        };
+        assert!(rt;
+            File::parse(index_of(rt.alloc(), parts)?, other).is_err(),
+            "{name}: other kind"
+        );
+    }
+    Ok(())
+}
+
+// The rows of a run, if it has any.
+fn rows_in(run: Range<u32>) -> Option<(u32, u32)> {
+    if run.start < run.end {
+        Some((run.start, run.end))
+    } else {
+        None
+    }
+}
+
+// Prefixes, and the first row and the end of the run of each.
+const PREFIXES_SHA1: &[(&str, Option<(u32, u32)>)] = &[
+    ("6cf4", Some((1, 4))),
+    ("6cf44", Some((1, 4))),
+    ("6cf45", None),
+    ("6cf445", Some((1, 2))),
+    ("6cf44d", Some((3, 4))),
+    ("1f7a", Some((0, 1))),
+    ("83baae6", Some((4, 5))),
+    ("0000", None),
+    ("ffff", None),
+];
+
+const PREFIXES_SHA256: &[(&str, Option<(u32, u32)>)] = &[
+    ("074c", Some((0, 3))),
+    ("074c1", Some((0, 2))),
+    ("074c2", Some((2, 3))),
+    ("074c3", None),
+];
+
+// A run without its first or last row, or half a byte that is ignored.
+#[test]
+fn finds_prefixes(rt: HostRuntime) -> Result<(), Fail> {
+    let tables = [
+        (SHA1, Kind::Sha1, PREFIXES_SHA1),
+        (SHA256, Kind::Sha256, PREFIXES_SHA256),
+    ];
+    for (parts, kind, rows) in tables {
+        let index = File::parse(index_of(rt.alloc(), parts)?, kind).expect(&rt, "git made it");
+        for (digits, want) in rows {
+            let id = id_from(rt.alloc(), kind, digits.as_bytes())?;
+            let prefix = Prefix::new(&id, digits.len())?;
+            assert!(rt; rows_in(index.lookup_prefix(&prefix)) == *want, "{digits}");
+        }
+    }
+    Ok(())
+}
+
+// The id whose text begins with some digits and goes on in zeros.
+fn id_from(alloc: Global, kind: Kind, digits: &[u8]) -> Result<ObjectId, Fail> {
+    let mut text = ByteList::from_slice(alloc, digits)?;
+    for _ in digits.len()..2 * kind.len_in_bytes() {
+        text.push(b'0')?;
+    }
+    Ok(ObjectId::from_hex(text.as_slice())?)
+}
+
+// The offsets of an index of two rows.
+fn offsets_read(bytes: ByteList) -> Result<[u64; 2], BadIndex> {
+    let index = File::parse(bytes, Kind::Sha1)?;
+    if index.num_objects() != 2 {
+        return Err(BadIndex);
+    }
+    Ok([index.pack_offset_at_index(0), index.pack_offset_at_index(1)])
+}
+
+// The bytes with one changed.
+fn changed(alloc: Global, bytes: &[u8], place: usize, byte: u8) -> Result<ByteList, NoMemory> {
+    let mut other = ByteList::new(alloc);
+    for (at, old) in bytes.iter().enumerate() {
+        other.push(if at == place { byte } else { *old })?;
+    }
+    Ok(other)
+}
+
+// Changes of a byte of the two rows with a wide offset, and the offsets that are read then, if any.
+const CHANGES: &[(&str, usize, u8, Option<[u64; 2]>)] = &[
+    ("no change", 0, 255, Some([1 << 32, 12])),
+    ("no mark", 0, 254, None),
+    ("version 1", 7, 1, None),
+    ("version 3", 7, 3, None),
+    ("a count too early", 131, 1, None),
+    ("the high byte of a count", 132, 1, None),
+    ("a count that falls", 171, 2, None),
+    ("one object less", 1031, 1, None),
+    ("one object more", 1031, 3, None),
+    ("an id that is not counted", 1032, 32, None),
+    ("ids out of order", 1032, 200, None),
+    ("another id", 1051, 59, Some([1 << 32, 12])),
+    ("a CRC value", 1072, 7, Some([1 << 32, 12])),
+    ("no such wide row", 1083, 1, None),
+    ("a narrow offset", 1084, 127, Some([1 << 32, 0x7f00_000c])),
+    (
+        "a wide offset",
+        1088,
+        255,
+        Some([0xff00_0001_0000_0000, 12]),
+    ),
+    ("the own hash", 1135, 1, Some([1 << 32, 12])),
+];
+
+// A count that is not compared, a wide row that is not there, or bytes that count although reading ignores them.
+#[test]
+fn reads_changed_indices(rt: HostRuntime) -> Result<(), Fail> {
+    let wide = Parts {
+        offsets: ONE_WIDE,
+        wides: &[0, 0, 0, 1, 0, 0, 0, 0],
+        ..VERSIONS
+    };
+    let bytes = index_of(rt.alloc(), wide)?;
+    for (name, place, byte, want) in CHANGES {
+        let read = offsets_read(changed(rt.alloc(), bytes.as_slice(), *place, *byte)?);
+        assert!(rt; read.ok() == *want, "{name}");
+    }
+    Ok(())
+}
+
+// A length that is not compared, of an index that is cut or has more bytes.
+#[test]
+fn reads_other_lengths(rt: HostRuntime) -> Result<(), Fail> {
+    let high = Parts {
+        offsets: &[128, 0, 0, 1, 128, 0, 0, 0],
+        wides: &[0, 0, 0, 0, 255, 255, 255, 255, 0, 0, 0, 0, 128, 0, 0, 0],
+        ..VERSIONS
+    };
+    let whole = index_of(rt.alloc(), high)?;
+    assert!(rt; offsets_read(whole.try_clone(rt.alloc())?) == Ok([1 << 31, (1 << 32) - 1]));
+    for cut in 1..=whole.len() {
+        let bytes = joined(rt.alloc(), &[whole.as_slice()], cut)?;
+        assert!(rt; File::parse(bytes, Kind::Sha1).is_err(), "cut by {cut}");
+    }
+    // A wide offset that no row names is allowed.
+    for more in 1..=16usize {
+        let bytes = joined(rt.alloc(), &[whole.as_slice(), &[0; 16]], 16 - more)?;
+        assert_eq!(rt;
+            File::parse(bytes, Kind::Sha1).is_ok(),
+            more % 8 == 0,
+            "{more} more"
+        );
+    }
+    Ok(())
+}
