@@ -9,6 +9,7 @@ mod RunLemmas
 mod RunSteps
 mod FileSteps
 mod OwnFiles
+mod CutFiles
 mod StandAlone
 mod NameSteps
 mod RunEnds

@@ -55,7 +55,7 @@ use Rattle.gix_odb_world.proofs.WriteGoes.{ask_at_stage}
 pub one_event : {A : Type 0} (xs : List A) (place : ℕ) (x y : A) → slice_get xs place ≡ Some x → slice_get xs place ≡ Some y → x ≡ y
 one_event xs place x y is other = let both : Some x ≡ Some y = sym is ∙ other in cc both
 
-same_tree_on_way : (t u : Tree) (path : Path) → u ≡ t → SameOnWay t u true path
+pub same_tree_on_way : (t u : Tree) (path : Path) → u ≡ t → SameOnWay t u true path
 same_tree_on_way t u path same = subst (λ (v : Tree). SameOnWay t v true path) (sym same) (λ q on. refl)
 
 -- a write that removes its file ends with the turn
@@ -233,36 +233,26 @@ module _ (first : Volume) (events : List Event) (start : IsTree (tree_of first.s
     pub own : OwnSpot (tree now) path spot
     pub alone : LeftAlone first events handle path (made + 1) now
 
-  -- a turn of another handle cut it off, and its way ends at a file still
-  pub record Lost (handle made : ℕ) (path : Path) (now : ℕ) : Type 0 where
+  -- its way was cut off, and ends at a file
+  pub record Lost (path : Path) (now : ℕ) : Type 0 where
     pub front : Path
     pub parent : parent_of path ≡ Some front
     pub cut : Cut NotTemporary (tree now) front
-    pub place : ℕ
-    pub later : made < place
-    pub before : place < now
-    pub event : Event
-    pub there : slice_get events place ≡ Some event
-    pub other : ℕ
-    pub apart : other ≢ handle
-    pub turn : IsTurnOf other event.step
-    pub spot : Path
-    pub cuts : CutsOff (tree place) (tree (place + 1)) path spot event
 
   pub record Files (now : ℕ) : Type 0 where
-    pub each : (handle made : ℕ) (path : Path) → HasMade first events handle made path now → Own handle made path now ⊎ Lost handle made path now
+    pub each : (handle made : ℕ) (path : Path) → HasMade first events handle made path now → Own handle made path now ⊎ Lost path now
     pub apart : (handle other made last : ℕ) (path twin : Path) → handle ≢ other → HasMade first events handle made path now → HasMade first events other last twin now
         → (a : Own handle made path now) → (b : Own other last twin now) → a.spot ≢ b.spot
 
-  pub lost_no_file : (handle made now : ℕ) (path : Path) → Lost handle made path now → (s : Path) → file_spot (tree now) path ≢ Ok s
-  lost_no_file handle made now path lost s leads =
+  pub lost_no_file : (now : ℕ) (path : Path) → Lost path now → (s : Path) → file_spot (tree now) path ≢ Ok s
+  lost_no_file now path lost s leads =
       let named = parent_of-some path lost.front lost.parent in
       cut_no_file NotTemporary (tree now) (is_tree now) lost.front named.0 lost.cut s (ap (file_spot (tree now)) (sym named.1) ∙ leads)
 
   parent_made : (handle made now : ℕ) (path : Path) (hm : HasMade first events handle made path now) → parent_of path ≡ Some hm.store.parts.objects
   parent_made handle made now path hm = ap parent_of (hm.named ∙ temp_path-is hm.store.parts.objects hm.number) ∙ parent_of-push hm.store.parts.objects (temp_name hm.number)
 
-  cut_made : (handle made now : ℕ) (path : Path) (hm : HasMade first events handle made path now) (at : ℕ) → Lost handle made path at → Cut NotTemporary (tree at) hm.store.parts.objects
+  cut_made : (handle made now : ℕ) (path : Path) (hm : HasMade first events handle made path now) (at : ℕ) → Lost path at → Cut NotTemporary (tree at) hm.store.parts.objects
   cut_made handle made now path hm at lost =
       let both : Some lost.front ≡ Some hm.store.parts.objects = sym lost.parent ∙ parent_made handle made now path hm in subst (Cut NotTemporary (tree at)) (cc both) lost.cut
 
@@ -286,7 +276,7 @@ module _ (first : Volume) (events : List Event) (start : IsTree (tree_of first.s
             subst (λ n. SameOnWay (tree n) (tree (n + 1)) true path) is (here (λ turn. other (subst (λ (y : Event). IsTurnOf handle y.step) (sym one) turn)))
 
     -- a write that runs after the event, and has made its file before it, ran before it
-    made_before : (handle made : ℕ) (path : Path) → HasMade first events handle made path (now + 1) → made < now → HasMade first events handle made path now
+    pub made_before : (handle made : ℕ) (path : Path) → HasMade first events handle made path (now + 1) → made < now → HasMade first events handle made path now
     made_before handle made path hm soon =
         let later = hm.later in
         let at : AtWrite hm.store hm.ignoring hm.begun (status_after (now + 1) e.step e.outcome e.told (status_of (take now events)) handle) =
@@ -298,26 +288,24 @@ module _ (first : Volume) (events : List Event) (start : IsTree (tree_of first.s
     own_same handle made path same o =
         record { spot = o.spot; event = o.event; there = o.there; put = o.put; own = own_kept (tree now) (tree (now + 1)) path o.spot same o.own; alone = alone_push handle (made + 1) path o.alone (λ _. same) }
 
-    lost_by : (handle made : ℕ) (path : Path) (l : Lost handle made path now) → Cut NotTemporary (tree (now + 1)) l.front → Lost handle made path (now + 1)
-    lost_by handle made path l cut =
-        let before = l.before in
-        record { front = l.front; parent = l.parent; cut = cut; place = l.place; later = l.later; before = omega (arith, before); event = l.event; there = l.there; other = l.other; apart = l.apart; turn = l.turn; spot = l.spot; cuts = l.cuts }
+    lost_by : (path : Path) (l : Lost path now) → Cut NotTemporary (tree (now + 1)) l.front → Lost path (now + 1)
+    lost_by path l cut = record { front = l.front; parent = l.parent; cut = cut }
 
-    lost_same : (handle made : ℕ) (path : Path) → SameOnWay (tree now) (tree (now + 1)) true path → Lost handle made path now → Lost handle made path (now + 1)
-    lost_same handle made path same l =
+    lost_same : (path : Path) → SameOnWay (tree now) (tree (now + 1)) true path → Lost path now → Lost path (now + 1)
+    lost_same path same l =
         let named = parent_of-some path l.front l.parent in
-        lost_by handle made path l (cut_kept NotTemporary (tree now) l.front l.cut (tree (now + 1)) named.0 (subst (SameOnWay (tree now) (tree (now + 1)) true) named.1 same))
+        lost_by path l (cut_kept NotTemporary (tree now) l.front l.cut (tree (now + 1)) named.0 (subst (SameOnWay (tree now) (tree (now + 1)) true) named.1 same))
 
     pub same_way : (path : Path) → e.entry.change ≡ None → SameOnWay (tree now) (tree (now + 1)) true path
     same_way path none = same_tree_on_way (tree now) (tree (now + 1)) path (unchanged none)
 
     -- the writer's own file, where it has one
-    record Wrote (b : ByWriter now e) : Type 0 where
-      from : Path
-      does_it : Does (tree now) from b.change
-      whose : ([] ≡ from) ⊎ ((made : ℕ) × (path : Path) × HasMade first events b.handle made path now × ((o : Own b.handle made path now) × (o.spot ≡ from)))
+    pub record Wrote (b : ByWriter now e) : Type 0 where
+      pub from : Path
+      pub does_it : Does (tree now) from b.change
+      pub whose : ([] ≡ from) ⊎ ((made : ℕ) × (path : Path) × HasMade first events b.handle made path now × ((o : Own b.handle made path now) × (o.spot ≡ from)))
 
-    wrote : Files now → (b : ByWriter now e) → Wrote b
+    pub wrote : Files now → (b : ByWriter now e) → Wrote b
     unfolding made_at_stage
     wrote files b = by_number (number_made b.writes.stage) refl
       where
@@ -334,14 +322,21 @@ module _ (first : Volume) (events : List Event) (start : IsTree (tree_of first.s
               | inr lost ↦ absurd (does_nothing (tree now) (is_tree now) b.store.parts.objects b.change b.writes.stage number stage (cut_made b.handle hm.0 now (temp_path b.store.parts.objects number) hm.1 now lost) b.moves)
             ]
 
-    temporary : (handle made : ℕ) (path : Path) → HasMade first events handle made path now → (s : Path) → OwnSpot (tree now) path s → IsTemporary s
+    pub temporary : (handle made : ℕ) (path : Path) → HasMade first events handle made path now → (s : Path) → OwnSpot (tree now) path s → IsTemporary s
     temporary handle made path hm s own = temporary_spot (tree now) hm.store.parts.objects hm.number s (subst (λ p. spot (tree now) p ≡ Ok s) hm.named own.is)
 
     -- ---- the turn of another write
 
+    -- it cut the way of a file at s off
     pub record CutNow (handle made : ℕ) (path : Path) (hm : HasMade first events handle made path now) (s : Path) : Type 0 where
+      pub other : ℕ
+      pub apart : other ≢ handle
+      pub turn : IsTurnOf other e.step
       pub cut : Cut NotTemporary (tree (now + 1)) hm.store.parts.objects
       pub cuts : CutsOff (tree now) (tree (now + 1)) path s e
+
+    pub lost_now : (handle made : ℕ) (path : Path) (hm : HasMade first events handle made path now) (s : Path) → CutNow handle made path hm s → Lost path (now + 1)
+    lost_now handle made path hm s c = record { front = hm.store.parts.objects; parent = parent_made handle made now path hm; cut = c.cut }
 
     module _ (files : Files now) (handle made : ℕ) (path : Path) (hm : HasMade first events handle made path now) (b : ByWriter now e) (apart : b.handle ≢ handle) where
       abbrev front : Path
@@ -370,6 +365,9 @@ module _ (first : Volume) (events : List Event) (start : IsTree (tree_of first.s
           let cut : Cut NotTemporary (tree (now + 1)) front =
           record { stop = c.to; stops = subst (λ u. ways.Stops u true front c.to) (sym after_is) c.stops; apart = w.does_it.onto c.to c.is } in
           record {
+            other = b.handle;
+            apart = apart;
+            turn = b.turn;
             cut = cut;
             cuts = record {
               from = w.from;
@@ -392,14 +390,14 @@ module _ (first : Volume) (events : List Event) (start : IsTree (tree_of first.s
           ]
 
       -- a way that was cut off stays so
-      lost_spared : Lost handle made path now → Lost handle made path (now + 1)
+      lost_spared : Lost path now → Lost path (now + 1)
       lost_spared l =
           let w = wrote files b in
           let away : w.from ≢ l.cut.stop = λ same. elim w.whose [
             | inl root ↦ stop_below_root (tree now) (is_tree now) true l.front l.cut.stop l.cut.stops (root ∙ same)
             | inr his ↦ l.cut.apart (subst IsTemporary (his.3.1 ∙ same) (temporary b.handle his.0 his.1 his.2 his.3.0.spot his.3.0.own))
           ] in
-          lost_by handle made path l (subst (λ u. Cut NotTemporary u l.front) (sym after_is) (cut_after NotTemporary (tree now) l.front l.cut (is_tree now) w.from b.change w.does_it.own away w.does_it.onto))
+          lost_by path l (subst (λ u. Cut NotTemporary u l.front) (sym after_is) (cut_after NotTemporary (tree now) l.front l.cut (is_tree now) w.from b.change w.does_it.own away w.does_it.onto))
 
     -- ---- the write's own turn
 
@@ -414,7 +412,7 @@ module _ (first : Volume) (events : List Event) (start : IsTree (tree_of first.s
       own_moves c is = moves_of now e handle hm.store hm.begun hm.turns hm.folder writes works c is
 
       -- one that was cut off changes nothing
-      pub lost_turn : Lost handle made path now → e.entry.change ≡ None
+      pub lost_turn : Lost path now → e.entry.change ≡ None
       lost_turn l = by_change e.entry.change refl
         where
           by_change : (change : Option Change) → e.entry.change ≡ change → e.entry.change ≡ None
@@ -480,52 +478,33 @@ module _ (first : Volume) (events : List Event) (start : IsTree (tree_of first.s
 
     -- ---- any event
 
-    lost_next : Files now → IsUndisturbed first events (now + 1) → (handle made : ℕ) (path : Path) → HasMade first events handle made path now → Lost handle made path now → Lost handle made path (now + 1)
+    pub lost_next : Files now → IsUndisturbed first events (now + 1) → (handle made : ℕ) (path : Path) → HasMade first events handle made path now → Lost path now → Lost path (now + 1)
     lost_next files calm handle made path hm l = by_kind (kind_at first events start lawful now e there)
       where
-        by_writer : (b : ByWriter now e) (same : Bool) → (b.handle == handle) ≡ same → Lost handle made path (now + 1)
-        by_writer b true is = lost_same handle made path (same_way path (lost_turn handle made path hm (subst (λ h. IsTurnOf h e.step) (eqb-true b.handle handle is) b.turn) l)) l
+        by_writer : (b : ByWriter now e) (same : Bool) → (b.handle == handle) ≡ same → Lost path (now + 1)
+        by_writer b true is = lost_same path (same_way path (lost_turn handle made path hm (subst (λ h. IsTurnOf h e.step) (eqb-true b.handle handle is) b.turn) l)) l
         by_writer b false is = lost_spared files handle made path hm b (eqb-false b.handle handle is) l
 
-        by_kind : Kind first (take now events) e → Lost handle made path (now + 1)
-        by_kind (Quiet q) = lost_same handle made path (same_way path q.none) l
-        by_kind (Made m) = lost_same handle made path (calm now e (omega arith) there m.outside handle made path hm) l
-        by_kind (Turned t) = elim (quiet_or_writer now e there t) [ inl none ↦ lost_same handle made path (same_way path none) l | inr b ↦ by_writer b (b.handle == handle) refl ]
+        by_kind : Kind first (take now events) e → Lost path (now + 1)
+        by_kind (Quiet q) = lost_same path (same_way path q.none) l
+        by_kind (Made m) = lost_same path (calm now e (omega arith) there m.outside handle made path hm) l
+        by_kind (Turned t) = elim (quiet_or_writer now e there t) [ inl none ↦ lost_same path (same_way path none) l | inr b ↦ by_writer b (b.handle == handle) refl ]
 
-    own_next : Files now → IsUndisturbed first events (now + 1) → (handle made : ℕ) (path : Path) → HasMade first events handle made path now → HasMade first events handle made path (now + 1) → Own handle made path now
-        → Own handle made path (now + 1) ⊎ Lost handle made path (now + 1)
+    pub own_next : Files now → IsUndisturbed first events (now + 1) → (handle made : ℕ) (path : Path) (hm : HasMade first events handle made path now) → HasMade first events handle made path (now + 1) → (o : Own handle made path now)
+        → Own handle made path (now + 1) ⊎ CutNow handle made path hm o.spot
     own_next files calm handle made path hm after o = by_kind (kind_at first events start lawful now e there)
       where
-        cut_off : (b : ByWriter now e) → b.handle ≢ handle → CutNow handle made path hm o.spot → Lost handle made path (now + 1)
-        cut_off b apart c = record {
-          front = hm.store.parts.objects;
-          parent = parent_made handle made now path hm;
-          cut = c.cut;
-          place = now;
-          later = hm.before;
-          before = omega arith;
-          event = e;
-          there = there;
-          other = b.handle;
-          apart = apart;
-          turn = b.turn;
-          spot = o.spot;
-          cuts = c.cuts;
-        }
-
-        by_writer : (b : ByWriter now e) (same : Bool) → (b.handle == handle) ≡ same → Own handle made path (now + 1) ⊎ Lost handle made path (now + 1)
+        by_writer : (b : ByWriter now e) (same : Bool) → (b.handle == handle) ≡ same → Own handle made path (now + 1) ⊎ CutNow handle made path hm o.spot
         by_writer b true is = inl (own_turn handle made path hm (subst (λ h. IsTurnOf h e.step) (eqb-true b.handle handle is) b.turn) o after)
-        by_writer b false is =
-            let apart = eqb-false b.handle handle is in
-            elim (own_spared files handle made path hm b apart o) [ inl same ↦ inl (own_same handle made path same o) | inr c ↦ inr (cut_off b apart c) ]
+        by_writer b false is = elim (own_spared files handle made path hm b (eqb-false b.handle handle is) o) [ inl same ↦ inl (own_same handle made path same o) | inr c ↦ inr c ]
 
-        by_kind : Kind first (take now events) e → Own handle made path (now + 1) ⊎ Lost handle made path (now + 1)
+        by_kind : Kind first (take now events) e → Own handle made path (now + 1) ⊎ CutNow handle made path hm o.spot
         by_kind (Quiet q) = inl (own_same handle made path (same_way path q.none) o)
         by_kind (Made m) = inl (own_same handle made path (calm now e (omega arith) there m.outside handle made path hm) o)
         by_kind (Turned t) = elim (quiet_or_writer now e there t) [ inl none ↦ inl (own_same handle made path (same_way path none) o) | inr b ↦ by_writer b (b.handle == handle) refl ]
 
     -- a file that the event makes
-    new_next : (handle made : ℕ) (path : Path) → HasMade first events handle made path (now + 1) → made ≡ now → Own handle made path (now + 1)
+    pub new_next : (handle made : ℕ) (path : Path) → HasMade first events handle made path (now + 1) → made ≡ now → Own handle made path (now + 1)
     new_next handle made path hm is =
         let new = new_at first events start lawful handle made path hm.makes in
         record {
@@ -537,22 +516,25 @@ module _ (first : Volume) (events : List Event) (start : IsTree (tree_of first.s
           alone = λ place x later within at other. absurd (omega (arith, later, within, is));
         }
 
-    old_or_new : (handle made : ℕ) (path : Path) → HasMade first events handle made path (now + 1) → (made < now) ⊎ (made ≡ now)
+    pub old_or_new : (handle made : ℕ) (path : Path) → HasMade first events handle made path (now + 1) → (made < now) ⊎ (made ≡ now)
     old_or_new handle made path hm = elim (cases_lt made now) [ inl soon ↦ inl soon | inr late ↦ let before = hm.before in inr (omega (arith, before, late)) ]
 
-    each_next : Files now → IsUndisturbed first events (now + 1) → (handle made : ℕ) (path : Path) → HasMade first events handle made path (now + 1) → Own handle made path (now + 1) ⊎ Lost handle made path (now + 1)
+    each_next : Files now → IsUndisturbed first events (now + 1) → (handle made : ℕ) (path : Path) → HasMade first events handle made path (now + 1) → Own handle made path (now + 1) ⊎ Lost path (now + 1)
     each_next files calm handle made path hm = elim (old_or_new handle made path hm) [
       | inl soon ↦
           let was = made_before handle made path hm soon in
-          elim (files.each handle made path was) [ inl o ↦ own_next files calm handle made path was hm o | inr l ↦ inr (lost_next files calm handle made path was l) ]
+          elim (files.each handle made path was) [
+            | inl o ↦ elim (own_next files calm handle made path was hm o) [ inl own ↦ inl own | inr c ↦ inr (lost_now handle made path was o.spot c) ]
+            | inr l ↦ inr (lost_next files calm handle made path was l)
+          ]
       | inr is ↦ inl (new_next handle made path hm is)
     ]
 
     -- a file that stands at its spot after the event did so before it
-    own_before : Files now → IsUndisturbed first events (now + 1) → (handle made : ℕ) (path : Path) → HasMade first events handle made path now → (a : Own handle made path (now + 1)) → (o : Own handle made path now) × (o.spot ≡ a.spot)
+    pub own_before : Files now → IsUndisturbed first events (now + 1) → (handle made : ℕ) (path : Path) → HasMade first events handle made path now → (a : Own handle made path (now + 1)) → (o : Own handle made path now) × (o.spot ≡ a.spot)
     own_before files calm handle made path was a = elim (files.each handle made path was) [
       | inl o ↦ (o, same_spot o)
-      | inr l ↦ absurd (lost_no_file handle made (now + 1) path (lost_next files calm handle made path was l) a.spot a.own.leads)
+      | inr l ↦ absurd (lost_no_file (now + 1) path (lost_next files calm handle made path was l) a.spot a.own.leads)
     ]
       where
         same_spot : (o : Own handle made path now) → o.spot ≡ a.spot
@@ -561,16 +543,21 @@ module _ (first : Volume) (events : List Event) (start : IsTree (tree_of first.s
             let both : Some (PutFile o.spot 0 []) ≡ Some (PutFile a.spot 0 []) = sym o.put ∙ (ap (λ (x : Event). x.entry.change) one ∙ a.put) in
             cc both
 
-    -- a new file isn't where another stands
+    -- nothing stood where a new file is made
+    pub new_vacant : (handle made : ℕ) (path : Path) → HasMade first events handle made path (now + 1) → made ≡ now → (a : Own handle made path (now + 1)) → vacant (tree now) path ≡ Ok a.spot
+    new_vacant handle made path hm is a =
+        let new = new_at first events start lawful handle made path hm.makes in
+        let one : hm.makes.event ≡ a.event = one_event events made hm.makes.event a.event hm.makes.there a.there in
+        let both : Some (PutFile new.spot 0 []) ≡ Some (PutFile a.spot 0 []) = sym new.put ∙ (ap (λ (x : Event). x.entry.change) one ∙ a.put) in
+        let spots : new.spot ≡ a.spot = cc in
+        subst (λ n. vacant (tree n) path ≡ Ok new.spot) is new.free ∙ ap Ok spots
+
+    -- so it isn't where another stands
     new_apart : Files now → IsUndisturbed first events (now + 1) → (handle other made last : ℕ) (path twin : Path) → HasMade first events handle made path now → HasMade first events other last twin (now + 1) → last ≡ now
         → (a : Own handle made path (now + 1)) → (b : Own other last twin (now + 1)) → a.spot ≢ b.spot
     new_apart files calm handle other made last path twin was hm is a b same =
         let o = own_before files calm handle made path was a in
-        let new = new_at first events start lawful other last twin hm.makes in
-        let one : hm.makes.event ≡ b.event = one_event events last hm.makes.event b.event hm.makes.there b.there in
-        let both : Some (PutFile new.spot 0 []) ≡ Some (PutFile b.spot 0 []) = sym new.put ∙ (ap (λ (x : Event). x.entry.change) one ∙ b.put) in
-        let spots : new.spot ≡ b.spot = cc in
-        own_not_vacant (tree now) path o.0.spot twin new.spot o.0.own (subst (λ n. vacant (tree n) twin ≡ Ok new.spot) is new.free) (o.1 ∙ (same ∙ sym spots))
+        own_not_vacant (tree now) path o.0.spot twin b.spot o.0.own (new_vacant other last twin hm is b) (o.1 ∙ same)
 
     apart_next : Files now → IsUndisturbed first events (now + 1) → (handle other made last : ℕ) (path twin : Path) → handle ≢ other → HasMade first events handle made path (now + 1) → HasMade first events other last twin (now + 1)
         → (a : Own handle made path (now + 1)) → (b : Own other last twin (now + 1)) → a.spot ≢ b.spot
@@ -601,10 +588,10 @@ module _ (first : Volume) (events : List Event) (start : IsTree (tree_of first.s
 
   -- where the run is over nothing changes
   module _ (now : ℕ) (none : slice_get events now ≡ None) where
-    over_tree : tree (suc now) ≡ tree now
+    pub over_tree : tree (suc now) ≡ tree now
     over_tree = ap (λ es. tree_of (disk_after first es).state) (take_none events now none)
 
-    over_made : (handle made : ℕ) (path : Path) → HasMade first events handle made path (suc now) → HasMade first events handle made path now
+    pub over_made : (handle made : ℕ) (path : Path) → HasMade first events handle made path (suc now) → HasMade first events handle made path now
     over_made handle made path hm =
         let within = slice_get_within events made hm.makes.event hm.makes.there in
         let beyond = none_beyond events now none in
@@ -622,7 +609,7 @@ module _ (first : Volume) (events : List Event) (start : IsTree (tree_of first.s
           makes = hm.makes;
         }
 
-    over_own : (handle made : ℕ) (path : Path) → Own handle made path now → Own handle made path (suc now)
+    pub over_own : (handle made : ℕ) (path : Path) → Own handle made path now → Own handle made path (suc now)
     over_own handle made path o =
         record {
           spot = o.spot;
@@ -636,23 +623,24 @@ module _ (first : Volume) (events : List Event) (start : IsTree (tree_of first.s
               o.alone place x later (omega (arith, inside, beyond)) at other;
         }
 
-    over_lost : (handle made : ℕ) (path : Path) → Lost handle made path now → Lost handle made path (suc now)
-    over_lost handle made path l =
-        let before = l.before in
-        record { front = l.front; parent = l.parent; cut = subst (λ u. Cut NotTemporary u l.front) (sym over_tree) l.cut; place = l.place; later = l.later; before = omega (arith, before); event = l.event; there = l.there; other = l.other; apart = l.apart; turn = l.turn; spot = l.spot; cuts = l.cuts }
+    pub over_lost : (path : Path) → Lost path now → Lost path (suc now)
+    over_lost path l = record { front = l.front; parent = l.parent; cut = subst (λ u. Cut NotTemporary u l.front) (sym over_tree) l.cut }
 
-    back_own : Files now → (handle made : ℕ) (path : Path) → HasMade first events handle made path now → (a : Own handle made path (suc now)) → Own handle made path now
-    back_own files handle made path was a =
-        record { spot = a.spot; event = a.event; there = a.there; put = a.put; own = subst (λ u. OwnSpot u path a.spot) over_tree a.own; alone = λ place x later within at other. a.alone place x later (omega (arith, within)) at other }
+    pub back_own : (handle made : ℕ) (path : Path) → (a : Own handle made path (suc now)) → (o : Own handle made path now) × (o.spot ≡ a.spot)
+    back_own handle made path a = (
+      record { spot = a.spot; event = a.event; there = a.there; put = a.put; own = subst (λ u. OwnSpot u path a.spot) over_tree a.own; alone = λ place x later within at other. a.alone place x later (omega (arith, within)) at other },
+      refl,
+    )
 
     over : Files now → Files (suc now)
-    unfolding back_own
     over files = record {
-      each = λ handle made path hm. elim (files.each handle made path (over_made handle made path hm)) [ inl o ↦ inl (over_own handle made path o) | inr l ↦ inr (over_lost handle made path l) ];
-      apart = λ handle other made last path twin differs hm his a b.
+      each = λ handle made path hm. elim (files.each handle made path (over_made handle made path hm)) [ inl o ↦ inl (over_own handle made path o) | inr l ↦ inr (over_lost path l) ];
+      apart = λ handle other made last path twin differs hm his a b same.
           let was = over_made handle made path hm in
           let been = over_made other last twin his in
-          files.apart handle other made last path twin differs was been (back_own files handle made path was a) (back_own files other last twin been b);
+          let o = back_own handle made path a in
+          let p = back_own other last twin b in
+          files.apart handle other made last path twin differs was been o.0 p.0 (o.1 ∙ (same ∙ sym p.1));
     }
 
   -- after each event of an undisturbed run each temporary file stands alone, or was cut off

@@ -13,6 +13,7 @@ use Rattle.gix_odb_world.specs.Run.{IsTurnOf, tree_at}
 use Rattle.gix_odb_world.specs.Running.{RunsThroughout}
 use Rattle.gix_odb_world.specs.Undisturbed.{AreApart, CutsOff, HasMade, IsAloneAtRename, IsCutOff, IsKept, IsSpared, IsUndisturbed, StandsAlone, WritesStandAlone}
 use Rattle.gix_odb_world.specs.Writing.{IsRename}
+use Rattle.gix_odb_world.proofs.CutFiles as cuts
 use Rattle.gix_odb_world.proofs.OwnFiles as files
 use Rattle.gix_odb_world.proofs.RunSteps.{Kind, Made, Quiet, Turned, kind_at}
 
@@ -23,8 +24,11 @@ module _ (first : Volume) (events : List Event) (start : IsTree (tree_of first.s
   abbrev pub Own : ℕ → ℕ → Path → ℕ → Type 0
   Own = files.Own first events start lawful throughout
 
-  abbrev Lost : ℕ → ℕ → Path → ℕ → Type 0
+  abbrev Lost : Path → ℕ → Type 0
   Lost = files.Lost first events start lawful throughout
+
+  abbrev CutOff : ℕ → ℕ → Path → ℕ → Type 0
+  CutOff = cuts.CutOff first events start lawful throughout
 
   led_twice : (now : ℕ) (path s r : Path) → file_spot (tree now) path ≡ Ok s → file_spot (tree now) path ≡ Ok r → s ≡ r
   led_twice now path s r one two = let both : Ok s ≡ Ok r = sym one ∙ two in cc both
@@ -54,7 +58,7 @@ module _ (first : Volume) (events : List Event) (start : IsTree (tree_of first.s
     spared_led : file_spot (tree place) path ≡ Ok s → Spared s
     spared_led leads = elim ((files.files_at first events start lawful throughout place calm).each handle made path hm) [
       | inl o ↦ subst Spared (led_twice place path o.spot s o.own.leads leads) (own_spared o)
-      | inr l ↦ absurd (files.lost_no_file first events start lawful throughout handle made place path l s leads)
+      | inr l ↦ absurd (files.lost_no_file first events start lawful throughout place path l s leads)
     ]
 
   spared : IsSpared first events
@@ -70,26 +74,28 @@ module _ (first : Volume) (events : List Event) (start : IsTree (tree_of first.s
         alone = o.alone;
       }
 
-  is_cut_off : (handle made now : ℕ) (path : Path) → Lost handle made path now → IsCutOff first events handle made path now
-  is_cut_off handle made now path l =
+  is_cut_off : (handle made now : ℕ) (path : Path) → CutOff handle made path now → IsCutOff first events handle made path now
+  unfolding stands_alone
+  is_cut_off handle made now path c =
       record {
-        place = l.place;
-        later = l.later;
-        before = l.before;
-        event = l.event;
-        there = l.there;
-        other = l.other;
-        apart = l.apart;
-        turn = l.turn;
-        spot = l.spot;
-        cuts = l.cuts;
-        gone = files.lost_no_file first events start lawful throughout handle made now path l;
+        place = c.place;
+        later = c.later;
+        before = c.before;
+        stood = stands_alone handle made c.place path c.cut.own;
+        event = c.cut.event;
+        there = c.cut.there;
+        other = c.cut.other;
+        apart = c.cut.apart;
+        turn = c.cut.turn;
+        cuts = c.cut.cuts;
+        gone = files.lost_no_file first events start lawful throughout now path c.lost;
+        stays = c.stays;
       }
 
   kept : IsKept first events
-  kept handle made now path calm hm = elim ((files.files_at first events start lawful throughout now calm).each handle made path hm) [
+  kept handle made now path calm hm = elim (cuts.cuts_at first events start lawful throughout now calm handle made path hm) [
     | inl o ↦ inl (stands_alone handle made now path o)
-    | inr l ↦ inr (is_cut_off handle made now path l)
+    | inr c ↦ inr (is_cut_off handle made now path c)
   ]
 
   -- a write that renames has its file
@@ -108,9 +114,9 @@ module _ (first : Volume) (events : List Event) (start : IsTree (tree_of first.s
       at : files.Files first events start lawful throughout now
       at = files.files_at first events start lawful throughout now calm
 
-      by_files : Own handle made path now ⊎ Lost handle made path now → Own other last twin now ⊎ Lost other last twin now → s ≢ r
-      by_files (inr l) p = absurd (files.lost_no_file first events start lawful throughout handle made now path l s leads)
-      by_files (inl o) (inr l) = absurd (files.lost_no_file first events start lawful throughout other last now twin l r led)
+      by_files : Own handle made path now ⊎ Lost path now → Own other last twin now ⊎ Lost twin now → s ≢ r
+      by_files (inr l) p = absurd (files.lost_no_file first events start lawful throughout now path l s leads)
+      by_files (inl o) (inr l) = absurd (files.lost_no_file first events start lawful throughout now twin l r led)
       by_files (inl o) (inl p) = λ same. at.apart handle other made last path twin differs hm his o p (led_twice now path o.spot s o.own.leads leads ∙ (same ∙ led_twice now twin r p.spot led p.own.leads))
 
   pub writes_stand_alone : WritesStandAlone first events

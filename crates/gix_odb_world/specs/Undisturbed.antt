@@ -75,19 +75,27 @@ pub record StandsAlone (first : Volume) (events : List Event) (handle made : ℕ
   pub leads : file_spot (tree_at first events now) path ≡ Ok spot
   pub alone : LeftAlone first events handle path (made + 1) now
 
--- a turn of another handle has cut the path off since, and it leads to no file
+-- from one place of a run to another, no change of another program changed what stands on the way of a path, the file that it
+-- leads to included
+abbrev pub OthersLeave : Volume → List Event → Path → (from to : ℕ) → Type 0
+OthersLeave first events path from to =
+    (place : ℕ) (e : Event) → from ≤ place → place < to → slice_get events place ≡ Some e → IsOutside e → SameOnWay (tree_at first events place) (tree_at first events (place + 1)) true path
+
+-- A file stood alone until a turn of another handle cut its path off, which leads to no file since. As long as other programs
+-- leave the file at its spot and the way to it alone, every event does.
 pub record IsCutOff (first : Volume) (events : List Event) (handle made : ℕ) (path : Path) (now : ℕ) : Type 0 where
   pub place : ℕ
   pub later : made < place
   pub before : place < now
+  pub stood : StandsAlone first events handle made path place
   pub event : Event
   pub there : slice_get events place ≡ Some event
   pub other : ℕ
   pub apart : other ≢ handle
   pub turn : IsTurnOf other event.step
-  pub spot : Path
-  pub cuts : CutsOff (tree_at first events place) (tree_at first events (place + 1)) path spot event
+  pub cuts : CutsOff (tree_at first events place) (tree_at first events (place + 1)) path stood.spot event
   pub gone : (r : Path) → file_spot (tree_at first events now) path ≢ Ok r
+  pub stays : (step : ℕ) → place ≤ step → step < now → OthersLeave first events stood.spot (place + 1) (step + 1) → SameOnWay (tree_at first events step) (tree_at first events (step + 1)) true stood.spot
 
 -- so a temporary file stands as its write left it, or was cut off
 abbrev pub IsKept : Volume → List Event → Type 0

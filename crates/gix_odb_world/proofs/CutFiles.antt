@@ -1,0 +1,271 @@
+-- Temporary files whose way was cut off in an undisturbed run: each stands where it was made, as long as other programs leave
+-- it and the way to its spot alone.
+use Rattle.std.proofs.Common.{◌≡◌, ◌≢◌, ◌⊎◌, inl, inr, ℕ, zero, suc, ◌+◌, ◌<◌, ◌≤◌, Bool, true, false, List, [], ◌∷◌, ◌++◌, length, take, drop, Some, None, Ok, Err, refl, sym, ap, ◌∙◌, subst, arith}
+use Rattle.std.specs.Prelude.{if◌then◌else◌, slice_get, ◌==◌}
+use Rattle.std.proofs.lemmas.Bool.{cases_lt, eqb-false, eqb-true}
+use Rattle.odb_base.specs.Path.{Name, Path}
+use Rattle.odb_base.specs.PathLaws.{parent_of-push}
+use Rattle.odb_disk.specs.MemDisk.{Volume}
+use Rattle.odb_disk.specs.Tree.{IsTree, Tree, is_directory_content, node_at, tree_of}
+use Rattle.odb_disk.specs.Tree.Change.{changed}
+use Rattle.odb_disk.specs.Tree.Follow.{followed}
+use Rattle.odb_disk.specs.Tree.Way.{SameOnWay}
+use Rattle.odb_disk.specs.Tree.Write.{WrongKind, and_then, from_followed, in_directory, spot, spot_below, vacant}
+use Rattle.odb_disk.specs.declared.node.Content.TheVariants.{Dir, Link}
+use Rattle.odb_disk.specs.declared.node.Node.{Node}
+use Rattle.odb_disk.specs.declared.change.Change.{Change}
+use Rattle.odb_disk.specs.declared.change.Change.TheVariants.{Rename}
+use Rattle.odb_disk.proofs.OwnWayLaws.{IsOwnChange, OwnSpot, Stops, own_after, own_stops, stop_below_root, stops_kept}
+use Rattle.odb_disk.proofs.TreeLemmas.Follow.{IsDir-from, followed_reached, pass_to_other}
+use Rattle.odb_disk.proofs.TreeLemmas.Moved.{begins-own, behind-append}
+use Rattle.odb_disk.proofs.TreeLemmas.Write.{vacant_at}
+use Rattle.odb_disk.proofs.WayLaws.{file_here, own_on_way}
+use Rattle.gix_odb_loose.specs.WriteOrder.{temp_name}
+use Rattle.gix_odb_loose.proofs.NameLaws.{IsTemporary}
+use Rattle.gix_odb_world.specs.Event.{Event}
+use Rattle.gix_odb_world.specs.Headline.{IsLawful}
+use Rattle.gix_odb_world.specs.Run.{IsTurnOf, tree_at}
+use Rattle.gix_odb_world.specs.Running.{RunsThroughout}
+use Rattle.gix_odb_world.specs.Undisturbed.{CutsOff, HasMade, IsUndisturbed, OthersLeave}
+use Rattle.gix_odb_world.proofs.OwnFiles as files
+use Rattle.gix_odb_world.proofs.RunSteps.{Kind, Made, Quiet, Turned, event_or_end, kind_at}
+
+-- ---- a file at its spot
+
+-- what lies in a directory stands at its own path
+stands_at_itself : (t : Tree) → IsTree t → (front : Path) (name : Name) (n : Node) → node_at t (front ++ name ∷ []) ≡ Some n → spot t (front ++ name ∷ []) ≡ Ok (front ++ name ∷ [])
+unfolding spot
+stands_at_itself t is_tree front name n at =
+    let path = front ++ name ∷ [] in
+    let last = drop (length front) path in
+    let d = IsDir-from t front (is_tree.ways front name n at) in
+    let no_link : (target : Path) → d.node.content ≢ Link target = λ target link. (let both : Dir ≡ Link target = sym d.content ∙ link in absurd (cc both)) in
+    let leads : followed t true front ≡ Ok (record { path = front; node = d.node }) = followed_reached t true front 40 front d.node (pass_to_other t is_tree front d.node d.at true no_link) in
+    ap (spot_below t path) (parent_of-push front name)
+    ∙ ap (λ told. and_then (in_directory last) (from_followed told)) leads
+    ∙ ap (λ c. if is_directory_content c then Ok (front ++ last) else Err WrongKind) d.content
+    ∙ ap (λ r. Ok (front ++ r)) (behind-append front (name ∷ []))
+
+-- the change of another writer leaves a file and the way to its spot alone, where it moves his file elsewhere
+spot_left : (t : Tree) → IsTree t → (front : Path) (name : Name) (s : Path) → s ≡ front ++ name ∷ [] → Stops t true s s → (other : Path) (change : Change) → IsOwnChange t other change → other ≢ s → ((p : Path) → change ≡ Rename other p → p ≢ s)
+    → SameOnWay t (changed t change) true s
+spot_left t is_tree front name s named stops other change his apart elsewhere =
+    let below : s ≢ [] = λ root. stop_below_root t is_tree true s s stops (sym root) in
+    let itself : spot t s ≡ Ok s = ap (spot t) named ∙ (stands_at_itself t is_tree front name stops.node (ap (node_at t) (sym named) ∙ stops.at) ∙ ap Ok (sym named)) in
+    let own : OwnSpot t s s = record { is = itself; leads = file_here t s s itself below stops.node stops.at stops.file } in
+    elim (own_after t is_tree front name s (subst (λ p. OwnSpot t p s) named own) other apart change his elsewhere) [
+      | inl same ↦ subst (SameOnWay t (changed t change) true) (sym named) same
+      | inr c ↦ c.file
+    ]
+
+spot_stops : (t : Tree) (path s : Path) → OwnSpot t path s → Stops t true s s
+spot_stops t path s own = let stops = own_stops t path s own in record { on = own_on_way t true s s (begins-own s); node = stops.node; at = stops.at; file = stops.file }
+
+not_vacant : (t : Tree) (s other q : Path) → Stops t true s s → vacant t other ≡ Ok q → q ≢ s
+not_vacant t s other q stops free same = let both : None ≡ Some stops.node = sym (vacant_at t other q free).absent ∙ (ap (node_at t) same ∙ stops.at) in cc
+
+module _ (first : Volume) (events : List Event) (start : IsTree (tree_of first.state)) (lawful : IsLawful first events) (throughout : RunsThroughout first events) where
+  abbrev tree : ℕ → Tree
+  tree = tree_at first events
+
+  abbrev Own : ℕ → ℕ → Path → ℕ → Type 0
+  Own = files.Own first events start lawful throughout
+
+  abbrev Lost : Path → ℕ → Type 0
+  Lost = files.Lost first events start lawful throughout
+
+  abbrev Files : ℕ → Type 0
+  Files = files.Files first events start lawful throughout
+
+  -- an event leaves a path and its way alone
+  abbrev Leaves : Path → ℕ → Type 0
+  Leaves s now = SameOnWay (tree now) (tree (now + 1)) true s
+
+  -- ---- what has become of a temporary file that was cut off
+
+  -- a file stands at a spot, and it is that of no other handle's write
+  pub record Stands (handle now : ℕ) (s : Path) : Type 0 where
+    pub stops : Stops (tree now) true s s
+    pub apart : (other last : ℕ) (twin : Path) → other ≢ handle → HasMade first events other last twin now → (o : Own other last twin now) → o.spot ≢ s
+
+  -- the event at a place is a turn of another handle that cut the file off, which stood alone until then
+  pub record CutAt (handle made : ℕ) (path : Path) (place : ℕ) : Type 0 where
+    pub own : Own handle made path place
+    pub temporary : IsTemporary own.spot
+    pub event : Event
+    pub there : slice_get events place ≡ Some event
+    pub other : ℕ
+    pub apart : other ≢ handle
+    pub turn : IsTurnOf other event.step
+    pub cuts : CutsOff (tree place) (tree (place + 1)) path own.spot event
+
+  pub record CutOff (handle made : ℕ) (path : Path) (now : ℕ) : Type 0 where
+    pub lost : Lost path now
+    pub place : ℕ
+    pub later : made < place
+    pub before : place < now
+    pub cut : CutAt handle made path place
+    pub stays : (step : ℕ) → place ≤ step → step < now → OthersLeave first events cut.own.spot (place + 1) (step + 1) → Leaves cut.own.spot step
+    pub stands : OthersLeave first events cut.own.spot (place + 1) now → Stands handle now cut.own.spot
+
+  abbrev AllKept : ℕ → Type 0
+  AllKept now = (handle made : ℕ) (path : Path) → HasMade first events handle made path now → Own handle made path now ⊎ CutOff handle made path now
+
+  -- ---- one event more
+
+  module _ (now : ℕ) (e : Event) (there : slice_get events now ≡ Some e) (all : Files now) (calm : IsUndisturbed first events (now + 1)) where
+    -- the turn of another write leaves it alone
+    left_by_writer : (handle : ℕ) (s : Path) → IsTemporary s → Stands handle now s → (b : files.ByWriter first events start lawful throughout now e) → b.handle ≢ handle → Leaves s now
+    left_by_writer handle s temporary stands b differs =
+        subst (λ u. SameOnWay (tree now) u true s) (sym (files.changed_to first events start lawful throughout now e there b.change b.is))
+        (spot_left (tree now) is_tree temporary.0 (temp_name temporary.1) s temporary.2 stands.stops w.from b.change w.does_it.own another (λ p renames same. w.does_it.onto p renames (subst IsTemporary (sym same) temporary)))
+      where
+        is_tree : IsTree (tree now)
+        is_tree = files.is_tree first events start lawful throughout now
+
+        w : files.Wrote first events start lawful throughout now e there b
+        w = files.wrote first events start lawful throughout now e there all b
+
+        another : w.from ≢ s
+        another same = elim w.whose [
+          | inl root ↦ stop_below_root (tree now) is_tree true s s stands.stops (root ∙ same)
+          | inr his ↦ stands.apart b.handle his.0 his.1 differs his.2 his.3.0 (his.3.1 ∙ same)
+        ]
+
+    -- so does every event, where other programs do
+    left_alone : (handle made : ℕ) (path : Path) → HasMade first events handle made path now → (c : CutOff handle made path now) → OthersLeave first events c.cut.own.spot (c.place + 1) (now + 1) → Leaves c.cut.own.spot now
+    left_alone handle made path hm c leave = by_kind (kind_at first events start lawful now e there)
+      where
+        unchanged : e.entry.change ≡ None → Leaves c.cut.own.spot now
+        unchanged none = files.same_way first events start lawful throughout now e there c.cut.own.spot none
+
+        stands : Stands handle now c.cut.own.spot
+        stands = c.stands (λ place x later within at outside. leave place x later (omega (arith, within)) at outside)
+
+        by_writer : (b : files.ByWriter first events start lawful throughout now e) (same : Bool) → (b.handle == handle) ≡ same → Leaves c.cut.own.spot now
+        by_writer b true is = unchanged (files.lost_turn first events start lawful throughout now e there handle made path hm (subst (λ h. IsTurnOf h e.step) (eqb-true b.handle handle is) b.turn) c.lost)
+        by_writer b false is = left_by_writer handle c.cut.own.spot c.cut.temporary stands b (eqb-false b.handle handle is)
+
+        by_kind : Kind first (take now events) e → Leaves c.cut.own.spot now
+        by_kind (Quiet q) = unchanged q.none
+        by_kind (Made m) = let before = c.before in leave now e (omega (arith, before)) (omega arith) there m.outside
+        by_kind (Turned t) = elim (files.quiet_or_writer first events start lawful throughout now e there t) [ inl none ↦ unchanged none | inr b ↦ by_writer b (b.handle == handle) refl ]
+
+    -- where it was left alone it stands there still
+    stands_next : (handle : ℕ) (s : Path) → Leaves s now → Stands handle now s → Stands handle (now + 1) s
+    stands_next handle s same stands = record { stops = stops_kept (tree now) (tree (now + 1)) true s s same stands.stops; apart = apart }
+      where
+        apart : (other last : ℕ) (twin : Path) → other ≢ handle → HasMade first events other last twin (now + 1) → (o : Own other last twin (now + 1)) → o.spot ≢ s
+        apart other last twin differs hm o = elim (files.old_or_new first events start lawful throughout now e there other last twin hm) [
+          | inl soon ↦
+              let was = files.made_before first events start lawful throughout now e there other last twin hm soon in
+              let been = files.own_before first events start lawful throughout now e there all calm other last twin was o in
+              λ same. stands.apart other last twin differs was been.0 (been.1 ∙ same)
+          | inr is ↦ not_vacant (tree now) s twin o.spot stands.stops (files.new_vacant first events start lawful throughout now e there other last twin hm is o)
+        ]
+
+    cut_next : (handle made : ℕ) (path : Path) → HasMade first events handle made path now → CutOff handle made path now → CutOff handle made path (now + 1)
+    cut_next handle made path hm c =
+        let before = c.before in
+        record {
+          lost = files.lost_next first events start lawful throughout now e there all calm handle made path hm c.lost;
+          place = c.place;
+          later = c.later;
+          before = omega (arith, before);
+          cut = c.cut;
+          stays = stays;
+          stands = λ leave. stands_next handle c.cut.own.spot (left_alone handle made path hm c leave) (c.stands (λ place x later within at outside. leave place x later (omega (arith, within)) at outside));
+        }
+      where
+        stays : (step : ℕ) → c.place ≤ step → step < now + 1 → OthersLeave first events c.cut.own.spot (c.place + 1) (step + 1) → Leaves c.cut.own.spot step
+        stays step later soon leave = elim (cases_lt step now) [
+          | inl early ↦ c.stays step later early leave
+          | inr late ↦
+              let is : now ≡ step = omega (arith, soon, late) in
+              subst (Leaves c.cut.own.spot) is (left_alone handle made path hm c (λ place x from within at outside. leave place x from (omega (arith, within, is)) at outside))
+        ]
+
+    -- a file stands where its own path leads
+    own_stands : (handle made : ℕ) (path : Path) → HasMade first events handle made path now → (o : Own handle made path now) → Stands handle now o.spot
+    own_stands handle made path hm o = record { stops = spot_stops (tree now) path o.spot o.own; apart = λ other last twin differs his p. all.apart other handle last made twin path differs his hm p o }
+
+    cut_now : (handle made : ℕ) (path : Path) (hm : HasMade first events handle made path now) (o : Own handle made path now) → files.CutNow first events start lawful throughout now e there handle made path hm o.spot → CutOff handle made path (now + 1)
+    cut_now handle made path hm o c =
+        record {
+          lost = files.lost_now first events start lawful throughout now e there handle made path hm o.spot c;
+          place = now;
+          later = hm.before;
+          before = omega arith;
+          cut = record { own = o; temporary = files.temporary first events start lawful throughout now e there handle made path hm o.spot o.own; event = e; there = there; other = c.other; apart = c.apart; turn = c.turn; cuts = c.cuts };
+          stays = λ step later soon leave. let is : now ≡ step = omega (arith, later, soon) in subst (Leaves o.spot) is c.cuts.file;
+          stands = λ leave. stands_next handle o.spot c.cuts.file (own_stands handle made path hm o);
+        }
+
+    next : AllKept now → AllKept (now + 1)
+    next each handle made path hm = elim (files.old_or_new first events start lawful throughout now e there handle made path hm) [
+      | inl soon ↦
+          let was = files.made_before first events start lawful throughout now e there handle made path hm soon in
+          elim (each handle made path was) [
+            | inl o ↦ elim (files.own_next first events start lawful throughout now e there all calm handle made path was hm o) [ inl own ↦ inl own | inr c ↦ inr (cut_now handle made path was o c) ]
+            | inr c ↦ inr (cut_next handle made path was c)
+          ]
+      | inr is ↦ inl (files.new_next first events start lawful throughout now e there handle made path hm is)
+    ]
+
+  -- ---- along a run
+
+  -- where the run is over nothing changes
+  module _ (now : ℕ) (none : slice_get events now ≡ None) where
+    over_leaves : (s : Path) → Leaves s now
+    over_leaves s =
+        let one : suc now ≡ now + 1 = omega arith in
+        files.same_tree_on_way (tree now) (tree (now + 1)) s (subst (λ n. tree n ≡ tree now) one (files.over_tree first events start lawful throughout now none))
+
+    over_stands : (handle : ℕ) (s : Path) → Stands handle now s → Stands handle (suc now) s
+    over_stands handle s stands =
+        record {
+          stops = subst (λ u. Stops u true s s) (sym (files.over_tree first events start lawful throughout now none)) stands.stops;
+          apart = λ other last twin differs hm o same.
+              let was = files.over_made first events start lawful throughout now none other last twin hm in
+              let been = files.back_own first events start lawful throughout now none other last twin o in
+              stands.apart other last twin differs was been.0 (been.1 ∙ same);
+        }
+
+    over_cut : (handle made : ℕ) (path : Path) → CutOff handle made path now → CutOff handle made path (suc now)
+    over_cut handle made path c =
+        let before = c.before in
+        record {
+          lost = files.over_lost first events start lawful throughout now none path c.lost;
+          place = c.place;
+          later = c.later;
+          before = omega (arith, before);
+          cut = c.cut;
+          stays = stays;
+          stands = λ leave. over_stands handle c.cut.own.spot (c.stands (λ place x later within at outside. leave place x later (omega (arith, within)) at outside));
+        }
+      where
+        stays : (step : ℕ) → c.place ≤ step → step < suc now → OthersLeave first events c.cut.own.spot (c.place + 1) (step + 1) → Leaves c.cut.own.spot step
+        stays step later soon leave = elim (cases_lt step now) [
+          | inl early ↦ c.stays step later early leave
+          | inr late ↦ let is : now ≡ step = omega (arith, soon, late) in subst (Leaves c.cut.own.spot) is (over_leaves c.cut.own.spot)
+        ]
+
+    over : AllKept now → AllKept (suc now)
+    over each handle made path hm = elim (each handle made path (files.over_made first events start lawful throughout now none handle made path hm)) [
+      | inl o ↦ inl (files.over_own first events start lawful throughout now none handle made path o)
+      | inr c ↦ inr (over_cut handle made path c)
+    ]
+
+  -- after each event of an undisturbed run each temporary file stands alone, or was cut off
+  pub cuts_at : (now : ℕ) → IsUndisturbed first events now → AllKept now
+  cuts_at zero calm = λ handle made path hm. let before = hm.before in absurd (omega (arith, before))
+  cuts_at (suc now) calm =
+      let calm_before : IsUndisturbed first events now = λ place e within there outside handle made path hm. calm place e (omega (arith, within)) there outside handle made path hm in
+      let each = cuts_at now calm_before in
+      elim (event_or_end events now) [
+        | inl at ↦
+            let one : now + 1 ≡ suc now = omega arith in
+            let calm_after : IsUndisturbed first events (now + 1) = λ place e within there outside handle made path hm. calm place e (omega (arith, within)) there outside handle made path hm in
+            subst AllKept one (next now at.0 at.1 (files.files_at first events start lawful throughout now calm_before) calm_after each)
+        | inr none ↦ over now none each
+      ]
