@@ -33,52 +33,65 @@ fn reads_and_writes_ids_of_git(rt: HostRuntime) -> Result<(), Fail> {
     Ok(())
 }
 
+const OTHER_TEXTS: &[(&str, &[u8], HexError)] = &[
+    ("no digits", b"", HexError::Length),
+    (
+        "39 digits",
+        b"e69de29bb2d1d6434b8b29ae775ad8c2e48c539",
+        HexError::Length,
+    ),
+    (
+        "41 digits",
+        b"473a0f4c3be8a93681a267e3b1e9a7dcda1185436",
+        HexError::Length,
+    ),
+    (
+        "63 digits",
+        b"473a0f4c3be8a93681a267e3b1e9a7dcda1185436fe141f7749120a30372181",
+        HexError::Length,
+    ),
+    (
+        "65 bytes",
+        b"473a0f4c3be8a93681a267e3b1e9a7dcda1185436fe141f7749120a303721813\n",
+        HexError::Length,
+    ),
+    (
+        "39 bytes, one bad",
+        b"g69de29bb2d1d6434b8b29ae775ad8c2e48c539",
+        HexError::Length,
+    ),
+    (
+        "upper case",
+        b"E69DE29BB2D1D6434B8B29AE775AD8C2E48C5391",
+        HexError::Invalid,
+    ),
+    (
+        "one digit in upper case",
+        b"e69de29bb2d1d6434b8b29ae775ad8C2e48c5391",
+        HexError::Invalid,
+    ),
+    (
+        "bad first digit",
+        b"g69de29bb2d1d6434b8b29ae775ad8c2e48c5391",
+        HexError::Invalid,
+    ),
+    (
+        "bad last digit",
+        b"e69de29bb2d1d6434b8b29ae775ad8c2e48c539:",
+        HexError::Invalid,
+    ),
+    (
+        "bad last digit of 64",
+        b"473a0f4c3be8a93681a267e3b1e9a7dcda1185436fe141f7749120a30372181/",
+        HexError::Invalid,
+    ),
+];
+
 // A length that is tested after the digits, or a digit that is not tested at an end.
 #[test]
 fn refuses_other_texts(rt: HostRuntime) {
-    let rows: [(&str, &[u8], HexError); 11] = [
-        ("no digits", b"", HexError::Length),
-        ("39 digits", &SHA1[..39], HexError::Length),
-        ("41 digits", &SHA256[..41], HexError::Length),
-        ("63 digits", &SHA256[..63], HexError::Length),
-        (
-            "65 bytes",
-            b"473a0f4c3be8a93681a267e3b1e9a7dcda1185436fe141f7749120a303721813\n",
-            HexError::Length,
-        ),
-        (
-            "39 bytes, one bad",
-            b"g69de29bb2d1d6434b8b29ae775ad8c2e48c539",
-            HexError::Length,
-        ),
-        (
-            "upper case",
-            b"E69DE29BB2D1D6434B8B29AE775AD8C2E48C5391",
-            HexError::Invalid,
-        ),
-        (
-            "one digit in upper case",
-            b"e69de29bb2d1d6434b8b29ae775ad8C2e48c5391",
-            HexError::Invalid,
-        ),
-        (
-            "bad first digit",
-            b"g69de29bb2d1d6434b8b29ae775ad8c2e48c5391",
-            HexError::Invalid,
-        ),
-        (
-            "bad last digit",
-            b"e69de29bb2d1d6434b8b29ae775ad8c2e48c539:",
-            HexError::Invalid,
-        ),
-        (
-            "bad last digit of 64",
-            b"473a0f4c3be8a93681a267e3b1e9a7dcda1185436fe141f7749120a30372181/",
-            HexError::Invalid,
-        ),
-    ];
-    for (name, text, error) in rows {
-        assert_eq!(rt; ObjectId::from_hex(text), Err(error), "{name}");
+    for (name, text, error) in OTHER_TEXTS {
+        assert_eq!(rt; ObjectId::from_hex(text), Err(*error), "{name}");
     }
 }
 
@@ -122,12 +135,13 @@ fn orders_by_kind_and_then_bytes(rt: HostRuntime) {
 // A length that is tested after the digits, or a text of more than 40 digits taken for SHA-1.
 #[test]
 fn reads_prefixes(rt: HostRuntime) {
-    let rows: [(&[u8], Result<Kind, PrefixError>); 8] = [
+    let rows: [(&[u8], Result<Kind, PrefixError>); 9] = [
         (b"e69d", Ok(Kind::Sha1)),
         (&SHA1[..39], Ok(Kind::Sha1)),
         (SHA1, Ok(Kind::Sha1)),
         (&SHA256[..41], Ok(Kind::Sha256)),
         (SHA256, Ok(Kind::Sha256)),
+        (b"e69", Err(PrefixError::TooShort { hex_len: 3 })),
         (b"E69", Err(PrefixError::TooShort { hex_len: 3 })),
         (&[b'g'; 65], Err(PrefixError::TooLong { hex_len: 65 })),
         (b"E69D", Err(PrefixError::Invalid)),
