@@ -42,8 +42,8 @@ fn stream_of(alloc: Global, size: u64) -> Result<StreamJob, Fail> {
     )?)
 }
 
-fn folder(alloc: Global) -> Result<MemDisk, Fail> {
-    let mut disk = MemDisk::new(alloc)?;
+fn folder(alloc: Global, faults: &[u64]) -> Result<MemDisk, Fail> {
+    let mut disk = MemDisk::with_faults(alloc, faults)?;
     changed(alloc, &mut disk, "mkdir", "/o")?;
     Ok(disk)
 }
@@ -87,10 +87,10 @@ fn turn(
     Ok(stream.turn(alloc, disk, from)?.is_none())
 }
 
-/// The calls of the disk of a write at hand, twenty at most.
+/// The calls of the disk of a write at hand, twenty at most, of which the seventh fails.
 fn calls_at_hand(alloc: Global, len: usize, size: u64) -> Result<String, Fail> {
     let mut call = call_of(alloc, len, size)?;
-    let mut disk = folder(alloc)?;
+    let mut disk = folder(alloc, &[7])?;
     let mut notes = String::new(alloc);
     for _ in 0..20 {
         if !feed(alloc, &mut call, &mut disk, &mut notes)? {
@@ -100,10 +100,10 @@ fn calls_at_hand(alloc: Global, len: usize, size: u64) -> Result<String, Fail> {
     Ok(notes)
 }
 
-/// The calls of the disk of a write from a source, twenty at most.
+/// The calls of the disk of a write from a source, twenty at most, of which the seventh fails.
 fn calls_from_source(alloc: Global, len: usize, size: u64) -> Result<String, Fail> {
     let mut stream = stream_of(alloc, size)?;
-    let mut disk = folder(alloc)?;
+    let mut disk = folder(alloc, &[7])?;
     let mut from = MemSource::new(vec![in alloc; b'a'; len]?);
     let mut notes = String::new(alloc);
     for _ in 0..20 {
@@ -161,7 +161,7 @@ fn known_reply(alloc: Global, store: &Store, disk: &mut MemDisk) -> Result<Strin
 #[test]
 fn a_known_id(rt: HostRuntime) -> Result<(), Fail> {
     let store = store_at(rt.alloc(), "/o", Sha1, None)?;
-    let mut disk = folder(rt.alloc())?;
+    let mut disk = folder(rt.alloc(), &[])?;
     let reply = known_reply(rt.alloc(), &store, &mut disk)?;
     compare("reply", reply.as_str(), HELLO)?;
     check_on(
