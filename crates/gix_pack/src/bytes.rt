@@ -1,7 +1,7 @@
-//! Numbers and ids at places of a file's bytes.
+//! Numbers and ids at places of a file's bytes, and limits of sizes.
 ghost use Rattle.std.specs.Prelude.{◌≡◌, ◌+◌, ◌≤◌, drop, length};
 ghost use Rattle.gix_hash.specs.Kind.{len_in_bytes_of};
-ghost use Rattle.gix_pack.specs.Bytes.{long_number_at, number_at as number_of, part};
+ghost use Rattle.gix_pack.specs.Bytes.{is_within as size_is_within, long_number_at, number_at as number_of, part};
 ghost use Rattle.gix_pack.specs.Rows.{id_from};
 
 use gix_hash::{Kind, ObjectId};
@@ -65,4 +65,14 @@ pub(crate) fn part_of(bytes: &[u8], place: usize, size: usize) -> &[u8]
 {
     let (_, rest) = bytes.split_at(place);
     &rest[..size]
+}
+
+// Whether a size is within a limit, if there is one.
+pub(crate) fn is_within(limit: Option<u64>, size: u64) -> bool
+    ensures { result ≡ size_is_within limit size }
+{
+    match limit {
+        None => true,
+        Some(limit) => size <= limit,
+    }
 }

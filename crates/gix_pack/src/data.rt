@@ -1,6 +1,5 @@
 //! Packs: the entries of objects, one behind another.
-ghost use Rattle.std.specs.Prelude.{◌≡◌, ◌↔◌, option_map, true, IfOk, IfErr, IsOk, IsTrue};
-ghost use Rattle.gix_pack.specs.Bytes.{is_within as size_is_within};
+ghost use Rattle.std.specs.Prelude.{◌≡◌, ◌≤◌, ◌↔◌, length, option_map, true, IfOk, IfErr, IsOk, IsTrue};
 ghost use Rattle.gix_pack.specs.Pack.{entry_at, entry_seen, head_at, header_at, is_pack, is_version as version_is_read, kind_of_code, object_behind as behind_header, objects_in, slice_at, version_in};
 ghost use Rattle.gix_pack.specs.PackHead.{head_seen};
 
@@ -8,7 +7,7 @@ pub mod entry;
 mod entry_head;
 mod writing;
 
-use crate::bytes::{behind_first, number_at, part_of};
+use crate::bytes::{behind_first, is_within, number_at, part_of};
 pub use entry::{Entry, Header};
 use entry_head::{Head, read_head};
 use gix_hash::Kind;
@@ -75,19 +74,21 @@ impl File {
     }
 
     /// The version, 2 or 3.
+    #[tactic(auto, using(crate::proofs::PackLemmas::has_room))]
     pub fn version(&self) -> u32
         ensures version { result ≡ version_in self.now.bytes }
         ensures pack { is_pack self.now.kind self.now.bytes ≡ true }
     {
-        version_of(self.bytes.as_slice(), self.kind)
+        version_of(self.bytes.as_slice())
     }
 
     /// The number of objects, as the pack's header tells it.
+    #[tactic(auto, using(crate::proofs::PackLemmas::has_room))]
     pub fn num_objects(&self) -> u32
         ensures count { result ≡ objects_in self.now.bytes }
         ensures pack { is_pack self.now.kind self.now.bytes ≡ true }
     {
-        count_of(self.bytes.as_slice(), self.kind)
+        count_of(self.bytes.as_slice())
     }
 
     /// The kind and the size of the object at an offset, and the length of its header.
@@ -129,22 +130,18 @@ fn is_version(number: u32) -> bool
 }
 
 // The version of a pack.
-#[tactic(auto, using(crate::proofs::PackLemmas::has_room))]
-fn version_of(bytes: &[u8], kind: Kind) -> u32
-    requires { is_pack kind bytes.now ≡ true }
+fn version_of(bytes: &[u8]) -> u32
+    requires { 8 ≤ length bytes.now }
     ensures { result ≡ version_in bytes.now }
 {
-    let _ = kind;
     number_at(bytes, 4)
 }
 
 // The number of objects of a pack.
-#[tactic(auto, using(crate::proofs::PackLemmas::has_room))]
-fn count_of(bytes: &[u8], kind: Kind) -> u32
-    requires { is_pack kind bytes.now ≡ true }
+fn count_of(bytes: &[u8]) -> u32
+    requires { 12 ≤ length bytes.now }
     ensures { result ≡ objects_in bytes.now }
 {
-    let _ = kind;
     number_at(bytes, 8)
 }
 
@@ -226,15 +223,6 @@ fn object_behind(
             bytes: found,
         }),
         None => Err(Error::BadEntry),
-    }
-}
-
-fn is_within(limit: Option<u64>, size: u64) -> bool
-    ensures { result ≡ size_is_within limit size }
-{
-    match limit {
-        None => true,
-        Some(limit) => size <= limit,
     }
 }
 

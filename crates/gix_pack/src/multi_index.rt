@@ -13,6 +13,7 @@ mod rows;
 mod walk;
 mod writing;
 
+use crate::bytes::is_within;
 use gix_hash::{Kind, ObjectId, Prefix};
 use layout::Layout;
 use odb_base::{ByteList, NoMemory, PathName, Sequence};
@@ -175,15 +176,5 @@ impl File {
             index: self,
             row: 0,
         }
-    }
-}
-
-// Whether so many bytes are within a limit, if there is one.
-fn is_within(limit: Option<u64>, len: u64) -> bool
-    ensures { result ≡ fits limit len }
-{
-    match limit {
-        None => true,
-        Some(limit) => len <= limit,
     }
 }

@@ -1,5 +1,5 @@
 //! The tables of an index that are told by its rows, put at the end of a list of bytes.
-ghost use Rattle.std.specs.Prelude.{◌≡◌, ◌++◌, ◌^◌, ◌<◌, ◌≤◌, true, length, map, OnOk};
+ghost use Rattle.std.specs.Prelude.{◌≡◌, ◌+◌, ◌++◌, ◌^◌, ◌<◌, ◌≤◌, true, false, length, map, OnOk};
 ghost use Rattle.std.specs.List.{filter, flat_map, AllByRecursion};
 ghost use Rattle.gix_hash.specs.ObjectId.{bytes_of};
 ghost use Rattle.gix_pack.specs.PlacedRow.{id_of, offset_of, IsPlaced};
@@ -67,4 +67,17 @@ pub(crate) fn is_wide(offset: u64) -> bool
     ensures { result ≡ offset_is_wide offset }
 {
     offset >= 1 << 31
+}
+
+// An offset as four bytes tell it, behind so many wide ones: a wide one is the high bit and its number among them.
+pub(crate) fn narrow_of(offset: u64, wide: u32) -> u32
+    requires { wide < 2 ^ 31 }
+    ensures wide { offset_is_wide offset ≡ true → result ≡ 2 ^ 31 + wide }
+    ensures low { offset_is_wide offset ≡ false → result ≡ offset }
+{
+    if is_wide(offset) {
+        (1 << 31) + wide
+    } else {
+        offset as u32
+    }
 }

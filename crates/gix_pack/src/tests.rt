@@ -8,6 +8,7 @@ mod multi_indices;
 
 use odb_base::{ByteList, NoMemory};
 use std::alloc::Global;
+use std::ops::Range;
 
 // Parts one behind another, without so many bytes at the end.
 fn joined(alloc: Global, parts: &[&[u8]], cut: usize) -> Result<ByteList, NoMemory> {
@@ -24,4 +25,22 @@ fn first_of(bytes: &[u8], kept: usize) -> &[u8]
 {
     let (front, _) = bytes.split_at(kept);
     front
+}
+
+// The bytes with one changed.
+fn changed(alloc: Global, bytes: &[u8], place: usize, byte: u8) -> Result<ByteList, NoMemory> {
+    let mut other = ByteList::new(alloc);
+    for (at, old) in bytes.iter().enumerate() {
+        other.push(if at == place { byte } else { *old })?;
+    }
+    Ok(other)
+}
+
+// The rows of a run, if it has any.
+fn rows_in(run: Range<u32>) -> Option<(u32, u32)> {
+    if run.start < run.end {
+        Some((run.start, run.end))
+    } else {
+        None
+    }
 }

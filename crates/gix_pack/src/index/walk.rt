@@ -1,6 +1,6 @@
 //! A walk through the rows of an index.
 ghost use Rattle.std.specs.Iterator.{YieldsFirstBy, item_count};
-ghost use Rattle.gix_pack.specs.IndexRows.{row_seen, rows_left};
+ghost use Rattle.gix_pack.specs.IndexRows.{entries_left, row_seen};
 
 use super::{Entry, File};
 
@@ -14,11 +14,10 @@ pub struct Iter<'a> {
 impl<'a> Iterator for Iter<'a> {
     type Item = Entry;
 
-    ghost next_gives = { YieldsFirstBy row_seen rows_left };
+    ghost next_gives = { YieldsFirstBy row_seen entries_left };
 
-    ghost remaining = { item_count rows_left };
+    ghost remaining = { item_count entries_left };
 
-    #[tactic(auto, using(crate::proofs::IndexRowsLemmas::rows_more, crate::proofs::IndexRowsLemmas::rows_end))]
     fn next(&mut self) -> Option<Entry> {
         if self.row >= self.index.num_objects() {
             return None;

@@ -8,7 +8,7 @@ use super::SIGNATURE;
 use crate::Object;
 use crate::data::front_of;
 use crate::put::{hash_of_bytes, put_number, put_zeros};
-use crate::put_rows::{is_wide, put_counts, put_ids, put_wide};
+use crate::put_rows::{is_wide, narrow_of, put_counts, put_ids, put_wide};
 use crate::table::{Placed, put_rows, table_of};
 use gix_hash::Kind;
 use odb_base::{ByteList, NoMemory};
@@ -49,11 +49,9 @@ pub(crate) fn put_narrow(list: &mut ByteList, rows: &[Placed]) -> Result<(), NoM
 {
     let mut wide = 0u32;
     for row in rows {
+        put_number(list, narrow_of(row.offset, wide))?;
         if is_wide(row.offset) {
-            put_number(list, (1 << 31) + wide)?;
             wide += 1;
-        } else {
-            put_number(list, row.offset as u32)?;
         }
     }
     Ok(())

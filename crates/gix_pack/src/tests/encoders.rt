@@ -95,42 +95,120 @@ fn writes_indices(rt: HostRuntime) -> Result<(), Fail> {
     Ok(())
 }
 
-// The packs numbered in another order, names without their padding, or chunks in another order.
-// The bytes are those that `git multi-pack-index write` (Git 2.39) made of two packs, whose indices were put together by
-// the format in Python.
-#[test]
-fn writes_a_multi_index_as_git_does(rt: HostRuntime) -> Result<(), Fail> {
-    let mut packs = Vec::new(rt.alloc());
-    let contents: [(&str, &[&[u8]]); 2] = [
-        ("pack-a.idx", &[VERSION_1]),
-        ("pack-b.idx", &[VERSION_2, HELLO]),
-    ];
+// Names of packs' indices, and the blobs of each pack.
+type Packs = &'static [(&'static str, &'static [&'static [u8]])];
+
+const TWO_PACKS: Packs = &[
+    ("pack-a.idx", &[VERSION_1]),
+    ("pack-b.idx", &[VERSION_2, HELLO]),
+];
+
+// The second pack is empty, and the names need no padding.
+const THREE_PACKS: Packs = &[
+    ("pack-a1.idx", &[VERSION_1]),
+    ("pack-b1.idx", &[]),
+    ("pack-c1.idx", &[VERSION_2, HELLO]),
+];
+
+// What stands before and behind the counts of the multi-indices that `git multi-pack-index write` (Git 2.39) made of
+// these packs. Each pack lay with its index in `.git/objects/pack` of an empty repository
+// (`git init --object-format=..`). Python put both together from the format, as `encode` writes them: entries that are
+// not compressed, and CRC values of zeros.
+const BEFORE_SHA1: &[u8] = b"MIDX\x01\x01\x04\0\0\0\0\x02\
+    PNAM\0\0\0\0\0\0\0\x48\
+    OIDF\0\0\0\0\0\0\0\x60\
+    OIDL\0\0\0\0\0\0\x04\x60\
+    OOFF\0\0\0\0\0\0\x04\x9c\
+    \0\0\0\0\0\0\0\0\0\0\x04\xb4\
+    pack-a.idx\0pack-b.idx\0\0\0";
+
+const BEHIND_SHA1: [&[u8]; 5] = [
+    ID_2,
+    ID_1,
+    ID_HELLO,
+    b"\0\0\0\x01\0\0\0\x0c\0\0\0\0\0\0\0\x0c\0\0\0\x01\0\0\0\x17",
+    b"\xa5\xc5\x1d\x80\xd3\xd0\x91\xba\x8a\x5f\x24\xf1\xea\x0f\x8d\xab\xf1\x2c\xfd\x48",
+];
+
+const BEFORE_SHA256: &[u8] = b"MIDX\x01\x02\x04\0\0\0\0\x03\
+    PNAM\0\0\0\0\0\0\0\x48\
+    OIDF\0\0\0\0\0\0\0\x6c\
+    OIDL\0\0\0\0\0\0\x04\x6c\
+    OOFF\0\0\0\0\0\0\x04\xcc\
+    \0\0\0\0\0\0\0\0\0\0\x04\xe4\
+    pack-a1.idx\0pack-b1.idx\0pack-c1.idx\0";
+
+// The ids of `hello`, `version 1` and `version 2`, the numbers of packs and the offsets, and the hash.
+const BEHIND_SHA256: [&[u8]; 5] = [
+    b"\
+    \x2c\xf8\xd8\x3d\x9e\xe2\x95\x43\xb3\x4a\x87\x72\x74\x21\xfd\xec\
+    \xb7\xe3\xf3\xa1\x83\xd3\x37\x63\x90\x25\xde\x57\x6d\xb9\xeb\xb4",
+    b"\
+    \x58\xa6\x7e\xd1\xc1\x61\xa4\xe8\x9a\x11\x09\x68\x31\x0f\xe3\x1e\
+    \x39\x92\x0e\xf6\x8d\x4c\x7c\x7e\x0d\x66\x95\x79\x75\x33\xf5\x0d",
+    b"\
+    \xbd\x96\x5f\xae\x20\xeb\x0d\xd1\x36\xc5\xfb\x90\xb7\xc9\x9e\xa1\
+    \x86\x3a\xb4\x6b\xb9\xa2\x64\x7b\xe0\x49\xf3\x87\x51\x74\x9e\x61",
+    b"\0\0\0\x02\0\0\0\x17\0\0\0\0\0\0\0\x0c\0\0\0\x02\0\0\0\x0c",
+    b"\
+    \xc5\x2d\xc6\x76\xbb\x07\xd4\x79\xb8\x42\xd2\x43\x21\x2d\xf0\x4b\
+    \x2e\x91\x67\x67\x0e\x7a\x47\x76\x33\xf5\xdd\xd5\x11\x34\x71\xa3",
+];
+
+fn packs_of(alloc: Global, contents: Packs) -> Result<Vec<NamedPack>, NoMemory> {
+    let mut packs = Vec::new(alloc);
     for (name, texts) in contents {
         packs.push(NamedPack {
-            name: PathName::new(rt.alloc(), name)?,
-            objects: Sequence::from_vec(blobs(rt.alloc(), texts)?),
+            name: PathName::new(alloc, name)?,
+            objects: Sequence::from_vec(blobs(alloc, texts)?),
         })?;
     }
+    Ok(packs)
+}
+
+// What is written for packs, and the parts of what Git made of them.
+fn written_and_wanted(
+    alloc: Global,
+    kind: Kind,
+    contents: Packs,
+    before: &[u8],
+    firsts: &[u8],
+    behind: &[&[u8]],
+) -> Result<(ByteList, ByteList), Fail> {
+    let packs = packs_of(alloc, contents)?;
     let given = packs.as_slice();
-    assert!(rt; multi_index::can_be_written(given));
-    let bytes = multi_index::encode(rt.alloc(), given, Kind::Sha1)?;
-    let table = counts(rt.alloc(), &[0x1f, 0x83, 0xce])?;
-    let parts: [&[u8]; 14] = [
-        b"MIDX\x01\x01\x04\x00\x00\x00\x00\x02",
-        b"PNAM\x00\x00\x00\x00\x00\x00\x00\x48",
-        b"OIDF\x00\x00\x00\x00\x00\x00\x00\x60",
-        b"OIDL\x00\x00\x00\x00\x00\x00\x04\x60",
-        b"OOFF\x00\x00\x00\x00\x00\x00\x04\x9c",
-        b"\x00\x00\x00\x00\x00\x00\x00\x00\x00\x00\x04\xb4",
-        b"pack-a.idx\x00pack-b.idx\x00\x00\x00",
-        table.as_slice(),
-        ID_2,
-        ID_1,
-        ID_HELLO,
-        b"\x00\x00\x00\x01\x00\x00\x00\x0c\x00\x00\x00\x00\x00\x00\x00\x0c",
-        b"\x00\x00\x00\x01\x00\x00\x00\x17",
-        b"\xa5\xc5\x1d\x80\xd3\xd0\x91\xba\x8a\x5f\x24\xf1\xea\x0f\x8d\xab\xf1\x2c\xfd\x48",
-    ];
-    assert_eq!(rt; bytes, joined(rt.alloc(), &parts, 0)?);
+    if !multi_index::can_be_written(given) {
+        return Err(Fail::new("packs that can't be written"));
+    }
+    let bytes = multi_index::encode(alloc, given, kind)?;
+    let table = counts(alloc, firsts)?;
+    let behind = joined(alloc, behind, 0)?;
+    let parts = [before, table.as_slice(), behind.as_slice()];
+    Ok((bytes, joined(alloc, &parts, 0)?))
+}
+
+// The packs numbered in another order, an empty pack left out, names without their padding or with padding that they
+// do not need, or chunks in another order.
+#[test]
+fn writes_multi_indices_as_git_does(rt: HostRuntime) -> Result<(), Fail> {
+    let alloc = rt.alloc();
+    let (bytes, wanted) = written_and_wanted(
+        alloc,
+        Kind::Sha1,
+        TWO_PACKS,
+        BEFORE_SHA1,
+        &[0x1f, 0x83, 0xce],
+        &BEHIND_SHA1,
+    )?;
+    assert_eq!(rt; bytes, wanted);
+    let (bytes, wanted) = written_and_wanted(
+        alloc,
+        Kind::Sha256,
+        THREE_PACKS,
+        BEFORE_SHA256,
+        &[0x2c, 0x58, 0xbd],
+        &BEHIND_SHA256,
+    )?;
+    assert_eq!(rt; bytes, wanted);
     Ok(())
 }

@@ -1,9 +1,8 @@
-use super::joined;
+use super::{changed, joined, rows_in};
 use crate::index::{BadIndex, File};
 use gix_hash::{Kind, ObjectId, Prefix};
-use odb_base::{ByteList, NoMemory};
+use odb_base::ByteList;
 use std::alloc::Global;
-use std::ops::Range;
 use std::test::Fail;
 
 const SIGNATURE: &[u8] = b"\xfftOc\x00\x00\x00\x02";
@@ -188,15 +187,6 @@ fn reads_indices_of_git(rt: HostRuntime) -> Result<(), Fail> {
     Ok(())
 }
 
-// The rows of a run, if it has any.
-fn rows_in(run: Range<u32>) -> Option<(u32, u32)> {
-    if run.start < run.end {
-        Some((run.start, run.end))
-    } else {
-        None
-    }
-}
-
 // Prefixes, and the first row and the end of the run of each.
 const PREFIXES_SHA1: &[(&str, Option<(u32, u32)>)] = &[
     ("6cf4", Some((1, 4))),
@@ -206,8 +196,13 @@ const PREFIXES_SHA1: &[(&str, Option<(u32, u32)>)] = &[
     ("6cf44d", Some((3, 4))),
     ("1f7a", Some((0, 1))),
     ("83baae6", Some((4, 5))),
+    ("6cf44bc0b0a2c1d11d2939b6a406f951ea73213b", Some((2, 3))),
+    ("6cf44bc0b0a2c1d11d2939b6a406f951ea73213a", None),
+    ("6cf44bc0b0a2c1d11d2939b6a406f951ea73213c", None),
     ("0000", None),
+    ("0000000000000000000000000000000000000000", None),
     ("ffff", None),
+    ("ffffffffffffffffffffffffffffffffffffffff", None),
 ];
 
 const PREFIXES_SHA256: &[(&str, Option<(u32, u32)>)] = &[
@@ -215,9 +210,17 @@ const PREFIXES_SHA256: &[(&str, Option<(u32, u32)>)] = &[
     ("074c1", Some((0, 2))),
     ("074c2", Some((2, 3))),
     ("074c3", None),
+    (
+        "074c2799e340164e9372ff06cb4acac1c68490aac8b52517fe089785a3880ab4",
+        Some((2, 3)),
+    ),
+    (
+        "074c2799e340164e9372ff06cb4acac1c68490aac8b52517fe089785a3880ab5",
+        None,
+    ),
 ];
 
-// A run without its first or last row, or half a byte that is ignored.
+// A run without its first or last row, half a byte that is ignored, or an absent id that has a row.
 #[test]
 fn finds_prefixes(rt: HostRuntime) -> Result<(), Fail> {
     let tables = [
@@ -230,6 +233,13 @@ fn finds_prefixes(rt: HostRuntime) -> Result<(), Fail> {
             let id = id_from(rt.alloc(), kind, digits.as_bytes())?;
             let prefix = Prefix::new(&id, digits.len())?;
             assert!(rt; rows_in(index.lookup_prefix(&prefix)) == *want, "{digits}");
+            let is_whole = digits.len() == kind.len_in_hex();
+            let row = if is_whole {
+                want.map(|run| run.0)
+            } else {
+                None
+            };
+            assert!(rt; index.lookup(&id) == row, "{digits}: row");
         }
     }
     Ok(())
@@ -251,15 +261,6 @@ fn offsets_read(bytes: ByteList) -> Result<[u64; 2], BadIndex> {
         return Err(BadIndex);
     }
     Ok([index.pack_offset_at_index(0), index.pack_offset_at_index(1)])
-}
-
-// The bytes with one changed.
-fn changed(alloc: Global, bytes: &[u8], place: usize, byte: u8) -> Result<ByteList, NoMemory> {
-    let mut other = ByteList::new(alloc);
-    for (at, old) in bytes.iter().enumerate() {
-        other.push(if at == place { byte } else { *old })?;
-    }
-    Ok(other)
 }
 
 // Changes of a byte of the two rows with a wide offset, and the offsets that are read then, if any.

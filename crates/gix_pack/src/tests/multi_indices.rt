@@ -1,4 +1,4 @@
-use super::joined;
+use super::{changed, joined, rows_in};
 use crate::multi_index::{Error, File};
 use gix_hash::{Hasher, Kind, ObjectId, Prefix};
 use odb_base::{ByteList, NoMemory};
@@ -192,21 +192,35 @@ fn is_hashed(bytes: &[u8], kind: Kind) -> bool {
     hasher.finalize().as_bytes() == own
 }
 
-// Whether each id is found in its row, where the run of its first seven digits begins, and there are no other rows.
+// Whether each id is found in its row, which is the run of its first seven digits, and there are no other rows.
 fn are_found(index: &File, ids: &[&[u8]]) -> Result<bool, Fail> {
     let mut row = 0u32;
     for text in ids {
         let id = ObjectId::from_hex(text)?;
         let run = index.lookup_prefix(&Prefix::new(&id, 7)?);
-        if index.lookup(&id) != Some(row) || run.start != row || run.end <= row {
+        let behind = row.saturating_add(1);
+        if index.lookup(&id) != Some(row) || rows_in(run) != Some((row, behind)) {
             return Ok(false);
         }
-        row = row.saturating_add(1);
+        row = behind;
     }
     Ok(index.num_objects() == row)
 }
 
-// The neighbour's offset or pack, a wide offset that is not followed, or ids of the other length.
+// Prefixes of the four SHA-1 ids, and the first row and the end of the run of each.
+const PREFIXES: &[(&[u8], Option<(u32, u32)>)] = &[
+    (b"6cf4", Some((1, 3))),
+    (b"6cf44", Some((1, 3))),
+    (b"6cf45", None),
+    (b"6cf44b", Some((2, 3))),
+    (FIRST, Some((3, 4))),
+    (b"83baae61804e65cc73a7201a7252750c76066a31", None),
+    (b"0000000000000000000000000000000000000000", None),
+    (b"ffffffffffffffffffffffffffffffffffffffff", None),
+];
+
+// The neighbour's offset or pack, a wide offset that is not followed, ids of the other length, or an absent id that has
+// a row.
 #[test]
 fn reads_multi_indices_of_git(rt: HostRuntime) -> Result<(), Fail> {
     let rows: [(&str, Parts<'static>, Kind, &str); 4] = [
@@ -223,6 +237,21 @@ fn reads_multi_indices_of_git(rt: HostRuntime) -> Result<(), Fail> {
         assert!(rt; index.object_hash() == kind, "{name}");
         assert!(rt; are_found(&index, parts.ids)?, "{name}: look-ups");
         assert_eq!(rt; index.num_indices(), 2, "{name}");
+    }
+    let index = File::parse(rt.alloc(), file_of(rt.alloc(), SHA1)?, None).expect(&rt, "SHA-1");
+    for (row, (digits, want)) in PREFIXES.iter().enumerate() {
+        let prefix = Prefix::from_hex(digits)?;
+        assert!(rt;
+            rows_in(index.lookup_prefix(&prefix)) == *want,
+            "prefix {row}"
+        );
+        let is_whole = digits.len() == 40;
+        let found = if is_whole {
+            want.map(|run| run.0)
+        } else {
+            None
+        };
+        assert!(rt; index.lookup(prefix.as_oid()) == found, "id {row}");
     }
     Ok(())
 }
@@ -288,10 +317,7 @@ const CHANGES: &[(&str, usize, u8, Rows)] = &[
 fn reads_changed_multi_indices(rt: HostRuntime) -> Result<(), Fail> {
     let bytes = file_of(rt.alloc(), TWO)?;
     for (name, place, byte, want) in CHANGES {
-        let mut other = ByteList::new(rt.alloc());
-        for (at, old) in bytes.as_slice().iter().enumerate() {
-            other.push(if at == *place { *byte } else { *old })?;
-        }
+        let other = changed(rt.alloc(), bytes.as_slice(), *place, *byte)?;
         assert!(rt; rows_read(rt.alloc(), other) == *want, "{name}");
     }
     Ok(())
@@ -367,33 +393,18 @@ fn reads_other_lengths_and_limits(rt: HostRuntime) -> Result<(), Fail> {
         File::parse(rt.alloc(), longer, None).is_err(),
         "a byte more"
     );
-    let limits: [(&str, ByteList, u64, Option<Error>); 4] = [
-        (
-            "row",
-            whole.try_clone(rt.alloc())?,
-            9,
-            Some(Error::AboveLimit),
-        ),
-        (
-            "a byte",
-            ByteList::from_slice(rt.alloc(), b"MIDX")?,
-            3,
-            Some(Error::AboveLimit),
-        ),
-        (
-            "no byte",
-            ByteList::from_slice(rt.alloc(), b"MIDX")?,
-            4,
-            Some(Error::BadMultiIndex),
-        ),
-        (
-            "its length",
-            whole.try_clone(rt.alloc())?,
-            whole.len() as u64,
-            None,
-        ),
+    let bytes = whole.as_slice();
+    let len = bytes.len() as u64;
+    let below = len.saturating_sub(1);
+    let limits: [(&str, &[u8], u64, Option<Error>); 5] = [
+        ("far above", bytes, 9, Some(Error::AboveLimit)),
+        ("a byte above", bytes, below, Some(Error::AboveLimit)),
+        ("its length", bytes, len, None),
+        ("above and bad", b"MIDX", 3, Some(Error::AboveLimit)),
+        ("within and bad", b"MIDX", 4, Some(Error::BadMultiIndex)),
     ];
     for (name, bytes, limit, want) in limits {
+        let bytes = ByteList::from_slice(rt.alloc(), bytes)?;
         let read = File::parse(rt.alloc(), bytes, Some(limit));
         assert!(rt; read.err() == want, "{name}");
     }

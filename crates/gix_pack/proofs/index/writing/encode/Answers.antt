@@ -1,5 +1,5 @@
 -- The rows that are written are the table of the objects' places, and the bytes are the index that is defined.
-use Rattle.std.proofs.Common.{◌≡◌, ◌^◌, ◌<◌, ◌++◌, List, ℕ, length, map, sym, ap, subst, ◌∙◌, arith}
+use Rattle.std.proofs.Common.{◌≡◌, ◌++◌, List, ℕ, map, sym, ap, subst, ◌∙◌, arith}
 use Rattle.std.proofs.lemmas.List.{length-map}
 use Rattle.gix_hash.specs.Hash.{hash_of}
 use Rattle.gix_hash.specs.ObjectId.{bytes_of, IsId}

@@ -3,7 +3,7 @@ use Rattle.std.proofs.Common.{◌≡◌, ◌++◌, List, ℕ, map, sym, ap, subs
 use Rattle.std.specs.List.{AllByRecursion}
 use Rattle.gix_hash.specs.Hash.{hash_of}
 use Rattle.gix_hash.specs.ObjectId.{bytes_of, IsId}
-use Rattle.gix_pack.specs.MultiIndexChunks.{bytes_over, chunk_seen}
+use Rattle.gix_pack.specs.MultiIndexChunks.{chunk_seen}
 use Rattle.gix_pack.specs.PlacedRow.{IsPlaced}
 use Rattle.gix_pack.specs.WrittenMultiIndex.{named_seen, IsMultiIndexOf, ReadsMultiIndex}
 use Rattle.gix_pack.proofs.WrittenMultiIndexLemmas.{bytes_all, front_steps, is_multi_index_of, multi_each, multi_few, multi_rising, multi_rows_are, multi_written, small_seen}

@@ -1,5 +1,5 @@
 -- The name at hand is one, and is below the next.
-use Rattle.std.proofs.Common.{◌≡◌, ◌+◌, List, map, sym, ap, ◌∙◌, arith}
+use Rattle.std.proofs.Common.{List, map, sym, ap, ◌∙◌, arith}
 use Rattle.gix_pack.specs.MultiIndex.{is_index_name}
 use Rattle.gix_pack.specs.MultiIndexChunks.{below_first}
 use Rattle.gix_pack.specs.WrittenMultiIndex.{named_seen, names_of}

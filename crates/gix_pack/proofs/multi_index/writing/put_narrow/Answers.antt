@@ -1,27 +1,30 @@
 -- A wide offset is written as its row among the wide ones, and another one as it is.
-use Rattle.std.proofs.Common.{sym, ◌∙◌, arith}
+use Rattle.std.proofs.Common.{ℕ, ◌++◌, sym, ap, ◌∙◌, arith}
+use Rattle.std.specs.Int.{w32, to_be_bytes}
 use Rattle.gix_pack.proofs.WrittenMultiIndexLemmas.{row_on_low, row_on_wide, rows_end}
 use Rattle.gix_pack.proofs.multi_index.writing.put_narrow.Goals as goal
-use Rattle.gix_pack.proofs.multi_index.writing.put_narrow.Goals.{then-is_wide+in_ok-put_number-2, else-is_wide+in_ok-put_number-3}
+use Rattle.gix_pack.proofs.multi_index.writing.put_narrow.Goals.{then-is_wide, else-is_wide}
 
 pub loop-row-preserved : goal.loop-row-preserved
 loop-row-preserved c =
     let rows = c.args.rows.now in
     let i = c.loop-row.row-index in
     let wide = c.loop-row.wide in
+    let list = c.loop-row.list in
+    let middle = c.put_number.new.list in
     elim c.if-is_wide.branch [
-      | then-is_wide+in_ok-put_number-2 w ↦
+      | then-is_wide w ↦
+          let is = sym c.is_wide.ensures ∙ w.if-is_wide.true in
+          let put = c.in_ok-put_number-2.ensures ∙ ap (λ (n : ℕ). middle ++ to_be_bytes w32 n) (c.narrow_of.ensures.wide is) in
           record {
-            written =
-                row_on_wide c.loop-row.list c.put_number.new.list c.if-is_wide.list _ rows i wide c.if-is_wide.wide _ (omega arith) (sym c.is_wide.ensures ∙ w.if-is_wide.true) c.in_ok-put_number.ensures (w.list-is ∙ w.in_ok-put_number-2.ensures) w.wide-is
-                c.loop-row.invariant.written;
+            written = row_on_wide list middle c.put_number-in-loop-row.new.list _ rows i wide c.if-is_wide.wide _ (omega arith) is c.in_ok-put_number.ensures put w.wide-is c.loop-row.invariant.written;
             few = omega (arith, w.wide-is, c.loop-row.invariant.few);
           }
-      | else-is_wide+in_ok-put_number-3 w ↦
+      | else-is_wide w ↦
+          let is = sym c.is_wide.ensures ∙ w.if-is_wide.false in
+          let put = c.in_ok-put_number-2.ensures ∙ ap (λ (n : ℕ). middle ++ to_be_bytes w32 n) (c.narrow_of.ensures.low is) in
           record {
-            written =
-                row_on_low c.loop-row.list c.put_number.new.list c.if-is_wide.list _ rows i wide c.if-is_wide.wide _ (omega arith) (sym c.is_wide.ensures ∙ w.if-is_wide.false) c.in_ok-put_number.ensures (w.list-is ∙ w.in_ok-put_number-3.ensures) w.wide-is
-                c.loop-row.invariant.written;
+            written = row_on_low list middle c.put_number-in-loop-row.new.list _ rows i wide c.if-is_wide.wide _ (omega arith) is c.in_ok-put_number.ensures put w.wide-is c.loop-row.invariant.written;
             few = omega (arith, w.wide-is, c.loop-row.invariant.few);
           }
     ]
