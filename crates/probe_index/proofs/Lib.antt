@@ -1,0 +1,4 @@
+mod LinesLemmas
+mod ProbeLemmas
+mod StreamLemmas
+mod SessionLemmas

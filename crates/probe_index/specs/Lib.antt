@@ -1,0 +1,5 @@
+pub mod Asked
+pub mod Status
+pub mod Lines
+pub mod Probe
+pub mod Session

@@ -1,0 +1,119 @@
+//! A file in, and the lines of the ids that are asked for out.
+ghost use Rattle.std.specs.Prelude.{◌≡◌, Some, None, IfOk, is_some, if◌then◌else◌};
+ghost use Rattle.gix_pack.specs.Index.{is_index};
+ghost use Rattle.gix_pack.specs.MultiIndex.{multi_index_of};
+ghost use Rattle.probe_index.specs.Probe.{format_of, refusal_text, WritesIn, WritesOf};
+
+use crate::asked::Asked;
+use crate::lines::{index_lines, pack_lines};
+use crate::status::Status;
+use gix_pack::{index, multi_index};
+use odb_base::{ByteList, NoMemory};
+use std::alloc::Global;
+
+/// The most bytes that a file may have: 1 GiB.
+pub const FILE_LIMIT: usize = 1_073_741_824;
+
+/// What a file is.
+#[derive(Clone, Copy, Debug, PartialEq, Eq)]
+pub enum Format {
+    /// A pack index, version 2.
+    Index,
+    /// A multi-pack index, version 1.
+    MultiIndex,
+}
+
+/// Why a file is refused.
+#[derive(Clone, Copy, Debug, PartialEq, Eq)]
+pub enum Refusal {
+    TooLong,
+    /// It begins like neither format.
+    Unknown,
+    BadIndex,
+    BadMultiIndex,
+}
+
+/// What is written for the bytes of a file, and the status.
+pub fn answer_file(
+    alloc: Global,
+    bytes: Vec<u8>,
+    asked: &Asked,
+) -> Result<(Vec<u8>, Status), NoMemory>
+    ensures { IfOk result (λ answer. WritesOf asked.now bytes.items answer.0.items answer.1) }
+{
+    if bytes.len() > FILE_LIMIT {
+        return refused(alloc, Refusal::TooLong);
+    }
+    match format_of(&bytes) {
+        Some(Format::Index) => answer_index(alloc, ByteList::from_vec(bytes), asked),
+        Some(Format::MultiIndex) => answer_multi_index(alloc, ByteList::from_vec(bytes), asked),
+        None => refused(alloc, Refusal::Unknown),
+    }
+}
+
+/// The format that the first four bytes tell.
+fn format_of(bytes: &[u8]) -> Option<Format>
+    ensures { result ≡ format_of bytes.now }
+{
+    if bytes.starts_with(&[255, 116, 79, 99]) {
+        Some(Format::Index)
+    } else if bytes.starts_with(b"MIDX") {
+        Some(Format::MultiIndex)
+    } else {
+        None
+    }
+}
+
+fn answer_index(
+    alloc: Global,
+    bytes: ByteList,
+    asked: &Asked,
+) -> Result<(Vec<u8>, Status), NoMemory>
+    requires { format_of bytes ≡ Some Format.Index }
+    ensures { IfOk result (λ answer. WritesIn asked.now bytes answer.0.items answer.1 (if is_index asked.now.kind bytes then None else Some Refusal.BadIndex)) }
+{
+    match index::File::parse(bytes, asked.kind) {
+        Ok(index) => {
+            let lines = index_lines(alloc, &index, asked.ids.as_slice())?;
+            Ok((lines, Status::Done))
+        }
+        Err(index::BadIndex) => refused(alloc, Refusal::BadIndex),
+    }
+}
+
+fn answer_multi_index(
+    alloc: Global,
+    bytes: ByteList,
+    asked: &Asked,
+) -> Result<(Vec<u8>, Status), NoMemory>
+    requires { format_of bytes ≡ Some Format.MultiIndex }
+    ensures { IfOk result (λ answer. WritesIn asked.now bytes answer.0.items answer.1 (if is_some (multi_index_of bytes) then None else Some Refusal.BadMultiIndex)) }
+{
+    match multi_index::File::parse(alloc, bytes, None) {
+        Ok(index) => {
+            let lines = pack_lines(alloc, &index, asked.ids.as_slice())?;
+            Ok((lines, Status::Done))
+        }
+        Err(multi_index::Error::NoMemory) => Err(NoMemory),
+        Err(_) => refused(alloc, Refusal::BadMultiIndex),
+    }
+}
+
+/// The line that says why a file is refused, and the status.
+fn refused(alloc: Global, why: Refusal) -> Result<(Vec<u8>, Status), NoMemory>
+    ensures text { IfOk result (λ answer. answer.0.items ≡ refusal_text why) }
+    ensures status { IfOk result (λ answer. answer.1 ≡ Status.Refused) }
+{
+    Ok((text_of(why).to_vec(alloc)?, Status::Refused))
+}
+
+fn text_of(why: Refusal) -> &'static [u8]
+    ensures { result.now ≡ refusal_text why }
+{
+    match why {
+        Refusal::TooLong => b"refused: more than 1073741824 bytes\n",
+        Refusal::Unknown => b"refused: neither a pack index nor a multi-pack index\n",
+        Refusal::BadIndex => b"refused: no pack index of version 2 with ids of this length\n",
+        Refusal::BadMultiIndex => b"refused: no multi-pack index of version 1\n",
+    }
+}
