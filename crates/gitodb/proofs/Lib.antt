@@ -4,6 +4,7 @@ pub mod ContentLemmas
 pub mod ScriptLemmas
 pub mod SplitLemmas
 mod TextLemmas
+mod PackLemmas
 mod OpeningLemmas
 mod PrintLemmas
 mod StreamLemmas

@@ -20,7 +20,6 @@ use Rattle.gix_odb_world.specs.declared.call.Call.TheVariants as calls
 use Rattle.gix_odb_world.specs.declared.step.Step.TheVariants as steps
 use Rattle.gix_odb_world.specs.declared.play.Line.TheVariants.{One, Finish}
 use Rattle.gitodb.specs.declared.script.item.Item.TheVariants as items
-use Rattle.gitodb.specs.declared.script.content.Content.TheVariants.{Bytes}
 use Rattle.gitodb.specs.declared.script.word.Question.{Question}
 use Rattle.gitodb.specs.declared.script.word.Question.TheVariants as questions
 use Rattle.gitodb.specs.declared.script.word.Word.TheVariants as words
@@ -168,7 +167,7 @@ item_of-rename path to names others field other =
     ∙ rw (path_of-text_of path names, path_of-text_of to others) refl
 
 -- contents of a built kind are put as they are
-pub item_of-put : (path : Path) (time : ℕ) (content bytes : List ℕ) → list_all is_name path ≡ true → IsField (text_of path) → time < 2 ^ 64 → IsField content → content_of content ≡ Bytes bytes → item_of (line_of (codes "put" ∷ text_of path ∷ decimal time ∷ content ∷ [])) ≡ items.Setup (changes.PutFile path time bytes)
+pub item_of-put : (path : Path) (time : ℕ) (content bytes : List ℕ) → list_all is_name path ≡ true → IsField (text_of path) → time < 2 ^ 64 → IsField content → content_of content ≡ Some bytes → item_of (line_of (codes "put" ∷ text_of path ∷ decimal time ∷ content ∷ [])) ≡ items.Setup (changes.PutFile path time bytes)
 unfolding word_of line_item change_of
 item_of-put path time content bytes names field small content_field spelled =
     item_of-line_of 112 (codes "ut") (text_of path ∷ decimal time ∷ content ∷ []) refl (IsField-word (codes "put") refl refl, (field, (IsField-decimal time small, (content_field, tt))))

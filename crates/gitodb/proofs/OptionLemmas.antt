@@ -1,8 +1,7 @@
 -- Laws of openings: what options spell is chosen.
-use Rattle.std.proofs.Common.{◌≡◌, ℕ, ◌+◌, ◌^◌, ◌<◌, ◌==◌, Bool, true, false, not, List, [], ◌∷◌, ◌++◌, length, map, take, drop, codes, Some, refl, ap, ◌∙◌, arith}
+use Rattle.std.proofs.Common.{◌≡◌, ℕ, ◌^◌, ◌<◌, ◌==◌, Bool, true, false, not, List, [], ◌∷◌, ◌++◌, map, codes, Some, refl, ap, ◌∙◌, arith}
 use Rattle.std.specs.Fmt.{decimal}
-use Rattle.std.specs.List.{list_all, list_any, before_first, after_first, position_or_len, AllByRecursion}
-use Rattle.std.proofs.Math.Seq.{take-append_seam, drop-append-add}
+use Rattle.std.specs.List.{list_all, list_any, AllByRecursion}
 use Rattle.std.proofs.lemmas.Bool.{and_parts}
 use Rattle.odb_base.specs.Path.{Path, is_name, text_of}
 use Rattle.odb_base.specs.PathLaws.{path_of-text_of}
@@ -17,20 +16,10 @@ use Rattle.gitodb.specs.declared.script.choice.Chosen.{Chosen}
 use Rattle.gitodb.specs.Word.{word_of}
 use Rattle.gitodb.specs.Line.{line_item, item_of}
 use Rattle.gitodb.specs.Opening.{first_id, second_id, is_unbuilt_option, gives_slots, choice_of, with_choice, with_next, nothing_chosen, chosen_by, opening_at, open_of}
-use Rattle.gitodb.proofs.SplitLemmas.{lacks}
+use Rattle.gitodb.proofs.SplitLemmas.{after_first-followed, before_first-followed, lacks}
 use Rattle.gitodb.proofs.LineLemmas.{AreFields, line_of, item_of-line_of, IsField-word, IsField-decimal, handle_of-decimal}
 
 -- ---- pairs of ids
-
-place : (text rest : List ℕ) → lacks 58 text ≡ true → position_or_len (λ b. b == 58) (text ++ 58 ∷ rest) ≡ length text
-place [] rest h = refl
-place (b ∷ text) rest h = let parts = and_parts (not (b == 58)) (lacks 58 text) h in rw (parts.0, place text rest parts.1) (omega arith)
-
-before-colon : (text rest : List ℕ) → lacks 58 text ≡ true → before_first (λ b. b == 58) (text ++ 58 ∷ rest) ≡ text
-before-colon text rest h = ap (λ n. take n (text ++ 58 ∷ rest)) (place text rest h) ∙ take-append_seam text (58 ∷ rest)
-
-after-colon : (text rest : List ℕ) → lacks 58 text ≡ true → after_first (λ b. b == 58) (text ++ 58 ∷ rest) ≡ rest
-after-colon text rest h = ap (λ n. drop (n + 1) (text ++ 58 ∷ rest)) (place text rest h) ∙ drop-append-add text (58 ∷ rest) 1
 
 digit : (b : ℕ) → is_lower_digit b ≡ true → not (b == 58) ≡ true
 digit b h = grind (arith, h)
@@ -45,10 +34,10 @@ module _ (id by : ObjectId) (is : IsId id) (other : IsId by) where
   plain = no_colon (hex_of id) (is_lower_text-hex_of id is)
 
   first_is : first_id (hex_of id ++ 58 ∷ hex_of by) ≡ Some id
-  first_is = ap id_of (before-colon (hex_of id) (hex_of by) plain) ∙ id_of-hex_of id is
+  first_is = ap id_of (before_first-followed 58 (hex_of id) (hex_of by) plain) ∙ id_of-hex_of id is
 
   second_is : second_id (hex_of id ++ 58 ∷ hex_of by) ≡ Some by
-  second_is = ap id_of (after-colon (hex_of id) (hex_of by) plain) ∙ id_of-hex_of by other
+  second_is = ap id_of (after_first-followed 58 (hex_of id) (hex_of by) plain) ∙ id_of-hex_of by other
 
 -- ---- options
 

@@ -1,6 +1,7 @@
 -- Laws of texts that are split at a byte.
-use Rattle.std.proofs.Common.{◌≡◌, ℕ, ◌==◌, ◌<◌, ◌⊎◌, Bool, true, false, not, List, [], ◌∷◌, ◌++◌, length, refl, ap, ◌∙◌, inl, inr, eq-eqb, arith}
-use Rattle.std.specs.List.{list_all, slice_split, onto_first, join_with_byte, AllByRecursion}
+use Rattle.std.proofs.Common.{◌≡◌, ℕ, ◌+◌, ◌==◌, ◌<◌, ◌⊎◌, Bool, true, false, not, List, [], ◌∷◌, ◌++◌, length, take, drop, refl, ap, ◌∙◌, inl, inr, eq-eqb, arith}
+use Rattle.std.specs.List.{list_all, slice_split, onto_first, join_with_byte, before_first, after_first, position_or_len, AllByRecursion}
+use Rattle.std.proofs.Math.Seq.{take-append_seam, drop-append-add}
 use Rattle.std.proofs.lemmas.Bool.{and_parts, not-true}
 use Rattle.std.proofs.lemmas.List.Splits.{slice_split-cons_yes, slice_split-cons_no, length-slice_split}
 
@@ -43,3 +44,15 @@ slice_split-push c (b ∷ text) =
       | inl same ↦ rw (slice_split-cons_yes p b (text ++ c ∷ []) same, slice_split-cons_yes p b text same, slice_split-push c text) refl
       | inr other ↦ rw (slice_split-cons_no p b (text ++ c ∷ []) other, slice_split-cons_no p b text other, slice_split-push c text) (onto_first-push b (slice_split p text) (omega (arith, length-slice_split p text)))
     ]
+
+-- ---- before and after the first
+
+place : (c : ℕ) (text rest : List ℕ) → lacks c text ≡ true → position_or_len (λ b. b == c) (text ++ c ∷ rest) ≡ length text
+place c [] rest h = rw (eq-eqb c c refl) refl
+place c (b ∷ text) rest h = let parts = and_parts (not (b == c)) (lacks c text) h in rw (parts.0, place c text rest parts.1) (omega arith)
+
+pub before_first-followed : (c : ℕ) (text rest : List ℕ) → lacks c text ≡ true → before_first (λ b. b == c) (text ++ c ∷ rest) ≡ text
+before_first-followed c text rest h = ap (λ n. take n (text ++ c ∷ rest)) (place c text rest h) ∙ take-append_seam text (c ∷ rest)
+
+pub after_first-followed : (c : ℕ) (text rest : List ℕ) → lacks c text ≡ true → after_first (λ b. b == c) (text ++ c ∷ rest) ≡ rest
+after_first-followed c text rest h = ap (λ n. drop (n + 1) (text ++ c ∷ rest)) (place c text rest h) ∙ drop-append-add text (c ∷ rest) 1

@@ -8,21 +8,17 @@ use Rattle.gitodb.specs.declared.script.change.Spelled.{Spelled}
 use Rattle.gitodb.specs.declared.script.change.Spelled.TheVariants as spelled
 use Rattle.gitodb.specs.declared.script.word.Word.{Word}
 use Rattle.gitodb.specs.declared.script.word.Word.TheVariants as words
-use Rattle.gitodb.specs.declared.script.content.Content.{Content}
-use Rattle.gitodb.specs.declared.script.content.Content.TheVariants.{Bytes, NotBuilt, Wrong}
 use Rattle.gitodb.specs.Content.{content_of}
 
 abbrev pub at_path : (Path → Change) → Option Path → Spelled
 at_path change None = spelled.Wrong
 at_path change (Some path) = spelled.Change (change path)
 
--- a file: contents of a kind that isn't built yet are judged by that alone
-abbrev pub file_of : Option Path → Option ℕ → Content → Spelled
-file_of path time NotBuilt = spelled.NotBuilt
-file_of path time Wrong = spelled.Wrong
-file_of None time (Bytes bytes) = spelled.Wrong
-file_of (Some path) None (Bytes bytes) = spelled.Wrong
-file_of (Some path) (Some time) (Bytes bytes) = spelled.Change (changes.PutFile path time bytes)
+abbrev pub file_of : Option Path → Option ℕ → Option (List ℕ) → Spelled
+file_of None time content = spelled.Wrong
+file_of (Some path) None content = spelled.Wrong
+file_of (Some path) (Some time) None = spelled.Wrong
+file_of (Some path) (Some time) (Some bytes) = spelled.Change (changes.PutFile path time bytes)
 
 abbrev pub between : (Path → Path → Change) → Option Path → Option Path → Spelled
 between change None to = spelled.Wrong

@@ -43,8 +43,10 @@ with `#` say nothing. See docs/SCRIPT.md for the whole language.
   do rename PATH PATH        another program moves a file or a directory
   do remove PATH             another program removes a file or an empty directory
 
-CONTENT is DATA or @loose:KIND:DATA. KIND is commit, tree, blob or tag; DATA is
-hex, or `-` for nothing. HEX has 40 lower-case digits. Numbers are decimal.
+CONTENT is DATA, @loose:OBJ, @pack:OBJ,OBJ.., @idx:OBJ,OBJ.. or
+@midx:STEM=OBJ,OBJ..;STEM=OBJ.., and OBJ is KIND:DATA. KIND is commit, tree, blob
+or tag; DATA is hex, or `-` for nothing. HEX has 40 lower-case digits. Numbers
+are decimal.
 
 status  0 done   1 words not understood   2 a line was refused   3 read fault
         4 write fault   5 out of memory   8 a line has a word not built yet

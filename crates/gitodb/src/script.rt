@@ -3,6 +3,7 @@ mod change;
 mod choice;
 mod content;
 mod item;
+mod objects;
 mod opening;
 mod reader;
 mod word;

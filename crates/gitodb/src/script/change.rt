@@ -3,9 +3,9 @@ ghost use Rattle.odb_base.specs.Path.{path_of};
 ghost use Rattle.gitodb.specs.Line.{texts_of};
 ghost use Rattle.gitodb.specs.Change.{change_of, file_of};
 
-use crate::script::content::{Content, content_of};
+use crate::script::content::content_of;
 use crate::script::word::Word;
-use odb_base::{NoMemory, parse_decimal};
+use odb_base::{ByteList, NoMemory, parse_decimal};
 use odb_disk::{BadPath, Change, PathText};
 use std::alloc::Global;
 
@@ -13,7 +13,7 @@ use std::alloc::Global;
 #[derive(Debug, Drop)]
 pub enum Spelled {
     Change(Change),
-    /// A change, or contents of a file, that isn't built yet.
+    /// A change that isn't built yet.
     NotBuilt,
     Wrong,
 }
@@ -60,12 +60,11 @@ fn put(alloc: Global, fields: &[&str]) -> Result<Spelled, NoMemory>
     }
 }
 
-fn file_of(path: Option<PathText>, time: Option<u64>, content: Content) -> Spelled
+fn file_of(path: Option<PathText>, time: Option<u64>, content: Option<ByteList>) -> Spelled
     ensures { result ≡ file_of path time content }
 {
     match (path, time, content) {
-        (_, _, Content::NotBuilt) => Spelled::NotBuilt,
-        (Some(path), Some(time), Content::Bytes(bytes)) => {
+        (Some(path), Some(time), Some(bytes)) => {
             Spelled::Change(Change::PutFile { path, time, bytes })
         }
         _ => Spelled::Wrong,

@@ -4,6 +4,7 @@ ghost use Rattle.gix_hash.specs.ObjectId.{id_of};
 ghost use Rattle.gitodb.specs.Line.{item_of, is_blank, fields_of, fields_item, texts_of, one_handle, line_item, call_of, start_of, step_item, setup_item, outside_item};
 
 use crate::script::change::{Spelled, change_of};
+use crate::script::content::parts_of;
 use crate::script::opening::{handle_of, open_of};
 use crate::script::word::{Question, Word, change_word_of, word_of};
 use crate::script::write::{stream, write, writeas};
@@ -68,7 +69,7 @@ fn text_item(alloc: Global, line: &str) -> Result<Item, NoMemory>
 fn fields_of<'a>(alloc: Global, line: &'a str) -> Result<Vec<&'a str>, AllocError>
     ensures { IfOk result (λ fields. texts_of fields.items ≡ fields_of line.now) }
 {
-    line.split(' ').collect(alloc)
+    parts_of(alloc, line, ' ')
 }
 
 fn fields_item(alloc: Global, fields: &[&str]) -> Result<Item, NoMemory>

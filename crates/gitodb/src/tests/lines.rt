@@ -1,14 +1,14 @@
 //! What lines of scripts say, and where scripts end.
 use super::words::{compare, halves, with_feeds};
 use crate::script::{Item, item_of, read};
-use gix_hash::ObjectId;
+use gix_hash::{Hasher, Kind, ObjectId};
 use gix_odb_world::{Call, IdPairs, Line, Options, PathList, Slots, Step};
 use odb_disk::Change;
 use std::alloc::{AllocError, Global};
 use std::test::Fail;
 
 /// What a line says, in the words of a script: each option of an opening once and in one order, and each content as
-/// the digits of its bytes.
+/// the digits of its bytes, or as their number and their hash.
 fn item_shown(alloc: Global, item: &Item) -> Result<String, Fail> {
     match item {
         Item::Blank => Ok("blank".to_string(alloc)?),
@@ -25,14 +25,26 @@ fn item_shown(alloc: Global, item: &Item) -> Result<String, Fail> {
 fn change_shown(alloc: Global, change: &Change) -> Result<String, Fail> {
     match change {
         Change::PutFile { path, time, bytes } => {
-            let digits = digits_of(alloc, bytes.as_slice())?;
-            Ok(format!(in alloc; "put {path} {time} {digits}")?)
+            let content = content_shown(alloc, bytes.as_slice())?;
+            Ok(format!(in alloc; "put {path} {time} {content}")?)
         }
         Change::MakeDir { path, .. } => Ok(format!(in alloc; "mkdir {path}")?),
         Change::Rename { from, to } => Ok(format!(in alloc; "rename {from} {to}")?),
         Change::Append { .. } => Ok("append".to_string(alloc)?),
         Change::Remove { path } => Ok(format!(in alloc; "remove {path}")?),
     }
+}
+
+/// The digits of a content; of a long one its length and its hash.
+fn content_shown(alloc: Global, bytes: &[u8]) -> Result<String, Fail> {
+    if bytes.len() < 1000 {
+        return Ok(digits_of(alloc, bytes)?);
+    }
+    let mut hasher = Hasher::new(Kind::Sha1);
+    hasher.update(bytes);
+    let len = bytes.len();
+    let hash = hasher.finalize();
+    Ok(format!(in alloc; "{len} {hash}")?)
 }
 
 fn digits_of(alloc: Global, bytes: &[u8]) -> Result<String, AllocError> {
@@ -145,7 +157,8 @@ fn check_all(alloc: Global, lines: &str, want: &str) -> Result<(), Fail> {
     Ok(())
 }
 
-// The ids are Git's of the empty blob and of `hello` with a line feed.
+// The ids are Git's of the empty blob and of `hello` with a line feed. Packs and indices were made by a python script
+// from the formats; Git writes the first two multi-indices itself, over these indices.
 const BUILT: &str = "\
     fail 0\n\
     fail 18446744073709551615\n\
@@ -163,6 +176,26 @@ const BUILT: &str = "\
     0a0b0c0d0e0f0102030405\n\
     put /a 5 -\n\
     put /a 5 00Ff>put /a 5 00ff\n\
+    put /a 1 @pack:blob:76657273696f6e20310a>put /a 1 5041434b0000000200000001\
+    3a76657273696f6e20310ad1bd6ed802ef460d5fa07dbbf28cc092cb80abad\n\
+    put /a 1 @pack:blob:76657273696f6e20320A,blob:76657273696f6e20310a,blob:76657273696f6e20320a\
+    >put /a 1 5041434b0000000200000003\
+    3a76657273696f6e20320a3a76657273696f6e20310a3a76657273696f6e20320a78ed632bcb56a4ce587e5e1a9e1944166ce1c35b\n\
+    do put /a 1 @pack:tree:-,commit:00ff,tag:0a0a0a0a0a0a0a0a0a0a0a0a0a0a0a0a\
+    >do put /a 1 5041434b0000000200000003201200ffc0010a0a0a0a0a0a0a0a0a0a0a0a0a0a0a0a\
+    8973a1febf0672f6305a9035b2ddad9a9400f8e5\n\
+    put /a 1 @idx:blob:76657273696f6e20310a>put /a 1 1100 14d68ddbb2a22cd171c59de49e7939b0ecc89ac6\n\
+    put /a 1 @idx:blob:76657273696f6e20320a,blob:76657273696f6e20310a,blob:76657273696f6e20320a\
+    >put /a 1 1128 c62c09e0f076e5c8fcdc6942abd6dbfd8af207ed\n\
+    put /a 1 @idx:tree:-,commit:00ff,tag:0a0a0a0a0a0a0a0a0a0a0a0a0a0a0a0a\
+    >put /a 1 1156 d20633b579c9934b332c986c955aa3912a66bd9d\n\
+    put /a 1 @midx:pack-a=blob:76657273696f6e20310a>put /a 1 1156 70fb89d8fd4e762655ccf6ea4d8f45f9a6002bfc\n\
+    put /a 1 @midx:pack-a=blob:76657273696f6e20310a;pack-b=blob:76657273696f6e20320a\
+    >put /a 1 1196 e3648d8b87cb9e5972b9f285cc721c1c60e0205f\n\
+    put /a 1 @midx:a=blob:76657273696f6e20320a,blob:76657273696f6e20310a;\
+    b=blob:76657273696f6e20310a,blob:68656c6c6f0a,blob:68656c6c6f0a>put /a 1 1212 097fa7b317a9ce3e2d78d333cbb4bbe6fb6b3d1a\n\
+    put /a 1 @midx:..=blob:-;a=tree:-;é=blob:-,blob:68656c6c6f0a>put /a 1 1220 ffe230afb2f3b112b56d1e658fb705af511933b3\n\
+    put /a 1 @midx:a-=blob:-;a=blob:->put /a 1 1160 cb132223a08fb0c01500b91a0904aeaf26029249\n\
     steps\n\
     open 0 /a slots=0\n\
     open 4294967295 / slots=65535\n\
@@ -246,10 +279,7 @@ const NOT_BUILT: &str = "\
     header 0 473a0f4c3be8a93681a267e3b1e9a7dcda1185436fe141f7749120a303721813\n\
     test x 473a0f4c3be8a93681a267e3b1e9a7dcda1185436fe141f7749120a303721813\n\
     writeas 0 blob 473a0f4c3be8a93681a267e3b1e9a7dcda1185436fe141f7749120a303721813 -\n\
-    writeas x note 473a0f4c3be8a93681a267e3b1e9a7dcda1185436fe141f7749120a303721813 0\n\
-    put /a 5 @pack:blob:00\n\
-    put a x @idx\n\
-    put /a 5 @midx:";
+    writeas x note 473a0f4c3be8a93681a267e3b1e9a7dcda1185436fe141f7749120a303721813 0";
 
 // A field that is read loosely: a space too many, a number with a sign, a digit of the wrong case.
 const REFUSED: &str = "\
@@ -360,6 +390,33 @@ const REFUSED: &str = "\
     put /a 5 @loose:blob\n\
     put /a 5 @loose:\n\
     put /a 5 @loose\n\
+    put /a 5 @loose:blob:00,blob:00\n\
+    put /a 5 @pack\n\
+    put /a 5 @pack:\n\
+    put /a 5 @pack:blob:00,\n\
+    put /a 5 @pack:,blob:00\n\
+    put /a 5 @pack:blob:00;blob:00\n\
+    put /a 5 @pack:blob:00,note:00\n\
+    put /a 5 @pack:a=blob:00\n\
+    put /a 5 @packs:blob:00\n\
+    put /a 5 @Pack:blob:00\n\
+    put /a 5 @pack:blob:00 x\n\
+    put a 5 @pack:blob:00\n\
+    put /a x @idx:blob:00\n\
+    put /a 5 @idx\n\
+    put /a 5 @idx:blob:00,blob:0\n\
+    put /a 5 @midx:\n\
+    put /a 5 @midx:blob:00\n\
+    put /a 5 @midx:=blob:00\n\
+    put /a 5 @midx:a=\n\
+    put /a 5 @midx:a=blob:00;\n\
+    put /a 5 @midx:a=blob:00,b=blob:00\n\
+    put /a 5 @midx:a=blob:00=\n\
+    put /a 5 @midx:a/b=blob:00\n\
+    put /a 5 @midx:a\0b=blob:00\n\
+    put /a 5 @midx:a=blob:00;a=blob:01\n\
+    put /a 5 @midx:b=blob:00;a=blob:00\n\
+    put /a 5 @midx:a=blob:00;a-=blob:00\n\
     put /a 5 @other:blob:00\n\
     put /a 5 0\n\
     put /a 5 zz\n\
