@@ -399,7 +399,7 @@ fn same_at<'a>(own: &[&'a str], its: &[&'a str], index: usize) -> Option<&'a str
 
 /// Whether a text is a name.
 #[tactic(auto, unfolding(crate::specs::Path::is_name))]
-fn is_name(text: &str) -> bool
+pub(crate) fn is_name(text: &str) -> bool
     ensures { result ≡ is_name text.now }
 {
     let bytes = text.as_bytes();

@@ -1,6 +1,7 @@
 ghost use Rattle.std.specs.Prelude.{◌≡◌, IfOk};
 
 use crate::NoMemory;
+use crate::path::is_name;
 use std::alloc::Global;
 use std::cmp::Ordering;
 use std::marker::Model;
@@ -21,6 +22,8 @@ impl Model for PathName {
 }
 
 impl PathName {
+    ghost use Rattle.odb_base.specs.Path.{is_name};
+
     /// The name with this text.
     pub fn new(alloc: Global, text: &str) -> Result<PathName, NoMemory>
         ensures { IfOk result (λ name. name ≡ text.now) }
@@ -34,6 +37,13 @@ impl PathName {
         ensures { result.now ≡ self.now }
     {
         self.text.as_str()
+    }
+
+    /// Whether it can stand in a path: not empty, not `.` or `..`, and without NUL and `/`.
+    pub fn is_name(&self) -> bool
+        ensures { result ≡ is_name self.now }
+    {
+        is_name(self.as_str())
     }
 
     /// A copy of the name.

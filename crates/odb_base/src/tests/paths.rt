@@ -1,4 +1,4 @@
-use crate::{BadPath, PathText};
+use crate::{BadPath, PathName, PathText};
 use std::test::Fail;
 
 // A rule for names that is read too widely or too narrowly.
@@ -40,6 +40,27 @@ fn names_that_are_joined(rt: HostRuntime) -> Result<(), Fail> {
             Ok(_) => panic!(rt; "{name:?} is no name"),
             Err(e) => assert_eq!(rt; e, BadPath::Malformed, "{name:?}"),
         }
+    }
+    Ok(())
+}
+
+// A name keeps any text, and tells whether it can stand in a path.
+#[test]
+fn names_and_other_texts(rt: HostRuntime) -> Result<(), Fail> {
+    let alloc = rt.alloc();
+    for (text, is_name) in [
+        ("a", true),
+        ("...", true),
+        ("a b", true),
+        ("", false),
+        (".", false),
+        ("..", false),
+        ("a/b", false),
+        ("a\0", false),
+    ] {
+        let name = PathName::new(alloc, text)?.try_clone(alloc)?;
+        assert_eq!(rt; name.as_str(), text);
+        assert_eq!(rt; name.is_name(), is_name, "{text:?}");
     }
     Ok(())
 }
