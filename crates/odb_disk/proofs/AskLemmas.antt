@@ -18,7 +18,7 @@ use Rattle.odb_disk.specs.declared.ask.DiskAsk.{DiskAsk}
 use Rattle.odb_disk.specs.declared.ask.DiskAsk.TheVariants as asks
 use Rattle.odb_disk.specs.declared.ask.DiskAnswer.{DiskAnswer}
 use Rattle.odb_disk.specs.declared.ask.DiskAnswer.TheVariants as answers
-use Rattle.odb_disk.proofs.MemDiskLemmas.{after_call-state}
+use Rattle.odb_disk.proofs.MemDiskLemmas.{after_call-state, after_call-streams}
 
 look_told : (r : Result Meta DiskError) (told : Result Meta Refusal) → Answers r told → AnswersAsk (told_look r) (meta_answer told)
 look_told (Ok found) told is = ap meta_answer (sym is)
@@ -206,14 +206,19 @@ module _ (s : State) (ask : DiskAsk) where
   state_by false (answers.Refused errors.Failed) some is failed listed = absurd (cc (failed refl))
   state_by false (answers.Refused errors.NoMemory) some is failed listed = absurd (some refl)
 
-module _ (disk new : Volume) (ask : DiskAsk) (answer : DiskAnswer) (state : new.state ≡ state_after disk.state ask answer) (counted : new.calls ≡ (after_call disk).calls) where
+module _ (disk new : Volume) (ask : DiskAsk) (answer : DiskAnswer) (state : new.state ≡ state_after disk.state ask answer) (streams : new.streams ≡ disk.streams) (counted : new.calls ≡ (after_call disk).calls) where
   pub volume_after_ask : answer ≢ answers.Refused errors.NoMemory → AnswersAsk answer (answer_of (tree_of disk.state) ask) → (answer ≡ answers.Refused errors.Failed → next_fails disk ≡ true) → (next_fails disk ≡ true → answer ≡ answers.Refused errors.Failed) → new ≡ after_ask disk ask
   unfolding after_ask
   volume_after_ask some is failed listed =
-      let after = state ∙ state_by disk.state ask (next_fails disk) answer some is failed listed in λ i. record { state = after i; calls = counted i }
+      let after = state ∙ state_by disk.state ask (next_fails disk) answer some is failed listed in
+      let kept = streams ∙ sym (after_call-streams disk) in
+      λ i. record { state = after i; streams = kept i; calls = counted i }
 
   pub volume_kept : answer ≡ answers.Refused errors.NoMemory → new ≡ after_call disk
-  volume_kept is = let same = state ∙ ap (state_after disk.state ask) is ∙ sym (after_call-state disk) in λ i. record { state = same i; calls = counted i }
+  volume_kept is =
+      let same = state ∙ ap (state_after disk.state ask) is ∙ sym (after_call-state disk) in
+      let kept = streams ∙ sym (after_call-streams disk) in
+      λ i. record { state = same i; streams = kept i; calls = counted i }
 
 pub has_memory : (answer : DiskAnswer) → ran_out answer ≡ false → answer ≢ answers.Refused errors.NoMemory
 has_memory answer some is = let both : false ≡ true = sym some ∙ ap ran_out is in cc

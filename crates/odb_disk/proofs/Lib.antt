@@ -5,6 +5,7 @@ mod TreeCallsLemmas
 mod MovedNumbersLemmas
 mod WriteCallsLemmas
 mod NamesLemmas
+mod EntriesLemmas
 mod LastNodeLemmas
 mod TreeMovesLemmas
 pub mod WriteLaws
@@ -18,6 +19,7 @@ pub mod RefusalLaws
 mod AskLemmas
 mod NodeMapLemmas
 mod CallsLemmas
+mod StreamsLemmas
 pub mod SourceLemmas
 mod FollowExamples
 mod WayExamples

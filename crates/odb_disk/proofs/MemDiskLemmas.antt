@@ -1,21 +1,25 @@
 -- Laws of a disk in memory: what a call and a change of another program leave.
-use Rattle.std.proofs.Common.{◌≡◌, true, Option, Some, None, Result, Ok, Err, OnOk, OnErr, refl, sym, ap, ◌∙◌, subst}
+use Rattle.std.proofs.Common.{◌≡◌, ℕ, ◌<◌, ◌^◌, true, List, length, Option, Some, None, Result, Ok, Err, OnOk, OnErr, IsOk, is_ok, refl, sym, ap, ◌∙◌, subst}
 use Rattle.std.specs.Result.{result_ok}
 use Rattle.std.proofs.lemmas.Result.{on_ok_weaker, on_err_weaker}
 use Rattle.std.specs.Ordering.{nat_cmp}
 use Rattle.std.specs.FinSet as set
+use Rattle.odb_base.specs.Path.{Path}
 use Rattle.odb_disk.specs.Tree.{Tree, State, IsTree, tree_of, state_of, bare_tree}
 use Rattle.odb_disk.specs.Tree.Change.{changed, is_possible_in, after_change}
 use Rattle.odb_disk.specs.Tree.Write.{Refusal, done, written, after_write}
-use Rattle.odb_disk.specs.Disk.{AnswersWrite}
+use Rattle.odb_disk.specs.Disk.{Answers, AnswersWrite}
 use Rattle.odb_disk.specs.TreeCalls.{Tells, changed_by}
 use Rattle.odb_disk.specs.Calls as calls
 use Rattle.odb_disk.specs.Calls.{Calls, no_calls}
+use Rattle.odb_disk.specs.Streams.{Streams, IsLeastClosed, Opens, no_streams, opened, with_opened}
 use Rattle.odb_disk.specs.MemDisk.{Volume, after_call, after_outside_change, next_fails, new_volume}
 use Rattle.odb_disk.specs.declared.change.Change.{Change}
 use Rattle.odb_disk.specs.declared.change.Impossible.{Impossible}
+use Rattle.odb_disk.specs.declared.disk.Entry.{Entry}
 use Rattle.odb_disk.specs.declared.disk.DiskError.{DiskError}
 use Rattle.odb_disk.specs.declared.disk.DiskError.TheVariants as errors
+use Rattle.odb_disk.proofs.StreamsLemmas.{free_number}
 use Rattle.odb_disk.proofs.TreeLemmas.{tree_of-state_of}
 use Rattle.odb_disk.proofs.TreeLemmas.Changed.{IsTree-changed}
 
@@ -34,6 +38,10 @@ pub after_call-calls : (v : Volume) → (after_call v).calls ≡ calls.after_cal
 unfolding after_call
 after_call-calls v = refl
 
+pub after_call-streams : (v : Volume) → (after_call v).streams ≡ v.streams
+unfolding after_call
+after_call-streams v = refl
+
 pub counted_call : (v : Volume) (made : Calls) → made ≡ calls.after_call (next_fails v) v.calls → record v { calls = made } ≡ after_call v
 unfolding after_call
 counted_call v made is = ap (λ c. record v { calls = c }) is
@@ -44,9 +52,9 @@ pub outside_change : (v : Volume) (t : Tree) (change : Change) → v.state ≡ s
 unfolding after_outside_change after_change
 outside_change v t change is = ap (λ u. record v { state = state_of (changed u change) }) (sym (tree_of-state_of t) ∙ ap tree_of (sym is))
 
-pub new_disk : (t : Tree) (listed : set.FinSet nat_cmp) (made : Calls) → t ≡ bare_tree → made ≡ no_calls listed → ◌≡◌ {A = Volume} (record { state = state_of t; calls = made }) (new_volume listed)
+pub new_disk : (t : Tree) (listed : set.FinSet nat_cmp) (streams : Streams) (made : Calls) → t ≡ bare_tree → streams ≡ no_streams → made ≡ no_calls listed → ◌≡◌ {A = Volume} (record { state = state_of t; streams = streams; calls = made }) (new_volume listed)
 unfolding new_volume
-new_disk t listed made bare same = λ i. record { state = state_of (bare i); calls = same i }
+new_disk t listed streams made bare none same = λ i. record { state = state_of (bare i); streams = none i; calls = same i }
 
 -- ---- a call that writes, by what its tree tells and makes
 
@@ -90,3 +98,25 @@ IsTree-changed_by t is_tree (Err refusal) possible = is_tree
 pub IsTree-written : (r : Result (Unit {0}) DiskError) (t u : Tree) → IsTree t → (told : Result Change Refusal) → ((change : Change) → told ≡ Ok change → is_possible_in t change ≡ true) → OnOk r (u ≡ changed_by t (result_ok told)) → OnErr r (u ≡ t) → IsTree u
 IsTree-written (Ok x) t u is_tree told possible made kept = subst IsTree (sym made) (IsTree-changed_by t is_tree told possible)
 IsTree-written (Err e) t u is_tree told possible made kept = subst IsTree (sym kept) is_tree
+
+-- ---- a directory that is opened, by what its tree tells
+
+module _ (t : Tree) (s : State) (path : Path) (same : state_of t ≡ s) where
+  opened-state_of : opened t path ≡ opened (tree_of s) path
+  opened-state_of = ap (λ u. opened u path) (sym (tree_of-state_of t) ∙ ap tree_of same)
+
+  pub open_refused : (e : DiskError) → Answers {A = List Entry} (Err e) (opened t path) → Answers {A = List Entry} (Err e) (opened (tree_of s) path)
+  open_refused e told = subst (Answers {A = List Entry} (Err e)) opened-state_of told
+
+  module _ (entries : List Entry) (told : opened t path ≡ Ok entries) where
+    pub open_answers : IsOk (opened (tree_of s) path)
+    open_answers = ap is_ok (sym opened-state_of ∙ told)
+
+    pub Opens-from : (seen old new : Streams) (dir : ℕ) → seen ≡ old → new ≡ with_opened seen dir entries → IsLeastClosed seen.open_dirs dir → length entries < 2 ^ 64 → Opens (Some s) path old new dir
+    Opens-from seen old new dir is put least few = record {
+      entries = entries;
+      was_free = free_number old.open_dirs dir (subst (λ q. IsLeastClosed q.open_dirs dir) is least);
+      few = few;
+      streams = put ∙ ap (λ q. with_opened q dir entries) is;
+      fixed = sym opened-state_of ∙ told;
+    }

@@ -1,19 +1,18 @@
 -- Laws of a file of one's own, for callers: a path whose spot is a file, from its making to its move, and what others
 -- may do meanwhile.
-use Rattle.std.proofs.Common.{◌≡◌, ◌≢◌, ℕ, true, false, List, [], ◌++◌, Ok, sym, ap, ◌∙◌, subst}
-use Rattle.std.proofs.lemmas.Bool.{false≢true, false_from_ne_true}
+use Rattle.std.proofs.Common.{◌≡◌, ℕ, true, false, List, [], ◌++◌, Ok, sym, ap, ◌∙◌, subst}
 use Rattle.odb_base.specs.Path.{Path}
 use Rattle.odb_disk.specs.OwnFile.{HasFile}
-use Rattle.odb_disk.specs.Tree.{Tree, IsTree, node_at}
+use Rattle.odb_disk.specs.Tree.{Tree, IsTree}
 use Rattle.odb_disk.specs.Tree.Follow.{read_of}
 use Rattle.odb_disk.specs.Tree.Change.{changed}
-use Rattle.odb_disk.specs.Tree.Write.{vacant, replaceable, file_spot, change_of_new_file, change_of_append, change_of_rename, change_of_remove}
-use Rattle.odb_disk.specs.Tree.Way.{on_way, is_link, crosses, SameOnWay}
+use Rattle.odb_disk.specs.Tree.Write.{vacant, replaceable, change_of_new_file, change_of_append, change_of_rename}
+use Rattle.odb_disk.specs.Tree.Way.{crosses, SameOnWay}
 use Rattle.odb_disk.specs.declared.change.Change.{Change}
-use Rattle.odb_disk.specs.declared.change.Change.TheVariants.{PutFile, MakeDir, Rename, Append, Remove}
+use Rattle.odb_disk.specs.declared.change.Change.TheVariants.{PutFile, MakeDir, Rename, Append}
 use Rattle.odb_disk.proofs.WriteLaws.{read_at_spot}
-use Rattle.odb_disk.proofs.WayLaws.{read_kept, file_spot_kept, spot_kept, same_unfollowed, same_put_file, same_make_dir, same_append, same_remove, same_rename, vacant_off_file, file_off_file, replaced_on_file, file_spot_own}
-use Rattle.odb_disk.proofs.WayWriteLaws.{new_file_spot, new_file_file_spot, new_file_read_through, append_spot, append_file_spot, append_read_through, rename_read_through, new_file_change, append_change, file_renamed, file_removed}
+use Rattle.odb_disk.proofs.WayLaws.{read_kept, file_spot_kept, spot_kept, same_unfollowed, same_make_dir, vacant_off_file}
+use Rattle.odb_disk.proofs.WayWriteLaws.{new_file_spot, new_file_file_spot, new_file_read_through, append_spot, append_file_spot, append_read_through, rename_read_through, new_file_change, append_change, file_renamed}
 
 -- ---- what its owner does
 
@@ -46,30 +45,8 @@ module _ (t : Tree) (is_tree : IsTree t) (path s : Path) (bytes : List ℕ) (tim
   pub moved_reads : (to p : Path) → change_of_rename t path to ≡ Ok (Rename s p) → crosses t to p ≡ false → read_of (changed t (Rename s p)) to ≡ Ok (bytes, time)
   moved_reads to p is free = rename_read_through t is_tree path to s p is has.leads free ∙ sym (read_at_spot t is_tree path s has.leads) ∙ has.reads
 
-  -- a remove takes it
-  pub removes_file : change_of_remove t path ≡ Ok (Remove s)
-  removes_file = file_removed t is_tree path s has.is has.leads
-
   -- ---- what others may do
 
-  -- they make files and directories
-  pub kept_by_new_file : (other q : Path) → vacant t other ≡ Ok q → SameOnWay t (changed t (PutFile q 0 [])) true path
-  kept_by_new_file other q free = same_put_file t true path q 0 [] (vacant_off_file t is_tree path s has.leads other q free)
-
+  -- they make directories
   pub kept_by_make_dir : (other q : Path) (dev : ℕ) → vacant t other ≡ Ok q → SameOnWay t (changed t (MakeDir q dev)) true path
   kept_by_make_dir other q dev free = same_make_dir t true path q dev (vacant_off_file t is_tree path s has.leads other q free)
-
-  -- with another file, they append, remove, and rename, but for a rename onto this file or onto a link on its way
-  module _ (other q : Path) (file : file_spot t other ≡ Ok q) (apart : q ≢ s) where
-    off : on_way t true path q ≡ false
-    off = file_off_file t is_tree path s has.leads other q file apart
-
-    pub kept_by_append : (more : List ℕ) → SameOnWay t (changed t (Append q more)) true path
-    kept_by_append more = same_append t true path q q more (file_spot_own t is_tree other q file) off
-
-    pub kept_by_remove : SameOnWay t (changed t (Remove q)) true path
-    kept_by_remove = same_remove t true path q off
-
-    pub kept_by_rename : (to p : Path) → replaceable t to ≡ Ok p → p ≢ s → (is_link (node_at t p) ≡ true → on_way t true path p ≡ false) → SameOnWay t (changed t (Rename q p)) true path
-    kept_by_rename to p free away unlinked =
-        same_rename t true path q p off (false_from_ne_true _ (λ on. false≢true (sym (unlinked (replaced_on_file t is_tree path s has.leads to p free away on)) ∙ on)))

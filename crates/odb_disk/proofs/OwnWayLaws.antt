@@ -1,21 +1,20 @@
 -- Laws of a file of one's own and of its way, for callers: what is left of them by a change that another writer makes, who
 -- makes files and directories where nothing stands, and appends, moves and removes a file of his own.
-use Rattle.std.proofs.Common.{◌≡◌, ◌≢◌, ◌⊎◌, inl, inr, ℕ, Bool, true, false, List, [], ◌∷◌, ◌++◌, length, drop, Option, Some, None, Ok, Err, refl, sym, ap, ◌∙◌, subst}
+use Rattle.std.proofs.Common.{◌≡◌, ◌≢◌, ◌⊎◌, inl, inr, ℕ, Bool, true, false, List, [], ◌∷◌, ◌++◌, length, drop, Some, None, Ok, Err, refl, sym, ap, ◌∙◌, subst}
 use Rattle.std.proofs.lemmas.Bool.{false≢true, false_from_ne_true, or_from}
 use Rattle.std.proofs.lemmas.List.{append_cancel_left}
 use Rattle.odb_base.specs.Path.{Name, Path}
 use Rattle.odb_base.specs.PathLaws.{parent_of-push}
 use Rattle.odb_disk.specs.Tree.{Tree, IsTree, node_at, is_directory, is_directory_content}
 use Rattle.odb_disk.specs.Tree.Follow as following
-use Rattle.odb_disk.specs.Tree.Follow.{Place, followed, read_of}
+use Rattle.odb_disk.specs.Tree.Follow.{followed, read_of}
 use Rattle.odb_disk.specs.Tree.Change.{changed, is_file_content, lies_in_directory}
-use Rattle.odb_disk.specs.Tree.Write.{WrongKind, from_followed, in_directory, and_then, file_path, spot, spot_below, vacant, movable, replaceable, removable, file_spot, change_of_make_dir, change_of_new_file, change_of_append, change_of_rename, change_of_remove}
+use Rattle.odb_disk.specs.Tree.Write.{WrongKind, from_followed, in_directory, and_then, file_path, spot, spot_below, vacant, movable, replaceable, file_spot, change_of_make_dir, change_of_new_file, change_of_append, change_of_rename, change_of_remove}
 use Rattle.odb_disk.specs.Tree.Write as writing
 use Rattle.odb_disk.specs.Tree.Way.{on_way, is_link, crosses, SameOnWay}
 use Rattle.odb_disk.specs.declared.node.Node.{Node}
 use Rattle.odb_disk.specs.declared.change.Change.{Change}
-use Rattle.odb_disk.specs.declared.change.Change.TheVariants.{PutFile, MakeDir, Rename, Append, Remove}
-use Rattle.odb_disk.proofs.TreeLemmas.{cases_path}
+use Rattle.odb_disk.specs.declared.change.Change.TheVariants.{PutFile, MakeDir, PutLink, Rename, Append, Remove, SetTime}
 use Rattle.odb_disk.proofs.TreeLemmas.Follow.{place_stands}
 use Rattle.odb_disk.proofs.TreeLemmas.Changed.{made-rename}
 use Rattle.odb_disk.proofs.TreeLemmas.Moved.{begins, begins-own, behind-append, moved_below, moved_target}
@@ -46,6 +45,8 @@ IsOwnChange t s (MakeDir q dev) = (other : Path) × (vacant t other ≡ Ok q)
 IsOwnChange t s (Append q bytes) = (q ≡ s) × ((other : Path) × (file_spot t other ≡ Ok s))
 IsOwnChange t s (Rename q p) = (q ≡ s) × ((other : Path) × (file_spot t other ≡ Ok s)) × ((to : Path) × (replaceable t to ≡ Ok p))
 IsOwnChange t s (Remove q) = (q ≡ s) × ((other : Path) × (file_spot t other ≡ Ok s))
+IsOwnChange t s (PutLink q target) = ⊥
+IsOwnChange t s (SetTime q time) = ⊥
 
 -- a rename onto what is on the way of a path: a link, or the file that stands there
 pub record Replaces (t : Tree) (follow : Bool) (path stop s : Path) (change : Change) : Type 0 where
@@ -90,6 +91,8 @@ module _ (t : Tree) (is_tree : IsTree t) (follow : Bool) (path stop : Path) (sto
       let here : file_spot t q ≡ Ok s = ap (file_spot t) own.0 ∙ file_spot_own t is_tree own.1.0 s own.1.1 in
       inl (same_append t follow path q s bytes here (file_off own.1.0 s own.1.1 apart))
   same_or_replaces s (Remove q) own apart = inl (same_remove t follow path q (ap (on_way t follow path) own.0 ∙ file_off own.1.0 s own.1.1 apart))
+  same_or_replaces s (PutLink q target) own apart = absurd own
+  same_or_replaces s (SetTime q time) own apart = absurd own
   same_or_replaces s (Rename q p) own apart = by_target (on_way t follow path p) refl
     where
       q_off : on_way t follow path q ≡ false
@@ -257,9 +260,6 @@ module _ (Apart : Path → Type 0) (t : Tree) (is_tree : IsTree t) (front : Path
 
   -- and no call that names one changes anything
   module _ (change : Change) where
-    pub cut_no_new_file : change_of_new_file t within ≢ Ok change
-    cut_no_new_file is = let c = new_file_change t within change is in cut_no_spot c.0 (vacant_at t within c.0 c.1).is
-
     pub cut_no_dir : change_of_make_dir t within ≢ Ok change
     cut_no_dir is = let c = make_dir_change t within change is in cut_no_spot c.0 (vacant_at t within c.0 c.1).is
 

@@ -113,16 +113,6 @@ so_far_next t base last p paths so next = record {
   ];
 }
 
-pub so_far_all : (t : Tree) (base last : Path) (paths : List Path) → AreSoFar t base last paths → NoneBehind t base last → ArePathsBelow t base paths
-so_far_all t base last paths so none = record {
-  below = so.below;
-  stand = so.stand;
-  all = λ q below some. elim (so.behind q below some) [
-    | inl later ↦ absurd (false≢true (sym (ap is_some (none q below later)) ∙ some))
-    | inr is ↦ is
-  ];
-}
-
 -- how many entries come behind a path
 pub behind_count : List (Path × Node) → Path → ℕ
 behind_count [] last = 0
@@ -214,10 +204,6 @@ pub all_copied : (u : Tree) (ss ds : List Path) (i : ℕ) → i ≡ length ss �
 all_copied u ss ds i end = ap (λ xs. with_copies u xs (drop i ds)) (ap (λ k. drop k ss) end ∙ drop_all ss)
 
 -- ---- what is taken out
-
-pub taken_more : (u : Tree) (ps : List Path) (i : ℕ) (p : Path) → i < length ps → p ≡ get_or ps i p → without_all u (drop i ps) ≡ without_all (without u p) (drop (i + 1) ps)
-taken_more u ps i p h is =
-    ap (without_all u) (drop-cons ps i p h ∙ ap (λ x. x ∷ drop (suc i) ps) (sym is)) ∙ ap (λ k. without_all (without u p) (drop k ps)) (sym (add-one i))
 
 pub without_all_other : (t : Tree) (ps : List Path) (q : Path) → is_among q ps ≡ false → node_at (without_all t ps) q ≡ node_at t q
 without_all_other t [] q other = refl

@@ -8,7 +8,7 @@ use Rattle.std.proofs.lemmas.Bool.{false≢true, not-true, not_from_false, false
 use Rattle.odb_base.specs.Path.{Name, Path, path_cmp}
 use Rattle.odb_disk.specs.Tree.{Tree, IsTree, node_at, with_node, without, tree_of_entries, bare_tree, names_in, is_directory}
 use Rattle.odb_disk.specs.Tree.Nodes.{node_at-tree_of_entries}
-use Rattle.odb_disk.specs.Tree.Change.{is_taken, least_free, lies_in_directory, is_nil}
+use Rattle.odb_disk.specs.Tree.Change.{is_taken, least_free, lies_in_directory, is_nil, is_file, with_time, timed}
 use Rattle.odb_disk.specs.TreeNumbers.{is_listed, has_number, AreNumbers, IsWellKept, IsLeastFree}
 use Rattle.odb_disk.specs.declared.node.Node.{Node}
 use Rattle.odb_disk.specs.declared.node.Content.{Content}
@@ -18,6 +18,7 @@ use Rattle.odb_disk.proofs.TreeLemmas.{same_path, own_path, is_taken-node_at, Ha
 use Rattle.odb_disk.proofs.TreeLemmas.Numbers.{least_free_is}
 use Rattle.odb_disk.proofs.TreeLemmas.Follow.{IsDir-from}
 use Rattle.odb_disk.proofs.TreeLemmas.Change.{at_after_put, at_after_take, IsTree-put, IsTree-without, no_names_below, node_of}
+use Rattle.odb_disk.proofs.TreeLemmas.Changed.{IsTree-timed}
 
 -- ---- the root alone
 
@@ -70,17 +71,10 @@ or-cond : (a b : Bool) → cond a true b ≡ (a || b)
 or-cond true b = refl
 or-cond false b = refl
 
-and-cond : (a b : Bool) → cond a false b ≡ (not a && b)
-and-cond true b = refl
-and-cond false b = refl
-
 -- one number more is free
 pub freed_number : (free now : List ℕ) (at : Option Node) (node : Node) → Some node ≡ at → ((n : ℕ) → is_listed now n ≡ cond (is_at (nat_cmp node.ino) n) true (is_listed free n)) → (n : ℕ) → is_listed now n ≡ (has_number at n || is_listed free n)
 freed_number free now at node is h n =
     h n ∙ or-cond (eq_by_cmp nat_cmp node.ino n) (is_listed free n) ∙ ap (λ b. b || is_listed free n) (unsigned_tied node.ino n) ∙ ap (λ o. has_number o n || is_listed free n) is
-
-pub used_number : (free now : List ℕ) (number : ℕ) → ((n : ℕ) → is_listed now n ≡ cond (is_at (nat_cmp number) n) false (is_listed free n)) → (n : ℕ) → is_listed now n ≡ (not (number == n) && is_listed free n)
-used_number free now number h n = h n ∙ and-cond (eq_by_cmp nat_cmp number n) (is_listed free n) ∙ ap (λ b. not b && is_listed free n) (unsigned_tied number n)
 
 pub IsLeastFree-first : (free : List ℕ) (next number : ℕ) → is_listed free number ≡ true → ((q : ℕ) → is_listed free q ≡ true → is_gt (nat_cmp number q) ≡ false) → IsLeastFree free next number
 IsLeastFree-first free next number member least = record {
@@ -182,13 +176,6 @@ de_morgan true true = refl
 de_morgan true false = refl
 de_morgan false true = refl
 de_morgan false false = refl
-
-pub AreNumbers-same : (t : Tree) (next : ℕ) (free left : List ℕ) → ((n : ℕ) → is_listed left n ≡ is_listed free n) → AreNumbers t next free → AreNumbers t next left
-AreNumbers-same t next free left alike numbers = record {
-  split = λ n low high. numbers.split n low high ∙ ap not (sym (alike n));
-  above = numbers.above;
-  free_above = λ n listed. numbers.free_above n (sym (alike n) ∙ listed);
-}
 
 module _ (t : Tree) (is_tree : IsTree t) (next : ℕ) (free : List ℕ) (numbers : AreNumbers t next free) where
   pub next_above : 0 < next
@@ -320,3 +307,15 @@ IsTree-taken t u is_tree p below_root nil taken = subst IsTree (sym taken) (IsTr
 
 pub AreNumbers-taken : (t u : Tree) (is_tree : IsTree t) (next : ℕ) (free : List ℕ) (numbers : AreNumbers t next free) (p : Path) (freed : List ℕ) → ((n : ℕ) → is_listed freed n ≡ (has_number (node_at t p) n || is_listed free n)) → u ≡ without t p → AreNumbers u next freed
 AreNumbers-taken t u is_tree next free numbers p freed frees taken = subst (λ v. AreNumbers v next freed) (sym taken) (AreNumbers-without t is_tree next free numbers p freed frees)
+
+-- the time of a file is set
+module _ (t u : Tree) (is_tree : IsTree t) (next : ℕ) (free : List ℕ) (numbers : AreNumbers t next free) (p : Path) (time : ℕ) (file : is_file (node_at t p) ≡ true) (set : u ≡ with_time t p time (node_at t p)) where
+  pub IsTree-set_time : IsTree u
+  IsTree-set_time = subst IsTree (sym set) (IsTree-timed t is_tree p time file)
+
+  AreNumbers-timed : (o : Option Node) → node_at t p ≡ o → is_file o ≡ true → AreNumbers (with_time t p time o) next free
+  AreNumbers-timed None at is = absurd (false≢true is)
+  AreNumbers-timed (Some node) at is = AreNumbers-over t is_tree next free numbers p node (record node { content = timed time node.content }) at refl
+
+  pub AreNumbers-set_time : AreNumbers u next free
+  AreNumbers-set_time = subst (λ v. AreNumbers v next free) (sym set) (AreNumbers-timed (node_at t p) refl file)

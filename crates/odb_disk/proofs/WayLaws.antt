@@ -5,10 +5,10 @@ use Rattle.std.specs.Ordering.{eq_by_cmp}
 use Rattle.std.proofs.lemmas.Bool.{false≢true, false_from_ne_true, or_from}
 use Rattle.odb_base.specs.Path.{Name, Path, path_cmp, parent_of}
 use Rattle.odb_disk.specs.Tree.{Tree, IsTree, node_at, is_directory, is_directory_content}
-use Rattle.odb_disk.specs.Tree.Follow.{Place, Onward, pass, followed, meta_of_place, file_of, file_of_place, looked, read_of}
+use Rattle.odb_disk.specs.Tree.Follow.{Place, Onward, pass, followed, file_of, file_of_place, read_of}
 use Rattle.odb_disk.specs.Tree.Change.{changed, lies_in_directory, is_nil, is_file_content}
-use Rattle.odb_disk.specs.Tree.Write.{WrongKind, NotEmpty, from_followed, and_then, spot, vacant, movable_spot, movable, replaceable, removable_spot, removable, file_path, file_spot}
-use Rattle.odb_disk.specs.Tree.Way.{on_way, is_link, crosses, SameOnWay}
+use Rattle.odb_disk.specs.Tree.Write.{WrongKind, NotEmpty, from_followed, and_then, spot, vacant, movable_spot, movable, removable_spot, removable, file_path, file_spot}
+use Rattle.odb_disk.specs.Tree.Way.{on_way, is_link, SameOnWay}
 use Rattle.odb_disk.specs.declared.node.Node.{Node}
 use Rattle.odb_disk.specs.declared.node.Content.TheVariants.{Link}
 use Rattle.odb_disk.specs.declared.change.Change.{Change}
@@ -17,17 +17,17 @@ use Rattle.odb_disk.proofs.TreeLemmas.{other_path}
 use Rattle.odb_disk.proofs.TreeLemmas.Follow.{place_stands, pass_from, pass_led, pass_to_link}
 use Rattle.odb_disk.proofs.TreeLemmas.Moved.{begins}
 use Rattle.odb_disk.proofs.TreeLemmas.Change.{root_lies_nowhere, nil_names}
-use Rattle.odb_disk.proofs.TreeLemmas.MovedTree.{file_lies, file_no_directory, nothing_below}
-use Rattle.odb_disk.proofs.TreeLemmas.Write.{spot_lies, vacant_at, movable_at, replaceable_at, file_at, leads_to_itself}
+use Rattle.odb_disk.proofs.TreeLemmas.MovedTree.{file_no_directory, nothing_below}
+use Rattle.odb_disk.proofs.TreeLemmas.Write.{spot_lies, vacant_at, movable_at, file_at, leads_to_itself}
 use Rattle.odb_disk.proofs.WriteCallsLemmas.{other_nil}
-use Rattle.odb_disk.proofs.WriteLaws.{at_place, touches, untouched, read_at_spot}
+use Rattle.odb_disk.proofs.WriteLaws.{at_place, touches, untouched}
 use Rattle.odb_disk.proofs.WayLemmas.Alike.{outline, same_place}
 use Rattle.odb_disk.proofs.WayLemmas.Trod.{followed_trod}
-use Rattle.odb_disk.proofs.WayLemmas.Spots.{AlikeOnWay, places_alike, on_way_alike, file_spot_alike, spot_alike_below, spot_alike, vacant_alike, movable_alike, replaceable_alike, crosses_alike, file_no_link}
+use Rattle.odb_disk.proofs.WayLemmas.Spots.{AlikeOnWay, places_alike, on_way_alike, file_spot_alike, spot_alike_below, spot_alike}
 pub use Rattle.odb_disk.proofs.WayLemmas.Trod.{Trod, Passed, Crossed, Last, Behind}
 -- Which paths are on a way: the fronts of the path itself, each front of one that is, the way of a path with its last
--- link not followed, that of its directory, the place where the path leads, and the path's spot.
-pub use Rattle.odb_disk.proofs.WayLemmas.Spots.{own_on_way, front_on_way, unfollowed_on_way, directory_on_way, place_on_way, spot_on_way, leads_to_spot}
+-- link not followed, that of its directory, and the place where the path leads.
+pub use Rattle.odb_disk.proofs.WayLemmas.Spots.{own_on_way, front_on_way, unfollowed_on_way, directory_on_way, place_on_way, leads_to_spot}
 
 -- ---- the frame: trees with the same nodes on the way of a path
 
@@ -44,11 +44,6 @@ module _ (t u : Tree) (follow : Bool) (path : Path) (same : SameOnWay t u follow
   followed_kept =
       same_place t u (followed u follow path) (followed t follow path) (places_alike t u follow path same_outlines) (λ place is. same place.path (place_on_way t follow path place is)) (place_stands u 40 follow path) (place_stands t 40 follow path)
 
-  -- a look at it tells the same
-  pub looked_kept : looked u path follow ≡ looked t path follow
-  unfolding looked
-  looked_kept = ap meta_of_place followed_kept
-
 module _ (t u : Tree) (path : Path) (same : SameOnWay t u true path) where
   -- a read of the path gives the same
   pub read_kept : read_of u path ≡ read_of t path
@@ -64,20 +59,6 @@ module _ (t u : Tree) (path : Path) (same : SameOnWay t u false path) where
   pub spot_kept : spot u path ≡ spot t path
   spot_kept = spot_alike t u path (same_outlines t u false path same)
 
-  -- the spot is as free, as movable and as replaceable as it was
-  pub vacant_kept : vacant u path ≡ vacant t path
-  vacant_kept = vacant_alike t u path (same_outlines t u false path same)
-
-  pub movable_kept : movable u path ≡ movable t path
-  movable_kept = movable_alike t u path (same_outlines t u false path same)
-
-  pub replaceable_kept : replaceable u path ≡ replaceable t path
-  replaceable_kept = replaceable_alike t u path (same_outlines t u false path same)
-
-  -- the path crosses the same links
-  pub crosses_kept : (q : Path) → crosses u path q ≡ crosses t path q
-  crosses_kept q = crosses_alike t u path (same_outlines t u false path same) q
-
 -- the way of the path's directory is enough for its spot
 pub spot_kept_below : (t u : Tree) (path front : Path) → parent_of path ≡ Some front → SameOnWay t u true front → spot u path ≡ spot t path
 spot_kept_below t u path front parent same = spot_alike_below t u path front parent (same_outlines t u true front same)
@@ -89,10 +70,6 @@ same_unfollowed t u path same = λ q on. same q (unfollowed_on_way t path q on)
 -- and on that of the directory
 pub same_directory : (t u : Tree) (front : Path) (name : Name) → SameOnWay t u false (front ++ name ∷ []) → SameOnWay t u true front
 same_directory t u front name same = λ q on. same q (directory_on_way t front name q on)
-
--- what one step and then another leave as it was is so after both
-pub same_then : (t u v : Tree) (follow : Bool) (path : Path) → SameOnWay t u follow path → SameOnWay u v follow path → SameOnWay t v follow path
-same_then t u v follow path same then = λ q on. then q (on_way_kept t u follow path same q ∙ on) ∙ same q on
 
 -- ---- changes that leave a way as it was
 
@@ -152,16 +129,6 @@ module _ (t : Tree) (is_tree : IsTree t) (follow : Bool) (path : Path) (place : 
       off_way s (spot_lies t is_tree other s v.is directory) directory (ap is_link v.absent)
       (λ same. let both : None ≡ Some place.node = sym v.absent ∙ ap (node_at t) same ∙ place_stands t 40 follow path place leads in cc)
 
-  -- another file is off the way
-  pub file_off_way : (other s : Path) → file_spot t other ≡ Ok s → s ≢ place.path → on_way t follow path s ≡ false
-  file_off_way other s is apart =
-      let f = file_at t other s is in
-      off_way s (file_lies t is_tree s f.node f.at f.file) (file_no_directory t s f.node f.at f.file) (ap is_link f.at ∙ file_no_link f.node.content f.file) apart
-
-  -- what a rename replaces is off the way, but for a link that leads on, or the place itself
-  pub replaced_on_way : (other s : Path) → replaceable t other ≡ Ok s → s ≢ place.path → on_way t follow path s ≡ true → is_link (node_at t s) ≡ true
-  replaced_on_way other s is apart on = let r = replaceable_at t other s is in link_on_way s (spot_lies t is_tree other s r.is r.free) r.free apart on
-
 -- the same of a path that leads to a file
 module _ (t : Tree) (is_tree : IsTree t) (path r : Path) (is : file_spot t path ≡ Ok r) where
   abbrev its_place : Place
@@ -169,12 +136,6 @@ module _ (t : Tree) (is_tree : IsTree t) (path r : Path) (is : file_spot t path 
 
   pub vacant_off_file : (other s : Path) → vacant t other ≡ Ok s → on_way t true path s ≡ false
   vacant_off_file other s free = vacant_off_way t is_tree true path its_place (file_at t path r is).leads other s free
-
-  pub file_off_file : (other s : Path) → file_spot t other ≡ Ok s → s ≢ r → on_way t true path s ≡ false
-  file_off_file other s file apart = file_off_way t is_tree true path its_place (file_at t path r is).leads other s file apart
-
-  pub replaced_on_file : (other s : Path) → replaceable t other ≡ Ok s → s ≢ r → on_way t true path s ≡ true → is_link (node_at t s) ≡ true
-  replaced_on_file other s free apart on = replaced_on_way t is_tree true path its_place (file_at t path r is).leads other s free apart on
 
 -- a link that stands on a way is followed there
 pub link_leads_on : (t : Tree) → IsTree t → (q : Path) (n : Node) (target : Path) → node_at t q ≡ Some n → n.content ≡ Link target → (names : Path) → pass t true [] (q ++ names) ≡ Onward (target ++ names)
@@ -204,14 +165,6 @@ leaf_spot_below_root : (t : Tree) → IsTree t → (s : Path) → is_directory (
 leaf_spot_below_root t is_tree s other root = false≢true (sym other ∙ ap (λ p. is_directory (node_at t p)) root ∙ is_tree.root)
 
 module _ (t : Tree) (is_tree : IsTree t) (path s : Path) where
-  -- a file that can be moved is the one that the path leads to
-  pub movable_file : movable t path ≡ Ok s → (n : Node) → node_at t s ≡ Some n → is_file_content n.content ≡ true → file_spot t path ≡ Ok s
-  movable_file is n at file = let m = movable_at t path s is in file_here t path s m.is (leaf_spot_below_root t is_tree s (ap is_directory m.at ∙ m.leaf)) n at file
-
-  -- and the path reads as it does
-  pub movable_read : movable t path ≡ Ok s → (n : Node) → node_at t s ≡ Some n → is_file_content n.content ≡ true → read_of t path ≡ read_of t s
-  movable_read is n at file = read_at_spot t is_tree path s (movable_file is n at file)
-
   -- a path whose spot is the file that it leads to can be moved
   pub file_movable : spot t path ≡ Ok s → file_spot t path ≡ Ok s → movable t path ≡ Ok s
   unfolding movable

@@ -4,7 +4,7 @@ use Rattle.std.proofs.lemmas.Bool.{false≢true, false_from_ne_true, and_from, a
 use Rattle.odb_base.specs.Path.{Path, parent_of}
 use Rattle.odb_disk.specs.Tree.{Tree, IsTree, node_at, is_directory}
 use Rattle.odb_disk.specs.Tree.Follow as following
-use Rattle.odb_disk.specs.Tree.Follow.{Place, followed, meta_of_place, file_of, file_of_place, looked, read_of}
+use Rattle.odb_disk.specs.Tree.Follow.{Place, followed, meta_of_place, looked, read_of}
 use Rattle.odb_disk.specs.Tree.Change.{changed, lies_in_directory, parent_node, device_of, is_file_content, least_free, new_node, put_node, with_longer, longer}
 use Rattle.odb_disk.specs.Tree.Write.{and_then, spot, vacant, movable, replaceable, removable, file_spot, change_of_make_dir, change_of_new_file, change_of_append, change_of_rename, change_of_remove}
 use Rattle.odb_disk.specs.Tree.Way.{on_way, on_way_to, is_link, crosses, SameOnWay}
@@ -24,7 +24,7 @@ use Rattle.odb_disk.proofs.TreeLemmas.Write.{found_by, spot_lies, vacant_at, rep
 use Rattle.odb_disk.proofs.WriteCallsLemmas.{change_of_append-is, change_of_remove-is}
 use Rattle.odb_disk.proofs.WriteLaws.{read_at, read_at_spot, append_read}
 use Rattle.odb_disk.proofs.WayLemmas.Alike.{outline_content, outline}
-use Rattle.odb_disk.proofs.WayLemmas.Spots.{named_in, on_way_alike, file_spot_alike, spot_alike, vacant_alike, movable_alike, replaceable_alike, crosses_alike, file_no_link}
+use Rattle.odb_disk.proofs.WayLemmas.Spots.{named_in, file_spot_alike, spot_alike, file_no_link}
 use Rattle.odb_disk.proofs.WayLaws.{leads_to_spot, spot_kept_below, link_on_way, same_put_file, same_make_dir, same_rename, below_root, file_read, file_here, file_movable, movable_removable}
 
 -- ---- what is written at the spot of a path is seen there, through the links that the path crosses
@@ -168,31 +168,14 @@ module _ (t : Tree) (other : Path) (more : List ℕ) where
   append_alike : (q : Path) → outline (node_at (changed t (Append other more)) q) ≡ outline (node_at t q)
   append_alike q = ap (λ u. outline (node_at u q)) (made-append t other more) ∙ longer_alike (followed t true other) (place_stands t 40 true other) q
 
-  -- each way is as it was
-  pub append_on_way : (follow : Bool) (path q : Path) → on_way (changed t (Append other more)) follow path q ≡ on_way t follow path q
-  append_on_way follow path q = on_way_alike t (changed t (Append other more)) follow path (λ p _. append_alike p) q
-
   module _ (path : Path) where
     -- each path leads to the file that it led to
     pub append_file_spot : file_spot (changed t (Append other more)) path ≡ file_spot t path
     append_file_spot = file_spot_alike t (changed t (Append other more)) path (λ p _. append_alike p)
 
-    -- each spot is where it was, as free, as movable and as replaceable
+    -- each spot is where it was
     pub append_spot : spot (changed t (Append other more)) path ≡ spot t path
     append_spot = spot_alike t (changed t (Append other more)) path (λ p _. append_alike p)
-
-    pub append_vacant : vacant (changed t (Append other more)) path ≡ vacant t path
-    append_vacant = vacant_alike t (changed t (Append other more)) path (λ p _. append_alike p)
-
-    pub append_movable : movable (changed t (Append other more)) path ≡ movable t path
-    append_movable = movable_alike t (changed t (Append other more)) path (λ p _. append_alike p)
-
-    pub append_replaceable : replaceable (changed t (Append other more)) path ≡ replaceable t path
-    append_replaceable = replaceable_alike t (changed t (Append other more)) path (λ p _. append_alike p)
-
-    -- each path crosses the links that it crossed
-    pub append_crosses : (q : Path) → crosses (changed t (Append other more)) path q ≡ crosses t path q
-    append_crosses q = crosses_alike t (changed t (Append other more)) path (λ p _. append_alike p) q
 
 -- a path that leads to the file reads the piece behind what it read before
 pub append_read_through : (t : Tree) → IsTree t → (path s : Path) → file_spot t path ≡ Ok s → (bytes more : List ℕ) (time : ℕ) → read_of t path ≡ Ok (bytes, time) → read_of (changed t (Append s more)) path ≡ Ok (bytes ++ more, time)

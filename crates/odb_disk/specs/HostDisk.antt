@@ -1,12 +1,17 @@
 -- What a real disk makes of the system's answers.
-use Rattle.std.specs.Prelude.{ℕ, ◌+◌, ◌-◌, ◌*◌, ◌^◌, ◌==◌, min, ℤ, pos, Option, Some, None, if◌then◌else◌}
+use Rattle.std.specs.Prelude.{◌≡◌, ℕ, ◌+◌, ◌-◌, ◌*◌, ◌^◌, ◌==◌, ◌++◌, ◌||◌, Bool, true, false, not, min, ℤ, pos, [], Option, Some, None, Result, Ok, Err, if◌then◌else◌}
+use Rattle.std.specs.List.{cons_option}
 use Rattle.std.specs.declared.io.ErrorKind.{ErrorKind}
 use Rattle.std.specs.declared.io.ErrorKind.TheVariants.{NotFound, NotADirectory, IsADirectory, FilesystemLoop, AlreadyExists, DirectoryNotEmpty}
 use Rattle.std.specs.declared.fs.FileType.{FileType}
+use Rattle.odb_base.specs.Path.{Name, is_name}
+use Rattle.odb_disk.specs.declared.disk.Entry.{Entry}
 use Rattle.odb_disk.specs.declared.disk.Kind.{Kind}
 use Rattle.odb_disk.specs.declared.disk.Kind.TheVariants.{File, Dir, Link}
+use Rattle.odb_disk.specs.declared.disk.Meta.{Meta}
 use Rattle.odb_disk.specs.declared.disk.DiskError.{DiskError}
 use Rattle.odb_disk.specs.declared.disk.DiskError.TheVariants as errors
+use Rattle.odb_disk.specs.declared.host_disk.Listing.{Listing}
 
 -- the refusal that an error of the system is. The disk failed where it is another error than these
 abbrev pub refusal_of : ErrorKind → DiskError
@@ -28,3 +33,25 @@ kind_of t =
 abbrev pub time_of : ℤ → ℤ → ℕ
 time_of (pos seconds) (pos nanoseconds) = min (seconds * 1_000_000_000 + nanoseconds) (2 ^ 64 - 1)
 time_of seconds nanoseconds = 0
+
+-- the entry of a name that was read in a directory, by what a look at it told. What is no name has none
+abbrev pub found_entry : Name → Result Meta DiskError → Option Entry
+found_entry name (Ok meta) = if is_name name then Some (record { name = name; kind = meta.kind; ino = meta.ino }) else None
+found_entry name (Err error) = None
+
+-- whether what was read is passed over, so that a call fails for it. A node that is gone by now isn't
+abbrev pub is_odd : Name → Result Meta DiskError → Bool
+is_odd name (Ok meta) = not (is_name name)
+is_odd name (Err errors.Absent) = false
+is_odd name (Err errors.WrongKind) = true
+is_odd name (Err errors.LinkLoop) = true
+is_odd name (Err errors.Exists) = true
+is_odd name (Err errors.NotEmpty) = true
+is_odd name (Err errors.Failed) = true
+is_odd name (Err errors.NoMemory) = true
+
+-- A name was read in a directory: a look at it told something, and by that its entry is added, or it is passed over.
+pub record Finds (name : Name) (old new : Listing) : Type 0 where
+  pub seen : Result Meta DiskError
+  pub entries : new.entries ≡ old.entries ++ cons_option (found_entry name seen) []
+  pub passed_over : new.passed_over ≡ (old.passed_over || is_odd name seen)

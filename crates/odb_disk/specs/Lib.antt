@@ -2,6 +2,7 @@ pub use Rattle.odb_base.specs.Faults
 pub mod Node
 pub mod Tree
 pub mod Disk
+pub mod Streams
 pub mod MemDisk
 pub mod Ask
 pub mod Source

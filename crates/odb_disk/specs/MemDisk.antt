@@ -1,4 +1,4 @@
--- A disk in memory: its state, and its calls, of which some are to fail.
+-- A disk in memory: its state, its open streams, and its calls, of which some are to fail.
 use Rattle.std.specs.Prelude.{Bool, refl}
 use Rattle.std.specs.Ordering.{nat_cmp}
 use Rattle.std.specs.FinSet as set
@@ -7,21 +7,24 @@ use Rattle.odb_disk.specs.Calls as calls
 use Rattle.odb_disk.specs.Calls.{Calls, coded_calls, no_calls}
 use Rattle.odb_disk.specs.Tree.{State, coded_state, state_of, bare_tree}
 use Rattle.odb_disk.specs.Tree.Change.{after_change}
+use Rattle.odb_disk.specs.Streams.{Streams, coded_streams, no_streams}
 use Rattle.odb_disk.specs.declared.change.Change.{Change}
 
 -- a disk in memory at one moment
 pub record Volume : Type 0 where
   pub state : State
+  pub streams : Streams
   pub calls : Calls
 
 abbrev pub coded_volume : Coded Volume
-coded_volume = code_by (State × Calls) (coded× coded_state coded_calls) (λ v. (v.state, v.calls)) (λ p. record { state = p.0; calls = p.1 }) (λ _. refl)
+coded_volume =
+    code_by (State × (Streams × Calls)) (coded× coded_state (coded× coded_streams coded_calls)) (λ v. (v.state, (v.streams, v.calls))) (λ p. record { state = p.0; streams = p.1.0; calls = p.1.1 }) (λ _. refl)
 
 -- whether the next call fails
 abbrev pub next_fails : Volume → Bool
 next_fails volume = calls.next_fails volume.calls
 
--- the disk after a call that changes no tree
+-- the disk after a call that changes no tree and no stream
 unfoldable pub after_call : Volume → Volume
 after_call volume = record volume { calls = calls.after_call (next_fails volume) volume.calls }
 
@@ -31,4 +34,4 @@ after_outside_change volume change = record volume { state = after_change volume
 
 -- a new disk: the root alone, and the calls that are to fail
 unfoldable pub new_volume : set.FinSet nat_cmp → Volume
-new_volume listed = record { state = state_of bare_tree; calls = no_calls listed }
+new_volume listed = record { state = state_of bare_tree; streams = no_streams; calls = no_calls listed }

@@ -22,3 +22,13 @@ abbrev pub Writes : Option (List ℕ) → Option (List ℕ) → List ℕ → Res
 Writes None now bytes result = now ≡ None
 Writes (Some held) now bytes (Ok n) = now ≡ Some (held ++ take n bytes)
 Writes (Some held) now bytes (Err failed) = now ≡ Some held
+
+-- a sink that tells has these bytes behind what it held
+abbrev pub Adds : Option (List ℕ) → Option (List ℕ) → List ℕ → Type 0
+Adds None now bytes = Unit {0}
+Adds (Some held) now bytes = now ≡ Some (held ++ bytes)
+
+-- Bytes were read of a source: all that were left, or a front of them that is longer than the limit.
+abbrev pub ReadsFile : ℕ → Option (List ℕ) → Option (List ℕ) → List ℕ → Type 0
+ReadsFile limit None now bytes = Unit {0}
+ReadsFile limit (Some left) now bytes = (rest : List ℕ) × (left ≡ bytes ++ rest) × (now ≡ Some rest) × (length bytes ≤ limit → rest ≡ [])

@@ -76,6 +76,7 @@ impl DiskAsk {
     pub fn carry_out<D: Disk>(&self, alloc: Global, disk: &mut D) -> DiskAnswer
         ensures answer { IfSome (D.state disk.old) (λ s. AnswersAsk result (answer_of (tree_of s) self.now)) }
         ensures state { D.state disk.new ≡ state_told_after (D.state disk.old) self.now result }
+        ensures streams { D.streams disk.new ≡ D.streams disk.old }
         ensures tree { IfSome (D.state disk.old) (λ s. IsTree (tree_of s)) }
         ensures later { D.faults disk.old ≤ D.faults disk.new }
         ensures cause { result ≡ DiskAnswer.Refused DiskError.Failed → Rose (D.faults disk.old) (D.faults disk.new) }
@@ -114,6 +115,7 @@ impl MemDisk {
     fn answer_to(&mut self, alloc: Global, ask: &DiskAsk) -> DiskAnswer
         ensures answer { AnswersAsk result (answer_of (tree_of self.old.state) ask.now) }
         ensures state { self.new.state ≡ state_after self.old.state ask.now result }
+        ensures streams { self.new.streams ≡ self.old.streams }
         ensures counted { self.new.calls ≡ (after_call self.old).calls }
         ensures failed { (result ≡ DiskAnswer.Refused DiskError.Failed) ↔ (next_fails self.old ≡ true) }
     {

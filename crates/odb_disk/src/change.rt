@@ -19,6 +19,12 @@ pub enum Change {
         path: PathText,
         dev: u64,
     },
+    /// Puts a link to another path where none is, or another target into the one that is there. Nothing need stand at
+    /// the target.
+    PutLink {
+        path: PathText,
+        target: PathText,
+    },
     /// Moves a file or a link over nothing, a file or a link, or a directory with all below it to where nothing
     /// stands. Each node keeps its device and its inode number.
     Rename {
@@ -33,6 +39,11 @@ pub enum Change {
     /// Removes a file, a link or an empty directory.
     Remove {
         path: PathText,
+    },
+    /// Sets the time of a file.
+    SetTime {
+        path: PathText,
+        time: u64,
     },
 }
 
@@ -53,6 +64,10 @@ impl Change {
                 path: path.try_clone(alloc)?,
                 dev: *dev,
             }),
+            Change::PutLink { path, target } => Ok(Change::PutLink {
+                path: path.try_clone(alloc)?,
+                target: target.try_clone(alloc)?,
+            }),
             Change::Rename { from, to } => Ok(Change::Rename {
                 from: from.try_clone(alloc)?,
                 to: to.try_clone(alloc)?,
@@ -63,6 +78,10 @@ impl Change {
             }),
             Change::Remove { path } => Ok(Change::Remove {
                 path: path.try_clone(alloc)?,
+            }),
+            Change::SetTime { path, time } => Ok(Change::SetTime {
+                path: path.try_clone(alloc)?,
+                time: *time,
             }),
         }
     }

@@ -1,12 +1,14 @@
-ghost use Rattle.std.specs.Prelude.{◌≡◌, ℕ, Option, IfSome, OnOk, OnErr};
+ghost use Rattle.std.specs.Prelude.{◌≡◌, ℕ, Option, IfOk, IfSome, OnOk, OnErr};
 ghost use Rattle.odb_disk.specs.declared.disk.DiskError.TheVariants.{NoMemory as out_of_memory};
 ghost use Rattle.odb_disk.specs.Tree.{IsTree, State, tree_of};
 ghost use Rattle.odb_disk.specs.Tree.Follow.{looked, read_of};
 ghost use Rattle.odb_disk.specs.Tree.Write.{change_of_make_dir, change_of_new_file, change_of_append, change_of_rename, change_of_remove, done, written_as};
 ghost use Rattle.odb_disk.specs.Disk.{Answers, AnswersWrite, FailsOnlyByFault};
+ghost use Rattle.odb_disk.specs.Streams.{Streams, AnswersOpen, Opens, Gives, opened, with_closed};
 
-use crate::{ByteList, NoMemory, PathText};
+use crate::{ByteList, NoMemory, PathName, PathText};
 use std::alloc::{AllocError, AllocFailed, Global};
+use std::marker::Model;
 use thiserror::Error;
 
 /// What stands at a path.
@@ -29,6 +31,60 @@ pub struct Meta {
     pub len: u64,
     /// The time of a file, else 0. On a real disk, nanoseconds since 1970.
     pub time: u64,
+}
+
+/// What a stream of a directory gives.
+#[derive(Debug, Drop, PartialEq, Eq)]
+pub struct Entry {
+    /// The name in the directory.
+    pub name: PathName,
+    /// What stands there. A link isn't followed.
+    pub kind: Kind,
+    /// The inode number.
+    pub ino: u64,
+}
+
+impl Entry {
+    /// A copy of the entry.
+    pub fn try_clone(&self, alloc: Global) -> Result<Entry, NoMemory>
+        ensures { IfOk result (λ copy. copy ≡ self.now) }
+    {
+        Ok(Entry {
+            name: self.name.try_clone(alloc)?,
+            kind: self.kind,
+            ino: self.ino,
+        })
+    }
+}
+
+/// The number of an open stream of a directory.
+#[derive(Clone, Copy, Debug, PartialEq, Eq, Hash)]
+pub struct DirId {
+    number: u64,
+}
+
+impl Model for DirId {
+    ghost Value = { ℕ };
+
+    ghost view = { λ dir. dir.number };
+
+    ghost inverse = { λ number. record { number = number } };
+}
+
+impl DirId {
+    /// The stream with this number.
+    pub(crate) fn new(number: u64) -> DirId
+        ensures { result ≡ number }
+    {
+        DirId { number }
+    }
+
+    /// The number of the stream.
+    pub fn number(&self) -> u64
+        ensures { result ≡ self.now }
+    {
+        self.number
+    }
 }
 
 /// Why a call of a disk was refused.
@@ -83,10 +139,14 @@ impl<T: Drop> From<AllocFailed<T>> for DiskError {
 /// A disk: a tree of directories, files and links that other programs change too.
 ///
 /// A state that is told shows a tree. A refused call leaves it as it was, and a call that writes makes the change
-/// that its word in `specs/Tree/Write.antt` gives.
+/// that its word in `specs/Tree/Write.antt` gives. Each disk tells its open streams: `open_dir`, `next_entry` and
+/// `close_dir` change them as `specs/Streams.antt` says, and no other call does.
 pub trait Disk {
     /// The state of the disk, where it tells it.
     ghost state: { Self → Option State };
+
+    /// The open streams, and the most that were open at one time so far.
+    ghost streams: { Self → Streams };
 
     /// How often a call has failed: a count that never falls.
     ghost faults: { Self → ℕ };
@@ -96,6 +156,7 @@ pub trait Disk {
         ensures answer { IfSome (state self.old) (λ s. Answers result (looked (tree_of s) path.now follow)) }
         ensures tree { IfSome (state self.old) (λ s. IsTree (tree_of s)) }
         ensures kept { state self.new ≡ state self.old }
+        ensures streams { streams self.new ≡ streams self.old }
         ensures cause { FailsOnlyByFault (faults self.old) (faults self.new) result };
 
     /// Reads the bytes and the time of a file, links followed.
@@ -103,7 +164,29 @@ pub trait Disk {
         ensures answer { IfSome (state self.old) (λ s. Answers result (read_of (tree_of s) path.now)) }
         ensures tree { IfSome (state self.old) (λ s. IsTree (tree_of s)) }
         ensures kept { state self.new ≡ state self.old }
+        ensures streams { streams self.new ≡ streams self.old }
         ensures cause { FailsOnlyByFault (faults self.old) (faults self.new) result };
+
+    /// Opens a directory, links followed. What its stream gives is fixed then.
+    fn open_dir(&mut self, alloc: Global, path: &PathText) -> Result<DirId, DiskError>
+        ensures answer { IfSome (state self.old) (λ s. AnswersOpen result (opened (tree_of s) path.now)) }
+        ensures opened { IfOk result (λ dir. Opens (state self.old) path.now (streams self.old) (streams self.new) dir) }
+        ensures refused { OnErr result (streams self.new ≡ streams self.old) }
+        ensures tree { IfSome (state self.old) (λ s. IsTree (tree_of s)) }
+        ensures kept { state self.new ≡ state self.old }
+        ensures cause { FailsOnlyByFault (faults self.old) (faults self.new) result };
+
+    /// Takes the next entry of a stream, if one is left. A stream that isn't open is absent.
+    fn next_entry(&mut self, alloc: Global, dir: &DirId) -> Result<Option<Entry>, DiskError>
+        ensures gives { Gives (streams self.old) (streams self.new) dir.now result }
+        ensures kept { state self.new ≡ state self.old }
+        ensures cause { FailsOnlyByFault (faults self.old) (faults self.new) result };
+
+    /// Closes a stream, and does nothing where it isn't open. It takes no memory, and is never refused.
+    fn close_dir(&mut self, dir: DirId)
+        ensures closed { streams self.new ≡ with_closed (streams self.old) dir }
+        ensures kept { state self.new ≡ state self.old }
+        ensures faults { faults self.new ≡ faults self.old };
 
     /// Makes a directory where nothing stands. A link in the last place isn't followed.
     fn make_dir(&mut self, alloc: Global, path: &PathText) -> Result<(), DiskError>
@@ -111,6 +194,7 @@ pub trait Disk {
         ensures tree { IfSome (state self.old) (λ s. IsTree (tree_of s)) }
         ensures made { OnOk result (state self.new ≡ written_as (λ t. change_of_make_dir t path.now) (state self.old)) }
         ensures kept { OnErr result (state self.new ≡ state self.old) }
+        ensures streams { streams self.new ≡ streams self.old }
         ensures cause { FailsOnlyByFault (faults self.old) (faults self.new) result };
 
     /// Makes an empty file where nothing stands. A link in the last place isn't followed.
@@ -119,6 +203,7 @@ pub trait Disk {
         ensures tree { IfSome (state self.old) (λ s. IsTree (tree_of s)) }
         ensures made { OnOk result (state self.new ≡ written_as (λ t. change_of_new_file t path.now) (state self.old)) }
         ensures kept { OnErr result (state self.new ≡ state self.old) }
+        ensures streams { streams self.new ≡ streams self.old }
         ensures cause { FailsOnlyByFault (faults self.old) (faults self.new) result };
 
     /// Adds bytes at the end of a file, links followed. Its time stays as it was where the tree is told.
@@ -127,6 +212,7 @@ pub trait Disk {
         ensures tree { IfSome (state self.old) (λ s. IsTree (tree_of s)) }
         ensures made { OnOk result (state self.new ≡ written_as (λ t. change_of_append t path.now bytes.now) (state self.old)) }
         ensures kept { OnErr result (state self.new ≡ state self.old) }
+        ensures streams { streams self.new ≡ streams self.old }
         ensures cause { FailsOnlyByFault (faults self.old) (faults self.new) result };
 
     /// Moves a file or a link over nothing, a file or a link. A link in the last place isn't followed.
@@ -135,6 +221,7 @@ pub trait Disk {
         ensures tree { IfSome (state self.old) (λ s. IsTree (tree_of s)) }
         ensures made { OnOk result (state self.new ≡ written_as (λ t. change_of_rename t from.now to.now) (state self.old)) }
         ensures kept { OnErr result (state self.new ≡ state self.old) }
+        ensures streams { streams self.new ≡ streams self.old }
         ensures cause { FailsOnlyByFault (faults self.old) (faults self.new) result };
 
     /// Removes a file, a link or an empty directory. A link in the last place isn't followed.
@@ -143,5 +230,6 @@ pub trait Disk {
         ensures tree { IfSome (state self.old) (λ s. IsTree (tree_of s)) }
         ensures made { OnOk result (state self.new ≡ written_as (λ t. change_of_remove t path.now) (state self.old)) }
         ensures kept { OnErr result (state self.new ≡ state self.old) }
+        ensures streams { streams self.new ≡ streams self.old }
         ensures cause { FailsOnlyByFault (faults self.old) (faults self.new) result };
 }

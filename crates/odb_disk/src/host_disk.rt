@@ -1,42 +1,61 @@
-ghost use Rattle.std.specs.Prelude.{◌≡◌, ◌≢◌, ◌≤◌, ◌++◌, length, None, Some, OnOk, IfOk, IfErr, IfSome, vec_len};
+ghost use Rattle.std.specs.Prelude.{◌≡◌, ◌≢◌, ◌≤◌, ◌||◌, ◌++◌, [], true, false, length, nat_eq, None, Some, Err, OnOk, OnErr, IfOk, IfErr};
 ghost use Rattle.std.specs.Result.{result_map_both};
+ghost use Rattle.std.specs.List.{cons_option, list_any};
 ghost use Rattle.std.specs.IoError.{error_kind};
-ghost use Rattle.std.specs.Fs.{file_type, metadata_len};
+ghost use Rattle.std.specs.Fs.{dir_entry_name, file_type, metadata_len};
+ghost use Rattle.odb_base.specs.Path.{Path};
 ghost use Rattle.odb_disk.specs.Disk.{FailsOnlyByFault};
-ghost use Rattle.odb_disk.specs.HostDisk.{refusal_of, kind_of, time_of};
+ghost use Rattle.odb_disk.specs.HostDisk.{refusal_of, kind_of, time_of, found_entry, is_odd, Finds};
+ghost use Rattle.odb_disk.specs.Streams.{no_streams, Opens, Gives, with_closed};
 
-use crate::{ByteList, Disk, DiskError, Kind, Meta, PathText, Sink, Source, StdSink, StdSource};
-use std::alloc::Global;
-use std::fs::{self, File, Metadata, OpenFile, OpenOptions};
+use crate::dir_streams::{DirStreams, EntryQueue};
+use crate::{
+    ByteList, DirId, Disk, DiskError, Entry, Failed, Kind, Meta, NoMemory, PathName, PathText,
+    ReadError, StdSink, StdSource, read_file, write_all,
+};
+use std::alloc::{Allocator, Global};
+use std::fs::{self, DirEntry, File, Metadata, OpenFile, OpenOptions};
 use std::io::{self, ErrorKind};
 use std::os::unix::fs::MetadataExt;
 use std::rt::Files;
 
 /// The most bytes that are read of one file.
-const LONGEST_FILE: u64 = 4_294_967_296;
+const LONGEST_FILE: usize = 4_294_967_296;
 
-/// How many bytes are asked for at a time.
-const PIECE: usize = 32_768;
+/// The most entries that are read of one directory.
+const MOST_ENTRIES: usize = 16_777_216;
 
 /// A real disk, through std's files. It doesn't tell its tree.
 ///
 /// What stands there counts as a fault of the disk where it is no file, directory or link, or is a file of
-/// more than 4,294,967,296 bytes, as does each error of the system that isn't one of absence, of a part of
-/// the way that is no directory, of too many links, of a node that is there already, or of a directory with
-/// entries or in place of a file.
+/// more than 4,294,967,296 bytes or a directory of more than 16,777,216 entries, as does each error of the system
+/// that isn't one of absence, of a part of the way that is no directory, of too many links, of a node that is there
+/// already, or of a directory with entries or in place of a file.
+///
+/// `open_dir` reads the whole directory. Names in it that aren't UTF-8, and nodes that are no file, directory or link,
+/// are passed over: after the other entries one call of `next_entry` fails for them.
 #[derive(Debug, Drop)]
 pub struct HostDisk<R> {
     rt: R,
+    streams: DirStreams,
+    /// The open streams that passed something over, until a call failed for it.
+    odd: Vec<u64>,
     faults: u64,
 }
 
 impl<R: Files> HostDisk<R> {
     /// The disk that a runtime reaches.
-    pub fn new(rt: R) -> HostDisk<R>
+    pub fn new(alloc: Global, rt: R) -> HostDisk<R>
         ensures runtime { result.rt ≡ rt }
+        ensures streams { result.streams ≡ no_streams }
         ensures faults { result.faults ≡ 0 }
     {
-        HostDisk { rt, faults: 0 }
+        HostDisk {
+            rt,
+            streams: DirStreams::new(alloc),
+            odd: Vec::new(alloc),
+            faults: 0,
+        }
     }
 
     /// How many calls have failed so far.
@@ -52,14 +71,98 @@ impl<R: Files> HostDisk<R> {
     {
         self.rt
     }
+
+    /// Opens a stream of what was read. A refused call changes nothing.
+    fn open(&mut self, listing: Listing) -> Result<DirId, NoMemory>
+        ensures opened { IfOk result (λ dir. (path : Path) → Opens None path self.old.streams self.new.streams dir) }
+        ensures odd { IfOk result (λ dir. listing.passed_over ≡ true → list_any (λ number. nat_eq number dir) self.new.odd.items ≡ true) }
+        ensures refused { OnErr result (self.new.streams ≡ self.old.streams) }
+        ensures faults { self.new.faults ≡ self.old.faults }
+    {
+        self.odd.reserve(1)?;
+        let dir = self.streams.open(listing.entries)?;
+        if listing.passed_over {
+            let Ok(()) = self.odd.push(dir.number()) else {
+                unreachable!("there is room for one more");
+            };
+        }
+        Ok(dir)
+    }
+
+    /// Fails once where a stream passed something over.
+    fn passed_over(&mut self, dir: &DirId) -> Result<(), DiskError>
+        ensures same { (self.new.streams ≡ self.old.streams) × (self.new.faults ≡ self.old.faults) }
+        ensures passed { OnOk result (list_any (λ number. nat_eq number dir.now) self.old.odd.items ≡ false) }
+        ensures failed { IfErr result (λ e. e ≡ DiskError.Failed) }
+    {
+        let number = dir.number();
+        if !self.odd.contains(&number) {
+            return Ok(());
+        }
+        self.odd.retain(|odd| *odd != number);
+        Err(DiskError::Failed)
+    }
 }
 
-impl<R: Files> Disk for HostDisk<R> {
+/// What was read of a directory.
+#[derive(Debug, Drop)]
+pub(crate) struct Listing {
+    pub(crate) entries: EntryQueue,
+    /// Whether something in the directory was passed over.
+    pub(crate) passed_over: bool,
+}
+
+impl Listing {
+    /// Adds a name that was read. What can't be told of it is passed over.
+    fn add_found<R: Files + Drop, A: Allocator + Drop>(
+        &mut self,
+        alloc: Global,
+        found: io::Result<DirEntry<R, A>>,
+    ) -> Result<(), NoMemory>
+        ensures found { OnOk result (IfOk found (λ entry. Finds (dir_entry_name entry) self.old self.new)) }
+        ensures unread { OnOk result (IfErr found (λ _. (self.new.entries ≡ self.old.entries) × (self.new.passed_over ≡ true))) }
+    {
+        match found {
+            Ok(found) => {
+                let name = PathName::new(alloc, found.file_name())?;
+                self.add(name, entry_meta(found.metadata()))
+            }
+            Err(_) => {
+                self.passed_over = true;
+                Ok(())
+            }
+        }
+    }
+
+    /// Adds the entry of a name, by what a look at it told. A node that is gone by now has none.
+    fn add(&mut self, name: PathName, seen: Result<Meta, DiskError>) -> Result<(), NoMemory>
+        ensures entries { OnOk result (self.new.entries ≡ self.old.entries ++ cons_option (found_entry name seen) []) }
+        ensures passed_over { OnOk result (self.new.passed_over ≡ (self.old.passed_over || is_odd name seen)) }
+    {
+        match seen {
+            Ok(meta) if name.is_name() => self.entries.push(Entry {
+                name,
+                kind: meta.kind,
+                ino: meta.ino,
+            }),
+            Err(DiskError::Absent) => Ok(()),
+            _ => {
+                self.passed_over = true;
+                Ok(())
+            }
+        }
+    }
+}
+
+impl<R: Files + Alloc + Clone + Drop> Disk for HostDisk<R> {
     ghost state = { λ _. None };
+
+    ghost streams = { λ d. d.streams };
 
     ghost faults = { λ d. d.faults };
 
     fn look(&mut self, alloc: Global, path: &PathText, follow: bool) -> Result<Meta, DiskError>
+        ensures streams { self.new.streams ≡ self.old.streams }
         ensures cause { FailsOnlyByFault self.old.faults self.new.faults result }
         ensures bare { IfOk result (λ meta. meta.kind ≢ Kind.File → (meta.len ≡ 0) × (meta.time ≡ 0)) }
     {
@@ -69,6 +172,7 @@ impl<R: Files> Disk for HostDisk<R> {
     }
 
     fn read(&mut self, alloc: Global, path: &PathText) -> Result<(ByteList, u64), DiskError>
+        ensures streams { self.new.streams ≡ self.old.streams }
         ensures cause { FailsOnlyByFault self.old.faults self.new.faults result }
         ensures short { IfOk result (λ file. length file.0 ≤ LONGEST_FILE) }
     {
@@ -77,7 +181,42 @@ impl<R: Files> Disk for HostDisk<R> {
         counted(&mut self.faults, found)
     }
 
+    fn open_dir(&mut self, alloc: Global, path: &PathText) -> Result<DirId, DiskError>
+        ensures opened { IfOk result (λ dir. Opens None path.now self.old.streams self.new.streams dir) }
+        ensures refused { OnErr result (self.new.streams ≡ self.old.streams) }
+        ensures cause { FailsOnlyByFault self.old.faults self.new.faults result }
+    {
+        let text = path.to_text(alloc)?;
+        let listed = list_at(&self.rt, alloc, text.as_str(), MOST_ENTRIES);
+        let listing = counted(&mut self.faults, listed)?;
+        Ok(self.open(listing)?)
+    }
+
+    fn next_entry(&mut self, _alloc: Global, dir: &DirId) -> Result<Option<Entry>, DiskError>
+        ensures gives { Gives self.old.streams self.new.streams dir.now result }
+        ensures cause { FailsOnlyByFault self.old.faults self.new.faults result }
+    {
+        match self.streams.next(dir) {
+            Some(Some(entry)) => Ok(Some(entry)),
+            Some(None) => {
+                let passed_over = self.passed_over(dir);
+                counted(&mut self.faults, passed_over)?;
+                Ok(None)
+            }
+            None => Err(DiskError::Absent),
+        }
+    }
+
+    fn close_dir(&mut self, dir: DirId)
+        ensures closed { self.new.streams ≡ with_closed self.old.streams dir }
+        ensures faults { self.new.faults ≡ self.old.faults }
+    {
+        let _ = self.passed_over(&dir);
+        self.streams.close(&dir);
+    }
+
     fn make_dir(&mut self, alloc: Global, path: &PathText) -> Result<(), DiskError>
+        ensures streams { self.new.streams ≡ self.old.streams }
         ensures cause { FailsOnlyByFault self.old.faults self.new.faults result }
     {
         let text = path.to_text(alloc)?;
@@ -86,6 +225,7 @@ impl<R: Files> Disk for HostDisk<R> {
     }
 
     fn new_file(&mut self, alloc: Global, path: &PathText) -> Result<(), DiskError>
+        ensures streams { self.new.streams ≡ self.old.streams }
         ensures cause { FailsOnlyByFault self.old.faults self.new.faults result }
     {
         let text = path.to_text(alloc)?;
@@ -94,6 +234,7 @@ impl<R: Files> Disk for HostDisk<R> {
     }
 
     fn append(&mut self, alloc: Global, path: &PathText, bytes: &[u8]) -> Result<(), DiskError>
+        ensures streams { self.new.streams ≡ self.old.streams }
         ensures cause { FailsOnlyByFault self.old.faults self.new.faults result }
     {
         let text = path.to_text(alloc)?;
@@ -102,6 +243,7 @@ impl<R: Files> Disk for HostDisk<R> {
     }
 
     fn rename(&mut self, alloc: Global, from: &PathText, to: &PathText) -> Result<(), DiskError>
+        ensures streams { self.new.streams ≡ self.old.streams }
         ensures cause { FailsOnlyByFault self.old.faults self.new.faults result }
     {
         let source = from.to_text(alloc)?;
@@ -111,6 +253,7 @@ impl<R: Files> Disk for HostDisk<R> {
     }
 
     fn remove(&mut self, alloc: Global, path: &PathText) -> Result<(), DiskError>
+        ensures streams { self.new.streams ≡ self.old.streams }
         ensures cause { FailsOnlyByFault self.old.faults self.new.faults result }
     {
         let text = path.to_text(alloc)?;
@@ -145,6 +288,39 @@ pub(crate) fn look_at<R: Files>(rt: &R, path: &str, follow: bool) -> Result<Meta
     }
 }
 
+/// Reads the entries of a directory of at most `most` of them, links followed.
+pub(crate) fn list_at<R: Files + Alloc + Clone + Drop>(
+    rt: &R,
+    alloc: Global,
+    path: &str,
+    most: usize,
+) -> Result<Listing, DiskError>
+    ensures few { IfOk result (λ listing. length listing.entries ≤ most) }
+{
+    let mut listing = Listing {
+        entries: EntryQueue::new(alloc),
+        passed_over: false,
+    };
+    for found in fs::read_dir(rt, path).map_err(|e| refusal_of(e.kind()))? {
+        listing.add_found(alloc, found)?;
+        if listing.entries.len() > most {
+            return Err(DiskError::Failed);
+        }
+    }
+    Ok(listing)
+}
+
+/// What a look tells of a name that was read.
+fn entry_meta(found: io::Result<Metadata>) -> Result<Meta, DiskError>
+    ensures ok { IfOk result (λ meta. IfOk found (λ metadata. Some meta.kind ≡ kind_of (file_type metadata))) }
+    ensures err { IfErr found (λ e. result ≡ Err (refusal_of (error_kind e))) }
+{
+    match found {
+        Ok(metadata) => meta_of(&metadata),
+        Err(e) => Err(refusal_of(e.kind())),
+    }
+}
+
 /// Makes an empty file where nothing stands.
 pub(crate) fn new_file_at<R: Files>(rt: &R, path: &str) -> Result<(), DiskError> {
     match File::create_new(rt, path) {
@@ -164,21 +340,10 @@ pub(crate) fn append_at<R: Files>(rt: &R, path: &str, bytes: &[u8]) -> Result<()
     let mut options = OpenOptions::new();
     options.append(true);
     let file = options.open(rt, path).map_err(|e| refusal_of(e.kind()))?;
-    write_all(&mut StdSink::new(file), bytes)
-}
-
-/// Writes all bytes to a sink.
-fn write_all<S: Sink>(sink: &mut S, bytes: &[u8]) -> Result<(), DiskError>
-    ensures whole { OnOk result (IfSome (S.held sink.old) (λ held. S.held sink.new ≡ Some (held ++ bytes.now))) }
-{
-    let mut rest = bytes;
-    while !rest.is_empty() {
-        let Ok(count) = sink.write(rest) else {
-            return Err(DiskError::Failed);
-        };
-        rest = &rest[count..];
+    match write_all(&mut StdSink::new(file), bytes) {
+        Ok(()) => Ok(()),
+        Err(Failed) => Err(DiskError::Failed),
     }
-    Ok(())
 }
 
 /// Moves a file or a link. The kinds of both ends are looked at first, since the system would move a directory.
@@ -218,7 +383,7 @@ pub(crate) fn read_at<R: Files>(
     rt: &R,
     alloc: Global,
     path: &str,
-    longest: u64,
+    longest: usize,
 ) -> Result<(ByteList, u64), DiskError>
     ensures short { IfOk result (λ file. length file.0 ≤ longest) }
 {
@@ -229,29 +394,15 @@ pub(crate) fn read_at<R: Files>(
     }
     let file = fs::open(rt, path).map_err(|e| refusal_of(e.kind()))?;
     let metadata = file.metadata().map_err(|e| refusal_of(e.kind()))?;
-    let mut bytes = Vec::new(alloc);
-    append_all(&mut StdSource::new(file), &mut bytes, longest)?;
-    Ok((ByteList::from_vec(bytes), meta_of(&metadata)?.time))
-}
-
-/// Adds to `bytes` all that a source has left, where that makes at most `longest` bytes.
-fn append_all<S: Source>(source: &mut S, bytes: &mut Vec<u8>, longest: u64) -> Result<(), DiskError>
-    ensures whole { OnOk result (IfSome (S.left source.old) (λ left. bytes.new.items ≡ bytes.old.items ++ left)) }
-    ensures short { OnOk result (vec_len bytes.old ≤ longest → vec_len bytes.new ≤ longest) }
-{
-    let mut piece = [0u8; PIECE];
-    'pieces: loop {
-        let Ok(count) = source.read(&mut piece) else {
-            return Err(DiskError::Failed);
-        };
-        if count == 0 {
-            return Ok(());
-        }
-        bytes.extend_from_slice(&piece[..count])?;
-        if bytes.len() as u64 > longest {
-            return Err(DiskError::Failed);
-        }
+    let bytes = match read_file(alloc, &mut StdSource::new(file), longest) {
+        Ok(bytes) => bytes,
+        Err(ReadError::Failed) => return Err(DiskError::Failed),
+        Err(ReadError::NoMemory) => return Err(DiskError::NoMemory),
+    };
+    if bytes.len() > longest {
+        return Err(DiskError::Failed);
     }
+    Ok((ByteList::from_vec(bytes), meta_of(&metadata)?.time))
 }
 
 /// What a look tells of a node of the system. One that is no file, directory or link is a fault.

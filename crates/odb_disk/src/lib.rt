@@ -12,6 +12,7 @@
 mod ask;
 mod calls;
 mod change;
+mod dir_streams;
 mod disk;
 mod host_disk;
 mod mem_disk;
@@ -26,10 +27,10 @@ mod tree;
 
 pub use ask::{DiskAnswer, DiskAsk, Op};
 pub use change::{Change, Impossible};
-pub use disk::{Disk, DiskError, Kind, Meta};
+pub use disk::{DirId, Disk, DiskError, Entry, Kind, Meta};
 pub use host_disk::HostDisk;
 pub use mem_disk::MemDisk;
 pub use odb_base::{BadPath, ByteList, NoMemory, PathName, PathText};
-pub use source::{Failed, MemSink, MemSource, Sink, Source};
+pub use source::{Failed, MemSink, MemSource, ReadError, Sink, Source, read_file, write_all};
 pub use std_stream::{StdSink, StdSource};
 pub use tree::Tree;

@@ -1,7 +1,8 @@
 use crate::ask::DiskAsk;
 use crate::calls::Calls;
 use crate::change::{Change, Impossible};
-use crate::disk::{Disk, DiskError, Meta};
+use crate::dir_streams::DirStreams;
+use crate::disk::{DirId, Disk, DiskError, Entry, Meta};
 use crate::tree::Tree;
 use crate::{ByteList, NoMemory, PathText};
 use std::alloc::Global;
@@ -13,6 +14,7 @@ use std::marker::Model;
 #[derive(Debug, Drop)]
 pub struct MemDisk {
     tree: Tree,
+    streams: DirStreams,
     calls: Calls,
 }
 
@@ -25,7 +27,7 @@ impl Model for MemDisk {
 
     ghost use Rattle.odb_disk.specs.Tree.{IsTree, state_of};
 
-    ghost view = { λ d. record { state = state_of d.tree; calls = d.calls } };
+    ghost view = { λ d. record { state = state_of d.tree; streams = d.streams; calls = d.calls } };
 
     ghost invariant = { λ d. IsTree d.tree };
 }
@@ -52,6 +54,7 @@ impl MemDisk {
     {
         Ok(MemDisk {
             tree: Tree::bare(alloc)?,
+            streams: DirStreams::new(alloc),
             calls: Calls::with_faults(alloc, calls)?,
         })
     }
@@ -102,12 +105,13 @@ impl MemDisk {
         self.calls.faults()
     }
 
-    /// A copy of the disk: its tree, its counts and the calls that are to fail.
+    /// A copy of the disk: its tree, its open streams, its counts and the calls that are to fail.
     pub fn try_clone(&self, alloc: Global) -> Result<MemDisk, NoMemory>
         ensures { IfOk result (λ disk. disk ≡ self.now) }
     {
         Ok(MemDisk {
             tree: self.tree.try_clone(alloc)?,
+            streams: self.streams.try_clone(alloc)?,
             calls: self.calls.try_clone()?,
         })
     }
@@ -116,6 +120,7 @@ impl MemDisk {
     fn count(&mut self) -> bool
         ensures counted { self.new ≡ after_call self.old }
         ensures state { self.new.state ≡ self.old.state }
+        ensures streams { self.new.streams ≡ self.old.streams }
         ensures tree { IsTree (tree_of self.old.state) }
         ensures fails { result ≡ next_fails self.old }
         ensures later { self.old.calls.faults ≤ self.new.calls.faults }
@@ -128,15 +133,18 @@ impl MemDisk {
 }
 
 impl Disk for MemDisk {
-    ghost use Rattle.std.specs.Prelude.{◌≡◌, ◌↔◌, true, Some, Err, IfSome, OnOk, OnErr};
+    ghost use Rattle.std.specs.Prelude.{◌≡◌, ◌↔◌, true, Some, Err, IfOk, IfSome, OnOk, OnErr};
     ghost use Rattle.std.specs.Result.{result_ok};
     ghost use Rattle.odb_disk.specs.Tree.{IsTree, State, tree_of};
     ghost use Rattle.odb_disk.specs.Tree.Follow.{looked, read_of};
     ghost use Rattle.odb_disk.specs.Tree.Write.{change_of_make_dir, change_of_new_file, change_of_append, change_of_rename, change_of_remove, done, written};
     ghost use Rattle.odb_disk.specs.Disk.{Answers, AnswersWrite, FailsOnlyByFault};
     ghost use Rattle.odb_disk.specs.MemDisk.{after_call, next_fails};
+    ghost use Rattle.odb_disk.specs.Streams.{IsLeastClosed, AnswersOpen, Opens, Gives, opened, with_closed};
 
     ghost state = { λ disk. Some disk.state };
+
+    ghost streams = { λ disk. disk.streams };
 
     ghost faults = { λ disk. disk.calls.faults };
 
@@ -144,6 +152,7 @@ impl Disk for MemDisk {
         ensures answer { Answers result (looked (tree_of self.old.state) path.now follow) }
         ensures tree { IsTree (tree_of self.old.state) }
         ensures kept { Some self.new.state ≡ Some self.old.state }
+        ensures streams { self.new.streams ≡ self.old.streams }
         ensures cause { FailsOnlyByFault self.old.calls.faults self.new.calls.faults result }
         ensures counted { self.new ≡ after_call self.old }
         ensures failed { (result ≡ Err DiskError.Failed) ↔ (next_fails self.old ≡ true) }
@@ -160,6 +169,7 @@ impl Disk for MemDisk {
         ensures answer { Answers result (read_of (tree_of self.old.state) path.now) }
         ensures tree { IsTree (tree_of self.old.state) }
         ensures kept { Some self.new.state ≡ Some self.old.state }
+        ensures streams { self.new.streams ≡ self.old.streams }
         ensures cause { FailsOnlyByFault self.old.calls.faults self.new.calls.faults result }
         ensures counted { self.new ≡ after_call self.old }
         ensures failed { (result ≡ Err DiskError.Failed) ↔ (next_fails self.old ≡ true) }
@@ -172,11 +182,55 @@ impl Disk for MemDisk {
         tree.read(alloc, path)
     }
 
+    fn open_dir(&mut self, alloc: Global, path: &PathText) -> Result<DirId, DiskError>
+        ensures answer { AnswersOpen result (opened (tree_of self.old.state) path.now) }
+        ensures opened { IfOk result (λ dir. Opens (Some self.old.state) path.now self.old.streams self.new.streams dir) }
+        ensures refused { OnErr result (self.new.streams ≡ self.old.streams) }
+        ensures tree { IsTree (tree_of self.old.state) }
+        ensures kept { Some self.new.state ≡ Some self.old.state }
+        ensures cause { FailsOnlyByFault self.old.calls.faults self.new.calls.faults result }
+        ensures least { IfOk result (λ dir. IsLeastClosed self.old.streams.open_dirs dir) }
+        ensures counted { self.new.calls ≡ (after_call self.old).calls }
+        ensures failed { (result ≡ Err DiskError.Failed) ↔ (next_fails self.old ≡ true) }
+    {
+        if self.count() {
+            return Err(DiskError::Failed);
+        }
+        let entries = self.tree.entries(alloc, path)?;
+        Ok(self.streams.open(entries)?)
+    }
+
+    fn next_entry(&mut self, _alloc: Global, dir: &DirId) -> Result<Option<Entry>, DiskError>
+        ensures gives { Gives self.old.streams self.new.streams dir.now result }
+        ensures kept { Some self.new.state ≡ Some self.old.state }
+        ensures cause { FailsOnlyByFault self.old.calls.faults self.new.calls.faults result }
+        ensures counted { self.new.calls ≡ (after_call self.old).calls }
+        ensures failed { (result ≡ Err DiskError.Failed) ↔ (next_fails self.old ≡ true) }
+    {
+        if self.count() {
+            return Err(DiskError::Failed);
+        }
+        let Some(next) = self.streams.next(dir) else {
+            return Err(DiskError::Absent);
+        };
+        Ok(next)
+    }
+
+    fn close_dir(&mut self, dir: DirId)
+        ensures closed { self.new.streams ≡ with_closed self.old.streams dir }
+        ensures kept { Some self.new.state ≡ Some self.old.state }
+        ensures faults { self.new.calls.faults ≡ self.old.calls.faults }
+        ensures counted { self.new.calls ≡ self.old.calls }
+    {
+        self.streams.close(&dir);
+    }
+
     fn make_dir(&mut self, alloc: Global, path: &PathText) -> Result<(), DiskError>
         ensures answer { AnswersWrite result (done (change_of_make_dir (tree_of self.old.state) path.now)) }
         ensures tree { IsTree (tree_of self.old.state) }
         ensures made { OnOk result (Some self.new.state ≡ Some (written self.old.state (result_ok (change_of_make_dir (tree_of self.old.state) path.now)))) }
         ensures kept { OnErr result (Some self.new.state ≡ Some self.old.state) }
+        ensures streams { self.new.streams ≡ self.old.streams }
         ensures cause { FailsOnlyByFault self.old.calls.faults self.new.calls.faults result }
         ensures counted { self.new.calls ≡ (after_call self.old).calls }
         ensures failed { (result ≡ Err DiskError.Failed) ↔ (next_fails self.old ≡ true) }
@@ -192,6 +246,7 @@ impl Disk for MemDisk {
         ensures tree { IsTree (tree_of self.old.state) }
         ensures made { OnOk result (Some self.new.state ≡ Some (written self.old.state (result_ok (change_of_new_file (tree_of self.old.state) path.now)))) }
         ensures kept { OnErr result (Some self.new.state ≡ Some self.old.state) }
+        ensures streams { self.new.streams ≡ self.old.streams }
         ensures cause { FailsOnlyByFault self.old.calls.faults self.new.calls.faults result }
         ensures counted { self.new.calls ≡ (after_call self.old).calls }
         ensures failed { (result ≡ Err DiskError.Failed) ↔ (next_fails self.old ≡ true) }
@@ -207,6 +262,7 @@ impl Disk for MemDisk {
         ensures tree { IsTree (tree_of self.old.state) }
         ensures made { OnOk result (Some self.new.state ≡ Some (written self.old.state (result_ok (change_of_append (tree_of self.old.state) path.now bytes.now)))) }
         ensures kept { OnErr result (Some self.new.state ≡ Some self.old.state) }
+        ensures streams { self.new.streams ≡ self.old.streams }
         ensures cause { FailsOnlyByFault self.old.calls.faults self.new.calls.faults result }
         ensures counted { self.new.calls ≡ (after_call self.old).calls }
         ensures failed { (result ≡ Err DiskError.Failed) ↔ (next_fails self.old ≡ true) }
@@ -222,6 +278,7 @@ impl Disk for MemDisk {
         ensures tree { IsTree (tree_of self.old.state) }
         ensures made { OnOk result (Some self.new.state ≡ Some (written self.old.state (result_ok (change_of_rename (tree_of self.old.state) from.now to.now)))) }
         ensures kept { OnErr result (Some self.new.state ≡ Some self.old.state) }
+        ensures streams { self.new.streams ≡ self.old.streams }
         ensures cause { FailsOnlyByFault self.old.calls.faults self.new.calls.faults result }
         ensures counted { self.new.calls ≡ (after_call self.old).calls }
         ensures failed { (result ≡ Err DiskError.Failed) ↔ (next_fails self.old ≡ true) }
@@ -237,6 +294,7 @@ impl Disk for MemDisk {
         ensures tree { IsTree (tree_of self.old.state) }
         ensures made { OnOk result (Some self.new.state ≡ Some (written self.old.state (result_ok (change_of_remove (tree_of self.old.state) path.now)))) }
         ensures kept { OnErr result (Some self.new.state ≡ Some self.old.state) }
+        ensures streams { self.new.streams ≡ self.old.streams }
         ensures cause { FailsOnlyByFault self.old.calls.faults self.new.calls.faults result }
         ensures counted { self.new.calls ≡ (after_call self.old).calls }
         ensures failed { (result ≡ Err DiskError.Failed) ↔ (next_fails self.old ≡ true) }

@@ -40,7 +40,9 @@ impl Node {
     ghost use Rattle.std.specs.Prelude.{◌≡◌, IfOk, OnOk, OnErr, Some};
     ghost use Rattle.odb_disk.specs.Tree.{is_directory};
     ghost use Rattle.odb_disk.specs.Tree.Follow.{meta_of};
-    ghost use Rattle.odb_disk.specs.Tree.Change.{is_file_content, longer};
+    ghost use Rattle.odb_disk.specs.Streams.{kind_of};
+    ghost use Rattle.odb_disk.specs.Tree.Way.{is_link_content};
+    ghost use Rattle.odb_disk.specs.Tree.Change.{is_file_content, longer, timed};
 
     /// What a look at the node tells.
     pub fn meta(&self) -> Meta
@@ -74,6 +76,13 @@ impl Node {
         matches!(&self.content, Content::File { .. })
     }
 
+    /// Whether it is a link.
+    pub(crate) fn is_link(&self) -> bool
+        ensures { result ≡ is_link_content self.now.content }
+    {
+        matches!(&self.content, Content::Link(_))
+    }
+
     /// Adds bytes at the end of a file. A refused call changes nothing.
     pub(crate) fn append(&mut self, more: &[u8]) -> Result<(), NoMemory>
         ensures made { OnOk result (self.new ≡ record self.old { content = longer self.old.content more.now }) }
@@ -82,6 +91,27 @@ impl Node {
         match &mut self.content {
             Content::File { bytes, .. } => bytes.extend_from_slice(more),
             Content::Dir | Content::Link(_) => Ok(()),
+        }
+    }
+
+    /// Sets the time of a file.
+    pub(crate) fn set_time(&mut self, at: u64)
+        ensures { self.new ≡ record self.old { content = timed at self.old.content } }
+    {
+        match &mut self.content {
+            Content::File { time, .. } => *time = at,
+            Content::Dir | Content::Link(_) => {}
+        }
+    }
+
+    /// The kind of the node.
+    pub(crate) fn kind(&self) -> Kind
+        ensures { result ≡ kind_of self.now.content }
+    {
+        match &self.content {
+            Content::File { .. } => Kind::File,
+            Content::Dir => Kind::Dir,
+            Content::Link(_) => Kind::Link,
         }
     }
 

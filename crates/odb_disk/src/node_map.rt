@@ -3,7 +3,7 @@ ghost use Rattle.std.specs.Prelude.{◌≡◌, ◌≢◌, ◌↔◌, ◌==◌, �
 ghost use Rattle.odb_base.specs.Path.{Path};
 ghost use Rattle.odb_disk.specs.Tree.{node_at, tree_of_entries, with_node, without, IsTree, names_in};
 ghost use Rattle.std.specs.Option.{option_copied};
-ghost use Rattle.odb_disk.specs.Tree.Change.{is_nil, longer};
+ghost use Rattle.odb_disk.specs.Tree.Change.{is_nil, longer, with_time};
 ghost use Rattle.odb_disk.specs.TreeCalls.{IsLastBefore};
 ghost use Rattle.odb_disk.specs.TreeNumbers.{is_listed, has_number, IsLeastFree};
 ghost use Rattle.odb_disk.specs.declared.node.Node.{Node as NodeValue};
@@ -35,6 +35,15 @@ pub(crate) fn put_content(nodes: &mut BTreeMap<PathText, Node>, path: &PathText,
 {
     if let Some(node) = nodes.get_mut(path) {
         node.content = content;
+    }
+}
+
+/// Sets the time of the file at a path.
+pub(crate) fn put_time(nodes: &mut BTreeMap<PathText, Node>, path: &PathText, time: u64)
+    ensures { tree_of_entries nodes.new.entries ≡ with_time (tree_of_entries nodes.old.entries) path.now time (node_at (tree_of_entries nodes.old.entries) path.now) }
+{
+    if let Some(node) = nodes.get_mut(path) {
+        node.set_time(time);
     }
 }
 

@@ -1,6 +1,6 @@
-ghost use Rattle.std.specs.Prelude.{◌≡◌, ℕ, ◌≤◌, List, Option, length, IfOk};
-ghost use Rattle.odb_base.specs.Faults.{HasCause};
-ghost use Rattle.odb_disk.specs.Source.{Reads, Writes};
+ghost use Rattle.std.specs.Prelude.{◌≡◌, ℕ, ◌≤◌, List, Option, length, take, IfOk, OnOk, OnErr, IsErrOf};
+ghost use Rattle.odb_base.specs.Faults.{HasCause, Rose};
+ghost use Rattle.odb_disk.specs.Source.{Reads, Writes, ReadsFile, Adds};
 
 use crate::NoMemory;
 use crate::calls::Calls;
@@ -12,6 +12,18 @@ use thiserror::Error;
 #[derive(Clone, Copy, Debug, PartialEq, Eq, Error)]
 #[error("failed")]
 pub struct Failed;
+
+/// Why a source wasn't read to its end.
+#[derive(Clone, Copy, Debug, PartialEq, Eq, Error)]
+pub enum ReadError {
+    #[error("failed")]
+    Failed,
+    #[error("out of memory")]
+    NoMemory,
+}
+
+/// How many bytes are asked for at a time.
+const PIECE: usize = 65_536;
 
 /// Bytes that come in. A source takes no memory.
 pub trait Source {
@@ -42,6 +54,48 @@ pub trait Sink {
         ensures some { IfOk result (λ n. n ≡ 0 → length bytes.now ≡ 0) }
         ensures bytes { Writes (held self.old) (held self.new) bytes.now result }
         ensures cause { HasCause (faults self.old) (faults self.new) result };
+}
+
+/// Reads a source to its end, or until it has given more than `limit` bytes.
+pub fn read_file<S: Source>(
+    alloc: Global,
+    source: &mut S,
+    limit: usize,
+) -> Result<Vec<u8>, ReadError>
+    ensures read { IfOk result (λ bytes. ReadsFile limit (S.left source.old) (S.left source.new) bytes.items) }
+    ensures later { S.faults source.old ≤ S.faults source.new }
+    ensures failed { IsErrOf result ReadError.Failed → Rose (S.faults source.old) (S.faults source.new) }
+{
+    let mut bytes = Vec::new(alloc);
+    let mut piece = [0u8; PIECE];
+    'reading: while bytes.len() <= limit {
+        let count = match source.read(&mut piece) {
+            Ok(count) => count,
+            Err(Failed) => return Err(ReadError::Failed),
+        };
+        if count == 0 {
+            break 'reading;
+        }
+        if bytes.extend_from_slice(&piece[..count]).is_err() {
+            return Err(ReadError::NoMemory);
+        }
+    }
+    Ok(bytes)
+}
+
+/// Writes all of some bytes.
+pub fn write_all<K: Sink>(sink: &mut K, bytes: &[u8]) -> Result<(), Failed>
+    ensures ok { OnOk result (Adds (K.held sink.old) (K.held sink.new) bytes.now) }
+    ensures err { OnErr result ((count : ℕ) × Adds (K.held sink.old) (K.held sink.new) (take count bytes.now)) }
+    ensures cause { HasCause (K.faults sink.old) (K.faults sink.new) result }
+{
+    let mut rest = bytes;
+    'writing: while !rest.is_empty() {
+        let count = sink.write(rest)?;
+        let (_, after) = rest.split_at(count);
+        rest = after;
+    }
+    Ok(())
 }
 
 /// A source in memory.

@@ -6,7 +6,7 @@ use crate::disk::{DiskError, Meta};
 use crate::node::{Content, Node};
 use crate::node_map::{
     append, copied, copied_numbers, free_number, has_names, least_number, move_node, path_before,
-    put, put_content, take, use_number,
+    put, put_content, put_time, take, use_number,
 };
 use crate::node_moves::move_below;
 use crate::{ByteList, NoMemory, PathText};
@@ -14,6 +14,7 @@ use std::alloc::Global;
 use std::collections::{BTreeMap, BTreeSet};
 use std::marker::Model;
 
+mod list;
 mod write;
 
 /// The tree of a disk in memory: what stands at each path.
@@ -67,7 +68,8 @@ impl Tree {
     ghost use Rattle.odb_base.specs.Path.{Path, same_name};
     ghost use Rattle.odb_disk.specs.Tree.{IsTree, node_at, with_node, without, bare_tree, is_directory};
     ghost use Rattle.odb_disk.specs.Tree.Follow.{Missing, looked, read_of, pass, past, followed, followed_within};
-    ghost use Rattle.odb_disk.specs.Tree.Change.{changed, is_possible_in, can_move, is_file_content, is_file_place, longer, parent_node, lies_in_directory, least_free};
+    ghost use Rattle.odb_disk.specs.Tree.Change.{changed, is_possible_in, can_move, is_file, is_file_content, is_file_place, with_time, longer, parent_node, lies_in_directory, least_free, device_of, link_node};
+    ghost use Rattle.odb_disk.specs.Tree.Way.{is_link};
     ghost use Rattle.odb_disk.specs.declared.node.Node.{Node as NodeValue};
     ghost use Rattle.odb_disk.specs.Disk.{Answers};
     ghost use Rattle.odb_disk.specs.TreeCalls.{Comes, LedOn, Leads, device_in, standing_of};
@@ -216,9 +218,11 @@ impl Tree {
         match change {
             Change::PutFile { path, time, bytes } => self.put_file(alloc, path, *time, bytes),
             Change::MakeDir { path, dev } => self.put_dir(alloc, path, *dev),
+            Change::PutLink { path, target } => self.put_link(alloc, path, target),
             Change::Rename { from, to } => self.move_over(alloc, from, to),
             Change::Append { path, bytes } => self.lengthen(alloc, path, bytes),
             Change::Remove { path } => self.take_out(path),
+            Change::SetTime { path, time } => self.set_time(path, *time),
         }
     }
 
@@ -234,9 +238,13 @@ impl Tree {
             Change::MakeDir { path, .. } => Ok(
                 self.lies_in_directory(alloc, path)? && self.node(path).is_none(),
             ),
+            Change::PutLink { path, .. } => Ok(
+                self.lies_in_directory(alloc, path)? && !self.stands_directory(path),
+            ),
             Change::Rename { from, to } => self.can_rename(alloc, from, to),
             Change::Append { path, .. } => self.leads_to_file(alloc, path),
             Change::Remove { path } => Ok(self.can_remove(path)),
+            Change::SetTime { path, .. } => Ok(self.stands_file(path)),
         }
     }
 
@@ -297,6 +305,81 @@ impl Tree {
         };
         self.put_new(alloc, path, dev, Content::Dir)?;
         Ok(())
+    }
+
+    fn put_link(
+        &mut self,
+        alloc: Global,
+        path: &PathText,
+        target: &PathText,
+    ) -> Result<(), Impossible>
+        ensures made { OnOk result (self.new ≡ changed self.old (Change.PutLink path.now target.now)) }
+        ensures possible { OnOk result (is_possible_in self.old (Change.PutLink path.now target.now) ≡ true) }
+        ensures impossible { IsErrOf result Impossible.Impossible → is_possible_in self.old (Change.PutLink path.now target.now) ≡ false }
+        ensures kept { OnErr result (self.new ≡ self.old) }
+    {
+        let Some(dev) = self.directory_device(alloc, path)? else {
+            return Err(Impossible::Impossible);
+        };
+        if self.stands_directory(path) {
+            return Err(Impossible::Impossible);
+        }
+        self.put_link_at(alloc, path, dev, target.try_clone(alloc)?)?;
+        Ok(())
+    }
+
+    /// Puts a link where no directory stands: one that stands there keeps its node. A refused call changes nothing.
+    fn put_link_at(
+        &mut self,
+        alloc: Global,
+        path: &PathText,
+        dev: u64,
+        target: PathText,
+    ) -> Result<(), NoMemory>
+        requires lies { lies_in_directory self.old path.now ≡ true }
+        requires no_directory { is_directory (node_at self.old path.now) ≡ false }
+        requires device { dev ≡ device_of (parent_node self.old path.now) }
+        ensures made { OnOk result (self.new ≡ with_node self.old path.now (link_node self.old path.now target (node_at self.old path.now))) }
+        ensures kept { OnErr result (self.new ≡ self.old) }
+    {
+        if self.stands_link(path) {
+            self.put_content(path, Content::Link(target));
+            return Ok(());
+        }
+        self.put_new(alloc, path, dev, Content::Link(target))
+    }
+
+    /// Whether a link stands at a path, by its names alone.
+    fn stands_link(&self, path: &PathText) -> bool
+        ensures { result ≡ is_link (node_at self.now path.now) }
+    {
+        match self.node(path) {
+            None => false,
+            Some(node) => node.is_link(),
+        }
+    }
+
+    fn set_time(&mut self, path: &PathText, time: u64) -> Result<(), Impossible>
+        ensures made { OnOk result (self.new ≡ changed self.old (Change.SetTime path.now time)) }
+        ensures possible { OnOk result (is_possible_in self.old (Change.SetTime path.now time) ≡ true) }
+        ensures impossible { IsErrOf result Impossible.Impossible → is_possible_in self.old (Change.SetTime path.now time) ≡ false }
+        ensures kept { OnErr result (self.new ≡ self.old) }
+    {
+        if !self.stands_file(path) {
+            return Err(Impossible::Impossible);
+        }
+        self.put_time(path, time);
+        Ok(())
+    }
+
+    /// Whether a file stands at a path, by its names alone.
+    fn stands_file(&self, path: &PathText) -> bool
+        ensures { result ≡ is_file (node_at self.now path.now) }
+    {
+        match self.node(path) {
+            None => false,
+            Some(node) => node.is_file(),
+        }
     }
 
     fn take_out(&mut self, path: &PathText) -> Result<(), Impossible>
@@ -490,6 +573,14 @@ impl Tree {
         put_content(&mut self.nodes, path, content);
     }
 
+    /// Sets the time of the file at a path.
+    fn put_time(&mut self, path: &PathText, time: u64)
+        requires { is_file (node_at self.old path.now) ≡ true }
+        ensures { self.new ≡ with_time self.old path.now time (node_at self.old path.now) }
+    {
+        put_time(&mut self.nodes, path, time);
+    }
+
     /// Adds bytes at the end of the file at a path. A refused call changes nothing.
     fn append_at(&mut self, path: &PathText, more: &[u8]) -> Result<(), NoMemory>
         requires stands { IsSome (node_at self.old path.now) }
@@ -519,26 +610,5 @@ fn impossible_by(error: DiskError) -> Impossible
     match error {
         DiskError::NoMemory => Impossible::NoMemory,
         _ => Impossible::Impossible,
-    }
-}
-
-#[cfg(test)]
-impl Tree {
-    /// Puts a link where no directory stands.
-    pub(crate) fn put_link(
-        &mut self,
-        alloc: Global,
-        path: &PathText,
-        target: PathText,
-    ) -> Result<(), Impossible> {
-        let Some(dev) = self.directory_device(alloc, path)? else {
-            return Err(Impossible::Impossible);
-        };
-        match self.standing(path) {
-            Standing::Dir => return Err(Impossible::Impossible),
-            Standing::File | Standing::Other => {}
-        }
-        self.put_new(alloc, path, dev, Content::Link(target))?;
-        Ok(())
     }
 }

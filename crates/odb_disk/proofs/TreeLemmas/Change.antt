@@ -8,10 +8,11 @@ use Rattle.std.proofs.lemmas.Bool.{false≢true, and_parts, and_left, and_right,
 use Rattle.odb_base.specs.Path.{Name, Path, path_cmp, parent_of, same_name}
 use Rattle.odb_disk.specs.Tree.{Tree, IsTree, node_at, with_node, without, names_in, name_in, is_directory}
 use Rattle.odb_disk.specs.Tree.Nodes.{entries_of, entries_of-sorted, node_at-entries_of, names_in-entries_of}
-use Rattle.odb_disk.specs.Tree.Change.{lies_in_directory, is_nil, is_possible_in, changed, least_free, put_node}
+use Rattle.odb_disk.specs.Tree.Change.{lies_in_directory, is_nil, is_possible_in, changed, least_free, put_node, new_node, link_node, link_over, is_file, with_time}
+use Rattle.odb_disk.specs.Tree.Way.{is_link, is_link_content}
 use Rattle.odb_disk.specs.declared.node.Node.{Node}
-use Rattle.odb_disk.specs.declared.node.Content.TheVariants.{File, Dir}
-use Rattle.odb_disk.specs.declared.change.Change.TheVariants.{PutFile, MakeDir, Remove}
+use Rattle.odb_disk.specs.declared.node.Content.TheVariants.{File, Dir, Link}
+use Rattle.odb_disk.specs.declared.change.Change.TheVariants.{PutFile, MakeDir, PutLink, Remove, SetTime}
 use Rattle.odb_base.specs.PathLaws.{parent_of-push, parent_of-none}
 use Rattle.odb_disk.proofs.TreeLemmas.{cases_path, node_at-put, node_at-put_other, node_at-taken, node_at-taken_other, same_path, find_own, find_later, second}
 
@@ -194,6 +195,30 @@ module _ (t : Tree) (p : Path) where
   unfolding changed
   made-put_file time bytes = refl
 
+  pub nowhere-put_link : (target : Path) → lies_in_directory t p ≡ false → is_possible_in t (PutLink p target) ≡ false
+  unfolding is_possible_in
+  nowhere-put_link target nowhere = and_left _ _ nowhere
+
+  pub over_directory-put_link : (target : Path) → is_directory (node_at t p) ≡ true → is_possible_in t (PutLink p target) ≡ false
+  unfolding is_possible_in
+  over_directory-put_link target is = and_right _ _ (not_from_true _ is)
+
+  pub possible-put_link : (target : Path) → lies_in_directory t p ≡ true → is_directory (node_at t p) ≡ false → is_possible_in t (PutLink p target) ≡ true
+  unfolding is_possible_in
+  possible-put_link target lies other = and_from _ _ lies (not_from_false _ other)
+
+  pub made-put_link : (target : Path) → changed t (PutLink p target) ≡ with_node t p (link_node t p target (node_at t p))
+  unfolding changed
+  made-put_link target = refl
+
+  pub possible-set_time : (time : ℕ) → is_possible_in t (SetTime p time) ≡ is_file (node_at t p)
+  unfolding is_possible_in
+  possible-set_time time = refl
+
+  pub made-set_time : (time : ℕ) → changed t (SetTime p time) ≡ with_time t p time (node_at t p)
+  unfolding changed
+  made-set_time time = refl
+
   pub made-remove : changed t (Remove p) ≡ without t p
   unfolding changed
   made-remove = refl
@@ -222,3 +247,34 @@ pub lies_in-node : (t : Tree) → IsTree t → (p : Path) (n : Node) → [] ≢ 
 lies_in-node t is_tree p n below_root at =
     let s = split_last p below_root in
     ap (lies_in_directory t) s.is ∙ lies_in-push t s.front s.name ∙ is_tree.ways s.front s.name n (ap (node_at t) (sym s.is) ∙ at)
+
+-- ---- the node of a link that is put
+
+-- a link at a path
+pub record IsLink (o : Option Node) : Type 0 where
+  pub node : Node
+  pub target : Path
+  pub at : o ≡ Some node
+  pub content : node.content ≡ Link target
+
+pub link_stands : (o : Option Node) → is_link o ≡ true → IsLink o
+link_stands None is = absurd (false≢true is)
+link_stands (Some node) is =
+    elim node.content as (λ c. node.content ≡ c → is_link_content c ≡ true → IsLink (Some node)) [
+      | File bytes time ↦ λ _ no. absurd (false≢true no)
+      | Dir ↦ λ _ no. absurd (false≢true no)
+      | Link target ↦ λ content _. record { node = node; target = target; at = refl; content = content }
+    ] refl is
+
+module _ (t : Tree) (p target : Path) where
+  pub link_node-link : (l : IsLink (node_at t p)) → link_node t p target (node_at t p) ≡ record l.node { content = Link target }
+  link_node-link l = ap (link_node t p target) l.at ∙ ap (link_over t p target l.node) l.content
+
+  pub link_node-other : (o : Option Node) → is_link o ≡ false → link_node t p target o ≡ new_node t p (Link target)
+  link_node-other None other = refl
+  link_node-other (Some node) other =
+      elim node.content as (λ c. is_link_content c ≡ false → link_over t p target node c ≡ new_node t p (Link target)) [
+        | File bytes time ↦ λ _. refl
+        | Dir ↦ λ _. refl
+        | Link old ↦ λ no. absurd (false≢true (sym no))
+      ] other

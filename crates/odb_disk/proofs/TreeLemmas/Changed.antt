@@ -4,13 +4,13 @@ use Rattle.std.proofs.lemmas.Bool.{false≢true, and_parts, not-true}
 use Rattle.odb_base.specs.Path.{Path}
 use Rattle.odb_disk.specs.Tree.{Tree, State, IsTree, tree_of, state_of, node_at, with_node, without, names_in, is_directory}
 use Rattle.odb_disk.specs.Tree.Follow.{Place, Refusal, followed}
-use Rattle.odb_disk.specs.Tree.Change.{parent_node, lies_in_directory, is_nil, is_file_place, is_possible_in, is_possible, changed, after_change, least_free, put_node, put_over, device_of, with_moved, with_longer, longer}
+use Rattle.odb_disk.specs.Tree.Change.{parent_node, lies_in_directory, is_nil, is_file_place, is_possible_in, is_possible, changed, after_change, least_free, put_node, put_over, link_node, link_over, device_of, with_moved, with_longer, longer, is_file, with_time, timed}
 use Rattle.odb_disk.specs.Tree.Write.{after_write}
 use Rattle.odb_disk.specs.declared.node.Node.{Node}
 use Rattle.odb_disk.specs.declared.node.Content.{Content}
 use Rattle.odb_disk.specs.declared.node.Content.TheVariants.{File, Dir, Link}
 use Rattle.odb_disk.specs.declared.change.Change.{Change}
-use Rattle.odb_disk.specs.declared.change.Change.TheVariants.{PutFile, MakeDir, Rename, Append, Remove}
+use Rattle.odb_disk.specs.declared.change.Change.TheVariants.{PutFile, MakeDir, PutLink, Rename, Append, Remove, SetTime}
 use Rattle.odb_disk.proofs.TreeLemmas.{tree_of-state_of}
 use Rattle.odb_disk.proofs.TreeLemmas.Numbers.{least_free-fresh}
 use Rattle.odb_disk.proofs.TreeLemmas.Follow.{place_stands}
@@ -37,6 +37,27 @@ module _ (t : Tree) (is_tree : IsTree t) (p : Path) where
         | Some node ↦ λ at. IsTree-put_over content node node.content lies other at
       ] refl
 
+  IsTree-link_over : (target : Path) (node : Node) (old : Content) → lies_in_directory t p ≡ true → is_directory (node_at t p) ≡ false → node_at t p ≡ Some node → IsTree (with_node t p (link_over t p target node old))
+  IsTree-link_over target node (Link old) lies other at =
+      IsTree-put t is_tree p (record node { content = Link target }) lies other (λ q k apart there same. apart (is_tree.apart q p k node there at same))
+  IsTree-link_over target node Dir lies other at = IsTree-new_node (device_of (parent_node t p)) (Link target) lies other
+  IsTree-link_over target node (File bytes time) lies other at = IsTree-new_node (device_of (parent_node t p)) (Link target) lies other
+
+  IsTree-link_node : (target : Path) → lies_in_directory t p ≡ true → is_directory (node_at t p) ≡ false → IsTree (with_node t p (link_node t p target (node_at t p)))
+  IsTree-link_node target lies other =
+      elim (node_at t p) as (λ o. node_at t p ≡ o → IsTree (with_node t p (link_node t p target o))) [
+        | None ↦ λ _. IsTree-new_node (device_of (parent_node t p)) (Link target) lies other
+        | Some node ↦ λ at. IsTree-link_over target node node.content lies other at
+      ] refl
+
+  pub IsTree-timed : (time : ℕ) → is_file (node_at t p) ≡ true → IsTree (with_time t p time (node_at t p))
+  IsTree-timed time file =
+      elim (node_at t p) as (λ o. node_at t p ≡ o → is_file o ≡ true → IsTree (with_time t p time o)) [
+        | None ↦ λ _ none. cc
+        | Some node ↦ λ at is. IsTree-put t is_tree p (record node { content = timed time node.content }) (file_lies t is_tree p node at is) (file_no_directory t p node at is)
+            (λ q k apart there same. apart (is_tree.apart q p k node there at same))
+      ] refl file
+
   IsTree-remove : lies_in_directory t p ≡ true → is_nil (names_in t p) ≡ true → IsTree (without t p)
   IsTree-remove lies nil = IsTree-without t is_tree p (λ root. false≢true (sym (root_lies_nowhere t p (sym root)) ∙ lies)) (no_names_below t p nil)
 
@@ -58,11 +79,14 @@ IsTree-changed t (MakeDir p dev) is_tree possible =
     no_directory_at_none : (o : Option Node) → is_none o ≡ true → is_directory o ≡ false
     no_directory_at_none None none = refl
     no_directory_at_none (Some node) none = cc
+IsTree-changed t (PutLink p target) is_tree possible =
+    let parts = and_parts _ _ possible in IsTree-link_node t is_tree p target parts.0 (not-true _ parts.1)
 IsTree-changed t (Rename from to) is_tree possible =
     let parts = and_parts _ _ possible in IsTree-can_move t is_tree from to parts.0 parts.1
 IsTree-changed t (Append path bytes) is_tree possible = IsTree-longer t is_tree bytes (followed t true path) possible (place_stands t 40 true path)
 IsTree-changed t (Remove p) is_tree possible =
     let parts = and_parts _ _ possible in let more = and_parts _ _ parts.0 in IsTree-remove t is_tree p more.0 parts.1
+IsTree-changed t (SetTime p time) is_tree possible = IsTree-timed t is_tree p time possible
 
 -- ---- a change of a state
 

@@ -42,12 +42,6 @@ front_of_own [] p one = absurd one
 front_of_own (way ∷ ways) p (inl same) = or_left (begins way p) _ (ap (begins way) (sym same) ∙ begins-own way)
 front_of_own (way ∷ ways) p (inr more) = or_right (begins way p) _ (front_of_own ways p more)
 
-pub front_of_longer : (ways : List Path) (name : Name) (p : Path) → IsOne ways p → is_front_of_one (map (λ way. way ++ name ∷ []) ways) (p ++ name ∷ []) ≡ true
-front_of_longer [] name p one = absurd one
-front_of_longer (way ∷ ways) name p (inl same) =
-    or_left (begins (way ++ name ∷ []) (p ++ name ∷ [])) _ (ap (λ r. begins (way ++ name ∷ []) (r ++ name ∷ [])) (sym same) ∙ begins-own (way ++ name ∷ []))
-front_of_longer (way ∷ ways) name p (inr more) = or_right (begins (way ++ name ∷ []) (p ++ name ∷ [])) _ (front_of_longer ways name p more)
-
 -- what is on the way behind a pass is on the way that a link leads on to
 pub in_led : (further : Path → List Path) (p : Pass) (q : Path) → is_front_of_one (led_on further p) q ≡ true → (path : Path) × (p ≡ Onward path) × (is_front_of_one (further path) q ≡ true)
 in_led further (Reached path node) q on = absurd (false≢true on)

@@ -1,22 +1,21 @@
 -- Where spots are: in trees that are alike on the way to them, and where something stands there.
-use Rattle.std.proofs.Common.{◌≡◌, ◌≢◌, inl, inr, ℕ, zero, suc, Bool, true, false, ◌&&◌, [], ◌∷◌, ◌++◌, length, drop, Option, Some, None, Result, Ok, Err, refl, sym, ap, ◌∙◌, cond}
-use Rattle.std.proofs.lemmas.Bool.{false≢true, or_left, and_right}
+use Rattle.std.proofs.Common.{◌≡◌, ◌≢◌, ℕ, zero, suc, Bool, true, false, [], ◌∷◌, ◌++◌, length, drop, Some, None, Result, Ok, Err, refl, sym, ap, ◌∙◌, cond}
+use Rattle.std.proofs.lemmas.Bool.{false≢true, or_left}
 use Rattle.odb_base.specs.Path.{Name, Path, parent_of}
-use Rattle.odb_base.specs.PathLaws.{parent_of-some, lies_below}
-use Rattle.odb_disk.specs.Tree.{Tree, node_at, is_directory, is_directory_content}
+use Rattle.odb_base.specs.PathLaws.{parent_of-some}
+use Rattle.odb_disk.specs.Tree.{Tree, node_at, is_directory_content}
 use Rattle.odb_disk.specs.Tree.Follow as following
-use Rattle.odb_disk.specs.Tree.Follow.{Pass, Reached, Place, pass, ending, at_last, arrives, followed}
+use Rattle.odb_disk.specs.Tree.Follow.{Reached, Place, pass, ending, at_last, arrives, followed}
 use Rattle.odb_disk.specs.Tree.Change.{is_file_content}
-use Rattle.odb_disk.specs.Tree.Write.{Refusal, WrongKind, from_followed, and_then, in_directory, spot_below, spot, vacant_spot, vacant, movable_spot, movable, replaceable, file_path, file_spot}
-use Rattle.odb_disk.specs.Tree.Way.{led_on, ways_within, is_front_of_one, on_way, on_way_to, is_link, is_link_content, crosses}
+use Rattle.odb_disk.specs.Tree.Write.{Refusal, WrongKind, from_followed, and_then, in_directory, spot_below, spot, file_path, file_spot}
+use Rattle.odb_disk.specs.Tree.Way.{led_on, ways_within, is_front_of_one, on_way, is_link_content}
 use Rattle.odb_disk.specs.declared.node.Node.{Node}
 use Rattle.odb_disk.specs.declared.node.Content.{Content}
 use Rattle.odb_disk.specs.declared.node.Content.TheVariants.{File, Dir, Link}
-use Rattle.odb_disk.proofs.TreeLemmas.{cases_path}
 use Rattle.odb_disk.proofs.TreeLemmas.Moved.{begins, behind-append}
 use Rattle.odb_disk.proofs.TreeLemmas.Write.{SpotIn, spot_is_in}
 use Rattle.odb_disk.proofs.WayLemmas.Alike.{outline_content, outline, outline_place, Alike, followed_alike, ways_alike}
-use Rattle.odb_disk.proofs.WayLemmas.Further.{front_of_front, front_of_more, front_of_own, front_of_longer, ends_way, unfollowed_front, ways_by, followed_by}
+use Rattle.odb_disk.proofs.WayLemmas.Further.{front_of_front, front_of_more, front_of_own, ends_way, unfollowed_front, ways_by, followed_by}
 
 -- ---- which paths are on a way
 
@@ -36,11 +35,6 @@ module _ (t : Tree) where
   pub place_on_way : (follow : Bool) (path : Path) (place : Place) → followed t follow path ≡ Ok place → on_way t follow path place.path ≡ true
   unfolding on_way
   place_on_way follow path place is = front_of_own (ways_within 40 t follow path) place.path (ends_way t follow 40 path place is)
-
-  below_on_way : (front : Path) (name : Name) (place : Place) → followed t true front ≡ Ok place → on_way t false (front ++ name ∷ []) (place.path ++ name ∷ []) ≡ true
-  unfolding on_way
-  below_on_way front name place is =
-      ap (λ ways. is_front_of_one ways (place.path ++ name ∷ [])) (ways_by t name 40 front) ∙ front_of_longer (ways_within 40 t true front) name place.path (ends_way t true 40 front place is)
 
   own_front : (follow : Bool) (links : ℕ) (path q : Path) → begins path q ≡ true → is_front_of_one (ways_within links t follow path) q ≡ true
   unfolding ways_within
@@ -65,14 +59,6 @@ module _ (t : Tree) (path s : Path) (is : spot t path ≡ Ok s) where
       let last = parent_of-some path i.front i.parent in
       let behind : drop (length i.front) path ≡ last.0 ∷ [] = ap (drop (length i.front)) last.1 ∙ behind-append i.front (last.0 ∷ []) in
       record { spot_in = i; name = last.0; path_is = last.1; is = ap (λ r. i.place.path ++ r) (sym behind) ∙ i.is }
-
-  pub spot_on_way : on_way t false path s ≡ true
-  spot_on_way = elim (cases_path s []) [
-    | inl root ↦ ap (on_way t false path) root ∙ own_on_way t false path [] (lies_below path [] path refl)
-    | inr below ↦
-        let n = named_in below in
-        ap (λ p. on_way t false p s) n.path_is ∙ ap (on_way t false (n.spot_in.front ++ n.name ∷ [])) (sym n.is) ∙ below_on_way t n.spot_in.front n.name n.spot_in.place n.spot_in.leads
-  ]
 
 -- ---- what stands at a spot is where the path leads
 
@@ -105,36 +91,15 @@ is_directory_content-outline (File bytes time) = refl
 is_directory_content-outline Dir = refl
 is_directory_content-outline (Link target) = refl
 
-is_directory-outline : (o : Option Node) → is_directory (outline o) ≡ is_directory o
-is_directory-outline None = refl
-is_directory-outline (Some node) = is_directory_content-outline node.content
-
 is_file_content-outline : (content : Content) → is_file_content (outline_content content) ≡ is_file_content content
 is_file_content-outline (File bytes time) = refl
 is_file_content-outline Dir = refl
 is_file_content-outline (Link target) = refl
 
-is_link_content-outline : (content : Content) → is_link_content (outline_content content) ≡ is_link_content content
-is_link_content-outline (File bytes time) = refl
-is_link_content-outline Dir = refl
-is_link_content-outline (Link target) = refl
-
-is_link-outline : (o : Option Node) → is_link (outline o) ≡ is_link o
-is_link-outline None = refl
-is_link-outline (Some node) = is_link_content-outline node.content
-
 pub file_no_link : (content : Content) → is_file_content content ≡ true → is_link_content content ≡ false
 file_no_link (File bytes time) file = refl
 file_no_link Dir file = absurd (false≢true file)
 file_no_link (Link target) file = absurd (false≢true file)
-
-vacant_spot-outline : (s : Path) (o : Option Node) → vacant_spot s (outline o) ≡ vacant_spot s o
-vacant_spot-outline s None = refl
-vacant_spot-outline s (Some node) = refl
-
-movable_spot-outline : (s : Path) (o : Option Node) → movable_spot s (outline o) ≡ movable_spot s o
-movable_spot-outline s None = refl
-movable_spot-outline s (Some node) = ap (λ b. cond b (Err WrongKind) (Ok s)) (is_directory_content-outline node.content)
 
 in_directory-outline : (last : Path) (told : Result Place following.Refusal) → and_then (in_directory last) (from_followed (outline_place told)) ≡ and_then (in_directory last) (from_followed told)
 in_directory-outline last (Ok place) = ap (λ b. cond b (Ok (place.path ++ last)) (Err WrongKind)) (is_directory_content-outline place.node.content)
@@ -145,10 +110,6 @@ file_path-outline (Ok place) = ap (λ b. cond b (Ok place.path) (Err WrongKind))
 file_path-outline (Err refusal) = refl
 
 -- ---- spots in trees that are alike on the way
-
-then_alike : (f g : Path → Result Path Refusal) (told : Result Path Refusal) → ((s : Path) → told ≡ Ok s → f s ≡ g s) → and_then f told ≡ and_then g told
-then_alike f g (Ok s) same = same s refl
-then_alike f g (Err refusal) same = refl
 
 -- two trees have nodes of one outline on the way that a path has in the first
 abbrev pub AlikeOnWay : Tree → Tree → Bool → Path → Type 0
@@ -197,34 +158,3 @@ module _ (t u : Tree) where
         | None ↦ λ none. spot_root none
         | Some front ↦ λ parent. spot_alike_below front parent (alike_below front parent)
       ] refl
-
-      -- what a word makes of the spot and the node there
-      seen_alike : (f : Path → Option Node → Result Path Refusal) → ((s : Path) (o : Option Node) → f s (outline o) ≡ f s o) → and_then (λ s. f s (node_at u s)) (spot u path) ≡ and_then (λ s. f s (node_at t s)) (spot t path)
-      seen_alike f by =
-          ap (and_then (λ s. f s (node_at u s))) spot_alike
-          ∙ then_alike (λ s. f s (node_at u s)) (λ s. f s (node_at t s)) (spot t path) (λ s is. sym (by s (node_at u s)) ∙ ap (f s) (alike s (spot_on_way t path s is)) ∙ by s (node_at t s))
-
-      pub vacant_alike : vacant u path ≡ vacant t path
-      unfolding vacant
-      vacant_alike = seen_alike vacant_spot vacant_spot-outline
-
-      pub movable_alike : movable u path ≡ movable t path
-      unfolding movable
-      movable_alike = seen_alike movable_spot movable_spot-outline
-
-      pub replaceable_alike : replaceable u path ≡ replaceable t path
-      unfolding replaceable
-      replaceable_alike = seen_alike (λ s o. cond (is_directory o) (Err WrongKind) (Ok s)) (λ s o. ap (λ b. cond b (Err WrongKind) (Ok s)) (is_directory-outline o))
-
-      pub crosses_alike : (q : Path) → crosses u path q ≡ crosses t path q
-      unfolding crosses
-      crosses_alike q = elim (parent_of path) as (λ o. parent_of path ≡ o → (is_link (node_at u q) && on_way_to u o q) ≡ (is_link (node_at t q) && on_way_to t o q)) [
-        | None ↦ λ _. and_right (is_link (node_at u q)) false refl ∙ sym (and_right (is_link (node_at t q)) false refl)
-        | Some front ↦ λ parent.
-            let below = alike_below front parent in
-            ap (λ b. is_link (node_at u q) && b) (on_way_alike true front below q) ∙ link_alike front (λ on. below q on) (on_way t true front q) refl
-      ] refl
-        where
-          link_alike : (front : Path) → (on_way t true front q ≡ true → outline (node_at u q) ≡ outline (node_at t q)) → (b : Bool) → on_way t true front q ≡ b → (is_link (node_at u q) && on_way t true front q) ≡ (is_link (node_at t q) && on_way t true front q)
-          link_alike front same true on = ap (λ l. l && on_way t true front q) (sym (is_link-outline (node_at u q)) ∙ ap is_link (same on) ∙ is_link-outline (node_at t q))
-          link_alike front same false off = and_right (is_link (node_at u q)) _ off ∙ sym (and_right (is_link (node_at t q)) _ off)

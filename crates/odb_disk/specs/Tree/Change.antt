@@ -9,7 +9,7 @@ use Rattle.odb_disk.specs.declared.node.Node.{Node}
 use Rattle.odb_disk.specs.declared.node.Content.{Content}
 use Rattle.odb_disk.specs.declared.node.Content.TheVariants.{File, Dir, Link}
 use Rattle.odb_disk.specs.declared.change.Change.{Change}
-use Rattle.odb_disk.specs.declared.change.Change.TheVariants.{PutFile, MakeDir, Rename, Append, Remove}
+use Rattle.odb_disk.specs.declared.change.Change.TheVariants.{PutFile, MakeDir, PutLink, Rename, Append, Remove, SetTime}
 
 -- the node of the directory that a path lies in
 abbrev pub parent_node : Tree → Path → Option Node
@@ -39,15 +39,21 @@ abbrev pub is_file_place : Result Place Refusal → Bool
 is_file_place (Ok place) = is_file_content place.node.content
 is_file_place (Err refusal) = false
 
--- Whether a change is possible. A file is put where no directory stands, a directory is made where nothing
--- stands, what is renamed can be moved, bytes are appended where the path leads to a file, links followed, and
--- what is removed is there and has no names in it.
+abbrev pub is_file : Option Node → Bool
+is_file None = false
+is_file (Some node) = is_file_content node.content
+
+-- Whether a change is possible. A file or a link is put where no directory stands, a directory is made where nothing
+-- stands, what is renamed can be moved, bytes are appended where the path leads to a file, links followed, what is
+-- removed is there and has no names in it, and a time is set where a file stands.
 unfoldable pub is_possible_in : Tree → Change → Bool
 is_possible_in tree (PutFile path time bytes) = lies_in_directory tree path && not (is_directory (node_at tree path))
 is_possible_in tree (MakeDir path dev) = lies_in_directory tree path && is_none (node_at tree path)
+is_possible_in tree (PutLink path target) = lies_in_directory tree path && not (is_directory (node_at tree path))
 is_possible_in tree (Rename from to) = lies_in_directory tree to && can_move tree from to (node_at tree from)
 is_possible_in tree (Append path bytes) = is_file_place (followed tree true path)
 is_possible_in tree (Remove path) = lies_in_directory tree path && is_some (node_at tree path) && is_nil (names_in tree path)
+is_possible_in tree (SetTime path time) = is_file (node_at tree path)
 
 -- whether some node has an inode number
 abbrev pub is_taken : Tree → ℕ → Bool
@@ -77,6 +83,15 @@ abbrev pub put_node : Tree → Path → Content → Option Node → Node
 put_node tree path content None = new_node tree path content
 put_node tree path content (Some node) = put_over tree path content node node.content
 
+abbrev pub link_over : Tree → Path → Path → Node → Content → Node
+link_over tree path target node (Link old) = record node { content = Link target }
+link_over tree path target node old = new_node tree path (Link target)
+
+-- the node of a link that is put at a path: a link that stands there keeps its node, else it is a new one
+abbrev pub link_node : Tree → Path → Path → Option Node → Node
+link_node tree path target None = new_node tree path (Link target)
+link_node tree path target (Some node) = link_over tree path target node node.content
+
 -- Where a node stands after a move of what is at `from` and below it: that part stands at `to`, and nothing else
 -- stays there.
 abbrev pub moved_entry : Path → Path → Path × Node → Option (Path × Node)
@@ -98,13 +113,26 @@ abbrev pub with_longer : Tree → List ℕ → Result Place Refusal → Tree
 with_longer tree more (Ok place) = with_node tree place.path (record place.node { content = longer place.node.content more })
 with_longer tree more (Err refusal) = tree
 
+-- a file with another time
+abbrev pub timed : ℕ → Content → Content
+timed time (File bytes old) = File bytes time
+timed time Dir = Dir
+timed time (Link target) = Link target
+
+-- the tree with another time at the file that stands at a path
+abbrev pub with_time : Tree → Path → ℕ → Option Node → Tree
+with_time tree path time None = tree
+with_time tree path time (Some node) = with_node tree path (record node { content = timed time node.content })
+
 -- the tree after a possible change
 unfoldable pub changed : Tree → Change → Tree
 changed tree (PutFile path time bytes) = with_node tree path (put_node tree path (File bytes time) (node_at tree path))
 changed tree (MakeDir path dev) = with_node tree path (record { dev = dev; ino = least_free tree; content = Dir })
+changed tree (PutLink path target) = with_node tree path (link_node tree path target (node_at tree path))
 changed tree (Rename from to) = with_moved tree from to
 changed tree (Append path bytes) = with_longer tree bytes (followed tree true path)
 changed tree (Remove path) = without tree path
+changed tree (SetTime path time) = with_time tree path time (node_at tree path)
 
 -- the state after a change that another program made, and whether it may be made
 unfoldable pub after_change : State → Change → State

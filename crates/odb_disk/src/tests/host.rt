@@ -11,7 +11,7 @@ use std::{env, fs, io};
 
 /// Makes a folder and goes there. It has a directory `d`, a file `f` of many pieces, and links to the file
 /// and in a circle.
-fn enter_folder(rt: &HostRuntime, folder: &str) -> io::Result<()> {
+pub(super) fn enter_folder(rt: &HostRuntime, folder: &str) -> io::Result<()> {
     let _ = fs::remove_dir_all(rt, folder);
     fs::create_dir_all(rt, folder)?;
     env::set_current_dir(rt, folder)?;
@@ -22,7 +22,7 @@ fn enter_folder(rt: &HostRuntime, folder: &str) -> io::Result<()> {
 }
 
 /// The path of the folder that the test is in.
-fn here(rt: &HostRuntime) -> Result<String, Fail> {
+pub(super) fn here(rt: &HostRuntime) -> Result<String, Fail> {
     let folder = env::current_dir(rt)?;
     Ok(folder.as_str().to_string(rt.alloc())?)
 }
@@ -47,7 +47,7 @@ fn kind_shown(alloc: Global, found: Result<Meta, DiskError>) -> Result<String, A
 
 fn length(rt: &HostRuntime, text: &str) -> Result<String, Fail> {
     let (name, longest) = cut(text);
-    let longest = longest.parse::<u64>()?;
+    let longest = longest.parse::<usize>()?;
     let found = read_at(rt, rt.alloc(), name, longest);
     Ok(length_shown(rt.alloc(), found)?)
 }
@@ -100,7 +100,7 @@ fn ends_of(alloc: Global, folder: &str, names: &str) -> Result<String, AllocErro
 /// What a call in the folder that the test is in gives.
 fn called_here(rt: &HostRuntime, text: &str) -> Result<String, Fail> {
     let folder = here(rt)?;
-    let mut disk = HostDisk::new(rt);
+    let mut disk = HostDisk::new(rt.alloc(), rt);
     called(rt.alloc(), &mut disk, folder.as_str(), text)
 }
 
@@ -120,7 +120,7 @@ fn check_row<D: Disk>(alloc: Global, disk: &mut D, folder: &str, row: &str) -> R
 /// Makes the call of each row, in turn, with names of a folder, and compares what it gives. Tells how many
 /// calls failed.
 fn check(rt: &HostRuntime, folder: &str, rows: &str) -> Result<u64, Fail> {
-    let mut disk = HostDisk::new(rt);
+    let mut disk = HostDisk::new(rt.alloc(), rt);
     for row in rows.split('\n') {
         check_row(rt.alloc(), &mut disk, folder, row)?;
     }

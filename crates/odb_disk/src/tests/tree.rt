@@ -33,8 +33,7 @@ fn told(alloc: Global, tree: &mut Tree, text: &str) -> Result<String, Fail> {
     match verb {
         "look" => look(alloc, tree, rest, false),
         "follow" => look(alloc, tree, rest, true),
-        "make" | "put" | "move" => change(alloc, tree, verb, rest),
-        "link" => link(alloc, tree, rest),
+        "make" | "put" | "move" | "link" | "time" => change(alloc, tree, verb, rest),
         "rename" => rename(alloc, tree, rest),
         _ => write(alloc, tree, verb, rest),
     }
@@ -55,11 +54,6 @@ fn look_shown(alloc: Global, found: Result<Meta, DiskError>) -> Result<String, A
 fn change(alloc: Global, tree: &mut Tree, verb: &str, rest: &str) -> Result<String, Fail> {
     let change = change_of(alloc, verb, rest)?;
     Ok(change_shown(alloc, tree.change(alloc, &change))?)
-}
-
-fn link(alloc: Global, tree: &mut Tree, ends: &str) -> Result<String, Fail> {
-    let (path, target) = two_paths(alloc, ends)?;
-    Ok(change_shown(alloc, tree.put_link(alloc, &path, target))?)
 }
 
 fn rename(alloc: Global, tree: &mut Tree, ends: &str) -> Result<String, Fail> {
@@ -252,4 +246,25 @@ const MOVES: &str = "\
 #[test]
 fn renames_by_changes(rt: HostRuntime) -> Result<(), Fail> {
     check(rt.alloc(), MOVES)
+}
+
+const PUTS: &str = "\
+    link /d /e; look /d; follow /d/d|done, Link 0 4 0 0, Absent\n\
+    link /o/f /e; look /o/f|done, Link 3 10 0 0\n\
+    put /d; look /d|done, File 0 10 2 7\n\
+    link /o /e|impossible change\n\
+    link / /e|impossible change\n\
+    link /x/y /e|impossible change\n\
+    link /d/y /e|impossible change\n\
+    time /o/f; look /o/f; new /t; time /t; look /t|done, File 3 3 2 9, done, done, File 0 10 0 9\n\
+    time /d|impossible change\n\
+    time /o|impossible change\n\
+    time /d/f|impossible change\n\
+    time /x|impossible change";
+
+// Catches a link that takes a new node where one stands or keeps that of a file, a change made through a link, and a
+// time set on what is no file.
+#[test]
+fn links_and_times(rt: HostRuntime) -> Result<(), Fail> {
+    check(rt.alloc(), PUTS)
 }

@@ -22,13 +22,16 @@ pub(super) fn compare(text: &str, found: &str, want: &str) -> Result<(), Fail> {
 }
 
 /// A change in words: `put` of a file of two bytes and time 7, `make` of a directory on device 3, `move` of
-/// one path to another, `lengthen` of a file by a text, or `take` of what is there.
+/// one path to another, `lengthen` of a file by a text, `link` to another path, `time` 9 of a file, or `take` of what
+/// is there.
 pub(super) fn change_of(alloc: Global, verb: &str, rest: &str) -> Result<Change, Fail> {
     match verb {
         "put" => put_of(alloc, rest),
         "make" => make_of(alloc, rest),
         "move" => move_of(alloc, rest),
         "lengthen" => lengthen_of(alloc, rest),
+        "link" => link_of(alloc, rest),
+        "time" => time_of(alloc, rest),
         _ => take_of(alloc, rest),
     }
 }
@@ -56,6 +59,16 @@ fn move_of(alloc: Global, ends: &str) -> Result<Change, Fail> {
 fn lengthen_of(alloc: Global, rest: &str) -> Result<Change, Fail> {
     let (path, bytes) = path_and_bytes(alloc, rest)?;
     Ok(Change::Append { path, bytes })
+}
+
+fn link_of(alloc: Global, ends: &str) -> Result<Change, Fail> {
+    let (path, target) = two_paths(alloc, ends)?;
+    Ok(Change::PutLink { path, target })
+}
+
+fn time_of(alloc: Global, text: &str) -> Result<Change, Fail> {
+    let path = PathText::parse(alloc, text)?;
+    Ok(Change::SetTime { path, time: 9 })
 }
 
 fn take_of(alloc: Global, text: &str) -> Result<Change, Fail> {

@@ -245,7 +245,12 @@ impl Tree {
     }
 
     /// The path of the node that a path leads to, links followed, with so many links left to follow.
-    fn place(&self, alloc: Global, path: &PathText, links: u8) -> Result<PathText, DiskError>
+    pub(super) fn place(
+        &self,
+        alloc: Global,
+        path: &PathText,
+        links: u8,
+    ) -> Result<PathText, DiskError>
         ensures { Tells result (from_followed (path_of_place (followed_within links self.now true path.now))) }
     {
         match self.pass(alloc, path, true)? {

@@ -7,7 +7,7 @@ use Rattle.odb_disk.proofs.mem_disk.MemDisk.carry_out.Goals as goal
 
 pub returns-then-ran_out-clause-kept : goal.returns-then-ran_out-clause-kept
 returns-then-ran_out-clause-kept c =
-    volume_kept c.args.self.now c.answer_to-answer.new.self c.args.ask.now c.answer_to-answer.result c.answer_to-answer.ensures.state c.answer_to-answer.ensures.counted
+    volume_kept c.args.self.now c.answer_to-answer.new.self c.args.ask.now c.answer_to-answer.result c.answer_to-answer.ensures.state c.answer_to-answer.ensures.streams c.answer_to-answer.ensures.counted
     (no_memory c.answer_to-answer.result (sym c.ran_out.ensures ∙ c.if-ran_out.true))
 
 pub returns-clause-answered : goal.returns-clause-answered
@@ -17,5 +17,5 @@ returns-clause-answered c =
 
 pub returns-clause-made : goal.returns-clause-made
 returns-clause-made c =
-    volume_after_ask c.args.self.now c.answer_to-answer.new.self c.args.ask.now c.answer_to-answer.result c.answer_to-answer.ensures.state c.answer_to-answer.ensures.counted
+    volume_after_ask c.args.self.now c.answer_to-answer.new.self c.args.ask.now c.answer_to-answer.result c.answer_to-answer.ensures.state c.answer_to-answer.ensures.streams c.answer_to-answer.ensures.counted
     (has_memory c.answer_to-answer.result (sym c.ran_out.ensures ∙ c.if-ran_out.false)) c.answer_to-answer.ensures.answer c.answer_to-answer.ensures.failed.0 c.answer_to-answer.ensures.failed.1

@@ -9,7 +9,7 @@ use Rattle.odb_disk.proofs.MemDiskLemmas.{IsTree-after, outside_change}
 use Rattle.odb_disk.proofs.mem_disk.MemDisk.change.Goals as goal
 
 abbrev seen : Inside → Volume
-seen inside = record { state = state_of inside.tree; calls = inside.calls }
+seen inside = record { state = state_of inside.tree; streams = inside.streams; calls = inside.calls }
 
 pub invariant_of-self : goal.invariant_of-self
 invariant_of-self c = IsTree-after c.change.result _ _ _ c.self.invariant c.change.ensures.made c.change.ensures.possible c.change.ensures.kept

@@ -8,7 +8,7 @@ use Rattle.odb_disk.proofs.MemDiskLemmas.{counted_call}
 use Rattle.odb_disk.proofs.mem_disk.MemDisk.count.Goals as goal
 
 abbrev seen : Inside → Volume
-seen inside = record { state = state_of inside.tree; calls = inside.calls }
+seen inside = record { state = state_of inside.tree; streams = inside.streams; calls = inside.calls }
 
 pub returns-clause-counted : goal.returns-clause-counted
 returns-clause-counted c =

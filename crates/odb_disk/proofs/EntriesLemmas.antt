@@ -1,0 +1,273 @@
+-- The entries of a directory, by the order of paths: what lies below it comes right behind it.
+use Rattle.std.proofs.Common.{◌≡◌, ◌≢◌, ◌&&◌, ℕ, Bool, true, false, cond, List, [], ◌∷◌, ◌++◌, length, get_or, map, Bor, Option, Some, None, Result, Ok, Err, T, refl, sym, ap, subst, ◌∙◌, append-nil, append_assoc, arith}
+use Rattle.std.specs.Option.{option_map}
+use Rattle.std.specs.Ordering.{is_lt, is_gt}
+use Rattle.std.specs.declared.cmp.Ordering.{Ordering}
+use Rattle.std.specs.declared.cmp.Ordering.TheVariants.{Less, Equal, Greater}
+use Rattle.std.specs.declared.ops.Bound.TheVariants.{Excluded, Unbounded}
+use Rattle.std.specs.Cmp.{tied_itself}
+use Rattle.std.specs.Cmp.Lexicographic.{nat_list_eq_equiv}
+use Rattle.std.specs.BTreeMap.Range.{entries_between, range_contains}
+use Rattle.std.specs.FinMap.{is_sorted}
+use Rattle.std.specs.FinMap.Entries.{below_all, is_sorted-where_key, same_entries}
+use Rattle.std.specs.List.{AllByRecursion, cons_option, filter_map, starts_with}
+use Rattle.std.specs.List.Sorted.{IsStrictlySortedBy}
+use Rattle.std.proofs.lemmas.Bool.{false≢true}
+use Rattle.odb_base.specs.Path.{Name, Path, path_cmp, same_name}
+use Rattle.odb_base.specs.PathLaws.{path_order, one_place}
+use Rattle.odb_disk.specs.Tree.{Tree, node_at, tree_of_entries, name_in, is_directory, is_directory_content}
+use Rattle.odb_disk.specs.Tree.Nodes.{entries_of, entries_of-sorted, node_at-entries_of, node_at-tree_of_entries}
+use Rattle.odb_disk.specs.Tree.Follow as following
+use Rattle.odb_disk.specs.Tree.Follow.{Place, followed}
+use Rattle.odb_disk.specs.Tree.Write as writing
+use Rattle.odb_disk.specs.Tree.Write.{from_followed, refusal_from}
+use Rattle.odb_disk.specs.TreeCalls.{Tells, path_of_place}
+use Rattle.odb_disk.specs.Disk.{Answers}
+use Rattle.odb_disk.specs.Streams.{kind_of, entry_of, entry_in, entries_in, entries_at, entries_at_place, opened}
+use Rattle.odb_disk.specs.declared.disk.Entry.{Entry}
+use Rattle.odb_disk.specs.declared.disk.Kind.{Kind}
+use Rattle.odb_disk.specs.declared.disk.DiskError.{DiskError}
+use Rattle.odb_disk.specs.declared.disk.DiskError.TheVariants as errors
+use Rattle.odb_disk.specs.declared.node.Node.{Node}
+use Rattle.odb_disk.specs.declared.node.Content.{Content}
+use Rattle.odb_disk.specs.declared.node.Content.TheVariants.{File, Dir, Link}
+use Rattle.odb_disk.proofs.TreeLemmas.Change.{name_in-path}
+use Rattle.odb_disk.proofs.NamesLemmas.{before_names, begins_between}
+use Rattle.odb_disk.proofs.WriteCallsLemmas.{led_to}
+
+abbrev Nodes : Type 0
+Nodes = List (Path × Node)
+
+-- ---- nodes in the order of their paths
+
+both : (a b : Bool) → T a → T b → T (a && b)
+both true b p q = q
+both false b p q = p
+
+first : (a b : Bool) → T (a && b) → T a
+first true b p = tt
+first false b p = p
+
+second : (a b : Bool) → T (a && b) → T b
+second true b p = p
+second false b p = absurd p
+
+less : (o : Ordering) → T (is_lt o) → o ≡ Less
+less Less p = refl
+less Equal p = absurd p
+less Greater p = absurd p
+
+not_greater : (o : Ordering) → T (is_lt o) → is_gt o ≡ false
+not_greater Less p = refl
+not_greater Equal p = absurd p
+not_greater Greater p = absurd p
+
+below_all-from : (path : Path) (es : Nodes) → AllByRecursion (λ q. path_cmp path q ≡ Less) (map (λ e. e.0) es) → T (below_all path_cmp path es)
+below_all-from path [] all = tt
+below_all-from path (e ∷ es) all = both _ _ (subst (λ o. T (is_lt o)) (sym all.0) tt) (below_all-from path es all.1)
+
+is_sorted-from : (es : Nodes) → IsStrictlySortedBy path_cmp (map (λ e. e.0) es) → T (is_sorted path_cmp es)
+unfolding IsStrictlySortedBy
+is_sorted-from [] sorted = tt
+is_sorted-from (e ∷ es) sorted = both _ _ (below_all-from e.0 es sorted.0) (is_sorted-from es sorted.1)
+
+-- nodes in order are those of the tree that they make
+entries_of-tree : (es : Nodes) → T (is_sorted path_cmp es) → entries_of (tree_of_entries es) ≡ es
+entries_of-tree es sorted =
+    let t = tree_of_entries es in
+    same_entries path_cmp path_order one_place (entries_of t) es (entries_of-sorted t) sorted (λ q. sym (node_at-entries_of t q) ∙ node_at-tree_of_entries es q)
+
+-- ---- what lies right in a directory
+
+name_in-below : (directory rest : Path) → name_in directory (directory ++ rest) ≡ name_in [] rest
+unfolding name_in
+name_in-below [] rest = refl
+name_in-below (step ∷ steps) rest = ap (λ b. cond b (name_in steps (steps ++ rest)) None) (nat_list_eq_equiv.refl step) ∙ name_in-below steps rest
+
+-- a node has no entry where no name leads to its path
+no_entry : (directory : Path) (at : Path × Node) → ((name : Name) → at.0 ≡ directory ++ name ∷ [] → ⊥) → entry_in directory at ≡ None
+no_entry directory at none = elim (name_in directory at.0) as (λ o. name_in directory at.0 ≡ o → option_map (entry_of at.1) o ≡ None) [
+  | None ↦ λ _. refl
+  | Some name ↦ λ is. absurd (none name (name_in-path directory at.0 name is))
+] refl
+
+module _ (directory : Path) where
+  -- the nodes that come behind the directory
+  abbrev pub behind : Nodes → Nodes
+  behind es = entries_between path_cmp (Excluded directory) Unbounded es
+
+  -- the entries of some nodes
+  abbrev pub entries_among : Nodes → List Entry
+  entries_among es = filter_map (entry_in directory) es
+
+  entries_behind : (es : Nodes) → entries_among (behind es) ≡ entries_among es
+  entries_behind [] = refl
+  entries_behind (e ∷ es) =
+      elim (is_lt (path_cmp directory e.0)) as (λ b. is_lt (path_cmp directory e.0) ≡ b → entries_among (cond (b && true) (e ∷ behind es) (behind es)) ≡ entries_among (e ∷ es)) [
+        | true ↦ λ _. ap (cons_option (entry_in directory e)) (entries_behind es)
+        | false ↦ λ before.
+            let none = no_entry directory e (λ name is. false≢true (sym before ∙ ap is_lt (ap (path_cmp directory) is ∙ before_names directory name))) in
+            entries_behind es ∙ sym (ap (λ o. cons_option o (entries_among es)) none)
+      ] refl
+
+  below_all-behind : (es : Nodes) → T (below_all path_cmp directory (behind es))
+  below_all-behind [] = tt
+  below_all-behind (e ∷ es) =
+      elim (is_lt (path_cmp directory e.0)) as (λ b. is_lt (path_cmp directory e.0) ≡ b → T (below_all path_cmp directory (cond (b && true) (e ∷ behind es) (behind es)))) [
+        | true ↦ λ is. both _ _ (subst T (sym is) tt) (below_all-behind es)
+        | false ↦ λ _. below_all-behind es
+      ] refl
+
+-- ---- the names below a directory
+
+unnamed : (names : List (Bor Name)) → length names ≢ 1 → name_in [] (map (λ n. n.now) names) ≡ None
+unfolding name_in
+unnamed [] other = refl
+unnamed (name ∷ []) other = absurd (other refl)
+unnamed (name ∷ next ∷ names) other = refl
+
+named : (names : List (Bor Name)) (d : Bor Name) → length names ≡ 1 → name_in [] (map (λ n. n.now) names) ≡ Some (get_or names 0 d).now
+unfolding name_in
+named [] d one = absurd (omega arith)
+named (name ∷ []) d one = refl
+named (name ∷ next ∷ names) d one = absurd (omega arith)
+
+abbrev entry_with : ℕ → Name → Kind → Entry
+entry_with ino name kind = record { name = name; kind = kind; ino = ino }
+
+-- no name, or more than one, adds nothing
+pub none_added : (so_far : List Entry) (names : List (Bor Name)) (below : Path) (node : Node) → map (λ n. n.now) names ≡ below → length names ≢ 1 → so_far ≡ so_far ++ filter_map (entry_in []) ((below, node) ∷ [])
+none_added so_far names below node is other =
+    let none : entry_in [] (below, node) ≡ None = ap (option_map (entry_of node)) (ap (name_in []) (sym is) ∙ unnamed names other) in
+    sym (append-nil so_far) ∙ ap (λ o. so_far ++ cons_option o []) (sym none)
+
+-- one name adds its entry
+pub one_added : (names : List (Bor Name)) (below : Path) (node : Node) (d : Bor Name) (name : Name) (kind : Kind) → map (λ n. n.now) names ≡ below → length names ≡ 1 → name ≡ (get_or names 0 d).now → kind ≡ kind_of node.content → entry_in [] (below, node) ≡ Some (entry_with node.ino name kind)
+one_added names below node d name kind is one name_is kind_is =
+    ap (option_map (entry_of node)) (ap (name_in []) (sym is) ∙ named names d one ∙ ap Some (sym name_is)) ∙ ap (λ k. Some (entry_with node.ino name k)) (sym kind_is)
+
+-- ---- the turns of a listing
+
+-- the entries that are listed so far, and nodes in order behind the directory that are still to come
+pub record IsListed (directory : Path) (all so_far : List Entry) (es : Nodes) : Type 0 where
+  pub whole : so_far ++ entries_among directory es ≡ all
+  pub behind_it : T (below_all path_cmp directory es)
+  pub sorted : T (is_sorted path_cmp es)
+
+pub none_listed : (directory : Path) (es left : Nodes) (none : List Entry) → IsStrictlySortedBy path_cmp (map (λ e. e.0) es) → left ≡ behind directory es → none ≡ [] → IsListed directory (entries_in (tree_of_entries es) directory) none left
+unfolding entries_in
+none_listed directory es left none strictly is empty =
+    let sorted = is_sorted-from es strictly in
+    record {
+      whole = ap (λ xs. xs ++ entries_among directory left) empty ∙ ap (entries_among directory) is ∙ entries_behind directory es ∙ ap (entries_among directory) (sym (entries_of-tree es sorted));
+      behind_it = subst (λ l. T (below_all path_cmp directory l)) (sym is) (below_all-behind directory es);
+      sorted = subst (λ l. T (is_sorted path_cmp l)) (sym is) (is_sorted-where_key path_cmp (range_contains path_cmp (Excluded directory) Unbounded) es sorted);
+    }
+
+module _ (directory : Path) (all so_far : List Entry) (es : Nodes) (listed : IsListed directory all so_far es) where
+  pub all_listed : es ≡ [] → so_far ≡ all
+  all_listed none = sym (append-nil so_far) ∙ ap (λ l. so_far ++ entries_among directory l) (sym none) ∙ listed.whole
+
+  module _ (path : Path) (node : Node) (more : Nodes) (next : es ≡ (path, node) ∷ more) where
+    behind_next : T (is_lt (path_cmp directory path) && below_all path_cmp directory more)
+    behind_next = subst (λ l. T (below_all path_cmp directory l)) next listed.behind_it
+
+    sorted_next : T (below_all path_cmp path more && is_sorted path_cmp more)
+    sorted_next = subst (λ l. T (is_sorted path_cmp l)) next listed.sorted
+
+    regrouped : (o : Option Entry) (xs : List Entry) → (so_far ++ cons_option o []) ++ xs ≡ so_far ++ cons_option o xs
+    regrouped o xs = append_assoc so_far (cons_option o []) xs ∙ ap (λ ys. so_far ++ ys) (alone o)
+      where
+        alone : (p : Option Entry) → cons_option p [] ++ xs ≡ cons_option p xs
+        alone None = refl
+        alone (Some entry) = refl
+
+    -- a node below the directory is passed
+    pub one_listed : (rest : Path) (now : List Entry) → directory ++ rest ≡ path → now ≡ so_far ++ filter_map (entry_in []) ((rest, node) ∷ []) → IsListed directory all now more
+    one_listed rest now below added =
+        let same : entry_in [] (rest, node) ≡ entry_in directory (path, node) = ap (option_map (entry_of node)) (sym (name_in-below directory rest) ∙ ap (name_in directory) below) in
+        record {
+          whole = ap (λ xs. xs ++ entries_among directory more) added ∙ regrouped (entry_in [] (rest, node)) (entries_among directory more)
+              ∙ ap (λ o. so_far ++ cons_option o (entries_among directory more)) same ∙ ap (λ l. so_far ++ entries_among directory l) (sym next) ∙ listed.whole;
+          behind_it = second _ _ behind_next;
+          sorted = second _ _ sorted_next;
+        }
+
+    module _ (other : starts_with same_name path directory ≡ false) where
+      no_entry_after : (at : Path × Node) → is_gt (path_cmp path at.0) ≡ false → entry_in directory at ≡ None
+      no_entry_after at after = no_entry directory at (λ name is.
+          false≢true (sym other ∙ begins_between directory path (name ∷ []) (less _ (first _ _ behind_next)) (ap (λ q. is_gt (path_cmp path q)) (sym is) ∙ after)))
+
+      none_after : (later : Nodes) → T (below_all path_cmp path later) → entries_among directory later ≡ []
+      none_after [] below = refl
+      none_after (e ∷ later) below = ap (λ o. cons_option o (entries_among directory later)) (no_entry_after e (not_greater _ (first _ _ below))) ∙ none_after later (second _ _ below)
+
+      -- what doesn't begin with the directory ends the listing
+      pub listed_before : so_far ≡ all
+      listed_before =
+          let here : entry_in directory (path, node) ≡ None = no_entry_after (path, node) (ap is_gt (tied_itself path_order path)) in
+          let none : entries_among directory es ≡ [] = ap (entries_among directory) next ∙ ap (λ o. cons_option o (entries_among directory more)) here ∙ none_after more (first _ _ sorted_next) in
+          sym (append-nil so_far) ∙ ap (λ xs. so_far ++ xs) (sym none) ∙ listed.whole
+
+-- ---- what opening a directory answers
+
+entries_at-content : (t : Tree) (p : Path) (c : Content) → entries_at t p c ≡ cond (is_directory_content c) (Ok (entries_in t p)) (Err following.WrongKind)
+entries_at-content t p (File bytes time) = refl
+entries_at-content t p Dir = refl
+entries_at-content t p (Link target) = refl
+
+module _ (t : Tree) (path p : Path) (found : from_followed (path_of_place (followed t true path)) ≡ Ok p) where
+  opened-place : (b : Bool) → is_directory (node_at t p) ≡ b → opened t path ≡ cond b (Ok (entries_in t p)) (Err following.WrongKind)
+  unfolding opened
+  opened-place b is =
+      let l = led_to t path p found in
+      ap (entries_at_place t) l.is ∙ entries_at-content t l.place.path l.place.node.content
+      ∙ ap (λ k. cond k (Ok (entries_in t l.place.path)) (Err following.WrongKind)) (sym (ap is_directory l.at) ∙ is)
+      ∙ ap (λ q. cond b (Ok (entries_in t q)) (Err following.WrongKind)) l.path_is
+
+  pub opened_directory : is_directory (node_at t p) ≡ true → opened t path ≡ Ok (entries_in t p)
+  opened_directory is = opened-place true is
+
+  pub opened_other : is_directory (node_at t p) ≡ false → opened t path ≡ Err following.WrongKind
+  opened_other is = opened-place false is
+
+same_refusal : (refusal twin : following.Refusal) → refusal_from refusal ≡ refusal_from twin → refusal ≡ twin
+same_refusal following.Absent following.Absent is = refl
+same_refusal following.Absent following.WrongKind is = cc
+same_refusal following.Absent following.LinkLoop is = cc
+same_refusal following.WrongKind following.Absent is = cc
+same_refusal following.WrongKind following.WrongKind is = refl
+same_refusal following.WrongKind following.LinkLoop is = cc
+same_refusal following.LinkLoop following.Absent is = cc
+same_refusal following.LinkLoop following.WrongKind is = cc
+same_refusal following.LinkLoop following.LinkLoop is = refl
+
+never_exists : (refusal : following.Refusal) → refusal_from refusal ≡ writing.Exists → ⊥
+never_exists following.Absent is = cc
+never_exists following.WrongKind is = cc
+never_exists following.LinkLoop is = cc
+
+never_not_empty : (refusal : following.Refusal) → refusal_from refusal ≡ writing.NotEmpty → ⊥
+never_not_empty following.Absent is = cc
+never_not_empty following.WrongKind is = cc
+never_not_empty following.LinkLoop is = cc
+
+refused : (t : Tree) (told : Result Place following.Refusal) (e : DiskError) → Tells {A = Path} (Err e) (from_followed (path_of_place told)) → Answers {A = List Entry} (Err e) (entries_at_place t told)
+refused t (Ok place) errors.Absent is = absurd (cc)
+refused t (Ok place) errors.WrongKind is = absurd (cc)
+refused t (Ok place) errors.LinkLoop is = absurd (cc)
+refused t (Ok place) errors.Exists is = absurd (cc)
+refused t (Ok place) errors.NotEmpty is = absurd (cc)
+refused t (Ok place) errors.Failed is = tt
+refused t (Ok place) errors.NoMemory is = tt
+refused t (Err refusal) errors.Absent is = ap Err (same_refusal refusal following.Absent (let e : refusal_from refusal ≡ writing.Absent = cc in e))
+refused t (Err refusal) errors.WrongKind is = ap Err (same_refusal refusal following.WrongKind (let e : refusal_from refusal ≡ writing.WrongKind = cc in e))
+refused t (Err refusal) errors.LinkLoop is = ap Err (same_refusal refusal following.LinkLoop (let e : refusal_from refusal ≡ writing.LinkLoop = cc in e))
+refused t (Err refusal) errors.Exists is = never_exists refusal (let e : refusal_from refusal ≡ writing.Exists = cc in e)
+refused t (Err refusal) errors.NotEmpty is = never_not_empty refusal (let e : refusal_from refusal ≡ writing.NotEmpty = cc in e)
+refused t (Err refusal) errors.Failed is = tt
+refused t (Err refusal) errors.NoMemory is = tt
+
+pub opened_refused : (t : Tree) (path : Path) (e : DiskError) → Tells {A = Path} (Err e) (from_followed (path_of_place (followed t true path))) → Answers {A = List Entry} (Err e) (opened t path)
+unfolding opened
+opened_refused t path e is = refused t (followed t true path) e is

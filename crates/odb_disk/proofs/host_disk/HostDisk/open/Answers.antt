@@ -1,0 +1,20 @@
+use Rattle.std.proofs.Common.{◌≡◌, false, Option, Some, None, is_some, refl, arith}
+use Rattle.std.proofs.lemmas.Grind.{common_steps}
+use Rattle.odb_disk.specs.Streams.{with_opened}
+use Rattle.odb_disk.proofs.host_disk.HostDisk.open.Goals as goal
+
+-- a number that no open stream has gives nothing
+nothing : {A : Type 0} (o : Option A) → is_some o ≡ false → o ≡ None
+nothing None free = refl
+nothing (Some x) free = cc
+
+pub returns-clause-opened : goal.returns-clause-opened
+returns-clause-opened g c = λ path.
+    let streams : c.if-listing.self.streams ≡ with_opened c.args.self.now.streams c.in_ok-dir.dir c.args.listing.entries = grind (arith, common_steps) in
+    record {
+      entries = c.args.listing.entries;
+      was_free = nothing _ c.in_ok-dir.ensures.least.free;
+      few = c.in_ok-dir.ensures.few;
+      streams = streams;
+      fixed = tt;
+    }

@@ -1,0 +1,188 @@
+//! The open streams of a disk, by their numbers.
+ghost use Rattle.std.specs.Prelude.{◌≡◌, ◌<◌, ◌^◌, ◌∷◌, ◌++◌, [], true, length, IfOk, OnOk, OnErr, IfSome, IfNone};
+ghost use Rattle.std.specs.FinMap as maps;
+ghost use Rattle.odb_base.specs.Path.{is_name};
+ghost use Rattle.odb_disk.specs.Streams.{IsLeastClosed, TakesNext, lists_only, no_streams, with_opened, with_closed};
+
+use crate::NoMemory;
+use crate::disk::{DirId, Entry};
+use std::alloc::Global;
+use std::collections::{BTreeMap, VecDeque};
+use std::marker::Model;
+
+/// Entries in the order in which they are given.
+#[derive(Debug, Drop)]
+pub(crate) struct EntryQueue {
+    entries: VecDeque<Entry>,
+}
+
+impl Model for EntryQueue {
+    ghost use Rattle.std.specs.Prelude.{List};
+    ghost use Rattle.std.specs.Coded.{coded_list};
+    ghost use Rattle.odb_disk.specs.Streams.{coded_entry};
+    ghost use Rattle.odb_disk.specs.declared.disk.Entry.{Entry as EntryValue};
+
+    ghost Value = { List EntryValue };
+
+    ghost coded = { coded_list coded_entry };
+
+    ghost view = { λ queue. queue.entries.items };
+
+    ghost use Rattle.odb_disk.specs.Streams.{AreNamed};
+
+    ghost invariant = { λ queue. AreNamed queue.entries.items };
+}
+
+impl EntryQueue {
+    /// No entries, which takes no memory.
+    pub(crate) fn new(alloc: Global) -> EntryQueue
+        ensures { result ≡ [] }
+    {
+        EntryQueue {
+            entries: VecDeque::new(alloc),
+        }
+    }
+
+    /// Adds an entry at the end. A refused call changes nothing.
+    pub(crate) fn push(&mut self, entry: Entry) -> Result<(), NoMemory>
+        requires { is_name entry.name ≡ true }
+        ensures ok { OnOk result (self.new ≡ self.old ++ entry ∷ []) }
+        ensures err { OnErr result (self.new ≡ self.old) }
+    {
+        self.entries.push_back(entry)?;
+        Ok(())
+    }
+
+    /// Takes the first entry.
+    fn pop(&mut self) -> Option<Entry>
+        ensures first { IfSome result (λ entry. self.old ≡ entry ∷ self.new) }
+        ensures none { IfNone result (self.old ≡ []) }
+        ensures kept { IfNone result (self.new ≡ self.old) }
+        ensures named { IfSome result (λ entry. is_name entry.name ≡ true) }
+    {
+        self.entries.pop_front()
+    }
+
+    /// How many entries there are.
+    pub(crate) fn len(&self) -> usize
+        ensures { result ≡ length self.now }
+    {
+        self.entries.len()
+    }
+
+    /// A copy of the entries.
+    fn try_clone(&self, alloc: Global) -> Result<EntryQueue, NoMemory>
+        ensures { IfOk result (λ copy. copy ≡ self.now) }
+    {
+        let mut copy = EntryQueue::new(alloc);
+        for entry in &self.entries {
+            copy.push(entry.try_clone(alloc)?)?;
+        }
+        Ok(copy)
+    }
+}
+
+/// The streams that are open, and the most that were open at one time so far.
+#[derive(Debug, Drop)]
+pub(crate) struct DirStreams {
+    lists: BTreeMap<u64, EntryQueue>,
+    peak: u64,
+}
+
+impl Model for DirStreams {
+    ghost use Rattle.odb_disk.specs.Streams.{Streams, coded_streams};
+    ghost use Rattle.std.specs.FinMap as finite;
+
+    ghost Value = { Streams };
+
+    ghost coded = { coded_streams };
+
+    ghost view = { λ s. record { open_dirs = finite.from_entries s.lists.entries; peak = s.peak } };
+}
+
+impl DirStreams {
+    /// No stream is open, and none was.
+    pub(crate) fn new(alloc: Global) -> DirStreams
+        ensures { result ≡ no_streams }
+    {
+        DirStreams {
+            lists: BTreeMap::new(alloc),
+            peak: 0,
+        }
+    }
+
+    /// Opens a stream of these entries, under the least number that no open one has. A refused call changes nothing.
+    pub(crate) fn open(&mut self, entries: EntryQueue) -> Result<DirId, NoMemory>
+        ensures opened { IfOk result (λ dir. self.new ≡ with_opened self.old dir entries) }
+        ensures least { IfOk result (λ dir. IsLeastClosed self.old.open_dirs dir) }
+        ensures few { OnOk result (length entries < 2 ^ 64) }
+        ensures kept { OnErr result (self.new ≡ self.old) }
+    {
+        let number = least_closed(&self.lists)?;
+        // The clause `few`: the length of a queue has 64 bits.
+        let _count = entries.len();
+        self.lists.insert(number, entries)?;
+        self.peak = self.peak.max(self.lists.len() as u64);
+        Ok(DirId::new(number))
+    }
+
+    /// Takes the next entry of a stream. There is none at its end, and no answer where it isn't open.
+    pub(crate) fn next(&mut self, dir: &DirId) -> Option<Option<Entry>>
+        ensures { TakesNext self.old self.new dir.now result }
+    {
+        take_entry(&mut self.lists, dir.number())
+    }
+
+    /// Closes a stream, if it is open.
+    pub(crate) fn close(&mut self, dir: &DirId)
+        ensures { self.new ≡ with_closed self.old dir.now }
+    {
+        let _ = self.lists.remove(&dir.number());
+    }
+
+    /// A copy of the streams.
+    pub(crate) fn try_clone(&self, alloc: Global) -> Result<DirStreams, NoMemory>
+        ensures { IfOk result (λ copy. copy ≡ self.now) }
+    {
+        Ok(DirStreams {
+            lists: copied(alloc, &self.lists)?,
+            peak: self.peak,
+        })
+    }
+}
+
+/// The least number that no open stream has. There is none where all numbers of 64 bits are taken.
+fn least_closed(lists: &BTreeMap<u64, EntryQueue>) -> Result<u64, NoMemory>
+    ensures { IfOk result (IsLeastClosed (maps.from_entries lists.now.entries)) }
+{
+    for number in 0..u64::MAX {
+        if !lists.contains_key(&number) {
+            return Ok(number);
+        }
+    }
+    Err(NoMemory)
+}
+
+/// Takes the next entry of a stream.
+fn take_entry(lists: &mut BTreeMap<u64, EntryQueue>, number: u64) -> Option<Option<Entry>>
+    ensures { TakesNext (lists_only lists.old.entries) (lists_only lists.new.entries) number result }
+{
+    match lists.get_mut(&number) {
+        None => None,
+        Some(entries) => Some(entries.pop()),
+    }
+}
+
+/// A copy of streams.
+fn copied(
+    alloc: Global,
+    lists: &BTreeMap<u64, EntryQueue>,
+) -> Result<BTreeMap<u64, EntryQueue>, NoMemory>
+    ensures { IfOk result (λ copy. lists_only copy.entries ≡ lists_only lists.now.entries) }
+{
+    let mut copy = BTreeMap::new(alloc);
+    for (number, entries) in lists {
+        copy.insert(*number, entries.try_clone(alloc)?)?;
+    }
+    Ok(copy)
+}
