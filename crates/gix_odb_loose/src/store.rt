@@ -124,6 +124,7 @@ impl Store {
             (TestRefused self.now id.now (Rose (D.faults disk.old) (D.faults disk.new))) }
         ensures kept { D.state disk.new ≡ D.state disk.old }
         ensures later { D.faults disk.old ≤ D.faults disk.new }
+        ensures streams { D.streams disk.new ≡ D.streams disk.old }
     {
         match self.run(alloc, disk, LooseJob::Contains(*id))? {
             LooseReply::Contains(answer) => answer,
@@ -152,6 +153,7 @@ impl Store {
         ensures object_hash { IfOk result (λ found. IfSome found (λ object. object.object_hash ≡ store_hash self.now)) }
         ensures kept { D.state disk.new ≡ D.state disk.old }
         ensures later { D.faults disk.old ≤ D.faults disk.new }
+        ensures streams { D.streams disk.new ≡ D.streams disk.old }
     {
         out.clear();
         match self.run(alloc, disk, LooseJob::Find(*id))? {
@@ -186,6 +188,7 @@ impl Store {
             (HeaderRefused self.now id.now (D.state disk.old) (Rose (D.faults disk.old) (D.faults disk.new))) }
         ensures kept { D.state disk.new ≡ D.state disk.old }
         ensures later { D.faults disk.old ≤ D.faults disk.new }
+        ensures streams { D.streams disk.new ≡ D.streams disk.old }
     {
         match self.run(alloc, disk, LooseJob::Header(*id))? {
             LooseReply::Header(answer) => answer,
@@ -206,6 +209,7 @@ impl Store {
             (ComesToReply (D.state disk.old) (D.faults disk.old) (D.faults disk.new) (started self.now job)) }
         ensures kept { D.state disk.new ≡ D.state disk.old }
         ensures later { D.faults disk.old ≤ D.faults disk.new }
+        ensures streams { D.streams disk.new ≡ D.streams disk.old }
     {
         let mut call = LooseCall::start(alloc, self, job)?;
         'turns: while turn(alloc, disk, &mut call)? {}
@@ -223,6 +227,7 @@ fn turn<D: Disk>(alloc: Global, disk: &mut D, call: &mut LooseCall) -> Result<bo
     ensures fewer { IfOk result (λ more. IsTrue more → asks_left call.new.stage < asks_left call.old.stage) }
     ensures broke { OnErr result (Broke (D.state disk.old) (D.state disk.new) call.old call.new) }
     ensures later { D.faults disk.old ≤ D.faults disk.new }
+    ensures streams { D.streams disk.new ≡ D.streams disk.old }
 {
     match call.disk_ask(alloc)? {
         Some(ask) => {

@@ -77,6 +77,7 @@ impl StreamJob {
             IfOk result (λ end. end ≡ None → turns_left w.head.size self.new.stage < turns_left w.head.size self.old.stage) }
         ensures head { self.new.head ≡ self.old.head }
         ensures later { D.faults disk.old ≤ D.faults disk.new }
+        ensures streams { D.streams disk.new ≡ D.streams disk.old }
     {
         let len = self.piece.len() as u64;
         let ask = self.ask(alloc)?;
@@ -96,6 +97,7 @@ impl StreamJob {
             IsBroken w (D.state disk.old) (D.faults disk.old) rest source_now self.now →
             IsBrokenOff w (D.state disk.new) (D.faults disk.new) rest source_now }
         ensures later { D.faults disk.old ≤ D.faults disk.new }
+        ensures streams { D.streams disk.new ≡ D.streams disk.old }
     {
         if self.stage.number_made().is_some() {
             let _ = self.removal.carry_out(alloc, disk);

@@ -34,6 +34,7 @@ impl Store {
         ensures id { IfOk result (λ id. id ≡ object_id (store_hash self.now) kind from.now) }
         ensures kind { IfOk result (λ id. kind_of id ≡ store_hash self.now) }
         ensures later { D.faults disk.old ≤ D.faults disk.new }
+        ensures streams { D.streams disk.new ≡ D.streams disk.old }
     {
         let mut data = Lent::new(from);
         self.run_write(alloc, disk, kind, from.len() as u64, None, &mut data)
@@ -52,6 +53,7 @@ impl Store {
         ensures run { WriteRuns (write_head self.now kind (length from.now)) (store_hash self.now) (Some id) (Some from.now) ⊥ (D.state disk.old) (D.state disk.new) (D.faults disk.old) (D.faults disk.new) result }
         ensures id { IfOk result (λ answered. answered ≡ id) }
         ensures later { D.faults disk.old ≤ D.faults disk.new }
+        ensures streams { D.streams disk.new ≡ D.streams disk.old }
     {
         let mut data = Lent::new(from);
         self.run_write(alloc, disk, kind, from.len() as u64, Some(id), &mut data)
@@ -76,6 +78,7 @@ impl Store {
         ensures id { IfOk result (λ id. IfSome (S.left from.old) (λ bytes. id ≡ object_id (store_hash self.now) kind bytes)) }
         ensures kind { IfOk result (λ id. kind_of id ≡ store_hash self.now) }
         ensures later { D.faults disk.old ≤ D.faults disk.new }
+        ensures streams { D.streams disk.new ≡ D.streams disk.old }
     {
         self.run_write(alloc, disk, kind, size, None, from)
     }
@@ -97,6 +100,7 @@ impl Store {
         ensures whole { IfOk result (λ _. IsWhole size (S.left from.old) (S.left from.new)) }
         ensures id { IfOk result (λ answered. answered ≡ id) }
         ensures later { D.faults disk.old ≤ D.faults disk.new }
+        ensures streams { D.streams disk.new ≡ D.streams disk.old }
     {
         self.run_write(alloc, disk, kind, size, Some(id), from)
     }
@@ -112,6 +116,7 @@ impl Store {
         ensures id { IfOk result (λ id. id ≡ object_id (store_hash self.now) (O.kind object.now) (O.bytes object.now)) }
         ensures kind { IfOk result (λ id. kind_of id ≡ store_hash self.now) }
         ensures later { D.faults disk.old ≤ D.faults disk.new }
+        ensures streams { D.streams disk.new ≡ D.streams disk.old }
     {
         let mut data = MemSink::new(alloc);
         if object.write_to(&mut data).is_err() {
@@ -134,6 +139,7 @@ impl Store {
         ensures taken { TakesFrom size (S.left from.old) (S.left from.new) (S.faults from.old) (S.faults from.new) }
         ensures ended { IfOk result (λ _. IsAtEnd (S.left from.new)) }
         ensures later { D.faults disk.old ≤ D.faults disk.new }
+        ensures streams { D.streams disk.new ≡ D.streams disk.old }
     {
         let head = WriteHead {
             objects: self.path().try_clone(alloc)?,

@@ -52,7 +52,7 @@ fn told(
 
 /// What each row gives, in turn. Tells how many calls failed.
 fn check(rt: &HostRuntime, store: &Store, rows: &[&str]) -> Result<u64, Fail> {
-    let mut disk = HostDisk::new(rt);
+    let mut disk = HostDisk::new(rt.alloc(), rt);
     for row in rows {
         let (text, want) = halves(row);
         let found = told(rt, store, &mut disk, text)?;

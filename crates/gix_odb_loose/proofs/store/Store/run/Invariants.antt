@@ -9,6 +9,7 @@ invariant-turns g l = record {
   goes : Goes (g.D.Disk.state l.fn.disk) (g.D.Disk.faults l.fn.disk) (g.D.Disk.faults l.disk) (started l.fn.self l.fn.job) l.call;
   kept : g.D.Disk.state l.disk ≡ g.D.Disk.state l.fn.disk;
   later : g.D.Disk.faults l.fn.disk ≤ g.D.Disk.faults l.disk;
+  streams : g.D.Disk.streams l.disk ≡ g.D.Disk.streams l.fn.disk;
 }
 
 abbrev pub decreases-turns : goal.decreases-turns

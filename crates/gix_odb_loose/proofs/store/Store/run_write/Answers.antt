@@ -25,13 +25,14 @@ turns-init g c =
       underway = stands_first _ c.in_ok-job.job head c.in_ok-job.ensures.stage c.in_ok-job.ensures.has_ended names (c.in_ok-job.ensures.removal ∙ ap (λ p. asks.Remove (temp_path p 0)) objects);
       head = head;
       later = omega arith;
+      streams = refl;
     }
 
 pub turns-smaller : goal.turns-smaller
 turns-smaller g c = c.in-Ok-None.ensures.fewer _ c.turns.invariant.underway c.in-Ok-None.field-0-is
 
 pub turns-preserved : goal.turns-preserved
-turns-preserved g c = record { underway = came_on _ _ _ _ _ c.turn.new.self c.turn.result (c.turn.ensures.turned _ c.turns.invariant.underway) (cc); head = c.turn.ensures.head ∙ c.turns.invariant.head; later = omega (arith, c.turns.invariant.later, c.turn.ensures.later) }
+turns-preserved g c = record { underway = came_on _ _ _ _ _ c.turn.new.self c.turn.result (c.turn.ensures.turned _ c.turns.invariant.underway) (cc); head = c.turn.ensures.head ∙ c.turns.invariant.head; later = omega (arith, c.turns.invariant.later, c.turn.ensures.later); streams = c.turn.ensures.streams ∙ c.turns.invariant.streams }
 
 pub returns-in-Ok-Some-Ok-clause-run : goal.returns-in-Ok-Some-Ok-clause-run
 returns-in-Ok-Some-Ok-clause-run g c = runs_wrote _ _ _ _ _ c.in-Ok-Some-Ok.id (came_to _ _ _ _ _ c.turn.new.self c.turn.result (c.turn.ensures.turned _ c.turns.invariant.underway) (Ok c.in-Ok-Some-Ok.id) (cc)) _ refl

@@ -12,6 +12,7 @@ invariant-turns g l = record {
       (g.S.Source.left l.from) (g.S.Source.faults l.from) l.job;
   head : l.job.head ≡ write_head l.fn.self l.fn.kind l.fn.size;
   later : g.D.Disk.faults l.fn.disk ≤ g.D.Disk.faults l.disk;
+  streams : g.D.Disk.streams l.disk ≡ g.D.Disk.streams l.fn.disk;
 }
 
 abbrev pub decreases-turns : goal.decreases-turns
