@@ -10,7 +10,7 @@ use Rattle.odb_base.specs.Path.{Path}
 use Rattle.odb_disk.specs.Tree.{Tree, tree_of}
 use Rattle.odb_disk.specs.Tree.Write.{spot, file_spot}
 use Rattle.odb_disk.specs.declared.change.Change.{Change}
-use Rattle.odb_disk.specs.declared.change.Change.TheVariants.{PutFile, MakeDir, Rename, Append, Remove}
+use Rattle.odb_disk.specs.declared.change.Change.TheVariants.{PutFile, MakeDir, PutLink, Rename, Append, Remove, SetTime}
 use Rattle.gix_hash.specs.declared.object_id.ObjectId.{ObjectId}
 use Rattle.gix_odb_loose.specs.LooseFile.{loose_path}
 use Rattle.gix_odb_loose.specs.WriteNames.{name_for}
@@ -62,13 +62,15 @@ ChangesAs step outcome made = made ≡ None
 -- One of the five changes of a write into an objects directory, whose temporary path has a number, and whose object an id:
 -- an empty file with time 0 at the spot of the temporary path; at most 65,536 bytes more in the file to which that path
 -- leads; the directory of the object; a rename from the spot of the temporary path to that of the object's path; the
--- removal of the spot of the temporary path.
+-- removal of the spot of the temporary path. No write puts a link or sets a time.
 abbrev pub IsOneOfFive : Tree → Path → (number : ℕ) → ObjectId → Change → Type 0
 IsOneOfFive tree objects number id (PutFile path time bytes) = (time ≡ 0) × (bytes ≡ []) × (spot tree (temp_path objects number) ≡ Ok path)
 IsOneOfFive tree objects number id (Append path bytes) = (length bytes ≤ 65536) × (file_spot tree (temp_path objects number) ≡ Ok path)
 IsOneOfFive tree objects number id (MakeDir path dev) = spot tree (prefix_path objects id) ≡ Ok path
 IsOneOfFive tree objects number id (Rename from to) = (spot tree (temp_path objects number) ≡ Ok from) × (spot tree (loose_path objects id) ≡ Ok to)
 IsOneOfFive tree objects number id (Remove path) = spot tree (temp_path objects number) ≡ Ok path
+IsOneOfFive tree objects number id (PutLink path target) = ⊥
+IsOneOfFive tree objects number id (SetTime path time) = ⊥
 
 -- A write changes the tree by one of its five changes. Its temporary path has the number that its stage tries to make, or
 -- that it made and keeps from then on; its object has the id that the write names.
