@@ -1,4 +1,5 @@
 pub mod LineLemmas
+pub mod ChangeLemmas
 pub mod OptionLemmas
 pub mod ContentLemmas
 pub mod ScriptLemmas
@@ -7,5 +8,4 @@ mod TextLemmas
 mod PackLemmas
 mod OpeningLemmas
 mod PrintLemmas
-mod StreamLemmas
 mod SessionLemmas

@@ -9,9 +9,6 @@ use Rattle.std.proofs.lemmas.Fmt.{IsAscii-decimal, digits_decimal}
 use Rattle.std.proofs.lemmas.Str.{IsUtf8-append, IsUtf8-from_ascii, is_utf8-from_IsUtf8}
 use Rattle.std.proofs.lemmas.List.Folds.{list_all-append}
 use Rattle.odb_base.proofs.DecimalLemmas.{own, number_of-decimal, number_below-is}
-use Rattle.odb_base.specs.Path.{Path, is_name, text_of}
-use Rattle.odb_disk.specs.declared.change.Change.TheVariants as changes
-use Rattle.odb_base.specs.PathLaws.{path_of-text_of}
 use Rattle.gix_hash.specs.ObjectId.{IsId, hex_of, is_lower_text, is_lower_digit}
 use Rattle.gix_hash.specs.declared.object_id.ObjectId.{ObjectId}
 use Rattle.gix_hash.specs.declared.object_id.ObjectId.TheVariants as ids
@@ -23,13 +20,12 @@ use Rattle.gitodb.specs.declared.script.item.Item.TheVariants as items
 use Rattle.gitodb.specs.declared.script.word.Question.{Question}
 use Rattle.gitodb.specs.declared.script.word.Question.TheVariants as questions
 use Rattle.gitodb.specs.declared.script.word.Word.TheVariants as words
-use Rattle.gitodb.specs.Word.{word_of, change_word_of}
+use Rattle.gitodb.specs.Word.{word_of}
 use Rattle.gix_object.specs.declared.kind.Kind.{Kind}
 use Rattle.gix_object.specs.declared.kind.Kind.TheVariants.{Commit, Tree, Blob, Tag}
 use Rattle.gix_object.specs.Kind.{kind_word}
 use Rattle.gix_object.specs.Kind.Laws.{kind_of_word-kind_word}
-use Rattle.gitodb.specs.Content.{data_of, content_of}
-use Rattle.gitodb.specs.Change.{change_of}
+use Rattle.gitodb.specs.Content.{data_of}
 use Rattle.gitodb.specs.Opening.{handle_of}
 use Rattle.gitodb.proofs.SplitLemmas.{slice_split-join}
 use Rattle.gitodb.specs.Line.{Fields, call_of, fields_of, line_item, item_of}
@@ -147,31 +143,6 @@ unfolding word_of line_item
 item_of-fail number small =
     item_of-line_of 102 (codes "ail") (decimal number ∷ []) refl (IsField-word (codes "fail") refl refl, (IsField-decimal number small, tt))
     ∙ rw (number_of-decimal number small) refl
-
-pub item_of-mkdir : (path : Path) → list_all is_name path ≡ true → IsField (text_of path) → item_of (line_of (codes "mkdir" ∷ text_of path ∷ [])) ≡ items.Setup (changes.MakeDir path 0)
-unfolding word_of line_item change_of
-item_of-mkdir path names field =
-    item_of-line_of 109 (codes "kdir") (text_of path ∷ []) refl (IsField-word (codes "mkdir") refl refl, (field, tt))
-    ∙ rw (path_of-text_of path names) refl
-
-pub item_of-remove : (path : Path) → list_all is_name path ≡ true → IsField (text_of path) → item_of (line_of (codes "do" ∷ codes "remove" ∷ text_of path ∷ [])) ≡ items.Play (One (steps.Disk (changes.Remove path)))
-unfolding word_of change_word_of line_item change_of
-item_of-remove path names field =
-    item_of-line_of 100 (codes "o") (codes "remove" ∷ text_of path ∷ []) refl (IsField-word (codes "do") refl refl, (IsField-word (codes "remove") refl refl, (field, tt)))
-    ∙ rw (path_of-text_of path names) refl
-
-pub item_of-rename : (path to : Path) → list_all is_name path ≡ true → list_all is_name to ≡ true → IsField (text_of path) → IsField (text_of to) → item_of (line_of (codes "do" ∷ codes "rename" ∷ text_of path ∷ text_of to ∷ [])) ≡ items.Play (One (steps.Disk (changes.Rename path to)))
-unfolding word_of change_word_of line_item change_of
-item_of-rename path to names others field other =
-    item_of-line_of 100 (codes "o") (codes "rename" ∷ text_of path ∷ text_of to ∷ []) refl (IsField-word (codes "do") refl refl, (IsField-word (codes "rename") refl refl, (field, (other, tt))))
-    ∙ rw (path_of-text_of path names, path_of-text_of to others) refl
-
--- contents of a built kind are put as they are
-pub item_of-put : (path : Path) (time : ℕ) (content bytes : List ℕ) → list_all is_name path ≡ true → IsField (text_of path) → time < 2 ^ 64 → IsField content → content_of content ≡ Some bytes → item_of (line_of (codes "put" ∷ text_of path ∷ decimal time ∷ content ∷ [])) ≡ items.Setup (changes.PutFile path time bytes)
-unfolding word_of line_item change_of
-item_of-put path time content bytes names field small content_field spelled =
-    item_of-line_of 112 (codes "ut") (text_of path ∷ decimal time ∷ content ∷ []) refl (IsField-word (codes "put") refl refl, (field, (IsField-decimal time small, (content_field, tt))))
-    ∙ rw (path_of-text_of path names, number_of-decimal time small, spelled) refl
 
 pub item_of-close : (handle : ℕ) → handle < 2 ^ 32 → item_of (line_of (codes "close" ∷ decimal handle ∷ [])) ≡ items.Play (One (steps.Close handle))
 unfolding word_of line_item

@@ -2,6 +2,7 @@
 use Rattle.std.proofs.Common.{◌≡◌, ◌≢◌, inl, inr, ℕ, ◌+◌, ◌<◌, ◌≤◌, false, nat_le, map, List, [], ◌∷◌, ◌++◌, length, take, refl, sym, ap, ◌∙◌, subst, Option, Some, None, arith}
 use Rattle.std.proofs.lemmas.Bool.{cases_lt}
 use Rattle.std.proofs.lemmas.Bool.Decides.{nat_tests}
+use Rattle.odb_disk.specs.Source.{ReadsFile}
 use Rattle.gix_odb_world.specs.Headline.{Headline}
 use Rattle.gix_odb_world.specs.Play.{Plays, made_of}
 use Rattle.gitodb.specs.declared.command.Command.{Command}
@@ -18,7 +19,7 @@ use Rattle.gitodb.specs.declared.script.item.Item.TheVariants as items
 use Rattle.gitodb.specs.Script.{disk_of, lines_of, script_limit, items_of, lines_in, but_last, taken, carried, reading_from, reading_of}
 use Rattle.gitodb.specs.Line.{item_of}
 use Rattle.gitodb.proofs.ScriptLemmas.{items_of-front}
-use Rattle.gitodb.specs.Session.{Session, Answers, AnswersWith, ReadsScript, Writes, WritesForScript, Finished, ReadToEnd, ReadsIts, Ends, Delivers, status_of_ending}
+use Rattle.gitodb.specs.Session.{Session, Answers, AnswersWith, Writes, WritesForScript, Finished, ReadToEnd, ReadsIts, Ends, Delivers, status_of_ending}
 
 append-nil : (xs : List ℕ) → xs ++ [] ≡ xs
 append-nil [] = refl
@@ -72,14 +73,14 @@ Answers-front text rest written ending whole a =
     }
 
 -- what `world` writes for what it read, it writes for the script
-pub WritesForScript-read : (left left' : Option (List ℕ)) (text written : List ℕ) (status : Status) → ReadsScript left left' text → AnswersWith text written status → WritesForScript left written status
+pub WritesForScript-read : (left left' : Option (List ℕ)) (text written : List ℕ) (status : Status) → ReadsFile script_limit left left' text → AnswersWith text written status → WritesForScript left written status
 WritesForScript-read None left' text written status reads answers = tt
 WritesForScript-read (Some script) left' text written status reads answers =
     let P : List ℕ → Type 0 = λ s. AnswersWith s written status in
     subst P (sym reads.1) (record { ending = answers.ending; answers = Answers-front text reads.0 written answers.ending reads.3 answers.answers; status_is = answers.status_is })
 
 -- a script that ended whole was read to its end
-ReadToEnd-whole : (left left' : Option (List ℕ)) (text written : List ℕ) → ReadsScript left left' text → Answers text written Whole → ReadToEnd left left'
+ReadToEnd-whole : (left left' : Option (List ℕ)) (text written : List ℕ) → ReadsFile script_limit left left' text → Answers text written Whole → ReadToEnd left left'
 ReadToEnd-whole None left' text written reads answers = tt
 ReadToEnd-whole (Some script) left' text written reads answers =
     elim (cases_lt script_limit (length text)) [
@@ -99,14 +100,14 @@ Ends-delivered s output status result writes ends (inr failed) =
     subst P (sym failed.0) (failed.1, record { status = status; written = output; writes = writes; count = failed.2.0; added = failed.2.1 })
 
 -- a script that was answered ends with the status of its ending
-ends-by : (s : Session) (text written : List ℕ) (ending : Ending) → s.command ≡ World → ReadsScript s.left s.left' text → Answers text written ending → Finished s (status_of_ending ending) → Ends s (status_of_ending ending)
+ends-by : (s : Session) (text written : List ℕ) (ending : Ending) → s.command ≡ World → ReadsFile script_limit s.left s.left' text → Answers text written ending → Finished s (status_of_ending ending) → Ends s (status_of_ending ending)
 ends-by s text written Whole world reads answers finished =
     let P : Command → Type 0 = λ c. ReadsIts c s.left s.left' in
     (finished, subst P (sym world) (ReadToEnd-whole s.left s.left' text written reads answers))
 ends-by s text written (RefusedAt line) world reads answers finished = (world, finished)
 ends-by s text written (NotBuiltAt line) world reads answers finished = (world, finished)
 
-pub Ends-world : (s : Session) (text output : List ℕ) (status result : Status) → s.command ≡ World → ReadsScript s.left s.left' text → AnswersWith text output status → Delivers s.held s.held' s.sink_faults s.sink_faults' output status result → Ends s result
+pub Ends-world : (s : Session) (text output : List ℕ) (status result : Status) → s.command ≡ World → ReadsFile script_limit s.left s.left' text → AnswersWith text output status → Delivers s.held s.held' s.sink_faults s.sink_faults' output status result → Ends s result
 Ends-world s text output status result world reads answers delivered =
     let P : Command → Type 0 = λ c. Writes s.help s.version c s.left output status in
     let E : Status → Type 0 = λ r. Finished s r → Ends s r in

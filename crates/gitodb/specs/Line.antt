@@ -4,6 +4,7 @@ use Rattle.std.specs.Borrow.{Bor}
 use Rattle.std.specs.List.{slice_split}
 use Rattle.std.specs.Str.{is_utf8}
 use Rattle.odb_base.specs.Decimal.{number_of}
+use Rattle.odb_disk.specs.declared.change.Change.{Change}
 use Rattle.gix_hash.specs.ObjectId.{id_of}
 use Rattle.gix_hash.specs.declared.object_id.ObjectId.{ObjectId}
 use Rattle.gix_hash.specs.declared.object_id.ObjectId.TheVariants as ids
@@ -14,8 +15,6 @@ use Rattle.gix_odb_world.specs.declared.call.Call.TheVariants as calls
 use Rattle.gix_odb_world.specs.declared.step.Step.{Step}
 use Rattle.gix_odb_world.specs.declared.step.Step.TheVariants as steps
 use Rattle.gix_odb_world.specs.declared.play.Line.TheVariants.{One, Finish}
-use Rattle.gitodb.specs.declared.script.change.Spelled.{Spelled}
-use Rattle.gitodb.specs.declared.script.change.Spelled.TheVariants as spelled
 use Rattle.gitodb.specs.declared.script.item.Item.{Item}
 use Rattle.gitodb.specs.declared.script.item.Item.TheVariants as items
 use Rattle.gitodb.specs.declared.script.word.Question.{Question}
@@ -40,21 +39,17 @@ texts_of fields = map (λ field. field.now) fields
 abbrev pub step_item : Step → Item
 step_item step = items.Play (One step)
 
--- a change of the setup, and one that another program makes while the steps are played
-abbrev pub setup_item : Spelled → Item
-setup_item (spelled.Change change) = items.Setup change
-setup_item spelled.NotBuilt = items.NotBuilt
-setup_item spelled.Wrong = items.Refused
-
-abbrev pub outside_item : Spelled → Item
-outside_item (spelled.Change change) = step_item (steps.Disk change)
-outside_item spelled.NotBuilt = items.NotBuilt
-outside_item spelled.Wrong = items.Refused
-
 -- a line that is what is read, or refused where nothing is
-abbrev pub item_or_refused : (ℕ → Item) → Option ℕ → Item
+abbrev pub item_or_refused : {A : Type 0} → (A → Item) → Option A → Item
 item_or_refused item None = items.Refused
-item_or_refused item (Some number) = item number
+item_or_refused item (Some read) = item read
+
+-- a change of the setup, and one that another program makes while the steps are played
+abbrev pub setup_item : Option Change → Item
+setup_item change = item_or_refused items.Setup change
+
+abbrev pub outside_item : Option Change → Item
+outside_item change = item_or_refused (λ c. step_item (steps.Disk c)) change
 
 -- the handle of a line whose one field names it
 abbrev pub one_handle : Fields → Option ℕ
@@ -104,6 +99,7 @@ line_item (Some words.NotBuilt) fields = items.NotBuilt
 line_item (Some words.Fail) (number ∷ []) = item_or_refused items.Fail (number_of number)
 line_item (Some words.Mkdir) fields = setup_item (change_of (Some words.Mkdir) fields)
 line_item (Some words.Put) fields = setup_item (change_of (Some words.Put) fields)
+line_item (Some words.Link) fields = setup_item (change_of (Some words.Link) fields)
 line_item (Some words.Steps) [] = items.Steps
 line_item (Some words.Open) (handle ∷ path ∷ options) = open_of handle path options
 line_item (Some words.Close) fields = for_handle (λ h. step_item (steps.Close h)) fields

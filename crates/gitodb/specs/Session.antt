@@ -1,7 +1,8 @@
 -- What the program promises of each status, by its words, its source and its sink.
-use Rattle.std.specs.Prelude.{◌≡◌, ◌⊎◌, ℕ, ◌≤◌, List, [], ◌∷◌, ◌++◌, length, take, codes, Option, Some, None, if◌then◌else◌}
+use Rattle.std.specs.Prelude.{◌≡◌, ◌⊎◌, ℕ, List, [], ◌∷◌, ◌++◌, take, codes, Option, Some, None, if◌then◌else◌}
 use Rattle.odb_base.specs.Faults.{Rose}
 use Rattle.odb_base.specs.Path.{same_name}
+use Rattle.odb_disk.specs.Source.{Adds}
 use Rattle.gix_odb_world.specs.Headline.{Headline}
 use Rattle.gix_odb_world.specs.Play.{Plays, made_of}
 use Rattle.gix_odb_world.specs.declared.play.Play.{Play}
@@ -11,7 +12,7 @@ use Rattle.gitodb.specs.declared.status.Status.{Status}
 use Rattle.gitodb.specs.declared.status.Status.TheVariants as statuses
 use Rattle.gitodb.specs.declared.script.reader.Ending.{Ending}
 use Rattle.gitodb.specs.declared.script.reader.Ending.TheVariants.{Whole, RefusedAt, NotBuiltAt}
-use Rattle.gitodb.specs.Script.{reading_of, disk_of, lines_of, script_limit}
+use Rattle.gitodb.specs.Script.{reading_of, disk_of, lines_of}
 use Rattle.gitodb.specs.Print.{printed_at, ending_text}
 
 -- the command that the words of the command line are
@@ -44,16 +45,6 @@ pub record AnswersWith (script written : List ℕ) (status : Status) : Type 0 wh
   pub ending : Ending
   pub answers : Answers script written ending
   pub status_is : status ≡ status_of_ending ending
-
--- a script was read: it was the whole of what was left, or a front of it that is longer than a script may be
-abbrev pub ReadsScript : Option (List ℕ) → Option (List ℕ) → List ℕ → Type 0
-ReadsScript None now text = Unit {0}
-ReadsScript (Some left) now text = (rest : List ℕ) × (left ≡ text ++ rest) × (now ≡ Some rest) × (length text ≤ script_limit → rest ≡ [])
-
--- a sink that tells has these bytes behind what it held
-abbrev pub Adds : Option (List ℕ) → Option (List ℕ) → List ℕ → Type 0
-Adds None now bytes = Unit {0}
-Adds (Some held) now bytes = now ≡ Some (held ++ bytes)
 
 -- what a command writes with a status, where the source told its bytes
 abbrev pub WritesForScript : Option (List ℕ) → List ℕ → Status → Type 0

@@ -10,13 +10,10 @@ use Rattle.gitodb.specs.declared.script.word.Word.TheVariants as words
 abbrev pub is_one_of : List (List ℕ) → List ℕ → Bool
 is_one_of texts text = list_any (same_name text) texts
 
--- words that aren't built yet: those that a line may begin with, and those that may follow `do`
+-- words that aren't built yet, with which a line may begin
 abbrev pub unbuilt_words : List (List ℕ)
 unbuilt_words =
-    codes "link" ∷ codes "ids" ∷ codes "clone" ∷ codes "upgrade" ∷ codes "never" ∷ codes "prefix" ∷ codes "locate" ∷ codes "entry" ∷ []
-
-abbrev pub unbuilt_changes : List (List ℕ)
-unbuilt_changes = codes "link" ∷ codes "time" ∷ []
+    codes "ids" ∷ codes "clone" ∷ codes "upgrade" ∷ codes "never" ∷ codes "prefix" ∷ codes "locate" ∷ codes "entry" ∷ []
 
 -- the word that a line may begin with
 unfoldable pub word_of : List ℕ → Option Word
@@ -24,6 +21,7 @@ word_of text =
     if same_name text (codes "fail") then Some words.Fail
     else if same_name text (codes "mkdir") then Some words.Mkdir
     else if same_name text (codes "put") then Some words.Put
+    else if same_name text (codes "link") then Some words.Link
     else if same_name text (codes "steps") then Some words.Steps
     else if same_name text (codes "open") then Some words.Open
     else if same_name text (codes "close") then Some words.Close
@@ -45,7 +43,8 @@ unfoldable pub change_word_of : List ℕ → Option Word
 change_word_of text =
     if same_name text (codes "mkdir") then Some words.Mkdir
     else if same_name text (codes "put") then Some words.Put
+    else if same_name text (codes "link") then Some words.Link
     else if same_name text (codes "rename") then Some words.Rename
     else if same_name text (codes "remove") then Some words.Remove
-    else if is_one_of unbuilt_changes text then Some words.NotBuilt
+    else if same_name text (codes "time") then Some words.Time
     else None

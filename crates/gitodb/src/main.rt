@@ -10,7 +10,6 @@ mod print;
 mod run;
 mod script;
 mod status;
-mod stream;
 #[cfg(test)]
 mod tests;
 mod world_command;
@@ -37,7 +36,7 @@ fn main(rt: HostRuntime) -> ExitCode {
     };
     let mut source = StdSource::new(rt.reader());
     let mut sink = StdSink::new(io::writer(&rt));
-    let mut disk = HostDisk::new(files);
+    let mut disk = HostDisk::new(alloc, files);
     let status = run::run(&rt, alloc, &words, &mut source, &mut sink, &mut disk);
     ExitCode::from(status.code())
 }

@@ -5,11 +5,11 @@ ghost use Rattle.gitodb.specs.Session.{Ends, Delivers, command_of};
 ghost use Rattle.gitodb.specs.declared.command.Command.TheVariants.{World as world_command};
 
 use crate::command::{Command, command_of};
+use crate::script::SCRIPT_LIMIT;
 use crate::status::Status;
-use crate::stream::{ReadError, read_script, write_all};
 use crate::world_command::answer_script;
 use odb_base::NoMemory;
-use odb_disk::{Disk, Failed, Sink, Source};
+use odb_disk::{Disk, Failed, ReadError, Sink, Source, read_file, write_all};
 use std::alloc::Global;
 
 /// What `--help` writes.
@@ -105,7 +105,7 @@ fn world<S: Source, K: Sink>(alloc: Global, source: &mut S, sink: &mut K) -> Sta
       version = version;
     }) result }
 {
-    let script = match read_script(alloc, source) {
+    let script = match read_file(alloc, source, SCRIPT_LIMIT) {
         Ok(script) => script,
         Err(ReadError::Failed) => return Status::ReadFault,
         Err(ReadError::NoMemory) => return Status::NoMemory,

@@ -1,5 +1,6 @@
 //! What no clause says: scripts from outside with what is printed for them, and lines that are read loosely.
 mod lines;
+mod links;
 mod program;
 mod scripts;
 mod words;
@@ -16,6 +17,8 @@ fn whole_scripts(rt: HostRuntime) -> Result<(), Fail> {
         scripts::REFUSED,
         writes::WRITERS,
         writes::FAULTS,
+        links::LINKS,
+        links::WRITES,
     ] {
         check_scripts(rt.alloc(), rows)?;
     }

@@ -9,46 +9,42 @@ use odb_base::{ByteList, NoMemory, parse_decimal};
 use odb_disk::{BadPath, Change, PathText};
 use std::alloc::Global;
 
-/// What a word and the fields after it spell.
-#[derive(Debug, Drop)]
-pub enum Spelled {
-    Change(Change),
-    /// A change that isn't built yet.
-    NotBuilt,
-    Wrong,
-}
-
-/// The change that a word and the fields after it spell.
+/// The change that a word and the fields after it spell, if they spell one.
 #[tactic(auto, unfolding(crate::specs::Change::change_of))]
-pub fn change_of(alloc: Global, word: Option<Word>, fields: &[&str]) -> Result<Spelled, NoMemory>
-    ensures { IfOk result (λ spelled. spelled ≡ change_of word (texts_of fields.now)) }
+pub fn change_of(
+    alloc: Global,
+    word: Option<Word>,
+    fields: &[&str],
+) -> Result<Option<Change>, NoMemory>
+    ensures { IfOk result (λ change. change ≡ change_of word (texts_of fields.now)) }
 {
     match word {
-        Some(Word::NotBuilt) => Ok(Spelled::NotBuilt),
         Some(Word::Mkdir) => mkdir(alloc, fields),
         Some(Word::Put) => put(alloc, fields),
+        Some(Word::Link) => link(alloc, fields),
         Some(Word::Rename) => rename(alloc, fields),
         Some(Word::Remove) => remove(alloc, fields),
-        _ => Ok(Spelled::Wrong),
+        Some(Word::Time) => time(alloc, fields),
+        _ => Ok(None),
     }
 }
 
 #[tactic(auto, unfolding(crate::specs::Change::change_of))]
-fn mkdir(alloc: Global, fields: &[&str]) -> Result<Spelled, NoMemory>
-    ensures { IfOk result (λ spelled. spelled ≡ change_of (Some Word.Mkdir) (texts_of fields.now)) }
+fn mkdir(alloc: Global, fields: &[&str]) -> Result<Option<Change>, NoMemory>
+    ensures { IfOk result (λ change. change ≡ change_of (Some Word.Mkdir) (texts_of fields.now)) }
 {
     match fields {
         [path] => match path_of(alloc, path)? {
-            Some(path) => Ok(Spelled::Change(Change::MakeDir { path, dev: 0 })),
-            None => Ok(Spelled::Wrong),
+            Some(path) => Ok(Some(Change::MakeDir { path, dev: 0 })),
+            None => Ok(None),
         },
-        _ => Ok(Spelled::Wrong),
+        _ => Ok(None),
     }
 }
 
 #[tactic(auto, unfolding(crate::specs::Change::change_of))]
-fn put(alloc: Global, fields: &[&str]) -> Result<Spelled, NoMemory>
-    ensures { IfOk result (λ spelled. spelled ≡ change_of (Some Word.Put) (texts_of fields.now)) }
+fn put(alloc: Global, fields: &[&str]) -> Result<Option<Change>, NoMemory>
+    ensures { IfOk result (λ change. change ≡ change_of (Some Word.Put) (texts_of fields.now)) }
 {
     match fields {
         [path, time, content] => {
@@ -56,44 +52,68 @@ fn put(alloc: Global, fields: &[&str]) -> Result<Spelled, NoMemory>
             let content = content_of(alloc, content)?;
             Ok(file_of(path, parse_decimal(time), content))
         }
-        _ => Ok(Spelled::Wrong),
+        _ => Ok(None),
     }
 }
 
-fn file_of(path: Option<PathText>, time: Option<u64>, content: Option<ByteList>) -> Spelled
+fn file_of(path: Option<PathText>, time: Option<u64>, content: Option<ByteList>) -> Option<Change>
     ensures { result ≡ file_of path time content }
 {
     match (path, time, content) {
-        (Some(path), Some(time), Some(bytes)) => {
-            Spelled::Change(Change::PutFile { path, time, bytes })
-        }
-        _ => Spelled::Wrong,
+        (Some(path), Some(time), Some(bytes)) => Some(Change::PutFile { path, time, bytes }),
+        _ => None,
     }
 }
 
 #[tactic(auto, unfolding(crate::specs::Change::change_of))]
-fn rename(alloc: Global, fields: &[&str]) -> Result<Spelled, NoMemory>
-    ensures { IfOk result (λ spelled. spelled ≡ change_of (Some Word.Rename) (texts_of fields.now)) }
+fn link(alloc: Global, fields: &[&str]) -> Result<Option<Change>, NoMemory>
+    ensures { IfOk result (λ change. change ≡ change_of (Some Word.Link) (texts_of fields.now)) }
+{
+    match fields {
+        [path, target] => match (path_of(alloc, path)?, path_of(alloc, target)?) {
+            (Some(path), Some(target)) => Ok(Some(Change::PutLink { path, target })),
+            _ => Ok(None),
+        },
+        _ => Ok(None),
+    }
+}
+
+#[tactic(auto, unfolding(crate::specs::Change::change_of))]
+fn rename(alloc: Global, fields: &[&str]) -> Result<Option<Change>, NoMemory>
+    ensures { IfOk result (λ change. change ≡ change_of (Some Word.Rename) (texts_of fields.now)) }
 {
     match fields {
         [from, to] => match (path_of(alloc, from)?, path_of(alloc, to)?) {
-            (Some(from), Some(to)) => Ok(Spelled::Change(Change::Rename { from, to })),
-            _ => Ok(Spelled::Wrong),
+            (Some(from), Some(to)) => Ok(Some(Change::Rename { from, to })),
+            _ => Ok(None),
         },
-        _ => Ok(Spelled::Wrong),
+        _ => Ok(None),
     }
 }
 
 #[tactic(auto, unfolding(crate::specs::Change::change_of))]
-fn remove(alloc: Global, fields: &[&str]) -> Result<Spelled, NoMemory>
-    ensures { IfOk result (λ spelled. spelled ≡ change_of (Some Word.Remove) (texts_of fields.now)) }
+fn remove(alloc: Global, fields: &[&str]) -> Result<Option<Change>, NoMemory>
+    ensures { IfOk result (λ change. change ≡ change_of (Some Word.Remove) (texts_of fields.now)) }
 {
     match fields {
         [path] => match path_of(alloc, path)? {
-            Some(path) => Ok(Spelled::Change(Change::Remove { path })),
-            None => Ok(Spelled::Wrong),
+            Some(path) => Ok(Some(Change::Remove { path })),
+            None => Ok(None),
         },
-        _ => Ok(Spelled::Wrong),
+        _ => Ok(None),
+    }
+}
+
+#[tactic(auto, unfolding(crate::specs::Change::change_of))]
+fn time(alloc: Global, fields: &[&str]) -> Result<Option<Change>, NoMemory>
+    ensures { IfOk result (λ change. change ≡ change_of (Some Word.Time) (texts_of fields.now)) }
+{
+    match fields {
+        [path, time] => match (path_of(alloc, path)?, parse_decimal(time)) {
+            (Some(path), Some(time)) => Ok(Some(Change::SetTime { path, time })),
+            _ => Ok(None),
+        },
+        _ => Ok(None),
     }
 }
 

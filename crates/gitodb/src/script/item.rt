@@ -3,7 +3,7 @@ ghost use Rattle.std.specs.Option.{MatchOption};
 ghost use Rattle.gix_hash.specs.ObjectId.{id_of};
 ghost use Rattle.gitodb.specs.Line.{item_of, is_blank, fields_of, fields_item, texts_of, one_handle, line_item, call_of, start_of, step_item, setup_item, outside_item};
 
-use crate::script::change::{Spelled, change_of};
+use crate::script::change::change_of;
 use crate::script::content::parts_of;
 use crate::script::opening::{handle_of, open_of};
 use crate::script::word::{Question, Word, change_word_of, word_of};
@@ -89,7 +89,9 @@ fn line_item(alloc: Global, word: Option<Word>, fields: &[&str]) -> Result<Item,
     match word {
         Some(Word::NotBuilt) => Ok(Item::NotBuilt),
         Some(Word::Fail) => Ok(fail(fields)),
-        Some(Word::Mkdir | Word::Put) => Ok(setup_item(change_of(alloc, word, fields)?)),
+        Some(Word::Mkdir | Word::Put | Word::Link) => {
+            Ok(setup_item(change_of(alloc, word, fields)?))
+        }
         Some(Word::Steps) => Ok(steps(fields)),
         Some(Word::Open) => open(alloc, fields),
         Some(Word::Close) => Ok(for_handle(fields, |handle| step_item(Step::Close { handle }))),
@@ -101,7 +103,7 @@ fn line_item(alloc: Global, word: Option<Word>, fields: &[&str]) -> Result<Item,
         Some(Word::Turn) => Ok(for_handle(fields, |handle| step_item(Step::Turn { handle }))),
         Some(Word::Finish) => Ok(for_handle(fields, |handle| Item::Play(Line::Finish { handle }))),
         Some(Word::Do) => change(alloc, fields),
-        Some(Word::Rename | Word::Remove) | None => Ok(Item::Refused),
+        Some(Word::Rename | Word::Remove | Word::Time) | None => Ok(Item::Refused),
     }
 }
 
@@ -199,8 +201,8 @@ fn change(alloc: Global, fields: &[&str]) -> Result<Item, NoMemory>
 {
     match fields {
         [word, fields @ ..] => {
-            let spelled = change_of(alloc, change_word_of(word), fields)?;
-            Ok(outside_item(spelled))
+            let change = change_of(alloc, change_word_of(word), fields)?;
+            Ok(outside_item(change))
         }
         [] => Ok(Item::Refused),
     }
@@ -213,22 +215,20 @@ pub fn step_item(step: Step) -> Item
     Item::Play(Line::One(step))
 }
 
-fn setup_item(spelled: Spelled) -> Item
-    ensures { result ≡ setup_item spelled }
+fn setup_item(change: Option<Change>) -> Item
+    ensures { result ≡ setup_item change }
 {
-    match spelled {
-        Spelled::Change(change) => Item::Setup(change),
-        Spelled::NotBuilt => Item::NotBuilt,
-        Spelled::Wrong => Item::Refused,
+    match change {
+        Some(change) => Item::Setup(change),
+        None => Item::Refused,
     }
 }
 
-fn outside_item(spelled: Spelled) -> Item
-    ensures { result ≡ outside_item spelled }
+fn outside_item(change: Option<Change>) -> Item
+    ensures { result ≡ outside_item change }
 {
-    match spelled {
-        Spelled::Change(change) => step_item(Step::Disk(change)),
-        Spelled::NotBuilt => Item::NotBuilt,
-        Spelled::Wrong => Item::Refused,
+    match change {
+        Some(change) => step_item(Step::Disk(change)),
+        None => Item::Refused,
     }
 }

@@ -1,5 +1,5 @@
 ghost use Rattle.std.specs.Prelude.{◌≡◌, Some, None, if◌then◌else◌};
-ghost use Rattle.gitodb.specs.Word.{word_of, change_word_of, unbuilt_words, unbuilt_changes, is_one_of};
+ghost use Rattle.gitodb.specs.Word.{word_of, change_word_of, unbuilt_words, is_one_of};
 
 /// A question about the object of an id.
 #[derive(Clone, Copy, Debug, PartialEq, Eq)]
@@ -15,8 +15,10 @@ pub enum Word {
     Fail,
     Mkdir,
     Put,
+    Link,
     Rename,
     Remove,
+    Time,
     Steps,
     Open,
     Close,
@@ -42,6 +44,7 @@ pub fn word_of(text: &str) -> Option<Word>
         "fail" => Some(Word::Fail),
         "mkdir" => Some(Word::Mkdir),
         "put" => Some(Word::Put),
+        "link" => Some(Word::Link),
         "steps" => Some(Word::Steps),
         "open" => Some(Word::Open),
         "close" => Some(Word::Close),
@@ -67,9 +70,11 @@ pub fn change_word_of(text: &str) -> Option<Word>
     match text {
         "mkdir" => Some(Word::Mkdir),
         "put" => Some(Word::Put),
+        "link" => Some(Word::Link),
         "rename" => Some(Word::Rename),
         "remove" => Some(Word::Remove),
-        _ => not_built(is_unbuilt_change(text)),
+        "time" => Some(Word::Time),
+        _ => None,
     }
 }
 
@@ -79,15 +84,8 @@ fn is_unbuilt_word(text: &str) -> bool
 {
     matches!(
         text,
-        "link" | "ids" | "clone" | "upgrade" | "never" | "prefix" | "locate" | "entry"
+        "ids" | "clone" | "upgrade" | "never" | "prefix" | "locate" | "entry"
     )
-}
-
-/// Whether such a word may follow `do`.
-fn is_unbuilt_change(text: &str) -> bool
-    ensures { result ≡ is_one_of unbuilt_changes text.now }
-{
-    matches!(text, "link" | "time")
 }
 
 /// The word for what isn't built yet, if a test found one.

@@ -29,9 +29,11 @@ fn change_shown(alloc: Global, change: &Change) -> Result<String, Fail> {
             Ok(format!(in alloc; "put {path} {time} {content}")?)
         }
         Change::MakeDir { path, .. } => Ok(format!(in alloc; "mkdir {path}")?),
+        Change::PutLink { path, target } => Ok(format!(in alloc; "link {path} {target}")?),
         Change::Rename { from, to } => Ok(format!(in alloc; "rename {from} {to}")?),
         Change::Append { .. } => Ok("append".to_string(alloc)?),
         Change::Remove { path } => Ok(format!(in alloc; "remove {path}")?),
+        Change::SetTime { path, time } => Ok(format!(in alloc; "time {path} {time}")?),
     }
 }
 
@@ -164,6 +166,8 @@ const BUILT: &str = "\
     fail 18446744073709551615\n\
     mkdir /\n\
     mkdir /a/b\n\
+    link / /\n\
+    link /a /b/c\n\
     put /a 0 @loose:blob:->put /a 0 626c6f62203000\n\
     put /a 18446744073709551615 @loose:commit:00ff>put /a 18446744073709551615 636f6d6d6974203200\
     00ff\n\
@@ -235,8 +239,12 @@ const BUILT: &str = "\
     do mkdir /a\n\
     do put /a 5 @loose:tree:00>do put /a 5 74726565203100\
     00\n\
+    do link /a/b /\n\
+    do link /a /a\n\
     do rename /a /b\n\
     do remove /a\n\
+    do time / 0\n\
+    do time /a/b 18446744073709551615\n\
     >blank\n\
     #>blank\n\
     # mkdir /a>blank";
@@ -250,17 +258,14 @@ fn tells_built_lines(rt: HostRuntime) -> Result<(), Fail> {
 
 // A word that isn't built yet that is refused because of the rest of its line.
 const NOT_BUILT: &str = "\
-    link /a /b\n\
-    link\n\
     ids\n\
+    ids /a\n\
     clone 1 0\n\
     upgrade 0\n\
     never 0\n\
     prefix 0 e\n\
     locate 0 x\n\
     entry 0 0\n\
-    do link /a /b\n\
-    do time\n\
     open 0 /a\n\
     open x y\n\
     open 0 /a folder=/b\n\
@@ -297,6 +302,18 @@ const REFUSED: &str = "\
     Mkdir /a\n\
     mkdirs /a\n\
     mkdir\t/a\n\
+    link\n\
+    link /a\n\
+    link /a \n\
+    link /a b\n\
+    link a /b\n\
+    link /a /b/\n\
+    link /a /b/..\n\
+    link /a  /b\n\
+    link /a /b /c\n\
+    link /a /b 1\n\
+    Link /a /b\n\
+    links /a /b\n\
     steps\r\n\
     steps \n\
     steps x\n\
@@ -429,7 +446,26 @@ const REFUSED: &str = "\
     do mkdir\n\
     do remove\n\
     do remove a\n\
+    do link\n\
+    do link /a\n\
+    do link /a b\n\
+    do link a /b\n\
+    do link /a /b /c\n\
+    do time\n\
+    do time /a\n\
+    do time /a \n\
+    do time a 1\n\
+    do time /a/ 1\n\
+    do time /a x\n\
+    do time /a 01\n\
+    do time /a -1\n\
+    do time /a 18446744073709551616\n\
+    do time /a /b\n\
+    do time 1 /a\n\
+    do time /a 1 2\n\
+    do times /a 1\n\
     remove /a\n\
+    time /a 1\n\
     slots=1\n\
     find";
 
@@ -480,12 +516,21 @@ const SCRIPTS: &str = "\
     steps|turn 0|bad>RefusedAt(3) 1\n\
     steps\r|turn 0\r|>RefusedAt(1) 0\n\
     bad|link /a /b|>RefusedAt(1) 0\n\
-    link /a /b|bad>NotBuiltAt(1) 0\n\
+    clone 1 0|bad>NotBuiltAt(1) 0\n\
     steps|turn 0|clone 1 0|>NotBuiltAt(3) 1\n\
     turn 0|>RefusedAt(1) 0\n\
     mkdir /a|fail 1|>RefusedAt(2) 0\n\
     steps|fail 1|>RefusedAt(2) 0\n\
     steps|mkdir /a|>RefusedAt(2) 0\n\
+    steps|link /a /b|>RefusedAt(2) 0\n\
+    link /a /b|fail 1|>RefusedAt(2) 0\n\
+    fail 1|link /a /b|link /a /a|link /c /a|put /c 1 -|steps>Whole 0\n\
+    link / /a|>RefusedAt(1) 0\n\
+    link /a/b /c|>RefusedAt(1) 0\n\
+    mkdir /a|link /a /b|>RefusedAt(2) 0\n\
+    mkdir /a|link /b /a|mkdir /b/c|>RefusedAt(3) 0\n\
+    mkdir /a|link /b /a|link /b/c /a|>RefusedAt(3) 0\n\
+    link /a /b|mkdir /a|>RefusedAt(2) 0\n\
     steps||steps|>RefusedAt(3) 0\n\
     mkdir /a/b|>RefusedAt(1) 0\n\
     fail 1|mkdir /a/b|steps|>RefusedAt(2) 0\n\
