@@ -1,4 +1,3 @@
 mod LinesLemmas
 mod ProbeLemmas
-mod StreamLemmas
 mod SessionLemmas

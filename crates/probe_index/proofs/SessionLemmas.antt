@@ -3,6 +3,7 @@ use Rattle.std.proofs.Common.{◌≡◌, ◌⊎◌, inl, inr, ℕ, ◌<◌, ◌�
 use Rattle.std.proofs.lemmas.Bool.{cases_lt}
 use Rattle.std.proofs.lemmas.Bool.Decides.{nat_tests}
 use Rattle.std.proofs.lemmas.List.{append-nil, length-append}
+use Rattle.odb_disk.specs.Source.{ReadsFile}
 use Rattle.gix_hash.specs.declared.kind.Kind.{Kind}
 use Rattle.probe_index.specs.declared.asked.Asked.{Asked}
 use Rattle.probe_index.specs.declared.status.Status.{Status}
@@ -10,7 +11,7 @@ use Rattle.probe_index.specs.declared.status.Status.TheVariants as statuses
 use Rattle.probe_index.specs.declared.probe.Refusal.{Refusal}
 use Rattle.probe_index.specs.declared.probe.Refusal.TheVariants.{TooLong}
 use Rattle.probe_index.specs.Probe.{WritesIn, WritesOf, file_limit, refusal_of}
-use Rattle.probe_index.specs.Session.{Delivers, Ends, Finished, ReadsFile, ReadToEnd, Session, Writes, WritesForFile}
+use Rattle.probe_index.specs.Session.{Delivers, Ends, Finished, ReadToEnd, Session, Writes, WritesForFile}
 
 -- ---- a file that is too long
 
@@ -35,7 +36,7 @@ WritesOf-read asked bytes rest written status whole writes =
           subst P (sym (ap (λ r. bytes ++ r) (whole short) ∙ append-nil bytes)) writes
     ]
 
-WritesForFile-read : (asked : Asked) (left left' : Option (List ℕ)) (bytes written : List ℕ) (status : Status) → ReadsFile left left' bytes → WritesOf asked bytes written status → WritesForFile asked left written status
+WritesForFile-read : (asked : Asked) (left left' : Option (List ℕ)) (bytes written : List ℕ) (status : Status) → ReadsFile file_limit left left' bytes → WritesOf asked bytes written status → WritesForFile asked left written status
 WritesForFile-read asked None left' bytes written status reads writes = tt
 WritesForFile-read asked (Some left) left' bytes written status reads writes =
     let P : List ℕ → Type 0 = λ b. WritesOf asked b written status in
@@ -51,7 +52,7 @@ Done-short asked bytes written writes long =
     let P : Option Refusal → Type 0 = λ why. WritesIn asked bytes written statuses.Done why in
     refused asked bytes written (subst P (too_long asked.kind bytes long) writes)
 
-ReadToEnd-Done : (asked : Asked) (left left' : Option (List ℕ)) (bytes written : List ℕ) → ReadsFile left left' bytes → WritesOf asked bytes written statuses.Done → ReadToEnd left left'
+ReadToEnd-Done : (asked : Asked) (left left' : Option (List ℕ)) (bytes written : List ℕ) → ReadsFile file_limit left left' bytes → WritesOf asked bytes written statuses.Done → ReadToEnd left left'
 ReadToEnd-Done asked None left' bytes written reads writes = tt
 ReadToEnd-Done asked (Some left) left' bytes written reads writes =
     elim (cases_lt file_limit (length bytes)) [
@@ -75,7 +76,7 @@ answered_or_refused : (asked : Asked) (bytes written : List ℕ) (status : Statu
 answered_or_refused asked bytes written status None writes = inl writes.0
 answered_or_refused asked bytes written status (Some why) writes = inr writes.0
 
-module _ (s : Session) (asked : Asked) (bytes output : List ℕ) (asks : s.asked ≡ Some asked) (reads : ReadsFile s.left s.left' bytes) where
+module _ (s : Session) (asked : Asked) (bytes output : List ℕ) (asks : s.asked ≡ Some asked) (reads : ReadsFile file_limit s.left s.left' bytes) where
   ends-by : (status : Status) → WritesOf asked bytes output status → (status ≡ statuses.Done) ⊎ (status ≡ statuses.Refused) → Finished s status → Ends s status
   ends-by status writes (inl done) finished =
       let P : Status → Type 0 = λ r. WritesOf asked bytes output r → Finished s r → Ends s r in

@@ -1,20 +1,11 @@
 -- What the program promises of each status, by its words, its source and its sink.
-use Rattle.std.specs.Prelude.{◌≡◌, ◌⊎◌, ℕ, ◌≤◌, List, [], ◌++◌, length, take, Option, Some, None}
+use Rattle.std.specs.Prelude.{◌≡◌, ◌⊎◌, ℕ, List, [], take, Option, Some, None}
 use Rattle.odb_base.specs.Faults.{Rose}
+use Rattle.odb_disk.specs.Source.{Adds}
 use Rattle.probe_index.specs.declared.asked.Asked.{Asked}
 use Rattle.probe_index.specs.declared.status.Status.{Status}
 use Rattle.probe_index.specs.declared.status.Status.TheVariants as statuses
-use Rattle.probe_index.specs.Probe.{WritesOf, file_limit}
-
--- a file was read: it was the whole of what was left, or a front of it that is longer than a file may be
-abbrev pub ReadsFile : Option (List ℕ) → Option (List ℕ) → List ℕ → Type 0
-ReadsFile None now bytes = Unit {0}
-ReadsFile (Some left) now bytes = (rest : List ℕ) × (left ≡ bytes ++ rest) × (now ≡ Some rest) × (length bytes ≤ file_limit → rest ≡ [])
-
--- a sink that tells has these bytes behind what it held
-abbrev pub Adds : Option (List ℕ) → Option (List ℕ) → List ℕ → Type 0
-Adds None now bytes = Unit {0}
-Adds (Some held) now bytes = now ≡ Some (held ++ bytes)
+use Rattle.probe_index.specs.Probe.{WritesOf}
 
 -- what is written with a status for a file, where the source told its bytes
 abbrev pub WritesForFile : Asked → Option (List ℕ) → List ℕ → Status → Type 0

@@ -9,7 +9,6 @@ mod lines;
 mod probe;
 mod run;
 mod status;
-mod stream;
 #[cfg(test)]
 mod tests;
 

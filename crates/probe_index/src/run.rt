@@ -5,11 +5,10 @@ ghost use Rattle.probe_index.specs.Asked.{asked_of};
 ghost use Rattle.probe_index.specs.Session.{Delivers, Ends};
 
 use crate::asked::{Asked, asked_of};
-use crate::probe::answer_file;
+use crate::probe::{FILE_LIMIT, answer_file};
 use crate::status::Status;
-use crate::stream::{ReadError, read_file, write_all};
 use odb_base::NoMemory;
-use odb_disk::{Failed, Sink, Source};
+use odb_disk::{Failed, ReadError, Sink, Source, read_file, write_all};
 use std::alloc::Global;
 
 /// What is written where the words ask nothing.
@@ -95,7 +94,7 @@ fn probe<S: Source, K: Sink>(alloc: Global, asked: &Asked, source: &mut S, sink:
       usage = usage;
     }) result }
 {
-    let bytes = match read_file(alloc, source) {
+    let bytes = match read_file(alloc, source, FILE_LIMIT) {
         Ok(bytes) => bytes,
         Err(ReadError::Failed) => return Status::ReadFault,
         Err(ReadError::NoMemory) => return Status::NoMemory,
