@@ -1,0 +1,88 @@
+-- What a filtered walk on a disk leaves as it was, and what it passes, for the calls that walk.
+use Rattle.std.proofs.Common.{◌≡◌, ℕ, Bool, true, false, List, [], ◌∷◌, map, Option, Some, None, Result, Ok, refl, sym, ap, subst, ◌∙◌}
+use Rattle.std.specs.Fn.{Mut, CalledAt}
+use Rattle.std.specs.Iterator.{Yields}
+use Rattle.std.specs.List.{All}
+use Rattle.std.specs.Prelude.{MatchBool}
+use Rattle.std.proofs.lemmas.List.Elements.{All-cons, All-nil}
+use denote.Ref.{Bor}
+use Rattle.odb_disk.specs.Streams.{Streams}
+use Rattle.odb_disk.specs.Tree.{State}
+use Rattle.walkdir.proofs.WholeWalks.{NextOn, at_walk, begun_keeps}
+use Rattle.walkdir.specs.Filter.{Filters, Accepts, Ends, Errs, Rejects}
+use Rattle.walkdir.specs.Options.{Built}
+use Rattle.walkdir.specs.OwnStreams.{AreBack}
+use Rattle.walkdir.specs.Progress.{Keeps, Progress, Skips, begun}
+use Rattle.walkdir.specs.Walk.{Item, Order}
+use Rattle.walkdir.specs.declared.builder.Options.{Options}
+use Rattle.walkdir.specs.declared.dent.DirEntry.{DirEntry}
+use Rattle.walkdir.specs.declared.filter.FilterEntry.{FilterEntry}
+use Rattle.walkdir.specs.declared.iter.OnDisk.{OnDisk}
+
+module _ {D W : Type 0} (state : D → Option State) (streams : D → Streams) (faults : D → ℕ) (progress : W → Streams → Progress) where
+  -- what a skip leaves there
+  abbrev pub SkipsOn : OnDisk D W → OnDisk D W → Type 0
+  SkipsOn s t = Skips (at_walk state streams faults progress s) (at_walk state streams faults progress t) × (state t.disk.now ≡ state s.disk.now) × (faults t.disk.now ≡ faults s.disk.now)
+      × (t.disk.ghost_name ≡ s.disk.ghost_name)
+
+  -- what stays as it was
+  pub record Kept (s t : OnDisk D W) : Type 0 where
+    pub tells : state t.disk.now ≡ state s.disk.now
+    pub disk : t.disk.ghost_name ≡ s.disk.ghost_name
+    pub options : (at_walk state streams faults progress t).options ≡ (at_walk state streams faults progress s).options
+    pub keeps : (before : Streams) → Keeps before (at_walk state streams faults progress s) → Keeps before (at_walk state streams faults progress t)
+
+  pub kept_first : (s : OnDisk D W) → Kept s s
+  kept_first s = record { tells = refl; disk = refl; options = refl; keeps = λ before keeps. keeps }
+
+  pub kept_then : (s t u : OnDisk D W) → Kept s t → Kept t u → Kept s u
+  kept_then s t u first second = record {
+    tells = second.tells ∙ first.tells;
+    disk = second.disk ∙ first.disk;
+    options = second.options ∙ first.options;
+    keeps = λ before keeps. second.keeps before (first.keeps before keeps);
+  }
+
+  kept_step : (s : OnDisk D W) (item : Option Item) (t : OnDisk D W) → NextOn state streams faults progress s item t → Kept s t
+  kept_step s item t step = record { tells = step.3; disk = step.4; options = step.1.options; keeps = step.1.keeps }
+
+  kept_after : (entered : Bool) (s t : OnDisk D W) → MatchBool entered (SkipsOn s t) (t ≡ s) → Kept s t
+  kept_after true s t skip = record { tells = skip.1; disk = skip.3; options = skip.0.options; keeps = skip.0.keeps }
+  kept_after false s t is = subst (Kept s) (sym is) (kept_first s)
+
+  -- what a filtered walk leaves that is dropped
+  pub filtered_back : {T : Type 0} (order : T → Order) (built : Built T) (before now : Streams) (s u : OnDisk D W) → at_walk state streams faults progress s ≡ begun order built before → Kept s u
+      → ((other : Streams) → Keeps other (at_walk state streams faults progress u) → AreBack other (at_walk state streams faults progress u).options.max_open now)
+      → AreBack before built.options.max_open now
+  filtered_back order built before now s u is kept dropped =
+      let keeps = subst (Keeps before) (sym is) (begun_keeps order built before) in
+      subst (λ (o : Options). AreBack before o.max_open now) (kept.options ∙ ap (λ (p : Progress). p.options) is) (dropped before (kept.keeps before keeps))
+
+  -- what a filtered walk gives there
+  abbrev pub FiltersOn : {F : Type 0} → Mut F (Bor DirEntry × Unit {0}) Bool → OnDisk D W → F → Option Item → OnDisk D W → F → Type 0
+  FiltersOn accepts s f item t h = Filters (NextOn state streams faults progress) SkipsOn (λ x. (at_walk state streams faults progress x).entered) accepts s f item t h
+
+  module _ {F : Type 0} {accepts : Mut F (Bor DirEntry × Unit {0}) Bool} where
+    pub kept_filters : {s t : OnDisk D W} {f h : F} {item : Option Item} → FiltersOn accepts s f item t h → Kept s t
+    kept_filters {s} {t} (Ends step) = kept_step s None t step
+    kept_filters {s} {t} {item = item} (Errs step) = kept_step s item t step
+    kept_filters {s} {t} {item = item} (Accepts step called) = kept_step s item t step
+    kept_filters {s} {t} (Rejects m n g entry step called after rest) =
+        kept_then s m t (kept_step s (Some (Ok entry)) m step) (kept_then m n t (kept_after (at_walk state streams faults progress m).entered m n after) (kept_filters rest))
+
+    -- an entry that is given was accepted
+    pub accepted : {s t : OnDisk D W} {f h : F} {item : Option Item} (entry : DirEntry) → item ≡ Some (Ok entry) → FiltersOn accepts s f item t h → (g : F) × (k : F) × CalledAt accepts g entry true k
+    accepted entry is (Ends step) = absurd cc
+    accepted entry is (Errs step) = absurd cc
+    accepted entry is (Accepts {f = f} {h = h} {entry = other} step called) =
+        let same : other ≡ entry = cc in
+        (f, h, subst (λ e. CalledAt accepts f e true h) same called)
+    accepted entry is (Rejects m n g other step called after rest) = accepted entry is rest
+
+    -- what holds of each entry that was accepted holds of all that are given
+    pub all_accepted : (Holds : DirEntry → Type 0) → ((g k : F) (entry : DirEntry) → CalledAt accepts g entry true k → Holds entry) → (entries : List DirEntry) (s t : FilterEntry (OnDisk D W) F)
+        → Yields (λ from item to. FiltersOn accepts from.walk from.predicate item to.walk to.predicate) s (map Ok entries) t → All Holds entries
+    all_accepted Holds each [] s t along = All-nil Holds
+    all_accepted Holds each (entry ∷ entries) s t along =
+        let passed = accepted entry refl along.1 in
+        All-cons Holds entry entries (each passed.0 passed.1 entry passed.2) (all_accepted Holds each entries along.0 t along.2)

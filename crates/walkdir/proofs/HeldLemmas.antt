@@ -1,0 +1,39 @@
+-- Laws of what was read of a directory before, of which the first is taken.
+use Rattle.std.proofs.Common.{◌≡◌, ℕ, suc, ◌+◌, ◌≤◌, [], ◌∷◌, length, Option, Some, None, IfSome, sym, ap, subst, ◌∙◌, arith}
+use Rattle.walkdir.specs.Failures.{failures_among, failures_given, failures_left, failures_of}
+use Rattle.walkdir.specs.Stack.{AreAt, IsAt, TakesHeld, held, stream_in}
+use Rattle.walkdir.specs.Walk.{Item}
+use Rattle.walkdir.specs.declared.list.Items.{Items}
+use Rattle.walkdir.proofs.ListLemmas.{failures_held}
+
+pub held_closed : (old : Items) (item : Option Item) (new : Items) → TakesHeld old item new → stream_in new ≡ None
+held_closed old None new takes = takes.1.no_stream
+held_closed old (Some item) new takes = takes.1
+
+pub held_rest_at : (depth : ℕ) (old : Items) (item : Option Item) (new : Items) → TakesHeld old item new → AreAt depth (held old) → AreAt depth (held new)
+held_rest_at depth old None new takes all = subst (AreAt depth) (sym takes.1.nothing) tt
+held_rest_at depth old (Some item) new takes all = let both : AreAt depth (item ∷ held new) = subst (AreAt depth) takes.0 all in both.1
+
+pub held_item_at : (depth : ℕ) (old : Items) (item : Option Item) (new : Items) → TakesHeld old item new → AreAt depth (held old) → IfSome item (λ i. IsAt depth i)
+held_item_at depth old None new takes all = tt
+held_item_at depth old (Some item) new takes all = let both : AreAt depth (item ∷ held new) = subst (AreAt depth) takes.0 all in both.0
+
+pub held_none : (old : Items) (item : Option Item) (new : Items) → TakesHeld old item new → held old ≡ [] → held new ≡ []
+held_none old None new takes is = takes.1.nothing
+held_none old (Some item) new takes is = let no : item ∷ held new ≡ [] = sym takes.0 ∙ is in cc
+
+pub held_fails : (old : Items) (item : Option Item) (new : Items) → TakesHeld old item new → failures_given item + failures_left new ≤ failures_left old
+held_fails old None new takes = let none : failures_left new ≡ 0 = failures_held new ∙ ap failures_among takes.1.nothing in omega arith
+held_fails old (Some item) new takes =
+    let was : failures_left old ≡ failures_of item + failures_among (held new) = failures_held old ∙ ap failures_among takes.0 in
+    let is : failures_left new ≡ failures_among (held new) = failures_held new in
+    omega arith
+
+pub held_few : (old : Items) (item : Option Item) (new : Items) → TakesHeld old item new → length (held new) ≤ length (held old)
+held_few old None new takes = let none : length (held new) ≡ 0 = ap length takes.1.nothing in omega arith
+held_few old (Some item) new takes = let was : length (held old) ≡ suc (length (held new)) = ap length takes.0 in omega arith
+
+-- something follows where one was taken
+pub if_taken : (old : Items) (item : Option Item) (new : Items) (X : Type 0) → TakesHeld old item new → ((first : Item) → held old ≡ first ∷ held new → X) → IfSome item (λ _. X)
+if_taken old None new X takes then_so = tt
+if_taken old (Some item) new X takes then_so = then_so item takes.0

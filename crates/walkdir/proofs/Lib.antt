@@ -1,0 +1,30 @@
+mod OwnStreamsLemmas
+mod StackLemmas
+mod FailuresLemmas
+mod StepLemmas
+mod ReadLemmas
+mod ProgressLemmas
+mod StandsForLemmas
+mod DrawsLemmas
+mod TurnsLemmas
+mod SkipLemmas
+mod ListLemmas
+mod SoundLemmas
+mod HeldLemmas
+mod OrderLemmas
+mod ContainsLemmas
+mod HandlesLemmas
+mod SortedLemmas
+mod WalkLaws
+mod StableLaws
+mod WalkCases
+pub mod OneListLaws
+pub mod DirectoryLaws
+mod FilterLemmas
+mod StillGivesLemmas
+pub mod WholeWalks
+pub mod SameWalks
+pub mod FilteredWalks
+pub mod SkipLaws
+pub mod FilterLaws
+mod CausesLemmas

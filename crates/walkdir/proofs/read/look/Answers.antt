@@ -1,0 +1,16 @@
+use Rattle.walkdir.proofs.FailuresLemmas.{costs_none}
+use Rattle.walkdir.proofs.ReadLemmas.{costs_refused, told_found, told_refused}
+use Rattle.walkdir.proofs.read.look.Goals as goal
+
+pub returns-in-Ok-clause-told : goal.returns-in-Ok-clause-told
+returns-in-Ok-clause-told g c = told_found (g.D.Disk.state c.args.disk.now) c.args.depth c.args.path.now c.args.follow c.in-Ok.meta c.in-Ok.ensures.answer
+
+pub returns-in-Ok-clause-cause : goal.returns-in-Ok-clause-cause
+returns-in-Ok-clause-cause g c = costs_none _ _ c.in-Ok.ensures.cause.later
+
+pub returns-in-Err-clause-told : goal.returns-in-Err-clause-told
+returns-in-Err-clause-told g c =
+    told_refused (g.D.Disk.state c.args.disk.now) c.args.depth c.args.path.now c.args.follow c.in-Err.error c.from_path.result c.in-Err.ensures.answer c.from_path.ensures
+
+pub returns-in-Err-clause-cause : goal.returns-in-Err-clause-cause
+returns-in-Err-clause-cause g c = costs_refused c.args.depth c.args.path.now c.in-Err.error c.from_path.result _ _ c.in-Err.ensures.cause c.from_path.ensures

@@ -1,0 +1,70 @@
+use Rattle.std.proofs.Common.{◌≡◌, ◌&&◌, true, false, Some, None, Ok, Err, ap, reverse, subst, sym, ◌∙◌, arith}
+use Rattle.std.specs.Prelude.{IfErr}
+use Rattle.walkdir.specs.Entry.{is_dir_kind, is_link}
+use Rattle.walkdir.specs.Progress.{IsCausedAmong}
+use Rattle.walkdir.specs.Turns.{ChecksLoop, Follows, standing_at}
+use Rattle.walkdir.specs.Stack.{ancestors}
+use Rattle.walkdir.specs.Walk.{entry_by, loop_at}
+use Rattle.walkdir.proofs.HandlesLemmas.{err_is, kind_tested, follows_found, follows_loop, follows_none, follows_refused, loop_nowhere, loop_where}
+use Rattle.walkdir.proofs.CausesLemmas.{caused_by_loop}
+use Rattle.walkdir.proofs.stack.Stack.followed.Goals as goal
+use Rattle.walkdir.proofs.stack.Stack.followed.Goals.{then-eq+in_ok-check_loop, else-eq, then-not-self-via-then-not-self, then-not-self-via-else-not-self+then-not-is_link}
+
+pub returns-then-not-self-clause-follows : goal.returns-then-not-self-clause-follows
+returns-then-not-self-clause-follows g c =
+    let no : (c.args.self.now.options.follow_links && is_link c.args.entry) ≡ false = elim c.then-not-self.branch [
+      | then-not-self-via-then-not-self w ↦ grind arith
+      | then-not-self-via-else-not-self+then-not-is_link w ↦ grind arith
+    ] in
+    follows_none (g.D.Disk.state c.args.disk.now) c.args.self.now.options (ancestors (reverse c.args.self.now.lists.items)) c.args.entry no
+
+pub returns-in_err-meta-clause-follows : goal.returns-in_err-meta-clause-follows
+returns-in_err-meta-clause-follows g c =
+    let state = g.D.Disk.state c.args.disk.now in
+    let walk = c.args.self.now in
+    let above = ancestors (reverse walk.lists.items) in
+    let link : is_link c.args.entry ≡ true = sym c.is_link.ensures ∙ c.if-not-is_link.false in
+    subst (λ r. Follows state walk.options above c.args.entry r) (sym (err_is c.from_residual.result c.in_err-meta.field-0.0 c.from_residual.ensures.1))
+    (follows_refused state walk.options above c.args.entry c.depth-depth.result c.into_path-path.result c.in_err-meta.field-0.0 c.if-not-self.false link c.depth-depth.ensures
+    c.into_path-path.ensures c.in_err-meta.ensures.told)
+
+pub returns-in_err-check_loop-clause-follows : goal.returns-in_err-check_loop-clause-follows
+returns-in_err-check_loop-clause-follows g c =
+    let state = g.D.Disk.state c.args.disk.now in
+    let walk = c.args.self.now in
+    let above = ancestors (reverse walk.lists.items) in
+    let meta = c.in_ok-meta.meta in
+    let error = c.in_err-check_loop.field-0.0 in
+    let link : is_link c.args.entry ≡ true = sym c.is_link.ensures ∙ c.if-not-is_link.false in
+    let dir : is_dir_kind meta.kind ≡ true = sym (c.eq.ensures ∙ kind_tested meta.kind) ∙ c.if-eq.true in
+    subst (λ r. Follows state walk.options above c.args.entry r)
+    (sym (err_is c.from_residual-in_err-check_loop.result error c.from_residual-in_err-check_loop.ensures.1))
+    (follows_loop state walk.options above c.args.entry c.depth-depth.result c.into_path-path.result meta error c.if-not-self.false link c.depth-depth.ensures
+    c.into_path-path.ensures c.in_ok-meta.ensures.told dir
+    (subst (λ p. ChecksLoop c.depth-depth.result c.into_path-path.result (standing_at above p) (Err error)) c.place_in.ensures c.in_err-check_loop.ensures.checks))
+
+pub returns-in_err-check_loop-clause-causes : goal.returns-in_err-check_loop-clause-causes
+returns-in_err-check_loop-clause-causes g c =
+    let walk = c.args.self.now in
+    let above = ancestors (reverse walk.lists.items) in
+    let error = c.in_err-check_loop.field-0.0 in
+    subst (λ r. IfErr r (λ e. IsCausedAmong walk.options above e)) (sym (err_is c.from_residual-in_err-check_loop.result error c.from_residual-in_err-check_loop.ensures.1))
+    (caused_by_loop walk.options above c.place_in.result c.depth-depth.result c.into_path-path.result error c.if-not-self.false c.in_err-check_loop.ensures.checks)
+
+pub returns-clause-follows : goal.returns-clause-follows
+returns-clause-follows g c =
+    let state = g.D.Disk.state c.args.disk.now in
+    let walk = c.args.self.now in
+    let above = ancestors (reverse walk.lists.items) in
+    let meta = c.in_ok-meta.meta in
+    let depth = c.depth-depth.result in
+    let path = c.into_path-path.result in
+    let link : is_link c.args.entry ≡ true = sym c.is_link.ensures ∙ c.if-not-is_link.false in
+    let free : loop_at above meta ≡ None = elim c.if-eq.branch [
+      | then-eq+in_ok-check_loop w ↦ loop_where above meta (sym (c.eq.ensures ∙ kind_tested meta.kind) ∙ w.if-eq.true) ∙ ap (standing_at above) (sym w.place_in.ensures)
+          ∙ w.in_ok-check_loop.ensures.checks
+      | else-eq w ↦ loop_nowhere above meta (sym (c.eq.ensures ∙ kind_tested meta.kind) ∙ w.if-eq.false)
+    ] in
+    subst (λ e. Follows state walk.options above c.args.entry (Ok (record { entry = e; place = Some c.place_in-2.result }))) (sym c.entry_by-entry.ensures)
+    (subst (λ p. Follows state walk.options above c.args.entry (Ok (record { entry = entry_by path true depth meta; place = Some p }))) (sym c.place_in-2.ensures)
+    (follows_found state walk.options above c.args.entry depth path meta c.if-not-self.false link c.depth-depth.ensures c.into_path-path.ensures c.in_ok-meta.ensures.told free))

@@ -1,0 +1,19 @@
+use Rattle.std.proofs.Common.{◌≡◌, ◌+◌, ◌<◌, [], length, refl, subst, sym, take, arith}
+use Rattle.walkdir.specs.Stack.{own_streams}
+use Rattle.walkdir.proofs.SoundLemmas.{is_sound_of, sound_of}
+use Rattle.walkdir.proofs.StackLemmas.{sound_closed}
+use Rattle.walkdir.proofs.stack.Stack.make_room.Goals as goal
+
+pub invariant_of-self-clause-sound : goal.invariant_of-self-clause-sound
+invariant_of-self-clause-sound g c =
+    let was = c.args.self.now in
+    let walk = c.close.new.self in
+    let count = c.in_ok-close.ensures.kept.count in
+    let same = c.in_ok-close.ensures.first_open in
+    let sound = sound_of was.options was.start was.lists.items was.first_open was.some_open was.in_range was.few was.sound in
+    let some = was.some_open in
+    let within : walk.first_open < length walk.lists.items = omega arith in
+    is_sound_of walk.options walk.start walk.lists.items (walk.first_open + 1)
+    (sound_closed walk.options walk.start walk.lists.items walk.first_open (walk.first_open + 1)
+    (sound_of walk.options walk.start walk.lists.items walk.first_open walk.some_open walk.in_range walk.few walk.sound) refl within
+    (subst (λ n. own_streams (take (n + 1) walk.lists.items) ≡ []) (sym same) (c.in_ok-close.ensures.closed sound.closed)))

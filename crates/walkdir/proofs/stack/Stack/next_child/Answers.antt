@@ -1,0 +1,109 @@
+use Rattle.std.proofs.Common.{◌≡◌, ◌+◌, ◌<◌, ◌≤◌, None, ap, length, length-set, refl, reverse, set, subst, suc, sym, ◌∙◌, arith}
+use Rattle.odb_disk.specs.Streams.{Streams}
+use Rattle.walkdir.specs.Progress.{Keeps, Progress}
+use Rattle.walkdir.specs.Stack.{held, left_in, stream_in}
+use Rattle.walkdir.specs.StackProgress.{progress}
+use Rattle.walkdir.specs.Turns.{TakesWork}
+use Rattle.walkdir.proofs.DrawsLemmas.{draws_held, is_top, was_top}
+use Rattle.walkdir.proofs.FailuresLemmas.{costs_none}
+use Rattle.walkdir.proofs.HeldLemmas.{held_closed, held_fails, held_few, held_item_at, held_none, held_rest_at, if_taken}
+use Rattle.walkdir.proofs.ListLemmas.{goes_held, left_held, put_takes}
+use Rattle.walkdir.proofs.SoundLemmas.{is_sound_of, sound_of}
+use Rattle.walkdir.proofs.StackLemmas.{fit_at, held_at, one_at, puts_set, shallow_held, sound_put}
+use Rattle.walkdir.proofs.StepLemmas.{less_same}
+use Rattle.walkdir.specs.declared.list.DirList.{DirList}
+use Rattle.walkdir.proofs.stack.Stack.next_child.Goals as goal
+
+pub invariant_of-self-clause-sound : goal.invariant_of-self-clause-sound
+invariant_of-self-clause-sound g c =
+    let walk = c.args.self.now in
+    let lists = walk.lists.items in
+    let list = c.index_mut-list.result.now in
+    let items = c.take_first.new.self in
+    let within : c.args.index < length lists = omega (arith, c.requires) in
+    let at = c.index_mut-list.ensures.value in
+    let sound = sound_of walk.options walk.start lists walk.first_open walk.some_open walk.in_range walk.few walk.sound in
+    let fit = fit_at walk.options walk.start lists walk.first_open c.args.index list sound within at in
+    is_sound_of walk.options walk.start (set lists c.args.index (record list { items = items })) walk.first_open
+    (sound_put walk.options walk.start lists (set lists c.args.index (record list { items = items })) walk.first_open c.args.index items sound
+    (puts_set lists c.args.index list items within at) (held_closed list.items c.take_first.result items c.take_first.ensures)
+    (held_rest_at (c.args.index + 1) list.items c.take_first.result items c.take_first.ensures fit.children)
+    (λ deep. held_none list.items c.take_first.result items c.take_first.ensures (fit.deepest deep).nothing))
+
+pub invariant_of-self-clause-in_range : goal.invariant_of-self-clause-in_range
+invariant_of-self-clause-in_range g c =
+    let walk = c.args.self.now in
+    let same = length-set walk.lists.items c.args.index (record c.index_mut-list.result.now { items = c.take_first.new.self }) in
+    subst (λ n. walk.first_open ≤ n) (sym same) walk.in_range
+
+pub invariant_of-self-clause-few : goal.invariant_of-self-clause-few
+invariant_of-self-clause-few g c =
+    let walk = c.args.self.now in
+    let same = length-set walk.lists.items c.args.index (record c.index_mut-list.result.now { items = c.take_first.new.self }) in
+    subst (λ n. n ≤ walk.first_open + walk.options.max_open) (sym same) walk.few
+
+pub returns-clause-goes : goal.returns-clause-goes
+returns-clause-goes g c =
+    let walk = c.args.self.now in
+    let lists = walk.lists.items in
+    let list = c.index_mut-list.result.now in
+    let items = c.take_first.new.self in
+    let within : c.args.index < length lists = omega (arith, c.requires) in
+    let at = c.index_mut-list.ensures.value in
+    let none : stream_in list.items ≡ None = ap (λ (l : DirList). stream_in l.items) (sym (one_at lists c.args.index c.index.result.now list within c.index.ensures at)) ∙ sym c.in_default.ensures in
+    let old = progress g.S.Sorter.order walk (g.D.Disk.streams c.args.disk.now) in
+    let new : Progress = record old { stack = reverse (set lists c.args.index (record list { items = items })) } in
+    goes_held old new lists (set lists c.args.index (record list { items = items })) c.args.index items list (record { options = refl; order = refl; start = refl }) refl refl
+    (puts_set lists c.args.index list items within at) at _ (g.D.Disk.faults c.args.disk.now) (g.D.Disk.faults c.args.disk.now) none
+    (held_closed list.items c.take_first.result items c.take_first.ensures) refl (held_few list.items c.take_first.result items c.take_first.ensures)
+    (held_fails list.items c.take_first.result items c.take_first.ensures) (costs_none (g.D.Disk.faults c.args.disk.now) (g.D.Disk.faults c.args.disk.now) (omega arith))
+
+pub returns-clause-depth : goal.returns-clause-depth
+returns-clause-depth g c =
+    let walk = c.args.self.now in
+    let lists = walk.lists.items in
+    let list = c.index_mut-list.result.now in
+    let within : c.args.index < length lists = omega (arith, c.requires) in
+    held_item_at (c.args.index + 1) list.items c.take_first.result c.take_first.new.self c.take_first.ensures
+    (held_at walk.options walk.start lists walk.first_open c.args.index list (sound_of walk.options walk.start lists walk.first_open walk.some_open walk.in_range walk.few walk.sound) within
+    c.index_mut-list.ensures.value)
+
+pub returns-clause-less : goal.returns-clause-less
+returns-clause-less g c =
+    let walk = c.args.self.now in
+    let lists = walk.lists.items in
+    let list = c.index_mut-list.result.now in
+    let items = c.take_first.new.self in
+    let within : c.args.index < length lists = omega (arith, c.requires) in
+    let at = c.index_mut-list.ensures.value in
+    let streams = g.D.Disk.streams c.args.disk.now in
+    let none : stream_in list.items ≡ None = ap (λ (l : DirList). stream_in l.items) (sym (one_at lists c.args.index c.index.result.now list within c.index.ensures at)) ∙ sym c.in_default.ensures in
+    let old = progress g.S.Sorter.order walk streams in
+    let new : Progress = record old { stack = reverse (set lists c.args.index (record list { items = items })) } in
+    if_taken list.items c.take_first.result items ((c.args.index < walk.options.max_depth) × ((before : Streams) → Keeps before old → TakesWork old new c.args.index)) c.take_first.ensures
+    (λ first is. (
+      shallow_held walk.options walk.start lists walk.first_open c.args.index list first (held items)
+          (sound_of walk.options walk.start lists walk.first_open walk.some_open walk.in_range walk.few walk.sound) within at is,
+      λ before keeps.
+          let was : left_in streams list.items ≡ length (held list.items) = left_held streams list.items none in
+          let now_left : left_in streams items ≡ length (held items) = left_held streams items (held_closed list.items c.take_first.result items c.take_first.ensures) in
+          let one : length (held list.items) ≡ suc (length (held items)) = ap length is in
+          put_takes old new lists (set lists c.args.index (record list { items = items })) c.args.index items list (record { options = refl; order = refl; start = refl }) refl refl
+          (puts_set lists c.args.index list items within at) at before c.requires keeps (less_same streams streams refl) (omega arith),
+    ))
+
+pub returns-clause-draws : goal.returns-clause-draws
+returns-clause-draws g c =
+    let walk = c.args.self.now in
+    let lists = walk.lists.items in
+    let list = c.index_mut-list.result.now in
+    let items = c.take_first.new.self in
+    let within : c.args.index < length lists = omega (arith, c.requires) in
+    let at = c.index_mut-list.ensures.value in
+    let none : stream_in list.items ≡ None = ap (λ (l : DirList). stream_in l.items) (sym (one_at lists c.args.index c.index.result.now list within c.index.ensures at)) ∙ sym c.in_default.ensures in
+    let old = progress g.S.Sorter.order walk (g.D.Disk.streams c.args.disk.now) in
+    let after_lists = set lists c.args.index (record list { items = items }) in
+    let new : Progress = record old { stack = reverse after_lists } in
+    let puts = puts_set lists c.args.index list items within at in
+    draws_held old new list items (reverse puts.outer) (was_top old new lists after_lists c.args.index items list refl refl puts at c.requires)
+    (is_top old new lists after_lists c.args.index items list refl refl puts at c.requires) c.take_first.result c.take_first.ensures none refl

@@ -1,0 +1,90 @@
+use Rattle.std.proofs.Common.{◌≡◌, ◌+◌, ◌<◌, ◌≤◌, Ok, ap, length, max, refl, reverse, subst, sym, ◌∙◌, arith}
+use lib.ListN.{length-reverse}
+use Rattle.std.specs.Option.{option_map}
+use Rattle.std.specs.Result.{is_ok}
+use Rattle.odb_disk.specs.Streams.{Streams, open_count}
+use Rattle.walkdir.specs.Failures.{Costs, failures_left}
+use Rattle.walkdir.specs.Progress.{Progress}
+use Rattle.walkdir.specs.Stack.{FitsAt, IsSound, stream_in, without_stream}
+use Rattle.walkdir.specs.StackProgress.{progress}
+use Rattle.walkdir.specs.declared.list.DirList.{DirList}
+use Rattle.walkdir.specs.Turns.{HasContents}
+use Rattle.walkdir.proofs.ContainsLemmas.{pushed_stands}
+use Rattle.walkdir.proofs.FailuresLemmas.{costs_zero}
+use Rattle.walkdir.proofs.SoundLemmas.{is_sound_of, sound_of}
+use Rattle.walkdir.proofs.StackLemmas.{own_within, reversed_last, sound_pushed}
+use Rattle.walkdir.proofs.StepLemmas.{goes_back, goes_failed, goes_in, goes_pushed, peak_without, reopened}
+use Rattle.walkdir.proofs.stack.Stack.push.Goals as goal
+
+pub returns-in_err-items-clause-goes : goal.returns-in_err-items-clause-goes
+returns-in_err-items-clause-goes g c =
+    let mid = c.make_room.new.self in
+    let room : length mid.lists.items < mid.first_open + mid.options.max_open = c.in_ok-make_room.ensures.room in
+    let within = own_within mid.options mid.start mid.lists.items mid.first_open (sound_of mid.options mid.start mid.lists.items mid.first_open mid.some_open mid.in_range mid.few mid.sound) in
+    let old = progress g.S.Sorter.order c.args.self.now (g.D.Disk.streams c.args.disk.now) in
+    let there = progress g.S.Sorter.order mid (g.D.Disk.streams c.make_room.new.disk) in
+    let new = progress g.S.Sorter.order mid (g.D.Disk.streams c.contents.new.disk) in
+    goes_back old there new (g.D.Disk.faults c.args.disk.now) (g.D.Disk.faults c.make_room.new.disk) (g.D.Disk.faults c.contents.new.disk) _ c.in_ok-make_room.ensures.goes
+    (goes_failed there new 0 (g.D.Disk.faults c.make_room.new.disk) (g.D.Disk.faults c.contents.new.disk) (record { options = refl; order = refl; start = refl }) refl
+    c.in_err-items.ensures.streams.dirs c.in_err-items.ensures.streams.peak (omega arith) (costs_zero _ _ _ c.in_err-items.ensures.cause))
+
+pub invariant_of-self : goal.invariant_of-self
+invariant_of-self g c =
+    let mid = c.make_room.new.self in
+    let list : DirList = record { path = c.args.path; place = c.args.place; items = c.in_ok-items.items; after = c.args.after } in
+    let depth : c.args.depth ≡ length mid.lists.items = c.requires.depth ∙ sym c.in_ok-make_room.ensures.kept.count in
+    let fit : FitsAt mid.options.max_depth c.args.depth list =
+    record { after = c.requires.after; children = c.in_ok-items.ensures.children; deepest = c.in_ok-items.ensures.deepest } in
+    let sound : IsSound mid.options mid.start c.push.new.self.items mid.first_open =
+    sound_pushed mid.options mid.start mid.lists.items c.push.new.self.items list mid.first_open (is_ok c.push.result) c.push.ensures.items
+    (sound_of mid.options mid.start mid.lists.items mid.first_open mid.some_open mid.in_range mid.few mid.sound) (c.in_ok-make_room.ensures.kept.start ∙ c.requires.start)
+    c.in_ok-make_room.ensures.room (subst (λ n. FitsAt mid.options.max_depth n list) depth fit) in
+    record { some_open = mid.some_open; in_range = sound.in_range; few = sound.few; sound = is_sound_of mid.options mid.start c.push.new.self.items mid.first_open sound }
+
+pub returns-in-Ok-clause-goes : goal.returns-in-Ok-clause-goes
+returns-in-Ok-clause-goes g c =
+    let mid = c.make_room.new.self in
+    let list : DirList = record { path = c.args.path; place = c.args.place; items = c.in_ok-items.items; after = c.args.after } in
+    let room : length mid.lists.items < mid.first_open + mid.options.max_open = c.in_ok-make_room.ensures.room in
+    let within = own_within mid.options mid.start mid.lists.items mid.first_open (sound_of mid.options mid.start mid.lists.items mid.first_open mid.some_open mid.in_range mid.few mid.sound) in
+    let old = progress g.S.Sorter.order c.args.self.now (g.D.Disk.streams c.args.disk.now) in
+    let there = progress g.S.Sorter.order mid (g.D.Disk.streams c.make_room.new.disk) in
+    let new : Progress = record there { stack = reverse c.push.new.self.items; streams = g.D.Disk.streams c.contents.new.disk } in
+    goes_in old there new (g.D.Disk.faults c.args.disk.now) (g.D.Disk.faults c.make_room.new.disk) (g.D.Disk.faults c.contents.new.disk) (length c.args.self.now.lists.items)
+    (length-reverse mid.lists.items ∙ c.in_ok-make_room.ensures.kept.count) c.in_ok-make_room.ensures.goes
+    (goes_pushed there new list (g.D.Disk.faults c.make_room.new.disk) (g.D.Disk.faults c.contents.new.disk) (record { options = refl; order = refl; start = refl })
+    (ap reverse c.in-Ok.ensures.items ∙ reversed_last mid.lists.items list) c.in_ok-items.ensures.streams (omega arith) c.in_ok-items.ensures.bounded c.in_ok-items.ensures.cause)
+
+pub returns-in-Err-clause-goes : goal.returns-in-Err-clause-goes
+returns-in-Err-clause-goes g c =
+    let mid = c.make_room.new.self in
+    let room : length mid.lists.items < mid.first_open + mid.options.max_open = c.in_ok-make_room.ensures.room in
+    let within = own_within mid.options mid.start mid.lists.items mid.first_open (sound_of mid.options mid.start mid.lists.items mid.first_open mid.some_open mid.in_range mid.few mid.sound) in
+    let old = progress g.S.Sorter.order c.args.self.now (g.D.Disk.streams c.args.disk.now) in
+    let there = progress g.S.Sorter.order mid (g.D.Disk.streams c.make_room.new.disk) in
+    let new : Progress = record there { stack = reverse c.push.new.self.items; streams = g.D.Disk.streams c.close.new.disk } in
+    let opens = c.in_ok-items.ensures.streams in
+    let dir = stream_in c.in_ok-items.items in
+    let closed : g.D.Disk.streams c.close.new.disk ≡ without_stream dir (g.D.Disk.streams c.contents.new.disk) =
+    c.close.ensures.streams ∙ ap (λ (l : DirList). without_stream (stream_in l.items) (g.D.Disk.streams c.contents.new.disk)) c.in-Err.ensures.value_returned in
+    let peak : (g.D.Disk.streams c.close.new.disk).peak ≡ (g.D.Disk.streams c.contents.new.disk).peak =
+    ap (λ (s : Streams). s.peak) closed ∙ peak_without dir (g.D.Disk.streams c.contents.new.disk) in
+    goes_back old there new (g.D.Disk.faults c.args.disk.now) (g.D.Disk.faults c.make_room.new.disk) (g.D.Disk.faults c.close.new.disk) _ c.in_ok-make_room.ensures.goes
+    (goes_failed there new 0 (g.D.Disk.faults c.make_room.new.disk) (g.D.Disk.faults c.close.new.disk) (record { options = refl; order = refl; start = refl })
+    (ap reverse c.in-Err.ensures.items) (ap (λ (s : Streams). s.open_dirs) closed ∙ reopened (g.D.Disk.streams c.make_room.new.disk) dir (g.D.Disk.streams c.contents.new.disk) opens)
+    (subst (λ n. n ≤ max (g.D.Disk.streams c.make_room.new.disk).peak (open_count (g.D.Disk.streams c.make_room.new.disk) + 1)) (sym peak) opens.peak) (omega arith)
+    (subst (λ n. Costs 0 (g.D.Disk.faults c.make_room.new.disk) n) (sym c.close.ensures.faults) (costs_zero (failures_left c.in_ok-items.items) _ _ c.in_ok-items.ensures.cause)))
+
+pub returns-in-Ok-clause-pushes : goal.returns-in-Ok-clause-pushes
+returns-in-Ok-clause-pushes g c =
+    let state = g.D.Disk.state c.args.disk.now in
+    let mid = c.make_room.new.self in
+    let kept = c.in_ok-make_room.ensures.kept in
+    let list : DirList = record { path = c.args.path; place = c.args.place; items = c.in_ok-items.items; after = c.args.after } in
+    let old = progress g.S.Sorter.order c.args.self.now (g.D.Disk.streams c.args.disk.now) in
+    let there = progress g.S.Sorter.order mid (g.D.Disk.streams c.make_room.new.disk) in
+    let new : Progress = record there { stack = reverse c.push.new.self.items; streams = g.D.Disk.streams c.contents.new.disk } in
+    pushed_stands state old there new c.args.path c.args.depth c.args.place c.args.after c.in_ok-items.items kept.options (ap (option_map g.S.Sorter.order) kept.sorter)
+    (length-reverse mid.lists.items ∙ kept.count ∙ sym c.requires.depth) c.in_ok-make_room.ensures.stands c.in_ok-make_room.ensures.goes.keeps
+    (ap reverse c.in-Ok.ensures.items ∙ reversed_last mid.lists.items list) c.in_ok-items.ensures.streams
+    (subst (λ s. HasContents s there.order there.options c.args.path c.args.depth (Ok c.in_ok-items.items) new.streams) c.in_ok-make_room.ensures.state c.in_ok-items.ensures.contents)

@@ -1,0 +1,87 @@
+use Rattle.std.proofs.Common.{◌≡◌, false, Ok, Err, ap, reverse, subst, sym, ◌∙◌}
+use Rattle.std.specs.Option.{option_map}
+use Rattle.std.specs.Prelude.{IfSome}
+use Rattle.odb_disk.specs.Tree.{tree_of}
+use Rattle.odb_disk.specs.Tree.Follow.{looked}
+use Rattle.odb_disk.specs.declared.disk.Meta.{Meta}
+use Rattle.walkdir.specs.StackProgress.{progress}
+use Rattle.walkdir.specs.Turns.{BeginsWalk, HandlesEntry, handed}
+use Rattle.walkdir.specs.Walk.{Tells, entry_by, told_at}
+use Rattle.walkdir.specs.declared.stack.Stack.{Stack}
+use Rattle.walkdir.proofs.HandlesLemmas.{FoundDevice, begins_lost, begins_nowhere, begins_root, device_unwanted, device_wanted, err_is, keeps_alike}
+use Rattle.walkdir.proofs.stack.Stack.start_at.Goals as goal
+use Rattle.walkdir.proofs.stack.Stack.start_at.Goals.{then-self+in_ok-self, else-self}
+
+pub returns-in_err-self-clause-begins : goal.returns-in_err-self-clause-begins
+returns-in_err-self-clause-begins g c =
+    let state = g.D.Disk.state c.args.disk.now in
+    let old = progress g.S.Sorter.order c.args.self.now (g.D.Disk.streams c.args.disk.now) in
+    let new = progress g.S.Sorter.order c.args.self.now (g.D.Disk.streams c.look.new.disk) in
+    subst (λ r. BeginsWalk state old c.args.root (handed r) new) (sym (err_is c.from_residual.result c.in_err-self.field-0.0 c.from_residual.ensures.1))
+    (begins_lost state old new c.args.root c.in_err-self.field-0.0 (ap reverse c.requires.stack) c.if-self.true c.in_err-self.ensures.told)
+
+pub returns-in_err-meta-clause-begins : goal.returns-in_err-meta-clause-begins
+returns-in_err-meta-clause-begins g c =
+    let state = g.D.Disk.state c.args.disk.now in
+    let walk = c.args.self.now in
+    let error = c.in_err-meta.field-0.0 in
+    let old = progress g.S.Sorter.order walk (g.D.Disk.streams c.args.disk.now) in
+    let new = progress g.S.Sorter.order c.if-self.self (g.D.Disk.streams c.look-2.new.disk) in
+    let lists : c.if-self.self.lists.items ≡ walk.lists.items = elim c.if-self.branch [
+      | then-self+in_ok-self w ↦ ap (λ (s : Stack g.row.S.Denot). s.lists.items) w.self-is
+      | else-self w ↦ ap (λ (s : Stack g.row.S.Denot). s.lists.items) w.self-is
+    ] in
+    let same_state : g.D.Disk.state c.if-self.disk ≡ state = elim c.if-self.branch [
+      | then-self+in_ok-self w ↦ ap g.D.Disk.state w.disk-is ∙ w.in_ok-self.ensures.kept
+      | else-self w ↦ ap g.D.Disk.state w.disk-is
+    ] in
+    let device : FoundDevice state walk.options c.args.root c.if-self.self.root_device = elim c.if-self.branch [
+      | then-self+in_ok-self w ↦
+          let is : w.in_ok-self.field-0.dev ≡ c.if-self.self.root_device = sym (ap (λ (s : Stack g.row.S.Denot). s.root_device) w.self-is) in
+          subst (λ d. FoundDevice state walk.options c.args.root d) is (device_wanted state walk.options c.args.root w.in_ok-self.field-0 w.in_ok-self.ensures.told)
+      | else-self w ↦ device_unwanted state walk.options c.args.root c.if-self.self.root_device w.if-self.false
+    ] in
+    subst (λ r. BeginsWalk state old c.args.root (handed r) new) (sym (err_is c.from_residual-in_err-meta.result error c.from_residual-in_err-meta.ensures.1))
+    (begins_nowhere state old new c.args.root c.if-self.self.root_device error (ap reverse (lists ∙ c.requires.stack)) device
+    (subst (λ o. IfSome o (λ s. Tells {A = Meta} 0 c.args.root (Err error) (told_at 0 c.args.root (looked (tree_of s) c.args.root false)))) same_state c.in_err-meta.ensures.told))
+
+pub returns-clause-begins : goal.returns-clause-begins
+returns-clause-begins g c =
+    let state = g.D.Disk.state c.args.disk.now in
+    let walk = c.args.self.now in
+    let meta = c.in_ok-meta.meta in
+    let item = handed c.handle.result in
+    let old = progress g.S.Sorter.order walk (g.D.Disk.streams c.args.disk.now) in
+    let mid = progress g.S.Sorter.order c.if-self.self (g.D.Disk.streams c.look-2.new.disk) in
+    let new = progress g.S.Sorter.order c.handle.new.self (g.D.Disk.streams c.handle.new.disk) in
+    let lists : c.if-self.self.lists.items ≡ walk.lists.items = elim c.if-self.branch [
+      | then-self+in_ok-self w ↦ ap (λ (s : Stack g.row.S.Denot). s.lists.items) w.self-is
+      | else-self w ↦ ap (λ (s : Stack g.row.S.Denot). s.lists.items) w.self-is
+    ] in
+    let options : c.if-self.self.options ≡ walk.options = elim c.if-self.branch [
+      | then-self+in_ok-self w ↦ ap (λ (s : Stack g.row.S.Denot). s.options) w.self-is
+      | else-self w ↦ ap (λ (s : Stack g.row.S.Denot). s.options) w.self-is
+    ] in
+    let sorter : c.if-self.self.sorter ≡ walk.sorter = elim c.if-self.branch [
+      | then-self+in_ok-self w ↦ ap (λ (s : Stack g.row.S.Denot). s.sorter) w.self-is
+      | else-self w ↦ ap (λ (s : Stack g.row.S.Denot). s.sorter) w.self-is
+    ] in
+    let same_state : g.D.Disk.state c.if-self.disk ≡ state = elim c.if-self.branch [
+      | then-self+in_ok-self w ↦ ap g.D.Disk.state w.disk-is ∙ w.in_ok-self.ensures.kept
+      | else-self w ↦ ap g.D.Disk.state w.disk-is
+    ] in
+    let same_streams : g.D.Disk.streams c.if-self.disk ≡ g.D.Disk.streams c.args.disk.now = elim c.if-self.branch [
+      | then-self+in_ok-self w ↦ ap g.D.Disk.streams w.disk-is ∙ w.in_ok-self.ensures.streams
+      | else-self w ↦ ap g.D.Disk.streams w.disk-is
+    ] in
+    let device : FoundDevice state walk.options c.args.root c.if-self.self.root_device = elim c.if-self.branch [
+      | then-self+in_ok-self w ↦
+          let is : w.in_ok-self.field-0.dev ≡ c.if-self.self.root_device = sym (ap (λ (s : Stack g.row.S.Denot). s.root_device) w.self-is) in
+          subst (λ d. FoundDevice state walk.options c.args.root d) is (device_wanted state walk.options c.args.root w.in_ok-self.field-0 w.in_ok-self.ensures.told)
+      | else-self w ↦ device_unwanted state walk.options c.args.root c.if-self.self.root_device w.if-self.false
+    ] in
+    begins_root state old mid new c.args.root meta item options (ap (option_map g.S.Sorter.order) sorter) (ap reverse (lists ∙ c.requires.stack))
+    (keeps_alike old mid options (ap reverse lists) (c.in_ok-meta.ensures.streams ∙ same_streams)) device c.handle.ensures.device
+    (subst (λ o. IfSome o (λ s. Tells 0 c.args.root (Ok meta) (told_at 0 c.args.root (looked (tree_of s) c.args.root false)))) same_state c.in_ok-meta.ensures.told)
+    (subst (λ o. HandlesEntry o mid (entry_by c.args.root false 0 meta) item new) (c.in_ok-meta.ensures.kept ∙ same_state)
+    (subst (λ e. HandlesEntry (g.D.Disk.state c.look-2.new.disk) mid e item new) c.entry_by.ensures c.handle.ensures.walks))

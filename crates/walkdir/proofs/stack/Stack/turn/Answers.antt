@@ -1,0 +1,181 @@
+use Rattle.std.proofs.Common.{◌≡◌, ◌+◌, ◌≤◌, [], None, ap, refl, length, reverse, subst, sym, ◌∙◌, arith}
+use lib.ListN.{length-reverse}
+use Rattle.std.specs.Prelude.{Ok, Some}
+use Rattle.std.specs.Option.{option_map}
+use Rattle.walkdir.specs.Progress.{GivesNext, CausedWithin, Progress, is_innermost}
+use Rattle.walkdir.specs.Stack.{IsAt, ancestors, work_in}
+use Rattle.walkdir.specs.StackProgress.{progress}
+use Rattle.walkdir.specs.Turns.{DrawsChild, EndsWell, HandlesEntry, fresh, handed, item_of}
+use Rattle.walkdir.proofs.CausesLemmas.{caused_given, caused_by_call, caused_turn}
+use Rattle.walkdir.proofs.ProgressLemmas.{begun_less, begun_with, ends_less, handled_less, item_turn, left_less, not_innermost, taken_less}
+use Rattle.walkdir.proofs.SoundLemmas.{is_sound_begun, nothing_before}
+use Rattle.walkdir.proofs.TurnsLemmas.{Runs, turn_begins, turn_fails, turn_handles, turn_leaves}
+use Rattle.walkdir.proofs.stack.Stack.turn.Goals as goal
+
+pub invariant_of-self-clause-sound : goal.invariant_of-self-clause-sound
+invariant_of-self-clause-sound g c =
+    let walk = c.args.self.now in
+    is_sound_begun walk.options walk.start c.take.new.self walk.lists.items walk.first_open c.take.ensures.after walk.some_open walk.in_range walk.few walk.sound
+
+pub start_at-requires-clause-stack : goal.start_at-requires-clause-stack
+start_at-requires-clause-stack g c =
+    let walk = c.args.self.now in
+    nothing_before walk.options walk.start c.in-Some.root walk.lists.items walk.first_open (sym c.in-Some.ensures.value) walk.some_open walk.in_range walk.few walk.sound
+
+pub returns-in-Some-Err-clause-turns : goal.returns-in-Some-Err-clause-turns
+returns-in-Some-Err-clause-turns g c =
+    let old = progress g.S.Sorter.order c.args.self.now (g.D.Disk.streams c.args.disk.now) in
+    let new = progress g.S.Sorter.order c.next_child.new.self (g.D.Disk.streams c.next_child.new.disk) in
+    let begun = begun_with old c.requires in
+    let first : c.args.self.now.start ≡ None = sym c.take.ensures.value ∙ c.in_default.is in
+    record {
+      options = c.in-Some-Err.ensures.goes.options;
+      keeps = c.in-Some-Err.ensures.goes.keeps;
+      entered = λ no. c.in-Some-Err.ensures.kept.entered ∙ no;
+      ends = taken_less old new c.in-Some-checked_sub.index first (c.in-Some-Err.ensures.kept.start ∙ c.take.ensures.after) (c.in-Some-Err.ensures.less.1 begun.0 begun.1);
+      causes = caused_by_call new.options (ancestors new.stack) c.in-Some-Err.error
+          (subst (λ i. IsAt (c.in-Some-checked_sub.index + 1) i) c.in-Some-Err.field-0-is c.in-Some-Err.ensures.depth);
+    }
+
+pub returns-in-Some-Ok-clause-turns : goal.returns-in-Some-Ok-clause-turns
+returns-in-Some-Ok-clause-turns g c =
+    let old = progress g.S.Sorter.order c.args.self.now (g.D.Disk.streams c.args.disk.now) in
+    let mid = progress g.S.Sorter.order c.next_child.new.self (g.D.Disk.streams c.next_child.new.disk) in
+    let new = progress g.S.Sorter.order c.handle.new.self (g.D.Disk.streams c.handle.new.disk) in
+    let begun = begun_with old c.requires in
+    let first : c.args.self.now.start ≡ None = sym c.take.ensures.value ∙ c.in_default.is in
+    let there : c.next_child.new.self.start ≡ None = c.in-Some-Ok.ensures.kept.start ∙ c.take.ensures.after in
+    let deep : length c.next_child.new.self.lists.items ≡ c.in-Some-checked_sub.index + 1 = omega (arith, c.in-Some-Ok.ensures.kept.count) in
+    record {
+      options = c.handle.ensures.goes.options ∙ c.in-Some-Ok.ensures.goes.options;
+      keeps = λ before keeps. c.handle.ensures.goes.keeps before (c.in-Some-Ok.ensures.goes.keeps before keeps);
+      entered = λ no. c.handle.ensures.entered (c.in-Some-Ok.ensures.kept.entered ∙ no)
+          ∙ ap (is_innermost (reverse c.handle.new.self.lists.items)) (sym (ap item_of c.turn_of-in-Some-Ok.ensures ∙ item_turn c.handle.result));
+      ends = subst (λ t. EndsWell old t new) (sym c.turn_of-in-Some-Ok.ensures)
+          (ends_less old new c.handle.result
+          (handled_less old mid new c.in-Some-checked_sub.index (length c.next_child.new.self.lists.items) 0 0 first (c.handle.ensures.goes.start ∙ there) c.in-Some-Ok.ensures.kept.options
+          c.handle.ensures.goes.options c.in-Some-Ok.ensures.less.0 deep (c.in-Some-Ok.ensures.less.1 begun.0 begun.1)
+          (c.handle.ensures.goes.work begun.0 (c.in-Some-Ok.ensures.goes.keeps begun.0 begun.1))));
+      causes = subst (λ t. CausedWithin new (item_of t)) (sym c.turn_of-in-Some-Ok.ensures) (caused_turn new c.handle.result c.handle.ensures.causes);
+    }
+
+pub returns-in-None-clause-turns : goal.returns-in-None-clause-turns
+returns-in-None-clause-turns g c =
+    let old = progress g.S.Sorter.order c.args.self.now (g.D.Disk.streams c.args.disk.now) in
+    let mid = progress g.S.Sorter.order c.next_child.new.self (g.D.Disk.streams c.next_child.new.disk) in
+    let new = progress g.S.Sorter.order c.leave.new.self (g.D.Disk.streams c.leave.new.disk) in
+    let begun = begun_with old c.requires in
+    let first : c.args.self.now.start ≡ None = sym c.take.ensures.value ∙ c.in_default.is in
+    let there : c.next_child.new.self.start ≡ None = c.in-None.ensures.kept.start ∙ c.take.ensures.after in
+    record {
+      options = c.leave.ensures.goes.options ∙ c.in-None.ensures.goes.options;
+      keeps = λ before keeps. c.leave.ensures.goes.keeps before (c.in-None.ensures.goes.keeps before keeps);
+      entered = λ no. c.leave.ensures.entered ∙ c.in-None.ensures.kept.entered ∙ no
+          ∙ sym (ap (λ t. is_innermost (reverse c.leave.new.self.lists.items) (item_of t)) c.given.ensures ∙ not_innermost c.leave.new.self.lists.items c.leave.result c.leave.ensures.depth);
+      ends = subst (λ t. EndsWell old t new) (sym c.given.ensures)
+          (ends_less old new (Ok c.leave.result)
+          (left_less old mid new first (c.leave.ensures.goes.start ∙ there) (c.leave.ensures.less begun.0 (c.in-None.ensures.goes.keeps begun.0 begun.1)) (c.in-None.ensures.goes.work begun.0 begun.1)));
+      causes = subst (λ t. CausedWithin new (item_of t)) (sym c.given.ensures) (caused_given new c.leave.result);
+    }
+
+pub returns-in-Some-clause-turns : goal.returns-in-Some-clause-turns
+returns-in-Some-clause-turns g c =
+    let walk = c.args.self.now in
+    let old = progress g.S.Sorter.order walk (g.D.Disk.streams c.args.disk.now) in
+    let mid : Progress = record old { start = c.take.new.self } in
+    let new = progress g.S.Sorter.order c.start_at.new.self (g.D.Disk.streams c.start_at.new.disk) in
+    let begun = begun_with old c.requires in
+    let none : walk.lists.items ≡ [] =
+    nothing_before walk.options walk.start c.in-Some.root walk.lists.items walk.first_open (sym c.in-Some.ensures.value) walk.some_open walk.in_range walk.few walk.sound in
+    record {
+      options = c.start_at.ensures.goes.options;
+      keeps = c.start_at.ensures.goes.keeps;
+      entered = λ no. c.start_at.ensures.entered no ∙ ap (is_innermost (reverse c.start_at.new.self.lists.items)) (sym (ap item_of c.turn_of.ensures ∙ item_turn c.start_at.result));
+      ends = subst (λ t. EndsWell old t new) (sym c.turn_of.ensures)
+          (ends_less old new c.start_at.result
+          (begun_less old mid new c.in-Some.root (sym c.in-Some.ensures.value) (c.start_at.ensures.goes.start ∙ c.take.ensures.after) refl (ap reverse none)
+          (subst (λ n. work_in new.options.max_depth new.streams new.stack ≤ work_in mid.options.max_depth mid.streams mid.stack + fresh mid.options.max_depth n) (ap length none)
+          (c.start_at.ensures.goes.work begun.0 begun.1))));
+      causes = subst (λ t. CausedWithin new (item_of t)) (sym c.turn_of.ensures) (caused_turn new c.start_at.result c.start_at.ensures.causes);
+    }
+
+pub returns-in-Some-clause-gives : goal.returns-in-Some-clause-gives
+returns-in-Some-clause-gives g c =
+    let walk = c.args.self.now in
+    let state = g.D.Disk.state c.args.disk.now in
+    let old = progress g.S.Sorter.order walk (g.D.Disk.streams c.args.disk.now) in
+    let mid : Progress = record old { start = c.take.new.self } in
+    let new = progress g.S.Sorter.order c.start_at.new.self (g.D.Disk.streams c.start_at.new.disk) in
+    let goes = c.start_at.ensures.goes in
+    subst (λ t. GivesNext state old (item_of t) new) (sym c.turn_of.ensures)
+    (turn_begins state old mid new c.in-Some.root c.start_at.result (sym c.in-Some.ensures.value) refl refl (λ before keeps. keeps) goes.options goes.order
+    (goes.start ∙ c.take.ensures.after) c.start_at.ensures.begins)
+
+pub returns-in-Some-Err-clause-gives : goal.returns-in-Some-Err-clause-gives
+returns-in-Some-Err-clause-gives g c =
+    let walk = c.args.self.now in
+    let old = progress g.S.Sorter.order walk (g.D.Disk.streams c.args.disk.now) in
+    let new = progress g.S.Sorter.order c.next_child.new.self (g.D.Disk.streams c.next_child.new.disk) in
+    let first : walk.start ≡ None = sym c.take.ensures.value ∙ c.in_default.is in
+    let kept = c.in-Some-Err.ensures.kept in
+    let runs : Runs old new = record {
+      begun = first;
+      some = λ empty. (let none : length (reverse walk.lists.items) ≡ 0 = ap length empty in let same = length-reverse walk.lists.items in omega arith);
+      options = kept.options;
+      order = ap (option_map g.S.Sorter.order) kept.sorter;
+      start = kept.start ∙ c.take.ensures.after;
+      device = kept.device;
+    } in
+    turn_fails (g.D.Disk.state c.args.disk.now) old new c.in-Some-Err.error runs (subst (λ i. DrawsChild old (Some i) new) c.in-Some-Err.field-0-is c.in-Some-Err.ensures.draws)
+
+pub returns-in-Some-Ok-clause-gives : goal.returns-in-Some-Ok-clause-gives
+returns-in-Some-Ok-clause-gives g c =
+    let walk = c.args.self.now in
+    let state = g.D.Disk.state c.args.disk.now in
+    let old = progress g.S.Sorter.order walk (g.D.Disk.streams c.args.disk.now) in
+    let mid = progress g.S.Sorter.order c.next_child.new.self (g.D.Disk.streams c.next_child.new.disk) in
+    let new = progress g.S.Sorter.order c.handle.new.self (g.D.Disk.streams c.handle.new.disk) in
+    let first : walk.start ≡ None = sym c.take.ensures.value ∙ c.in_default.is in
+    let kept = c.in-Some-Ok.ensures.kept in
+    let goes = c.handle.ensures.goes in
+    let some : old.stack ≡ [] → ⊥ = λ empty. (let none : length (reverse walk.lists.items) ≡ 0 = ap length empty in let same = length-reverse walk.lists.items in omega arith) in
+    let there : Runs old mid = record {
+      begun = first;
+      some = some;
+      options = kept.options;
+      order = ap (option_map g.S.Sorter.order) kept.sorter;
+      start = kept.start ∙ c.take.ensures.after;
+      device = kept.device;
+    } in
+    let runs : Runs old new = record {
+      begun = first;
+      some = some;
+      options = goes.options ∙ there.options;
+      order = goes.order ∙ there.order;
+      start = goes.start ∙ there.start;
+      device = c.handle.ensures.device ∙ kept.device;
+    } in
+    subst (λ t. GivesNext state old (item_of t) new) (sym c.turn_of-in-Some-Ok.ensures)
+    (turn_handles state old mid new c.in-Some-Ok.entry c.handle.result there runs c.in-Some-Ok.ensures.goes.keeps
+    (subst (λ i. DrawsChild old (Some i) mid) c.in-Some-Ok.field-0-is c.in-Some-Ok.ensures.draws) (subst (λ s. HandlesEntry s mid c.in-Some-Ok.entry (handed c.handle.result) new) c.in-Some-Ok.ensures.state c.handle.ensures.walks))
+
+pub returns-in-None-clause-gives : goal.returns-in-None-clause-gives
+returns-in-None-clause-gives g c =
+    let walk = c.args.self.now in
+    let state = g.D.Disk.state c.args.disk.now in
+    let old = progress g.S.Sorter.order walk (g.D.Disk.streams c.args.disk.now) in
+    let mid = progress g.S.Sorter.order c.next_child.new.self (g.D.Disk.streams c.next_child.new.disk) in
+    let new = progress g.S.Sorter.order c.leave.new.self (g.D.Disk.streams c.leave.new.disk) in
+    let first : walk.start ≡ None = sym c.take.ensures.value ∙ c.in_default.is in
+    let kept = c.in-None.ensures.kept in
+    let goes = c.leave.ensures.goes in
+    let runs : Runs old new = record {
+      begun = first;
+      some = λ empty. (let none : length (reverse walk.lists.items) ≡ 0 = ap length empty in let same = length-reverse walk.lists.items in omega arith);
+      options = goes.options ∙ kept.options;
+      order = goes.order ∙ ap (option_map g.S.Sorter.order) kept.sorter;
+      start = goes.start ∙ kept.start ∙ c.take.ensures.after;
+      device = c.leave.ensures.device ∙ kept.device;
+    } in
+    subst (λ t. GivesNext state old (item_of t) new) (sym c.given.ensures)
+    (turn_leaves state old mid new c.leave.result runs kept.options c.in-None.ensures.goes.keeps c.in-None.ensures.draws c.leave.ensures.leaves)

@@ -1,0 +1,10 @@
+use Rattle.std.proofs.Common.{◌≤◌, drop, length}
+use Rattle.walkdir.specs.Turns.{AllSkipped}
+use Rattle.walkdir.proofs.stack.Stack.unskipped.Given as goal
+
+-- those further in are skipped
+abbrev pub invariant-loop-index : goal.invariant-loop-index
+invariant-loop-index g l = (l.index ≤ length l.self.lists.items) × AllSkipped (drop l.index l.self.lists.items)
+
+abbrev pub decreases-loop-index : goal.decreases-loop-index
+decreases-loop-index g l = l.index

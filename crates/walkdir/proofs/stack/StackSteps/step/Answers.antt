@@ -1,0 +1,149 @@
+use Rattle.std.proofs.Common.{false, Some, None, refl, subst, sym, ◌∙◌}
+use Rattle.std.specs.Prelude.{Ok, Err}
+use Rattle.walkdir.specs.Failures.{failures_given}
+use Rattle.walkdir.specs.Progress.{FailsByFault, GivesNext}
+use Rattle.walkdir.specs.StackProgress.{progress}
+use Rattle.walkdir.specs.Turns.{Turns}
+use Rattle.walkdir.specs.declared.stack.Turn.TheVariants as turns
+use Rattle.walkdir.proofs.ProgressLemmas.{still_has_streams}
+use Rattle.walkdir.proofs.TurnsLemmas.{ended_keeps, fails_over, fails_same, fails_then, passes_none, passes_on, steps_ended, steps_given, steps_lost}
+use Rattle.walkdir.proofs.stack.StackSteps.step.Goals as goal
+use Rattle.walkdir.proofs.stack.StackSteps.step.Goals.{then-is_out_of_memory, else-is_out_of_memory}
+
+pub loop-entry-init : goal.loop-entry-init
+loop-entry-init g c =
+    let old = progress g.S.Sorter.order c.args.self.now (g.D.Disk.streams c.args.disk.now) in
+    record {
+      passes = passes_none (g.D.Disk.state c.args.disk.now) old;
+      faults = fails_same old (record old { entered = false }) (g.D.Disk.faults c.args.disk.now) refl;
+      state = refl;
+    }
+
+pub turn-requires : goal.turn-requires
+turn-requires g c =
+    still_has_streams (progress g.S.Sorter.order c.args.self.now (g.D.Disk.streams c.args.disk.now)) (progress g.S.Sorter.order c.loop-entry.self (g.D.Disk.streams c.loop-entry.disk)) c.requires
+    c.loop-entry.invariant.passes.keeps
+
+pub loop-entry-preserved : goal.loop-entry-preserved
+loop-entry-preserved g c =
+    let state = g.D.Disk.state c.args.disk.now in
+    let old = progress g.S.Sorter.order c.args.self.now (g.D.Disk.streams c.args.disk.now) in
+    let mid = progress g.S.Sorter.order c.loop-entry.self (g.D.Disk.streams c.loop-entry.disk) in
+    let new = progress g.S.Sorter.order c.turn.new.self (g.D.Disk.streams c.turn.new.disk) in
+    let so_far = c.loop-entry.invariant in
+    record {
+      passes = passes_on state old mid new so_far.passes (subst (λ s. GivesNext s mid None new) so_far.state c.in-Passed.ensures.gives) c.in-Passed.ensures.turns;
+      faults = fails_then old mid new (g.D.Disk.faults c.args.disk.now) (g.D.Disk.faults c.loop-entry.disk) (g.D.Disk.faults c.turn.new.disk) 0 so_far.faults c.in-Passed.ensures.faults;
+      state = c.in-Passed.ensures.state ∙ so_far.state;
+    }
+
+pub loop-entry-smaller : goal.loop-entry-smaller
+loop-entry-smaller g c = c.in-Passed.ensures.turns.ends
+
+pub returns-in-Ended-clause-own : goal.returns-in-Ended-clause-own
+returns-in-Ended-clause-own g c =
+    let old = progress g.S.Sorter.order c.args.self.now (g.D.Disk.streams c.args.disk.now) in
+    let new = progress g.S.Sorter.order c.turn.new.self (g.D.Disk.streams c.turn.new.disk) in
+    still_has_streams old new c.requires (λ before keeps. c.in-Ended.ensures.turns.keeps before (c.loop-entry.invariant.passes.keeps before keeps))
+
+pub returns-in-Ended-clause-steps : goal.returns-in-Ended-clause-steps
+returns-in-Ended-clause-steps g c =
+    let state = g.D.Disk.state c.args.disk.now in
+    let old = progress g.S.Sorter.order c.args.self.now (g.D.Disk.streams c.args.disk.now) in
+    let mid = progress g.S.Sorter.order c.loop-entry.self (g.D.Disk.streams c.loop-entry.disk) in
+    let new = progress g.S.Sorter.order c.turn.new.self (g.D.Disk.streams c.turn.new.disk) in
+    let so_far = c.loop-entry.invariant in
+    steps_ended state old mid new so_far.passes (subst (λ s. GivesNext s mid None new) so_far.state c.in-Ended.ensures.gives) c.in-Ended.ensures.turns
+
+pub returns-in-Ended-clause-faults : goal.returns-in-Ended-clause-faults
+returns-in-Ended-clause-faults g c =
+    let old = progress g.S.Sorter.order c.args.self.now (g.D.Disk.streams c.args.disk.now) in
+    let mid = progress g.S.Sorter.order c.loop-entry.self (g.D.Disk.streams c.loop-entry.disk) in
+    let new = progress g.S.Sorter.order c.turn.new.self (g.D.Disk.streams c.turn.new.disk) in
+    fails_then old mid new (g.D.Disk.faults c.args.disk.now) (g.D.Disk.faults c.loop-entry.disk) (g.D.Disk.faults c.turn.new.disk) 0 c.loop-entry.invariant.faults c.in-Ended.ensures.faults
+
+pub returns-in-Item-Ok-clause-own : goal.returns-in-Item-Ok-clause-own
+returns-in-Item-Ok-clause-own g c =
+    let old = progress g.S.Sorter.order c.args.self.now (g.D.Disk.streams c.args.disk.now) in
+    let new = progress g.S.Sorter.order c.turn.new.self (g.D.Disk.streams c.turn.new.disk) in
+    still_has_streams old new c.requires (λ before keeps. c.in-Item-Ok.ensures.turns.keeps before (c.loop-entry.invariant.passes.keeps before keeps))
+
+pub returns-in-Item-Ok-clause-steps : goal.returns-in-Item-Ok-clause-steps
+returns-in-Item-Ok-clause-steps g c =
+    let state = g.D.Disk.state c.args.disk.now in
+    let old = progress g.S.Sorter.order c.args.self.now (g.D.Disk.streams c.args.disk.now) in
+    let mid = progress g.S.Sorter.order c.loop-entry.self (g.D.Disk.streams c.loop-entry.disk) in
+    let new = progress g.S.Sorter.order c.turn.new.self (g.D.Disk.streams c.turn.new.disk) in
+    let so_far = c.loop-entry.invariant in
+    let is = c.in-Item-Ok.field-0-is in
+    steps_given state old mid new (Ok c.in-Item-Ok.entry) refl so_far.passes
+    (subst (λ s. GivesNext s mid (Some (Ok c.in-Item-Ok.entry)) new) so_far.state (subst (λ i. GivesNext (g.D.Disk.state c.loop-entry.disk) mid (Some i) new) is c.in-Item-Ok.ensures.gives))
+    (subst (λ i. Turns mid (turns.Item i) new) is c.in-Item-Ok.ensures.turns)
+
+pub returns-in-Item-Ok-clause-faults : goal.returns-in-Item-Ok-clause-faults
+returns-in-Item-Ok-clause-faults g c =
+    let old = progress g.S.Sorter.order c.args.self.now (g.D.Disk.streams c.args.disk.now) in
+    let mid = progress g.S.Sorter.order c.loop-entry.self (g.D.Disk.streams c.loop-entry.disk) in
+    let new = progress g.S.Sorter.order c.turn.new.self (g.D.Disk.streams c.turn.new.disk) in
+    fails_then old mid new (g.D.Disk.faults c.args.disk.now) (g.D.Disk.faults c.loop-entry.disk) (g.D.Disk.faults c.turn.new.disk) 0 c.loop-entry.invariant.faults
+    (subst (λ i. FailsByFault mid (g.D.Disk.faults c.loop-entry.disk) (failures_given (Some i)) new (g.D.Disk.faults c.turn.new.disk)) c.in-Item-Ok.field-0-is c.in-Item-Ok.ensures.faults)
+
+pub returns-in-Item-Err-clause-own : goal.returns-in-Item-Err-clause-own
+returns-in-Item-Err-clause-own g c =
+    let old = progress g.S.Sorter.order c.args.self.now (g.D.Disk.streams c.args.disk.now) in
+    let there = progress g.S.Sorter.order c.turn.new.self (g.D.Disk.streams c.turn.new.disk) in
+    elim c.if-is_out_of_memory.branch [
+      | then-is_out_of_memory w ↦
+          let streams = g.D.Disk.streams w.end.new.disk in
+          let new = progress g.S.Sorter.order w.end.new.self streams in
+          rw (w.self-is, w.disk-is)
+          (still_has_streams old new c.requires (λ before keeps. ended_keeps before there new (w.end.ensures.options streams) (w.end.ensures.over streams).0 (w.end.ensures.back before)
+          (c.in-Item-Err.ensures.turns.keeps before (c.loop-entry.invariant.passes.keeps before keeps))))
+      | else-is_out_of_memory w ↦
+          rw (w.self-is, w.disk-is)
+          (still_has_streams old there c.requires (λ before keeps. c.in-Item-Err.ensures.turns.keeps before (c.loop-entry.invariant.passes.keeps before keeps)))
+    ]
+
+pub returns-in-Item-Err-clause-steps : goal.returns-in-Item-Err-clause-steps
+returns-in-Item-Err-clause-steps g c =
+    let state = g.D.Disk.state c.args.disk.now in
+    let old = progress g.S.Sorter.order c.args.self.now (g.D.Disk.streams c.args.disk.now) in
+    let mid = progress g.S.Sorter.order c.loop-entry.self (g.D.Disk.streams c.loop-entry.disk) in
+    let there = progress g.S.Sorter.order c.turn.new.self (g.D.Disk.streams c.turn.new.disk) in
+    let so_far = c.loop-entry.invariant in
+    let error = c.in-Item-Err.error in
+    let is = c.in-Item-Err.field-0-is in
+    let turn = subst (λ i. Turns mid (turns.Item i) there) is c.in-Item-Err.ensures.turns in
+    elim c.if-is_out_of_memory.branch [
+      | then-is_out_of_memory w ↦
+          let streams = g.D.Disk.streams w.end.new.disk in
+          let new = progress g.S.Sorter.order w.end.new.self streams in
+          let over = w.end.ensures.over streams in
+          rw (w.self-is, w.disk-is)
+          (steps_lost state old mid there new error (sym c.is_out_of_memory.ensures ∙ w.if-is_out_of_memory.true) so_far.passes turn over.0 over.1 (w.end.ensures.options streams)
+          (w.end.ensures.entered streams) w.end.ensures.back)
+      | else-is_out_of_memory w ↦
+          rw (w.self-is, w.disk-is)
+          (steps_given state old mid there (Err error) (sym c.is_out_of_memory.ensures ∙ w.if-is_out_of_memory.false) so_far.passes
+          (subst (λ s. GivesNext s mid (Some (Err error)) there) so_far.state (subst (λ i. GivesNext (g.D.Disk.state c.loop-entry.disk) mid (Some i) there) is c.in-Item-Err.ensures.gives)) turn)
+    ]
+
+pub returns-in-Item-Err-clause-faults : goal.returns-in-Item-Err-clause-faults
+returns-in-Item-Err-clause-faults g c =
+    let old = progress g.S.Sorter.order c.args.self.now (g.D.Disk.streams c.args.disk.now) in
+    let mid = progress g.S.Sorter.order c.loop-entry.self (g.D.Disk.streams c.loop-entry.disk) in
+    let there = progress g.S.Sorter.order c.turn.new.self (g.D.Disk.streams c.turn.new.disk) in
+    let given = failures_given (Some (Err c.in-Item-Err.error)) in
+    let was = g.D.Disk.faults c.args.disk.now in
+    let now = g.D.Disk.faults c.turn.new.disk in
+    let fails : FailsByFault old was given there now =
+    fails_then old mid there was (g.D.Disk.faults c.loop-entry.disk) now given c.loop-entry.invariant.faults
+    (subst (λ i. FailsByFault mid (g.D.Disk.faults c.loop-entry.disk) (failures_given (Some i)) there now) c.in-Item-Err.field-0-is c.in-Item-Err.ensures.faults) in
+    elim c.if-is_out_of_memory.branch [
+      | then-is_out_of_memory w ↦
+          let streams = g.D.Disk.streams w.end.new.disk in
+          let new = progress g.S.Sorter.order w.end.new.self streams in
+          rw (w.self-is, w.disk-is)
+          (subst (FailsByFault old was given new) (sym w.end.ensures.faults) (fails_over old there new was now given fails (w.end.ensures.over streams).0))
+      | else-is_out_of_memory w ↦ rw (w.self-is, w.disk-is) fails
+    ]

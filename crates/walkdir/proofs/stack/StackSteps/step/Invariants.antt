@@ -1,0 +1,16 @@
+use Rattle.std.proofs.Common.{◌≡◌}
+use Rattle.walkdir.specs.Progress.{FailsByFault, work_left}
+use Rattle.walkdir.specs.StackProgress.{progress}
+use Rattle.walkdir.proofs.TurnsLemmas.{Passes}
+use Rattle.walkdir.proofs.stack.StackSteps.step.Given as goal
+
+-- the turns so far gave nothing
+abbrev pub invariant-loop-entry : goal.invariant-loop-entry
+invariant-loop-entry g l = record {
+  passes : Passes (g.D.Disk.state l.fn.disk) (progress g.S.Sorter.order l.fn.self (g.D.Disk.streams l.fn.disk)) (progress g.S.Sorter.order l.self (g.D.Disk.streams l.disk));
+  faults : FailsByFault (progress g.S.Sorter.order l.fn.self (g.D.Disk.streams l.fn.disk)) (g.D.Disk.faults l.fn.disk) 0 (progress g.S.Sorter.order l.self (g.D.Disk.streams l.disk)) (g.D.Disk.faults l.disk);
+  state : g.D.Disk.state l.disk ≡ g.D.Disk.state l.fn.disk;
+}
+
+abbrev pub decreases-loop-entry : goal.decreases-loop-entry
+decreases-loop-entry g l = work_left (progress g.S.Sorter.order l.self (g.D.Disk.streams l.disk))

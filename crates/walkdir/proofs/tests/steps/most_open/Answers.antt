@@ -1,0 +1,15 @@
+-- A walk that begins has no streams.
+use Rattle.std.proofs.Common.{◌≡◌, None, true, sym, subst}
+use Rattle.odb_disk.specs.Streams.{Streams}
+use Rattle.walkdir.specs.Options.{Built}
+use Rattle.walkdir.specs.Progress.{Progress, begun, has_its_streams}
+use Rattle.walkdir.specs.Sorted.{all_equal}
+use Rattle.walkdir.specs.declared.sort.NoSort.{NoSort}
+use Rattle.walkdir.proofs.WholeWalks.{begun_has}
+use Rattle.walkdir.proofs.tests.steps.most_open.Goals as goal
+
+has_none : (at : Progress) (built : Built NoSort) (streams : Streams) → at ≡ begun (λ _. all_equal) built streams → has_its_streams at ≡ true
+has_none at built streams is = subst (λ x. has_its_streams x ≡ true) (sym is) (begun_has (λ _. all_equal) built streams)
+
+pub loop-init : goal.loop-init
+loop-init c = has_none _ (record { root = _; options = _; sorter = None }) _ (c.new-walk.ensures _)

@@ -1,0 +1,15 @@
+pub mod Options
+pub mod Entry
+pub mod Error
+pub mod Sorted
+pub mod Walk
+pub mod Failures
+pub mod WalkLaws
+pub mod OwnStreams
+pub mod Stack
+pub mod Progress
+pub mod SkipLaws
+pub mod StackProgress
+pub mod Turns
+pub mod Filter
+pub mod BuiltWalk

@@ -1,0 +1,159 @@
+-- The stack of a walk, its innermost directory first: the streams that it has open, what it stands for, and how much of
+-- it is left.
+use Rattle.std.specs.Prelude.{◌≡◌, ℕ, ◌+◌, ◌-◌, ◌*◌, ◌^◌, ◌≤◌, ◌==◌, ◌&&◌, ◌||◌, Bool, true, false, not, nat_lt, is_some, List, [], ◌∷◌, ◌++◌, length, map, reverse, take, Option, Some, None, Ok, Err, IfSome, unwrap_or}
+use Rattle.std.specs.List.{filter_map}
+use Rattle.odb_base.specs.Path.{Path}
+use Rattle.odb_disk.specs.Streams.{Streams, still_gives, left, with_closed}
+use Rattle.odb_disk.specs.declared.disk.Entry.{Entry}
+use Rattle.walkdir.specs.Error.{is_of_call}
+use Rattle.walkdir.specs.Walk.{Walking, Item, Ancestor, WalksOf, IsStreamed, child_of, shown}
+use Rattle.walkdir.specs.declared.builder.Options.{Options}
+use Rattle.walkdir.specs.declared.dent.DirEntry.{DirEntry}
+use Rattle.walkdir.specs.declared.list.DirList.{DirList}
+use Rattle.walkdir.specs.declared.list.Items.{Items}
+use Rattle.walkdir.specs.declared.list.Items.TheVariants.{Opened, Closed, Skipped}
+
+-- ---- the contents of one directory
+
+-- its open stream
+abbrev pub stream_in : Items → Option ℕ
+stream_in (Opened dir) = Some dir
+stream_in (Closed items) = None
+stream_in Skipped = None
+
+-- what was read of it before
+abbrev pub held : Items → List Item
+held (Opened dir) = []
+held (Closed items) = items.items
+held Skipped = []
+
+abbrev pub is_skipped : Items → Bool
+is_skipped Skipped = true
+is_skipped (Opened dir) = false
+is_skipped (Closed items) = false
+
+-- contents without a stream, of which nothing was read
+pub record HasNothing (items : Items) : Type 0 where
+  pub no_stream : stream_in items ≡ None
+  pub nothing : held items ≡ []
+
+-- the first is taken of what was read before
+abbrev pub TakesHeld : Items → Option Item → Items → Type 0
+TakesHeld old None new = (held old ≡ []) × HasNothing new
+TakesHeld old (Some item) new = (held old ≡ item ∷ held new) × (stream_in new ≡ None)
+
+-- the streams without one, if there is one
+abbrev pub without_stream : Option ℕ → Streams → Streams
+without_stream None streams = streams
+without_stream (Some dir) streams = with_closed streams dir
+
+-- ---- the streams of a stack
+
+abbrev pub own_streams : List DirList → List ℕ
+own_streams stack = filter_map (λ list. stream_in list.items) stack
+
+-- ---- what always holds of a stack
+
+-- whether entries stand at a depth, and each error comes from one call
+abbrev pub IsAt : ℕ → Item → Type 0
+IsAt depth (Ok entry) = entry.depth ≡ depth
+IsAt depth (Err error) = is_of_call error ≡ true
+
+abbrev pub AreAt : ℕ → List Item → Type 0
+AreAt depth [] = Unit {0}
+AreAt depth (item ∷ items) = IsAt depth item × AreAt depth items
+
+-- the entry of a directory stands as deep as the directory itself, and what was read of it one deeper. From the greatest
+-- depth on a directory has nothing
+pub record FitsAt (max_depth depth : ℕ) (list : DirList) : Type 0 where
+  pub after : IfSome list.after (λ entry. entry.depth ≡ depth)
+  pub children : AreAt (depth + 1) (held list.items)
+  pub deepest : max_depth ≤ depth → HasNothing list.items
+
+unfoldable pub Fits : ℕ → List DirList → Type 0
+Fits max_depth [] = Unit {0}
+Fits max_depth (list ∷ outer) = FitsAt max_depth (length outer) list × Fits max_depth outer
+
+-- A walk's options, its root until it begins, its directories, the outermost first, and the number of those that have
+-- no stream any more.
+pub record IsSound (options : Options) (start : Option Path) (lists : List DirList) (first_open : ℕ) : Type 0 where
+  pub begun : IfSome start (λ _. lists ≡ [])
+  pub some_open : 1 ≤ options.max_open
+  pub in_range : first_open ≤ length lists
+  pub few : length lists ≤ first_open + options.max_open
+  pub closed : own_streams (take first_open lists) ≡ []
+  pub fits : Fits options.max_depth (reverse lists)
+
+-- ---- the same as tests
+
+abbrev pub is_at : ℕ → Item → Bool
+is_at depth (Ok entry) = entry.depth == depth
+is_at depth (Err error) = is_of_call error
+
+unfoldable pub are_at : ℕ → List Item → Bool
+are_at depth [] = true
+are_at depth (item ∷ items) = is_at depth item && are_at depth items
+
+abbrev pub is_after : ℕ → Option DirEntry → Bool
+is_after depth None = true
+is_after depth (Some entry) = entry.depth == depth
+
+abbrev pub has_nothing : Items → Bool
+has_nothing items = not (is_some (stream_in items)) && (length (held items) == 0)
+
+abbrev pub fits_at : ℕ → ℕ → DirList → Bool
+fits_at max_depth depth list = is_after depth list.after && (are_at (depth + 1) (held list.items) && (nat_lt depth max_depth || has_nothing list.items))
+
+unfoldable pub all_fit : ℕ → List DirList → Bool
+all_fit max_depth [] = true
+all_fit max_depth (list ∷ outer) = fits_at max_depth (length outer) list && all_fit max_depth outer
+
+unfoldable pub is_sound : Options → Option Path → List DirList → ℕ → Bool
+is_sound options start lists first_open =
+    (not (is_some start) || (length lists == 0)) && ((length (own_streams (take first_open lists)) == 0) && all_fit options.max_depth (reverse lists))
+
+-- ---- what is still to come
+
+abbrev pub ancestors : List DirList → List Ancestor
+ancestors stack = map (λ list. record { path = list.path; place = list.place }) stack
+
+-- the children that a directory still has, whose depth this is
+abbrev pub HasLeft : Streams → ℕ → Path → Items → List Item → Type 0
+HasLeft streams depth path (Opened dir) children =
+    (entries : List Entry) × (still_gives streams dir ≡ Some entries) × IsStreamed depth (map (child_of path depth) entries) children
+HasLeft streams depth path (Closed items) children = children ≡ items.items
+HasLeft streams depth path Skipped children = children ≡ []
+
+-- a directory's own entry, where it comes after its contents
+abbrev pub own_entry : Options → Option DirEntry → List Item
+own_entry options None = []
+own_entry options (Some entry) = shown options entry
+
+-- What a stack stands for: the walks of the children that the innermost directory still has, its own entry if that
+-- comes after them, and then what the directories above it stand for.
+pub data StandsFor (walk : Walking) (streams : Streams) : List DirList → List Item → Type 0 where
+  Nothing : StandsFor walk streams [] []
+  Within : {list : DirList} {outer : List DirList} {items : List Item} (children here others : List Item) → HasLeft streams (length outer + 1) list.path list.items children
+      → WalksOf walk (ancestors (list ∷ outer)) children here → StandsFor walk streams outer others → items ≡ here ++ own_entry walk.options list.after ++ others
+      → StandsFor walk streams (list ∷ outer) items
+
+-- ---- how much is left
+
+-- more than any directory has, with an error more and one to leave it by
+abbrev pub many : ℕ
+many = 2 ^ 64 + 2
+
+-- a stream may fail behind its entries
+abbrev pub left_in : Streams → Items → ℕ
+left_in streams (Opened dir) = unwrap_or (left streams dir) 0 + 1
+left_in streams (Closed items) = length items.items
+left_in streams Skipped = 0
+
+-- how much a directory of this depth counts: as many times more than one further in as that can have children, so that a
+-- child that is taken outweighs the directory that it may be
+unfoldable pub weight : ℕ → ℕ → ℕ
+weight max_depth depth = many ^ (max_depth - depth)
+
+unfoldable pub work_in : ℕ → Streams → List DirList → ℕ
+work_in max_depth streams [] = 0
+work_in max_depth streams (list ∷ outer) = (left_in streams list.items + 1) * weight max_depth (length outer) + work_in max_depth streams outer

@@ -1,0 +1,98 @@
+//! The directories that a walk is in.
+ghost use Rattle.std.specs.Prelude.{◌≡◌, None};
+ghost use Rattle.walkdir.specs.Stack.{stream_in, is_skipped, without_stream, TakesHeld};
+ghost use Rattle.walkdir.specs.Walk.{same_place};
+
+use crate::{DirEntry, Result};
+use odb_disk::{DirId, Disk, PathText};
+use std::collections::VecDeque;
+
+/// The device and the inode number of a directory.
+#[derive(Clone, Copy, Debug, PartialEq, Eq)]
+pub struct Place {
+    pub(crate) dev: u64,
+    pub(crate) ino: u64,
+}
+
+/// Whether a directory is entered.
+#[derive(Clone, Copy, Debug, PartialEq, Eq)]
+pub enum Entering {
+    Stays,
+    /// It is, and stands here, if the walk has to know it.
+    Enters(Option<Place>),
+}
+
+/// What a directory still has.
+#[derive(Debug, Drop)]
+pub enum Items {
+    /// What its open stream gives.
+    Opened(DirId),
+    /// What was read of it before. No stream is open.
+    Closed(VecDeque<Result<DirEntry>>),
+    /// Nothing: the rest was skipped.
+    Skipped,
+}
+
+/// A directory that a walk is in.
+#[derive(Debug, Drop)]
+pub struct DirList {
+    pub(crate) path: PathText,
+    /// Where it stands, which is asked where links are followed.
+    pub(crate) place: Option<Place>,
+    pub(crate) items: Items,
+    /// The directory's own entry, where it comes after the contents.
+    pub(crate) after: Option<DirEntry>,
+}
+
+impl Items {
+    /// Takes the first of what was read before.
+    pub(crate) fn take_first(&mut self) -> Option<Result<DirEntry>>
+        requires { stream_in self.old ≡ None }
+        ensures { TakesHeld self.old result self.new }
+    {
+        match self {
+            Items::Opened(_) | Items::Skipped => None,
+            Items::Closed(items) => items.pop_front(),
+        }
+    }
+}
+
+impl DirList {
+    /// The open stream of the directory, if it has one.
+    pub(crate) fn stream(&self) -> Option<DirId>
+        ensures { result ≡ stream_in self.now.items }
+    {
+        match &self.items {
+            Items::Opened(dir) => Some(*dir),
+            Items::Closed(_) | Items::Skipped => None,
+        }
+    }
+
+    /// Whether the directory stands at this place.
+    pub(crate) fn stands_at(&self, place: Place) -> bool
+        ensures { result ≡ same_place place self.now.place }
+    {
+        match self.place {
+            Some(own) => place.dev == own.dev && place.ino == own.ino,
+            None => false,
+        }
+    }
+
+    /// Whether the rest was skipped.
+    pub(crate) fn is_skipped(&self) -> bool
+        ensures { result ≡ is_skipped self.now.items }
+    {
+        matches!(&self.items, Items::Skipped)
+    }
+
+    /// Closes the stream of the directory, if it is open.
+    pub(crate) fn close<D: Disk>(&self, disk: &mut D)
+        ensures streams { D.streams disk.new ≡ without_stream (stream_in self.now.items) (D.streams disk.old) }
+        ensures kept { D.state disk.new ≡ D.state disk.old }
+        ensures faults { D.faults disk.new ≡ D.faults disk.old }
+    {
+        if let Some(dir) = self.stream() {
+            disk.close_dir(dir);
+        }
+    }
+}

@@ -1,0 +1,211 @@
+//! What the calls of a disk give to a walk.
+ghost use Rattle.std.specs.Prelude.{◌≡◌, ◌≢◌, ◌+◌, ◌-◌, ◌^◌, ◌<◌, ◌≤◌, true, None, length, IfOk, IfErr, IfSome};
+ghost use Rattle.std.specs.Option.{option_map};
+ghost use Rattle.std.specs.FinMap as finite;
+ghost use Rattle.odb_disk.specs.declared.disk.DiskError.TheVariants.{NoMemory as out_of_memory};
+ghost use Rattle.odb_disk.specs.Tree.{tree_of};
+ghost use Rattle.odb_disk.specs.Tree.Follow.{looked};
+ghost use Rattle.odb_base.specs.Path.{is_name};
+ghost use Rattle.walkdir.specs.Error.{no_memory, is_no_memory, is_of_call};
+ghost use Rattle.walkdir.specs.Failures.{Costs, failures_among, failures_by, failures_given, failures_left, failures_of};
+ghost use Rattle.walkdir.specs.Stack.{AreAt, IsAt, held, left_in};
+ghost use Rattle.walkdir.specs.Turns.{Draws, IsDrawn, OnlyFailure, OpensAtMost, OpensContents, ReadInOrder, StreamsAll, left_of, stream_of};
+ghost use Rattle.walkdir.specs.Walk.{Tells, told_at, child_of, entry_by, place_of, IsInOrder};
+
+use crate::list::{Items, Place};
+use crate::sort::Sorter;
+use crate::{DirEntry, Error, Result};
+use odb_disk::{BadPath, DirId, Disk, DiskError, Entry, Meta, PathText};
+use std::alloc::Global;
+use std::collections::VecDeque;
+
+/// Looks at a path. A refusal is an error at this depth.
+pub(crate) fn look<D: Disk>(
+    alloc: Global,
+    disk: &mut D,
+    depth: usize,
+    path: &PathText,
+    follow: bool,
+) -> Result<Meta>
+    ensures call { IfErr result (λ e. is_of_call e ≡ true) }
+    ensures told { IfSome (D.state disk.old) (λ s. Tells depth path.now result (told_at depth path.now (looked (tree_of s) path.now follow))) }
+    ensures kept { D.state disk.new ≡ D.state disk.old }
+    ensures streams { D.streams disk.new ≡ D.streams disk.old }
+    ensures cause { Costs (failures_of result) (D.faults disk.old) (D.faults disk.new) }
+{
+    match disk.look(alloc, path, follow) {
+        Ok(meta) => Ok(meta),
+        Err(error) => Err(Error::from_path(alloc, depth, path, error)),
+    }
+}
+
+/// What a stream gives next: a child of its directory, an error, or nothing at its end.
+pub(crate) fn next_of<D: Disk>(
+    alloc: Global,
+    disk: &mut D,
+    dir: DirId,
+    parent: &PathText,
+    depth: usize,
+) -> Option<Result<DirEntry>>
+    ensures draws { Draws depth parent.now (D.streams disk.old) dir result (D.streams disk.new) }
+    ensures at { IfSome result (λ item. IsAt depth item) }
+    ensures kept { D.state disk.new ≡ D.state disk.old }
+    ensures cause { Costs (failures_given result) (D.faults disk.old) (D.faults disk.new) }
+{
+    match disk.next_entry(alloc, &dir) {
+        Ok(None) => None,
+        Ok(Some(entry)) => Some(child(alloc, parent, depth, &entry)),
+        Err(error) => Some(Err(Error::from_stream(depth, error))),
+    }
+}
+
+/// The rest of what a stream gives, up to the error that ends it.
+pub(crate) fn rest_of<D: Disk>(
+    alloc: Global,
+    disk: &mut D,
+    dir: DirId,
+    parent: &PathText,
+    depth: usize,
+) -> Result<VecDeque<Result<DirEntry>>>
+    ensures drawn { IsDrawn (D.streams disk.old) dir (D.streams disk.new) }
+    ensures streamed { IfOk result (λ items. StreamsAll depth parent.now (D.streams disk.old) dir items.items) }
+    ensures few { IfOk result (λ items. length items.items ≤ left_of (D.streams disk.old) dir + 1) }
+    ensures children { IfOk result (λ items. AreAt depth items.items) }
+    ensures lost { IfErr result (λ e. is_no_memory e ≡ true) }
+    ensures kept { D.state disk.new ≡ D.state disk.old }
+    ensures cause { Costs (failures_by (λ items. failures_among items.items) result) (D.faults disk.old) (D.faults disk.new) }
+{
+    let mut items = VecDeque::new(alloc);
+    loop {
+        match next_of(alloc, disk, dir, parent, depth) {
+            None => return Ok(items),
+            Some(Ok(entry)) => items.push_back(Ok(entry))?,
+            Some(Err(error)) => {
+                if error.is_out_of_memory() {
+                    return Err(error);
+                }
+                items.push_back(Err(error))?;
+                return Ok(items);
+            }
+        }
+    }
+}
+
+/// The contents of a directory: its stream, or what it gave, in order. One that can't be opened has the error.
+pub(crate) fn open<D: Disk, S: Sorter>(
+    alloc: Global,
+    disk: &mut D,
+    sorter: &Option<S>,
+    path: &PathText,
+    depth: usize,
+) -> Result<Items>
+    requires { depth < 2 ^ 64 - 1 }
+    ensures streams { OpensAtMost (D.streams disk.old) (stream_of result) (D.streams disk.new) }
+    ensures bounded { IfOk result (λ items. left_in (D.streams disk.new) items ≤ 2 ^ 64) }
+    ensures children { IfOk result (λ items. AreAt (depth + 1) (held items)) }
+    ensures contents { OpensContents (D.state disk.old) (option_map S.order sorter.now) path.now depth result (D.streams disk.new) }
+    ensures lost { IfErr result (λ e. is_no_memory e ≡ true) }
+    ensures kept { D.state disk.new ≡ D.state disk.old }
+    ensures cause { Costs (failures_by failures_left result) (D.faults disk.old) (D.faults disk.new) }
+{
+    match disk.open_dir(alloc, path) {
+        Ok(dir) => match sorter {
+            None => Ok(Items::Opened(dir)),
+            Some(sorter) => sorted(alloc, disk, sorter, dir, path, depth + 1),
+        },
+        Err(error) => unopened(alloc, path, depth, error),
+    }
+}
+
+/// The contents of a directory that can't be opened: the error.
+fn unopened(alloc: Global, path: &PathText, depth: usize, error: DiskError) -> Result<Items>
+    ensures held { IfOk result (λ items. OnlyFailure depth path.now error items) }
+    ensures refused { IfOk result (λ _. error ≢ out_of_memory) }
+    ensures children { IfOk result (λ items. AreAt (depth + 1) (held items)) }
+    ensures lost { IfErr result (λ e. is_no_memory e ≡ true) }
+{
+    let error = Error::from_path(alloc, depth, path, error);
+    if error.is_out_of_memory() {
+        return Err(error);
+    }
+    let mut items = VecDeque::new(alloc);
+    items.push_back(Err(error))?;
+    Ok(Items::Closed(items))
+}
+
+/// The children that a stream gives, in order. The stream is closed.
+fn sorted<D: Disk, S: Sorter>(
+    alloc: Global,
+    disk: &mut D,
+    sorter: &S,
+    dir: DirId,
+    parent: &PathText,
+    depth: usize,
+) -> Result<Items>
+    ensures drawn { (D.streams disk.new).open_dirs ≡ finite.remove (D.streams disk.old).open_dirs dir }
+    ensures peak { (D.streams disk.new).peak ≡ (D.streams disk.old).peak }
+    ensures closed { stream_of result ≡ None }
+    ensures bounded { IfOk result (λ items. length (held items) < 2 ^ 64) }
+    ensures children { IfOk result (λ items. AreAt depth (held items)) }
+    ensures order { IfOk result (λ items. ReadInOrder (S.order sorter.now) depth parent.now (D.streams disk.old) dir items) }
+    ensures lost { IfErr result (λ e. is_no_memory e ≡ true) }
+    ensures kept { D.state disk.new ≡ D.state disk.old }
+    ensures cause { Costs (failures_by failures_left result) (D.faults disk.old) (D.faults disk.new) }
+{
+    let read = rest_of(alloc, disk, dir, parent, depth);
+    disk.close_dir(dir);
+    Ok(Items::Closed(in_order(alloc, sorter, read?)?))
+}
+
+/// Children in order, behind the errors among them.
+fn in_order<S: Sorter>(
+    alloc: Global,
+    sorter: &S,
+    children: VecDeque<Result<DirEntry>>,
+) -> Result<VecDeque<Result<DirEntry>>>
+    ensures order { IfOk result (λ ordered. IsInOrder (S.order sorter.now) children.items ordered.items) }
+    ensures lost { IfErr result (λ e. e ≡ no_memory) }
+{
+    let mut entries = Vec::new(alloc);
+    let mut ordered = VecDeque::new(alloc);
+    for child in children {
+        match child {
+            Ok(entry) => entries.push(entry)?,
+            Err(error) => ordered.push_back(Err(error))?,
+        }
+    }
+    entries.sort_by(|a, b| sorter.compare(a, b))?;
+    for entry in entries {
+        ordered.push_back(Ok(entry))?;
+    }
+    Ok(ordered)
+}
+
+pub(crate) fn place_in(meta: &Meta) -> Place
+    ensures { result ≡ place_of meta.now }
+{
+    Place {
+        dev: meta.dev,
+        ino: meta.ino,
+    }
+}
+
+/// An entry by what a look told.
+pub(crate) fn entry_by(path: PathText, meta: &Meta, followed: bool, depth: usize) -> DirEntry
+    ensures { result ≡ entry_by path followed depth meta.now }
+{
+    DirEntry::new(path, meta.kind, followed, depth, meta.ino)
+}
+
+/// An entry by what a stream gave.
+fn child(alloc: Global, parent: &PathText, depth: usize, entry: &Entry) -> Result<DirEntry>
+    requires { is_name entry.now.name ≡ true }
+    ensures child { IfOk result (λ child. child ≡ child_of parent.now depth entry.now) }
+    ensures lost { IfErr result (λ e. e ≡ no_memory) }
+{
+    match parent.join(alloc, entry.name.as_str()) {
+        Ok(path) => Ok(DirEntry::new(path, entry.kind, false, depth, entry.ino)),
+        Err(BadPath::NoMemory) => Err(Error::out_of_memory()),
+        Err(BadPath::Malformed) => unreachable!("a disk gives names alone"),
+    }
+}
