@@ -1,0 +1,15 @@
+use Rattle.std.proofs.Common.{◌≡◌}
+use Rattle.std.specs.Prelude.{IfSome}
+use Rattle.odb_disk.specs.Tree.{tree_of}
+use Rattle.walkdir.specs.Options.{default_options}
+use Rattle.walkdir.specs.OwnStreams.{AreBack}
+use Rattle.walkdir_uses.specs.Found.{total_size}
+use Rattle.walkdir_uses.proofs.size_below.Given as goal
+
+-- the disk is as it was, its streams too, and the sizes of the files so far are added up
+abbrev pub invariant-loop-entry : goal.invariant-loop-entry
+invariant-loop-entry g l = record {
+  kept : g.D.Disk.state l.disk ≡ g.D.Disk.state l.fn.disk;
+  back : AreBack (g.D.Disk.streams l.fn.disk) default_options.max_open (g.D.Disk.streams l.disk);
+  size : IfSome (g.D.Disk.state l.fn.disk) (λ s. l.size ≡ total_size (tree_of s) l.yielded);
+}
