@@ -1,0 +1,3 @@
+pub mod Composed
+pub mod GitOrder
+pub mod Wrapped

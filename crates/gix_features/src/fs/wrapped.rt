@@ -1,0 +1,149 @@
+//! Walks that give wrapped entries.
+ghost use Rattle.std.specs.Prelude.{◌≡◌, min, max, Some, None, IfOk, IfErr, true};
+ghost use Rattle.walkdir.specs.Options.{default_options};
+
+use super::entry::DirEntry;
+use super::order::GitOrder;
+use odb_disk::{Disk, NoMemory, PathText};
+use std::alloc::Global;
+use walkdir::{Error, IntoIter, NoSort, Sorter};
+
+/// How many threads a walk is asked to use. It uses one in any case.
+#[derive(Clone, Copy, Debug, PartialEq, Eq)]
+pub enum Parallelism {
+    Serial,
+    ThreadPoolPerTraversal,
+}
+
+/// Builds a walk that gives wrapped entries.
+#[derive(Debug, Drop)]
+pub struct WalkDir<S> {
+    inner: walkdir::WalkDir<S>,
+    precompose_unicode: bool,
+}
+
+/// An unsorted walk from a root. Names are composed if that is asked for.
+pub fn walkdir_new(
+    root: PathText,
+    _parallelism: Parallelism,
+    precompose_unicode: bool,
+) -> WalkDir<NoSort>
+    ensures root { result.inner.root ≡ root }
+    ensures options { result.inner.options ≡ default_options }
+    ensures sorter { result.inner.sorter ≡ None }
+    ensures precompose { result.precompose_unicode ≡ precompose_unicode }
+{
+    WalkDir {
+        inner: walkdir::WalkDir::at(root),
+        precompose_unicode,
+    }
+}
+
+/// A walk from a root in the order of Git's trees, down to a depth: 0 is the root alone.
+pub fn walkdir_sorted_new(
+    root: PathText,
+    _parallelism: Parallelism,
+    max_depth: usize,
+    precompose_unicode: bool,
+) -> WalkDir<GitOrder>
+    ensures root { result.inner.root ≡ root }
+    ensures options { result.inner.options ≡ record default_options { max_depth = max_depth } }
+    ensures sorter { result.inner.sorter ≡ Some (record {}) }
+    ensures precompose { result.precompose_unicode ≡ precompose_unicode }
+{
+    WalkDir {
+        inner: walkdir::WalkDir::at(root)
+            .max_depth(max_depth)
+            .sort_by(GitOrder),
+        precompose_unicode,
+    }
+}
+
+impl<S: Drop> WalkDir<S> {
+    ghost use Rattle.walkdir.specs.Progress.{begun, has_its_streams};
+    ghost use Rattle.walkdir.specs.StackProgress.{progress};
+
+    /// Gives entries from this depth on.
+    pub fn min_depth(self, depth: usize) -> WalkDir<S>
+        ensures { result ≡ record self { inner = record self.inner { options = record self.inner.options { min_depth = min depth self.inner.options.max_depth } } } }
+    {
+        WalkDir {
+            inner: self.inner.min_depth(depth),
+            precompose_unicode: self.precompose_unicode,
+        }
+    }
+
+    /// Gives entries up to this depth.
+    pub fn max_depth(self, depth: usize) -> WalkDir<S>
+        ensures { result ≡ record self { inner = record self.inner { options = record self.inner.options { max_depth = max depth self.inner.options.min_depth } } } }
+    {
+        WalkDir {
+            inner: self.inner.max_depth(depth),
+            precompose_unicode: self.precompose_unicode,
+        }
+    }
+
+    /// Whether links are followed.
+    pub fn follow_links(self, yes: bool) -> WalkDir<S>
+        ensures { result ≡ record self { inner = record self.inner { options = record self.inner.options { follow_links = yes } } } }
+    {
+        WalkDir {
+            inner: self.inner.follow_links(yes),
+            precompose_unicode: self.precompose_unicode,
+        }
+    }
+
+    /// The walk on a disk. It is never refused.
+    pub fn into_iter_on<'d, D: Disk>(
+        self,
+        alloc: Global,
+        disk: &'d mut D,
+    ) -> Result<WalkDirIter<'d, D, S>, NoMemory>
+    where
+        S: Sorter,
+        ensures made { IfErr result (λ _. ⊥) }
+        ensures begun { IfOk result (λ walk. progress S.order walk.inner.walk (D.streams walk.inner.disk.now) ≡ begun S.order self.inner (D.streams disk.old)) }
+        ensures own { IfOk result (λ walk. has_its_streams (progress S.order walk.inner.walk (D.streams walk.inner.disk.now)) ≡ true) }
+        ensures disk { IfOk result (λ walk. walk.inner.disk.ghost_name ≡ disk.entry.ghost_name) }
+        ensures same { IfOk result (λ walk. walk.inner.disk.now ≡ disk.old) }
+        ensures precompose { IfOk result (λ walk. walk.precompose_unicode ≡ self.precompose_unicode) }
+    {
+        Ok(WalkDirIter {
+            inner: self.inner.into_iter_on(alloc, disk)?,
+            precompose_unicode: self.precompose_unicode,
+        })
+    }
+}
+
+/// The items of a walk, each entry wrapped.
+#[derive(Drop)]
+pub struct WalkDirIter<'d, D: Disk, S: Sorter + Drop> {
+    inner: IntoIter<'d, D, S>,
+    precompose_unicode: bool,
+}
+
+/// The items of a walk, each entry wrapped.
+pub type DirEntryIter<'d, D, S> = WalkDirIter<'d, D, S>;
+
+impl<'d, D: Disk, S: Sorter + Drop> Iterator for WalkDirIter<'d, D, S> {
+    type Item = Result<DirEntry<walkdir::DirEntry>, Error>;
+
+    ghost use Rattle.gix_features.specs.Wrapped.{wrapped_item};
+    ghost use Rattle.std.specs.Prelude.{Option, Result};
+    ghost use Rattle.walkdir.specs.declared.dent.DirEntry.{DirEntry as EntryValue};
+    ghost use Rattle.walkdir.specs.declared.error.Error.{Error as ErrorValue};
+
+    ghost can_next = { λ s. ⟦<IntoIter<'d, D, S> as Iterator>⟧.can_next s.inner };
+
+    ghost next_gives = { λ s item t. (inner : Option (Result EntryValue ErrorValue)) × ⟦<IntoIter<'d, D, S> as Iterator>⟧.next_gives s.inner inner t.inner × (item ≡ wrapped_item s.precompose_unicode inner) × (t.precompose_unicode ≡ s.precompose_unicode) };
+
+    ghost remaining = { λ s. ⟦<IntoIter<'d, D, S> as Iterator>⟧.remaining s.inner };
+
+    fn next(&mut self) -> Option<Result<DirEntry<walkdir::DirEntry>, Error>> {
+        match self.inner.next() {
+            None => None,
+            Some(Ok(entry)) => Some(Ok(DirEntry::new(entry, self.precompose_unicode))),
+            Some(Err(error)) => Some(Err(error)),
+        }
+    }
+}
