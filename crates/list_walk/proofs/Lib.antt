@@ -1,0 +1,4 @@
+mod AskedLemmas
+mod LinesLemmas
+mod WrittenLemmas
+mod SessionLemmas

@@ -1,0 +1,155 @@
+-- What is written of a walk item by item, and how it ends.
+use Rattle.std.proofs.Common.{◌≡◌, ◌⊎◌, inl, inr, ℕ, Bool, true, false, cond, ◌||◌, List, [], ◌∷◌, ◌++◌, length, take, Option, Some, None, Ok, Err, refl, sym, ap, subst, ◌∙◌, append_assoc}
+use Rattle.std.proofs.Math.Seq.{take-length}
+use Rattle.std.specs.Prelude.{Result}
+use Rattle.std.specs.List.{list_any}
+use Rattle.std.specs.Result.{IsErr, IsErrOf}
+use Rattle.std.proofs.lemmas.Result.{IfOk-from_err}
+use Rattle.odb_disk.specs.Source.{Adds}
+use Rattle.odb_disk.specs.Tree.{State}
+use Rattle.odb_disk.specs.Streams.{Streams}
+use Rattle.walkdir.proofs.WholeWalks.{begun_keeps}
+use Rattle.walkdir.specs.Options.{Built}
+use Rattle.walkdir.specs.OwnStreams.{AreBack}
+use Rattle.walkdir.specs.Progress.{Keeps, Progress, Steps, begun}
+use Rattle.walkdir.specs.Walk.{Item, Order}
+use Rattle.list_walk.specs.Lines.{Delivers, EndsWritten, IsFront, IsWhole, Leaves, Gave, Output, is_error, is_want, line_of, lines_of, status_of}
+use Rattle.list_walk.specs.declared.line.LineError.{LineError}
+use Rattle.list_walk.specs.declared.line.LineError.TheVariants as errors
+use Rattle.list_walk.specs.declared.status.Status.{Status}
+use Rattle.list_walk.specs.declared.status.Status.TheVariants as statuses
+use Rattle.list_walk.proofs.LinesLemmas.{adds_both, adds_front, adds_nothing, any_more, lines_more, yields_more}
+
+-- What is written so far of a walk that has come to a place: its items, and the text that is gathered.
+pub record SoFar (state : Option State) (first at : Progress) (held held' : Option (List ℕ)) (text : List ℕ) (status : Status) : Type 0 where
+  pub items : List Item
+  pub gave : Gave state first items at
+  pub memory : list_any is_want items ≡ false
+  pub status_is : status ≡ status_of items
+  pub delivers : Delivers held held' (lines_of items) text
+
+pub begins : (state : Option State) (first : Progress) (held : Option (List ℕ)) (text : List ℕ) → text ≡ [] → SoFar state first first held held text statuses.Done
+begins state first held text none = record {
+  items = [];
+  gave = refl;
+  memory = refl;
+  status_is = refl;
+  delivers = ([], sym none, adds_nothing held);
+}
+
+-- the status with an item more
+abbrev pub status_with : Bool → Status → Status
+status_with true status = statuses.SomeErrors
+status_with false status = status
+
+status_more : (items : List Item) (item : Item) → status_with (is_error item) (status_of items) ≡ status_of (items ++ item ∷ [])
+status_more items item = by_cases (list_any is_error items) (is_error item) ∙ ap of_errors (sym (any_more is_error items item))
+  where
+    of_errors : Bool → Status
+    of_errors errors = cond errors statuses.SomeErrors statuses.Done
+
+    by_cases : (errors error : Bool) → status_with error (cond errors statuses.SomeErrors statuses.Done) ≡ cond (errors || error) statuses.SomeErrors statuses.Done
+    by_cases true true = refl
+    by_cases true false = refl
+    by_cases false true = refl
+    by_cases false false = refl
+
+module _ (state : Option State) (first at : Progress) (held now next : Option (List ℕ)) (text : List ℕ) (status : Status) (so_far : SoFar state first at held now text status) where
+  delivered_more : (item : Item) (left : List ℕ) → Delivers now next (text ++ line_of item) left → Delivers held next (lines_of (so_far.items ++ item ∷ [])) left
+  delivered_more item left given =
+      let before = so_far.delivers in (
+        before.0 ++ given.0,
+        lines_more so_far.items item ∙ ap (λ t. t ++ line_of item) before.1 ∙ append_assoc before.0 text (line_of item) ∙ ap (λ t. before.0 ++ t) given.1 ∙ sym (append_assoc before.0 given.0 left),
+        adds_both held now next before.0 given.0 before.2 given.2,
+      )
+
+  pub more : (item : Item) (new : Progress) (left : List ℕ) (after : Status) → Steps state at (Some item) new → is_want item ≡ false → Delivers now next (text ++ line_of item) left → after ≡ status_with (is_error item) status
+      → SoFar state first new held next left after
+  more item new left after step want given after_is = record {
+    items = so_far.items ++ item ∷ [];
+    gave = yields_more (Steps state) first so_far.items at item new so_far.gave step;
+    memory = any_more is_want so_far.items item ∙ ap (λ b. b || is_want item) so_far.memory ∙ want;
+    status_is = after_is ∙ ap (status_with (is_error item)) so_far.status_is ∙ status_more so_far.items item;
+    delivers = delivered_more item left given;
+  }
+
+  pub whole : (new : Progress) → Steps state at None new → Adds now next text → IsWhole (record { state = state; first = first; held = held; held' = next }) status
+  whole new ended added = record {
+    items = so_far.items;
+    gave = record { at = at; gave = so_far.gave; now = new; ended = ended };
+    memory = so_far.memory;
+    status_is = so_far.status_is;
+    added = subst (Adds held next) (sym so_far.delivers.1) (adds_both held now next so_far.delivers.0 text so_far.delivers.2 added);
+  }
+
+  -- a front of the text that is gathered was written
+  pub front : ((count : ℕ) × Adds now next (take count text)) → IsFront (record { state = state; first = first; held = held; held' = next })
+  front added =
+      let all = adds_front held now next so_far.delivers.0 text so_far.delivers.2 added in
+      record {
+        items = so_far.items;
+        gave = record { at = at; gave = so_far.gave };
+        count = all.0;
+        added = subst (λ t. Adds held next (take all.0 t)) (sym so_far.delivers.1) all.1;
+      }
+
+  -- the same of the line of an item more
+  pub front_more : (item : Item) (new : Progress) → Steps state at (Some item) new → ((count : ℕ) × Adds now next (take count (text ++ line_of item)))
+      → IsFront (record { state = state; first = first; held = held; held' = next })
+  front_more item new step added =
+      let all = adds_front held now next so_far.delivers.0 (text ++ line_of item) so_far.delivers.2 added in
+      let lines : lines_of (so_far.items ++ item ∷ []) ≡ so_far.delivers.0 ++ (text ++ line_of item) = lines_more so_far.items item ∙ ap (λ t. t ++ line_of item) so_far.delivers.1 ∙ append_assoc so_far.delivers.0 text (line_of item) in
+      record {
+        items = so_far.items ++ item ∷ [];
+        gave = record { at = new; gave = yields_more (Steps state) first so_far.items at item new so_far.gave step };
+        count = all.0;
+        added = subst (λ t. Adds held next (take all.0 t)) (sym lines) all.1;
+      }
+
+pub leaves_all : (at : Progress) → Leaves at at
+leaves_all at = record { options = refl; keeps = λ before keeps. keeps }
+
+pub leaves_more : (state : Option State) (first at new : Progress) (item : Option Item) → Leaves first at → Steps state at item new → Leaves first new
+leaves_more state first at new item left step =
+    record { options = step.options ∙ left.options; keeps = λ before keeps. step.keeps before (left.keeps before keeps) }
+
+-- the streams are back once a walk is dropped that left all others as they were
+pub back_after : {T : Type 0} (order : T → Order) (built : Built T) (streams : Streams) (first last : Progress) (now : Streams) → first ≡ begun order built streams → Leaves first last
+    → ((before : Streams) → Keeps before last → AreBack before last.options.max_open now) → AreBack streams built.options.max_open now
+back_after order built streams first last now is left back =
+    subst (λ options. AreBack streams options.max_open now) (left.options ∙ ap (λ at. at.options) is) (back streams (left.keeps streams (subst (Keeps streams) (sym is) (begun_keeps order built streams))))
+
+pub back_on : {D : Type 0} (streams : D → Streams) (a b : D) (before : Streams) (most : ℕ) → a ≡ b → AreBack before most (streams a) → AreBack before most (streams b)
+back_on streams a b before most same back = subst (λ d. AreBack before most (streams d)) same back
+
+-- a disk that tells the same
+pub step_at : (told state : Option State) (at : Progress) (item : Option Item) (new : Progress) → told ≡ state → Steps told at item new → Steps state at item new
+step_at told state at item new same step = subst (λ x. Steps x at item new) same step
+
+abbrev pub refused : LineError → Result (Unit {0}) LineError
+refused error = Err error
+
+-- what was written where a line failed
+pub cut_by : (now next : Option (List ℕ)) (text : List ℕ) (error : LineError) → (IsErrOf (refused error) errors.Failed → (count : ℕ) × Adds now next (take count text)) → (IsErrOf (refused error) errors.NoMemory → Adds now next [])
+    → (count : ℕ) × Adds now next (take count text)
+cut_by now next text errors.Failed failed lost = failed refl
+cut_by now next text errors.NoMemory failed lost = (0, lost refl)
+
+-- all of a text is a front of it
+pub all_of : (now next : Option (List ℕ)) (text : List ℕ) → Adds now next text → (count : ℕ) × Adds now next (take count text)
+all_of now next text added = (length text, subst (Adds now next) (sym (take-length text)) added)
+
+listing : (errors : Bool) (status : Status) → status ≡ cond errors statuses.SomeErrors statuses.Done → (status ≡ statuses.SomeErrors) ⊎ (status ≡ statuses.Done)
+listing true status is = inl is
+listing false status is = inr is
+
+pub ends_whole : (o : Output) (status : Status) → IsWhole o status → EndsWritten o (Ok status)
+ends_whole o statuses.Done w = w
+ends_whole o statuses.SomeErrors w = w
+ends_whole o statuses.NoMemory w = absurd (elim (listing (list_any is_error w.items) statuses.NoMemory w.status_is) [ inl is ↦ cc is | inr is ↦ cc is ])
+ends_whole o statuses.NotUnderstood w = absurd (elim (listing (list_any is_error w.items) statuses.NotUnderstood w.status_is) [ inl is ↦ cc is | inr is ↦ cc is ])
+ends_whole o statuses.WriteFault w = absurd (elim (listing (list_any is_error w.items) statuses.WriteFault w.status_is) [ inl is ↦ cc is | inr is ↦ cc is ])
+
+pub ends_cut : (o : Output) (result : Result Status LineError) → IsErr result → IsFront o → EndsWritten o result
+ends_cut o (Ok status) is_err front = absurd (IfOk-from_err {E = LineError} (Ok status) (λ _. ⊥) is_err)
+ends_cut o (Err error) is_err front = front

@@ -1,0 +1,4 @@
+pub mod Status
+pub mod Asked
+pub mod Lines
+pub mod Session

@@ -1,0 +1,77 @@
+-- What the program promises of each status, by its words, its disk and its sink.
+use Rattle.std.specs.Prelude.{◌≡◌, ◌⊎◌, ℕ, List, [], take, Option, Some, None, Result, Ok, Err, IfSome}
+use Rattle.odb_base.specs.Faults.{Rose}
+use Rattle.odb_disk.specs.Source.{Adds}
+use Rattle.odb_disk.specs.Streams.{Streams}
+use Rattle.odb_disk.specs.Tree.{State, tree_of}
+use Rattle.walkdir.specs.OwnStreams.{AreBack}
+use Rattle.walkdir.specs.Walk.{IsWalk}
+use Rattle.list_walk.specs.Asked.{options_of, walk_of, walking_of}
+use Rattle.list_walk.specs.Lines.{IsFront, IsWhole, Output}
+use Rattle.list_walk.specs.declared.line.LineError.{LineError}
+use Rattle.list_walk.specs.declared.line.LineError.TheVariants as errors
+use Rattle.list_walk.specs.declared.words.Asked.{Asked}
+use Rattle.list_walk.specs.declared.status.Status.{Status}
+use Rattle.list_walk.specs.declared.status.Status.TheVariants as statuses
+
+-- What was there before and after a session: what the words ask, the disk, where it tells, the bytes held by the sink,
+-- where it tells them, its counts of faults, and the text that is written where the words ask nothing.
+pub record Session : Type 0 where
+  pub asked : Option Asked
+  pub state : Option State
+  pub streams : Streams
+  pub held : Option (List ℕ)
+  pub held' : Option (List ℕ)
+  pub faults : ℕ
+  pub faults' : ℕ
+  pub usage : List ℕ
+
+-- what is written of the walk that is asked for
+abbrev pub output_of : Session → Asked → Output
+output_of s asked = record { state = s.state; first = walk_of asked s.streams; held = s.held; held' = s.held' }
+
+-- The lines of all items of the walk that is asked for were written, and the status is theirs. Where the disk tells its
+-- tree, they are the items of that tree's walk.
+pub record Listed (s : Session) (status : Status) : Type 0 where
+  pub asked : Asked
+  pub asks : s.asked ≡ Some asked
+  pub wrote : IsWhole (output_of s asked) status
+  pub walks : IfSome s.state (λ state. IsWalk (walking_of asked (tree_of state)) wrote.items)
+
+-- a front of the lines of items of the walk that is asked for were written
+pub record CutOff (s : Session) : Type 0 where
+  pub asked : Asked
+  pub asks : s.asked ≡ Some asked
+  pub wrote : IsFront (output_of s asked)
+
+-- the words ask nothing, and a front of the usage was written
+pub record UsageCutOff (s : Session) : Type 0 where
+  pub none : s.asked ≡ None
+  pub count : ℕ
+  pub added : Adds s.held s.held' (take count s.usage)
+
+-- nothing was written, or a front of the lines
+abbrev pub OutOfMemory : Session → Type 0
+OutOfMemory s = Adds s.held s.held' [] ⊎ CutOff s
+
+-- What each status says. Want of memory is the one status without a cause.
+abbrev pub Ends : Session → Status → Type 0
+Ends s statuses.Done = Listed s statuses.Done
+Ends s statuses.SomeErrors = Listed s statuses.SomeErrors
+Ends s statuses.NotUnderstood = (s.asked ≡ None) × Adds s.held s.held' s.usage
+Ends s statuses.WriteFault = Rose s.faults s.faults' × (CutOff s ⊎ UsageCutOff s)
+Ends s statuses.NoMemory = OutOfMemory s
+
+-- the status that a failed line comes to
+abbrev pub status_by : Result Status LineError → Status
+status_by (Ok status) = status
+status_by (Err errors.Failed) = statuses.WriteFault
+status_by (Err errors.NoMemory) = statuses.NoMemory
+
+abbrev pub EndsListed : Session → Result Status LineError → Type 0
+EndsListed s result = Ends s (status_by result)
+
+-- The disk's streams after a session: as they were. The walk had no more of its own than `max_open` at one time.
+abbrev pub StreamsBack : Option Asked → Streams → Streams → Type 0
+StreamsBack None before now = now ≡ before
+StreamsBack (Some asked) before now = AreBack before (options_of asked).max_open now

@@ -1,0 +1,47 @@
+//! Lists a folder tree: `list_walk DIR [OPTION..]` prints a line for each item of the walk from an absolute path.
+//!
+//! A line is the path of an entry, or the text of an error. `words` says which options there are, `run` what each status
+//! means.
+#![tactic(auto)]
+
+mod line;
+mod run;
+mod status;
+#[cfg(test)]
+mod tests;
+mod words;
+
+use crate::status::Status;
+use odb_disk::{HostDisk, StdSink};
+use std::alloc::Global;
+use std::process::ExitCode;
+use std::rt::Env;
+use std::{env, io};
+
+fn main(rt: HostRuntime) -> ExitCode {
+    let alloc = rt.alloc();
+    let words = match arguments(&rt, alloc) {
+        Ok(words) => words,
+        Err(error) if error.kind() == io::ErrorKind::OutOfMemory => {
+            return ExitCode::from(Status::NoMemory.code());
+        }
+        // Arguments that are no text are words that aren't understood.
+        Err(_) => Vec::new(alloc),
+    };
+    let Ok(files) = rt.clone() else {
+        return ExitCode::from(Status::NoMemory.code());
+    };
+    let mut sink = StdSink::new(io::writer(&rt));
+    let mut disk = HostDisk::new(alloc, files);
+    let status = run::run(alloc, &words, &mut sink, &mut disk);
+    ExitCode::from(status.code())
+}
+
+/// The words of the command line, without the program's name.
+fn arguments<R: Env + AllocGlobal>(rt: &R, alloc: Global) -> io::Result<Vec<String>> {
+    let mut words = Vec::new(alloc);
+    for word in env::args(rt)?.skip(1) {
+        words.push(word)?;
+    }
+    Ok(words)
+}
