@@ -1,22 +1,14 @@
 -- The entries of a directory, by the order of paths: what lies below it comes right behind it.
-use Rattle.std.proofs.Common.{◌≡◌, ◌≢◌, ◌&&◌, ℕ, Bool, true, false, cond, List, [], ◌∷◌, ◌++◌, length, get_or, map, Bor, Option, Some, None, Result, Ok, Err, T, refl, sym, ap, subst, ◌∙◌, append-nil, append_assoc, arith}
+use Rattle.std.proofs.Common.{◌≡◌, ◌≢◌, ◌&&◌, ℕ, Bool, true, false, cond, List, [], ◌∷◌, ◌++◌, length, get_or, map, Bor, Some, None, Result, Ok, Err, refl, sym, ap, ◌∙◌, append-nil, arith}
 use Rattle.std.specs.Option.{option_map}
-use Rattle.std.specs.Ordering.{is_lt, is_gt}
-use Rattle.std.specs.declared.cmp.Ordering.{Ordering}
-use Rattle.std.specs.declared.cmp.Ordering.TheVariants.{Less, Equal, Greater}
+use Rattle.std.specs.Ordering.{is_lt}
 use Rattle.std.specs.declared.ops.Bound.TheVariants.{Excluded, Unbounded}
-use Rattle.std.specs.Cmp.{tied_itself}
 use Rattle.std.specs.Cmp.Lexicographic.{nat_list_eq_equiv}
-use Rattle.std.specs.BTreeMap.Range.{entries_between, range_contains}
-use Rattle.std.specs.FinMap.{is_sorted}
-use Rattle.std.specs.FinMap.Entries.{below_all, is_sorted-where_key, same_entries}
-use Rattle.std.specs.List.{AllByRecursion, cons_option, filter_map, starts_with}
-use Rattle.std.specs.List.Sorted.{IsStrictlySortedBy}
+use Rattle.std.specs.BTreeMap.Range.{entries_between}
+use Rattle.std.specs.List.{cons_option, filter_map}
 use Rattle.std.proofs.lemmas.Bool.{false≢true}
-use Rattle.odb_base.specs.Path.{Name, Path, path_cmp, same_name}
-use Rattle.odb_base.specs.PathLaws.{path_order, one_place}
-use Rattle.odb_disk.specs.Tree.{Tree, node_at, tree_of_entries, name_in, is_directory, is_directory_content}
-use Rattle.odb_disk.specs.Tree.Nodes.{entries_of, entries_of-sorted, node_at-entries_of, node_at-tree_of_entries}
+use Rattle.odb_base.specs.Path.{Name, Path, path_cmp}
+use Rattle.odb_disk.specs.Tree.{Tree, node_at, name_in, is_directory, is_directory_content}
 use Rattle.odb_disk.specs.Tree.Follow as following
 use Rattle.odb_disk.specs.Tree.Follow.{Place, followed}
 use Rattle.odb_disk.specs.Tree.Write as writing
@@ -32,60 +24,21 @@ use Rattle.odb_disk.specs.declared.node.Node.{Node}
 use Rattle.odb_disk.specs.declared.node.Content.{Content}
 use Rattle.odb_disk.specs.declared.node.Content.TheVariants.{File, Dir, Link}
 use Rattle.odb_disk.proofs.TreeLemmas.Change.{name_in-path}
-use Rattle.odb_disk.proofs.NamesLemmas.{before_names, begins_between}
+use Rattle.odb_disk.proofs.NamesLemmas.{before_names}
 use Rattle.odb_disk.proofs.WriteCallsLemmas.{led_to}
 
-abbrev Nodes : Type 0
+abbrev pub Nodes : Type 0
 Nodes = List (Path × Node)
-
--- ---- nodes in the order of their paths
-
-both : (a b : Bool) → T a → T b → T (a && b)
-both true b p q = q
-both false b p q = p
-
-first : (a b : Bool) → T (a && b) → T a
-first true b p = tt
-first false b p = p
-
-second : (a b : Bool) → T (a && b) → T b
-second true b p = p
-second false b p = absurd p
-
-less : (o : Ordering) → T (is_lt o) → o ≡ Less
-less Less p = refl
-less Equal p = absurd p
-less Greater p = absurd p
-
-not_greater : (o : Ordering) → T (is_lt o) → is_gt o ≡ false
-not_greater Less p = refl
-not_greater Equal p = absurd p
-not_greater Greater p = absurd p
-
-below_all-from : (path : Path) (es : Nodes) → AllByRecursion (λ q. path_cmp path q ≡ Less) (map (λ e. e.0) es) → T (below_all path_cmp path es)
-below_all-from path [] all = tt
-below_all-from path (e ∷ es) all = both _ _ (subst (λ o. T (is_lt o)) (sym all.0) tt) (below_all-from path es all.1)
-
-is_sorted-from : (es : Nodes) → IsStrictlySortedBy path_cmp (map (λ e. e.0) es) → T (is_sorted path_cmp es)
-unfolding IsStrictlySortedBy
-is_sorted-from [] sorted = tt
-is_sorted-from (e ∷ es) sorted = both _ _ (below_all-from e.0 es sorted.0) (is_sorted-from es sorted.1)
-
--- nodes in order are those of the tree that they make
-entries_of-tree : (es : Nodes) → T (is_sorted path_cmp es) → entries_of (tree_of_entries es) ≡ es
-entries_of-tree es sorted =
-    let t = tree_of_entries es in
-    same_entries path_cmp path_order one_place (entries_of t) es (entries_of-sorted t) sorted (λ q. sym (node_at-entries_of t q) ∙ node_at-tree_of_entries es q)
 
 -- ---- what lies right in a directory
 
-name_in-below : (directory rest : Path) → name_in directory (directory ++ rest) ≡ name_in [] rest
+pub name_in-below : (directory rest : Path) → name_in directory (directory ++ rest) ≡ name_in [] rest
 unfolding name_in
 name_in-below [] rest = refl
 name_in-below (step ∷ steps) rest = ap (λ b. cond b (name_in steps (steps ++ rest)) None) (nat_list_eq_equiv.refl step) ∙ name_in-below steps rest
 
 -- a node has no entry where no name leads to its path
-no_entry : (directory : Path) (at : Path × Node) → ((name : Name) → at.0 ≡ directory ++ name ∷ [] → ⊥) → entry_in directory at ≡ None
+pub no_entry : (directory : Path) (at : Path × Node) → ((name : Name) → at.0 ≡ directory ++ name ∷ [] → ⊥) → entry_in directory at ≡ None
 no_entry directory at none = elim (name_in directory at.0) as (λ o. name_in directory at.0 ≡ o → option_map (entry_of at.1) o ≡ None) [
   | None ↦ λ _. refl
   | Some name ↦ λ is. absurd (none name (name_in-path directory at.0 name is))
@@ -100,7 +53,7 @@ module _ (directory : Path) where
   abbrev pub entries_among : Nodes → List Entry
   entries_among es = filter_map (entry_in directory) es
 
-  entries_behind : (es : Nodes) → entries_among (behind es) ≡ entries_among es
+  pub entries_behind : (es : Nodes) → entries_among (behind es) ≡ entries_among es
   entries_behind [] = refl
   entries_behind (e ∷ es) =
       elim (is_lt (path_cmp directory e.0)) as (λ b. is_lt (path_cmp directory e.0) ≡ b → entries_among (cond (b && true) (e ∷ behind es) (behind es)) ≡ entries_among (e ∷ es)) [
@@ -108,14 +61,6 @@ module _ (directory : Path) where
         | false ↦ λ before.
             let none = no_entry directory e (λ name is. false≢true (sym before ∙ ap is_lt (ap (path_cmp directory) is ∙ before_names directory name))) in
             entries_behind es ∙ sym (ap (λ o. cons_option o (entries_among es)) none)
-      ] refl
-
-  below_all-behind : (es : Nodes) → T (below_all path_cmp directory (behind es))
-  below_all-behind [] = tt
-  below_all-behind (e ∷ es) =
-      elim (is_lt (path_cmp directory e.0)) as (λ b. is_lt (path_cmp directory e.0) ≡ b → T (below_all path_cmp directory (cond (b && true) (e ∷ behind es) (behind es)))) [
-        | true ↦ λ is. both _ _ (subst T (sym is) tt) (below_all-behind es)
-        | false ↦ λ _. below_all-behind es
       ] refl
 
 -- ---- the names below a directory
@@ -145,69 +90,6 @@ none_added so_far names below node is other =
 pub one_added : (names : List (Bor Name)) (below : Path) (node : Node) (d : Bor Name) (name : Name) (kind : Kind) → map (λ n. n.now) names ≡ below → length names ≡ 1 → name ≡ (get_or names 0 d).now → kind ≡ kind_of node.content → entry_in [] (below, node) ≡ Some (entry_with node.ino name kind)
 one_added names below node d name kind is one name_is kind_is =
     ap (option_map (entry_of node)) (ap (name_in []) (sym is) ∙ named names d one ∙ ap Some (sym name_is)) ∙ ap (λ k. Some (entry_with node.ino name k)) (sym kind_is)
-
--- ---- the turns of a listing
-
--- the entries that are listed so far, and nodes in order behind the directory that are still to come
-pub record IsListed (directory : Path) (all so_far : List Entry) (es : Nodes) : Type 0 where
-  pub whole : so_far ++ entries_among directory es ≡ all
-  pub behind_it : T (below_all path_cmp directory es)
-  pub sorted : T (is_sorted path_cmp es)
-
-pub none_listed : (directory : Path) (es left : Nodes) (none : List Entry) → IsStrictlySortedBy path_cmp (map (λ e. e.0) es) → left ≡ behind directory es → none ≡ [] → IsListed directory (entries_in (tree_of_entries es) directory) none left
-unfolding entries_in
-none_listed directory es left none strictly is empty =
-    let sorted = is_sorted-from es strictly in
-    record {
-      whole = ap (λ xs. xs ++ entries_among directory left) empty ∙ ap (entries_among directory) is ∙ entries_behind directory es ∙ ap (entries_among directory) (sym (entries_of-tree es sorted));
-      behind_it = subst (λ l. T (below_all path_cmp directory l)) (sym is) (below_all-behind directory es);
-      sorted = subst (λ l. T (is_sorted path_cmp l)) (sym is) (is_sorted-where_key path_cmp (range_contains path_cmp (Excluded directory) Unbounded) es sorted);
-    }
-
-module _ (directory : Path) (all so_far : List Entry) (es : Nodes) (listed : IsListed directory all so_far es) where
-  pub all_listed : es ≡ [] → so_far ≡ all
-  all_listed none = sym (append-nil so_far) ∙ ap (λ l. so_far ++ entries_among directory l) (sym none) ∙ listed.whole
-
-  module _ (path : Path) (node : Node) (more : Nodes) (next : es ≡ (path, node) ∷ more) where
-    behind_next : T (is_lt (path_cmp directory path) && below_all path_cmp directory more)
-    behind_next = subst (λ l. T (below_all path_cmp directory l)) next listed.behind_it
-
-    sorted_next : T (below_all path_cmp path more && is_sorted path_cmp more)
-    sorted_next = subst (λ l. T (is_sorted path_cmp l)) next listed.sorted
-
-    regrouped : (o : Option Entry) (xs : List Entry) → (so_far ++ cons_option o []) ++ xs ≡ so_far ++ cons_option o xs
-    regrouped o xs = append_assoc so_far (cons_option o []) xs ∙ ap (λ ys. so_far ++ ys) (alone o)
-      where
-        alone : (p : Option Entry) → cons_option p [] ++ xs ≡ cons_option p xs
-        alone None = refl
-        alone (Some entry) = refl
-
-    -- a node below the directory is passed
-    pub one_listed : (rest : Path) (now : List Entry) → directory ++ rest ≡ path → now ≡ so_far ++ filter_map (entry_in []) ((rest, node) ∷ []) → IsListed directory all now more
-    one_listed rest now below added =
-        let same : entry_in [] (rest, node) ≡ entry_in directory (path, node) = ap (option_map (entry_of node)) (sym (name_in-below directory rest) ∙ ap (name_in directory) below) in
-        record {
-          whole = ap (λ xs. xs ++ entries_among directory more) added ∙ regrouped (entry_in [] (rest, node)) (entries_among directory more)
-              ∙ ap (λ o. so_far ++ cons_option o (entries_among directory more)) same ∙ ap (λ l. so_far ++ entries_among directory l) (sym next) ∙ listed.whole;
-          behind_it = second _ _ behind_next;
-          sorted = second _ _ sorted_next;
-        }
-
-    module _ (other : starts_with same_name path directory ≡ false) where
-      no_entry_after : (at : Path × Node) → is_gt (path_cmp path at.0) ≡ false → entry_in directory at ≡ None
-      no_entry_after at after = no_entry directory at (λ name is.
-          false≢true (sym other ∙ begins_between directory path (name ∷ []) (less _ (first _ _ behind_next)) (ap (λ q. is_gt (path_cmp path q)) (sym is) ∙ after)))
-
-      none_after : (later : Nodes) → T (below_all path_cmp path later) → entries_among directory later ≡ []
-      none_after [] below = refl
-      none_after (e ∷ later) below = ap (λ o. cons_option o (entries_among directory later)) (no_entry_after e (not_greater _ (first _ _ below))) ∙ none_after later (second _ _ below)
-
-      -- what doesn't begin with the directory ends the listing
-      pub listed_before : so_far ≡ all
-      listed_before =
-          let here : entry_in directory (path, node) ≡ None = no_entry_after (path, node) (ap is_gt (tied_itself path_order path)) in
-          let none : entries_among directory es ≡ [] = ap (entries_among directory) next ∙ ap (λ o. cons_option o (entries_among directory more)) here ∙ none_after more (first _ _ sorted_next) in
-          sym (append-nil so_far) ∙ ap (λ xs. so_far ++ xs) (sym none) ∙ listed.whole
 
 -- ---- what opening a directory answers
 

@@ -8,6 +8,7 @@ mod NamesLemmas
 mod EntriesLemmas
 mod LastNodeLemmas
 mod TreeMovesLemmas
+mod ListingLemmas
 pub mod WriteLaws
 mod WayLemmas
 pub mod WayLaws

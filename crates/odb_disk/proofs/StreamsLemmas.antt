@@ -1,7 +1,8 @@
 -- Laws of open streams: a map of the code as a finite map.
-use Rattle.std.proofs.Common.{◌≡◌, ℕ, ◌+◌, true, false, List, [], ◌∷◌, map, length, Option, Some, None, Ok, Err, IfSome, is_some, cond, refl, sym, ap, ◌∙◌, subst, add-one}
+use Rattle.std.proofs.Common.{◌≡◌, ℕ, ◌+◌, ◌<◌, ◌≤◌, Bool, true, false, not, nat_eq, ne_eqb, eqb-true, List, [], ◌∷◌, map, length, Option, Some, None, Ok, Err, IfSome, is_some, cond, refl, sym, ap, ◌∙◌, subst, add-one, arith}
+use borrow.Author.Count.{below_more}
 use Rattle.std.specs.Option.{IfNone, option_or}
-use Rattle.std.specs.List.{AllByRecursion}
+use Rattle.std.specs.List.{AllByRecursion, filter}
 use Rattle.std.specs.List.Sorted.{IsStrictlySortedBy}
 use Rattle.std.specs.FinMap as finite
 use Rattle.std.specs.FinMap.{find, get-from_entries, get-insert, get-remove, len-empty, len-insert, same_map, nat_cmp-IsAntisymmetric}
@@ -11,8 +12,11 @@ use Rattle.std.specs.declared.cmp.Ordering.TheVariants.{Less, Equal, Greater}
 use Rattle.std.specs.Cmp.{eq_by_cmp_equiv, nat_cmp_total}
 use Rattle.std.specs.Map.{lookup}
 use Rattle.std.specs.BTreeMap.{is_at}
+use Rattle.std.proofs.lemmas.Map.Views.{any-filter_same}
 use Rattle.odb_base.specs.Path.{is_name}
-use Rattle.odb_disk.specs.Streams.{Gives, IsAtEnd, IsClosed, IsLeastClosed, GivesFirst, TakesNext, lists_only, Streams}
+use Rattle.odb_disk.specs.HostDisk.{owes_failure, OthersOwe}
+use Rattle.odb_disk.specs.StreamNumbers.{AreOpenBelow}
+use Rattle.odb_disk.specs.Streams.{Gives, IsAtEnd, IsClosed, IsLeastClosed, GivesFirst, TakesNext, lists_only, still_gives, with_opened, Streams}
 use Rattle.odb_disk.specs.declared.disk.Entry.{Entry}
 use Rattle.odb_disk.specs.declared.disk.DiskError.TheVariants as errors
 
@@ -47,6 +51,18 @@ TakesNext-peak es fs peak dir None is = record { closed = is.closed; same = ap (
 TakesNext-peak es fs peak dir (Some None) is = record { ended = is.ended; same = ap (λ (s : Streams). record s { peak = peak }) is.same }
 TakesNext-peak es fs peak dir (Some (Some entry)) is =
     record { rest = is.rest; first = is.first; left = ap (λ (s : Streams). record s { peak = peak }) is.left; named = is.named }
+
+-- ---- streams that owe a failure
+
+-- a stream that is forgotten owes none
+pub forgets : (owing left : List ℕ) (dir : ℕ) → left ≡ filter (λ n. not (nat_eq n dir)) owing → owes_failure left dir ≡ false
+forgets owing left dir kept = ap (λ xs. owes_failure xs dir) kept ∙ any-filter_same (λ n. nat_eq n dir) (λ n. not (nat_eq n dir)) false (λ n is. ap not is) owing
+
+-- and the others owe what they did
+pub others_owe : (owing left : List ℕ) (dir : ℕ) → left ≡ filter (λ n. not (nat_eq n dir)) owing → OthersOwe dir owing left
+others_owe owing left dir kept = λ number other.
+    ap (λ xs. owes_failure xs number) kept
+    ∙ any-filter_same (λ n. nat_eq n number) (λ n. not (nat_eq n dir)) true (λ n is. ap not (ne_eqb n dir (λ same. other (sym (eqb-true n number is) ∙ same)))) owing
 
 -- ---- an entry that is taken
 
@@ -90,6 +106,11 @@ module _ (seen old new : Streams) (dir : ℕ) (same : seen ≡ old) where
 
   pub gives_absent : TakesNext seen new dir None → Gives old new dir (Err errors.Absent)
   gives_absent is = subst (λ s. IsClosed s new dir) same is
+
+-- a stream that was just opened gives what it was opened with
+pub gives_opened : (streams : Streams) (dir : ℕ) (entries : List Entry) → still_gives (with_opened streams dir entries) dir ≡ Some entries
+gives_opened streams dir entries =
+    get-insert nat_cmp_total streams.open_dirs dir entries dir ∙ ap (λ b. cond b (Some entries) (finite.get streams.open_dirs dir)) ((eq_by_cmp_equiv nat_cmp_total).refl dir)
 
 -- no stream has a number that is free
 pub free_number : (m : finite.FinMap nat_cmp (List Entry)) (dir : ℕ) → IsLeastClosed m dir → finite.get m dir ≡ None
@@ -141,3 +162,43 @@ all_copied a t rest none so_far =
     or_none : (o : Option (List Entry)) → option_or o None ≡ o
     or_none None = refl
     or_none (Some entries) = refl
+
+-- ---- numbers below which each is that of an open stream
+
+pub none_below : (m : finite.FinMap nat_cmp (List Entry)) → AreOpenBelow m 0
+none_below m = record { each = λ n h. absurd (omega arith) }
+
+still_some : (b : Bool) (v : List Entry) (o : Option (List Entry)) → is_some o ≡ true → is_some (cond b (Some v) o) ≡ true
+still_some true v o some = refl
+still_some false v o some = some
+
+open_put : (m : finite.FinMap nat_cmp (List Entry)) (k : ℕ) (v : List Entry) (bound : ℕ) → AreOpenBelow m bound → AreOpenBelow (finite.insert m k v) bound
+open_put m k v bound open_below = record { each = λ n h. ap is_some (get-insert nat_cmp_total m k v n) ∙ still_some (eq_by_cmp nat_cmp n k) v (finite.get m n) (open_below.each n h) }
+
+-- the least number that no stream has, once it has one
+pub open_more : (m : finite.FinMap nat_cmp (List Entry)) (k : ℕ) (v : List Entry) → IsLeastClosed m k → AreOpenBelow (finite.insert m k v) (k + 1)
+open_more m k v closed =
+    let below : AreOpenBelow (finite.insert m k v) k = open_put m k v k (record { each = closed.least }) in
+    let own : finite.contains_key (finite.insert m k v) k ≡ true =
+    ap is_some (get-insert nat_cmp_total m k v k) ∙ ap (λ b. is_some (cond b (Some v) (finite.get m k))) ((eq_by_cmp_equiv nat_cmp_total).refl k) in
+    record { each = below_more (λ n. finite.contains_key (finite.insert m k v) n ≡ true) k below.each own }
+
+apart_below : (n k : ℕ) → n < k → eq_by_cmp nat_cmp n k ≡ false
+apart_below n k lt = elim (eq_by_cmp nat_cmp n k) as (λ b. eq_by_cmp nat_cmp n k ≡ b → b ≡ false) [
+  | true ↦ λ tied. let same = same_number n k tied in absurd (omega arith)
+  | false ↦ λ _. refl
+] refl
+
+-- a stream that is closed, up to its number
+pub open_less : (m : finite.FinMap nat_cmp (List Entry)) (k bound low : ℕ) → low ≤ bound → low ≤ k → AreOpenBelow m bound → AreOpenBelow (finite.remove m k) low
+open_less m k bound low under under_k open_below = record {
+  each = λ n h.
+      ap is_some (get-remove nat_cmp_total m k n) ∙ ap (λ b. is_some (cond b None (finite.get m n))) (apart_below n k (omega arith)) ∙ open_below.each n (omega arith);
+}
+
+-- what is taken from a stream closes none
+pub open_taken : (es fs : Lists) (n bound : ℕ) (r : Option (Option Entry)) → TakesNext (lists_only es) (lists_only fs) n r → AreOpenBelow (finite.from_entries es) bound → AreOpenBelow (finite.from_entries fs) bound
+open_taken es fs n bound None is open_below = subst (λ (s : Streams). AreOpenBelow s.open_dirs bound) (sym is.same) open_below
+open_taken es fs n bound (Some None) is open_below = subst (λ (s : Streams). AreOpenBelow s.open_dirs bound) (sym is.same) open_below
+open_taken es fs n bound (Some (Some entry)) is open_below =
+    subst (λ (s : Streams). AreOpenBelow s.open_dirs bound) (sym is.left) (open_put (finite.from_entries es) n is.rest bound open_below)

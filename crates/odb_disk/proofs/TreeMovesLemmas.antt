@@ -22,7 +22,7 @@ use Rattle.odb_disk.proofs.NamesLemmas.{begins_between}
 
 -- ---- paths in order
 
-before_rest : (directory : Path) (name : Name) (names : Path) → path_cmp directory (directory ++ name ∷ names) ≡ Less
+pub before_rest : (directory : Path) (name : Name) (names : Path) → path_cmp directory (directory ++ name ∷ names) ≡ Less
 before_rest [] name names = refl
 before_rest (step ∷ steps) name names = ap (λ o. ordering_then o (path_cmp steps (steps ++ name ∷ names))) (tied_itself nat_list_cmp_total step) ∙ before_rest steps name names
 
@@ -36,7 +36,7 @@ before_all (b ∷ bs) rest (x ∷ xs) less =
     let deeper : path_cmp (bs ++ rest) xs ≡ Less → path_cmp bs xs ≡ Less = before_all bs rest xs in
     elim (name_cmp b x) as (λ o. ordering_then o (path_cmp (bs ++ rest) xs) ≡ Less → ordering_then o (path_cmp bs xs) ≡ Less) [ Less ↦ λ _. refl | Equal ↦ λ e. deeper e | Greater ↦ λ e. absurd (cc) ] less
 
-under_before : (base last p : Path) → begins last base ≡ true → path_cmp last p ≡ Less → path_cmp base p ≡ Less
+pub under_before : (base last p : Path) → begins last base ≡ true → path_cmp last p ≡ Less → path_cmp base p ≡ Less
 under_before base last p under behind = before_all base (drop (length base) last) p (ap (λ q. path_cmp q p) (sym (goes_beyond last base under)) ∙ behind)
 
 order_cases : (p q : Path) → is_gt (path_cmp p q) ≡ false → (path_cmp p q ≡ Less) ⊎ (p ≡ q)

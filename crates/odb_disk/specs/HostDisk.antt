@@ -1,6 +1,6 @@
 -- What a real disk makes of the system's answers.
-use Rattle.std.specs.Prelude.{◌≡◌, ℕ, ◌+◌, ◌-◌, ◌*◌, ◌^◌, ◌==◌, ◌++◌, ◌||◌, Bool, true, false, not, min, ℤ, pos, [], Option, Some, None, Result, Ok, Err, if◌then◌else◌}
-use Rattle.std.specs.List.{cons_option}
+use Rattle.std.specs.Prelude.{◌≡◌, ◌≢◌, ℕ, ◌+◌, ◌-◌, ◌*◌, ◌^◌, ◌==◌, ◌++◌, ◌||◌, Bool, true, false, not, nat_eq, List, min, ℤ, pos, [], Option, Some, None, Result, Ok, Err, if◌then◌else◌}
+use Rattle.std.specs.List.{cons_option, list_any}
 use Rattle.std.specs.declared.io.ErrorKind.{ErrorKind}
 use Rattle.std.specs.declared.io.ErrorKind.TheVariants.{NotFound, NotADirectory, IsADirectory, FilesystemLoop, AlreadyExists, DirectoryNotEmpty}
 use Rattle.std.specs.declared.fs.FileType.{FileType}
@@ -49,6 +49,14 @@ is_odd name (Err errors.Exists) = true
 is_odd name (Err errors.NotEmpty) = true
 is_odd name (Err errors.Failed) = true
 is_odd name (Err errors.NoMemory) = true
+
+-- whether a stream is among those that passed something over, until a call failed for it
+abbrev pub owes_failure : List ℕ → ℕ → Bool
+owes_failure odd dir = list_any (λ number. nat_eq number dir) odd
+
+-- each other stream owes a failure where it did before
+abbrev pub OthersOwe : ℕ → List ℕ → List ℕ → Type 0
+OthersOwe dir old new = (number : ℕ) → number ≢ dir → owes_failure new number ≡ owes_failure old number
 
 -- A name was read in a directory: a look at it told something, and by that its entry is added, or it is passed over.
 pub record Finds (name : Name) (old new : Listing) : Type 0 where

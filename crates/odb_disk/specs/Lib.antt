@@ -3,6 +3,7 @@ pub mod Node
 pub mod Tree
 pub mod Disk
 pub mod Streams
+pub mod StreamNumbers
 pub mod MemDisk
 pub mod Ask
 pub mod Source
@@ -13,3 +14,4 @@ pub mod OwnFile
 pub mod TreeNumbers
 pub mod TreeCalls
 pub mod TreeMoves
+pub mod Listing

@@ -1,7 +1,8 @@
 //! The open streams of a disk, by their numbers.
-ghost use Rattle.std.specs.Prelude.{◌≡◌, ◌<◌, ◌^◌, ◌∷◌, ◌++◌, [], true, length, IfOk, OnOk, OnErr, IfSome, IfNone};
+ghost use Rattle.std.specs.Prelude.{◌≡◌, ◌+◌, ◌<◌, ◌^◌, ◌∷◌, ◌++◌, [], true, length, IfOk, OnOk, OnErr, IfSome, IfNone};
 ghost use Rattle.std.specs.FinMap as maps;
 ghost use Rattle.odb_base.specs.Path.{is_name};
+ghost use Rattle.odb_disk.specs.StreamNumbers.{AreOpenBelow};
 ghost use Rattle.odb_disk.specs.Streams.{IsLeastClosed, TakesNext, lists_only, no_streams, with_opened, with_closed};
 
 use crate::NoMemory;
@@ -17,7 +18,7 @@ pub(crate) struct EntryQueue {
 }
 
 impl Model for EntryQueue {
-    ghost use Rattle.std.specs.Prelude.{List};
+    ghost use Rattle.std.specs.Prelude.{List, length, ◌<◌, ◌^◌};
     ghost use Rattle.std.specs.Coded.{coded_list};
     ghost use Rattle.odb_disk.specs.Streams.{coded_entry};
     ghost use Rattle.odb_disk.specs.declared.disk.Entry.{Entry as EntryValue};
@@ -30,7 +31,7 @@ impl Model for EntryQueue {
 
     ghost use Rattle.odb_disk.specs.Streams.{AreNamed};
 
-    ghost invariant = { λ queue. AreNamed queue.entries.items };
+    ghost invariant = { λ queue. AreNamed queue.entries.items × (length queue.entries.items < 2 ^ 64) };
 }
 
 impl EntryQueue {
@@ -87,6 +88,8 @@ impl EntryQueue {
 pub(crate) struct DirStreams {
     lists: BTreeMap<u64, EntryQueue>,
     peak: u64,
+    /// Each number below this one is that of an open stream.
+    open_below: u64,
 }
 
 impl Model for DirStreams {
@@ -98,6 +101,10 @@ impl Model for DirStreams {
     ghost coded = { coded_streams };
 
     ghost view = { λ s. record { open_dirs = finite.from_entries s.lists.entries; peak = s.peak } };
+
+    ghost use Rattle.odb_disk.specs.StreamNumbers.{AreOpenBelow};
+
+    ghost invariant = { λ s. AreOpenBelow (finite.from_entries s.lists.entries) s.open_below };
 }
 
 impl DirStreams {
@@ -108,6 +115,7 @@ impl DirStreams {
         DirStreams {
             lists: BTreeMap::new(alloc),
             peak: 0,
+            open_below: 0,
         }
     }
 
@@ -118,10 +126,9 @@ impl DirStreams {
         ensures few { OnOk result (length entries < 2 ^ 64) }
         ensures kept { OnErr result (self.new ≡ self.old) }
     {
-        let number = least_closed(&self.lists)?;
-        // The clause `few`: the length of a queue has 64 bits.
-        let _count = entries.len();
+        let number = least_closed(&self.lists, self.open_below)?;
         self.lists.insert(number, entries)?;
+        self.open_below = number + 1;
         self.peak = self.peak.max(self.lists.len() as u64);
         Ok(DirId::new(number))
     }
@@ -137,7 +144,9 @@ impl DirStreams {
     pub(crate) fn close(&mut self, dir: &DirId)
         ensures { self.new ≡ with_closed self.old dir.now }
     {
-        let _ = self.lists.remove(&dir.number());
+        let number = dir.number();
+        let _ = self.lists.remove(&number);
+        self.open_below = self.open_below.min(number);
     }
 
     /// A copy of the streams.
@@ -147,15 +156,19 @@ impl DirStreams {
         Ok(DirStreams {
             lists: copied(alloc, &self.lists)?,
             peak: self.peak,
+            open_below: self.open_below,
         })
     }
 }
 
-/// The least number that no open stream has. There is none where all numbers of 64 bits are taken.
-fn least_closed(lists: &BTreeMap<u64, EntryQueue>) -> Result<u64, NoMemory>
-    ensures { IfOk result (IsLeastClosed (maps.from_entries lists.now.entries)) }
+/// The least number that no open stream has, where each below `from` is that of one. There is none where all numbers
+/// of 64 bits are taken.
+fn least_closed(lists: &BTreeMap<u64, EntryQueue>, from: u64) -> Result<u64, NoMemory>
+    requires { AreOpenBelow (maps.from_entries lists.now.entries) from }
+    ensures least { IfOk result (IsLeastClosed (maps.from_entries lists.now.entries)) }
+    ensures small { IfOk result (λ number. number + 1 < 2 ^ 64) }
 {
-    for number in 0..u64::MAX {
+    for number in from..u64::MAX {
         if !lists.contains_key(&number) {
             return Ok(number);
         }

@@ -1,12 +1,12 @@
-ghost use Rattle.std.specs.Prelude.{◌≡◌, ◌≢◌, ◌≤◌, ◌||◌, ◌++◌, [], true, false, length, nat_eq, None, Some, Err, OnOk, OnErr, IfOk, IfErr};
+ghost use Rattle.std.specs.Prelude.{◌≡◌, ◌≢◌, ◌≤◌, ◌||◌, ◌++◌, [], true, false, length, None, Some, Err, IfSome, OnOk, OnErr, IfOk, IfErr};
 ghost use Rattle.std.specs.Result.{result_map_both};
-ghost use Rattle.std.specs.List.{cons_option, list_any};
+ghost use Rattle.std.specs.List.{cons_option};
 ghost use Rattle.std.specs.IoError.{error_kind};
 ghost use Rattle.std.specs.Fs.{dir_entry_name, file_type, metadata_len};
 ghost use Rattle.odb_base.specs.Path.{Path};
 ghost use Rattle.odb_disk.specs.Disk.{FailsOnlyByFault};
-ghost use Rattle.odb_disk.specs.HostDisk.{refusal_of, kind_of, time_of, found_entry, is_odd, Finds};
-ghost use Rattle.odb_disk.specs.Streams.{no_streams, Opens, Gives, with_closed};
+ghost use Rattle.odb_disk.specs.HostDisk.{refusal_of, kind_of, time_of, found_entry, is_odd, owes_failure, OthersOwe, Finds};
+ghost use Rattle.odb_disk.specs.Streams.{no_streams, still_gives, left, Opens, Gives, with_closed};
 
 use crate::dir_streams::{DirStreams, EntryQueue};
 use crate::{
@@ -75,8 +75,11 @@ impl<R: Files> HostDisk<R> {
     /// Opens a stream of what was read. A refused call changes nothing.
     fn open(&mut self, listing: Listing) -> Result<DirId, NoMemory>
         ensures opened { IfOk result (λ dir. (path : Path) → Opens None path self.old.streams self.new.streams dir) }
-        ensures odd { IfOk result (λ dir. listing.passed_over ≡ true → list_any (λ number. nat_eq number dir) self.new.odd.items ≡ true) }
+        ensures given { IfOk result (λ dir. still_gives self.new.streams dir ≡ Some listing.entries) }
+        ensures odd { IfOk result (λ dir. listing.passed_over ≡ true → owes_failure self.new.odd.items dir ≡ true) }
+        ensures others { IfOk result (λ dir. OthersOwe dir self.old.odd.items self.new.odd.items) }
         ensures refused { OnErr result (self.new.streams ≡ self.old.streams) }
+        ensures owed { OnErr result (self.new.odd.items ≡ self.old.odd.items) }
         ensures faults { self.new.faults ≡ self.old.faults }
     {
         self.odd.reserve(1)?;
@@ -92,15 +95,26 @@ impl<R: Files> HostDisk<R> {
     /// Fails once where a stream passed something over.
     fn passed_over(&mut self, dir: &DirId) -> Result<(), DiskError>
         ensures same { (self.new.streams ≡ self.old.streams) × (self.new.faults ≡ self.old.faults) }
-        ensures passed { OnOk result (list_any (λ number. nat_eq number dir.now) self.old.odd.items ≡ false) }
+        ensures passed { OnOk result (owes_failure self.old.odd.items dir.now ≡ false) }
+        ensures kept { OnOk result (self.new.odd ≡ self.old.odd) }
+        ensures others { OthersOwe dir.now self.old.odd.items self.new.odd.items }
         ensures failed { IfErr result (λ e. e ≡ DiskError.Failed) }
     {
         let number = dir.number();
         if !self.odd.contains(&number) {
             return Ok(());
         }
-        self.odd.retain(|odd| *odd != number);
+        self.forget(number);
         Err(DiskError::Failed)
+    }
+
+    /// Lets it go that a stream passed something over.
+    fn forget(&mut self, number: u64)
+        ensures same { (self.new.streams ≡ self.old.streams) × (self.new.faults ≡ self.old.faults) }
+        ensures forgotten { owes_failure self.new.odd.items number ≡ false }
+        ensures others { OthersOwe number self.old.odd.items self.new.odd.items }
+    {
+        self.odd.retain(|odd| *odd != number);
     }
 }
 
@@ -163,6 +177,7 @@ impl<R: Files + Alloc + Clone + Drop> Disk for HostDisk<R> {
 
     fn look(&mut self, alloc: Global, path: &PathText, follow: bool) -> Result<Meta, DiskError>
         ensures streams { self.new.streams ≡ self.old.streams }
+        ensures owed { self.new.odd ≡ self.old.odd }
         ensures cause { FailsOnlyByFault self.old.faults self.new.faults result }
         ensures bare { IfOk result (λ meta. meta.kind ≢ Kind.File → (meta.len ≡ 0) × (meta.time ≡ 0)) }
     {
@@ -173,6 +188,7 @@ impl<R: Files + Alloc + Clone + Drop> Disk for HostDisk<R> {
 
     fn read(&mut self, alloc: Global, path: &PathText) -> Result<(ByteList, u64), DiskError>
         ensures streams { self.new.streams ≡ self.old.streams }
+        ensures owed { self.new.odd ≡ self.old.odd }
         ensures cause { FailsOnlyByFault self.old.faults self.new.faults result }
         ensures short { IfOk result (λ file. length file.0 ≤ LONGEST_FILE) }
     {
@@ -183,7 +199,10 @@ impl<R: Files + Alloc + Clone + Drop> Disk for HostDisk<R> {
 
     fn open_dir(&mut self, alloc: Global, path: &PathText) -> Result<DirId, DiskError>
         ensures opened { IfOk result (λ dir. Opens None path.now self.old.streams self.new.streams dir) }
+        ensures few { IfOk result (λ dir. IfSome (left self.new.streams dir) (λ n. n ≤ MOST_ENTRIES)) }
+        ensures others { IfOk result (λ dir. OthersOwe dir self.old.odd.items self.new.odd.items) }
         ensures refused { OnErr result (self.new.streams ≡ self.old.streams) }
+        ensures owed { OnErr result (self.new.odd.items ≡ self.old.odd.items) }
         ensures cause { FailsOnlyByFault self.old.faults self.new.faults result }
     {
         let text = path.to_text(alloc)?;
@@ -194,6 +213,9 @@ impl<R: Files + Alloc + Clone + Drop> Disk for HostDisk<R> {
 
     fn next_entry(&mut self, _alloc: Global, dir: &DirId) -> Result<Option<Entry>, DiskError>
         ensures gives { Gives self.old.streams self.new.streams dir.now result }
+        ensures told { result ≡ Ok None → owes_failure self.old.odd.items dir.now ≡ false }
+        ensures kept { OnOk result (self.new.odd ≡ self.old.odd) }
+        ensures others { OthersOwe dir.now self.old.odd.items self.new.odd.items }
         ensures cause { FailsOnlyByFault self.old.faults self.new.faults result }
     {
         match self.streams.next(dir) {
@@ -209,14 +231,17 @@ impl<R: Files + Alloc + Clone + Drop> Disk for HostDisk<R> {
 
     fn close_dir(&mut self, dir: DirId)
         ensures closed { self.new.streams ≡ with_closed self.old.streams dir }
+        ensures forgotten { owes_failure self.new.odd.items dir ≡ false }
+        ensures others { OthersOwe dir self.old.odd.items self.new.odd.items }
         ensures faults { self.new.faults ≡ self.old.faults }
     {
-        let _ = self.passed_over(&dir);
+        self.forget(dir.number());
         self.streams.close(&dir);
     }
 
     fn make_dir(&mut self, alloc: Global, path: &PathText) -> Result<(), DiskError>
         ensures streams { self.new.streams ≡ self.old.streams }
+        ensures owed { self.new.odd ≡ self.old.odd }
         ensures cause { FailsOnlyByFault self.old.faults self.new.faults result }
     {
         let text = path.to_text(alloc)?;
@@ -226,6 +251,7 @@ impl<R: Files + Alloc + Clone + Drop> Disk for HostDisk<R> {
 
     fn new_file(&mut self, alloc: Global, path: &PathText) -> Result<(), DiskError>
         ensures streams { self.new.streams ≡ self.old.streams }
+        ensures owed { self.new.odd ≡ self.old.odd }
         ensures cause { FailsOnlyByFault self.old.faults self.new.faults result }
     {
         let text = path.to_text(alloc)?;
@@ -235,6 +261,7 @@ impl<R: Files + Alloc + Clone + Drop> Disk for HostDisk<R> {
 
     fn append(&mut self, alloc: Global, path: &PathText, bytes: &[u8]) -> Result<(), DiskError>
         ensures streams { self.new.streams ≡ self.old.streams }
+        ensures owed { self.new.odd ≡ self.old.odd }
         ensures cause { FailsOnlyByFault self.old.faults self.new.faults result }
     {
         let text = path.to_text(alloc)?;
@@ -244,6 +271,7 @@ impl<R: Files + Alloc + Clone + Drop> Disk for HostDisk<R> {
 
     fn rename(&mut self, alloc: Global, from: &PathText, to: &PathText) -> Result<(), DiskError>
         ensures streams { self.new.streams ≡ self.old.streams }
+        ensures owed { self.new.odd ≡ self.old.odd }
         ensures cause { FailsOnlyByFault self.old.faults self.new.faults result }
     {
         let source = from.to_text(alloc)?;
@@ -254,6 +282,7 @@ impl<R: Files + Alloc + Clone + Drop> Disk for HostDisk<R> {
 
     fn remove(&mut self, alloc: Global, path: &PathText) -> Result<(), DiskError>
         ensures streams { self.new.streams ≡ self.old.streams }
+        ensures owed { self.new.odd ≡ self.old.odd }
         ensures cause { FailsOnlyByFault self.old.faults self.new.faults result }
     {
         let text = path.to_text(alloc)?;

@@ -1,6 +1,6 @@
 //! Moves of a directory with all below it: its nodes are copied to their new paths, and then taken from the old
 //! ones, so that a move that runs out of memory changes nothing.
-ghost use Rattle.std.specs.Prelude.{◌≡◌, ◌++◌, ℕ, true, false, map, length, drop, IfOk, OnOk, OnErr, IsSome, IfSome, None};
+ghost use Rattle.std.specs.Prelude.{◌≡◌, ◌++◌, ℕ, true, false, map, length, drop, IfOk, OnOk, OnErr, IsSome, IfSome, Some, None};
 ghost use Rattle.std.specs.Option.{IfNone};
 ghost use Rattle.std.specs.List.{starts_with};
 ghost use Rattle.odb_base.specs.Path.{Path, same_name};
@@ -58,7 +58,7 @@ fn paths_below(
     let mut last = from.try_clone(alloc)?;
     sources.push(from.try_clone(alloc)?)?;
     targets.push(moved_path(alloc, from, from, to)?)?;
-    while let Some(path) = next_below(nodes, from, &last) {
+    while let Some((path, _)) = next_below(nodes, from, &last) {
         targets.push(moved_path(alloc, path, from, to)?)?;
         sources.push(path.try_clone(alloc)?)?;
         last = path.try_clone(alloc)?;
@@ -66,22 +66,22 @@ fn paths_below(
     Ok((sources, targets))
 }
 
-/// The first path of a node behind another one, where it lies below a directory. The other is the directory's or
-/// lies below it.
-fn next_below<'a>(
+/// The first node behind a path, where it lies below a directory. The path is the directory's or lies below it.
+pub(crate) fn next_below<'a>(
     nodes: &'a BTreeMap<PathText, Node>,
     base: &PathText,
     last: &PathText,
-) -> Option<&'a PathText>
+) -> Option<(&'a PathText, &'a Node)>
     requires { starts_with same_name last.now base.now ≡ true }
-    ensures next { IfSome result (λ path. IsNextBelow (tree_of_entries nodes.now.entries) base.now last.now path.now) }
+    ensures next { IfSome result (λ next. IsNextBelow (tree_of_entries nodes.now.entries) base.now last.now next.0.now) }
+    ensures node { IfSome result (λ next. node_at (tree_of_entries nodes.now.entries) next.0.now ≡ Some next.1.now) }
     ensures none { IfNone result (NoneBehind (tree_of_entries nodes.now.entries) base.now last.now) }
 {
     match nodes
         .range((Bound::Excluded(last), Bound::Unbounded))
         .next()
     {
-        Some((path, _)) if path.starts_with(base) => Some(path),
+        Some((path, node)) if path.starts_with(base) => Some((path, node)),
         _ => None,
     }
 }

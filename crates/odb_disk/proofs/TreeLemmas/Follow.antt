@@ -1,9 +1,6 @@
 -- Laws of following a path: one pass along its names, and where the links lead.
-use Rattle.std.proofs.Common.{◌≡◌, ℕ, suc, ◌<◌, Bool, true, false, List, [], ◌∷◌, ◌++◌, length, get_or, drop, Option, Some, None, Result, Ok, Err, zero, ◌≢◌, refl, sym, ap, ◌∙◌, append_assoc, append-nil, length-take, arith, subst}
-use Rattle.std.specs.Option.{IfSome}
-use Rattle.std.proofs.lemmas.Bool.{false≢true}
-use Rattle.odb_base.specs.Path.{Name, Path, parent_of}
-use Rattle.odb_base.specs.PathLaws.{parent_of-some, parent_of-nothing}
+use Rattle.std.proofs.Common.{◌≡◌, ℕ, suc, ◌<◌, Bool, true, false, List, [], ◌∷◌, ◌++◌, length, get_or, drop, Option, Some, None, Result, Ok, Err, zero, ◌≢◌, refl, sym, ap, ◌∙◌, append_assoc, append-nil, arith, subst}
+use Rattle.odb_base.specs.Path.{Name, Path}
 use Rattle.odb_disk.specs.Tree.{Tree, IsTree, node_at, is_directory, is_directory_content}
 use Rattle.odb_disk.specs.Tree.Follow.{Pass, Reached, Onward, Missing, Blocked, pass, past, beyond, at_last, ending, Place, Refusal, Absent, WrongKind, LinkLoop, arrives, followed_within}
 use Rattle.odb_disk.specs.declared.node.Node.{Node}

@@ -1,5 +1,5 @@
 //! What no clause says of streams: that calls succeed, and the numbers that streams have.
-use super::words::{change_of, compare, cut, error_shown, halves, kind_word};
+use super::words::{answer_shown, ask_of, change_of, compare, cut, error_shown, halves, kind_word};
 use crate::{DirId, Disk, DiskError, Entry, MemDisk, PathText};
 use std::alloc::{AllocError, Global};
 use std::test::Fail;
@@ -12,6 +12,10 @@ fn told(alloc: Global, disk: &mut MemDisk, text: &str) -> Result<String, Fail> {
         "next" => next(alloc, disk, rest),
         "close" => close(alloc, disk, rest),
         "counts" => counts(alloc, disk),
+        "look" | "read" | "mkdir" | "new" | "append" | "rename" | "remove" => {
+            let ask = ask_of(alloc, verb, rest)?;
+            Ok(answer_shown(alloc, &ask.carry_out(alloc, disk))?)
+        }
         _ => {
             disk.change(alloc, &change_of(alloc, verb, rest)?)?;
             Ok("done".to_string(alloc)?)
@@ -98,15 +102,57 @@ const ROWS: &str = "\
     next 0|b Dir 3\n\
     counts|20 1";
 
+/// Makes the call or the change of each row, in turn, and compares what comes of it.
+fn check(alloc: Global, faults: &[u64], rows: &str) -> Result<(), Fail> {
+    let mut disk = MemDisk::with_faults(alloc, faults)?;
+    for row in rows.split('\n') {
+        let (text, want) = halves(row);
+        let found = told(alloc, &mut disk, text)?;
+        compare(text, found.as_str(), want)?;
+    }
+    Ok(())
+}
+
 // Catches a stream that sees later changes or forgets its order, an entry that is given twice or lost by a failed call,
 // a number that isn't the least free one, and a close that is counted.
 #[test]
 fn streams(rt: HostRuntime) -> Result<(), Fail> {
-    let mut disk = MemDisk::with_faults(rt.alloc(), &[14])?;
-    for row in ROWS.split('\n') {
-        let (text, want) = halves(row);
-        let found = told(rt.alloc(), &mut disk, text)?;
-        compare(text, found.as_str(), want)?;
-    }
-    Ok(())
+    check(rt.alloc(), &[14], ROWS)
+}
+
+const MADE_BY_CALLS: &str = "\
+    mkdir /d|done\n\
+    new /d/f|done\n\
+    append /d/f a|done\n\
+    rename /d/f /d/g|done\n\
+    open /d|0\n\
+    next 0|g File 3\n\
+    next 0|end\n\
+    remove /d|NotEmpty\n\
+    read /d/g|a 0\n\
+    remove /d/g|done\n\
+    remove /d|done\n\
+    next 0|end\n\
+    close 0|done\n\
+    open /d|Absent";
+
+// Catches a directory that a call made and that gives another name than the last, is removed with what lies in it, or
+// stays open in vain.
+#[test]
+fn made_by_calls(rt: HostRuntime) -> Result<(), Fail> {
+    check(rt.alloc(), &[], MADE_BY_CALLS)
+}
+
+const AT_A_FILE: &str = "\
+    put /a|done\n\
+    read /a|hi 7\n\
+    open /a|WrongKind\n\
+    look /a/b|WrongKind\n\
+    mkdir /a|Exists\n\
+    remove /x|Absent";
+
+// Catches a file that is taken for a directory.
+#[test]
+fn at_a_file(rt: HostRuntime) -> Result<(), Fail> {
+    check(rt.alloc(), &[], AT_A_FILE)
 }

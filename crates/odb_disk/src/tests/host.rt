@@ -63,7 +63,7 @@ fn length_shown(
 }
 
 /// Compares what each row sees in the folder that the test is in.
-fn check_seen(rt: &HostRuntime, rows: &str) -> Result<(), Fail> {
+pub(super) fn check_seen(rt: &HostRuntime, rows: &str) -> Result<(), Fail> {
     for row in rows.split('\n') {
         let (text, want) = halves(row);
         let found = seen(rt, text)?;

@@ -50,7 +50,7 @@ fn opened(rt: &HostRuntime, text: &str) -> Result<String, Fail> {
 }
 
 /// What a name in the folder that the test is in gives.
-fn opened_here(rt: &HostRuntime, name: &str, want: &str) -> Result<(), Fail> {
+pub(super) fn opened_here(rt: &HostRuntime, name: &str, want: &str) -> Result<(), Fail> {
     let folder = here(rt)?;
     let path = format!(in rt.alloc(); "{folder}{name}")?;
     let found = opened(rt, path.as_str())?;

@@ -18,6 +18,12 @@ returns-in-Some-clause-next c =
       least = λ q behind some. least q (behind, tt) (subst IsSome (node_at-entries es q) some);
     }
 
+pub returns-in-Some-clause-node : goal.returns-in-Some-clause-node
+returns-in-Some-clause-node c =
+    let range = c.range.ensures.in_range tt in
+    let first = rw c.in-Some.ensures.steps at range.1 in
+    node_at-entries c.args.nodes.now.entries _ ∙ first.1
+
 pub returns-in_default-clause-none : goal.returns-in_default-clause-none
 returns-in_default-clause-none c =
     let es = c.args.nodes.now.entries in

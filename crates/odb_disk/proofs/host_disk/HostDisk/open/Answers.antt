@@ -1,6 +1,7 @@
-use Rattle.std.proofs.Common.{◌≡◌, false, Option, Some, None, is_some, refl, arith}
+use Rattle.std.proofs.Common.{◌≡◌, ◌∙◌, ap, false, Option, Some, None, is_some, refl, arith}
 use Rattle.std.proofs.lemmas.Grind.{common_steps}
-use Rattle.odb_disk.specs.Streams.{with_opened}
+use Rattle.odb_disk.specs.Streams.{Streams, still_gives, with_opened}
+use Rattle.odb_disk.proofs.StreamsLemmas.{gives_opened}
 use Rattle.odb_disk.proofs.host_disk.HostDisk.open.Goals as goal
 
 -- a number that no open stream has gives nothing
@@ -18,3 +19,8 @@ returns-clause-opened g c = λ path.
       streams = streams;
       fixed = tt;
     }
+
+pub returns-clause-given : goal.returns-clause-given
+returns-clause-given g c =
+    let streams : c.if-listing.self.streams ≡ with_opened c.args.self.now.streams c.in_ok-dir.dir c.args.listing.entries = grind (arith, common_steps) in
+    ap (λ (s : Streams). still_gives s c.in_ok-dir.dir) streams ∙ gives_opened c.args.self.now.streams c.in_ok-dir.dir c.args.listing.entries

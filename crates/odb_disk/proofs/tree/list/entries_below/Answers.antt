@@ -1,22 +1,22 @@
-use Rattle.std.proofs.Common.{◌≡◌, ◌++◌, ◌∙◌}
-use Rattle.odb_disk.proofs.EntriesLemmas.{none_listed, all_listed, one_listed, listed_before}
+use Rattle.std.proofs.Common.{subst, IsSome}
+use Rattle.odb_disk.specs.Tree.{tree_of_entries}
+use Rattle.odb_disk.proofs.TreeLemmas.{node_at-entries}
+use Rattle.odb_disk.proofs.TreeMovesLemmas.{fewer_behind}
+use Rattle.odb_disk.proofs.ListingLemmas.{none_listed, passed_on, later_still}
 use Rattle.odb_disk.proofs.tree.list.entries_below.Goals as goal
 
-pub loop-path-init : goal.loop-path-init
-loop-path-init c =
-    none_listed c.args.directory.now c.args.nodes.now.entries _ _ c.range-path-items.ensures.ordered (c.into_iter-path-iterator.ensures.into_iter_gives ∙ c.range-path-items.ensures.between tt) c.new-entries.ensures
+pub loop-entries-init : goal.loop-entries-init
+loop-entries-init c = none_listed (tree_of_entries c.args.nodes.now.entries) c.args.directory.now c.new-entries.result c.new-entries.ensures
 
--- the path doesn't begin with the directory
-pub returns-in_default : goal.returns-in_default
-returns-in_default c =
-    listed_before c.args.directory.now _ c.loop-path.entries c.loop-path.path-iterator c.loop-path.invariant c.in-Some.path.now c.in-Some.node.now c.next.new.self c.in-Some.ensures.steps
-    (c.in_ok-rest.ensures.apart c.in_default.is)
+pub loop-entries-smaller : goal.loop-entries-smaller
+loop-entries-smaller c =
+    let es = c.args.nodes.now.entries in
+    let last = c.in_ok-last.last.now in
+    let went = rw c.in-Some.is at c.in_ok-path.ensures.went in
+    fewer_behind c.loop-entries.last.now last (later_still c.loop-entries.last.now c.in-Some.path.now last went.behind c.in_ok-last.ensures.below) es (subst IsSome (node_at-entries es last) c.in_ok-last.ensures.stands)
 
-pub loop-path-preserved : goal.loop-path-preserved
-loop-path-preserved c =
-    let below : c.args.directory.now ++ c.in-Some-2.rest ≡ c.in-Some.path.now = rw c.in-Some-2.is at c.in_ok-rest.ensures.below in
-    one_listed c.args.directory.now _ c.loop-path.entries c.loop-path.path-iterator c.loop-path.invariant c.in-Some.path.now c.in-Some.node.now c.next.new.self c.in-Some.ensures.steps
-    c.in-Some-2.rest c.add_entry.new.entries below c.in_ok-add_entry.ensures
-
-pub returns : goal.returns
-returns c = all_listed c.args.directory.now _ c.loop-path.entries c.loop-path.path-iterator c.loop-path.invariant c.in-None.ensures.steps.0
+pub loop-entries-preserved : goal.loop-entries-preserved
+loop-entries-preserved c =
+    let went = rw c.in-Some.is at c.in_ok-path.ensures.went in
+    passed_on (tree_of_entries c.args.nodes.now.entries) c.args.directory.now c.loop-entries.last.now c.loop-entries.entries c.loop-entries.invariant c.add_entries.new.entries c.in-Some.path.now
+    c.in_ok-last.last.now went c.in_ok-last.ensures.below
