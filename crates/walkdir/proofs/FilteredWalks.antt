@@ -1,5 +1,5 @@
 -- What a filtered walk on a disk leaves as it was, and what it passes, for the calls that walk.
-use Rattle.std.proofs.Common.{◌≡◌, ℕ, Bool, true, false, List, [], ◌∷◌, map, Option, Some, None, Result, Ok, refl, sym, ap, subst, ◌∙◌}
+use Rattle.std.proofs.Common.{◌≡◌, ℕ, Bool, true, false, List, [], ◌∷◌, map, Option, Some, None, Ok, refl, sym, ap, subst, ◌∙◌}
 use Rattle.std.specs.Fn.{Mut, CalledAt}
 use Rattle.std.specs.Iterator.{Yields}
 use Rattle.std.specs.List.{All}
@@ -8,11 +8,12 @@ use Rattle.std.proofs.lemmas.List.Elements.{All-cons, All-nil}
 use denote.Ref.{Bor}
 use Rattle.odb_disk.specs.Streams.{Streams}
 use Rattle.odb_disk.specs.Tree.{State}
-use Rattle.walkdir.proofs.WholeWalks.{NextOn, at_walk, begun_keeps}
+use Rattle.walkdir.proofs.WholeWalks.{begun_keeps}
 use Rattle.walkdir.specs.Filter.{Filters, Accepts, Ends, Errs, Rejects}
+use Rattle.walkdir.specs.OnDisk.{NextOn, SkipsOn, at_walk}
 use Rattle.walkdir.specs.Options.{Built}
 use Rattle.walkdir.specs.OwnStreams.{AreBack}
-use Rattle.walkdir.specs.Progress.{Keeps, Progress, Skips, begun}
+use Rattle.walkdir.specs.Progress.{Keeps, Progress, begun}
 use Rattle.walkdir.specs.Walk.{Item, Order}
 use Rattle.walkdir.specs.declared.builder.Options.{Options}
 use Rattle.walkdir.specs.declared.dent.DirEntry.{DirEntry}
@@ -20,11 +21,6 @@ use Rattle.walkdir.specs.declared.filter.FilterEntry.{FilterEntry}
 use Rattle.walkdir.specs.declared.iter.OnDisk.{OnDisk}
 
 module _ {D W : Type 0} (state : D → Option State) (streams : D → Streams) (faults : D → ℕ) (progress : W → Streams → Progress) where
-  -- what a skip leaves there
-  abbrev pub SkipsOn : OnDisk D W → OnDisk D W → Type 0
-  SkipsOn s t = Skips (at_walk state streams faults progress s) (at_walk state streams faults progress t) × (state t.disk.now ≡ state s.disk.now) × (faults t.disk.now ≡ faults s.disk.now)
-      × (t.disk.ghost_name ≡ s.disk.ghost_name)
-
   -- what stays as it was
   pub record Kept (s t : OnDisk D W) : Type 0 where
     pub tells : state t.disk.now ≡ state s.disk.now
@@ -46,7 +42,7 @@ module _ {D W : Type 0} (state : D → Option State) (streams : D → Streams) (
   kept_step : (s : OnDisk D W) (item : Option Item) (t : OnDisk D W) → NextOn state streams faults progress s item t → Kept s t
   kept_step s item t step = record { tells = step.3; disk = step.4; options = step.1.options; keeps = step.1.keeps }
 
-  kept_after : (entered : Bool) (s t : OnDisk D W) → MatchBool entered (SkipsOn s t) (t ≡ s) → Kept s t
+  kept_after : (entered : Bool) (s t : OnDisk D W) → MatchBool entered (SkipsOn state streams faults progress s t) (t ≡ s) → Kept s t
   kept_after true s t skip = record { tells = skip.1; disk = skip.3; options = skip.0.options; keeps = skip.0.keeps }
   kept_after false s t is = subst (Kept s) (sym is) (kept_first s)
 
@@ -60,7 +56,7 @@ module _ {D W : Type 0} (state : D → Option State) (streams : D → Streams) (
 
   -- what a filtered walk gives there
   abbrev pub FiltersOn : {F : Type 0} → Mut F (Bor DirEntry × Unit {0}) Bool → OnDisk D W → F → Option Item → OnDisk D W → F → Type 0
-  FiltersOn accepts s f item t h = Filters (NextOn state streams faults progress) SkipsOn (λ x. (at_walk state streams faults progress x).entered) accepts s f item t h
+  FiltersOn accepts s f item t h = Filters (NextOn state streams faults progress) (SkipsOn state streams faults progress) (λ x. (at_walk state streams faults progress x).entered) accepts s f item t h
 
   module _ {F : Type 0} {accepts : Mut F (Bor DirEntry × Unit {0}) Bool} where
     pub kept_filters : {s t : OnDisk D W} {f h : F} {item : Option Item} → FiltersOn accepts s f item t h → Kept s t
@@ -86,3 +82,9 @@ module _ {D W : Type 0} (state : D → Option State) (streams : D → Streams) (
     all_accepted Holds each (entry ∷ entries) s t along =
         let passed = accepted entry refl along.1 in
         All-cons Holds entry entries (each passed.0 passed.1 entry passed.2) (all_accepted Holds each entries along.0 t along.2)
+
+  -- the same after many items
+  pub kept_along : {F : Type 0} (accepts : Mut F (Bor DirEntry × Unit {0}) Bool) (s : FilterEntry (OnDisk D W) F) (items : List Item) (t : FilterEntry (OnDisk D W) F)
+      → Yields (λ from item to. FiltersOn accepts from.walk from.predicate item to.walk to.predicate) s items t → Kept s.walk t.walk
+  kept_along accepts s [] t is = subst (λ x. Kept s.walk x.walk) is (kept_first s.walk)
+  kept_along accepts s (item ∷ items) t along = kept_then s.walk along.0.walk t.walk (kept_filters along.1) (kept_along accepts along.0 items t along.2)

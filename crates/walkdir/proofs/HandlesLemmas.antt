@@ -413,7 +413,7 @@ has_device walk s options root device tree is_options is_root found same =
     let at = found (ap (λ (o : Options). o.same_file_system) (sym is_options) ∙ same) in
     (at.0, looked_root walk s root true (Ok at.0) tree is_root at.1)
 
-knows_device : (walk : Walking) (s : State) (options : Options) (root : Path) (device : ℕ) → walk.tree ≡ tree_of s → walk.options ≡ options → walk.root ≡ root
+pub knows_device : (walk : Walking) (s : State) (options : Options) (root : Path) (device : ℕ) → walk.tree ≡ tree_of s → walk.options ≡ options → walk.root ≡ root
     → FoundDevice (Some s) options root device → KnowsDevice walk device
 knows_device walk s options root device tree is_options is_root found same =
     let at = found (ap (λ (o : Options). o.same_file_system) (sym is_options) ∙ same) in

@@ -14,6 +14,7 @@ mod HeldLemmas
 mod OrderLemmas
 mod ContainsLemmas
 mod HandlesLemmas
+mod EnteredLemmas
 mod SortedLemmas
 mod WalkLaws
 mod StableLaws
@@ -26,5 +27,7 @@ pub mod WholeWalks
 pub mod SameWalks
 pub mod FilteredWalks
 pub mod SkipLaws
+mod FilteredWalkLemmas
+pub mod FilteredWalkLaws
 pub mod FilterLaws
 mod CausesLemmas

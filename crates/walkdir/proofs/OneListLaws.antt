@@ -6,19 +6,21 @@ use Rattle.std.specs.List.{filter_map}
 use Rattle.std.specs.Result.{result_ok}
 use Rattle.std.specs.declared.cmp.Ordering.{Ordering}
 use Rattle.odb_disk.specs.Streams.{opened}
+use Rattle.odb_disk.specs.Tree.{Tree}
 use Rattle.odb_disk.specs.Tree.Follow.{looked}
 use Rattle.odb_disk.specs.declared.disk.Entry.{Entry}
+use Rattle.walkdir.specs.BuiltWalk.{walking}
 use Rattle.walkdir.specs.Error.{io_error}
 use Rattle.walkdir.specs.Failures.{failures_among}
-use Rattle.walkdir.specs.Walk.{Ancestor, AreChildren, ChildrenOf, ContentsOf, IsStreamed, Item, WalkOf, Walking, WalksOf, around, child_of, comes_after, error_in, shown, Alone, Broken, Child, Closed, Deepest, Ended, Entered, Failed, Lost, Next, NoDevice, NoRoot, Nothing, Opened, Root, Unopened, Wrong}
-use Rattle.walkdir.specs.Options.{is_given}
-use Rattle.walkdir.specs.WalkLaws.{GivesOneList, IsSameForAnyMost}
+use Rattle.walkdir.specs.Walk.{Ancestor, AreChildren, ChildrenOf, ContentsOf, IsStreamed, Item, Order, WalkOf, Walking, WalksOf, around, child_of, comes_after, error_in, shown, Alone, Broken, Child, Closed, Deepest, Ended, Entered, Failed, Lost, Next, NoDevice, NoRoot, Nothing, Opened, Root, Unopened, Wrong}
+use Rattle.walkdir.specs.Options.{Built, is_given}
+use Rattle.walkdir.specs.WalkLaws.{GiveOneList, GivesOneList, IsSameForAnyMost, with_most}
 use Rattle.walkdir.specs.declared.builder.Options.{Options}
 use Rattle.walkdir.specs.declared.dent.DirEntry.{DirEntry}
 use Rattle.walkdir.proofs.FailuresLemmas.{failures-append}
 use Rattle.walkdir.proofs.SortedLemmas.{ordered_failures}
 use Rattle.walkdir.proofs.StableLaws.{stable_once}
-use Rattle.walkdir.proofs.WalkLaws.{same_for_any_most}
+use Rattle.walkdir.proofs.WalkLaws.{same_for_any_most, same_with_most}
 use Rattle.walkdir.proofs.WalkCases.{front_sound, rest_sound, refused_as, as_wrong, as_closed, as_alone, as_entered, as_deepest, as_unopened, as_opened, as_nothing, as_lost, as_child, as_no_device, as_no_root, as_root}
 
 -- ---- lists without failures
@@ -122,3 +124,9 @@ gives_one_list walk total items others (Root meta device told walked) second sou
 -- without failures a walk gives one list, however many directories may be open
 pub walk_is_one : (walk : Walking) → IsSameForAnyMost walk
 walk_is_one walk = same_for_any_most walk (gives_one_list walk)
+
+-- the same for a walk that is built with another number
+pub one_with_most : {S : Type 0} (order : S → Order) (tree : Tree) (built : Built S) (most : ℕ)
+    → GiveOneList (walking order tree built) (walking order tree (record built { options = record built.options { max_open = most } }))
+unfolding with_most
+one_with_most order tree built most = same_with_most (walking order tree built) most (gives_one_list (walking order tree built))

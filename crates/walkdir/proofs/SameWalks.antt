@@ -11,7 +11,8 @@ use Rattle.odb_disk.specs.Streams.{Streams}
 use Rattle.odb_disk.specs.Tree.{State, Tree, tree_of}
 use Rattle.walkdir.proofs.OneListLaws.{walk_is_one}
 use Rattle.walkdir.proofs.WalkLaws.{same_walk}
-use Rattle.walkdir.proofs.WholeWalks.{NextOn, NoneLost, at_walk, failures_on_disk, none_without_fault, whole_on_disk}
+use Rattle.walkdir.specs.OnDisk.{NextOn, at_walk}
+use Rattle.walkdir.proofs.WholeWalks.{NoneLost, failures_on_disk, none_without_fault, whole_on_disk}
 use Rattle.walkdir.specs.BuiltWalk.{walking}
 use Rattle.walkdir.specs.Failures.{failures_among}
 use Rattle.walkdir.specs.Options.{Built}

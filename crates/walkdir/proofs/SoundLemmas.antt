@@ -53,13 +53,15 @@ unfolding are_at
 of_all_at depth [] all = refl
 of_all_at depth (item ∷ items) all = joined (is_at depth item) (are_at depth items) (of_at depth item all.0) (of_all_at depth items all.1)
 
-after_of : (depth : ℕ) (after : Option DirEntry) → is_after depth after ≡ true → IfSome after (λ entry. entry.depth ≡ depth)
-after_of depth None is = tt
-after_of depth (Some entry) is = eq_true entry.depth depth is
+after_of : (options : Options) (depth : ℕ) (after : Option DirEntry) → is_after options depth after ≡ true
+    → IfSome after (λ entry. (entry.depth ≡ depth) × (options.contents_first ≡ true))
+after_of options depth None is = tt
+after_of options depth (Some entry) is = let parts = both (entry.depth == depth) options.contents_first is in (eq_true entry.depth depth parts.0, parts.1)
 
-of_after : (depth : ℕ) (after : Option DirEntry) → IfSome after (λ entry. entry.depth ≡ depth) → is_after depth after ≡ true
-of_after depth None is = refl
-of_after depth (Some entry) is = true_eq entry.depth depth is
+of_after : (options : Options) (depth : ℕ) (after : Option DirEntry) → IfSome after (λ entry. (entry.depth ≡ depth) × (options.contents_first ≡ true))
+    → is_after options depth after ≡ true
+of_after options depth None is = refl
+of_after options depth (Some entry) is = joined (entry.depth == depth) options.contents_first (true_eq entry.depth depth is.0) is.1
 
 no_stream : (o : Option ℕ) → not (is_some o) ≡ true → o ≡ None
 no_stream None is = refl
@@ -86,31 +88,31 @@ of_deepest most depth items deepest = elim (nat_lt depth most) as (λ b. nat_lt 
   | false ↦ λ deep. of_nothing items (deepest (false_lt depth most deep))
 ] refl
 
-all_fits_of : (most : ℕ) (stack : List DirList) → all_fit most stack ≡ true → Fits most stack
+all_fits_of : (options : Options) (stack : List DirList) → all_fit options stack ≡ true → Fits options stack
 unfolding all_fit Fits
-all_fits_of most [] is = tt
-all_fits_of most (list ∷ outer) is =
-    let parts = both (fits_at most (length outer) list) (all_fit most outer) is in
-    let after = both (is_after (length outer) list.after) (are_at (length outer + 1) (held list.items) && (nat_lt (length outer) most || has_nothing list.items)) parts.0 in
-    let children = both (are_at (length outer + 1) (held list.items)) (nat_lt (length outer) most || has_nothing list.items) after.1 in (
+all_fits_of options [] is = tt
+all_fits_of options (list ∷ outer) is =
+    let parts = both (fits_at options (length outer) list) (all_fit options outer) is in
+    let after = both (is_after options (length outer) list.after) (are_at (length outer + 1) (held list.items) && (nat_lt (length outer) options.max_depth || has_nothing list.items)) parts.0 in
+    let children = both (are_at (length outer + 1) (held list.items)) (nat_lt (length outer) options.max_depth || has_nothing list.items) after.1 in (
       record {
-        after = after_of (length outer) list.after after.0;
+        after = after_of options (length outer) list.after after.0;
         children = all_at_of (length outer + 1) (held list.items) children.0;
-        deepest = deepest_of most (length outer) list.items children.1;
+        deepest = deepest_of options.max_depth (length outer) list.items children.1;
       },
-      all_fits_of most outer parts.1,
+      all_fits_of options outer parts.1,
     )
 
-of_all_fits : (most : ℕ) (stack : List DirList) → Fits most stack → all_fit most stack ≡ true
+of_all_fits : (options : Options) (stack : List DirList) → Fits options stack → all_fit options stack ≡ true
 unfolding all_fit Fits
-of_all_fits most [] fits = refl
-of_all_fits most (list ∷ outer) fits =
-    joined (fits_at most (length outer) list) (all_fit most outer)
-    (joined (is_after (length outer) list.after) (are_at (length outer + 1) (held list.items) && (nat_lt (length outer) most || has_nothing list.items))
-    (of_after (length outer) list.after fits.0.after)
-    (joined (are_at (length outer + 1) (held list.items)) (nat_lt (length outer) most || has_nothing list.items)
-    (of_all_at (length outer + 1) (held list.items) fits.0.children) (of_deepest most (length outer) list.items fits.0.deepest)))
-    (of_all_fits most outer fits.1)
+of_all_fits options [] fits = refl
+of_all_fits options (list ∷ outer) fits =
+    joined (fits_at options (length outer) list) (all_fit options outer)
+    (joined (is_after options (length outer) list.after) (are_at (length outer + 1) (held list.items) && (nat_lt (length outer) options.max_depth || has_nothing list.items))
+    (of_after options (length outer) list.after fits.0.after)
+    (joined (are_at (length outer + 1) (held list.items)) (nat_lt (length outer) options.max_depth || has_nothing list.items)
+    (of_all_at (length outer + 1) (held list.items) fits.0.children) (of_deepest options.max_depth (length outer) list.items fits.0.deepest)))
+    (of_all_fits options outer fits.1)
 
 -- ---- a stack
 
@@ -126,24 +128,24 @@ pub sound_of : (options : Options) (start : Option Path) (lists : List DirList) 
     → is_sound options start lists first_open ≡ true → IsSound options start lists first_open
 unfolding is_sound
 sound_of options start lists first_open some in_range few is =
-    let parts = both (not (is_some start) || (length lists == 0)) ((length (own_streams (take first_open lists)) == 0) && all_fit options.max_depth (reverse lists)) is in
-    let more = both (length (own_streams (take first_open lists)) == 0) (all_fit options.max_depth (reverse lists)) parts.1 in
+    let parts = both (not (is_some start) || (length lists == 0)) ((length (own_streams (take first_open lists)) == 0) && all_fit options (reverse lists)) is in
+    let more = both (length (own_streams (take first_open lists)) == 0) (all_fit options (reverse lists)) parts.1 in
     record {
       begun = begun_of start lists parts.0;
       some_open = some;
       in_range = in_range;
       few = few;
       closed = no_items (own_streams (take first_open lists)) (eq_true (length (own_streams (take first_open lists))) 0 more.0);
-      fits = all_fits_of options.max_depth (reverse lists) more.1;
+      fits = all_fits_of options (reverse lists) more.1;
     }
 
 pub is_sound_of : (options : Options) (start : Option Path) (lists : List DirList) (first_open : ℕ) → IsSound options start lists first_open → is_sound options start lists first_open ≡ true
 unfolding is_sound
 is_sound_of options start lists first_open sound =
-    joined (not (is_some start) || (length lists == 0)) ((length (own_streams (take first_open lists)) == 0) && all_fit options.max_depth (reverse lists)) (of_begun start lists sound.begun)
-    (joined (length (own_streams (take first_open lists)) == 0) (all_fit options.max_depth (reverse lists))
+    joined (not (is_some start) || (length lists == 0)) ((length (own_streams (take first_open lists)) == 0) && all_fit options (reverse lists)) (of_begun start lists sound.begun)
+    (joined (length (own_streams (take first_open lists)) == 0) (all_fit options (reverse lists))
     (true_eq (length (own_streams (take first_open lists))) 0 (empty_length (own_streams (take first_open lists)) sound.closed))
-    (of_all_fits options.max_depth (reverse lists) sound.fits))
+    (of_all_fits options (reverse lists) sound.fits))
 
 -- a walk that has begun
 pub is_sound_begun : (options : Options) (start begun : Option Path) (lists : List DirList) (first_open : ℕ) → begun ≡ None → 1 ≤ options.max_open → first_open ≤ length lists

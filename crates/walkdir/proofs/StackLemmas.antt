@@ -106,17 +106,17 @@ closed_less (suc count) (suc fewer) (first ∷ lists) more le within is =
 
 -- ---- depths
 
-pub fits_at : (most : ℕ) (inner : List DirList) (list : DirList) (outer : List DirList) → Fits most (inner ++ list ∷ outer) → FitsAt most (length outer) list
+pub fits_at : (options : Options) (inner : List DirList) (list : DirList) (outer : List DirList) → Fits options (inner ++ list ∷ outer) → FitsAt options (length outer) list
 unfolding Fits
-fits_at most [] list outer fits = fits.0
-fits_at most (first ∷ inner) list outer fits = fits_at most inner list outer fits.1
+fits_at options [] list outer fits = fits.0
+fits_at options (first ∷ inner) list outer fits = fits_at options inner list outer fits.1
 
-pub fits_put : (most : ℕ) (inner : List DirList) (list other : DirList) (outer : List DirList) → FitsAt most (length outer) other → Fits most (inner ++ list ∷ outer)
-    → Fits most (inner ++ other ∷ outer)
+pub fits_put : (options : Options) (inner : List DirList) (list other : DirList) (outer : List DirList) → FitsAt options (length outer) other → Fits options (inner ++ list ∷ outer)
+    → Fits options (inner ++ other ∷ outer)
 unfolding Fits
-fits_put most [] list other outer at fits = (at, fits.1)
-fits_put most (first ∷ inner) list other outer at fits =
-    (subst (λ depth. FitsAt most depth first) (length-append inner (list ∷ outer) ∙ sym (length-append inner (other ∷ outer))) fits.0, fits_put most inner list other outer at fits.1)
+fits_put options [] list other outer at fits = (at, fits.1)
+fits_put options (first ∷ inner) list other outer at fits =
+    (subst (λ depth. FitsAt options depth first) (length-append inner (list ∷ outer) ∙ sym (length-append inner (other ∷ outer))) fits.0, fits_put options inner list other outer at fits.1)
 
 -- ---- what always holds
 
@@ -136,10 +136,10 @@ sound_put options start old new first_open index items sound puts none children 
     let same : length new ≡ length old =
     ap length puts.is ∙ length-append puts.outer (other ∷ puts.inner) ∙ sym (length-append puts.outer (puts.list ∷ puts.inner)) ∙ sym (ap length puts.was) in
     let depth : length (reverse puts.outer) ≡ index = length-reverse puts.outer ∙ puts.at in
-    let fits : Fits options.max_depth (reverse puts.inner ++ puts.list ∷ reverse puts.outer) =
-    subst (Fits options.max_depth) (ap reverse puts.was ∙ reversed_at puts.outer puts.list puts.inner) sound.fits in
-    let was_at : FitsAt options.max_depth (length (reverse puts.outer)) puts.list = fits_at options.max_depth (reverse puts.inner) puts.list (reverse puts.outer) fits in
-    let at : FitsAt options.max_depth (length (reverse puts.outer)) other =
+    let fits : Fits options (reverse puts.inner ++ puts.list ∷ reverse puts.outer) =
+    subst (Fits options) (ap reverse puts.was ∙ reversed_at puts.outer puts.list puts.inner) sound.fits in
+    let was_at : FitsAt options (length (reverse puts.outer)) puts.list = fits_at options (reverse puts.inner) puts.list (reverse puts.outer) fits in
+    let at : FitsAt options (length (reverse puts.outer)) other =
     record { after = was_at.after; children = subst (λ n. AreAt (n + 1) (held items)) (sym depth) children; deepest = λ deep. record { no_stream = none; nothing = deepest (subst (λ n. options.max_depth ≤ n) depth deep) } } in
     record {
       begun = begun_put start old new puts.outer puts.list puts.inner puts.was sound.begun;
@@ -147,8 +147,8 @@ sound_put options start old new first_open index items sound puts none children 
       in_range = subst (λ n. first_open ≤ n) (sym same) sound.in_range;
       few = subst (λ n. n ≤ first_open + options.max_open) (sym same) sound.few;
       closed = ap (λ l. own_streams (take first_open l)) puts.is ∙ closed_put first_open puts.outer puts.list puts.inner items none (ap (λ l. own_streams (take first_open l)) (sym puts.was) ∙ sound.closed);
-      fits = subst (Fits options.max_depth) (sym (ap reverse puts.is ∙ reversed_at puts.outer other puts.inner))
-          (fits_put options.max_depth (reverse puts.inner) puts.list other (reverse puts.outer) at fits);
+      fits = subst (Fits options) (sym (ap reverse puts.is ∙ reversed_at puts.outer other puts.inner))
+          (fits_put options (reverse puts.inner) puts.list other (reverse puts.outer) at fits);
     }
 
 begun_pop : (start : Option Path) (old new : List DirList) (list : DirList) → old ≡ new ++ list ∷ [] → IfSome start (λ _. old ≡ []) → IfSome start (λ _. new ≡ [])
@@ -162,7 +162,7 @@ sound_pop options start old new list first_open first sound was is =
     let long : length old ≡ length new + 1 = ap length was ∙ length-append new (list ∷ []) in
     let few : length old ≤ first_open + options.max_open = sound.few in
     let some : 1 ≤ options.max_open = sound.some_open in
-    let fits : Fits options.max_depth (list ∷ reverse new) = subst (Fits options.max_depth) (ap reverse was ∙ reversed_last new list) sound.fits in
+    let fits : Fits options (list ∷ reverse new) = subst (Fits options) (ap reverse was ∙ reversed_last new list) sound.fits in
     record {
       begun = begun_pop start old new list was sound.begun;
       some_open = some;
@@ -173,7 +173,7 @@ sound_pop options start old new list first_open first sound was is =
     }
 
 pub sound_push : (options : Options) (start : Option Path) (old new : List DirList) (list : DirList) (first_open : ℕ) → IsSound options start old first_open
-    → start ≡ None → new ≡ old ++ list ∷ [] → length old < first_open + options.max_open → FitsAt options.max_depth (length old) list → IsSound options start new first_open
+    → start ≡ None → new ≡ old ++ list ∷ [] → length old < first_open + options.max_open → FitsAt options (length old) list → IsSound options start new first_open
 unfolding Fits
 sound_push options start old new list first_open sound none is room at =
     let long : length new ≡ length old + 1 = ap length is ∙ length-append old (list ∷ []) in
@@ -184,7 +184,7 @@ sound_push options start old new list first_open sound none is room at =
       in_range = omega arith;
       few = omega arith;
       closed = ap (λ l. own_streams (take first_open l)) is ∙ ap own_streams (take-append-le first_open old (list ∷ []) in_range) ∙ sound.closed;
-      fits = subst (Fits options.max_depth) (sym (ap reverse is ∙ reversed_last old list)) (subst (λ depth. FitsAt options.max_depth depth list) (sym (length-reverse old)) at, sound.fits);
+      fits = subst (Fits options) (sym (ap reverse is ∙ reversed_last old list)) (subst (λ depth. FitsAt options depth list) (sym (length-reverse old)) at, sound.fits);
     }
 
 pub sound_closed : (options : Options) (start : Option Path) (lists : List DirList) (first_open next : ℕ) → IsSound options start lists first_open → next ≡ first_open + 1
@@ -232,9 +232,9 @@ no_deep_stream options start lists first_open index list dir sound within at own
     let outer = take index lists in
     let inner = drop (suc index) lists in
     let depth : length (reverse outer) ≡ index = length-reverse outer ∙ cut_length lists index within in
-    let fits : Fits options.max_depth (reverse inner ++ list ∷ reverse outer) =
-    subst (Fits options.max_depth) (ap reverse (cut_at lists index list within at) ∙ reversed_at outer list inner) sound.fits in
-    let fit : FitsAt options.max_depth (length (reverse outer)) list = fits_at options.max_depth (reverse inner) list (reverse outer) fits in
+    let fits : Fits options (reverse inner ++ list ∷ reverse outer) =
+    subst (Fits options) (ap reverse (cut_at lists index list within at) ∙ reversed_at outer list inner) sound.fits in
+    let fit : FitsAt options (length (reverse outer)) list = fits_at options (reverse inner) list (reverse outer) fits in
     let none : stream_in list.items ≡ None = (fit.deepest (subst (λ n. options.max_depth ≤ n) (sym depth) deep)).no_stream in
     let no : Some dir ≡ None = sym own ∙ none in
     cc
@@ -245,14 +245,14 @@ top_cut lists index list last at =
     ap reverse (cut_at lists index list (omega arith) at) ∙ reversed_at (take index lists) list (drop (suc index) lists) ∙ ap (λ i. reverse i ++ list ∷ reverse (take index lists)) behind
 
 pub fit_at : (options : Options) (start : Option Path) (lists : List DirList) (first_open index : ℕ) (list : DirList) → IsSound options start lists first_open
-    → index < length lists → list ≡ get_or lists index list → FitsAt options.max_depth index list
+    → index < length lists → list ≡ get_or lists index list → FitsAt options index list
 fit_at options start lists first_open index list sound within at =
     let outer = take index lists in
     let inner = drop (suc index) lists in
     let depth : length (reverse outer) ≡ index = length-reverse outer ∙ cut_length lists index within in
-    let fits : Fits options.max_depth (reverse inner ++ list ∷ reverse outer) =
-    subst (Fits options.max_depth) (ap reverse (cut_at lists index list within at) ∙ reversed_at outer list inner) sound.fits in
-    subst (λ n. FitsAt options.max_depth n list) depth (fits_at options.max_depth (reverse inner) list (reverse outer) fits)
+    let fits : Fits options (reverse inner ++ list ∷ reverse outer) =
+    subst (Fits options) (ap reverse (cut_at lists index list within at) ∙ reversed_at outer list inner) sound.fits in
+    subst (λ n. FitsAt options n list) depth (fits_at options (reverse inner) list (reverse outer) fits)
 
 lt_true : (a b : ℕ) → nat_lt a b ≡ true → a < b
 lt_true a b is = grind (arith, nat_tests)
@@ -273,7 +273,7 @@ pub shallow_held : (options : Options) (start : Option Path) (lists : List DirLi
 shallow_held options start lists first_open index list item items sound within at is = elim (nat_lt index options.max_depth) as (λ b. nat_lt index options.max_depth ≡ b → index < options.max_depth) [
   | true ↦ λ less. lt_true index options.max_depth less
   | false ↦ λ deep.
-      let fit : FitsAt options.max_depth index list = fit_at options start lists first_open index list sound within at in
+      let fit : FitsAt options index list = fit_at options start lists first_open index list sound within at in
       let none : held list.items ≡ [] = (fit.deepest (false_lt index options.max_depth deep)).nothing in
       let no : item ∷ items ≡ [] = sym is ∙ none in
       cc
@@ -285,14 +285,15 @@ pub held_at : (options : Options) (start : Option Path) (lists : List DirList) (
 held_at options start lists first_open index list sound within at = (fit_at options start lists first_open index list sound within at).children
 
 pub top_fit : (options : Options) (start : Option Path) (old new : List DirList) (list : DirList) (first_open : ℕ) → IsSound options start old first_open → old ≡ new ++ list ∷ []
-    → FitsAt options.max_depth (length new) list
+    → FitsAt options (length new) list
 unfolding Fits
 top_fit options start old new list first_open sound was =
-    let fits : Fits options.max_depth (list ∷ reverse new) = subst (Fits options.max_depth) (ap reverse was ∙ reversed_last new list) sound.fits in
-    subst (λ n. FitsAt options.max_depth n list) (length-reverse new) fits.0
+    let fits : Fits options (list ∷ reverse new) = subst (Fits options) (ap reverse was ∙ reversed_last new list) sound.fits in
+    subst (λ n. FitsAt options n list) (length-reverse new) fits.0
 
-after_depth : (after : Option DirEntry) (entry : DirEntry) (n : ℕ) → after ≡ Some entry → IfSome after (λ e. e.depth ≡ n) → entry.depth ≡ n
-after_depth after entry n is fits = subst (λ (o : Option DirEntry). IfSome o (λ e. e.depth ≡ n)) is fits
+after_fits : (options : Options) (after : Option DirEntry) (entry : DirEntry) (n : ℕ) → after ≡ Some entry → IfSome after (λ e. (e.depth ≡ n) × (options.contents_first ≡ true))
+    → (entry.depth ≡ n) × (options.contents_first ≡ true)
+after_fits options after entry n is fits = subst (λ (o : Option DirEntry). IfSome o (λ e. (e.depth ≡ n) × (options.contents_first ≡ true))) is fits
 
 given_depth : (b : Bool) (entry : DirEntry) (n : ℕ) → entry.depth ≡ n → IfSome (given_if b entry) (λ e. e.depth ≡ n)
 given_depth true entry n is = is
@@ -303,7 +304,13 @@ pub left_depth : (options : Options) (start : Option Path) (old new : List DirLi
     → IsSound options start old first_open → old ≡ new ++ list ∷ [] → list.after ≡ Some entry → result ≡ given_if b entry → IfSome result (λ e. e.depth ≡ length new)
 left_depth options start old new list first_open entry result b sound was is given =
     subst (λ (o : Option DirEntry). IfSome o (λ e. e.depth ≡ length new)) (sym given)
-    (given_depth b entry (length new) (after_depth list.after entry (length new) is (top_fit options start old new list first_open sound was).after))
+    (given_depth b entry (length new) (after_fits options list.after entry (length new) is (top_fit options start old new list first_open sound was).after).0)
+
+-- a directory that has its own entry still to come gives it after its contents
+pub left_first : (options : Options) (start : Option Path) (old new : List DirList) (list : DirList) (first_open : ℕ) (entry : DirEntry) → IsSound options start old first_open → old ≡ new ++ list ∷ []
+    → list.after ≡ Some entry → options.contents_first ≡ true
+left_first options start old new list first_open entry sound was is =
+    (after_fits options list.after entry (length new) is (top_fit options start old new list first_open sound was).after).1
 
 -- an element is what stands at its index
 pub one_at : (lists : List DirList) (index : ℕ) (a b : DirList) → index < length lists → a ≡ get_or lists index a → b ≡ get_or lists index b → a ≡ b
@@ -314,7 +321,7 @@ one_at lists index a b within first second =
 -- ---- a directory is put on the stack, or memory ran out
 
 pub sound_pushed : (options : Options) (start : Option Path) (old new : List DirList) (list : DirList) (first_open : ℕ) (b : Bool) → new ≡ (if b then old ++ list ∷ [] else old)
-    → IsSound options start old first_open → start ≡ None → length old < first_open + options.max_open → FitsAt options.max_depth (length old) list → IsSound options start new first_open
+    → IsSound options start old first_open → start ≡ None → length old < first_open + options.max_open → FitsAt options (length old) list → IsSound options start new first_open
 sound_pushed options start old new list first_open true is sound none room fit = sound_push options start old new list first_open sound none is room fit
 sound_pushed options start old new list first_open false is sound none room fit = subst (λ l. IsSound options start l first_open) (sym is) sound
 

@@ -8,7 +8,7 @@ use Rattle.odb_disk.specs.Tree.{State}
 use Rattle.walkdir.specs.Error.{is_no_memory}
 use Rattle.walkdir.specs.Failures.{RoseBy, waiting}
 use Rattle.walkdir.specs.OwnStreams.{AreBack, AreBeside, Owns}
-use Rattle.walkdir.specs.Progress.{Progress, FailsByFault, GivesNext, IsOf, Keeps, Steps, StillGives, is_lost, still_to_come, work_left, work_of}
+use Rattle.walkdir.specs.Progress.{Progress, FailsByFault, GivesDirectory, GivesNext, IsOf, Keeps, Steps, StillGives, is_lost, still_to_come, work_left, work_of}
 use Rattle.walkdir.proofs.CausesLemmas.{caused_by_call, lost_call}
 use Rattle.walkdir.specs.Stack.{StandsFor, ancestors, own_streams, work_in}
 use Rattle.walkdir.specs.Turns.{BeginsWalk, DrawsChild, HandlesEntry, IsIn, LeavesIt, Turns, handed, item_of, turn_given, turn_of}
@@ -146,8 +146,9 @@ over_none at empty none = ap (work_of at) none ∙ ap (work_in at.options.max_de
 never_over : (at : Progress) (n : ℕ) → n < work_left at → at.stack ≡ [] → at.start ≡ None → ⊥
 never_over at n less empty none = let zero = over_none at empty none in omega arith
 
-pub steps_ended : (state : Option State) (old mid new : Progress) → Passes state old mid → GivesNext state mid None new → Turns mid turns.Ended new → Steps state old None new
-steps_ended state old mid new passes gives turn =
+pub steps_ended : (state : Option State) (old mid new : Progress) → Passes state old mid → GivesNext state mid None new → Turns mid turns.Ended new → GivesDirectory state old None new
+    → Steps state old None new
+steps_ended state old mid new passes gives turn directory =
     let ends = turn.ends in
     let same : new ≡ mid = ends.0 in
     record {
@@ -160,11 +161,12 @@ steps_ended state old mid new passes gives turn =
       lost = λ lost. absurd cc;
       less = tt;
       causes = tt;
+      directory = directory;
     }
 
 pub steps_given : (state : Option State) (old mid new : Progress) (item : Item) → is_lost (Some item) ≡ false → Passes state old mid → GivesNext state mid (Some item) new
-    → Turns mid (turns.Item item) new → Steps state old (Some item) new
-steps_given state old mid new item kept passes gives turn =
+    → Turns mid (turns.Item item) new → GivesDirectory state old (Some item) new → Steps state old (Some item) new
+steps_given state old mid new item kept passes gives turn directory =
     let was = passes.less in
     let less : work_left new < work_left mid = turn.ends in
     let fewer : work_left new < work_left old = omega arith in
@@ -178,6 +180,7 @@ steps_given state old mid new item kept passes gives turn =
       lost = λ lost. absurd (let no : true ≡ false = sym lost ∙ kept in cc);
       less = fewer;
       causes = turn.causes;
+      directory = directory;
     }
 
 back_keeps : (before : Streams) (at : Progress) (most : ℕ) → at.options.max_open ≡ most → at.stack ≡ [] → AreBack before most at.streams → Keeps before at
@@ -199,8 +202,8 @@ lost_gives (Some s) old new error is = λ walk before tree of kept lost. absurd 
 -- memory ran out, and the walk was ended
 pub steps_lost : (state : Option State) (old mid there new : Progress) (error : Error) → is_no_memory error ≡ true → Passes state old mid → Turns mid (turns.Item (Err error)) there
     → new.stack ≡ [] → new.start ≡ None → new.options ≡ there.options → new.entered ≡ false
-    → ((before : Streams) → Keeps before there → AreBack before there.options.max_open new.streams) → Steps state old (Some (Err error)) new
-steps_lost state old mid there new error is passes turn empty none options entered back =
+    → ((before : Streams) → Keeps before there → AreBack before there.options.max_open new.streams) → GivesDirectory state old (Some (Err error)) new → Steps state old (Some (Err error)) new
+steps_lost state old mid there new error is passes turn empty none options entered back directory =
     let was = passes.less in
     let less : work_left there < work_left mid = turn.ends in
     let zero = over_none new empty none in
@@ -215,6 +218,7 @@ steps_lost state old mid there new error is passes turn empty none options enter
       lost = λ _. (empty, none);
       less = fewer;
       causes = caused_by_call new.options (ancestors new.stack) error (lost_call error is);
+      directory = directory;
     }
 
 -- ---- what one turn gives

@@ -1,7 +1,7 @@
 -- What a walk gives doesn't depend on how many directories may be open.
 use Rattle.std.proofs.Common.{◌≡◌, ℕ, List, refl, ◌∙◌}
 use Rattle.walkdir.specs.Walk.{Walking, Ancestor, Item, WalkOf, ContentsOf, WalksOf, IsWalk, Failed, Wrong, Closed, Alone, Entered, Deepest, Unopened, Opened, Nothing, Lost, Child, NoDevice, NoRoot, Root, taken_for, entering}
-use Rattle.walkdir.specs.WalkLaws.{GivesOneList, IsSameForAnyMost, with_most}
+use Rattle.walkdir.specs.WalkLaws.{GiveOneList, GivesOneList, IsSameForAnyMost, with_most}
 use Rattle.walkdir.specs.declared.dent.DirEntry.{DirEntry}
 
 taken_same : (walk : Walking) (most : ℕ) (above : List Ancestor) (entry : DirEntry) → taken_for (with_most walk most) above entry ≡ taken_for walk above entry
@@ -45,3 +45,8 @@ pub same_for_any_most : (walk : Walking) → GivesOneList walk → IsSameForAnyM
 unfolding with_most
 same_for_any_most walk one total most other items others first second sound still =
     one total items others (same_walk (with_most walk most) walk.options.max_open items first) (same_walk (with_most walk other) walk.options.max_open others second) sound still
+
+-- nor does it differ from the walk with another number
+pub same_with_most : (walk : Walking) (most : ℕ) → GivesOneList walk → GiveOneList walk (with_most walk most)
+unfolding with_most
+same_with_most walk most one total items others first second sound still = one total items others first (same_walk (with_most walk most) walk.options.max_open others second) sound still

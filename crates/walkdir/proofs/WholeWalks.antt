@@ -8,7 +8,8 @@ use Rattle.odb_disk.specs.Tree.{State, Tree, tree_of}
 use Rattle.walkdir.proofs.ProgressLemmas.{has_streams}
 use Rattle.walkdir.proofs.StillGivesLemmas.{something_left}
 use Rattle.walkdir.specs.BuiltWalk.{walking}
-use Rattle.walkdir.specs.Failures.{RoseBy, failures_among, failures_given, failures_of, waiting}
+use Rattle.walkdir.specs.Failures.{RoseBy, failures_among, failures_of, waiting}
+use Rattle.walkdir.specs.OnDisk as OnDisks
 use Rattle.walkdir.specs.Options.{Built}
 use Rattle.walkdir.specs.OwnStreams.{AreBack, AreBeside}
 use Rattle.walkdir.specs.Progress.{Progress, FailsByFault, GivesNext, IsOf, Keeps, Steps, StillGives, begun, has_its_streams, is_lost, still_to_come}
@@ -68,7 +69,7 @@ pub none_without_fault : (count before now : ℕ) → RoseBy count before now �
 none_without_fault zero before now rose still = refl
 none_without_fault (suc count) before now rose still = absurd (still (omega arith))
 
-begun_of : {T : Type 0} (order : T → Order) (built : Built T) (streams : Streams) (tree : Tree) → IsOf (walking order tree built) (begun order built streams)
+pub begun_of : {T : Type 0} (order : T → Order) (built : Built T) (streams : Streams) (tree : Tree) → IsOf (walking order tree built) (begun order built streams)
 begun_of order built streams tree = record { options = refl; order = refl; start = refl; device = λ some same. absurd (some refl) }
 
 -- calls of `next`, each of which takes a walk on
@@ -132,13 +133,11 @@ module _ {S : Type 0} (at : S → Progress) (state : S → Option State) (steps 
 
 -- A walk on a disk, by the meaning of the disk and of what the walk keeps beside it.
 module _ {D W : Type 0} (state : D → Option State) (streams : D → Streams) (faults : D → ℕ) (progress : W → Streams → Progress) where
-  abbrev pub at_walk : OnDisk D W → Progress
-  at_walk s = progress s.walk (streams s.disk.now)
+  abbrev at_walk : OnDisk D W → Progress
+  at_walk s = OnDisks.at_walk state streams faults progress s
 
-  -- what `next` gives there
-  abbrev pub NextOn : OnDisk D W → Option Item → OnDisk D W → Type 0
-  NextOn s item t = (has_its_streams (at_walk t) ≡ true) × Steps (state s.disk.now) (at_walk s) item (at_walk t)
-      × FailsByFault (at_walk s) (faults s.disk.now) (failures_given item) (at_walk t) (faults t.disk.now) × (state t.disk.now ≡ state s.disk.now) × (t.disk.ghost_name ≡ s.disk.ghost_name)
+  abbrev NextOn : OnDisk D W → Option Item → OnDisk D W → Type 0
+  NextOn s item t = OnDisks.NextOn state streams faults progress s item t
 
   -- The failures that calls of `next` give, and those still to be given, are no more than the count of faults rose by.
   pub failures_along : (s : OnDisk D W) (items : List Item) (t : OnDisk D W) → Yields NextOn s items t

@@ -7,9 +7,13 @@ pub mod Failures
 pub mod WalkLaws
 pub mod OwnStreams
 pub mod Stack
+pub mod Entered
 pub mod Progress
+pub mod OnDisk
 pub mod SkipLaws
 pub mod StackProgress
 pub mod Turns
+pub mod EnteredTurns
 pub mod Filter
+pub mod FilteredWalk
 pub mod BuiltWalk

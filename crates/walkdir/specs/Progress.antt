@@ -1,9 +1,10 @@
 -- A walk in progress on a disk, and what one call of `next` gives and leaves.
-use Rattle.std.specs.Prelude.{◌≡◌, ◌≢◌, ℕ, ◌+◌, ◌*◌, ◌<◌, ◌==◌, ◌&&◌, ◌≤◌, Bool, true, false, List, [], ◌∷◌, ◌++◌, length, Contains, Option, Some, None, Ok, Err, IfSome, nat_le, if◌then◌else◌}
+use Rattle.std.specs.Prelude.{◌≡◌, ◌≢◌, ℕ, ◌+◌, ◌*◌, ◌<◌, ◌==◌, ◌&&◌, ◌≤◌, Bool, true, false, List, [], ◌∷◌, ◌++◌, length, Contains, Option, Some, None, Ok, Err, IfSome, MatchBool, nat_le, if◌then◌else◌}
 use Rattle.std.specs.Option.{option_map, option_to_list}
 use Rattle.odb_base.specs.Path.{Path}
 use Rattle.odb_disk.specs.Tree.{State, tree_of}
 use Rattle.odb_disk.specs.Streams.{Streams}
+use Rattle.walkdir.specs.Entered.{IsEntered, StaysOut}
 use Rattle.walkdir.specs.Entry.{is_dir}
 use Rattle.walkdir.specs.Error.{is_no_memory, is_stream_refusal}
 use Rattle.walkdir.specs.Failures.{RoseBy, waiting}
@@ -123,6 +124,18 @@ CausedWithin at (Some (Err error)) = IsCausedAmong at.options (ancestors at.stac
 CausedWithin at (Some (Ok entry)) = Unit {0}
 CausedWithin at None = Unit {0}
 
+-- An entry that is given was entered and comes before its contents, which are all that the innermost directory has left;
+-- or it is no directory that comes before its contents and is entered.
+abbrev pub TellsEntered : Walking → Option Item → Progress → Type 0
+TellsEntered walk (Some (Ok entry)) at = MatchBool at.entered (IsEntered walk entry at.start at.streams at.stack) (StaysOut walk entry)
+TellsEntered walk (Some (Err error)) at = Unit {0}
+TellsEntered walk None at = Unit {0}
+
+-- the same, where the tree is told
+abbrev pub GivesDirectory : Option State → Progress → Option Item → Progress → Type 0
+GivesDirectory state old item new =
+    IfSome state (λ s. (walk : Walking) (before : Streams) → walk.tree ≡ tree_of s → IsOf walk old → Keeps before old → TellsEntered walk item new)
+
 -- what a call of `next` gives and leaves
 pub record Steps (state : Option State) (old : Progress) (item : Option Item) (new : Progress) : Type 0 where
   pub gives : GivesNext state old item new
@@ -134,6 +147,7 @@ pub record Steps (state : Option State) (old : Progress) (item : Option Item) (n
   pub lost : is_lost item ≡ true → (new.stack ≡ []) × (new.start ≡ None)
   pub less : IfSome item (λ _. work_left new < work_left old)
   pub causes : CausedWithin new item
+  pub directory : GivesDirectory state old item new
 
 -- ---- `skip_current_dir`
 

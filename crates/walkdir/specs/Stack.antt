@@ -63,16 +63,16 @@ abbrev pub AreAt : ℕ → List Item → Type 0
 AreAt depth [] = Unit {0}
 AreAt depth (item ∷ items) = IsAt depth item × AreAt depth items
 
--- the entry of a directory stands as deep as the directory itself, and what was read of it one deeper. From the greatest
--- depth on a directory has nothing
-pub record FitsAt (max_depth depth : ℕ) (list : DirList) : Type 0 where
-  pub after : IfSome list.after (λ entry. entry.depth ≡ depth)
+-- the entry of a directory that comes after its contents stands as deep as the directory itself, and what was read of it
+-- one deeper. From the greatest depth on a directory has nothing
+pub record FitsAt (options : Options) (depth : ℕ) (list : DirList) : Type 0 where
+  pub after : IfSome list.after (λ entry. (entry.depth ≡ depth) × (options.contents_first ≡ true))
   pub children : AreAt (depth + 1) (held list.items)
-  pub deepest : max_depth ≤ depth → HasNothing list.items
+  pub deepest : options.max_depth ≤ depth → HasNothing list.items
 
-unfoldable pub Fits : ℕ → List DirList → Type 0
-Fits max_depth [] = Unit {0}
-Fits max_depth (list ∷ outer) = FitsAt max_depth (length outer) list × Fits max_depth outer
+unfoldable pub Fits : Options → List DirList → Type 0
+Fits options [] = Unit {0}
+Fits options (list ∷ outer) = FitsAt options (length outer) list × Fits options outer
 
 -- A walk's options, its root until it begins, its directories, the outermost first, and the number of those that have
 -- no stream any more.
@@ -82,7 +82,7 @@ pub record IsSound (options : Options) (start : Option Path) (lists : List DirLi
   pub in_range : first_open ≤ length lists
   pub few : length lists ≤ first_open + options.max_open
   pub closed : own_streams (take first_open lists) ≡ []
-  pub fits : Fits options.max_depth (reverse lists)
+  pub fits : Fits options (reverse lists)
 
 -- ---- the same as tests
 
@@ -94,23 +94,23 @@ unfoldable pub are_at : ℕ → List Item → Bool
 are_at depth [] = true
 are_at depth (item ∷ items) = is_at depth item && are_at depth items
 
-abbrev pub is_after : ℕ → Option DirEntry → Bool
-is_after depth None = true
-is_after depth (Some entry) = entry.depth == depth
+abbrev pub is_after : Options → ℕ → Option DirEntry → Bool
+is_after options depth None = true
+is_after options depth (Some entry) = (entry.depth == depth) && options.contents_first
 
 abbrev pub has_nothing : Items → Bool
 has_nothing items = not (is_some (stream_in items)) && (length (held items) == 0)
 
-abbrev pub fits_at : ℕ → ℕ → DirList → Bool
-fits_at max_depth depth list = is_after depth list.after && (are_at (depth + 1) (held list.items) && (nat_lt depth max_depth || has_nothing list.items))
+abbrev pub fits_at : Options → ℕ → DirList → Bool
+fits_at options depth list = is_after options depth list.after && (are_at (depth + 1) (held list.items) && (nat_lt depth options.max_depth || has_nothing list.items))
 
-unfoldable pub all_fit : ℕ → List DirList → Bool
-all_fit max_depth [] = true
-all_fit max_depth (list ∷ outer) = fits_at max_depth (length outer) list && all_fit max_depth outer
+unfoldable pub all_fit : Options → List DirList → Bool
+all_fit options [] = true
+all_fit options (list ∷ outer) = fits_at options (length outer) list && all_fit options outer
 
 unfoldable pub is_sound : Options → Option Path → List DirList → ℕ → Bool
 is_sound options start lists first_open =
-    (not (is_some start) || (length lists == 0)) && ((length (own_streams (take first_open lists)) == 0) && all_fit options.max_depth (reverse lists))
+    (not (is_some start) || (length lists == 0)) && ((length (own_streams (take first_open lists)) == 0) && all_fit options (reverse lists))
 
 -- ---- what is still to come
 

@@ -13,6 +13,11 @@ abbrev pub GivesOneList : Walking → Type 0
 GivesOneList walk =
     IfSome walk.order IsTotalOrder → (items others : List Item) → IsWalk walk items → IsWalk walk others → failures_among items ≡ 0 → failures_among others ≡ 0 → items ≡ others
 
+-- Two walks give the same list, where neither has a failure of the disk.
+abbrev pub GiveOneList : Walking → Walking → Type 0
+GiveOneList walk other =
+    IfSome walk.order IsTotalOrder → (items others : List Item) → IsWalk walk items → IsWalk other others → failures_among items ≡ 0 → failures_among others ≡ 0 → items ≡ others
+
 -- The same, also where other numbers of directories may be open.
 abbrev pub IsSameForAnyMost : Walking → Type 0
 IsSameForAnyMost walk =

@@ -77,8 +77,13 @@ impl WalkDir<NoSort> {
 }
 
 impl<S: Drop> WalkDir<S> {
+    ghost use Rattle.odb_disk.specs.Streams.{Streams};
+    ghost use Rattle.odb_disk.specs.Tree.{Tree};
+    ghost use Rattle.walkdir.specs.BuiltWalk.{walking};
     ghost use Rattle.walkdir.specs.Progress.{begun, has_its_streams};
     ghost use Rattle.walkdir.specs.StackProgress.{progress};
+    ghost use Rattle.walkdir.specs.Walk.{Order};
+    ghost use Rattle.walkdir.specs.WalkLaws.{GiveOneList};
 
     /// Gives entries from this depth on. The root has depth 0, and a depth above `max_depth` is cut to it.
     pub fn min_depth(mut self, depth: usize) -> Self
@@ -113,9 +118,10 @@ impl<S: Drop> WalkDir<S> {
     }
 
     /// The most directories that are open at one time. 0 is taken for 1. Above it, the rest of a directory is read
-    /// into memory.
+    /// into memory. What the walk gives doesn't depend on it, on a tree that stays as it is and without failures.
     pub fn max_open(mut self, count: usize) -> Self
-        ensures { result ≡ record self { options = record self.options { max_open = max count 1 } } }
+        ensures options { result ≡ record self { options = record self.options { max_open = max count 1 } } }
+        ensures same { (tree : Tree) (order : S → Order) → GiveOneList (walking order tree self) (walking order tree result) }
     {
         self.options.max_open = count.max(1);
         self
@@ -162,6 +168,15 @@ impl<S: Drop> WalkDir<S> {
         self.sort_by(ByName)
     }
 
+    /// What the walk keeps beside its disk, before it begins.
+    pub fn into_stack(self, alloc: Global) -> Stack<S>
+    where
+        S: Sorter,
+        ensures { (streams : Streams) → progress S.order result streams ≡ begun S.order self streams }
+    {
+        Stack::new(alloc, self.options, self.sorter, self.root)
+    }
+
     /// The walk on a disk, which it keeps to itself as long as it goes on. It is never refused.
     pub fn into_iter_on<'d, D: Disk>(
         self,
@@ -176,9 +191,6 @@ impl<S: Drop> WalkDir<S> {
         ensures disk { IfOk result (λ walk. walk.disk.ghost_name ≡ disk.entry.ghost_name) }
         ensures same { IfOk result (λ walk. walk.disk.now ≡ disk.old) }
     {
-        Ok(OnDisk::new(
-            disk,
-            Stack::new(alloc, self.options, self.sorter, self.root),
-        ))
+        Ok(OnDisk::new(disk, self.into_stack(alloc)))
     }
 }

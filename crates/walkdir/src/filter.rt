@@ -40,6 +40,16 @@ impl<I: Walk, P: FnMut(&DirEntry) -> bool> FilterEntry<I, P> {
     {
         FilterEntry::new(self, predicate)
     }
+
+    /// The walk that was filtered, from where it is now. A proof can tell from its drop that its streams are closed.
+    pub fn into_inner(self) -> I
+    where
+        P: Drop,
+        ensures { result ≡ self.walk }
+    {
+        let FilterEntry { walk, predicate: _ } = self;
+        walk
+    }
 }
 
 impl<I: Walk, P: FnMut(&DirEntry) -> bool + Drop> Iterator for FilterEntry<I, P> {

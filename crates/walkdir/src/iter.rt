@@ -3,6 +3,9 @@ ghost use Rattle.std.specs.Prelude.{◌≡◌, Bool, true, false, [], None};
 ghost use Rattle.odb_disk.specs.Streams.{Streams};
 ghost use Rattle.walkdir.specs.Filter.{LeavesNoMore};
 ghost use Rattle.walkdir.specs.Failures.{failures_given};
+ghost use Rattle.walkdir.specs.OnDisk.{NextOn, SkipsOn};
+ghost use Rattle.walkdir.specs.SkipLaws.{SkipDrops, SkipLeaves};
+ghost use Rattle.walkdir.specs.Walk.{Walking};
 ghost use Rattle.walkdir.specs.Progress.{Progress, AreBack, FailsByFault, Keeps, Skips, Steps as StepsTo, has_its_streams, work_left};
 
 use crate::filter::FilterEntry;
@@ -86,6 +89,8 @@ impl<'d, D: Disk, W: Steps> OnDisk<'d, D, W> {
     /// that comes after its contents still comes.
     pub fn skip_current_dir(&mut self)
         ensures skips { Skips (W.progress self.old.walk (D.streams self.old.disk.now)) (W.progress self.new.walk (D.streams self.new.disk.now)) }
+        ensures drops { (walk : Walking) (before : Streams) → Keeps before (W.progress self.old.walk (D.streams self.old.disk.now)) → SkipDrops walk (W.progress self.old.walk (D.streams self.old.disk.now)) (W.progress self.new.walk (D.streams self.new.disk.now)) }
+        ensures leaves { (walk : Walking) (before : Streams) → Keeps before (W.progress self.old.walk (D.streams self.old.disk.now)) → SkipLeaves walk (W.progress self.old.walk (D.streams self.old.disk.now)) (W.progress self.new.walk (D.streams self.new.disk.now)) }
         ensures own { has_its_streams (W.progress self.old.walk (D.streams self.old.disk.now)) ≡ true → has_its_streams (W.progress self.new.walk (D.streams self.new.disk.now)) ≡ true }
         ensures disk { self.new.disk.ghost_name ≡ self.old.disk.ghost_name }
         ensures state { D.state self.new.disk.now ≡ D.state self.old.disk.now }
@@ -111,7 +116,7 @@ impl<'d, D: Disk, W: Steps> Iterator for OnDisk<'d, D, W> {
 
     ghost can_next = { λ s. has_its_streams (W.progress s.walk (D.streams s.disk.now)) ≡ true };
 
-    ghost next_gives = { λ s item t. (has_its_streams (W.progress t.walk (D.streams t.disk.now)) ≡ true) × StepsTo (D.state s.disk.now) (W.progress s.walk (D.streams s.disk.now)) item (W.progress t.walk (D.streams t.disk.now)) × FailsByFault (W.progress s.walk (D.streams s.disk.now)) (D.faults s.disk.now) (failures_given item) (W.progress t.walk (D.streams t.disk.now)) (D.faults t.disk.now) × (D.state t.disk.now ≡ D.state s.disk.now) × (t.disk.ghost_name ≡ s.disk.ghost_name) };
+    ghost next_gives = { λ s item t. NextOn D.state D.streams D.faults W.progress s item t };
 
     ghost remaining = { λ s. at_most (work_left (W.progress s.walk (D.streams s.disk.now))) };
 
@@ -122,7 +127,7 @@ impl<'d, D: Disk, W: Steps> Iterator for OnDisk<'d, D, W> {
 }
 
 impl<'d, D: Disk, W: Steps> Walk for OnDisk<'d, D, W> {
-    ghost skips = { λ s t. Skips (W.progress s.walk (D.streams s.disk.now)) (W.progress t.walk (D.streams t.disk.now)) × (D.state t.disk.now ≡ D.state s.disk.now) × (D.faults t.disk.now ≡ D.faults s.disk.now) × (t.disk.ghost_name ≡ s.disk.ghost_name) };
+    ghost skips = { λ s t. SkipsOn D.state D.streams D.faults W.progress s t };
 
     ghost entered = { λ s. (W.progress s.walk (D.streams s.disk.now)).entered };
 

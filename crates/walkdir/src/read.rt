@@ -1,5 +1,5 @@
 //! What the calls of a disk give to a walk.
-ghost use Rattle.std.specs.Prelude.{◌≡◌, ◌≢◌, ◌+◌, ◌-◌, ◌^◌, ◌<◌, ◌≤◌, true, None, length, IfOk, IfErr, IfSome};
+ghost use Rattle.std.specs.Prelude.{◌≡◌, ◌≢◌, ◌+◌, ◌-◌, ◌^◌, ◌<◌, ◌≤◌, true, false, None, length, IfOk, IfErr, IfSome};
 ghost use Rattle.std.specs.Option.{option_map};
 ghost use Rattle.std.specs.FinMap as finite;
 ghost use Rattle.odb_disk.specs.declared.disk.DiskError.TheVariants.{NoMemory as out_of_memory};
@@ -8,7 +8,7 @@ ghost use Rattle.odb_disk.specs.Tree.Follow.{looked};
 ghost use Rattle.odb_base.specs.Path.{is_name};
 ghost use Rattle.walkdir.specs.Error.{no_memory, is_no_memory, is_of_call};
 ghost use Rattle.walkdir.specs.Failures.{Costs, failures_among, failures_by, failures_given, failures_left, failures_of};
-ghost use Rattle.walkdir.specs.Stack.{AreAt, IsAt, held, left_in};
+ghost use Rattle.walkdir.specs.Stack.{AreAt, IsAt, held, is_skipped, left_in};
 ghost use Rattle.walkdir.specs.Turns.{Draws, IsDrawn, OnlyFailure, OpensAtMost, OpensContents, ReadInOrder, StreamsAll, left_of, stream_of};
 ghost use Rattle.walkdir.specs.Walk.{Tells, told_at, child_of, entry_by, place_of, IsInOrder};
 
@@ -104,6 +104,7 @@ pub(crate) fn open<D: Disk, S: Sorter>(
     ensures bounded { IfOk result (λ items. left_in (D.streams disk.new) items ≤ 2 ^ 64) }
     ensures children { IfOk result (λ items. AreAt (depth + 1) (held items)) }
     ensures contents { OpensContents (D.state disk.old) (option_map S.order sorter.now) path.now depth result (D.streams disk.new) }
+    ensures whole { IfOk result (λ items. is_skipped items ≡ false) }
     ensures lost { IfErr result (λ e. is_no_memory e ≡ true) }
     ensures kept { D.state disk.new ≡ D.state disk.old }
     ensures cause { Costs (failures_by failures_left result) (D.faults disk.old) (D.faults disk.new) }
@@ -121,6 +122,7 @@ pub(crate) fn open<D: Disk, S: Sorter>(
 fn unopened(alloc: Global, path: &PathText, depth: usize, error: DiskError) -> Result<Items>
     ensures held { IfOk result (λ items. OnlyFailure depth path.now error items) }
     ensures refused { IfOk result (λ _. error ≢ out_of_memory) }
+    ensures whole { IfOk result (λ items. is_skipped items ≡ false) }
     ensures children { IfOk result (λ items. AreAt (depth + 1) (held items)) }
     ensures lost { IfErr result (λ e. is_no_memory e ≡ true) }
 {
@@ -145,6 +147,7 @@ fn sorted<D: Disk, S: Sorter>(
     ensures drawn { (D.streams disk.new).open_dirs ≡ finite.remove (D.streams disk.old).open_dirs dir }
     ensures peak { (D.streams disk.new).peak ≡ (D.streams disk.old).peak }
     ensures closed { stream_of result ≡ None }
+    ensures whole { IfOk result (λ items. is_skipped items ≡ false) }
     ensures bounded { IfOk result (λ items. length (held items) < 2 ^ 64) }
     ensures children { IfOk result (λ items. AreAt depth (held items)) }
     ensures order { IfOk result (λ items. ReadInOrder (S.order sorter.now) depth parent.now (D.streams disk.old) dir items) }

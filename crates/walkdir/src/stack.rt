@@ -5,7 +5,7 @@ ghost use Rattle.walkdir.specs.Error.{is_no_memory, is_of_call};
 ghost use Rattle.walkdir.specs.Failures.{Costs, failures_by, failures_given, failures_left, failures_of};
 ghost use Rattle.walkdir.specs.Options.{AreBuilt, is_given};
 ghost use Rattle.walkdir.specs.Turns.{turn_given, turn_of};
-ghost use Rattle.walkdir.specs.Stack.{AreAt, HasNothing, IsAt, held, is_sound, left_in, own_streams, stream_in};
+ghost use Rattle.walkdir.specs.Stack.{AreAt, HasNothing, IsAt, held, is_skipped, is_sound, left_in, own_streams, stream_in};
 
 use crate::builder::Options;
 use crate::iter::Steps;
@@ -56,10 +56,11 @@ pub struct Found {
 }
 
 impl<S: Sorter + Drop> Stack<S> {
-    ghost use Rattle.walkdir.specs.Progress.{begun, has_its_streams, is_innermost, FailsByFault, GivesNext, IsCausedAmong, Keeps};
+    ghost use Rattle.walkdir.specs.Progress.{begun, has_its_streams, is_innermost, FailsByFault, GivesDirectory, GivesNext, IsCausedAmong, Keeps};
     ghost use Rattle.walkdir.specs.StackProgress.{progress, KeepsStack};
     ghost use Rattle.walkdir.specs.Turns.{fresh, given_if, handed, item_of, BeginsWalk, DrawsChild, GoesOn, HandlesEntry, IsUnskipped, LeavesIt, LeavesLess, OpensAtMost, OwnsAt, Puts, StandsAsBefore, TakesWork, Turns, stream_of};
     ghost use Rattle.walkdir.specs.Turns.{may_enter, standing_at, ChecksLoop, EntersBy, EntersDirectory, FindsPlace, Follows, HasContents, PushesDirectory};
+    ghost use Rattle.walkdir.specs.EnteredTurns.{BeginsTelling, EntersTelling, HandlesTelling, PushesContents};
     ghost use Rattle.walkdir.specs.Walk.{entering, enters_directory, is_looked_at};
     ghost use Rattle.walkdir.specs.Entry.{is_link};
     ghost use Rattle.walkdir.specs.Stack.{ancestors};
@@ -93,6 +94,7 @@ impl<S: Sorter + Drop> Stack<S> {
         ensures gives { GivesNext (D.state disk.old) (progress S.order self.old (D.streams disk.old)) (item_of result) (progress S.order self.new (D.streams disk.new)) }
         ensures turns { Turns (progress S.order self.old (D.streams disk.old)) result (progress S.order self.new (D.streams disk.new)) }
         ensures faults { FailsByFault (progress S.order self.old (D.streams disk.old)) (D.faults disk.old) (failures_given (item_of result)) (progress S.order self.new (D.streams disk.new)) (D.faults disk.new) }
+        ensures directory { self.old.entered ≡ false → GivesDirectory (D.state disk.old) (progress S.order self.old (D.streams disk.old)) (item_of result) (progress S.order self.new (D.streams disk.new)) }
         ensures state { D.state disk.new ≡ D.state disk.old }
     {
         if let Some(root) = self.start.take() {
@@ -118,6 +120,7 @@ impl<S: Sorter + Drop> Stack<S> {
         ensures entered { self.old.entered ≡ false → self.new.entered ≡ is_innermost (reverse self.new.lists.items) (handed result) }
         ensures state { D.state disk.new ≡ D.state disk.old }
         ensures begins { BeginsWalk (D.state disk.old) (progress S.order self.old (D.streams disk.old)) root (handed result) (progress S.order self.new (D.streams disk.new)) }
+        ensures directory { self.old.entered ≡ false → BeginsTelling (D.state disk.old) (progress S.order self.old (D.streams disk.old)) root (handed result) (progress S.order self.new (D.streams disk.new)) }
     {
         if self.options.same_file_system {
             self.root_device = look(self.alloc, disk, 0, &root, true)?.dev;
@@ -137,6 +140,7 @@ impl<S: Sorter + Drop> Stack<S> {
         ensures state { D.state disk.new ≡ D.state disk.old }
         ensures device { self.new.root_device ≡ self.old.root_device }
         ensures walks { HandlesEntry (D.state disk.old) (progress S.order self.old (D.streams disk.old)) entry (handed result) (progress S.order self.new (D.streams disk.new)) }
+        ensures directory { self.old.entered ≡ false → HandlesTelling (D.state disk.old) (progress S.order self.old (D.streams disk.old)) (handed result) (progress S.order self.new (D.streams disk.new)) }
     {
         let found = self.followed(disk, entry)?;
         match self.entering(disk, &found)? {
@@ -270,6 +274,7 @@ impl<S: Sorter + Drop> Stack<S> {
         ensures state { D.state disk.new ≡ D.state disk.old }
         ensures device { self.new.root_device ≡ self.old.root_device }
         ensures enters { EntersDirectory (D.state disk.old) (progress S.order self.old (D.streams disk.old)) entry place (handed result) (progress S.order self.new (D.streams disk.new)) }
+        ensures directory { EntersTelling (D.state disk.old) (progress S.order self.old (D.streams disk.old)) entry place (handed result) (progress S.order self.new (D.streams disk.new)) }
     {
         let path = entry.path().try_clone(self.alloc)?;
         let depth = entry.depth();
@@ -295,7 +300,7 @@ impl<S: Sorter + Drop> Stack<S> {
     ) -> Result<()>
         requires start { self.old.start ≡ None }
         requires depth { depth ≡ length self.old.lists.items }
-        requires after { IfSome after (λ entry. entry.depth ≡ depth) }
+        requires after { IfSome after (λ entry. (entry.depth ≡ depth) × (self.old.options.contents_first ≡ true)) }
         ensures goes { GoesOn (progress S.order self.old (D.streams disk.old)) (D.faults disk.old) (0) (fresh self.old.options.max_depth (length self.old.lists.items)) (progress S.order self.new (D.streams disk.new)) (D.faults disk.new) }
         ensures lost { IfErr result (λ e. is_no_memory e ≡ true) }
         ensures count { OnOk result (length self.new.lists.items ≡ length self.old.lists.items + 1) }
@@ -304,6 +309,7 @@ impl<S: Sorter + Drop> Stack<S> {
         ensures state { D.state disk.new ≡ D.state disk.old }
         ensures device { self.new.root_device ≡ self.old.root_device }
         ensures pushes { OnOk result (PushesDirectory (D.state disk.old) (progress S.order self.old (D.streams disk.old)) path depth place after (progress S.order self.new (D.streams disk.new))) }
+        ensures holds { OnOk result (PushesContents (D.state disk.old) (progress S.order self.old (D.streams disk.old)) path depth place (progress S.order self.new (D.streams disk.new))) }
     {
         self.make_room(disk)?;
         let items = self.contents(disk, &path, depth)?;
@@ -329,6 +335,7 @@ impl<S: Sorter + Drop> Stack<S> {
         ensures children { IfOk result (λ items. AreAt (depth + 1) (held items)) }
         ensures deepest { IfOk result (λ items. self.now.options.max_depth ≤ depth → HasNothing items) }
         ensures contents { HasContents (D.state disk.old) (option_map S.order self.now.sorter) self.now.options path.now depth result (D.streams disk.new) }
+        ensures whole { IfOk result (λ items. is_skipped items ≡ false) }
         ensures lost { IfErr result (λ e. is_no_memory e ≡ true) }
         ensures state { D.state disk.new ≡ D.state disk.old }
         ensures cause { Costs (failures_by failures_left result) (D.faults disk.old) (D.faults disk.new) }
@@ -442,6 +449,7 @@ impl<S: Sorter + Drop> Stack<S> {
         ensures sorter { self.new.sorter ≡ self.old.sorter }
         ensures entered { self.new.entered ≡ self.old.entered }
         ensures depth { IfSome result (λ entry. entry.depth ≡ length self.new.lists.items) }
+        ensures first { IfSome result (λ _. self.old.options.contents_first ≡ true) }
         ensures count { length self.new.lists.items + 1 ≡ length self.old.lists.items }
         ensures faults { D.faults disk.new ≡ D.faults disk.old }
         ensures less { (before : Streams) → Keeps before (progress S.order self.old (D.streams disk.old)) → LeavesLess (progress S.order self.old (D.streams disk.old)) (progress S.order self.new (D.streams disk.new)) }

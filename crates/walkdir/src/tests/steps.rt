@@ -3,8 +3,7 @@ ghost use Rattle.std.specs.Prelude.{if◌then◌else◌};
 ghost use Rattle.walkdir.specs.Entry.{is_dir};
 
 use super::fixture::{all_shown, built, compare, disk_of, item_shown};
-use crate::builder::Options;
-use crate::{DirEntry, DirEntryExt, IntoIter, KeyOf, NoSort, Stack, Steps, Walk, WalkDir};
+use crate::{DirEntry, DirEntryExt, IntoIter, KeyOf, NoSort, Steps, Walk, WalkDir};
 use odb_disk::{Disk, DiskError, Kind, MemDisk, PathText};
 use std::alloc::Global;
 use std::test::Fail;
@@ -150,20 +149,11 @@ fn drops(rt: HostRuntime) -> Result<(), Fail> {
     Ok(())
 }
 
-/// The most streams that are open after a step of a walk that may have one open.
-fn most_open(alloc: Global) -> Result<u64, Fail> {
-    let mut disk = disk_of(alloc, TREE, &[])?;
-    let options = Options {
-        follow_links: false,
-        follow_root_links: true,
-        max_open: 1,
-        min_depth: 0,
-        max_depth: usize::MAX,
-        contents_first: false,
-        same_file_system: false,
-    };
+/// The most streams that are open after a step of a walk with these options.
+fn most_open(alloc: Global, nodes: &str, options: &str) -> Result<u64, Fail> {
+    let mut disk = disk_of(alloc, nodes, &[])?;
     let root = PathText::parse(alloc, "/t")?;
-    let mut walk = Stack::new(alloc, options, None::<NoSort>, root);
+    let mut walk = built(WalkDir::new(alloc, &root)?, options)?.into_stack(alloc);
     let mut most = 0;
     for _ in 0..12 {
         let _ = walk.step(&mut disk);
@@ -173,10 +163,14 @@ fn most_open(alloc: Global) -> Result<u64, Fail> {
     Ok(most)
 }
 
-// Catches a second stream that is opened before the first one is closed.
+const LOOPED: &str = "dir /t, dir /t/a, file /t/a/x, file /t/a.b, file /t/a0, link /t/l /t";
+
+// Catches a second stream that stays open between two items, and 0 that is not taken for 1.
 #[test]
 fn one_stream(rt: HostRuntime) -> Result<(), Fail> {
-    assert_eq!(rt; most_open(rt.alloc())?, 1);
+    assert_eq!(rt; most_open(rt.alloc(), TREE, "open 1")?, 1);
+    assert_eq!(rt; most_open(rt.alloc(), TREE, "open 2")?, 2);
+    assert_eq!(rt; most_open(rt.alloc(), LOOPED, "follow, open 0")?, 1);
     Ok(())
 }
 

@@ -77,6 +77,7 @@ const FOLLOWED: &str = "\
     /r; max 0|/r@\n\
     /s|[IO error for operation on /s: Absent 0]\n\
     /s; noroot|/s@\n\
+    /s; same, noroot|[IO error for operation on /s: Absent 0]\n\
     /s; follow|[IO error for operation on /s: Absent 0]\n\
     /t/f; follow|/t/f@\n\
     /t/f|/t/f@\n\
@@ -105,15 +106,15 @@ fn nearest(rt: HostRuntime) -> Result<(), Fail> {
 
 const DEVICES: &str =
     "dir /t, dev 7 /t/m, file /t/m/x, dir /t/n, link /t/o /t/m, file /t/n/y, dev 7 /v, \
-    link /v/t /t, dir /v/w, link /z /v";
+    link /v/t /t, dev 7 /v/w, file /v/w/q, link /z /v";
 
 const STAYING: &str = "\
     /t; same|/t /t/m /t/n /t/n/y /t/o@\n\
     /t; same, follow|/t /t/m /t/n /t/n/y /t/o@\n\
     /t; follow|/t /t/m /t/m/x /t/n /t/n/y /t/o@ /t/o/x\n\
     /t; same, first|/t/m /t/n/y /t/n /t/o@ /t\n\
-    /v; same, follow|/v /v/t@ /v/w\n\
-    /z; same|/z@ /z/t@ /z/w\n\
+    /v; same, follow|/v /v/t@ /v/w /v/w/q\n\
+    /z; same|/z@ /z/t@ /z/w /z/w/q\n\
     /x; same|[IO error for operation on /x: Absent 0]";
 
 // Catches a root's device that is forgotten or taken from its link, and a directory on another device that is entered or

@@ -1,14 +1,12 @@
-use Rattle.std.proofs.Common.{◌≡◌, true, ap, sym, subst, ◌∙◌}
-use Rattle.walkdir.specs.Progress.{begun, has_its_streams}
+use Rattle.std.proofs.Common.{◌≡◌, true, sym, subst}
+use Rattle.walkdir.specs.Progress.{has_its_streams}
 use Rattle.walkdir.proofs.WholeWalks.{begun_has}
 use Rattle.walkdir.proofs.builder.WalkDir.into_iter_on.Goals as goal
 
 pub returns-clause-begun : goal.returns-clause-begun
-returns-clause-begun g c =
-    let streams = g.D.Disk.streams c.args.disk.now in
-    rw (c.new-2.ensures.walk, c.new-2.ensures.same) (c.new.ensures streams ∙ ap (λ walk. begun g.S.Sorter.order walk streams) c.self.view_is)
+returns-clause-begun g c = rw (c.new.ensures.walk, c.new.ensures.same) (c.into_stack.ensures (g.D.Disk.streams c.args.disk.now))
 
 pub returns-clause-own : goal.returns-clause-own
 returns-clause-own g c =
     let streams = g.D.Disk.streams c.args.disk.now in
-    rw (c.new-2.ensures.walk, c.new-2.ensures.same) (subst (λ at. has_its_streams at ≡ true) (sym (c.new.ensures streams)) (begun_has g.S.Sorter.order _ streams))
+    rw (c.new.ensures.walk, c.new.ensures.same) (subst (λ at. has_its_streams at ≡ true) (sym (c.into_stack.ensures streams)) (begun_has g.S.Sorter.order _ streams))

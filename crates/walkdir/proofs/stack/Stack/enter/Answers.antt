@@ -1,12 +1,14 @@
-use Rattle.std.proofs.Common.{◌≡◌, ◌&&◌, false, ap, sym, ◌∙◌, arith}
+use Rattle.std.proofs.Common.{◌≡◌, ◌&&◌, false, ap, is_some, sym, ◌∙◌, arith}
 use Rattle.walkdir.specs.Entry.{is_dir}
 use Rattle.walkdir.specs.Options.{is_given}
+use Rattle.walkdir.specs.Progress.{Progress}
 use Rattle.walkdir.specs.StackProgress.{progress}
 use Rattle.walkdir.specs.Turns.{given_if}
 use Rattle.walkdir.specs.declared.builder.Options.{Options}
 use Rattle.walkdir.proofs.ContainsLemmas.{entered_first, entered_now}
+use Rattle.walkdir.proofs.EnteredLemmas.{enters_nothing, enters_telling}
 use Rattle.walkdir.proofs.stack.Stack.enter.Goals as goal
-use Rattle.walkdir.proofs.stack.Stack.enter.Goals.{else-self-via-then-self+else-is_dir, else-self-via-else-self}
+use Rattle.walkdir.proofs.stack.Stack.enter.Goals.{else-is_dir-2, else-self-via-then-self+else-is_dir, else-self-via-else-self, then-is_dir-2}
 
 pub returns-then-is_dir-clause-enters : goal.returns-then-is_dir-clause-enters
 returns-then-is_dir-clause-enters g c =
@@ -27,3 +29,27 @@ returns-clause-enters g c =
     ] in
     entered_now (g.D.Disk.state c.args.disk.now) old new entry c.args.place c.in_ok-path.path c.depth-depth.result c.shown-shown.result (c.in_ok-path.ensures ∙ c.path.ensures) c.depth-depth.ensures
     first (c.shown-shown.ensures ∙ ap (λ (o : Options). given_if (is_given o entry.depth) entry) c.in_ok-push-2.ensures.goes.options) c.in_ok-push-2.ensures.pushes
+
+pub returns-then-is_dir-clause-directory : goal.returns-then-is_dir-clause-directory
+returns-then-is_dir-clause-directory g c =
+    enters_nothing (g.D.Disk.state c.args.disk.now) (progress g.S.Sorter.order c.args.self.now (g.D.Disk.streams c.args.disk.now))
+    (progress g.S.Sorter.order c.push.new.self (g.D.Disk.streams c.push.new.disk)) c.args.entry c.args.place
+
+pub returns-clause-directory : goal.returns-clause-directory
+returns-clause-directory g c =
+    let walk = c.args.self.now in
+    let entry = c.args.entry in
+    let old = progress g.S.Sorter.order walk (g.D.Disk.streams c.args.disk.now) in
+    let there = progress g.S.Sorter.order c.push-2.new.self (g.D.Disk.streams c.push-2.new.disk) in
+    let new : Progress = record there { entered = c.if-is_dir-2.self } in
+    let first : (walk.options.contents_first && is_dir entry) ≡ false = elim c.else-self.branch [
+      | else-self-via-then-self+else-is_dir w ↦ grind arith
+      | else-self-via-else-self w ↦ grind arith
+    ] in
+    let marked : c.if-is_dir-2.self ≡ (is_dir entry && is_some c.shown-shown.result) = elim c.if-is_dir-2.branch [
+      | then-is_dir-2 w ↦ w.self-is ∙ w.is_some-self.ensures ∙ sym (ap (λ b. b && is_some c.shown-shown.result) (sym c.is_dir-is_dir.ensures ∙ w.if-is_dir-2.true))
+      | else-is_dir-2 w ↦ w.self-is ∙ w.if-is_dir-2.false ∙ sym (ap (λ b. b && is_some c.shown-shown.result) (sym c.is_dir-is_dir.ensures ∙ w.if-is_dir-2.false))
+    ] in
+    enters_telling (g.D.Disk.state c.args.disk.now) old new entry c.args.place c.in_ok-path.path c.depth-depth.result c.shown-shown.result (is_given c.push-2.new.self.options entry.depth)
+    (c.in_ok-path.ensures ∙ c.path.ensures) c.depth-depth.ensures (c.in_ok-push-2.ensures.goes.start ∙ c.requires.start) c.shown-shown.ensures marked first
+    c.in_ok-push-2.ensures.holds

@@ -1,5 +1,6 @@
-use Rattle.std.proofs.Common.{◌≡◌, Option, map, Ok, ap, length, min, refl, reverse, subst, sym, ◌∙◌, arith}
+use Rattle.std.proofs.Common.{◌≡◌, Option, true, map, Ok, ap, length, min, refl, reverse, subst, sym, ◌∙◌, arith}
 use Rattle.std.specs.Option.{option_to_list}
+use Rattle.std.specs.Prelude.{IfSome, None, Some}
 use Rattle.walkdir.specs.Options.{is_given}
 use Rattle.walkdir.specs.Walk.{Item}
 use Rattle.walkdir.specs.declared.dent.DirEntry.{DirEntry}
@@ -8,7 +9,7 @@ use Rattle.walkdir.specs.StackProgress.{progress}
 use Rattle.walkdir.specs.Turns.{GoesOn}
 use Rattle.walkdir.proofs.DrawsLemmas.{leaves_it, own_given, own_none}
 use Rattle.walkdir.proofs.SoundLemmas.{is_sound_of, sound_of}
-use Rattle.walkdir.proofs.StackLemmas.{left_depth, reversed_last, sound_pop}
+use Rattle.walkdir.proofs.StackLemmas.{left_depth, left_first, reversed_last, sound_pop}
 use Rattle.walkdir.proofs.StepLemmas.{goes_popped, pops_less}
 use Rattle.walkdir.proofs.stack.Stack.leave.Goals as goal
 
@@ -77,3 +78,15 @@ returns-clause-leaves g c =
     let new : Progress = record old { stack = reverse c.pop.new.self.items; streams = g.D.Disk.streams c.close.new.disk } in
     leaves_it old new c.in_ok-list.list c.shown.result (ap reverse c.in_ok-list.ensures.items ∙ reversed_last c.pop.new.self.items c.in_ok-list.list) c.close.ensures.streams
     (own_given walk.options c.in_ok-list.list.after c.shown.result c.in_ok-list-2.field-0 c.in_ok-list-2.was c.shown.ensures)
+
+pub returns-clause-first : goal.returns-clause-first
+returns-clause-first g c =
+    let walk = c.args.self.now in
+    let first : walk.options.contents_first ≡ true =
+    left_first walk.options walk.start walk.lists.items c.pop.new.self.items c.in_ok-list.list walk.first_open c.in_ok-list-2.field-0
+    (sound_of walk.options walk.start walk.lists.items walk.first_open walk.some_open walk.in_range walk.few walk.sound) c.in_ok-list.ensures.items c.in_ok-list-2.was in
+    of_any c.shown.result first
+  where
+    of_any : {P : Type 0} (given : Option DirEntry) → P → IfSome given (λ _. P)
+    of_any None first = tt
+    of_any (Some entry) first = first

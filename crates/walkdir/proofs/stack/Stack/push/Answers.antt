@@ -1,4 +1,4 @@
-use Rattle.std.proofs.Common.{◌≡◌, ◌+◌, ◌<◌, ◌≤◌, Ok, ap, length, max, refl, reverse, subst, sym, ◌∙◌, arith}
+use Rattle.std.proofs.Common.{◌≡◌, ◌+◌, ◌<◌, ◌≤◌, IfSome, Ok, true, ap, length, max, refl, reverse, subst, sym, ◌∙◌, arith}
 use lib.ListN.{length-reverse}
 use Rattle.std.specs.Option.{option_map}
 use Rattle.std.specs.Result.{is_ok}
@@ -7,9 +7,11 @@ use Rattle.walkdir.specs.Failures.{Costs, failures_left}
 use Rattle.walkdir.specs.Progress.{Progress}
 use Rattle.walkdir.specs.Stack.{FitsAt, IsSound, stream_in, without_stream}
 use Rattle.walkdir.specs.StackProgress.{progress}
+use Rattle.walkdir.specs.declared.builder.Options.{Options}
 use Rattle.walkdir.specs.declared.list.DirList.{DirList}
 use Rattle.walkdir.specs.Turns.{HasContents}
 use Rattle.walkdir.proofs.ContainsLemmas.{pushed_stands}
+use Rattle.walkdir.proofs.EnteredLemmas.{pushed_holds}
 use Rattle.walkdir.proofs.FailuresLemmas.{costs_zero}
 use Rattle.walkdir.proofs.SoundLemmas.{is_sound_of, sound_of}
 use Rattle.walkdir.proofs.StackLemmas.{own_within, reversed_last, sound_pushed}
@@ -33,12 +35,12 @@ invariant_of-self g c =
     let mid = c.make_room.new.self in
     let list : DirList = record { path = c.args.path; place = c.args.place; items = c.in_ok-items.items; after = c.args.after } in
     let depth : c.args.depth ≡ length mid.lists.items = c.requires.depth ∙ sym c.in_ok-make_room.ensures.kept.count in
-    let fit : FitsAt mid.options.max_depth c.args.depth list =
-    record { after = c.requires.after; children = c.in_ok-items.ensures.children; deepest = c.in_ok-items.ensures.deepest } in
+    let fit : FitsAt mid.options c.args.depth list =
+    record { after = subst (λ (o : Options). IfSome c.args.after (λ entry. (entry.depth ≡ c.args.depth) × (o.contents_first ≡ true))) (sym c.in_ok-make_room.ensures.kept.options) c.requires.after; children = c.in_ok-items.ensures.children; deepest = c.in_ok-items.ensures.deepest } in
     let sound : IsSound mid.options mid.start c.push.new.self.items mid.first_open =
     sound_pushed mid.options mid.start mid.lists.items c.push.new.self.items list mid.first_open (is_ok c.push.result) c.push.ensures.items
     (sound_of mid.options mid.start mid.lists.items mid.first_open mid.some_open mid.in_range mid.few mid.sound) (c.in_ok-make_room.ensures.kept.start ∙ c.requires.start)
-    c.in_ok-make_room.ensures.room (subst (λ n. FitsAt mid.options.max_depth n list) depth fit) in
+    c.in_ok-make_room.ensures.room (subst (λ n. FitsAt mid.options n list) depth fit) in
     record { some_open = mid.some_open; in_range = sound.in_range; few = sound.few; sound = is_sound_of mid.options mid.start c.push.new.self.items mid.first_open sound }
 
 pub returns-in-Ok-clause-goes : goal.returns-in-Ok-clause-goes
@@ -87,4 +89,17 @@ returns-in-Ok-clause-pushes g c =
     pushed_stands state old there new c.args.path c.args.depth c.args.place c.args.after c.in_ok-items.items kept.options (ap (option_map g.S.Sorter.order) kept.sorter)
     (length-reverse mid.lists.items ∙ kept.count ∙ sym c.requires.depth) c.in_ok-make_room.ensures.stands c.in_ok-make_room.ensures.goes.keeps
     (ap reverse c.in-Ok.ensures.items ∙ reversed_last mid.lists.items list) c.in_ok-items.ensures.streams
+    (subst (λ s. HasContents s there.order there.options c.args.path c.args.depth (Ok c.in_ok-items.items) new.streams) c.in_ok-make_room.ensures.state c.in_ok-items.ensures.contents)
+
+pub returns-in-Ok-clause-holds : goal.returns-in-Ok-clause-holds
+returns-in-Ok-clause-holds g c =
+    let state = g.D.Disk.state c.args.disk.now in
+    let mid = c.make_room.new.self in
+    let kept = c.in_ok-make_room.ensures.kept in
+    let list : DirList = record { path = c.args.path; place = c.args.place; items = c.in_ok-items.items; after = c.args.after } in
+    let old = progress g.S.Sorter.order c.args.self.now (g.D.Disk.streams c.args.disk.now) in
+    let there = progress g.S.Sorter.order mid (g.D.Disk.streams c.make_room.new.disk) in
+    let new : Progress = record there { stack = reverse c.push.new.self.items; streams = g.D.Disk.streams c.contents.new.disk } in
+    pushed_holds state old there new c.args.path c.args.depth c.args.place c.args.after c.in_ok-items.items kept.options (ap (option_map g.S.Sorter.order) kept.sorter)
+    (length-reverse mid.lists.items ∙ kept.count ∙ sym c.requires.depth) (ap reverse c.in-Ok.ensures.items ∙ reversed_last mid.lists.items list) c.in_ok-items.ensures.whole
     (subst (λ s. HasContents s there.order there.options c.args.path c.args.depth (Ok c.in_ok-items.items) new.streams) c.in_ok-make_room.ensures.state c.in_ok-items.ensures.contents)

@@ -4,10 +4,12 @@ use Rattle.std.specs.Prelude.{IfSome}
 use Rattle.odb_disk.specs.Tree.{tree_of}
 use Rattle.odb_disk.specs.Tree.Follow.{looked}
 use Rattle.odb_disk.specs.declared.disk.Meta.{Meta}
+use Rattle.walkdir.specs.EnteredTurns.{BeginsTelling, HandlesTelling}
 use Rattle.walkdir.specs.StackProgress.{progress}
 use Rattle.walkdir.specs.Turns.{BeginsWalk, HandlesEntry, handed}
 use Rattle.walkdir.specs.Walk.{Tells, entry_by, told_at}
 use Rattle.walkdir.specs.declared.stack.Stack.{Stack}
+use Rattle.walkdir.proofs.EnteredLemmas.{begins_error, begins_handling}
 use Rattle.walkdir.proofs.HandlesLemmas.{FoundDevice, begins_lost, begins_nowhere, begins_root, device_unwanted, device_wanted, err_is, keeps_alike}
 use Rattle.walkdir.proofs.stack.Stack.start_at.Goals as goal
 use Rattle.walkdir.proofs.stack.Stack.start_at.Goals.{then-self+in_ok-self, else-self}
@@ -85,3 +87,53 @@ returns-clause-begins g c =
     (subst (λ o. IfSome o (λ s. Tells 0 c.args.root (Ok meta) (told_at 0 c.args.root (looked (tree_of s) c.args.root false)))) same_state c.in_ok-meta.ensures.told)
     (subst (λ o. HandlesEntry o mid (entry_by c.args.root false 0 meta) item new) (c.in_ok-meta.ensures.kept ∙ same_state)
     (subst (λ e. HandlesEntry (g.D.Disk.state c.look-2.new.disk) mid e item new) c.entry_by.ensures c.handle.ensures.walks))
+
+pub returns-in_err-self-clause-directory : goal.returns-in_err-self-clause-directory
+returns-in_err-self-clause-directory g c = λ unmarked.
+    let state = g.D.Disk.state c.args.disk.now in
+    let old = progress g.S.Sorter.order c.args.self.now (g.D.Disk.streams c.args.disk.now) in
+    let new = progress g.S.Sorter.order c.args.self.now (g.D.Disk.streams c.look.new.disk) in
+    subst (λ r. BeginsTelling state old c.args.root (handed r) new) (sym (err_is c.from_residual.result c.in_err-self.field-0.0 c.from_residual.ensures.1))
+    (begins_error state old new c.args.root c.in_err-self.field-0.0)
+
+pub returns-in_err-meta-clause-directory : goal.returns-in_err-meta-clause-directory
+returns-in_err-meta-clause-directory g c = λ unmarked.
+    let state = g.D.Disk.state c.args.disk.now in
+    let error = c.in_err-meta.field-0.0 in
+    let old = progress g.S.Sorter.order c.args.self.now (g.D.Disk.streams c.args.disk.now) in
+    let new = progress g.S.Sorter.order c.if-self.self (g.D.Disk.streams c.look-2.new.disk) in
+    subst (λ r. BeginsTelling state old c.args.root (handed r) new) (sym (err_is c.from_residual-in_err-meta.result error c.from_residual-in_err-meta.ensures.1))
+    (begins_error state old new c.args.root error)
+
+pub returns-clause-directory : goal.returns-clause-directory
+returns-clause-directory g c = λ unmarked.
+    let state = g.D.Disk.state c.args.disk.now in
+    let walk = c.args.self.now in
+    let item = handed c.handle.result in
+    let old = progress g.S.Sorter.order walk (g.D.Disk.streams c.args.disk.now) in
+    let mid = progress g.S.Sorter.order c.if-self.self (g.D.Disk.streams c.look-2.new.disk) in
+    let new = progress g.S.Sorter.order c.handle.new.self (g.D.Disk.streams c.handle.new.disk) in
+    let options : c.if-self.self.options ≡ walk.options = elim c.if-self.branch [
+      | then-self+in_ok-self w ↦ ap (λ (s : Stack g.row.S.Denot). s.options) w.self-is
+      | else-self w ↦ ap (λ (s : Stack g.row.S.Denot). s.options) w.self-is
+    ] in
+    let sorter : c.if-self.self.sorter ≡ walk.sorter = elim c.if-self.branch [
+      | then-self+in_ok-self w ↦ ap (λ (s : Stack g.row.S.Denot). s.sorter) w.self-is
+      | else-self w ↦ ap (λ (s : Stack g.row.S.Denot). s.sorter) w.self-is
+    ] in
+    let marked : c.if-self.self.entered ≡ walk.entered = elim c.if-self.branch [
+      | then-self+in_ok-self w ↦ ap (λ (s : Stack g.row.S.Denot). s.entered) w.self-is
+      | else-self w ↦ ap (λ (s : Stack g.row.S.Denot). s.entered) w.self-is
+    ] in
+    let same_state : g.D.Disk.state c.if-self.disk ≡ state = elim c.if-self.branch [
+      | then-self+in_ok-self w ↦ ap g.D.Disk.state w.disk-is ∙ w.in_ok-self.ensures.kept
+      | else-self w ↦ ap g.D.Disk.state w.disk-is
+    ] in
+    let device : FoundDevice state walk.options c.args.root c.if-self.self.root_device = elim c.if-self.branch [
+      | then-self+in_ok-self w ↦
+          let is : w.in_ok-self.field-0.dev ≡ c.if-self.self.root_device = sym (ap (λ (s : Stack g.row.S.Denot). s.root_device) w.self-is) in
+          subst (λ d. FoundDevice state walk.options c.args.root d) is (device_wanted state walk.options c.args.root w.in_ok-self.field-0 w.in_ok-self.ensures.told)
+      | else-self w ↦ device_unwanted state walk.options c.args.root c.if-self.self.root_device w.if-self.false
+    ] in
+    begins_handling state old mid new c.args.root item options (ap (option_map g.S.Sorter.order) sorter) device
+    (subst (λ o. HandlesTelling o mid item new) (c.in_ok-meta.ensures.kept ∙ same_state) (c.handle.ensures.directory (marked ∙ unmarked)))

@@ -1,12 +1,15 @@
 use Rattle.std.proofs.Common.{◌≡◌, ◌+◌, ◌≤◌, [], None, ap, refl, length, reverse, subst, sym, ◌∙◌, arith}
 use lib.ListN.{length-reverse}
-use Rattle.std.specs.Prelude.{Ok, Some}
+use Rattle.std.specs.Prelude.{IfSome, Ok, Some, true}
 use Rattle.std.specs.Option.{option_map}
-use Rattle.walkdir.specs.Progress.{GivesNext, CausedWithin, Progress, is_innermost}
+use Rattle.walkdir.specs.Progress.{GivesDirectory, GivesNext, CausedWithin, Progress, is_innermost}
 use Rattle.walkdir.specs.Stack.{IsAt, ancestors, work_in}
+use Rattle.walkdir.specs.EnteredTurns.{HandlesTelling}
 use Rattle.walkdir.specs.StackProgress.{progress}
 use Rattle.walkdir.specs.Turns.{DrawsChild, EndsWell, HandlesEntry, fresh, handed, item_of}
+use Rattle.walkdir.specs.declared.builder.Options.{Options}
 use Rattle.walkdir.proofs.CausesLemmas.{caused_given, caused_by_call, caused_turn}
+use Rattle.walkdir.proofs.EnteredLemmas.{gives_error, turn_tells_begun, turn_tells_handled, turn_tells_left}
 use Rattle.walkdir.proofs.ProgressLemmas.{begun_less, begun_with, ends_less, handled_less, item_turn, left_less, not_innermost, taken_less}
 use Rattle.walkdir.proofs.SoundLemmas.{is_sound_begun, nothing_before}
 use Rattle.walkdir.proofs.TurnsLemmas.{Runs, turn_begins, turn_fails, turn_handles, turn_leaves}
@@ -179,3 +182,49 @@ returns-in-None-clause-gives g c =
     } in
     subst (λ t. GivesNext state old (item_of t) new) (sym c.given.ensures)
     (turn_leaves state old mid new c.leave.result runs kept.options c.in-None.ensures.goes.keeps c.in-None.ensures.draws c.leave.ensures.leaves)
+
+pub returns-in-Some-clause-directory : goal.returns-in-Some-clause-directory
+returns-in-Some-clause-directory g c = λ unmarked.
+    let walk = c.args.self.now in
+    let state = g.D.Disk.state c.args.disk.now in
+    let old = progress g.S.Sorter.order walk (g.D.Disk.streams c.args.disk.now) in
+    let mid : Progress = record old { start = c.take.new.self } in
+    let new = progress g.S.Sorter.order c.start_at.new.self (g.D.Disk.streams c.start_at.new.disk) in
+    subst (λ t. GivesDirectory state old (item_of t) new) (sym c.turn_of.ensures)
+    (turn_tells_begun state old mid new c.in-Some.root c.start_at.result (sym c.in-Some.ensures.value) refl refl (c.start_at.ensures.directory unmarked))
+
+pub returns-in-Some-Err-clause-directory : goal.returns-in-Some-Err-clause-directory
+returns-in-Some-Err-clause-directory g c = λ unmarked.
+    gives_error (g.D.Disk.state c.args.disk.now) (progress g.S.Sorter.order c.args.self.now (g.D.Disk.streams c.args.disk.now))
+    (progress g.S.Sorter.order c.next_child.new.self (g.D.Disk.streams c.next_child.new.disk)) c.in-Some-Err.error
+
+pub returns-in-Some-Ok-clause-directory : goal.returns-in-Some-Ok-clause-directory
+returns-in-Some-Ok-clause-directory g c = λ unmarked.
+    let walk = c.args.self.now in
+    let state = g.D.Disk.state c.args.disk.now in
+    let old = progress g.S.Sorter.order walk (g.D.Disk.streams c.args.disk.now) in
+    let mid = progress g.S.Sorter.order c.next_child.new.self (g.D.Disk.streams c.next_child.new.disk) in
+    let new = progress g.S.Sorter.order c.handle.new.self (g.D.Disk.streams c.handle.new.disk) in
+    let first : walk.start ≡ None = sym c.take.ensures.value ∙ c.in_default.is in
+    let kept = c.in-Some-Ok.ensures.kept in
+    let there : Runs old mid = record {
+      begun = first;
+      some = λ empty. (let none : length (reverse walk.lists.items) ≡ 0 = ap length empty in let same = length-reverse walk.lists.items in omega arith);
+      options = kept.options;
+      order = ap (option_map g.S.Sorter.order) kept.sorter;
+      start = kept.start ∙ c.take.ensures.after;
+      device = kept.device;
+    } in
+    subst (λ t. GivesDirectory state old (item_of t) new) (sym c.turn_of-in-Some-Ok.ensures)
+    (turn_tells_handled state old mid new c.handle.result there
+    (subst (λ s. HandlesTelling s mid (handed c.handle.result) new) c.in-Some-Ok.ensures.state (c.handle.ensures.directory (kept.entered ∙ unmarked))))
+
+pub returns-in-None-clause-directory : goal.returns-in-None-clause-directory
+returns-in-None-clause-directory g c = λ unmarked.
+    let state = g.D.Disk.state c.args.disk.now in
+    let old = progress g.S.Sorter.order c.args.self.now (g.D.Disk.streams c.args.disk.now) in
+    let new = progress g.S.Sorter.order c.leave.new.self (g.D.Disk.streams c.leave.new.disk) in
+    let kept = c.in-None.ensures.kept in
+    subst (λ t. GivesDirectory state old (item_of t) new) (sym c.given.ensures)
+    (turn_tells_left state old new c.leave.result (c.leave.ensures.entered ∙ kept.entered ∙ unmarked)
+    (subst (λ (o : Options). IfSome c.leave.result (λ _. o.contents_first ≡ true)) kept.options c.leave.ensures.first))

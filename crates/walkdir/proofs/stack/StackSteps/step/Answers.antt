@@ -1,10 +1,11 @@
 use Rattle.std.proofs.Common.{false, Some, None, refl, subst, sym, ◌∙◌}
 use Rattle.std.specs.Prelude.{Ok, Err}
 use Rattle.walkdir.specs.Failures.{failures_given}
-use Rattle.walkdir.specs.Progress.{FailsByFault, GivesNext}
+use Rattle.walkdir.specs.Progress.{FailsByFault, GivesDirectory, GivesNext}
 use Rattle.walkdir.specs.StackProgress.{progress}
 use Rattle.walkdir.specs.Turns.{Turns}
 use Rattle.walkdir.specs.declared.stack.Turn.TheVariants as turns
+use Rattle.walkdir.proofs.EnteredLemmas.{directory_then, gives_error, gives_nothing_entered}
 use Rattle.walkdir.proofs.ProgressLemmas.{still_has_streams}
 use Rattle.walkdir.proofs.TurnsLemmas.{ended_keeps, fails_over, fails_same, fails_then, passes_none, passes_on, steps_ended, steps_given, steps_lost}
 use Rattle.walkdir.proofs.stack.StackSteps.step.Goals as goal
@@ -54,6 +55,7 @@ returns-in-Ended-clause-steps g c =
     let new = progress g.S.Sorter.order c.turn.new.self (g.D.Disk.streams c.turn.new.disk) in
     let so_far = c.loop-entry.invariant in
     steps_ended state old mid new so_far.passes (subst (λ s. GivesNext s mid None new) so_far.state c.in-Ended.ensures.gives) c.in-Ended.ensures.turns
+    (gives_nothing_entered state old new)
 
 pub returns-in-Ended-clause-faults : goal.returns-in-Ended-clause-faults
 returns-in-Ended-clause-faults g c =
@@ -79,6 +81,9 @@ returns-in-Item-Ok-clause-steps g c =
     steps_given state old mid new (Ok c.in-Item-Ok.entry) refl so_far.passes
     (subst (λ s. GivesNext s mid (Some (Ok c.in-Item-Ok.entry)) new) so_far.state (subst (λ i. GivesNext (g.D.Disk.state c.loop-entry.disk) mid (Some i) new) is c.in-Item-Ok.ensures.gives))
     (subst (λ i. Turns mid (turns.Item i) new) is c.in-Item-Ok.ensures.turns)
+    (directory_then state old mid new (Some (Ok c.in-Item-Ok.entry)) so_far.passes
+    (subst (λ s. GivesDirectory s mid (Some (Ok c.in-Item-Ok.entry)) new) so_far.state
+    (subst (λ i. GivesDirectory (g.D.Disk.state c.loop-entry.disk) mid (Some i) new) is (c.in-Item-Ok.ensures.directory so_far.passes.entered))))
 
 pub returns-in-Item-Ok-clause-faults : goal.returns-in-Item-Ok-clause-faults
 returns-in-Item-Ok-clause-faults g c =
@@ -121,11 +126,12 @@ returns-in-Item-Err-clause-steps g c =
           let over = w.end.ensures.over streams in
           rw (w.self-is, w.disk-is)
           (steps_lost state old mid there new error (sym c.is_out_of_memory.ensures ∙ w.if-is_out_of_memory.true) so_far.passes turn over.0 over.1 (w.end.ensures.options streams)
-          (w.end.ensures.entered streams) w.end.ensures.back)
+          (w.end.ensures.entered streams) w.end.ensures.back (gives_error state old new error))
       | else-is_out_of_memory w ↦
           rw (w.self-is, w.disk-is)
           (steps_given state old mid there (Err error) (sym c.is_out_of_memory.ensures ∙ w.if-is_out_of_memory.false) so_far.passes
-          (subst (λ s. GivesNext s mid (Some (Err error)) there) so_far.state (subst (λ i. GivesNext (g.D.Disk.state c.loop-entry.disk) mid (Some i) there) is c.in-Item-Err.ensures.gives)) turn)
+          (subst (λ s. GivesNext s mid (Some (Err error)) there) so_far.state (subst (λ i. GivesNext (g.D.Disk.state c.loop-entry.disk) mid (Some i) there) is c.in-Item-Err.ensures.gives)) turn
+          (gives_error state old there error))
     ]
 
 pub returns-in-Item-Err-clause-faults : goal.returns-in-Item-Err-clause-faults

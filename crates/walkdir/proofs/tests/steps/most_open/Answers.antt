@@ -1,5 +1,5 @@
 -- A walk that begins has no streams.
-use Rattle.std.proofs.Common.{◌≡◌, None, true, sym, subst}
+use Rattle.std.proofs.Common.{◌≡◌, true, sym, subst}
 use Rattle.odb_disk.specs.Streams.{Streams}
 use Rattle.walkdir.specs.Options.{Built}
 use Rattle.walkdir.specs.Progress.{Progress, begun, has_its_streams}
@@ -12,4 +12,4 @@ has_none : (at : Progress) (built : Built NoSort) (streams : Streams) → at ≡
 has_none at built streams is = subst (λ x. has_its_streams x ≡ true) (sym is) (begun_has (λ _. all_equal) built streams)
 
 pub loop-init : goal.loop-init
-loop-init c = has_none _ (record { root = _; options = _; sorter = None }) _ (c.new-walk.ensures _)
+loop-init c = has_none _ _ _ (c.into_stack-walk.ensures _)
