@@ -1,9 +1,10 @@
 //! Which items the wrapped walks give.
 ghost use Rattle.std.specs.Iterator.{IsFinite};
+ghost use Rattle.std.specs.Prelude.{◌≡◌};
 
 use crate::fs::read_dir::Item;
 use crate::fs::{DirEntry, DirEntryApi, GitOrder, Parallelism, walkdir_new, walkdir_sorted_new};
-use odb_disk::{ByteList, Change, Disk, Kind, MemDisk, PathText};
+use odb_disk::{ByteList, Change, Disk, Kind, MemDisk, NoMemory, PathText};
 use std::alloc::Global;
 use std::test::Fail;
 
@@ -131,6 +132,38 @@ fn composed(rt: HostRuntime) -> Result<(), Fail> {
             .into_iter_on(alloc, &mut disk)?,
     )?;
     compare(found.as_str(), "/e\u{301}/u\u{308} u\u{308} File; ")
+}
+
+/// Makes a walk, begins it or not, and drops it. Its disk has the same tree then.
+fn stepped<D: Disk>(
+    alloc: Global,
+    disk: &mut D,
+    root: &PathText,
+    begins: bool,
+) -> Result<(), NoMemory>
+    ensures { D.state disk.new ≡ D.state disk.old }
+{
+    let root = root.try_clone(alloc)?;
+    let mut walk = walkdir_new(root, Parallelism::Serial, true).into_iter_on(alloc, disk)?;
+    if begins {
+        let _ = walk.next();
+    }
+    Ok(())
+}
+
+// Catches a stream that is left open by a walk that is dropped.
+#[test]
+fn dropped(rt: HostRuntime) -> Result<(), Fail> {
+    let alloc = rt.alloc();
+    let mut disk = disk_of(alloc, "/t/ /t/a")?;
+    let root = PathText::parse(alloc, "/t")?;
+    for begins in [false, true] {
+        stepped(alloc, &mut disk, &root, begins)?;
+        let stream = disk.open_dir(alloc, &root)?;
+        assert_eq!(rt; stream.number(), 0, "{begins}");
+        disk.close_dir(stream);
+    }
+    Ok(())
 }
 
 // Catches a path without its directory, and a name that is composed in the entry itself.

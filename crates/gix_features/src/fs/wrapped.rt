@@ -6,7 +6,7 @@ use super::entry::DirEntry;
 use super::order::GitOrder;
 use odb_disk::{Disk, NoMemory, PathText};
 use std::alloc::Global;
-use walkdir::{Error, IntoIter, NoSort, Sorter};
+use walkdir::{Error, NoSort, Sorter, Stack, Steps};
 
 /// How many threads a walk is asked to use. It uses one in any case.
 #[derive(Clone, Copy, Debug, PartialEq, Eq)]
@@ -98,52 +98,75 @@ impl<S: Drop> WalkDir<S> {
         self,
         alloc: Global,
         disk: &'d mut D,
-    ) -> Result<WalkDirIter<'d, D, S>, NoMemory>
+    ) -> Result<WalkDirIter<'d, D, Stack<S>>, NoMemory>
     where
         S: Sorter,
         ensures made { IfErr result (λ _. ⊥) }
-        ensures begun { IfOk result (λ walk. progress S.order walk.inner.walk (D.streams walk.inner.disk.now) ≡ begun S.order self.inner (D.streams disk.old)) }
-        ensures own { IfOk result (λ walk. has_its_streams (progress S.order walk.inner.walk (D.streams walk.inner.disk.now)) ≡ true) }
-        ensures disk { IfOk result (λ walk. walk.inner.disk.ghost_name ≡ disk.entry.ghost_name) }
-        ensures same { IfOk result (λ walk. walk.inner.disk.now ≡ disk.old) }
+        ensures begun { IfOk result (λ walk. progress S.order walk.walk (D.streams walk.disk.now) ≡ begun S.order self.inner (D.streams disk.old)) }
+        ensures own { IfOk result (λ walk. has_its_streams (progress S.order walk.walk (D.streams walk.disk.now)) ≡ true) }
+        ensures disk { IfOk result (λ walk. walk.disk.ghost_name ≡ disk.entry.ghost_name) }
+        ensures same { IfOk result (λ walk. walk.disk.now ≡ disk.old) }
         ensures precompose { IfOk result (λ walk. walk.precompose_unicode ≡ self.precompose_unicode) }
     {
         Ok(WalkDirIter {
-            inner: self.inner.into_iter_on(alloc, disk)?,
+            disk,
+            walk: self.inner.into_stack(alloc),
             precompose_unicode: self.precompose_unicode,
         })
     }
 }
 
-/// The items of a walk, each entry wrapped.
-#[derive(Drop)]
-pub struct WalkDirIter<'d, D: Disk, S: Sorter + Drop> {
-    inner: IntoIter<'d, D, S>,
+/// The items of a walk on a disk that is lent to it, each entry wrapped.
+pub struct WalkDirIter<'d, D: Disk, W: Steps> {
+    disk: &'d mut D,
+    walk: W,
     precompose_unicode: bool,
 }
 
 /// The items of a walk, each entry wrapped.
-pub type DirEntryIter<'d, D, S> = WalkDirIter<'d, D, S>;
+pub type DirEntryIter<'d, D, W> = WalkDirIter<'d, D, W>;
 
-impl<'d, D: Disk, S: Sorter + Drop> Iterator for WalkDirIter<'d, D, S> {
+impl<'d, D: Disk, W: Steps> Iterator for WalkDirIter<'d, D, W> {
     type Item = Result<DirEntry<walkdir::DirEntry>, Error>;
 
     ghost use Rattle.gix_features.specs.Wrapped.{wrapped_item};
+    ghost use Rattle.std.specs.Iterator.{at_most};
     ghost use Rattle.std.specs.Prelude.{Option, Result};
+    ghost use Rattle.walkdir.specs.OnDisk.{NextOn};
+    ghost use Rattle.walkdir.specs.Progress.{has_its_streams, work_left};
     ghost use Rattle.walkdir.specs.declared.dent.DirEntry.{DirEntry as EntryValue};
     ghost use Rattle.walkdir.specs.declared.error.Error.{Error as ErrorValue};
 
-    ghost can_next = { λ s. ⟦<IntoIter<'d, D, S> as Iterator>⟧.can_next s.inner };
+    ghost can_next = { λ s. has_its_streams (W.progress s.walk (D.streams s.disk.now)) ≡ true };
 
-    ghost next_gives = { λ s item t. (inner : Option (Result EntryValue ErrorValue)) × ⟦<IntoIter<'d, D, S> as Iterator>⟧.next_gives s.inner inner t.inner × (item ≡ wrapped_item s.precompose_unicode inner) × (t.precompose_unicode ≡ s.precompose_unicode) };
+    ghost next_gives = { λ s item t. (inner : Option (Result EntryValue ErrorValue)) × NextOn D.state D.streams D.faults W.progress (record { disk = s.disk; walk = s.walk }) inner (record { disk = t.disk; walk = t.walk }) × (item ≡ wrapped_item s.precompose_unicode inner) × (t.precompose_unicode ≡ s.precompose_unicode) };
 
-    ghost remaining = { λ s. ⟦<IntoIter<'d, D, S> as Iterator>⟧.remaining s.inner };
+    ghost remaining = { λ s. at_most (work_left (W.progress s.walk (D.streams s.disk.now))) };
 
     fn next(&mut self) -> Option<Result<DirEntry<walkdir::DirEntry>, Error>> {
-        match self.inner.next() {
+        let walk = &mut self.walk;
+        match walk.step(self.disk) {
             None => None,
             Some(Ok(entry)) => Some(Ok(DirEntry::new(entry, self.precompose_unicode))),
             Some(Err(error)) => Some(Err(error)),
         }
+    }
+}
+
+impl<'d, D: Disk, W: Steps> Drop for WalkDirIter<'d, D, W> {
+    ghost use Rattle.odb_disk.specs.Streams.{Streams};
+    ghost use Rattle.walkdir.specs.Progress.{AreBack, Keeps};
+
+    fn drop(self)
+        ensures back { (before : Streams) → Keeps before (W.progress self.entry.walk (D.streams self.entry.disk.now)) → AreBack before (W.progress self.entry.walk (D.streams self.entry.disk.now)).options.max_open (D.streams self.exit.0.now) }
+        ensures state { D.state self.exit.0.now ≡ D.state self.entry.disk.now }
+        ensures faults { D.faults self.exit.0.now ≡ D.faults self.entry.disk.now }
+    {
+        let WalkDirIter {
+            disk,
+            mut walk,
+            precompose_unicode: _,
+        } = self;
+        walk.end(disk);
     }
 }

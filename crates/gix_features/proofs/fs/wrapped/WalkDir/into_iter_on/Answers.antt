@@ -1,0 +1,12 @@
+use Rattle.std.proofs.Common.{◌≡◌, true, subst, sym}
+use Rattle.walkdir.specs.Progress.{has_its_streams}
+use Rattle.walkdir.proofs.WholeWalks.{begun_has}
+use Rattle.gix_features.proofs.fs.wrapped.WalkDir.into_iter_on.Goals as goal
+
+pub returns-clause-begun : goal.returns-clause-begun
+returns-clause-begun g c = c.into_stack.ensures (g.D.Disk.streams c.args.disk.now)
+
+pub returns-clause-own : goal.returns-clause-own
+returns-clause-own g c =
+    let streams = g.D.Disk.streams c.args.disk.now in
+    subst (λ at. has_its_streams at ≡ true) (sym (c.into_stack.ensures streams)) (begun_has g.S.Sorter.order _ streams)
