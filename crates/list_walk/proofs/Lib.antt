@@ -1,4 +1,5 @@
 mod AskedLemmas
 mod LinesLemmas
+mod FaultsLemmas
 mod WrittenLemmas
 mod SessionLemmas

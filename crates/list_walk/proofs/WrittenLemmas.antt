@@ -9,32 +9,37 @@ use Rattle.odb_disk.specs.Source.{Adds}
 use Rattle.odb_disk.specs.Tree.{State}
 use Rattle.odb_disk.specs.Streams.{Streams}
 use Rattle.walkdir.proofs.WholeWalks.{begun_keeps}
+use Rattle.walkdir.specs.Failures.{failures_among, failures_given}
 use Rattle.walkdir.specs.Options.{Built}
 use Rattle.walkdir.specs.OwnStreams.{AreBack}
-use Rattle.walkdir.specs.Progress.{Keeps, Progress, Steps, begun}
+use Rattle.walkdir.specs.Progress.{FailsByFault, Keeps, Progress, Steps, begun}
 use Rattle.walkdir.specs.Walk.{Item, Order}
 use Rattle.list_walk.specs.Lines.{Delivers, EndsWritten, IsFront, IsWhole, Leaves, Gave, Output, is_error, is_want, line_of, lines_of, status_of}
 use Rattle.list_walk.specs.declared.line.LineError.{LineError}
 use Rattle.list_walk.specs.declared.line.LineError.TheVariants as errors
 use Rattle.list_walk.specs.declared.status.Status.{Status}
 use Rattle.list_walk.specs.declared.status.Status.TheVariants as statuses
+use Rattle.list_walk.proofs.FaultsLemmas.{fails_cut, fails_end, fails_more, fails_none}
 use Rattle.list_walk.proofs.LinesLemmas.{adds_both, adds_front, adds_nothing, any_more, lines_more, yields_more}
 
--- What is written so far of a walk that has come to a place: its items, and the text that is gathered.
-pub record SoFar (state : Option State) (first at : Progress) (held held' : Option (List ℕ)) (text : List ℕ) (status : Status) : Type 0 where
+-- What is written so far of a walk that has come to a place: its items, the text that is gathered, and the disk's counts of
+-- faults.
+pub record SoFar (state : Option State) (first at : Progress) (faults faults' : ℕ) (held held' : Option (List ℕ)) (text : List ℕ) (status : Status) : Type 0 where
   pub items : List Item
   pub gave : Gave state first items at
   pub memory : list_any is_want items ≡ false
   pub status_is : status ≡ status_of items
   pub delivers : Delivers held held' (lines_of items) text
+  pub fails : FailsByFault first faults (failures_among items) at faults'
 
-pub begins : (state : Option State) (first : Progress) (held : Option (List ℕ)) (text : List ℕ) → text ≡ [] → SoFar state first first held held text statuses.Done
-begins state first held text none = record {
+pub begins : (state : Option State) (first : Progress) (faults : ℕ) (held : Option (List ℕ)) (text : List ℕ) → text ≡ [] → SoFar state first first faults faults held held text statuses.Done
+begins state first faults held text none = record {
   items = [];
   gave = refl;
   memory = refl;
   status_is = refl;
   delivers = ([], sym none, adds_nothing held);
+  fails = fails_none first faults;
 }
 
 -- the status with an item more
@@ -54,7 +59,7 @@ status_more items item = by_cases (list_any is_error items) (is_error item) ∙ 
     by_cases false true = refl
     by_cases false false = refl
 
-module _ (state : Option State) (first at : Progress) (held now next : Option (List ℕ)) (text : List ℕ) (status : Status) (so_far : SoFar state first at held now text status) where
+module _ (state : Option State) (first at : Progress) (x y z : ℕ) (held now next : Option (List ℕ)) (text : List ℕ) (status : Status) (so_far : SoFar state first at x y held now text status) where
   delivered_more : (item : Item) (left : List ℕ) → Delivers now next (text ++ line_of item) left → Delivers held next (lines_of (so_far.items ++ item ∷ [])) left
   delivered_more item left given =
       let before = so_far.delivers in (
@@ -63,40 +68,45 @@ module _ (state : Option State) (first at : Progress) (held now next : Option (L
         adds_both held now next before.0 given.0 before.2 given.2,
       )
 
-  pub more : (item : Item) (new : Progress) (left : List ℕ) (after : Status) → Steps state at (Some item) new → is_want item ≡ false → Delivers now next (text ++ line_of item) left → after ≡ status_with (is_error item) status
-      → SoFar state first new held next left after
-  more item new left after step want given after_is = record {
+  pub more : (item : Item) (new : Progress) (left : List ℕ) (after : Status) → Steps state at (Some item) new → FailsByFault at y (failures_given (Some item)) new z → is_want item ≡ false
+      → Delivers now next (text ++ line_of item) left → after ≡ status_with (is_error item) status → SoFar state first new x z held next left after
+  more item new left after step fails want given after_is = record {
     items = so_far.items ++ item ∷ [];
     gave = yields_more (Steps state) first so_far.items at item new so_far.gave step;
     memory = any_more is_want so_far.items item ∙ ap (λ b. b || is_want item) so_far.memory ∙ want;
     status_is = after_is ∙ ap (status_with (is_error item)) so_far.status_is ∙ status_more so_far.items item;
     delivers = delivered_more item left given;
+    fails = fails_more first at new x y z so_far.items so_far.fails item fails;
   }
 
-  pub whole : (new : Progress) → Steps state at None new → Adds now next text → IsWhole (record { state = state; first = first; held = held; held' = next }) status
-  whole new ended added = record {
+  pub whole : (new : Progress) → Steps state at None new → FailsByFault at y (failures_given None) new z → Adds now next text
+      → IsWhole (record { state = state; first = first; held = held; held' = next; disk_faults = x; disk_faults' = z }) status
+  whole new ended fails added = record {
     items = so_far.items;
     gave = record { at = at; gave = so_far.gave; now = new; ended = ended };
     memory = so_far.memory;
     status_is = so_far.status_is;
     added = subst (Adds held next) (sym so_far.delivers.1) (adds_both held now next so_far.delivers.0 text so_far.delivers.2 added);
+    fails = fails_end first at new x y z so_far.items so_far.fails fails;
   }
 
-  -- a front of the text that is gathered was written
-  pub front : ((count : ℕ) × Adds now next (take count text)) → IsFront (record { state = state; first = first; held = held; held' = next })
-  front added =
+  -- a front of the text that is gathered was written, and one call more was made
+  pub front : (given : ℕ) (new : Progress) → FailsByFault at y given new z → ((count : ℕ) × Adds now next (take count text))
+      → IsFront (record { state = state; first = first; held = held; held' = next; disk_faults = x; disk_faults' = z })
+  front given new fails added =
       let all = adds_front held now next so_far.delivers.0 text so_far.delivers.2 added in
       record {
         items = so_far.items;
         gave = record { at = at; gave = so_far.gave };
         count = all.0;
         added = subst (λ t. Adds held next (take all.0 t)) (sym so_far.delivers.1) all.1;
+        fails = fails_cut first at new x y z so_far.items so_far.fails given fails;
       }
 
   -- the same of the line of an item more
-  pub front_more : (item : Item) (new : Progress) → Steps state at (Some item) new → ((count : ℕ) × Adds now next (take count (text ++ line_of item)))
-      → IsFront (record { state = state; first = first; held = held; held' = next })
-  front_more item new step added =
+  pub front_more : (item : Item) (new : Progress) → Steps state at (Some item) new → FailsByFault at y (failures_given (Some item)) new z → ((count : ℕ) × Adds now next (take count (text ++ line_of item)))
+      → IsFront (record { state = state; first = first; held = held; held' = next; disk_faults = x; disk_faults' = z })
+  front_more item new step fails added =
       let all = adds_front held now next so_far.delivers.0 (text ++ line_of item) so_far.delivers.2 added in
       let lines : lines_of (so_far.items ++ item ∷ []) ≡ so_far.delivers.0 ++ (text ++ line_of item) = lines_more so_far.items item ∙ ap (λ t. t ++ line_of item) so_far.delivers.1 ∙ append_assoc so_far.delivers.0 text (line_of item) in
       record {
@@ -104,6 +114,7 @@ module _ (state : Option State) (first at : Progress) (held now next : Option (L
         gave = record { at = new; gave = yields_more (Steps state) first so_far.items at item new so_far.gave step };
         count = all.0;
         added = subst (λ t. Adds held next (take all.0 t)) (sym lines) all.1;
+        fails = fails_more first at new x y z so_far.items so_far.fails item fails;
       }
 
 pub leaves_all : (at : Progress) → Leaves at at

@@ -7,7 +7,8 @@ use Rattle.odb_disk.specs.Source.{Adds}
 use Rattle.odb_disk.specs.Streams.{Streams}
 use Rattle.odb_disk.specs.Tree.{State}
 use Rattle.walkdir.specs.Error.{text_of_error}
-use Rattle.walkdir.specs.Progress.{Keeps, Progress, Steps, is_lost}
+use Rattle.walkdir.specs.Failures.{failures_among}
+use Rattle.walkdir.specs.Progress.{FailsByFault, Keeps, Progress, Steps, is_lost}
 use Rattle.walkdir.specs.Walk.{Item}
 use Rattle.list_walk.specs.declared.line.LineError.{LineError}
 use Rattle.list_walk.specs.declared.status.Status.{Status}
@@ -69,27 +70,33 @@ status_of items = if list_any is_error items then statuses.SomeErrors else statu
 
 -- ---- what is written of a walk
 
--- the state of the disk, the walk, and the bytes held by the sink before and after
+-- The state of the disk, the walk, and before and after the bytes held by the sink and the disk's count of faults.
 pub record Output : Type 0 where
   pub state : Option State
   pub first : Progress
   pub held : Option (List ℕ)
   pub held' : Option (List ℕ)
+  pub disk_faults : ℕ
+  pub disk_faults' : ℕ
 
--- the lines of all items of the walk, none of them want of memory, were written, and the status is theirs
+-- The lines of all items of the walk, none of them want of memory, were written, and the status is theirs. Beside failures
+-- that waited before, there are no more among them than the disk's count of faults rose by.
 pub record IsWhole (o : Output) (status : Status) : Type 0 where
   pub items : List Item
   pub gave : GaveAll o.state o.first items
   pub memory : list_any is_want items ≡ false
   pub status_is : status ≡ status_of items
   pub added : Adds o.held o.held' (lines_of items)
+  pub fails : FailsByFault o.first o.disk_faults (failures_among items) gave.now o.disk_faults'
 
--- a front of the lines of items of the walk was written
+-- A front of the lines of items of the walk was written. Beside failures that waited before, there are no more among these
+-- items than the disk's count of faults rose by.
 pub record IsFront (o : Output) : Type 0 where
   pub items : List Item
   pub gave : GaveSome o.state o.first items
   pub count : ℕ
   pub added : Adds o.held o.held' (take count (lines_of items))
+  pub fails : FailsByFault o.first o.disk_faults (failures_among items) gave.at o.disk_faults'
 
 -- the walk came to its end, or it was cut off
 abbrev pub EndsWritten : Output → Result Status LineError → Type 0

@@ -24,11 +24,13 @@ pub fn run<K: Sink, D: Disk>(alloc: Global, words: &[String], sink: &mut K, disk
       asked = asked_of (map (λ word. string_bytes word) words.now);
       state = D.state disk.old;
       streams = D.streams disk.old;
+      disk_faults = D.faults disk.old;
+      disk_faults' = D.faults disk.new;
       held = K.held sink.old;
       held' = K.held sink.new;
       faults = K.faults sink.old;
       faults' = K.faults sink.new;
-      usage = NOT_UNDERSTOOD.now;
+      refusal = NOT_UNDERSTOOD.now;
     }) result }
     ensures state { D.state disk.new ≡ D.state disk.old }
     ensures back { StreamsBack (asked_of (map (λ word. string_bytes word) words.now)) (D.streams disk.old) (D.streams disk.new) }
@@ -54,15 +56,17 @@ fn listed<K: Sink, D: Disk>(
     sink: &mut K,
     disk: &mut D,
 ) -> Result<Status, LineError>
-    ensures ends { (usage : List ℕ) → EndsListed (record {
+    ensures ends { (refusal : List ℕ) → EndsListed (record {
       asked = Some asked;
       state = D.state disk.old;
       streams = D.streams disk.old;
+      disk_faults = D.faults disk.old;
+      disk_faults' = D.faults disk.new;
       held = K.held sink.old;
       held' = K.held sink.new;
       faults = K.faults sink.old;
       faults' = K.faults sink.new;
-      usage = usage;
+      refusal = refusal;
     }) result }
     ensures state { D.state disk.new ≡ D.state disk.old }
     ensures back { AreBack (D.streams disk.old) (options_of asked).max_open (D.streams disk.new) }
@@ -88,6 +92,8 @@ fn walked<S: Sorter + Drop, K: Sink, D: Disk>(
       first = begun S.order walk (D.streams disk.old);
       held = K.held sink.old;
       held' = K.held sink.new;
+      disk_faults = D.faults disk.old;
+      disk_faults' = D.faults disk.new;
     }) result }
     ensures cause { IsErrOf result LineError.Failed → Rose (K.faults sink.old) (K.faults sink.new) }
     ensures state { D.state disk.new ≡ D.state disk.old }
@@ -151,6 +157,8 @@ fn written<K: Sink, D: Disk, W: Steps>(
       first = W.progress walk.old.walk (D.streams walk.old.disk.now);
       held = K.held sink.old;
       held' = K.held sink.new;
+      disk_faults = D.faults walk.old.disk.now;
+      disk_faults' = D.faults walk.new.disk.now;
     }) result }
     ensures cause { IsErrOf result LineError.Failed → Rose (K.faults sink.old) (K.faults sink.new) }
     ensures state { D.state walk.new.disk.now ≡ D.state walk.old.disk.now }

@@ -1,9 +1,11 @@
 //! What the program writes, and its status.
 use crate::run::run;
 use crate::status::Status;
-use odb_disk::{ByteList, Change, MemDisk, MemSink, PathText};
+use odb_disk::{ByteList, Change, HostDisk, MemDisk, MemSink, PathText};
 use std::alloc::Global;
+use std::os::unix::fs::symlink;
 use std::test::Fail;
+use std::{env, fs, io};
 
 fn disk_of(alloc: Global) -> Result<MemDisk, Fail> {
     let mut disk = MemDisk::new(alloc)?;
@@ -31,13 +33,33 @@ fn told(alloc: Global, text: &str) -> Result<(String, Status), Fail> {
     let mut disk = disk_of(alloc)?;
     let mut sink = MemSink::new(alloc);
     let status = run(alloc, &words, &mut sink, &mut disk);
+    Ok((lines_of(alloc, &sink)?, status))
+}
+
+/// The lines that a sink got, a space behind each.
+fn lines_of(alloc: Global, sink: &MemSink) -> Result<String, Fail> {
     let written = str::from_utf8(sink.bytes()).unwrap_or("no text");
     let mut lines = String::new(alloc);
     for line in written.lines() {
         lines.push_str(line)?;
         lines.push_str(" ")?;
     }
-    Ok((lines, status))
+    Ok(lines)
+}
+
+/// The words of a row, and what stands behind them.
+fn halves(row: &str) -> (&str, &str) {
+    row.split_once('|').unwrap_or((row, ""))
+}
+
+/// Fails where other lines or another status are found than a row wants behind its words.
+fn compare(row: &str, found: &str, status: Status) -> Result<(), Fail> {
+    let (want, code) = halves(halves(row).1);
+    if found != want || status.code() != code.parse::<u8>()? {
+        let code = status.code();
+        return Err(Fail::new(format_args!("{row}: {found}|{code}")));
+    }
+    Ok(())
 }
 
 const LONG: &str =
@@ -85,13 +107,57 @@ const ROWS: &str = "\
 #[test]
 fn listings(rt: HostRuntime) -> Result<(), Fail> {
     for row in ROWS.split('\n') {
-        let (words, rest) = row.split_once('|').unwrap_or((row, ""));
-        let (want, code) = rest.split_once('|').unwrap_or((rest, ""));
-        let (found, status) = told(rt.alloc(), words)?;
-        if found.as_str() != want || status.code() != code.parse::<u8>()? {
-            let code = status.code();
-            return Err(Fail::new(format_args!("{row}: {found}|{code}")));
-        }
+        let (found, status) = told(rt.alloc(), halves(row).0)?;
+        compare(row, found.as_str(), status)?;
+    }
+    Ok(())
+}
+
+/// Makes a folder and goes there. It has a file `f`, a directory `d` with a file and a link to the folder, and links to
+/// the file, to the directory, to nothing and to itself.
+fn enter_links(rt: &HostRuntime, folder: &str) -> io::Result<()> {
+    let _ = fs::remove_dir_all(rt, folder);
+    fs::create_dir_all(rt, folder)?;
+    env::set_current_dir(rt, folder)?;
+    fs::create_dir(rt, "d")?;
+    fs::write(rt, "d/g", b"")?;
+    fs::write(rt, "f", b"")?;
+    symlink(rt, "..", "d/up")?;
+    symlink(rt, "f", "to_f")?;
+    symlink(rt, "d", "to_d")?;
+    symlink(rt, "none", "to_none")?;
+    symlink(rt, "itself", "itself")
+}
+
+/// What is written of the folder that the test is in, with `@` in the place of its path, and the status.
+fn told_here(rt: &HostRuntime, options: &str) -> Result<(String, Status), Fail> {
+    let alloc = rt.alloc();
+    let folder = env::current_dir(rt)?;
+    let mut words = words_of(alloc, options)?;
+    words.insert(0, folder.as_str().to_string(alloc)?)?;
+    let mut sink = MemSink::new(alloc);
+    let mut disk = HostDisk::new(alloc, rt);
+    let status = run(alloc, &words, &mut sink, &mut disk);
+    let lines = lines_of(alloc, &sink)?;
+    Ok((lines.replace(alloc, folder.as_str(), "@")?, status))
+}
+
+const LINKS: &str = "\
+    --sort|@ @/d @/d/g @/d/up @/f @/itself @/to_d @/to_f @/to_none |0\n\
+    --sort --follow|\
+    @ @/d @/d/g File system loop found: @/d/up points to an ancestor @ \
+    @/f IO error for operation on @/itself: LinkLoop \
+    @/to_d @/to_d/g File system loop found: @/to_d/up points to an ancestor @ \
+    @/to_f IO error for operation on @/to_none: Absent |2";
+
+// Catches a link of a real disk that is followed where it mustn't be or isn't where it must, and one that leads nowhere or
+// back and is passed over or walked without end.
+#[test]
+fn links(rt: HostRuntime) -> Result<(), Fail> {
+    enter_links(&rt, "out/walks")?;
+    for row in LINKS.split('\n') {
+        let (found, status) = told_here(&rt, halves(row).0)?;
+        compare(row, found.as_str(), status)?;
     }
     Ok(())
 }

@@ -5,14 +5,14 @@ use Rattle.list_walk.proofs.run.written.Goals.{then-is_err, else-is_err}
 
 -- nothing is given yet
 pub items-init : goal.items-init
-items-init g c = record { own = c.requires; state = refl; name = refl; faults = omega arith; leaves = leaves_all _; so_far = begins _ _ _ _ c.new-lines.ensures }
+items-init g c = record { own = c.requires; state = refl; name = refl; faults = omega arith; leaves = leaves_all _; so_far = begins _ _ _ _ _ c.new-lines.ensures }
 
 -- want of memory: the lines before it
 pub returns-in_err-flush-clause-ends : goal.returns-in_err-flush-clause-ends
-returns-in_err-flush-clause-ends g c = ends_cut _ c.from_residual.result c.from_residual.ensures.0 (front _ _ _ _ _ _ _ _ c.items.invariant.so_far c.in_err-flush.ensures.err)
+returns-in_err-flush-clause-ends g c = ends_cut _ c.from_residual.result c.from_residual.ensures.0 (front _ _ _ _ _ _ _ _ _ _ _ c.items.invariant.so_far _ _ c.in-Some.ensures.steps.2 c.in_err-flush.ensures.err)
 
 pub returns-then-is_want-clause-ends : goal.returns-then-is_want-clause-ends
-returns-then-is_want-clause-ends g c = front _ _ _ _ _ _ _ _ c.items.invariant.so_far (all_of _ _ _ c.in_ok-flush.ensures.ok)
+returns-then-is_want-clause-ends g c = front _ _ _ _ _ _ _ _ _ _ _ c.items.invariant.so_far _ _ c.in-Some.ensures.steps.2 (all_of _ _ _ c.in_ok-flush.ensures.ok)
 
 -- an item more
 pub items-preserved : goal.items-preserved
@@ -23,7 +23,7 @@ items-preserved g c = record {
   faults = omega (arith, c.add.ensures.later, c.items.invariant.faults);
   leaves = leaves_more _ _ _ _ _ c.items.invariant.leaves c.in-Some.ensures.steps.1;
   so_far =
-      more _ _ _ _ _ _ _ _ c.items.invariant.so_far c.in-Some.item _ _ _ (step_at _ _ _ _ _ c.items.invariant.state c.in-Some.ensures.steps.1) (sym c.is_want.ensures ∙ c.if-is_want.false) c.in_ok-add.ensures.added
+      more _ _ _ _ _ _ _ _ _ _ _ c.items.invariant.so_far c.in-Some.item _ _ _ (step_at _ _ _ _ _ c.items.invariant.state c.in-Some.ensures.steps.1) c.in-Some.ensures.steps.2 (sym c.is_want.ensures ∙ c.if-is_want.false) c.in_ok-add.ensures.added
       (elim c.if-is_err.branch [
         | then-is_err w ↦ w.status-is ∙ ap (λ b. status_with b c.items.status) (sym w.if-is_err.true ∙ c.is_err.ensures.value)
         | else-is_err w ↦ w.status-is ∙ ap (λ b. status_with b c.items.status) (sym w.if-is_err.false ∙ c.is_err.ensures.value)
@@ -33,16 +33,16 @@ items-preserved g c = record {
 pub returns-in_err-add-clause-ends : goal.returns-in_err-add-clause-ends
 returns-in_err-add-clause-ends g c =
     ends_cut _ c.from_residual-in_err-add.result c.from_residual-in_err-add.ensures.0
-    (front_more _ _ _ _ _ _ _ _ c.items.invariant.so_far c.in-Some.item _ (step_at _ _ _ _ _ c.items.invariant.state c.in-Some.ensures.steps.1) (cut_by _ _ _ c.in_err-add.field-0.0 c.in_err-add.ensures.failed c.in_err-add.ensures.lost))
+    (front_more _ _ _ _ _ _ _ _ _ _ _ c.items.invariant.so_far c.in-Some.item _ (step_at _ _ _ _ _ c.items.invariant.state c.in-Some.ensures.steps.1) c.in-Some.ensures.steps.2 (cut_by _ _ _ c.in_err-add.field-0.0 c.in_err-add.ensures.failed c.in_err-add.ensures.lost))
 
 -- the end of the walk
 pub returns-in_err-flush-2-clause-ends : goal.returns-in_err-flush-2-clause-ends
 returns-in_err-flush-2-clause-ends g c =
-    ends_cut _ c.from_residual-in_err-flush-2.result c.from_residual-in_err-flush-2.ensures.0 (front _ _ _ _ _ _ _ _ c.items.invariant.so_far c.in_err-flush-2.ensures.err)
+    ends_cut _ c.from_residual-in_err-flush-2.result c.from_residual-in_err-flush-2.ensures.0 (front _ _ _ _ _ _ _ _ _ _ _ c.items.invariant.so_far _ _ c.in_default.ensures.steps.2 c.in_err-flush-2.ensures.err)
 
 pub returns-clause-ends : goal.returns-clause-ends
 returns-clause-ends g c =
-    ends_whole _ _ (whole _ _ _ _ _ _ _ _ c.items.invariant.so_far _ (step_at _ _ _ _ _ c.items.invariant.state c.in_default.ensures.steps.1) c.in_ok-flush-2.ensures.ok)
+    ends_whole _ _ (whole _ _ _ _ _ _ _ _ _ _ _ c.items.invariant.so_far _ (step_at _ _ _ _ _ c.items.invariant.state c.in_default.ensures.steps.1) c.in_default.ensures.steps.2 c.in_ok-flush-2.ensures.ok)
 
 -- what the walk leaves as it was
 pub returns-in_err-flush-clause-leaves : goal.returns-in_err-flush-clause-leaves

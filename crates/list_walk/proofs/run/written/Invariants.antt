@@ -14,7 +14,7 @@ invariant-items g l = record {
   faults : g.K.Sink.faults l.initial.sink ≤ g.K.Sink.faults l.sink;
   leaves : Leaves (g.W.Steps.progress l.initial.walk.walk (g.D.Disk.streams l.initial.walk.disk.now)) (g.W.Steps.progress l.walk.walk (g.D.Disk.streams l.walk.disk.now));
   so_far : SoFar (g.D.Disk.state l.initial.walk.disk.now) (g.W.Steps.progress l.initial.walk.walk (g.D.Disk.streams l.initial.walk.disk.now)) (g.W.Steps.progress l.walk.walk (g.D.Disk.streams l.walk.disk.now))
-      (g.K.Sink.held l.initial.sink) (g.K.Sink.held l.sink) (string_bytes l.lines.text) l.status;
+      (g.D.Disk.faults l.initial.walk.disk.now) (g.D.Disk.faults l.walk.disk.now) (g.K.Sink.held l.initial.sink) (g.K.Sink.held l.sink) (string_bytes l.lines.text) l.status;
 }
 
 abbrev pub decreases-items : goal.decreases-items
