@@ -1,11 +1,11 @@
 -- Laws of what entries tell of a folder: what one entry more adds.
-use Rattle.std.proofs.Common.{◌≡◌, ℕ, ◌+◌, ◌-◌, ◌^◌, min, max, Bool, true, false, not, cond, ◌==◌, List, [], ◌∷◌, ◌++◌, map, Some, Result, Ok, Err, length, ◌⊎◌, inl, inr, refl, sym, ap, subst, ◌∙◌, append-nil, arith}
-use Rattle.std.specs.List.{filter, slice_index, sum_by}
+use Rattle.std.proofs.Common.{◌≡◌, ℕ, ◌+◌, ◌-◌, ◌^◌, min, max, Bool, true, false, not, cond, ◌==◌, List, [], ◌∷◌, ◌++◌, map, Option, Some, None, Result, Ok, Err, length, ◌⊎◌, inl, inr, refl, sym, ap, subst, ◌∙◌, append-nil, arith}
+use Rattle.std.specs.List.{Contains, filter, slice_index, sum_by}
 use Rattle.std.specs.Iterator.{Yields}
 use Rattle.std.specs.Option.{MatchOption, option_map}
 use Rattle.std.specs.Result.{IfErr, IfOk, IsErrAnd, result_ok}
 use Rattle.std.proofs.lemmas.List.{map-append}
-use Rattle.std.proofs.lemmas.List.Elements.{filter-append}
+use Rattle.std.proofs.lemmas.List.Elements.{Contains-append_right, filter-append}
 use Rattle.std.proofs.lemmas.List.Sums.{sum_by_push}
 use Rattle.odb_base.specs.Path.{Name, Path, name_cmp}
 use Rattle.odb_disk.specs.Tree.{Tree}
@@ -14,8 +14,7 @@ use Rattle.odb_disk.specs.declared.disk.Meta.{Meta}
 use Rattle.walkdir.specs.Entry.{file_name_of}
 use Rattle.walkdir.specs.BuiltWalk.{walking}
 use Rattle.walkdir.specs.Options.{Built, default_options}
-use Rattle.walkdir.specs.Sorted.{all_equal, by_key}
-use Rattle.walkdir.specs.declared.sort.NoSort.{NoSort}
+use Rattle.walkdir.specs.Sorted.{by_key}
 use Rattle.walkdir.specs.Error.{is_no_memory}
 use Rattle.walkdir.specs.OwnStreams.{AreBack}
 use Rattle.walkdir.specs.Walk.{Order, Walking, told_at}
@@ -23,7 +22,12 @@ use Rattle.walkdir.specs.declared.error.Error.{Error}
 use Rattle.odb_disk.specs.Streams.{Streams}
 use Rattle.walkdir.specs.declared.builder.Options.{Options}
 use Rattle.walkdir.specs.declared.dent.DirEntry.{DirEntry}
-use Rattle.walkdir_uses.specs.Found.{ComesFirst, inside, is_file, is_hidden, length_of, size_at, total_size, visible_names}
+use Rattle.walkdir_uses.specs.Found.{ComesFirst, below, inside, is_file, is_hidden, length_of, size_at, total_size, visible_names}
+
+-- one item more is given
+pub yields_more : {S A : Type 0} (steps : S → Option A → S → Type 0) (s : S) (xs : List A) (t : S) (x : A) (u : S) → Yields steps s xs t → steps t (Some x) u → Yields steps s (xs ++ x ∷ []) u
+yields_more steps s [] t x u is step = (u, subst (λ y. steps y (Some x) u) (sym is) step, refl)
+yields_more steps s (y ∷ xs) t x u along step = (along.0, along.1, yields_more steps along.0 xs t x u along.2 step)
 
 -- what holds of the error of a result holds at its error
 pub if_err : {A E : Type 0} (result : Result A E) (error : E) (Holds : E → Type 0) → IsErrAnd result (λ e. e ≡ error) → Holds error → IfErr result Holds
@@ -54,6 +58,13 @@ all_taken rest len s (x ∷ xs) t along = along.1.0 ∙ ap (λ more. x ∷ more)
 pub none_left : {A : Type 0} (xs : List A) → length xs ≡ 0 → xs ≡ []
 none_left [] is = refl
 none_left (x ∷ xs) is = absurd (omega arith)
+
+-- what passes a test is among the elements that do
+pub passes_among : {A : Type 0} (test : A → Bool) (front : List A) (x : A) (back : List A) → test x ≡ true → Contains (filter test (front ++ x ∷ back)) x
+passes_among test front x back is =
+    let kept : filter test (front ++ x ∷ back) ≡ filter test front ++ x ∷ filter test back =
+    filter-append test front (x ∷ back) ∙ ap (λ b. filter test front ++ cond b (x ∷ filter test back) (filter test back)) is in
+    subst (λ xs. Contains xs x) (sym kept) (Contains-append_right (filter test front) (x ∷ filter test back) x (0, omega arith, refl))
 
 -- ---- sizes
 
@@ -103,14 +114,18 @@ pub name_hidden : (entries : List DirEntry) (entry : DirEntry) (names : List Nam
 name_hidden entries entry names dotted by dot is =
     is ∙ sym (names_one entries entry false (ap not (hidden_by (file_name_of entry) ∙ sym by ∙ dot)) ∙ append-nil (visible_names entries))
 
+-- ---- the walk of all below a folder
+
+pub walks_below : {S : Type 0} (order : S → Order) (built : Built S) (folder : Path) (tree : Tree) → built.root ≡ folder → built.options ≡ default_options → built.sorter ≡ None
+    → walking order tree built ≡ below tree folder
+walks_below order built folder tree root options sorter =
+    let same : option_map order built.sorter ≡ None = ap (option_map order) sorter in
+    λ i. record { tree = tree; root = root i; options = options i; order = same i }
+
 -- ---- the walk of what stands in a folder itself
 
 abbrev pub by_names : {T : Type 0} → T → Order
 by_names sorter = by_key name_cmp file_name_of
-
--- entries in the order of the disk's streams
-abbrev pub as_given : NoSort → Order
-as_given sorter = all_equal
 
 -- how it is built
 module _ {S T : Type 0} (new deepest shallowest : Built S) (sorted : Built T) (sorter : T) (folder : Path) (root : new.root ≡ folder) (options : new.options ≡ default_options)

@@ -1,5 +1,5 @@
 -- What the entries of a walk tell of a folder.
-use Rattle.std.specs.Prelude.{◌≡◌, ℕ, ◌-◌, ◌^◌, ◌==◌, Bool, true, false, not, min, List, [], ◌∷◌, ◌++◌, map, filter, sum_by, Option, Some, None, Ok, Err}
+use Rattle.std.specs.Prelude.{◌≡◌, ◌⊎◌, ℕ, ◌-◌, ◌^◌, ◌==◌, Bool, true, false, not, min, List, [], ◌∷◌, ◌++◌, Contains, map, filter, sum_by, Option, Some, None, Ok, Err}
 use Rattle.std.specs.Result.{result_ok}
 use Rattle.odb_base.specs.Path.{Path, Name, name_cmp}
 use Rattle.odb_disk.specs.Tree.{Tree}
@@ -8,12 +8,14 @@ use Rattle.odb_disk.specs.declared.disk.Kind.{Kind}
 use Rattle.odb_disk.specs.declared.disk.Kind.TheVariants.{File, Dir, Link}
 use Rattle.odb_disk.specs.declared.disk.Meta.{Meta}
 use Rattle.walkdir.specs.Entry.{file_name_of}
+use Rattle.walkdir.specs.Error.{is_no_memory}
 use Rattle.walkdir.specs.Options.{default_options}
-use Rattle.walkdir.specs.Sorted.{by_key}
-use Rattle.walkdir.specs.Walk.{Walking, Item, IsWalk}
+use Rattle.walkdir.specs.Sorted.{all_equal, by_key}
+use Rattle.walkdir.specs.Walk.{Walking, Item, IsWalk, Order, Tells, told_at}
 use Rattle.walkdir.specs.WalkLaws.{with_most}
 use Rattle.walkdir.specs.declared.dent.DirEntry.{DirEntry}
 use Rattle.walkdir.specs.declared.error.Error.{Error}
+use Rattle.walkdir.specs.declared.sort.NoSort.{NoSort}
 
 -- the walk of all below a folder, in the order of the disk's streams
 abbrev pub below : Tree → Path → Walking
@@ -22,6 +24,10 @@ below tree folder = record { tree = tree; root = folder; options = default_optio
 -- the walk of what stands in a folder itself, in the order of the bytes of its names
 abbrev pub inside : Tree → Path → Walking
 inside tree folder = record { tree = tree; root = folder; options = record default_options { min_depth = 1; max_depth = 1 }; order = Some (by_key name_cmp file_name_of) }
+
+-- entries in the order of the disk's streams
+abbrev pub as_given : NoSort → Order
+as_given sorter = all_equal
 
 -- a walk gives these entries and no error, and this holds of them
 abbrev pub FoundIn : Walking → (List DirEntry → Type 0) → Type 0
@@ -34,6 +40,14 @@ AreOnly walk entries = (most : ℕ) (others : List DirEntry) → IsWalk (with_mo
 -- a walk gives entries alone, and then this error
 abbrev pub ComesFirst : Walking → Error → Type 0
 ComesFirst walk error = (entries : List DirEntry) × (rest : List Item) × IsWalk walk (map Ok entries ++ Err error ∷ rest)
+
+-- a call that walks stops so: for want of memory, or at the first error of its walk
+abbrev pub IsStoppedBy : Walking → Error → Type 0
+IsStoppedBy walk error = (is_no_memory error ≡ true) ⊎ ComesFirst walk error
+
+-- entries alone, and then this error
+abbrev pub EndsWith : List Item → Error → Type 0
+EndsWith items error = (entries : List DirEntry) × (items ≡ map Ok entries ++ Err error ∷ [])
 
 abbrev pub is_file_kind : Kind → Bool
 is_file_kind File = true
@@ -55,6 +69,12 @@ length_of (Some meta) = meta.len
 -- the length of what stands at an entry's path
 abbrev pub size_at : Tree → DirEntry → ℕ
 size_at tree entry = length_of (result_ok (looked tree entry.path entry.followed))
+
+-- a walk gives entries and no error, and this error is what a look at the path of a file among them tells
+abbrev pub IsRefusedLook : Walking → Error → Type 0
+IsRefusedLook walk error =
+    FoundIn walk (λ entries. (entry : DirEntry) × Contains (filter is_file entries) entry
+    × Tells entry.depth entry.path (Err error) (told_at entry.depth entry.path (looked walk.tree entry.path entry.followed)))
 
 -- the lengths of the files among entries, added up, and at most the greatest number of 64 bits
 abbrev pub total_size : Tree → List DirEntry → ℕ

@@ -2,11 +2,13 @@ use Rattle.std.proofs.Common.{◌∷◌, ◌++◌, Some, Err, refl, Ok, map, sym
 use Rattle.std.specs.Prelude.{IfSome}
 use Rattle.odb_disk.specs.Tree.{tree_of}
 use Rattle.walkdir.specs.BuiltWalk.{walking}
-use Rattle.walkdir.specs.Error.{is_no_memory}
+use Rattle.walkdir.specs.Error.{failures, is_no_memory, no_memory}
 use Rattle.walkdir.specs.StackProgress.{progress}
 use Rattle.walkdir.specs.Walk.{IsWalk}
 use Rattle.walkdir.proofs.SameWalks.{only_entries}
-use Rattle.walkdir.proofs.WholeWalks.{NextOn, NoneLost, at_walk, begins_on_disk, entries_kept, if_told, left_back, whole_on_disk}
+use Rattle.walkdir.specs.OnDisk.{NextOn, at_walk}
+use Rattle.walkdir.proofs.WholeWalks.{NoneLost, begins_on_disk, entries_kept, if_told, left_back, whole_on_disk}
+use Rattle.walkdir_uses.proofs.CostLemmas.{costs_as, costs_later_only, costs_of_error, costs_of_next}
 use Rattle.walkdir_uses.proofs.FoundLemmas.{if_err, lost_or_first}
 use Rattle.walkdir_uses.specs.Found.{AreOnly}
 use Rattle.walkdir_uses.proofs.entries_of.Goals as goal
@@ -75,3 +77,40 @@ returns-in_err-entry-clause-first g c =
     (subst (λ item. NextOn g.D.Disk.state g.D.Disk.streams g.D.Disk.faults (λ walk streams. progress g.S.Sorter.order walk streams) c.loop-entry.entry-iterator item c.next.new.self) given c.next.ensures.steps)
     (subst NoneLost c.loop-entry.invariant.items (entries_kept entries)) kept in
     (entries, found.0, subst (λ items. IsWalk (walking g.S.Sorter.order (tree_of s) c.args.walk) (items ++ Err error ∷ found.0)) (sym c.loop-entry.invariant.items) found.1))))
+
+-- ---- what it cost
+
+-- a walk that was run to its end
+pub returns-clause-cost : goal.returns-clause-cost
+returns-clause-cost g c =
+    let same = c.into_iter-entry-iterator.ensures.into_iter_gives in
+    let begun = ap (at_walk g.D.Disk.state g.D.Disk.streams g.D.Disk.faults (λ walk streams. progress g.S.Sorter.order walk streams)) same ∙ c.in_ok-entry-items.ensures.begun in
+    let costs = costs_of_next g.D.Disk.state g.D.Disk.streams g.D.Disk.faults (λ walk streams. progress g.S.Sorter.order walk streams) g.S.Sorter.order c.args.walk (g.D.Disk.streams c.args.disk.now)
+    c.into_iter-entry-iterator.result c.loop-entry.yielded c.loop-entry.entry-iterator c.next.result c.next.new.self begun c.loop-entry.yielded_by c.next.ensures.steps in
+    let cost = costs_as 0 _ _ _ _ (ap (λ x. g.D.Disk.faults x.disk.now) same ∙ ap g.D.Disk.faults c.in_ok-entry-items.ensures.same) c.drop-entry-iterator-2.ensures.faults (costs_later_only _ _ _ costs) in
+    search rules
+
+-- memory ran out
+pub returns-in_err-push-clause-cost : goal.returns-in_err-push-clause-cost
+returns-in_err-push-clause-cost g c =
+    let same = c.into_iter-entry-iterator.ensures.into_iter_gives in
+    let begun = ap (at_walk g.D.Disk.state g.D.Disk.streams g.D.Disk.faults (λ walk streams. progress g.S.Sorter.order walk streams)) same ∙ c.in_ok-entry-items.ensures.begun in
+    let costs = costs_of_next g.D.Disk.state g.D.Disk.streams g.D.Disk.faults (λ walk streams. progress g.S.Sorter.order walk streams) g.S.Sorter.order c.args.walk (g.D.Disk.streams c.args.disk.now)
+    c.into_iter-entry-iterator.result c.loop-entry.yielded c.loop-entry.entry-iterator c.next.result c.next.new.self begun c.loop-entry.yielded_by c.next.ensures.steps in
+    let cost = costs_of_error c.from_residual-in_err-push.result no_memory _ _ (search rules)
+    (costs_as 0 _ _ _ _ (ap (λ x. g.D.Disk.faults x.disk.now) same ∙ ap g.D.Disk.faults c.in_ok-entry-items.ensures.same) c.drop-entry-iterator-in_err-push.ensures.faults (costs_later_only _ _ _ costs)) in
+    search rules
+
+-- the walk gave an error
+pub returns-in_err-entry-clause-cost : goal.returns-in_err-entry-clause-cost
+returns-in_err-entry-clause-cost g c =
+    let error = c.in_err-entry.field-0.0 in
+    let same = c.into_iter-entry-iterator.ensures.into_iter_gives in
+    let begun = ap (at_walk g.D.Disk.state g.D.Disk.streams g.D.Disk.faults (λ walk streams. progress g.S.Sorter.order walk streams)) same ∙ c.in_ok-entry-items.ensures.begun in
+    let costs = costs_of_next g.D.Disk.state g.D.Disk.streams g.D.Disk.faults (λ walk streams. progress g.S.Sorter.order walk streams) g.S.Sorter.order c.args.walk (g.D.Disk.streams c.args.disk.now)
+    c.into_iter-entry-iterator.result c.loop-entry.yielded c.loop-entry.entry-iterator (Some (Err error)) c.next.new.self begun c.loop-entry.yielded_by
+    (subst (λ item. NextOn g.D.Disk.state g.D.Disk.streams g.D.Disk.faults (λ walk streams. progress g.S.Sorter.order walk streams) c.loop-entry.entry-iterator item c.next.new.self)
+    (c.in-Some.is ∙ ap Some c.in_err-entry.was) c.next.ensures.steps) in
+    let cost = costs_of_error c.from_residual-in_err-entry.result error _ _ c.from_residual-in_err-entry.ensures.1
+    (costs_as (failures error) _ _ _ _ (ap (λ x. g.D.Disk.faults x.disk.now) same ∙ ap g.D.Disk.faults c.in_ok-entry-items.ensures.same) c.drop-entry-iterator.ensures.faults costs) in
+    search rules

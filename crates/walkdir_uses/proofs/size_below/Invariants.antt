@@ -1,4 +1,4 @@
-use Rattle.std.proofs.Common.{◌≡◌}
+use Rattle.std.proofs.Common.{◌≡◌, ◌≤◌}
 use Rattle.std.specs.Prelude.{IfSome}
 use Rattle.odb_disk.specs.Tree.{tree_of}
 use Rattle.walkdir.specs.Options.{default_options}
@@ -11,5 +11,6 @@ abbrev pub invariant-loop-entry : goal.invariant-loop-entry
 invariant-loop-entry g l = record {
   kept : g.D.Disk.state l.disk ≡ g.D.Disk.state l.fn.disk;
   back : AreBack (g.D.Disk.streams l.fn.disk) default_options.max_open (g.D.Disk.streams l.disk);
+  later : g.D.Disk.faults l.fn.disk ≤ g.D.Disk.faults l.disk;
   size : IfSome (g.D.Disk.state l.fn.disk) (λ s. l.size ≡ total_size (tree_of s) l.yielded);
 }
