@@ -15,8 +15,6 @@ mod no_memory;
 mod path;
 mod path_name;
 mod sequence;
-#[cfg(test)]
-mod tests;
 
 pub use byte_list::ByteList;
 pub use decimal::parse_decimal;

@@ -8,7 +8,7 @@ use Rattle.odb_disk.specs.Disk.{Answers}
 use Rattle.odb_disk.specs.TreeCalls.{Ends, Leads, node_of_place, device_of_content, device_in, standing_content, standing_of}
 use Rattle.odb_disk.specs.declared.node.Node.{Node}
 use Rattle.odb_disk.specs.declared.node.Content.{Content}
-use Rattle.odb_disk.specs.declared.tree.Standing.TheVariants as standings
+use Rattle.odb_disk.specs.declared.tree.changes.Standing.TheVariants as standings
 use Rattle.odb_disk.specs.declared.node.Content.TheVariants.{File, Dir, Link}
 use Rattle.odb_disk.specs.declared.disk.DiskError.{DiskError}
 use Rattle.odb_disk.specs.declared.disk.DiskError.TheVariants as errors

@@ -16,10 +16,10 @@ use Rattle.odb_disk.specs.declared.node.Content.{Content}
 use Rattle.odb_disk.specs.declared.node.Content.TheVariants.{File, Dir, Link}
 use Rattle.odb_disk.specs.declared.disk.DiskError.{DiskError}
 use Rattle.odb_disk.specs.declared.disk.DiskError.TheVariants as errors
-use Rattle.odb_disk.specs.declared.tree.Standing.{Standing}
-use Rattle.odb_disk.specs.declared.tree.Standing.TheVariants as standings
-use Rattle.odb_disk.specs.declared.tree.Way.{Way}
-use Rattle.odb_disk.specs.declared.tree.Way.TheVariants as ways
+use Rattle.odb_disk.specs.declared.tree.changes.Standing.{Standing}
+use Rattle.odb_disk.specs.declared.tree.changes.Standing.TheVariants as standings
+use Rattle.odb_disk.specs.declared.tree.follow.Way.{Way}
+use Rattle.odb_disk.specs.declared.tree.follow.Way.TheVariants as ways
 
 -- the error that ends a pass, unless memory ran out
 abbrev pub Ends : DiskError → Pass → Type 0

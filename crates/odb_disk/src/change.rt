@@ -1,4 +1,4 @@
-ghost use Rattle.std.specs.Prelude.{◌≡◌};
+ghost use Rattle.std.specs.Prelude.{◌≡◌, IfOk};
 ghost use Rattle.odb_disk.specs.declared.change.Impossible.TheVariants.{NoMemory as out_of_memory};
 
 use crate::{ByteList, NoMemory, PathText};
@@ -55,27 +55,14 @@ impl Change {
         ensures { IfOk result (λ copy. copy ≡ self.now) }
     {
         match self {
-            Change::PutFile { path, time, bytes } => Ok(Change::PutFile {
-                path: path.try_clone(alloc)?,
-                time: *time,
-                bytes: bytes.try_clone(alloc)?,
-            }),
+            Change::PutFile { path, time, bytes } => put_file(alloc, path, *time, bytes),
             Change::MakeDir { path, dev } => Ok(Change::MakeDir {
                 path: path.try_clone(alloc)?,
                 dev: *dev,
             }),
-            Change::PutLink { path, target } => Ok(Change::PutLink {
-                path: path.try_clone(alloc)?,
-                target: target.try_clone(alloc)?,
-            }),
-            Change::Rename { from, to } => Ok(Change::Rename {
-                from: from.try_clone(alloc)?,
-                to: to.try_clone(alloc)?,
-            }),
-            Change::Append { path, bytes } => Ok(Change::Append {
-                path: path.try_clone(alloc)?,
-                bytes: bytes.try_clone(alloc)?,
-            }),
+            Change::PutLink { path, target } => put_link(alloc, path, target),
+            Change::Rename { from, to } => rename(alloc, from, to),
+            Change::Append { path, bytes } => append(alloc, path, bytes),
             Change::Remove { path } => Ok(Change::Remove {
                 path: path.try_clone(alloc)?,
             }),
@@ -85,6 +72,38 @@ impl Change {
             }),
         }
     }
+}
+
+fn put_file(alloc: Global, path: &PathText, time: u64, bytes: &ByteList) -> Result<Change, NoMemory>
+    ensures { IfOk result (λ copy. copy ≡ Change.PutFile path.now time bytes.now) }
+{
+    let path = path.try_clone(alloc)?;
+    let bytes = bytes.try_clone(alloc)?;
+    Ok(Change::PutFile { path, time, bytes })
+}
+
+fn put_link(alloc: Global, path: &PathText, target: &PathText) -> Result<Change, NoMemory>
+    ensures { IfOk result (λ copy. copy ≡ Change.PutLink path.now target.now) }
+{
+    let path = path.try_clone(alloc)?;
+    let target = target.try_clone(alloc)?;
+    Ok(Change::PutLink { path, target })
+}
+
+fn rename(alloc: Global, from: &PathText, to: &PathText) -> Result<Change, NoMemory>
+    ensures { IfOk result (λ copy. copy ≡ Change.Rename from.now to.now) }
+{
+    let from = from.try_clone(alloc)?;
+    let to = to.try_clone(alloc)?;
+    Ok(Change::Rename { from, to })
+}
+
+fn append(alloc: Global, path: &PathText, bytes: &ByteList) -> Result<Change, NoMemory>
+    ensures { IfOk result (λ copy. copy ≡ Change.Append path.now bytes.now) }
+{
+    let path = path.try_clone(alloc)?;
+    let bytes = bytes.try_clone(alloc)?;
+    Ok(Change::Append { path, bytes })
 }
 
 /// Why a change wasn't made. Nothing has changed then.

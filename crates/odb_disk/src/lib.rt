@@ -21,8 +21,6 @@ mod node_map;
 mod node_moves;
 mod source;
 mod std_stream;
-#[cfg(test)]
-mod tests;
 mod tree;
 
 pub use ask::{DiskAnswer, DiskAsk, Op};

@@ -1,6 +1,6 @@
 //! Moves of a directory with all below it: its nodes are copied to their new paths, and then taken from the old
 //! ones, so that a move that runs out of memory changes nothing.
-ghost use Rattle.std.specs.Prelude.{◌≡◌, ◌++◌, ℕ, true, false, map, length, drop, IfOk, OnOk, OnErr, IsSome, IfSome, Some, None};
+ghost use Rattle.std.specs.Prelude.{◌≡◌, ◌++◌, ◌∷◌, [], ℕ, true, false, map, length, drop, IfOk, OnOk, OnErr, IsSome, IfSome, Some, None};
 ghost use Rattle.std.specs.Option.{IfNone};
 ghost use Rattle.std.specs.List.{starts_with};
 ghost use Rattle.odb_base.specs.Path.{Path, same_name};
@@ -55,15 +55,31 @@ fn paths_below(
 {
     let mut sources = Vec::new(alloc);
     let mut targets = Vec::new(alloc);
-    let mut last = from.try_clone(alloc)?;
-    sources.push(from.try_clone(alloc)?)?;
-    targets.push(moved_path(alloc, from, from, to)?)?;
-    while let Some((path, _)) = next_below(nodes, from, &last) {
-        targets.push(moved_path(alloc, path, from, to)?)?;
-        sources.push(path.try_clone(alloc)?)?;
-        last = path.try_clone(alloc)?;
+    let mut last = from;
+    add_move(alloc, &mut sources, &mut targets, from, from, to)?;
+    while let Some((path, _)) = next_below(nodes, from, last) {
+        add_move(alloc, &mut sources, &mut targets, path, from, to)?;
+        last = path;
     }
     Ok((sources, targets))
+}
+
+/// Adds a path that lies below `from` or is it, and where it moves to.
+fn add_move(
+    alloc: Global,
+    sources: &mut Vec<PathText>,
+    targets: &mut Vec<PathText>,
+    path: &PathText,
+    from: &PathText,
+    to: &PathText,
+) -> Result<(), NoMemory>
+    requires { starts_with same_name path.now from.now ≡ true }
+    ensures source { OnOk result (sources.new.items ≡ sources.old.items ++ path.now ∷ []) }
+    ensures target { OnOk result (targets.new.items ≡ targets.old.items ++ moved_path from.now to.now path.now ∷ []) }
+{
+    sources.push(path.try_clone(alloc)?)?;
+    targets.push(moved_path(alloc, path, from, to)?)?;
+    Ok(())
 }
 
 /// The first node behind a path, where it lies below a directory. The path is the directory's or lies below it.
@@ -87,7 +103,7 @@ pub(crate) fn next_below<'a>(
 }
 
 /// Where a path moves that lies below `from` or is it.
-fn moved_path(
+pub(crate) fn moved_path(
     alloc: Global,
     path: &PathText,
     from: &PathText,

@@ -30,14 +30,15 @@ pub trait Source {
     /// The bytes that are left, where the source tells them.
     ghost left: { Self → Option (List ℕ) };
 
-    /// How often a read has failed: a count that never falls.
+    /// How often a read has failed: a count that never falls, and rises only there.
     ghost faults: { Self → ℕ };
 
     /// Reads bytes to the front of `out`, and answers how many. 0 for a buffer that isn't empty is the end.
     fn read(&mut self, out: &mut [u8]) -> Result<usize, Failed>
         ensures count { IfOk result (λ n. n ≤ length out.old) }
         ensures bytes { Reads (left self.old) (left self.new) out.new result }
-        ensures cause { HasCause (faults self.old) (faults self.new) result };
+        ensures cause { HasCause (faults self.old) (faults self.new) result }
+        ensures same { OnOk result (faults self.new ≡ faults self.old) };
 }
 
 /// Where bytes go out. A sink takes no memory of its caller's.
@@ -179,6 +180,7 @@ impl Source for MemSource {
         ensures count { IfOk result (λ n. n ≤ length out.old) }
         ensures bytes { Reads (Some self.old.left) (Some self.new.left) out.new result }
         ensures cause { HasCause self.old.calls.faults self.new.calls.faults result }
+        ensures same { OnOk result (self.new.calls.faults ≡ self.old.calls.faults) }
         ensures most { IfOk result (λ n. n ≡ min (length out.old) (length self.old.left)) }
         ensures failed { is_err result ≡ next_fails self.old.calls }
         ensures counted { self.new.calls ≡ after_call (is_err result) self.old.calls }

@@ -2,6 +2,7 @@
 ghost use Rattle.std.specs.Prelude.{◌≡◌, ◌≢◌, [], ◌∷◌, ◌++◌, true, IfOk, IfSome, OnOk, Err, IsSome};
 ghost use Rattle.std.specs.Option.{IfNone, option_copied};
 ghost use Rattle.std.specs.List.{filter_map, starts_with};
+ghost use Rattle.std.specs.String.{string_bytes};
 ghost use Rattle.std.specs.declared.cmp.Ordering.TheVariants.{Less};
 ghost use Rattle.odb_base.specs.Path.{Path, path_cmp, same_name};
 ghost use Rattle.odb_disk.specs.Disk.{Answers};
@@ -113,13 +114,21 @@ fn end_of(alloc: Global, path: &PathText) -> Result<Option<PathText>, NoMemory>
     let Some(name) = path.file_name() else {
         return Ok(None);
     };
-    let mut behind = name.to_string(alloc)?;
-    behind.push_str("\u{1}")?;
+    let behind = name_behind(alloc, name)?;
     match directory.join(alloc, behind.as_str()) {
         Ok(end) => Ok(Some(end)),
         Err(BadPath::NoMemory) => Err(NoMemory),
         Err(_) => Ok(None),
     }
+}
+
+/// A name with the byte 1 behind it.
+fn name_behind(alloc: Global, name: &str) -> Result<String, NoMemory>
+    ensures { IfOk result (λ behind. string_bytes behind ≡ name.now ++ 1 ∷ []) }
+{
+    let mut behind = name.to_string(alloc)?;
+    behind.push_str("\u{1}")?;
+    Ok(behind)
 }
 
 /// Adds the entry of a node whose path has one name below the directory.

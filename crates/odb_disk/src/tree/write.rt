@@ -5,12 +5,14 @@ ghost use Rattle.odb_disk.specs.Tree.Write.{Refusal};
 ghost use Rattle.odb_disk.specs.TreeCalls.{Tells};
 ghost use Rattle.odb_disk.specs.declared.change.Change.{Change as ChangeValue};
 
-use super::{MAX_LINKS, Tree, Way};
+use super::follow::Way;
+use super::{MAX_LINKS, Tree};
 use crate::ask::DiskAsk;
 use crate::change::Change;
 use crate::disk::DiskError;
 use crate::node::Content;
 use crate::node_map::has_names;
+use crate::node_moves::moved_path;
 use crate::{ByteList, NoMemory, PathText};
 use std::alloc::Global;
 
@@ -172,10 +174,7 @@ impl Tree {
         if !self.stands_directory(&place) {
             return Err(DiskError::WrongKind);
         }
-        match path.strip_prefix(alloc, &front)? {
-            Some(last) => Ok(place.followed_by(alloc, &last)?),
-            None => unreachable!(),
-        }
+        Ok(moved_path(alloc, path, &front, &place)?)
     }
 
     /// The spot of a path where nothing stands.

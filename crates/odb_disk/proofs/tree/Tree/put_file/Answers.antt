@@ -2,7 +2,7 @@ use Rattle.std.proofs.Common.{◌≡◌, ◌∙◌, ap, sym}
 use Rattle.odb_disk.specs.Tree.{node_at, with_node}
 use Rattle.odb_disk.specs.Tree.Change.{least_free}
 use Rattle.odb_disk.specs.declared.node.Content.TheVariants.{File}
-use Rattle.odb_disk.specs.declared.tree.Standing.TheVariants as standings
+use Rattle.odb_disk.specs.declared.tree.changes.Standing.TheVariants as standings
 use Rattle.odb_disk.proofs.TreeLemmas.Change.{nowhere-put_file, over_directory-put_file, possible-put_file, made-put_file}
 use Rattle.odb_disk.proofs.TreeCallsLemmas.{lies_nowhere, lies_somewhere, device_there, directory_stands, no_directory_stands, file_stands, put_node-file, put_node-other}
 use Rattle.odb_disk.proofs.tree.Tree.put_file.Goals as goal

@@ -1,7 +1,6 @@
-use Rattle.std.proofs.Common.{◌≡◌, ◌∙◌, true, false, sym, ap, Ok}
-use Rattle.std.proofs.lemmas.Bool.{false≢true}
+use Rattle.std.proofs.Common.{◌≡◌, ◌∙◌, true, false, sym, ap, Ok, drop, length}
 use Rattle.std.proofs.lemmas.Result.{err_from_is_err_and}
-use Rattle.odb_base.specs.PathLaws.{parent_of-some, lies_below}
+use Rattle.odb_base.specs.PathLaws.{parent_of-some, lies_below, goes_beyond}
 use Rattle.odb_disk.specs.Tree.{node_at, is_directory}
 use Rattle.odb_disk.proofs.WriteCallsLemmas.{spot_root, spot_refused, spot_nowhere, spot_there}
 use Rattle.odb_disk.proofs.tree.Tree.spot.Goals as goal
@@ -19,14 +18,17 @@ returns-then-not-stands_directory c =
     let other : is_directory (node_at c.args.self.now c.in_ok-place.place) ≡ false = cc in
     spot_nowhere c.args.self.now c.args.path.now c.in_ok-front.field-0 c.in_ok-front.ensures c.in-Some.front c.in-Some.is c.in_ok-place.place c.in_ok-place.ensures other
 
-pub unreachable-requires : goal.unreachable-requires
-unreachable-requires c =
+pub moved_path-requires : goal.moved_path-requires
+moved_path-requires c =
     let last = parent_of-some c.args.path.now c.in-Some.front (sym c.in_ok-front.ensures ∙ c.in-Some.is) in
-    false≢true (sym (c.in_ok-last.ensures.apart c.in-None.is) ∙ lies_below c.args.path.now c.in-Some.front _ last.1)
+    lies_below c.args.path.now c.in-Some.front _ last.1
 
 pub returns : goal.returns
 returns c =
     let directory : is_directory (node_at c.args.self.now c.in_ok-place.place) ≡ true = cc in
-    let whole = rw c.in-Some-2.is at c.in_ok-last.ensures.below in
-    spot_there c.args.self.now c.args.path.now c.in_ok-front.field-0 c.in_ok-front.ensures c.in-Some.front c.in-Some.is c.in_ok-place.place c.in_ok-place.ensures directory c.in-Some-2.last whole
-    ∙ ap Ok (sym c.in_ok-followed_by-in-Some-2.ensures)
+    let path = c.args.path.now in
+    let front = c.in-Some.front in
+    let last = parent_of-some path front (sym c.in_ok-front.ensures ∙ c.in-Some.is) in
+    let whole = sym (goes_beyond path front (lies_below path front _ last.1)) in
+    spot_there c.args.self.now path c.in_ok-front.field-0 c.in_ok-front.ensures front c.in-Some.is c.in_ok-place.place c.in_ok-place.ensures directory (drop (length front) path) whole
+    ∙ ap Ok (sym c.in_ok-moved_path.ensures)

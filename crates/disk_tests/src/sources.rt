@@ -1,7 +1,9 @@
+//! What sources and sinks give and take, in memory and over readers and writers of std.
 ghost use Rattle.std.specs.Prelude.{◌≤◌, IfOk};
 
-use super::words::{compare, halves, number_shown};
-use crate::{Failed, MemSink, MemSource, Sink, Source, StdSink, StdSource};
+use crate::real::count;
+use crate::words::{compare, halves};
+use odb_disk::{Failed, MemSink, MemSource, Sink, Source, StdSink, StdSource};
 use std::alloc::{AllocError, Global};
 use std::io::{self, ErrorKind, Read, Write};
 use std::test::Fail;
@@ -34,28 +36,40 @@ fn check_reads<S: Source>(alloc: Global, source: &mut S, lines: &str) -> Result<
     Ok(())
 }
 
-#[test]
-fn a_source_in_memory(rt: HostRuntime) -> Result<(), Fail> {
-    let alloc = rt.alloc();
-    let bytes = b"abcdef".to_vec(alloc)?;
-    let mut source = MemSource::with_faults(alloc, bytes, &[2])?;
-    check_reads(alloc, &mut source, "4 abcd\nfailed")?;
-    assert!(rt; source.faults() == 1 && source.left() == b"ef".as_slice());
-    check_reads(alloc, &mut source, "2 ef..\n0 ef..")
+fn compare_bytes(found: &[u8], want: &[u8]) -> Result<(), Fail> {
+    if found == want {
+        return Ok(());
+    }
+    Err(Fail::new("other bytes"))
 }
 
+fn check_faulty_source(alloc: Global, source: &mut MemSource) -> Result<(), Fail> {
+    check_reads(alloc, source, "4 abcd\nfailed")?;
+    compare_bytes(source.left(), b"ef")?;
+    count(source.faults(), 1)?;
+    check_reads(alloc, source, "2 ef..\n0 ef..")
+}
+
+// Catches a failed read that takes bytes, and one that isn't counted.
+#[test]
+fn a_source_in_memory(rt: HostRuntime) -> Result<(), Fail> {
+    let bytes = b"abcdef".to_vec(rt.alloc())?;
+    let mut source = MemSource::with_faults(rt.alloc(), bytes, &[2])?;
+    check_faulty_source(rt.alloc(), &mut source)
+}
+
+// Catches a read that gives more than is left.
 #[test]
 fn a_plain_source_in_memory(rt: HostRuntime) -> Result<(), Fail> {
     let mut source = MemSource::new(b"x".to_vec(rt.alloc())?);
     check_reads(rt.alloc(), &mut source, "1 x...\n0 x...")?;
-    assert!(rt; source.faults() == 0);
-    Ok(())
+    count(source.faults(), 0)
 }
 
 /// What a write gives.
 fn write_shown(alloc: Global, written: Result<usize, Failed>) -> Result<String, AllocError> {
     match written {
-        Ok(count) => number_shown(alloc, count),
+        Ok(count) => format!(in alloc; "{count}"),
         Err(Failed) => "failed".to_string(alloc),
     }
 }
@@ -70,21 +84,26 @@ fn check_writes<S: Sink>(alloc: Global, sink: &mut S, rows: &str) -> Result<(), 
     Ok(())
 }
 
+fn check_faulty_sink(alloc: Global, sink: &mut MemSink) -> Result<(), Fail> {
+    check_writes(alloc, sink, "abc|3\ndef|failed\ngh|2")?;
+    compare_bytes(sink.bytes(), b"abcgh")?;
+    count(sink.faults(), 1)
+}
+
+// Catches a failed write that adds bytes, and one that fails twice.
 #[test]
 fn a_sink_in_memory(rt: HostRuntime) -> Result<(), Fail> {
     let mut sink = MemSink::with_faults(rt.alloc(), &[2, 2])?;
-    check_writes(rt.alloc(), &mut sink, "abc|3\ndef|failed\ngh|2")?;
-    assert!(rt; sink.faults() == 1 && sink.bytes() == b"abcgh".as_slice());
-    assert!(rt; sink.into_bytes().as_slice() == b"abcgh".as_slice());
-    Ok(())
+    check_faulty_sink(rt.alloc(), &mut sink)?;
+    compare_bytes(sink.into_bytes().as_slice(), b"abcgh")
 }
 
+// Catches a write of nothing that fails.
 #[test]
 fn a_plain_sink_in_memory(rt: HostRuntime) -> Result<(), Fail> {
     let mut sink = MemSink::new(rt.alloc());
     check_writes(rt.alloc(), &mut sink, "|0")?;
-    assert!(rt; sink.faults() == 0);
-    Ok(())
+    count(sink.faults(), 0)
 }
 
 /// A reader and a writer that is interrupted at its first call, serves the second, and then fails.
@@ -155,7 +174,7 @@ fn check_reader<R: Read + Drop>(
 ) -> Result<(), Fail> {
     let mut source = StdSource::new(reader);
     check_reads(alloc, &mut source, lines)?;
-    compare_counts(source.faults(), faults)
+    count(source.faults(), faults)
 }
 
 /// Writes to a writer the text of each row, and compares the same.
@@ -167,51 +186,40 @@ fn check_writer<W: Write + Drop>(
 ) -> Result<(), Fail> {
     let mut sink = StdSink::new(writer);
     check_writes(alloc, &mut sink, rows)?;
-    compare_counts(sink.faults(), faults)
+    count(sink.faults(), faults)
 }
 
-fn compare_counts(found: u64, want: u64) -> Result<(), Fail> {
-    if found == want {
-        return Ok(());
-    }
-    Err(Fail::new("another count of faults"))
+/// What a reader that has an end gives, and that nothing of it is left.
+fn check_slice(alloc: Global) -> Result<(), Fail> {
+    let mut source = StdSource::new(b"abcde".as_slice());
+    check_reads(alloc, &mut source, "4 abcd\n1 ebcd\n0 ebcd")?;
+    count(source.faults(), 0)?;
+    compare_bytes(source.into_inner(), b"")
 }
 
+// Catches a read that gives more than the reader did, an interrupted one that is told as a failure, a failure that is
+// told as the end, and a read that is tried for ever.
 #[test]
 fn readers_of_std(rt: HostRuntime) -> Result<(), Fail> {
-    let mut source = StdSource::new(b"abcde".as_slice());
-    check_reads(rt.alloc(), &mut source, "4 abcd\n1 ebcd\n0 ebcd")?;
-    assert!(rt; source.faults() == 0);
-    assert!(rt; source.into_inner().is_empty());
-    Ok(())
-}
-
-#[test]
-fn shaky_readers(rt: HostRuntime) -> Result<(), Fail> {
+    check_slice(rt.alloc())?;
     check_reader(rt.alloc(), Shaky { calls: 0 }, "3 ....", 0)?;
-    check_reader(rt.alloc(), Shaky { calls: 0 }, "3 ....\nfailed", 1)
-}
-
-#[test]
-fn stuck_readers(rt: HostRuntime) -> Result<(), Fail> {
+    check_reader(rt.alloc(), Shaky { calls: 0 }, "3 ....\nfailed", 1)?;
     check_reader(rt.alloc(), Stuck, "failed", 1)
 }
 
+/// What a list that grows takes, and what it then holds.
+fn check_list(alloc: Global) -> Result<(), Fail> {
+    let mut sink = StdSink::new(Vec::new(alloc));
+    check_writes(alloc, &mut sink, "abc|3\n|0\nd|1")?;
+    count(sink.faults(), 0)?;
+    compare_bytes(sink.into_inner().as_slice(), b"abcd")
+}
+
+// Catches a write that loses bytes, an interrupted one that is told as a failure, and a writer that takes nothing
+// where that is told as done.
 #[test]
 fn writers_of_std(rt: HostRuntime) -> Result<(), Fail> {
-    let mut sink = StdSink::new(Vec::new(rt.alloc()));
-    check_writes(rt.alloc(), &mut sink, "abc|3\n|0\nd|1")?;
-    assert!(rt; sink.faults() == 0);
-    assert!(rt; sink.into_inner().as_slice() == b"abcd".as_slice());
-    Ok(())
-}
-
-#[test]
-fn shaky_writers(rt: HostRuntime) -> Result<(), Fail> {
-    check_writer(rt.alloc(), Shaky { calls: 0 }, "abcd|3\nd|failed", 1)
-}
-
-#[test]
-fn full_writers(rt: HostRuntime) -> Result<(), Fail> {
+    check_list(rt.alloc())?;
+    check_writer(rt.alloc(), Shaky { calls: 0 }, "abcd|3\nd|failed", 1)?;
     check_writer(rt.alloc(), Full, "|0\na|failed", 1)
 }
