@@ -1,13 +1,11 @@
 -- The order of the first digits of two ids' texts is that of their bytes, with half a byte where the number of digits is odd.
-use Rattle.std.proofs.Common.{◌≡◌, ℕ, zero, suc, ◌+◌, ◌-◌, ◌*◌, ◌/◌, ◌%◌, ◌<◌, ◌≤◌, ◌==◌, ◌⊎◌, inl, inr, nat_lt, Bool, true, false, List, [], ◌∷◌, ◌++◌, length, take, drop, replicate, slice_index, cond, Ordering, Less, Equal, Greater, Result, Ok, Err, IfOk, IsOk, IsErrOf, IsTrue, IsFalse, ◌↔◌, refl, sym, ap, ◌∙◌, subst, arith, length-append, length-take-le, append_assoc}
-use Rattle.std.specs.List.{list_all}
+use Rattle.std.proofs.Common.{◌≡◌, ℕ, zero, suc, ◌+◌, ◌-◌, ◌*◌, ◌/◌, ◌%◌, ◌<◌, ◌≤◌, ◌==◌, ◌⊎◌, inl, inr, nat_lt, true, List, [], ◌∷◌, ◌++◌, length, take, drop, replicate, slice_index, cond, Ordering, Less, Equal, Greater, Result, Ok, Err, IfOk, IsOk, IsErrOf, IsTrue, IsFalse, ◌↔◌, refl, sym, ap, ◌∙◌, subst, arith, length-append, length-take-le}
 use Rattle.std.proofs.lemmas.Bool.{agree_below_at, eqb-true}
 use Rattle.std.specs.Ordering.{nat_cmp, ordering_then}
 use Rattle.std.specs.Cmp.{nat_cmp_is}
 use Rattle.std.specs.Cmp.Lexicographic.{slice_cmp}
 use Rattle.std.specs.FinMap.{nat_cmp-IsAntisymmetric, slice_cmp-IsAntisymmetric}
 use Rattle.std.proofs.lemmas.Bool.{and_parts}
-use Rattle.std.proofs.lemmas.List.Folds.{list_all-append}
 use Rattle.std.proofs.Math.Seq.{take-append_seam, drop-append_seam}
 use Rattle.hex.specs.Hex.{IsBytes, encode_lower, encode_with, lower_digits}
 use Rattle.gix_hash.specs.Kind.{len_in_bytes_of}

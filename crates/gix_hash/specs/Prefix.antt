@@ -1,6 +1,6 @@
 -- Prefixes of ids: the first digits of an id's hex text, and which ids begin with them.
-use Rattle.std.specs.Prelude.{◌≡◌, ℕ, ◌-◌, ◌*◌, ◌≤◌, List, length, take, drop, replicate, nat_le, if◌then◌else◌}
-use Rattle.std.specs.Ordering.{nat_cmp, then_cmp, on, ordering_then}
+use Rattle.std.specs.Prelude.{◌≡◌, ℕ, ◌-◌, ◌*◌, ◌≤◌, List, take, drop, replicate, nat_le, if◌then◌else◌}
+use Rattle.std.specs.Ordering.{nat_cmp, ordering_then}
 use Rattle.std.specs.Cmp.Lexicographic.{slice_cmp}
 use Rattle.std.specs.declared.cmp.Ordering.{Ordering}
 use Rattle.gix_hash.specs.Kind.{len_in_bytes_of}

@@ -14,8 +14,6 @@ mod hasher;
 mod kind;
 mod object_id;
 mod prefix;
-#[cfg(test)]
-mod tests;
 
 pub use hasher::Hasher;
 pub use kind::Kind;

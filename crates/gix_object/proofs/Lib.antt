@@ -2,4 +2,3 @@ mod HeaderLemmas
 mod IdExamples
 mod LooseExamples
 mod SinkLemmas
-mod SourceLemmas

@@ -15,8 +15,6 @@ pub mod encode;
 mod find;
 mod id;
 mod kind;
-#[cfg(test)]
-mod tests;
 mod write;
 
 pub use data::{Data, Header};

@@ -1,6 +1,6 @@
-use Rattle.std.proofs.Common.{◌≡◌, ◌≤◌, ℕ, List, length, take, sym, ap, ◌∙◌, arith}
-use Rattle.gix_hash.specs.ObjectId.{hex_of, is_lower_text, kind_of}
-use Rattle.gix_hash.specs.Prefix.{digits_in, HasPrefix, IsPrefix}
+use Rattle.std.proofs.Common.{ℕ, List, length, take, sym, ap, ◌∙◌, arith}
+use Rattle.gix_hash.specs.ObjectId.{is_lower_text}
+use Rattle.gix_hash.specs.Prefix.{HasPrefix, IsPrefix}
 use Rattle.gix_hash.proofs.PrefixLemmas.{first_of, length-first, lower_first}
 use Rattle.gix_hash.proofs.prefix.Prefix.new.Goals as goal
 

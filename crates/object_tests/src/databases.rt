@@ -2,10 +2,11 @@
 ghost use Rattle.std.specs.Prelude.{◌≡◌, IfOk};
 ghost use Rattle.gix_hash.specs.ObjectId.{kind_of};
 
-use crate::tests::front::Front;
-use crate::tests::shelf::Shelf;
-use crate::{Data, Exists, Find, FindHeader, Header, Kind, Write, WriteTo};
+use crate::front::Front;
+use crate::shelf::Shelf;
+use crate::words::{compare, first_word};
 use gix_hash::ObjectId;
+use gix_object::{Data, Exists, Find, FindHeader, Header, Kind, Write, WriteTo};
 use odb_disk::{MemSink, MemSource};
 use std::alloc::{AllocError, Global};
 use std::sync::Wait;
@@ -145,10 +146,6 @@ fn write_known_stream<D: Write, R: Wait>(
 
 // ---- rows
 
-fn cut(text: &str) -> (&str, &str) {
-    text.split_once(' ').unwrap_or((text, ""))
-}
-
 /// An id of this hash, by its hex digits.
 fn id_of(hash: gix_hash::Kind, hex: &str) -> Result<ObjectId, Fail>
     ensures { IfOk result (λ id. kind_of id ≡ hash) }
@@ -217,7 +214,7 @@ fn write<R: Wait>(
     database: &mut Front<Shelf>,
     rest: &str,
 ) -> Result<String, Fail> {
-    let (kind, data) = cut(rest);
+    let (kind, data) = first_word(rest);
     let kind = kind_named(kind)?;
     Ok(write_buf(rt, alloc, database, kind, data)?)
 }
@@ -229,7 +226,7 @@ fn object<R: Wait>(
     database: &mut Front<Shelf>,
     rest: &str,
 ) -> Result<String, Fail> {
-    let (kind, data) = cut(rest);
+    let (kind, data) = first_word(rest);
     let object = Data {
         kind: kind_named(kind)?,
         object_hash: database.inner.hash,
@@ -245,9 +242,9 @@ fn known<R: Wait>(
     database: &mut Front<Shelf>,
     rest: &str,
 ) -> Result<String, Fail> {
-    let (hex, rest) = cut(rest);
+    let (hex, rest) = first_word(rest);
     let id = id_of(database.inner.hash, hex)?;
-    let (kind, data) = cut(rest);
+    let (kind, data) = first_word(rest);
     let kind = kind_named(kind)?;
     Ok(write_known(rt, alloc, database, kind, data, id)?)
 }
@@ -266,11 +263,11 @@ fn stream<R: Wait>(
     database: &mut Front<Shelf>,
     rest: &str,
 ) -> Result<String, Fail> {
-    let (kind, rest) = cut(rest);
+    let (kind, rest) = first_word(rest);
     let kind = kind_named(kind)?;
-    let (size, rest) = cut(rest);
+    let (size, rest) = first_word(rest);
     let size = size.parse::<u64>()?;
-    let (failing, data) = cut(rest);
+    let (failing, data) = first_word(rest);
     let mut from = source_of(alloc, failing, data)?;
     Ok(write_stream(rt, alloc, database, kind, size, &mut from)?)
 }
@@ -282,11 +279,11 @@ fn known_stream<R: Wait>(
     database: &mut Front<Shelf>,
     rest: &str,
 ) -> Result<String, Fail> {
-    let (hex, rest) = cut(rest);
+    let (hex, rest) = first_word(rest);
     let id = id_of(database.inner.hash, hex)?;
-    let (kind, rest) = cut(rest);
+    let (kind, rest) = first_word(rest);
     let kind = kind_named(kind)?;
-    let (size, data) = cut(rest);
+    let (size, data) = first_word(rest);
     let size = size.parse::<u64>()?;
     let mut from = source_of(alloc, "0", data)?;
     Ok(write_known_stream(rt, alloc, database, kind, size, &mut from, id)?)
@@ -298,7 +295,7 @@ fn told<R: Wait>(
     database: &mut Front<Shelf>,
     text: &str,
 ) -> Result<String, Fail> {
-    let (verb, rest) = cut(text);
+    let (verb, rest) = first_word(text);
     match verb {
         "ask" => asked(rt, alloc, database, rest),
         "write" => write(rt, alloc, database, rest),
@@ -317,9 +314,7 @@ fn check<R: Wait>(rt: &R, alloc: Global, rows: &[&str]) -> Result<(), Fail> {
     for row in rows {
         let (text, want) = row.split_once('|').unwrap_or((row, ""));
         let found = told(rt, alloc, &mut database, text)?;
-        if found.as_str() != want {
-            return Err(Fail::new(format_args!("{text}: {found} in place of {want}")));
-        }
+        compare(text, found.as_str(), want)?;
     }
     Ok(())
 }
@@ -368,8 +363,9 @@ fn given(alloc: Global, failing: u64) -> Result<String, Fail> {
 // An object that gives other bytes than its data, or goes on after a fault.
 #[test]
 fn objects_give_their_data(rt: HostRuntime) -> Result<(), Fail> {
-    let whole = given(rt.alloc(), 0)?;
-    let failed = given(rt.alloc(), 1)?;
-    assert!(rt; whole.as_str() == "true 5 hello" && failed.as_str() == "false 5 ");
+    for (failing, want) in [(0, "true 5 hello"), (1, "false 5 ")] {
+        let found = given(rt.alloc(), failing)?;
+        compare(want, found.as_str(), want)?;
+    }
     Ok(())
 }

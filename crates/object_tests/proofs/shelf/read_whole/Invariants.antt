@@ -1,6 +1,6 @@
 use Rattle.std.proofs.Common.{◌+◌, ◌-◌, ◌≤◌, length}
-use Rattle.gix_object.proofs.SourceLemmas.{ReadSoFar}
-use Rattle.gix_object.proofs.tests.shelf.read_whole.Given as goal
+use Rattle.object_tests.proofs.SourceLemmas.{ReadSoFar}
+use Rattle.object_tests.proofs.shelf.read_whole.Given as goal
 
 -- the bytes are those that the source gave, and no fault was lost
 abbrev pub invariant-reading : goal.invariant-reading

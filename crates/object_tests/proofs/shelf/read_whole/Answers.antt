@@ -1,6 +1,6 @@
 use Rattle.std.proofs.Common.{arith}
-use Rattle.gix_object.proofs.SourceLemmas.{ReadSoFar-more, Takes-ReadSoFar}
-use Rattle.gix_object.proofs.tests.shelf.read_whole.Goals as goal
+use Rattle.object_tests.proofs.SourceLemmas.{ReadSoFar-more, Takes-ReadSoFar}
+use Rattle.object_tests.proofs.shelf.read_whole.Goals as goal
 
 -- bytes that there is no memory for were read
 pub returns-in_err-extend_from_slice-clause-drawn :

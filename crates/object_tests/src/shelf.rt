@@ -1,8 +1,8 @@
 ghost use Rattle.std.specs.Prelude.{◌≡◌, ◌↔◌, length, false, IfNone, IfOk, IfSome, IsSome, IsTrue, Some};
 ghost use Rattle.gix_object.specs.Stream.{stream_of, IsDrawn, IsWhole};
 
-use crate::{Data, Exists, Find, FindHeader, Header, Kind, Write, WriteTo, compute_hash};
 use gix_hash::ObjectId;
+use gix_object::{Data, Exists, Find, FindHeader, Header, Kind, Write, WriteTo, compute_hash};
 use odb_base::{ByteList, NoMemory};
 use odb_disk::{Failed, MemSink, Source};
 use std::alloc::{AllocError, Global};

@@ -1,5 +1,0 @@
-mod databases;
-mod front;
-mod headers;
-mod ids;
-mod shelf;
