@@ -13,14 +13,14 @@ use Rattle.gix_hash.specs.declared.object_id.ObjectId.{ObjectId}
 use Rattle.gix_object.specs.Data.{Object}
 use Rattle.gix_pack.specs.Bytes.{same, table}
 use Rattle.gix_pack.specs.MultiIndex.{Chunk, ChunkRow, MultiIndex, Parts, at_most_one, chunk_at, chunk_row, chunk_rows, chunks_in, chunks_of, ends_at, has_header, has_room, hash_in, hash_of_number, kind_in, multi_index_from, multi_index_of, packs_in, parts_of, the_one, trailer_place}
-use Rattle.gix_pack.specs.MultiIndexChunks.{bytes_over}
-use Rattle.gix_pack.specs.PlacedRow.{id_of, offset_of, pack_of, pack_row_of, placed_from, placed_in, IsPlaced}
+use Rattle.gix_pack.specs.MultiIndexChunks.{bytes_over, front_with}
+use Rattle.gix_pack.specs.PlacedRow.{IsPlaced, id_of, multi_placed, offset_of, pack_of, pack_row_of, placed_from, placed_in}
 use Rattle.gix_pack.specs.Rows.{PackRow, counts_of}
 use Rattle.gix_pack.specs.WrittenIndex.{is_wide, long_number_bytes, number_bytes, table_of}
 use Rattle.gix_pack.specs.WrittenMultiIndex.{Named, chunk_table, chunks_written, hash_number, name_bytes, names_of, needs_wide, offsets_written, pack_and_offset, padded, rows_in_packs, CanBeWritten, ReadsMultiIndex}
 use Rattle.gix_pack.specs.WrittenPack.{entry_of}
 use Rattle.gix_pack.specs.declared.table.Placed.{Placed}
-use Rattle.gix_pack.proofs.WrittenMultiIndexLemmas.{chunks_seen, front_with, multi_each, multi_few, multi_placed, multi_rising, multi_table_seen}
+use Rattle.gix_pack.proofs.WrittenMultiIndexLemmas.{chunks_seen, multi_each, multi_few, multi_rising, multi_table_seen}
 use Rattle.gix_pack.proofs.WrittenPartsLemmas.{parts_written, told, IsInPack}
 use Rattle.gix_pack.proofs.PlacedLemmas.{each_append}
 use Rattle.gix_pack.proofs.TableLemmas.{each_of_table, is_table}

@@ -12,7 +12,7 @@ use Rattle.gix_hash.proofs.HashLemmas.{kind_of-hash_of}
 use Rattle.gix_object.specs.Data.{Object}
 use Rattle.gix_pack.specs.Bytes.{long_numbers, numbers, same}
 use Rattle.gix_pack.specs.Index.{has_length, index_ids, index_offsets, index_rows, is_index, narrow_offsets, objects_in, offsets_place, rows_of_index, signature, tables_agree, wide_offsets, wides_in, wides_place}
-use Rattle.gix_pack.specs.PlacedRow.{id_of, offset_of, placed_from, row_of, IsPlaced}
+use Rattle.gix_pack.specs.PlacedRow.{front_of_rows, id_of, index_placed, offset_of, placed_from, row_of, IsPlaced}
 use Rattle.gix_pack.specs.Rows.{Row, counts_of, ids_of, is_named_below, is_rising, offset_in}
 use Rattle.gix_pack.specs.WrittenIndex.{index_bytes, index_front, index_of, is_wide, long_number_bytes, narrow_from, number_bytes, table_of, IsIndexOf, ReadsIndex}
 use Rattle.gix_pack.specs.WrittenPack.{pack_front, pack_hash, rows_in_order}
@@ -29,12 +29,6 @@ id_seen row = row.id
 abbrev offset_seen : Row → ℕ
 offset_seen row = row.offset
 
--- an index without its own hash, as it is written of rows
-abbrev pub front_of_rows : List Placed → List ℕ → List ℕ
-front_of_rows rows pack =
-    signature ++ number_bytes (counts_of (map id_of rows)) ++ flat_map bytes_of (map id_of rows) ++ replicate (4 * length rows) 0 ++ number_bytes (narrow_from 0 (map offset_of rows))
-    ++ long_number_bytes (filter is_wide (map offset_of rows)) ++ pack
-
 front_seen : (rows : List Placed) (pack : List ℕ) → index_front (map id_seen (map row_of rows)) (map offset_seen (map row_of rows)) pack ≡ front_of_rows rows pack
 unfolding index_front
 front_seen rows pack =
@@ -47,10 +41,6 @@ front_seen rows pack =
 bytes_seen : (hash : Kind) (rows : List Placed) (pack : List ℕ) → index_bytes hash (map row_of rows) pack ≡ front_of_rows rows pack ++ bytes_of (hash_of hash (front_of_rows rows pack))
 unfolding index_bytes
 bytes_seen hash rows pack = ap (λ (front : List ℕ). front ++ bytes_of (hash_of hash front)) (front_seen rows pack)
-
--- the rows of the table of a pack's objects
-abbrev pub index_placed : Kind → List Object → List Placed
-index_placed hash objects = table_of id_of (placed_from hash 0 12 objects)
 
 table_seen : (hash : Kind) (objects : List Object) → map row_of (index_placed hash objects) ≡ table_of id_seen (rows_in_order hash objects)
 table_seen hash objects = map-table_of row_of id_of id_seen (λ (row : Placed). refl) (placed_from hash 0 12 objects) ∙ ap (table_of id_seen) (rows_placed hash 0 objects)

@@ -1,5 +1,5 @@
 -- Multi-pack indices as they are written: their chunks, and the table of these.
-use Rattle.std.proofs.Common.{◌≡◌, ℕ, zero, suc, ◌+◌, ◌-◌, ◌*◌, ◌%◌, ◌^◌, ◌<◌, ◌≤◌, ◌||◌, ◌&&◌, nat_lt, not, Bool, true, false, List, [], ◌∷◌, ◌++◌, length, map, drop, get_or, replicate, codes, append_assoc, length-append, refl, sym, ap, subst, ◌∙◌, arith}
+use Rattle.std.proofs.Common.{◌≡◌, ℕ, zero, suc, ◌+◌, ◌-◌, ◌*◌, ◌^◌, ◌<◌, ◌≤◌, ◌||◌, ◌&&◌, nat_lt, not, Bool, true, false, List, [], ◌∷◌, ◌++◌, length, map, drop, get_or, replicate, codes, append_assoc, length-append, refl, sym, ap, subst, ◌∙◌, arith}
 use Rattle.std.specs.List.{AllByRecursion, flat_map, list_all, sum_by, zip}
 use Rattle.std.specs.Int.{w32, w64, to_be_bytes}
 use Rattle.std.proofs.lemmas.Bool.{or_parts}
@@ -10,8 +10,8 @@ use Rattle.gix_hash.specs.ObjectId.{bytes_of}
 use Rattle.gix_hash.specs.declared.kind.Kind.{Kind}
 use Rattle.gix_hash.specs.declared.object_id.ObjectId.{ObjectId}
 use Rattle.gix_pack.specs.MultiIndex.{Chunk, are_names, is_index_name, names_rise}
-use Rattle.gix_pack.specs.MultiIndexChunks.{below_first, bytes_over, chunk_seen, objects_over, offset_chunks}
-use Rattle.gix_pack.specs.PlacedRow.{id_of, offset_of, pack_of, pack_row_of, placed_from, placed_in, IsPlaced}
+use Rattle.gix_pack.specs.MultiIndexChunks.{below_first, bytes_over, chunk_seen, front_with, objects_over, offset_chunks, one_chunk}
+use Rattle.gix_pack.specs.PlacedRow.{IsPlaced, id_of, multi_placed, offset_of, pack_of, pack_row_of, placed_from, placed_in}
 use Rattle.gix_pack.specs.Rows.{PackRow, counts_of, is_rising}
 use Rattle.gix_pack.specs.WrittenIndex.{is_wide, narrow_from, number_bytes, table_of}
 use Rattle.gix_pack.specs.WrittenMultiIndex.{Named, chunk_table, chunks_written, hash_number, multi_bytes, multi_front, multi_index_of_packs, name_bytes, named_seen, names_of, needs_wide, pack_and_offset, padded, rows_in_packs, IsMultiIndexOf}
@@ -106,28 +106,19 @@ chunks_seen names rows =
     let packs : map pack_seen (map pack_row_of rows) ≡ map pack_of rows = map_map pack_seen pack_row_of rows in
     rw (ids, offsets, packs) refl
 
-abbrev pub multi_placed : Kind → List Named → List Placed
-multi_placed hash packs = table_of id_of (placed_in hash 0 packs)
-
 pub multi_table_seen : (hash : Kind) (packs : List Named) → map pack_row_of (multi_placed hash packs) ≡ table_of id_seen (rows_in_packs hash packs)
 multi_table_seen hash packs = map-table_of pack_row_of id_of id_seen (λ (row : Placed). refl) (placed_in hash 0 packs) ∙ ap (table_of id_seen) (pack_rows_placed hash packs)
 
--- a multi-index of some chunks without its hash
-abbrev pub front_with : Kind → ℕ → List Chunk → List ℕ
-front_with hash packs chunks =
-    codes "MIDX" ++ 1 ∷ hash_number hash ∷ length chunks ∷ 0 ∷ to_be_bytes w32 packs ++ chunk_table (12 + 12 * (length chunks + 1)) chunks ++ flat_map (λ (chunk : Chunk). chunk.bytes) chunks
-
 -- the header, the table and the chunks one behind another
-pub front_steps : (hash : Kind) (packs : List given.NamedPack) (own chunks : List kept.Chunk) (l0 l1 l2 l3 : List ℕ) → chunks ≡ own → l0 ≡ []
-    → l1 ≡ l0 ++ (codes "MIDX" ++ 1 ∷ hash_number hash ∷ length chunks ∷ 0 ∷ to_be_bytes w32 (length packs)) → l2 ≡ l1 ++ chunk_table (12 + 12 * (length chunks + 1)) (map chunk_seen chunks)
-    → l3 ≡ l2 ++ flat_map (λ (c : Chunk). c.bytes) (map chunk_seen chunks) → l3 ≡ front_with hash (length (map named_seen packs)) (map chunk_seen own)
-front_steps hash packs own chunks l0 l1 l2 l3 same empty a b c =
+pub front_steps : (hash : Kind) (packs : ℕ) (chunks : List kept.Chunk) (l0 l1 l2 l3 : List ℕ) → l0 ≡ []
+    → l1 ≡ l0 ++ (codes "MIDX" ++ 1 ∷ hash_number hash ∷ length chunks ∷ 0 ∷ to_be_bytes w32 packs) → l2 ≡ l1 ++ chunk_table (12 + 12 * (length chunks + 1)) (map chunk_seen chunks)
+    → l3 ≡ l2 ++ flat_map (λ (c : Chunk). c.bytes) (map chunk_seen chunks) → l3 ≡ front_with hash packs (map chunk_seen chunks)
+front_steps hash packs chunks l0 l1 l2 l3 empty a b c =
     let seen = map chunk_seen chunks in
     let behind = flat_map (λ (d : Chunk). d.bytes) seen in
-    let one = b ∙ ap (λ (l : List ℕ). l ++ chunk_table (12 + 12 * (length chunks + 1)) seen) (a ∙ ap (λ (l : List ℕ). l ++ (codes "MIDX" ++ 1 ∷ hash_number hash ∷ length chunks ∷ 0 ∷ to_be_bytes w32 (length packs))) empty) in
+    let one = b ∙ ap (λ (l : List ℕ). l ++ chunk_table (12 + 12 * (length chunks + 1)) seen) (a ∙ ap (λ (l : List ℕ). l ++ (codes "MIDX" ++ 1 ∷ hash_number hash ∷ length chunks ∷ 0 ∷ to_be_bytes w32 packs)) empty) in
     c ∙ ap (λ (l : List ℕ). l ++ behind) one
-    ∙ ap (λ (n : ℕ). (codes "MIDX" ++ 1 ∷ hash_number hash ∷ n ∷ 0 ∷ to_be_bytes w32 (length packs)) ++ chunk_table (12 + 12 * (n + 1)) seen ++ behind) (sym (length-map chunks chunk_seen))
-    ∙ ap (λ (n : ℕ). front_with hash n seen) (sym (length-map packs named_seen)) ∙ ap (λ (cs : List kept.Chunk). front_with hash (length (map named_seen packs)) (map chunk_seen cs)) same
+    ∙ ap (λ (n : ℕ). (codes "MIDX" ++ 1 ∷ hash_number hash ∷ n ∷ 0 ∷ to_be_bytes w32 packs) ++ chunk_table (12 + 12 * (n + 1)) seen ++ behind) (sym (length-map chunks chunk_seen))
 
 pub multi_written : (hash : Kind) (packs : List Named) (rows : List Placed) (chunks : List Chunk) (front : List ℕ) → rows ≡ multi_placed hash packs
     → chunks ≡ chunks_written (names_of packs) (map pack_row_of rows) → front ≡ front_with hash (length packs) chunks → front ++ bytes_of (hash_of hash front) ≡ multi_index_of_packs hash packs
@@ -304,28 +295,17 @@ wide_nowhere rows i past = ap wide_in (drop_all i rows past)
 
 -- ---- the chunks, one put behind another
 
-abbrev chunk_of : List ℕ → List ℕ → kept.Chunk
-chunk_of name bytes = record { name = name; bytes = bytes }
-
-abbrev three : List ℕ → List ℕ → List ℕ → List Chunk → List Chunk
-three names counts ids others = record { name = codes "PNAM"; bytes = names } ∷ record { name = codes "OIDF"; bytes = counts } ∷ record { name = codes "OIDL"; bytes = ids } ∷ others
-
-pub chunks_put : (packs : List given.NamedPack) (rows : List Placed) (n0 n1 n2 c0 c1 i0 i1 : List ℕ) (len : ℕ) (k0 k1 k2 k3 k4 : List kept.Chunk) → n0 ≡ [] → n1 ≡ n0 ++ name_bytes (names_of (map named_seen packs)) → len ≡ length n1
-    → n2 ≡ n1 ++ replicate ((4 - len % 4) % 4) 0 → c0 ≡ [] → c1 ≡ c0 ++ number_bytes (counts_of (map id_of rows)) → i0 ≡ [] → i1 ≡ i0 ++ flat_map bytes_of (map id_of rows)
-    → k0 ≡ [] → k1 ≡ k0 ++ chunk_of (codes "PNAM") n2 ∷ [] → k2 ≡ k1 ++ chunk_of (codes "OIDF") c1 ∷ [] → k3 ≡ k2 ++ chunk_of (codes "OIDL") i1 ∷ []
-    → map chunk_seen k4 ≡ map chunk_seen k3 ++ offset_chunks (map pack_of rows) (map offset_of rows) → map chunk_seen k4 ≡ chunks_written (names_of (map named_seen packs)) (map pack_row_of rows)
-chunks_put packs rows n0 n1 n2 c0 c1 i0 i1 len k0 k1 k2 k3 k4 a b c d e f g h i j k l m =
-    let others = offset_chunks (map pack_of rows) (map offset_of rows) in
-    let names = name_bytes (names_of (map named_seen packs)) in
-    let first : n1 ≡ names = b ∙ ap (λ (n : List ℕ). n ++ names) a in
-    let padding : n2 ≡ padded names = d ∙ ap (λ (n : ℕ). n1 ++ replicate ((4 - n % 4) % 4) 0) c ∙ ap padded first in
-    let counts : c1 ≡ number_bytes (counts_of (map id_of rows)) = f ∙ ap (λ (n : List ℕ). n ++ number_bytes (counts_of (map id_of rows))) e in
-    let ids : i1 ≡ flat_map bytes_of (map id_of rows) = h ∙ ap (λ (n : List ℕ). n ++ flat_map bytes_of (map id_of rows)) g in
-    let all : k3 ≡ chunk_of (codes "PNAM") n2 ∷ chunk_of (codes "OIDF") c1 ∷ chunk_of (codes "OIDL") i1 ∷ [] =
-    l ∙ ap (λ (ks : List kept.Chunk). ks ++ chunk_of (codes "OIDL") i1 ∷ [])
-    (k ∙ ap (λ (ks : List kept.Chunk). ks ++ chunk_of (codes "OIDF") c1 ∷ []) (j ∙ ap (λ (ks : List kept.Chunk). ks ++ chunk_of (codes "PNAM") n2 ∷ []) i)) in
-    m ∙ ap (λ (ks : List kept.Chunk). map chunk_seen ks ++ others) all ∙ ap (λ (n : List ℕ). three n c1 i1 others) padding ∙ ap (λ (n : List ℕ). three (padded names) n i1 others) counts
-    ∙ ap (λ (n : List ℕ). three (padded names) (number_bytes (counts_of (map id_of rows))) n others) ids ∙ sym (chunks_seen (names_of (map named_seen packs)) rows)
+pub chunks_put : (names : List (List ℕ)) (rows : List Placed) (s0 s1 s2 s3 s4 : List Chunk) → s0 ≡ [] → s1 ≡ s0 ++ one_chunk (codes "PNAM") (padded (name_bytes names))
+    → s2 ≡ s1 ++ one_chunk (codes "OIDF") (number_bytes (counts_of (map id_of rows))) → s3 ≡ s2 ++ one_chunk (codes "OIDL") (flat_map bytes_of (map id_of rows))
+    → s4 ≡ s3 ++ offset_chunks (map pack_of rows) (map offset_of rows) → s4 ≡ chunks_written names (map pack_row_of rows)
+chunks_put names rows s0 s1 s2 s3 s4 a b c d e =
+    e
+    ∙ ap (λ (cs : List Chunk). cs ++ offset_chunks (map pack_of rows) (map offset_of rows))
+    (d
+    ∙ ap (λ (cs : List Chunk). cs ++ one_chunk (codes "OIDL") (flat_map bytes_of (map id_of rows)))
+    (c
+    ∙ ap (λ (cs : List Chunk). cs ++ one_chunk (codes "OIDF") (number_bytes (counts_of (map id_of rows)))) (b ∙ ap (λ (cs : List Chunk). cs ++ one_chunk (codes "PNAM") (padded (name_bytes names))) a)))
+    ∙ sym (chunks_seen names rows)
 
 -- ---- the names, one pack on
 

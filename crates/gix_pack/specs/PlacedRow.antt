@@ -1,10 +1,13 @@
 -- No public clause cites this module: rows as the encoders keep them.
-use Rattle.std.specs.Prelude.{◌≡◌, ℕ, ◌+◌, ◌^◌, ◌<◌, List, [], ◌∷◌, ◌++◌, length}
-use Rattle.gix_hash.specs.ObjectId.{kind_of, IsId}
+use Rattle.std.specs.Prelude.{◌≡◌, ℕ, ◌+◌, ◌*◌, ◌^◌, ◌<◌, List, [], ◌∷◌, ◌++◌, length, map, replicate}
+use Rattle.std.specs.List.{filter, flat_map}
+use Rattle.gix_hash.specs.ObjectId.{bytes_of, kind_of, IsId}
 use Rattle.gix_hash.specs.declared.kind.Kind.{Kind as HashKind}
 use Rattle.gix_hash.specs.declared.object_id.ObjectId.{ObjectId}
 use Rattle.gix_object.specs.Data.{Object}
-use Rattle.gix_pack.specs.Rows.{Row, PackRow}
+use Rattle.gix_pack.specs.Index.{signature}
+use Rattle.gix_pack.specs.Rows.{Row, PackRow, counts_of}
+use Rattle.gix_pack.specs.WrittenIndex.{is_wide, long_number_bytes, narrow_from, number_bytes, table_of}
 use Rattle.gix_pack.specs.WrittenPack.{entry_of as pack_entry, id_of_object}
 use Rattle.gix_pack.specs.WrittenMultiIndex.{Named}
 use Rattle.gix_pack.specs.declared.table.Placed.{Placed}
@@ -38,6 +41,20 @@ placed_from hash pack place (object ∷ objects) =
 abbrev pub placed_in : HashKind → ℕ → List Named → List Placed
 placed_in hash number [] = []
 placed_in hash number (pack ∷ packs) = placed_from hash number 12 pack.objects ++ placed_in hash (number + 1) packs
+
+-- the rows of an index of objects
+abbrev pub index_placed : HashKind → List Object → List Placed
+index_placed hash objects = table_of id_of (placed_from hash 0 12 objects)
+
+-- the rows of a multi-index of packs
+abbrev pub multi_placed : HashKind → List Named → List Placed
+multi_placed hash packs = table_of id_of (placed_in hash 0 packs)
+
+-- an index without its own hash, as it is written of rows
+abbrev pub front_of_rows : List Placed → List ℕ → List ℕ
+front_of_rows rows pack =
+    signature ++ number_bytes (counts_of (map id_of rows)) ++ flat_map bytes_of (map id_of rows) ++ replicate (4 * length rows) 0 ++ number_bytes (narrow_from 0 (map offset_of rows))
+    ++ long_number_bytes (filter is_wide (map offset_of rows)) ++ pack
 
 -- what is known of a row: its id is one of this hash, and its numbers fit
 pub record IsPlaced (hash : HashKind) (row : Placed) : Type 0 where

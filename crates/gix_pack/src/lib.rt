@@ -20,7 +20,5 @@ mod put_rows;
 mod rows;
 mod search;
 mod table;
-#[cfg(test)]
-mod tests;
 
 pub use object::{NamedPack, Object};

@@ -2,7 +2,7 @@
 ghost use Rattle.std.specs.Prelude.{◌≡◌, ◌++◌, OnOk, replicate};
 ghost use Rattle.std.specs.Int.{w32, w64, to_be_bytes};
 ghost use Rattle.gix_hash.specs.Hash.{hash_of};
-ghost use Rattle.gix_hash.specs.ObjectId.{bytes_of};
+ghost use Rattle.gix_hash.specs.ObjectId.{bytes_of, IsId};
 
 use gix_hash::{Hasher, Kind, ObjectId};
 use odb_base::{ByteList, NoMemory};
@@ -45,4 +45,13 @@ pub(crate) fn hash_of_bytes(kind: Kind, bytes: &[u8]) -> ObjectId
     let mut hasher = Hasher::new(kind);
     hasher.update(bytes);
     hasher.finalize()
+}
+
+// The hash of the bytes so far.
+pub(crate) fn put_hash(list: &mut ByteList, kind: Kind) -> Result<(), NoMemory>
+    ensures put { OnOk result (list.new ≡ list.old ++ bytes_of (hash_of kind list.old)) }
+    ensures id { IsId (hash_of kind list.old) }
+{
+    let hash = hash_of_bytes(kind, list.as_slice());
+    list.extend_from_slice(hash.as_bytes())
 }

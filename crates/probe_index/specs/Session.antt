@@ -12,7 +12,7 @@ abbrev pub WritesForFile : Asked → Option (List ℕ) → List ℕ → Status �
 WritesForFile asked None written status = Unit {0}
 WritesForFile asked (Some file) written status = WritesOf asked file written status
 
--- words that ask for nothing are answered by the usage, and the source is not read
+-- words that ask for nothing are answered by the usage, whatever the source has
 abbrev pub Writes : List ℕ → Option Asked → Option (List ℕ) → List ℕ → Status → Type 0
 Writes usage None left written status = (status ≡ statuses.NotUnderstood) × (written ≡ usage)
 Writes usage (Some asked) left written status = WritesForFile asked left written status

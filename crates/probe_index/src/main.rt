@@ -4,6 +4,10 @@
 //! promises, over any source and sink; `main` calls it with the real ones.
 #![tactic(auto)]
 
+ghost use Rattle.std.specs.Prelude.{◌≡◌};
+ghost use Rattle.std.specs.Process.{exit_status};
+ghost use Rattle.probe_index.specs.Status.{code_of};
+
 mod asked;
 mod lines;
 mod probe;
@@ -24,7 +28,7 @@ fn main(rt: HostRuntime) -> ExitCode {
     let words = match words(&rt, alloc) {
         Ok(words) => words,
         Err(error) if error.kind() == io::ErrorKind::OutOfMemory => {
-            return ExitCode::from(Status::NoMemory.code());
+            return exit_code(Status::NoMemory);
         }
         // Arguments that are no text are words that ask nothing.
         Err(_) => Vec::new(alloc),
@@ -32,6 +36,13 @@ fn main(rt: HostRuntime) -> ExitCode {
     let mut source = StdSource::new(rt.reader());
     let mut sink = StdSink::new(io::writer(&rt));
     let status = run::run(alloc, &words, &mut source, &mut sink);
+    exit_code(status)
+}
+
+/// What the process ends with.
+fn exit_code(status: Status) -> ExitCode
+    ensures { exit_status result ≡ code_of status }
+{
     ExitCode::from(status.code())
 }
 

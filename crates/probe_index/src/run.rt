@@ -1,5 +1,5 @@
 //! The program as one call, over any source and sink.
-ghost use Rattle.std.specs.Prelude.{◌≡◌, List, ℕ, Some, map};
+ghost use Rattle.std.specs.Prelude.{◌≡◌, List, ℕ, None, Some, map};
 ghost use Rattle.std.specs.String.{string_bytes};
 ghost use Rattle.probe_index.specs.Asked.{asked_of};
 ghost use Rattle.probe_index.specs.Session.{Delivers, Ends};
@@ -46,6 +46,9 @@ pub fn run<S: Source, K: Sink>(
       sink_faults' = K.faults sink.new;
       usage = USAGE.now;
     }) result }
+
+    // Words that ask nothing leave the source as it was: what is left of it, and its count of faults.
+    ensures unread { asked_of (map (λ word. string_bytes word) words.now) ≡ None → source.new ≡ source.old }
 {
     match asked_of(alloc, words) {
         Ok(asked) => understood(alloc, asked, source, sink),
@@ -72,6 +75,7 @@ fn understood<S: Source, K: Sink>(
       sink_faults' = K.faults sink.new;
       usage = USAGE.now;
     }) result }
+    ensures unread { asked ≡ None → source.new ≡ source.old }
 {
     match asked {
         Some(asked) => probe(alloc, &asked, source, sink),

@@ -1,16 +1,20 @@
 //! Indices written: the tables one behind another, and the two hashes.
-ghost use Rattle.std.specs.Prelude.{◌≡◌, ◌++◌, ◌^◌, ◌<◌, length, map, IfOk, OnOk};
-ghost use Rattle.gix_pack.specs.PlacedRow.{offset_of};
+ghost use Rattle.std.specs.Prelude.{◌≡◌, [], ◌++◌, ◌^◌, ◌<◌, true, length, map, IfOk, OnOk};
+ghost use Rattle.std.specs.List.{AllByRecursion};
+ghost use Rattle.gix_hash.specs.Hash.{hash_of};
+ghost use Rattle.gix_hash.specs.ObjectId.{bytes_of, IsId};
+ghost use Rattle.gix_pack.specs.PlacedRow.{front_of_rows, id_of, index_placed, offset_of, placed_from, IsPlaced};
+ghost use Rattle.gix_pack.specs.Rows.{is_rising};
 ghost use Rattle.gix_pack.specs.WrittenIndex.{index_of, narrow_from, number_bytes, IsIndexOf, ReadsIndex};
-ghost use Rattle.gix_pack.specs.WrittenPack.{object_seen};
+ghost use Rattle.gix_pack.specs.WrittenPack.{object_seen, pack_front};
 
 use super::SIGNATURE;
 use crate::Object;
 use crate::data::front_of;
-use crate::put::{hash_of_bytes, put_number, put_zeros};
+use crate::put::{hash_of_bytes, put_hash, put_number, put_zeros};
 use crate::put_rows::{is_wide, narrow_of, put_counts, put_ids, put_wide};
 use crate::table::{Placed, put_rows, table_of};
-use gix_hash::Kind;
+use gix_hash::{Kind, ObjectId};
 use odb_base::{ByteList, NoMemory};
 use std::alloc::Global;
 
@@ -23,23 +27,57 @@ pub fn encode(alloc: Global, objects: &[Object], kind: Kind) -> Result<ByteList,
     ensures table { IfOk result (IsIndexOf kind (map object_seen objects.now)) }
     ensures read_back { IfOk result (ReadsIndex kind (map object_seen objects.now)) }
 {
+    let pack_hash = hash_of_pack(alloc, objects, kind)?;
+    let rows = rows_of(alloc, objects, kind)?;
+    let mut index = ByteList::new(alloc);
+    put_front(&mut index, rows.as_slice(), &pack_hash, kind)?;
+    put_hash(&mut index, kind)?;
+    Ok(index)
+}
+
+// The hash that the pack of some objects ends with.
+fn hash_of_pack(alloc: Global, objects: &[Object], kind: Kind) -> Result<ObjectId, NoMemory>
+    requires { length objects.now < 2 ^ 31 }
+    ensures { IfOk result (λ hash. hash ≡ hash_of kind (pack_front (map object_seen objects.now))) }
+{
     let pack = front_of(alloc, objects)?;
+    Ok(hash_of_bytes(kind, pack.as_slice()))
+}
+
+// The rows of an index of some objects.
+fn rows_of(alloc: Global, objects: &[Object], kind: Kind) -> Result<Vec<Placed>, NoMemory>
+    ensures rows { IfOk result (λ rows. rows.items ≡ index_placed kind (map object_seen objects.now)) }
+    ensures placed { IfOk result (λ _. AllByRecursion (IsPlaced kind) (placed_from kind 0 12 (map object_seen objects.now))) }
+{
     let mut rows = Vec::new(alloc);
     put_rows(alloc, &mut rows, 0, objects, kind)?;
     let table = table_of(alloc, rows)?;
-    let rows = table.as_slice();
-    let mut index = ByteList::new(alloc);
+    Ok(table)
+}
+
+// An index of some rows without its own hash, for a pack with this hash.
+fn put_front(
+    index: &mut ByteList,
+    rows: &[Placed],
+    pack: &ObjectId,
+    kind: Kind,
+) -> Result<(), NoMemory>
+    requires empty { index.old ≡ [] }
+    requires few { length rows.now < 2 ^ 31 }
+    requires rising { is_rising (map id_of rows.now) ≡ true }
+    requires placed { AllByRecursion (IsPlaced kind) rows.now }
+    ensures front { OnOk result (index.new ≡ front_of_rows rows.now (bytes_of pack.now)) }
+    ensures id { IsId pack.now }
+{
+    let hash = pack.as_bytes();
     index.extend_from_slice(&SIGNATURE)?;
-    put_counts(&mut index, rows, kind)?;
-    put_ids(&mut index, rows)?;
-    put_zeros(&mut index, 4 * rows.len())?;
-    put_narrow(&mut index, rows)?;
-    put_wide(&mut index, rows)?;
-    let pack_hash = hash_of_bytes(kind, pack.as_slice());
-    index.extend_from_slice(pack_hash.as_bytes())?;
-    let own_hash = hash_of_bytes(kind, index.as_slice());
-    index.extend_from_slice(own_hash.as_bytes())?;
-    Ok(index)
+    put_counts(index, rows, kind)?;
+    put_ids(index, rows)?;
+    put_zeros(index, 4 * rows.len())?;
+    put_narrow(index, rows)?;
+    put_wide(index, rows)?;
+    index.extend_from_slice(hash)?;
+    Ok(())
 }
 
 // The offsets as four bytes tell them: a wide one is the high bit and its number among the wide ones.

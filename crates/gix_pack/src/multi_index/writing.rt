@@ -1,17 +1,18 @@
 //! Multi-pack indices written: the header, the chunk table, the chunks one behind another, and the hash.
 ghost use Rattle.std.specs.Prelude.{◌≡◌, ◌+◌, ◌*◌, ◌++◌, ◌∷◌, [], ◌^◌, ◌<◌, ◌≤◌, ◌↔◌, true, false, codes, length, map, IfOk, IsTrue, OnOk};
 ghost use Rattle.std.specs.Int.{w32, to_be_bytes};
-ghost use Rattle.std.specs.List.{flat_map, zip, AllByRecursion};
+ghost use Rattle.std.specs.List.{filter, flat_map, zip, AllByRecursion};
+ghost use Rattle.gix_hash.specs.ObjectId.{bytes_of};
 ghost use Rattle.gix_pack.specs.MultiIndex.{are_names};
-ghost use Rattle.gix_pack.specs.MultiIndexChunks.{below_first, bytes_over, chunk_seen, objects_over, offset_chunks};
-ghost use Rattle.gix_pack.specs.PlacedRow.{id_of, offset_of, pack_of, pack_row_of, placed_in, IsPlaced};
-ghost use Rattle.gix_pack.specs.Rows.{is_rising};
-ghost use Rattle.gix_pack.specs.WrittenIndex.{narrow_from};
-ghost use Rattle.gix_pack.specs.WrittenMultiIndex.{chunk_table, chunks_written, hash_number, multi_index_of_packs, name_bytes, named_seen, names_of, needs_wide as need_wide, pack_and_offset, CanBeWritten, IsMultiIndexOf, ReadsMultiIndex};
+ghost use Rattle.gix_pack.specs.MultiIndexChunks.{below_first, bytes_over, chunk_seen, front_with, objects_over, offset_chunks, one_chunk};
+ghost use Rattle.gix_pack.specs.PlacedRow.{id_of, multi_placed, offset_of, pack_of, pack_row_of, placed_in, IsPlaced};
+ghost use Rattle.gix_pack.specs.Rows.{counts_of, is_rising};
+ghost use Rattle.gix_pack.specs.WrittenIndex.{is_wide as offset_is_wide, long_number_bytes, narrow_from, number_bytes};
+ghost use Rattle.gix_pack.specs.WrittenMultiIndex.{chunk_table, chunks_written, hash_number, multi_index_of_packs, name_bytes, named_seen, names_of, needs_wide as need_wide, pack_and_offset, padded, CanBeWritten, IsMultiIndexOf, ReadsMultiIndex};
 
 use super::names::is_name;
 use crate::NamedPack;
-use crate::put::{hash_of_bytes, put_long, put_number, put_zeros};
+use crate::put::{put_hash, put_long, put_number, put_zeros};
 use crate::put_rows::{is_wide, narrow_of, put_counts, put_ids, put_wide};
 use crate::table::{Placed, put_rows, table_of};
 use gix_hash::Kind;
@@ -81,26 +82,46 @@ fn is_below(name: &PathName, packs: &[NamedPack]) -> bool
 /// The multi-pack index (Git's, version 1) of some packs: of objects with one id it has the first one in the first pack that has it.
 ///
 /// Wide offsets are written where an offset doesn't fit four bytes. The only error is want of memory.
-#[tactic(auto, using(crate::proofs::WrittenMultiIndexLemmas::bytes_step, crate::proofs::WrittenMultiIndexLemmas::bytes_end))]
 pub fn encode(alloc: Global, packs: &[NamedPack], kind: Kind) -> Result<ByteList, NoMemory>
     requires { CanBeWritten (map named_seen packs.now) }
     ensures written { IfOk result (λ file. file ≡ multi_index_of_packs kind (map named_seen packs.now)) }
     ensures table { IfOk result (IsMultiIndexOf kind (map named_seen packs.now)) }
     ensures read_back { IfOk result (ReadsMultiIndex kind (map named_seen packs.now)) }
 {
+    let chunks = chunks_of_packs(alloc, packs, kind)?;
+    let mut file = ByteList::new(alloc);
+    put_file(&mut file, packs.len() as u32, chunks.as_slice(), kind)?;
+    put_hash(&mut file, kind)?;
+    Ok(file)
+}
+
+// The chunks of a multi-index of some packs.
+fn chunks_of_packs(alloc: Global, packs: &[NamedPack], kind: Kind) -> Result<Vec<Chunk>, NoMemory>
+    requires { CanBeWritten (map named_seen packs.now) }
+    ensures chunks { IfOk result (λ chunks. map chunk_seen chunks.items ≡ chunks_written (names_of (map named_seen packs.now)) (map pack_row_of (multi_placed kind (map named_seen packs.now)))) }
+    ensures few { IfOk result (λ chunks. length chunks.items ≤ 5) }
+    ensures placed { IfOk result (λ _. AllByRecursion (IsPlaced kind) (placed_in kind 0 (map named_seen packs.now))) }
+{
     let rows = rows_of(alloc, packs, kind)?;
     let table = table_of(alloc, rows)?;
-    let kept = chunks_of(alloc, packs, table.as_slice(), kind)?;
-    let chunks = kept.as_slice();
-    let mut file = ByteList::new(alloc);
-    put_front(&mut file, packs.len() as u32, chunks.len() as u8, kind)?;
-    put_table(&mut file, chunks)?;
+    let chunks = chunks_of(alloc, packs, table.as_slice(), kind)?;
+    Ok(chunks)
+}
+
+// A multi-index of so many packs and some chunks, without its hash.
+#[tactic(auto, using(crate::proofs::WrittenMultiIndexLemmas::bytes_step, crate::proofs::WrittenMultiIndexLemmas::bytes_end))]
+fn put_file(file: &mut ByteList, packs: u32, chunks: &[Chunk], kind: Kind) -> Result<(), NoMemory>
+    requires empty { file.old ≡ [] }
+    requires few { length chunks.now < 256 }
+    ensures front { OnOk result (file.new ≡ front_with kind packs (map chunk_seen chunks.now)) }
+    ensures small { OnOk result (12 + 12 * (length chunks.now + 1) + bytes_over (map chunk_seen chunks.now) < 2 ^ 64) }
+{
+    put_front(file, packs, chunks.len() as u8, kind)?;
+    put_table(file, chunks)?;
     for chunk in chunks {
         file.extend_from_slice(chunk.bytes.as_slice())?;
     }
-    let hash = hash_of_bytes(kind, file.as_slice());
-    file.extend_from_slice(hash.as_bytes())?;
-    Ok(file)
+    Ok(())
 }
 
 // The rows of all packs, in the order of the packs and of their objects.
@@ -169,29 +190,70 @@ fn chunks_of(
     ensures chunks { IfOk result (λ chunks. map chunk_seen chunks.items ≡ chunks_written (names_of (map named_seen packs.now)) (map pack_row_of rows.now)) }
     ensures few { IfOk result (λ chunks. length chunks.items ≤ 5) }
 {
-    let mut names = ByteList::new(alloc);
-    put_names(&mut names, packs)?;
-    let padding = (4 - names.len() % 4) % 4;
-    put_zeros(&mut names, padding)?;
-    let mut counts = ByteList::new(alloc);
-    put_counts(&mut counts, rows, kind)?;
-    let mut ids = ByteList::new(alloc);
-    put_ids(&mut ids, rows)?;
     let mut chunks = Vec::new(alloc);
-    chunks.push(Chunk {
-        name: *b"PNAM",
-        bytes: names,
-    })?;
-    chunks.push(Chunk {
-        name: *b"OIDF",
-        bytes: counts,
-    })?;
-    chunks.push(Chunk {
-        name: *b"OIDL",
-        bytes: ids,
-    })?;
+    push_names(alloc, &mut chunks, packs)?;
+    push_counts(alloc, &mut chunks, rows, kind)?;
+    push_ids(alloc, &mut chunks, rows)?;
     push_offsets(alloc, &mut chunks, rows)?;
     Ok(chunks)
+}
+
+// A chunk behind others.
+fn push_chunk(chunks: &mut Vec<Chunk>, name: [u8; 4], bytes: ByteList) -> Result<(), NoMemory>
+    ensures chunk { OnOk result (map chunk_seen chunks.new.items ≡ map chunk_seen chunks.old.items ++ one_chunk name bytes) }
+    ensures few { OnOk result (length chunks.new.items ≡ length chunks.old.items + 1) }
+{
+    chunks.push(Chunk { name, bytes })?;
+    Ok(())
+}
+
+// The chunk of the names.
+fn push_names(alloc: Global, chunks: &mut Vec<Chunk>, packs: &[NamedPack]) -> Result<(), NoMemory>
+    ensures chunk { OnOk result (map chunk_seen chunks.new.items ≡ map chunk_seen chunks.old.items ++ one_chunk (codes "PNAM") (padded (name_bytes (names_of (map named_seen packs.now))))) }
+    ensures few { OnOk result (length chunks.new.items ≡ length chunks.old.items + 1) }
+{
+    let mut names = ByteList::new(alloc);
+    put_padded(&mut names, packs)?;
+    push_chunk(chunks, *b"PNAM", names)
+}
+
+// The names, and NULs behind them up to a length that four divides.
+fn put_padded(names: &mut ByteList, packs: &[NamedPack]) -> Result<(), NoMemory>
+    requires { names.old ≡ [] }
+    ensures { OnOk result (names.new ≡ padded (name_bytes (names_of (map named_seen packs.now)))) }
+{
+    put_names(names, packs)?;
+    let padding = (4 - names.len() % 4) % 4;
+    put_zeros(names, padding)
+}
+
+// The chunk of the 256 counts.
+fn push_counts(
+    alloc: Global,
+    chunks: &mut Vec<Chunk>,
+    rows: &[Placed],
+    kind: Kind,
+) -> Result<(), NoMemory>
+    requires few { length rows.now < 2 ^ 31 }
+    requires rising { is_rising (map id_of rows.now) ≡ true }
+    requires placed { AllByRecursion (IsPlaced kind) rows.now }
+    ensures chunk { OnOk result (map chunk_seen chunks.new.items ≡ map chunk_seen chunks.old.items ++ one_chunk (codes "OIDF") (number_bytes (counts_of (map id_of rows.now)))) }
+    ensures few { OnOk result (length chunks.new.items ≡ length chunks.old.items + 1) }
+{
+    let mut counts = ByteList::new(alloc);
+    put_counts(&mut counts, rows, kind)?;
+    push_chunk(chunks, *b"OIDF", counts)?;
+    Ok(())
+}
+
+// The chunk of the ids.
+fn push_ids(alloc: Global, chunks: &mut Vec<Chunk>, rows: &[Placed]) -> Result<(), NoMemory>
+    ensures chunk { OnOk result (map chunk_seen chunks.new.items ≡ map chunk_seen chunks.old.items ++ one_chunk (codes "OIDL") (flat_map bytes_of (map id_of rows.now))) }
+    ensures few { OnOk result (length chunks.new.items ≡ length chunks.old.items + 1) }
+{
+    let mut ids = ByteList::new(alloc);
+    put_ids(&mut ids, rows)?;
+    push_chunk(chunks, *b"OIDL", ids)
 }
 
 // The names, each ended by NUL.
@@ -212,27 +274,44 @@ fn push_offsets(alloc: Global, chunks: &mut Vec<Chunk>, rows: &[Placed]) -> Resu
     ensures chunks { OnOk result (map chunk_seen chunks.new.items ≡ map chunk_seen chunks.old.items ++ offset_chunks (map pack_of rows.now) (map offset_of rows.now)) }
     ensures few { OnOk result (length chunks.new.items ≤ length chunks.old.items + 2) }
 {
-    let mut offsets = ByteList::new(alloc);
     if needs_wide(rows) {
-        put_narrow(&mut offsets, rows)?;
-        chunks.push(Chunk {
-            name: *b"OOFF",
-            bytes: offsets,
-        })?;
-        let mut wide = ByteList::new(alloc);
-        put_wide(&mut wide, rows)?;
-        chunks.push(Chunk {
-            name: *b"LOFF",
-            bytes: wide,
-        })?;
+        push_narrow(alloc, chunks, rows)?;
+        push_wide(alloc, chunks, rows)
     } else {
-        put_whole(&mut offsets, rows)?;
-        chunks.push(Chunk {
-            name: *b"OOFF",
-            bytes: offsets,
-        })?;
+        push_whole(alloc, chunks, rows)
     }
-    Ok(())
+}
+
+// The chunk of packs and offsets where there are wide ones.
+fn push_narrow(alloc: Global, chunks: &mut Vec<Chunk>, rows: &[Placed]) -> Result<(), NoMemory>
+    requires { length rows.now < 2 ^ 31 }
+    ensures chunk { OnOk result (map chunk_seen chunks.new.items ≡ map chunk_seen chunks.old.items ++ one_chunk (codes "OOFF") (flat_map pack_and_offset (zip (map pack_of rows.now) (narrow_from 0 (map offset_of rows.now))))) }
+    ensures few { OnOk result (length chunks.new.items ≡ length chunks.old.items + 1) }
+{
+    let mut offsets = ByteList::new(alloc);
+    put_narrow(&mut offsets, rows)?;
+    push_chunk(chunks, *b"OOFF", offsets)
+}
+
+// The chunk of the wide offsets.
+fn push_wide(alloc: Global, chunks: &mut Vec<Chunk>, rows: &[Placed]) -> Result<(), NoMemory>
+    ensures chunk { OnOk result (map chunk_seen chunks.new.items ≡ map chunk_seen chunks.old.items ++ one_chunk (codes "LOFF") (long_number_bytes (filter offset_is_wide (map offset_of rows.now)))) }
+    ensures few { OnOk result (length chunks.new.items ≡ length chunks.old.items + 1) }
+{
+    let mut wide = ByteList::new(alloc);
+    put_wide(&mut wide, rows)?;
+    push_chunk(chunks, *b"LOFF", wide)
+}
+
+// The chunk of packs and offsets where none is wide.
+fn push_whole(alloc: Global, chunks: &mut Vec<Chunk>, rows: &[Placed]) -> Result<(), NoMemory>
+    requires { need_wide (map offset_of rows.now) ≡ false }
+    ensures chunk { OnOk result (map chunk_seen chunks.new.items ≡ map chunk_seen chunks.old.items ++ one_chunk (codes "OOFF") (flat_map pack_and_offset (zip (map pack_of rows.now) (map offset_of rows.now)))) }
+    ensures few { OnOk result (length chunks.new.items ≡ length chunks.old.items + 1) }
+{
+    let mut offsets = ByteList::new(alloc);
+    put_whole(&mut offsets, rows)?;
+    push_chunk(chunks, *b"OOFF", offsets)
 }
 
 // Whether an offset doesn't fit four bytes.

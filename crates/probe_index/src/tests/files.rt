@@ -26,62 +26,57 @@ const CHUNKS: &[u8] = b"\
     \0\0\0\0\0\0\0\0\0\0\x04\x98\
     pack-a.idx\0pack-b.idx\0\0\0";
 
-/// Adds the counts of two ids that begin with these bytes.
-fn add_counts(file: &mut Vec<u8>, low: u16, high: u16) -> Result<(), AllocError> {
+/// A file of the two ids: what stands before its counts, and the parts behind them.
+fn with_counts(
+    alloc: Global,
+    front: &[u8],
+    low: u16,
+    high: u16,
+    behind: &[&[u8]],
+) -> Result<Vec<u8>, AllocError> {
+    let mut file = front.to_vec(alloc)?;
     for first in 0..256u16 {
         let count = u8::from(first >= low) + u8::from(first >= high);
         file.extend_from_slice(&[0, 0, 0, count])?;
     }
-    Ok(())
-}
-
-/// An index with these offsets behind its ids, its checks and hashes zeros.
-fn index_with(alloc: Global, offsets: &[u8]) -> Result<Vec<u8>, AllocError> {
-    let mut file = SIGNATURE.to_vec(alloc)?;
-    add_counts(&mut file, 31, 131)?;
-    file.extend_from_slice(IDS)?;
-    file.extend_from_slice(&[0; 8])?;
-    file.extend_from_slice(offsets)?;
-    file.extend_from_slice(&[0; 40])?;
+    for part in behind {
+        file.extend_from_slice(part)?;
+    }
     Ok(file)
 }
 
-/// An index with ids of SHA-256, its checks and hashes zeros.
+/// An index with these offsets, its checks zeros, and so many zeros in place of hashes.
+fn index(alloc: Global, offsets: &[u8], hashes: &[u8]) -> Result<Vec<u8>, AllocError> {
+    with_counts(alloc, SIGNATURE, 31, 131, &[IDS, &[0; 8], offsets, hashes])
+}
+
+/// A multi-pack index whose second id is in the first pack, with so many zeros in place of its hash.
+fn packs(alloc: Global, hash: &[u8]) -> Result<Vec<u8>, AllocError> {
+    let offsets = b"\0\0\0\x01\0\0\0\x17\0\0\0\0\0\0\0\x0c";
+    with_counts(alloc, CHUNKS, 31, 131, &[IDS, offsets, hash])
+}
+
+/// An index with ids of SHA-256.
 fn long_index(alloc: Global) -> Result<Vec<u8>, AllocError> {
-    let mut file = SIGNATURE.to_vec(alloc)?;
-    add_counts(&mut file, 88, 189)?;
-    file.extend_from_slice(LONG_IDS)?;
-    file.extend_from_slice(&[0; 8])?;
-    file.extend_from_slice(b"\0\0\0\x0c\0\0\0\x17")?;
-    file.extend_from_slice(&[0; 64])?;
-    Ok(file)
-}
-
-/// A multi-pack index whose second id is in the first pack, its hash zeros.
-fn packs(alloc: Global) -> Result<Vec<u8>, AllocError> {
-    let mut file = CHUNKS.to_vec(alloc)?;
-    add_counts(&mut file, 31, 131)?;
-    file.extend_from_slice(IDS)?;
-    file.extend_from_slice(b"\0\0\0\x01\0\0\0\x17\0\0\0\0\0\0\0\x0c")?;
-    file.extend_from_slice(&[0; 20])?;
-    Ok(file)
-}
-
-/// The same without its last byte.
-fn cut(mut file: Vec<u8>) -> Vec<u8> {
-    let _ = file.pop();
-    file
+    let offsets = b"\0\0\0\x0c\0\0\0\x17";
+    with_counts(
+        alloc,
+        SIGNATURE,
+        88,
+        189,
+        &[LONG_IDS, &[0; 8], offsets, &[0; 64]],
+    )
 }
 
 /// The file that a row names.
 pub(super) fn file_of(alloc: Global, name: &str) -> Result<Vec<u8>, AllocError> {
     match name {
-        "index" => index_with(alloc, b"\0\0\0\x17\0\0\0\x0c"),
-        "wide" => index_with(alloc, b"\x80\0\0\0\0\0\0\x0c\0\0\0\x01\0\0\0\0"),
-        "cut" => Ok(cut(index_with(alloc, b"\0\0\0\x17\0\0\0\x0c")?)),
+        "index" => index(alloc, b"\0\0\0\x17\0\0\0\x0c", &[0; 40]),
+        "wide" => index(alloc, b"\x80\0\0\0\0\0\0\x0c\0\0\0\x01\0\0\0\0", &[0; 40]),
+        "cut" => index(alloc, b"\0\0\0\x17\0\0\0\x0c", &[0; 39]),
         "SHA-256" => long_index(alloc),
-        "packs" => packs(alloc),
-        "packs cut" => Ok(cut(packs(alloc)?)),
+        "packs" => packs(alloc, &[0; 20]),
+        "packs cut" => packs(alloc, &[0; 19]),
         "empty" => Ok(Vec::new(alloc)),
         _ => b"MIDI".to_vec(alloc),
     }

@@ -1,9 +1,11 @@
 -- The chunks are put one behind another.
+use Rattle.std.proofs.Common.{map, ap}
+use Rattle.gix_pack.specs.MultiIndexChunks.{chunk_seen}
+use Rattle.gix_pack.specs.WrittenMultiIndex.{named_seen, names_of}
 use Rattle.gix_pack.proofs.WrittenMultiIndexLemmas.{chunks_put}
 use Rattle.gix_pack.proofs.multi_index.writing.chunks_of.Goals as goal
 
 pub returns-clause-chunks : goal.returns-clause-chunks
 returns-clause-chunks c =
-    chunks_put c.args.packs.now c.args.rows.now c.new-names.result c.put_names.new.list c.put_zeros.new.list c.new-counts.result c.put_counts.new.list c.new-ids.result c.put_ids.new.list c.len.result
-    c.new-chunks.result.items c.push.new.self.items c.push-2.new.self.items c.push-3.new.self.items c.push_offsets.new.chunks.items c.new-names.ensures c.in_ok-put_names.ensures c.len.ensures c.in_ok-put_zeros.ensures c.new-counts.ensures
-    c.in_ok-put_counts.ensures c.new-ids.ensures c.in_ok-put_ids.ensures c.new-chunks.ensures.items c.in_ok-push.ensures.items c.in_ok-push-2.ensures.items c.in_ok-push-3.ensures.items c.in_ok-push_offsets.ensures.chunks
+    chunks_put (names_of (map named_seen c.args.packs.now)) c.args.rows.now _ _ _ _ _ (ap (map chunk_seen) c.new-chunks.ensures.items) c.in_ok-push_names.ensures.chunk c.in_ok-push_counts.ensures.chunk c.in_ok-push_ids.ensures.chunk
+    c.in_ok-push_offsets.ensures.chunks

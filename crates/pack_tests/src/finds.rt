@@ -2,11 +2,12 @@
 ghost use Rattle.std.specs.Prelude.{◌≡◌, Some, IfOk, IfSome, OnOk};
 ghost use Rattle.gix_hash.specs.ObjectId.{kind_of};
 
-use crate::cache::{DecodeEntry, Never};
-use crate::data::entry::Location;
-use crate::find::{Entry, Find};
+use crate::words::compare;
 use gix_hash::ObjectId;
 use gix_object::{Data, Kind};
+use gix_pack::cache::{DecodeEntry, Never};
+use gix_pack::data::entry::Location;
+use gix_pack::find::{Entry, Find};
 use odb_base::{ByteList, NoMemory};
 use std::alloc::{AllocError, Global};
 use std::sync::Wait;
@@ -143,7 +144,8 @@ fn found<D: Find, R: Wait>(
     id: &ObjectId,
 ) -> Result<String, AllocError>
     requires { kind_of id.now ≡ D.hash database.old }
-    ensures { OnOk result (D.hash database.new ≡ D.hash database.old) }
+    ensures hash { OnOk result (D.hash database.new ≡ D.hash database.old) }
+    ensures stable { D.is_stable database.old → OnOk result (D.is_stable database.new) }
 {
     let mut out = Vec::from_slice(alloc, b"before")?;
     shown(alloc, database.try_find(rt, alloc, id, &mut out))
@@ -156,7 +158,8 @@ fn found_cached<D: Find, R: Wait>(
     id: &ObjectId,
 ) -> Result<String, AllocError>
     requires { kind_of id.now ≡ D.hash database.old }
-    ensures { OnOk result (D.hash database.new ≡ D.hash database.old) }
+    ensures hash { OnOk result (D.hash database.new ≡ D.hash database.old) }
+    ensures stable { D.is_stable database.old → OnOk result (D.is_stable database.new) }
 {
     let mut out = Vec::from_slice(alloc, b"before")?;
     shown(
@@ -188,12 +191,11 @@ fn located<D: Find, R: Wait>(
     format!(in alloc; "version {} {bytes} of {}", entry.version, rows.len())
 }
 
-// A call through the bound that does not reach the type's own.
-#[test]
-fn finds_through_the_bound(rt: HostRuntime) -> Result<(), Fail> {
-    let alloc = rt.alloc();
-    let id = ObjectId::from_hex(b"83baae61804e65cc73a7201a7252750c76066a30")?;
-    let mut single = Single {
+// The database of the blob `version 1`.
+fn database_of(alloc: Global, id: ObjectId) -> Result<Single, NoMemory>
+    ensures { IfOk result (λ single. single.id ≡ id) }
+{
+    Ok(Single {
         id,
         kind: Kind::Blob,
         entry: ByteList::from_slice(alloc, b":version 1")?,
@@ -202,12 +204,34 @@ fn finds_through_the_bound(rt: HostRuntime) -> Result<(), Fail> {
             pack_offset: 12,
             entry_size: 10,
         },
-    };
-    let plain = found(&rt, alloc, &mut single, &id)?;
-    assert_eq!(rt; plain.as_str(), "blob version 1 at 12");
-    let cached = found_cached(&rt, alloc, &mut single, &id)?;
-    assert_eq!(rt; cached.as_str(), "blob version 1 at 12");
-    let place = located(&rt, alloc, &mut single, &id)?;
-    assert_eq!(rt; place.as_str(), "version 2 :version 1 of 1");
-    Ok(())
+    })
+}
+
+// What the plain find, the one with a cache, and a read at the location answer.
+fn answers<D: Find, R: Wait>(
+    rt: &R,
+    alloc: Global,
+    database: &mut D,
+    id: &ObjectId,
+) -> Result<String, AllocError>
+    requires hash { kind_of id.now ≡ D.hash database.old }
+    requires stable { D.is_stable database.old }
+{
+    let plain = found(rt, alloc, database, id)?;
+    let cached = found_cached(rt, alloc, database, id)?;
+    let place = located(rt, alloc, database, id)?;
+    format!(in alloc; "{plain}, {cached}, {place}")
+}
+
+// A call through the bound that does not reach the type's own.
+#[test]
+fn finds_through_the_bound(rt: HostRuntime) -> Result<(), Fail> {
+    let id = ObjectId::from_hex(b"83baae61804e65cc73a7201a7252750c76066a30")?;
+    let mut single = database_of(rt.alloc(), id)?;
+    let found = answers(&rt, rt.alloc(), &mut single, &id)?;
+    compare(
+        "blob",
+        found.as_str(),
+        "blob version 1 at 12, blob version 1 at 12, version 2 :version 1 of 1",
+    )
 }

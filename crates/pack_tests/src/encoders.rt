@@ -1,8 +1,6 @@
-ghost use Rattle.std.specs.Prelude.{◌≡◌, ◌<◌, length, IfOk};
-
-use super::joined;
-use crate::{NamedPack, Object, index, multi_index};
+use crate::words::{compare_bytes, joined, put_counts};
 use gix_hash::Kind;
+use gix_pack::{NamedPack, Object, index, multi_index};
 use odb_base::{ByteList, NoMemory, PathName, Sequence};
 use std::alloc::Global;
 use std::test::Fail;
@@ -23,45 +21,33 @@ const ID_2: &[u8] =
 const ID_HELLO: &[u8] =
     b"\xce\x01\x36\x25\x03\x0b\xa8\xdb\xa9\x06\xf7\x56\x96\x7f\x9e\x9c\xa3\x94\x46\x4a";
 
-fn blobs(alloc: Global, texts: &[&[u8]]) -> Result<Vec<Object>, NoMemory>
-    ensures { IfOk result (λ objects. length objects.items ≡ length texts.now) }
-{
+fn blobs(alloc: Global, texts: &[&[u8]]) -> Result<Vec<Object>, NoMemory> {
     let mut objects = Vec::new(alloc);
     for text in texts {
-        objects.push(Object {
-            kind: gix_object::Kind::Blob,
-            bytes: ByteList::from_slice(alloc, text)?,
-        })?;
+        objects.push(blob(alloc, text)?)?;
     }
     Ok(objects)
 }
 
-// The cumulative counts of ids that begin with these bytes.
-fn counts(alloc: Global, firsts: &[u8]) -> Result<ByteList, NoMemory> {
-    let mut table = ByteList::new(alloc);
-    for first in 0..256u16 {
-        let mut count = 0u8;
-        for byte in firsts {
-            if *byte as u16 <= first && count < 9 {
-                count += 1;
-            }
-        }
-        table.extend_from_slice(&[0, 0, 0, count])?;
-    }
-    Ok(table)
+fn blob(alloc: Global, text: &[u8]) -> Result<Object, NoMemory> {
+    Ok(Object {
+        kind: gix_object::Kind::Blob,
+        bytes: ByteList::from_slice(alloc, text)?,
+    })
 }
 
-// The index of the pack of some blobs.
-fn index_of(alloc: Global, texts: &[&[u8]]) -> Result<ByteList, NoMemory>
-    requires { length texts.now < 4 }
-{
-    let objects = blobs(alloc, texts)?;
-    index::encode(alloc, objects.as_slice(), Kind::Sha1)
+// The index of the pack of some objects.
+fn index_of(alloc: Global, objects: &[Object]) -> Result<ByteList, Fail> {
+    if objects.len() > 3 {
+        return Err(Fail::new("too many objects"));
+    }
+    Ok(index::encode(alloc, objects, Kind::Sha1)?)
 }
 
 // An index of the first two objects with these hashes.
 fn index_with(alloc: Global, pack: &[u8], own: &[u8]) -> Result<ByteList, NoMemory> {
-    let table = counts(alloc, &[0x1f, 0x83])?;
+    let mut table = ByteList::new(alloc);
+    put_counts(&mut table, &[(31, 0), (100, 1), (125, 2)])?;
     let parts: [&[u8]; 8] = [
         b"\xfftOc\x00\x00\x00\x02",
         table.as_slice(),
@@ -75,23 +61,35 @@ fn index_with(alloc: Global, pack: &[u8], own: &[u8]) -> Result<ByteList, NoMemo
     joined(alloc, &parts, 0)
 }
 
+// Texts of blobs, and the hashes of the index of their pack.
+const INDICES: &[(&[&[u8]], &[u8], &[u8])] = &[
+    (
+        &[VERSION_1, VERSION_2],
+        b"\x9f\xcd\xd1\x3c\xfb\xc0\x64\x2c\xc8\x04\x69\xd7\x0c\x2a\xca\x5c\xf5\x1f\x11\xf6",
+        b"\x99\x2d\x04\x3e\x73\x3b\xf5\x47\x57\x2f\x62\x26\x86\x89\x67\xf3\x83\xec\x97\xaa",
+    ),
+    (
+        &[VERSION_1, VERSION_2, VERSION_1],
+        b"\x7b\x24\x2a\xde\x30\x04\x94\x74\x56\xd2\xe3\x42\xef\xd8\x2b\x61\x2a\x6e\xf9\xfa",
+        b"\x10\x18\xe3\xe9\x0b\xb0\xb2\x22\xf2\xb6\x61\x86\xd9\x8c\x75\x2b\x2a\x7f\xf6\xeb",
+    ),
+];
+
+fn check_index(alloc: Global, objects: &[Object], pack: &[u8], own: &[u8]) -> Result<(), Fail> {
+    let found = index_of(alloc, objects)?;
+    let want = index_with(alloc, pack, own)?;
+    compare_bytes("index", &found, &want)
+}
+
 // Rows in the order of the objects, the last object's place for an id that comes twice, or a hash of other bytes.
 // The two hashes of each index, the pack's and its own, were computed by Python's hashlib over bytes that were put
 // together there by the format.
 #[test]
 fn writes_indices(rt: HostRuntime) -> Result<(), Fail> {
-    let two = index_of(rt.alloc(), &[VERSION_1, VERSION_2])?;
-    let pack = b"\x9f\xcd\xd1\x3c\xfb\xc0\x64\x2c\xc8\x04\x69\xd7\x0c\x2a\xca\x5c\xf5\x1f\x11\xf6";
-    let own = b"\x99\x2d\x04\x3e\x73\x3b\xf5\x47\x57\x2f\x62\x26\x86\x89\x67\xf3\x83\xec\x97\xaa";
-    assert_eq!(rt; two, index_with(rt.alloc(), pack, own)?, "two objects");
-    let repeated = index_of(rt.alloc(), &[VERSION_1, VERSION_2, VERSION_1])?;
-    let pack = b"\x7b\x24\x2a\xde\x30\x04\x94\x74\x56\xd2\xe3\x42\xef\xd8\x2b\x61\x2a\x6e\xf9\xfa";
-    let own = b"\x10\x18\xe3\xe9\x0b\xb0\xb2\x22\xf2\xb6\x61\x86\xd9\x8c\x75\x2b\x2a\x7f\xf6\xeb";
-    assert_eq!(rt;
-        repeated,
-        index_with(rt.alloc(), pack, own)?,
-        "the first once more"
-    );
+    for (texts, pack, own) in INDICES {
+        let objects = blobs(rt.alloc(), texts)?;
+        check_index(rt.alloc(), objects.as_slice(), pack, own)?;
+    }
     Ok(())
 }
 
@@ -158,33 +156,49 @@ const BEHIND_SHA256: [&[u8]; 5] = [
 fn packs_of(alloc: Global, contents: Packs) -> Result<Vec<NamedPack>, NoMemory> {
     let mut packs = Vec::new(alloc);
     for (name, texts) in contents {
-        packs.push(NamedPack {
-            name: PathName::new(alloc, name)?,
-            objects: Sequence::from_vec(blobs(alloc, texts)?),
-        })?;
+        packs.push(named(alloc, name, texts)?)?;
     }
     Ok(packs)
 }
 
-// What is written for packs, and the parts of what Git made of them.
-fn written_and_wanted(
-    alloc: Global,
-    kind: Kind,
-    contents: Packs,
-    before: &[u8],
-    firsts: &[u8],
-    behind: &[&[u8]],
-) -> Result<(ByteList, ByteList), Fail> {
-    let packs = packs_of(alloc, contents)?;
-    let given = packs.as_slice();
-    if !multi_index::can_be_written(given) {
+fn named(alloc: Global, name: &str, texts: &[&[u8]]) -> Result<NamedPack, NoMemory> {
+    let name = PathName::new(alloc, name)?;
+    Ok(NamedPack {
+        name,
+        objects: Sequence::from_vec(blobs(alloc, texts)?),
+    })
+}
+
+fn written(alloc: Global, packs: &[NamedPack], kind: Kind) -> Result<ByteList, Fail> {
+    if !multi_index::can_be_written(packs) {
         return Err(Fail::new("packs that can't be written"));
     }
-    let bytes = multi_index::encode(alloc, given, kind)?;
-    let table = counts(alloc, firsts)?;
-    let behind = joined(alloc, behind, 0)?;
-    let parts = [before, table.as_slice(), behind.as_slice()];
-    Ok((bytes, joined(alloc, &parts, 0)?))
+    Ok(multi_index::encode(alloc, packs, kind)?)
+}
+
+// The parts of what Git made.
+fn of_git(
+    alloc: Global,
+    before: &[u8],
+    counts: &[(u16, u8)],
+    behind: &[&[u8]],
+) -> Result<ByteList, NoMemory> {
+    let mut file = ByteList::from_slice(alloc, before)?;
+    put_counts(&mut file, counts)?;
+    for part in behind {
+        file.extend_from_slice(part)?;
+    }
+    Ok(file)
+}
+
+fn check_packs(
+    alloc: Global,
+    packs: &[NamedPack],
+    kind: Kind,
+    want: &ByteList,
+) -> Result<(), Fail> {
+    let found = written(alloc, packs, kind)?;
+    compare_bytes("multi-index", &found, want)
 }
 
 // The packs numbered in another order, an empty pack left out, names without their padding or with padding that they
@@ -192,23 +206,18 @@ fn written_and_wanted(
 #[test]
 fn writes_multi_indices_as_git_does(rt: HostRuntime) -> Result<(), Fail> {
     let alloc = rt.alloc();
-    let (bytes, wanted) = written_and_wanted(
-        alloc,
-        Kind::Sha1,
-        TWO_PACKS,
-        BEFORE_SHA1,
-        &[0x1f, 0x83, 0xce],
-        &BEHIND_SHA1,
-    )?;
-    assert_eq!(rt; bytes, wanted);
-    let (bytes, wanted) = written_and_wanted(
-        alloc,
-        Kind::Sha256,
-        THREE_PACKS,
-        BEFORE_SHA256,
-        &[0x2c, 0x58, 0xbd],
-        &BEHIND_SHA256,
-    )?;
-    assert_eq!(rt; bytes, wanted);
-    Ok(())
+    let counts = &[(31, 0), (100, 1), (75, 2), (50, 3)];
+    let want = of_git(alloc, BEFORE_SHA1, counts, &BEHIND_SHA1)?;
+    let packs = packs_of(alloc, TWO_PACKS)?;
+    check_packs(alloc, packs.as_slice(), Kind::Sha1, &want)
+}
+
+// The same of ids of SHA-256.
+#[test]
+fn writes_long_multi_indices_as_git_does(rt: HostRuntime) -> Result<(), Fail> {
+    let alloc = rt.alloc();
+    let counts = &[(44, 0), (44, 1), (101, 2), (67, 3)];
+    let want = of_git(alloc, BEFORE_SHA256, counts, &BEHIND_SHA256)?;
+    let packs = packs_of(alloc, THREE_PACKS)?;
+    check_packs(alloc, packs.as_slice(), Kind::Sha256, &want)
 }

@@ -2,7 +2,7 @@ use Rattle.std.proofs.Common.{◌≡◌, ◌++◌, drop, map}
 use Rattle.std.specs.List.{flat_map}
 use Rattle.gix_pack.specs.MultiIndex.{Chunk}
 use Rattle.gix_pack.specs.MultiIndexChunks.{chunk_seen}
-use Rattle.gix_pack.proofs.multi_index.writing.encode.Given as goal
+use Rattle.gix_pack.proofs.multi_index.writing.put_file.Given as goal
 
 -- the chunks so far with those that are left are all
 abbrev pub invariant-loop-chunk : goal.invariant-loop-chunk
