@@ -12,5 +12,3 @@
 #![tactic(auto)]
 
 pub mod fs;
-#[cfg(test)]
-mod tests;

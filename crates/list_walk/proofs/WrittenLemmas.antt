@@ -3,7 +3,7 @@ use Rattle.std.proofs.Common.{◌≡◌, ◌⊎◌, inl, inr, ℕ, Bool, true, f
 use Rattle.std.proofs.Math.Seq.{take-length}
 use Rattle.std.specs.Prelude.{Result}
 use Rattle.std.specs.List.{list_any}
-use Rattle.std.specs.Result.{IsErr, IsErrOf}
+use Rattle.std.specs.Result.{IfOk, IsErr, IsErrOf, OnErr}
 use Rattle.std.proofs.lemmas.Result.{IfOk-from_err}
 use Rattle.odb_disk.specs.Source.{Adds}
 use Rattle.odb_disk.specs.Tree.{State}
@@ -164,3 +164,9 @@ ends_whole o statuses.WriteFault w = absurd (elim (listing (list_any is_error w.
 pub ends_cut : (o : Output) (result : Result Status LineError) → IsErr result → IsFront o → EndsWritten o result
 ends_cut o (Ok status) is_err front = absurd (IfOk-from_err {E = LineError} (Ok status) (λ _. ⊥) is_err)
 ends_cut o (Err error) is_err front = front
+
+-- what is gathered was written, or a front of it
+pub ends_by : (o : Output) (result : Result Status LineError) (status : Status) (Whole Part : Type 0) → IfOk result (λ answer. (answer ≡ status) × Whole) → OnErr result Part → (Whole → EndsWritten o (Ok status))
+    → (Part → IsFront o) → EndsWritten o result
+ends_by o (Ok answer) status Whole Part ok err whole part = subst (λ s. EndsWritten o (Ok s)) (sym ok.0) (whole ok.1)
+ends_by o (Err error) status Whole Part ok err whole part = part err

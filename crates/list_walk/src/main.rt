@@ -4,11 +4,13 @@
 //! means.
 #![tactic(auto)]
 
+ghost use Rattle.std.specs.Prelude.{◌≡◌};
+ghost use Rattle.std.specs.Process.{exit_status};
+ghost use Rattle.list_walk.specs.Status.{code_of};
+
 mod line;
 mod run;
 mod status;
-#[cfg(test)]
-mod tests;
 mod words;
 
 use crate::status::Status;
@@ -23,17 +25,24 @@ fn main(rt: HostRuntime) -> ExitCode {
     let words = match arguments(&rt, alloc) {
         Ok(words) => words,
         Err(error) if error.kind() == io::ErrorKind::OutOfMemory => {
-            return ExitCode::from(Status::NoMemory.code());
+            return exit_code(Status::NoMemory);
         }
         // Arguments that are no text are words that aren't understood.
         Err(_) => Vec::new(alloc),
     };
     let Ok(files) = rt.clone() else {
-        return ExitCode::from(Status::NoMemory.code());
+        return exit_code(Status::NoMemory);
     };
     let mut sink = StdSink::new(io::writer(&rt));
     let mut disk = HostDisk::new(alloc, files);
     let status = run::run(alloc, &words, &mut sink, &mut disk);
+    exit_code(status)
+}
+
+/// What the process ends with.
+fn exit_code(status: Status) -> ExitCode
+    ensures { exit_status result ≡ code_of status }
+{
     ExitCode::from(status.code())
 }
 

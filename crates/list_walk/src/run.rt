@@ -1,9 +1,10 @@
 //! The walk and its output.
-ghost use Rattle.std.specs.Prelude.{◌≡◌, ℕ, List, Some, map, string_bytes, true, IsErrOf};
+ghost use Rattle.std.specs.Prelude.{◌≡◌, ℕ, List, Some, map, string_bytes, take, true, IfOk, OnErr, IsErrOf};
 ghost use Rattle.list_walk.specs.Asked.{asked_of, chosen_by, options_of, max_depth_by, max_open_by, min_depth_by};
 ghost use Rattle.list_walk.specs.Lines.{EndsWritten, Leaves, is_want};
 ghost use Rattle.list_walk.specs.Session.{Ends, EndsListed, StreamsBack};
 ghost use Rattle.odb_base.specs.Faults.{Rose};
+ghost use Rattle.odb_disk.specs.Source.{Adds};
 ghost use Rattle.walkdir.specs.OwnStreams.{AreBack};
 ghost use Rattle.walkdir.specs.Progress.{begun, has_its_streams};
 
@@ -170,14 +171,23 @@ fn written<K: Sink, D: Disk, W: Steps>(
     'items: while let Some(item) = walk.next() {
         if is_want(&item) {
             drop(item);
-            lines.flush(sink)?;
-            return Ok(Status::NoMemory);
+            return ended(lines, sink, Status::NoMemory);
         }
         if item.is_err() {
             status = Status::SomeErrors;
         }
         lines.add(alloc, sink, item)?;
     }
+    ended(lines, sink, status)
+}
+
+/// Writes what is gathered, and answers with a status.
+fn ended<K: Sink>(lines: Lines, sink: &mut K, status: Status) -> Result<Status, LineError>
+    ensures ok { IfOk result (λ answer. (answer ≡ status) × Adds (K.held sink.old) (K.held sink.new) (string_bytes lines.text)) }
+    ensures err { OnErr result ((count : ℕ) × Adds (K.held sink.old) (K.held sink.new) (take count (string_bytes lines.text))) }
+    ensures cause { IsErrOf result LineError.Failed → Rose (K.faults sink.old) (K.faults sink.new) }
+{
+    let mut lines = lines;
     lines.flush(sink)?;
     Ok(status)
 }

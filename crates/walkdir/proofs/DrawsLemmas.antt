@@ -27,7 +27,7 @@ use Rattle.walkdir.proofs.OrderLemmas.{none_left}
 use Rattle.walkdir.proofs.OwnStreamsLemmas.{has_inserted, own_is_open, remove_again}
 use Rattle.walkdir.proofs.StackLemmas.{own_at, reversed_at}
 use Rattle.walkdir.proofs.StandsForLemmas.{SameGiven, ancestors_put, others_open, same-all, same-closed, same-drawn, stands_put, stands_same}
-use Rattle.walkdir.proofs.StepLemmas.{AllOpen}
+use Rattle.walkdir.proofs.WorkLemmas.{AllOpen}
 
 -- ---- one stream beside the others
 

@@ -4,7 +4,7 @@ use Rattle.std.specs.Prelude.{MatchBool}
 use Rattle.odb_base.specs.Path.{Path}
 use Rattle.odb_disk.specs.Streams.{Streams}
 use Rattle.odb_disk.specs.Tree.{State}
-use Rattle.walkdir.proofs.HandlesLemmas.{FoundDevice, knows_device}
+use Rattle.walkdir.proofs.RootLemmas.{FoundDevice, knows_device}
 use Rattle.walkdir.proofs.ProgressLemmas.{item_turn}
 use Rattle.walkdir.proofs.TurnsLemmas.{Passes, Runs}
 use Rattle.walkdir.specs.Entered.{HoldsContents, IsEntered, StaysOut}

@@ -54,7 +54,7 @@ module _ {D W : Type 0} (state : D → Option State) (streams : D → Streams) (
       let keeps = subst (Keeps before) (sym is) (begun_keeps order built before) in
       subst (λ (o : Options). AreBack before o.max_open now) (kept.options ∙ ap (λ (p : Progress). p.options) is) (dropped before (kept.keeps before keeps))
 
-  -- what a filtered walk gives there
+  -- what a filtered walk gives there, part by part
   abbrev pub FiltersOn : {F : Type 0} → Mut F (Bor DirEntry × Unit {0}) Bool → OnDisk D W → F → Option Item → OnDisk D W → F → Type 0
   FiltersOn accepts s f item t h = Filters (NextOn state streams faults progress) (SkipsOn state streams faults progress) (λ x. (at_walk state streams faults progress x).entered) accepts s f item t h
 

@@ -1,7 +1,8 @@
 -- Laws of what was read of a directory before, of which the first is taken.
-use Rattle.std.proofs.Common.{◌≡◌, ℕ, suc, ◌+◌, ◌≤◌, [], ◌∷◌, length, Option, Some, None, IfSome, sym, ap, subst, ◌∙◌, arith}
+use Rattle.std.proofs.Common.{◌≡◌, ℕ, false, suc, ◌+◌, ◌≤◌, [], ◌∷◌, length, Option, Some, None, IfSome, sym, ap, subst, ◌∙◌, arith}
 use Rattle.walkdir.specs.Failures.{failures_among, failures_given, failures_left, failures_of}
-use Rattle.walkdir.specs.Stack.{AreAt, IsAt, TakesHeld, held, stream_in}
+use Rattle.odb_base.specs.Path.{Path}
+use Rattle.walkdir.specs.Stack.{AreAt, IsAt, TakesHeld, held, is_skipped, stream_in}
 use Rattle.walkdir.specs.Walk.{Item}
 use Rattle.walkdir.specs.declared.list.Items.{Items}
 use Rattle.walkdir.proofs.ListLemmas.{failures_held}
@@ -10,13 +11,20 @@ pub held_closed : (old : Items) (item : Option Item) (new : Items) → TakesHeld
 held_closed old None new takes = takes.1.no_stream
 held_closed old (Some item) new takes = takes.1
 
-pub held_rest_at : (depth : ℕ) (old : Items) (item : Option Item) (new : Items) → TakesHeld old item new → AreAt depth (held old) → AreAt depth (held new)
-held_rest_at depth old None new takes all = subst (AreAt depth) (sym takes.1.nothing) tt
-held_rest_at depth old (Some item) new takes all = let both : AreAt depth (item ∷ held new) = subst (AreAt depth) takes.0 all in both.1
+pub held_rest_at : (path : Path) (depth : ℕ) (old : Items) (item : Option Item) (new : Items) → TakesHeld old item new → AreAt path depth (held old) → AreAt path depth (held new)
+held_rest_at path depth old None new takes all = subst (AreAt path depth) (sym takes.1.nothing) tt
+held_rest_at path depth old (Some item) new takes all = let both : AreAt path depth (item ∷ held new) = subst (AreAt path depth) takes.0 all in both.1
 
-pub held_item_at : (depth : ℕ) (old : Items) (item : Option Item) (new : Items) → TakesHeld old item new → AreAt depth (held old) → IfSome item (λ i. IsAt depth i)
-held_item_at depth old None new takes all = tt
-held_item_at depth old (Some item) new takes all = let both : AreAt depth (item ∷ held new) = subst (AreAt depth) takes.0 all in both.0
+-- what is taken comes from a directory that isn't skipped
+pub held_item_at : (path : Path) (depth : ℕ) (old : Items) (item : Option Item) (new : Items) → TakesHeld old item new → AreAt path depth (held old)
+    → IfSome item (λ i. (is_skipped new ≡ false) × IsAt path depth i)
+held_item_at path depth old None new takes all = tt
+held_item_at path depth old (Some item) new takes all = let both : AreAt path depth (item ∷ held new) = subst (AreAt path depth) takes.0 all in (takes.3, both.0)
+
+-- a closed list stays one
+pub held_skips : (old : Items) (item : Option Item) (new : Items) → TakesHeld old item new → is_skipped new ≡ is_skipped old
+held_skips old None new takes = takes.2
+held_skips old (Some item) new takes = takes.3 ∙ sym takes.2
 
 pub held_none : (old : Items) (item : Option Item) (new : Items) → TakesHeld old item new → held old ≡ [] → held new ≡ []
 held_none old None new takes is = takes.1.nothing

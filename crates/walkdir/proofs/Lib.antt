@@ -1,6 +1,8 @@
 mod OwnStreamsLemmas
 mod StackLemmas
 mod FailuresLemmas
+mod WorkLemmas
+mod SkippedLemmas
 mod StepLemmas
 mod ReadLemmas
 mod ProgressLemmas
@@ -9,11 +11,15 @@ mod DrawsLemmas
 mod TurnsLemmas
 mod SkipLemmas
 mod ListLemmas
+mod WithinLemmas
+mod InnermostLemmas
 mod SoundLemmas
 mod HeldLemmas
 mod OrderLemmas
 mod ContainsLemmas
 mod HandlesLemmas
+mod RootLemmas
+mod AboveLemmas
 mod EnteredLemmas
 mod SortedLemmas
 mod WalkLaws

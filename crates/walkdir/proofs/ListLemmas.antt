@@ -1,18 +1,19 @@
 -- Laws of one directory of a stack that gets other contents: what the walk keeps, fails and leaves to do.
-use Rattle.std.proofs.Common.{◌≡◌, ℕ, ◌+◌, ◌*◌, ◌≤◌, List, [], ◌∷◌, ◌++◌, length, reverse, get_or, Option, Some, None, refl, sym, ap, subst, ◌∙◌, arith, length-append}
+use Rattle.std.proofs.Common.{◌≡◌, true, false, ℕ, ◌+◌, ◌*◌, ◌≤◌, List, [], ◌∷◌, ◌++◌, length, reverse, get_or, Option, Some, None, refl, sym, ap, subst, ◌∙◌, arith, length-append}
 use lib.Seq.{get_or-append_seam}
 use lib.ListN.{length-reverse}
 use native.Mathlib.Nat.{mul-le-mul_right}
 use Rattle.odb_disk.specs.Streams.{Streams, with_closed}
 use Rattle.walkdir.specs.Failures.{Costs, failures_among, failures_left}
 use Rattle.walkdir.specs.Progress.{Progress, Keeps}
-use Rattle.walkdir.specs.Stack.{held, left_in, own_streams, stream_in, weight, work_in}
+use Rattle.walkdir.specs.Stack.{held, is_skipped, left_in, own_streams, stream_in, weight, work_in}
 use Rattle.walkdir.specs.Turns.{GoesOn, IsDrawn, Puts, TakesWork, left_of}
 use Rattle.walkdir.specs.declared.list.DirList.{DirList}
 use Rattle.walkdir.specs.declared.list.Items.{Items}
 use Rattle.walkdir.specs.declared.list.Items.TheVariants.{Opened, Closed, Skipped}
 use Rattle.walkdir.proofs.StackLemmas.{reversed_at}
-use Rattle.walkdir.proofs.StepLemmas.{AllOpen, LeftLess, Same, goes_put, keeps_closed, keeps_open, keeps_plain, less_closed, less_same, open_behind, work_less}
+use Rattle.walkdir.proofs.StepLemmas.{Same, goes_put, keeps_closed, keeps_open, keeps_plain}
+use Rattle.walkdir.proofs.WorkLemmas.{AllOpen, LeftLess, less_closed, less_same, open_behind, work_less}
 
 pub left_held : (streams : Streams) (items : Items) → stream_in items ≡ None → left_in streams items ≡ length (held items)
 left_held streams (Opened dir) none = absurd cc
@@ -90,21 +91,22 @@ module _ (old new : Progress) (before_lists after_lists : List DirList) (index :
   -- its stream is read on and closed
   pub goes_closed : (dir : ℕ) (mid : Streams) (count given before now : ℕ) → stream_in list.items ≡ Some dir → stream_in items ≡ None → IsDrawn old.streams dir mid
       → new.streams ≡ with_closed mid dir → length (held items) ≤ left_of old.streams dir + 1 → given + failures_left items ≤ count → Costs count before now
-      → GoesOn old before given 0 new now
+      → is_skipped items ≡ false → GoesOn old before given 0 new now
   unfolding other
-  goes_closed dir mid count given before now own none drawn closed few fails costs =
+  goes_closed dir mid count given before now own none drawn closed few fails costs unskipped =
       let own_at : stream_in puts.list.items ≡ Some dir = ap stream_in same_items ∙ own in
       let left : left_in old.streams puts.list.items ≡ left_of old.streams dir + 1 = left_stream old.streams puts.list.items dir own_at in
       let now_left : left_in new.streams items ≡ length (held items) = left_held new.streams items none in
       goes_put old new inner puts.list other outer count given before now same was_at is_at
       (keeps_closed old new inner puts.list other outer dir mid same was_at is_at own_at none drawn closed)
-      (subst (LeftLess old.streams) (sym closed) (less_closed old.streams dir mid drawn)) (omega arith) (omega arith) costs
+      (subst (LeftLess old.streams) (sym closed) (less_closed old.streams dir mid drawn)) (omega arith) (omega arith) costs refl
+      (λ skipped. absurd (let no : true ≡ false = sym skipped ∙ unskipped in cc))
 
   -- it has no stream
   pub goes_held : (given before now : ℕ) → stream_in list.items ≡ None → stream_in items ≡ None → new.streams ≡ old.streams → length (held items) ≤ length (held list.items)
-      → given + failures_left items ≤ failures_left list.items → Costs 0 before now → GoesOn old before given 0 new now
+      → given + failures_left items ≤ failures_left list.items → Costs 0 before now → is_skipped items ≡ is_skipped list.items → GoesOn old before given 0 new now
   unfolding other
-  goes_held given before now own none streams few fails costs =
+  goes_held given before now own none streams few fails costs skips =
       let own_at : stream_in puts.list.items ≡ None = ap stream_in same_items ∙ own in
       let left : left_in old.streams puts.list.items ≡ length (held puts.list.items) = left_held old.streams puts.list.items own_at in
       let held_at : length (held puts.list.items) ≡ length (held list.items) = ap (λ i. length (held i)) same_items in
@@ -112,7 +114,8 @@ module _ (old new : Progress) (before_lists after_lists : List DirList) (index :
       let now_left : left_in new.streams items ≡ length (held items) = left_held new.streams items none in
       goes_put old new inner puts.list other outer 0 given before now same was_at is_at
       (keeps_plain old new inner puts.list other outer same was_at is_at own_at none streams)
-      (less_same old.streams new.streams (ap (λ (s : Streams). s.open_dirs) streams)) (omega arith) (omega arith) costs
+      (less_same old.streams new.streams (ap (λ (s : Streams). s.open_dirs) streams)) (omega arith) (omega arith) costs refl
+      (λ skipped. ap is_skipped same_items ∙ sym skips ∙ skipped)
 
   -- it is the innermost one, and has one less left
   pub put_takes : (streams : Streams) → index + 1 ≡ length before_lists → Keeps streams old → LeftLess old.streams new.streams → left_in new.streams items + 1 ≤ left_in old.streams list.items

@@ -13,7 +13,7 @@ use Rattle.odb_disk.specs.declared.disk.Meta.{Meta}
 use Rattle.odb_disk.specs.declared.disk.DiskError.{DiskError}
 use Rattle.odb_disk.specs.declared.disk.DiskError.TheVariants as refusals
 use Rattle.odb_disk.specs.declared.disk.Entry.{Entry}
-use Rattle.walkdir.specs.Error.{IsFromPath, failures, io_error, no_memory, stream_failed}
+use Rattle.walkdir.specs.Error.{IsFromPath, IsOnPath, failures, io_error, no_memory, stream_failed}
 use Rattle.walkdir.specs.Failures.{Costs, failures_among, failures_of}
 use Rattle.walkdir.specs.OwnStreams.{OpenDirs}
 use Rattle.walkdir.specs.Stack.{AreAt, IsAt}
@@ -153,12 +153,29 @@ drawn_on old dir mid new (inr drawn) (inr more) =
 pub draws_drawn : (depth : ℕ) (path : Path) (old : Streams) (dir : ℕ) (child : DirEntry) (new : Streams) → DrawsEntry depth path old dir child new → IsDrawn old dir new
 draws_drawn depth path old dir child new draws = entry_drawn old dir draws.entry draws.rest new draws.gave draws.streams
 
-pub child_at : (depth : ℕ) (path : Path) (old : Streams) (dir : ℕ) (child : DirEntry) (new : Streams) → DrawsEntry depth path old dir child new → IsAt depth (Ok child)
-child_at depth path old dir child new draws = ap (λ (entry : DirEntry). entry.depth) draws.child_is
+pub child_at : (depth : ℕ) (path : Path) (old : Streams) (dir : ℕ) (child : DirEntry) (new : Streams) → DrawsEntry depth path old dir child new → IsAt path depth (Ok child)
+child_at depth path old dir child new draws =
+    (ap (λ (entry : DirEntry). entry.depth) draws.child_is, (draws.entry.name, ap (λ (entry : DirEntry). entry.path) draws.child_is))
 
-pub at-push : (depth : ℕ) (items : List Item) (item : Item) → AreAt depth items → IsAt depth item → AreAt depth (items ++ item ∷ [])
-at-push depth [] item all last = (last, tt)
-at-push depth (first ∷ items) item all last = (all.0, at-push depth items item all.1 last)
+pub at-push : (path : Path) (depth : ℕ) (items : List Item) (item : Item) → AreAt path depth items → IsAt path depth item → AreAt path depth (items ++ item ∷ [])
+at-push path depth [] item all last = (last, tt)
+at-push path depth (first ∷ items) item all last = (all.0, at-push path depth items item all.1 last)
+
+-- what a call on a path is refused by
+pub refused_on : (depth : ℕ) (path : Path) (refusal : DiskError) (error : Error) → IsFromPath depth path refusal error → IsOnPath path depth error
+refused_on depth path refusals.Absent error (inl is) = subst (λ (e : Error). IsOnPath path depth e) (sym is) (refl, refl)
+refused_on depth path refusals.Absent error (inr lost) = subst (λ (e : Error). IsOnPath path depth e) (sym lost) tt
+refused_on depth path refusals.WrongKind error (inl is) = subst (λ (e : Error). IsOnPath path depth e) (sym is) (refl, refl)
+refused_on depth path refusals.WrongKind error (inr lost) = subst (λ (e : Error). IsOnPath path depth e) (sym lost) tt
+refused_on depth path refusals.LinkLoop error (inl is) = subst (λ (e : Error). IsOnPath path depth e) (sym is) (refl, refl)
+refused_on depth path refusals.LinkLoop error (inr lost) = subst (λ (e : Error). IsOnPath path depth e) (sym lost) tt
+refused_on depth path refusals.Exists error (inl is) = subst (λ (e : Error). IsOnPath path depth e) (sym is) (refl, refl)
+refused_on depth path refusals.Exists error (inr lost) = subst (λ (e : Error). IsOnPath path depth e) (sym lost) tt
+refused_on depth path refusals.NotEmpty error (inl is) = subst (λ (e : Error). IsOnPath path depth e) (sym is) (refl, refl)
+refused_on depth path refusals.NotEmpty error (inr lost) = subst (λ (e : Error). IsOnPath path depth e) (sym lost) tt
+refused_on depth path refusals.Failed error (inl is) = subst (λ (e : Error). IsOnPath path depth e) (sym is) (refl, refl)
+refused_on depth path refusals.Failed error (inr lost) = subst (λ (e : Error). IsOnPath path depth e) (sym lost) tt
+refused_on depth path refusals.NoMemory error is = subst (λ (e : Error). IsOnPath path depth e) (sym is) tt
 
 pub failures-push : (items : List Item) (item : Item) → failures_among (items ++ item ∷ []) ≡ failures_among items + failures_of item
 failures-push items item = let e = failures-append items (item ∷ []) in omega arith

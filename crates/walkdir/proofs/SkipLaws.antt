@@ -14,7 +14,8 @@ use Rattle.walkdir.specs.declared.list.DirList.{DirList}
 use Rattle.walkdir.specs.declared.list.Items.{Items}
 use Rattle.walkdir.specs.declared.list.Items.TheVariants.{Opened, Closed, Skipped}
 use Rattle.walkdir.proofs.StandsForLemmas.{SameGiven, others_open, same-all, same-closed, same-sym, stands_same}
-use Rattle.walkdir.proofs.StepLemmas.{AllOpen, keeps_open, open_behind}
+use Rattle.walkdir.proofs.StepLemmas.{keeps_open}
+use Rattle.walkdir.proofs.WorkLemmas.{AllOpen, open_behind}
 use Rattle.walkdir.proofs.StillGivesLemmas.{walks_left}
 
 -- ---- a directory that is skipped already

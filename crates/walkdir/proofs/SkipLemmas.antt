@@ -11,7 +11,8 @@ use Rattle.walkdir.specs.Turns.{AllSkipped, Puts, Unskips}
 use Rattle.walkdir.specs.declared.list.DirList.{DirList}
 use Rattle.walkdir.specs.declared.list.Items.TheVariants.{Skipped}
 use Rattle.walkdir.proofs.StackLemmas.{reversed_at}
-use Rattle.walkdir.proofs.StepLemmas.{Same, keeps_closed, keeps_plain, none_without, work_put}
+use Rattle.walkdir.proofs.StepLemmas.{Same, keeps_closed, keeps_plain}
+use Rattle.walkdir.proofs.WorkLemmas.{none_without, work_put}
 
 -- ---- directories that are skipped
 

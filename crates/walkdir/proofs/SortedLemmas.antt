@@ -5,7 +5,8 @@ use Rattle.std.specs.Result.{result_ok}
 use Rattle.std.proofs.lemmas.List.Elements.{All-cons, All-head, All-nil, All-tail}
 use Rattle.std.proofs.lemmas.List.Sorted.{All-permutation}
 use Rattle.walkdir.specs.Failures.{failures_among}
-use Rattle.walkdir.specs.Stack.{AreAt}
+use Rattle.odb_base.specs.Path.{Path}
+use Rattle.walkdir.specs.Stack.{AreAt, IsAt}
 use Rattle.walkdir.specs.Walk.{IsInOrder, Item, Order, error_in}
 use Rattle.walkdir.specs.declared.dent.DirEntry.{DirEntry}
 use Rattle.walkdir.proofs.FailuresLemmas.{failures-append}
@@ -27,27 +28,32 @@ ordered_failures order given children ordered =
     let entries = entries_fail ordered.entries in
     omega arith
 
-at-append : (depth : ℕ) (items more : List Item) → AreAt depth items → AreAt depth more → AreAt depth (items ++ more)
-at-append depth [] more first second = second
-at-append depth (item ∷ items) more first second = (first.0, at-append depth items more first.1 second)
+at-append : (path : Path) (depth : ℕ) (items more : List Item) → AreAt path depth items → AreAt path depth more → AreAt path depth (items ++ more)
+at-append path depth [] more first second = second
+at-append path depth (item ∷ items) more first second = (first.0, at-append path depth items more first.1 second)
 
-errors_at : (depth : ℕ) (given : List Item) → AreAt depth given → AreAt depth (filter_map error_in given)
-errors_at depth [] all = tt
-errors_at depth (Ok entry ∷ given) all = errors_at depth given all.1
-errors_at depth (Err error ∷ given) all = (all.0, errors_at depth given all.1)
+errors_at : (path : Path) (depth : ℕ) (given : List Item) → AreAt path depth given → AreAt path depth (filter_map error_in given)
+errors_at path depth [] all = tt
+errors_at path depth (Ok entry ∷ given) all = errors_at path depth given all.1
+errors_at path depth (Err error ∷ given) all = (all.0, errors_at path depth given all.1)
 
-entries_at : (depth : ℕ) (given : List Item) → AreAt depth given → All (λ (e : DirEntry). e.depth ≡ depth) (filter_map result_ok given)
-entries_at depth [] all = All-nil (λ (e : DirEntry). e.depth ≡ depth)
-entries_at depth (Ok entry ∷ given) all = All-cons (λ (e : DirEntry). e.depth ≡ depth) entry (filter_map result_ok given) all.0 (entries_at depth given all.1)
-entries_at depth (Err error ∷ given) all = entries_at depth given all.1
+-- an entry is a child of the directory at this path
+IsChildAt : Path → ℕ → DirEntry → Type 0
+IsChildAt path depth entry = IsAt path depth (Ok entry)
 
-all_at : (depth : ℕ) (entries : List DirEntry) → All (λ (e : DirEntry). e.depth ≡ depth) entries → AreAt depth (map Ok entries)
-all_at depth [] all = tt
-all_at depth (entry ∷ entries) all =
-    (All-head (λ (e : DirEntry). e.depth ≡ depth) entry entries all, all_at depth entries (All-tail (λ (e : DirEntry). e.depth ≡ depth) entry entries all))
+entries_at : (path : Path) (depth : ℕ) (given : List Item) → AreAt path depth given → All (IsChildAt path depth) (filter_map result_ok given)
+unfolding IsChildAt
+entries_at path depth [] all = All-nil (IsChildAt path depth)
+entries_at path depth (Ok entry ∷ given) all = All-cons (IsChildAt path depth) entry (filter_map result_ok given) all.0 (entries_at path depth given all.1)
+entries_at path depth (Err error ∷ given) all = entries_at path depth given all.1
 
-pub ordered_at : (depth : ℕ) (order : Order) (given children : List Item) → IsInOrder order given children → AreAt depth given → AreAt depth children
-ordered_at depth order given children ordered all =
-    subst (AreAt depth) (sym ordered.is)
-    (at-append depth (filter_map error_in given) (map Ok ordered.entries) (errors_at depth given all)
-    (all_at depth ordered.entries (All-permutation (λ (e : DirEntry). e.depth ≡ depth) (filter_map result_ok given) ordered.entries ordered.sorted.same (entries_at depth given all))))
+all_at : (path : Path) (depth : ℕ) (entries : List DirEntry) → All (IsChildAt path depth) entries → AreAt path depth (map Ok entries)
+unfolding IsChildAt
+all_at path depth [] all = tt
+all_at path depth (entry ∷ entries) all = (All-head (IsChildAt path depth) entry entries all, all_at path depth entries (All-tail (IsChildAt path depth) entry entries all))
+
+pub ordered_at : (path : Path) (depth : ℕ) (order : Order) (given children : List Item) → IsInOrder order given children → AreAt path depth given → AreAt path depth children
+ordered_at path depth order given children ordered all =
+    subst (AreAt path depth) (sym ordered.is)
+    (at-append path depth (filter_map error_in given) (map Ok ordered.entries) (errors_at path depth given all)
+    (all_at path depth ordered.entries (All-permutation (IsChildAt path depth) (filter_map result_ok given) ordered.entries ordered.sorted.same (entries_at path depth given all))))

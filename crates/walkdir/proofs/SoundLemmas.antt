@@ -3,13 +3,19 @@ use Rattle.std.proofs.Common.{◌≡◌, ℕ, ◌+◌, ◌<◌, ◌≤◌, true,
 use Rattle.std.specs.Prelude.{◌==◌, nat_lt}
 use Rattle.std.proofs.lemmas.Bool.Decides.{nat_tests}
 use Rattle.odb_base.specs.Path.{Path}
-use Rattle.walkdir.specs.Stack.{AreAt, Fits, HasNothing, IsAt, IsSound, all_fit, are_at, fits_at, has_nothing, held, is_after, is_at, is_sound, own_streams, stream_in}
+use Rattle.walkdir.specs.Entry.{is_dir}
+use Rattle.walkdir.specs.Error.{is_stream_refusal}
+use Rattle.walkdir.specs.Stack.{AreAt, Fits, FitsAt, HasNothing, IsAt, IsOfDirectory, IsSound, all_fit, are_at, fits_at, has_nothing, held, is_after, is_at, is_nested, is_of_directory, is_sound, own_streams, same_path, stream_in}
 use Rattle.walkdir.specs.Walk.{Item}
 use Rattle.walkdir.specs.declared.builder.Options.{Options}
 use Rattle.walkdir.specs.declared.dent.DirEntry.{DirEntry}
+use Rattle.walkdir.specs.Within.{is_child}
+use Rattle.walkdir.specs.declared.error.ErrorInner.{ErrorInner}
+use Rattle.walkdir.specs.declared.error.ErrorInner.TheVariants.{Io, Loop, NoMemory}
 use Rattle.walkdir.specs.declared.list.DirList.{DirList}
 use Rattle.walkdir.specs.declared.list.Items.{Items}
 use Rattle.walkdir.proofs.ProgressLemmas.{both, joined}
+use Rattle.walkdir.proofs.WithinLemmas.{child_of_test, child_tested, nested_of_test, nested_tested, path_of_test, path_tested}
 
 eq_true : (a b : ℕ) → (a == b) ≡ true → a ≡ b
 eq_true a b is = grind (arith, nat_tests)
@@ -35,33 +41,55 @@ empty_length xs is = ap length is
 
 -- ---- depths
 
-at_of : (depth : ℕ) (item : Item) → is_at depth item ≡ true → IsAt depth item
-at_of depth (Ok entry) is = eq_true entry.depth depth is
-at_of depth (Err error) is = is
+directory_of : (path : Path) (depth own : ℕ) (inner : ErrorInner) → is_of_directory path depth own inner ≡ true → IsOfDirectory path depth own inner
+directory_of path depth own (Io (Some at) error) is =
+    let parts = both (same_path at path) (own + 1 == depth) is in
+    (path_of_test at path parts.0, eq_true (own + 1) depth parts.1)
+directory_of path depth own (Io None error) is = let parts = both (own == depth) (is_stream_refusal error) is in (eq_true own depth parts.0, parts.1)
+directory_of path depth own (Loop ancestor child) is = absurd cc
+directory_of path depth own NoMemory is = tt
 
-of_at : (depth : ℕ) (item : Item) → IsAt depth item → is_at depth item ≡ true
-of_at depth (Ok entry) is = true_eq entry.depth depth is
-of_at depth (Err error) is = is
+of_directory : (path : Path) (depth own : ℕ) (inner : ErrorInner) → IsOfDirectory path depth own inner → is_of_directory path depth own inner ≡ true
+of_directory path depth own (Io (Some at) error) is = joined (same_path at path) (own + 1 == depth) (path_tested at path is.0) (true_eq (own + 1) depth is.1)
+of_directory path depth own (Io None error) is = joined (own == depth) (is_stream_refusal error) (true_eq own depth is.0) is.1
+of_directory path depth own (Loop ancestor child) is = absurd is
+of_directory path depth own NoMemory is = refl
 
-all_at_of : (depth : ℕ) (items : List Item) → are_at depth items ≡ true → AreAt depth items
+at_of : (path : Path) (depth : ℕ) (item : Item) → is_at path depth item ≡ true → IsAt path depth item
+at_of path depth (Ok entry) is =
+    let parts = both (entry.depth == depth) (is_child path entry.path) is in
+    (eq_true entry.depth depth parts.0, child_of_test path entry.path parts.1)
+at_of path depth (Err error) is = directory_of path depth error.depth error.inner is
+
+of_at : (path : Path) (depth : ℕ) (item : Item) → IsAt path depth item → is_at path depth item ≡ true
+of_at path depth (Ok entry) is = joined (entry.depth == depth) (is_child path entry.path) (true_eq entry.depth depth is.0) (child_tested path entry.path is.1)
+of_at path depth (Err error) is = of_directory path depth error.depth error.inner is
+
+all_at_of : (path : Path) (depth : ℕ) (items : List Item) → are_at path depth items ≡ true → AreAt path depth items
 unfolding are_at
-all_at_of depth [] is = tt
-all_at_of depth (item ∷ items) is = let parts = both (is_at depth item) (are_at depth items) is in (at_of depth item parts.0, all_at_of depth items parts.1)
+all_at_of path depth [] is = tt
+all_at_of path depth (item ∷ items) is =
+    let parts = both (is_at path depth item) (are_at path depth items) is in
+    (at_of path depth item parts.0, all_at_of path depth items parts.1)
 
-of_all_at : (depth : ℕ) (items : List Item) → AreAt depth items → are_at depth items ≡ true
+of_all_at : (path : Path) (depth : ℕ) (items : List Item) → AreAt path depth items → are_at path depth items ≡ true
 unfolding are_at
-of_all_at depth [] all = refl
-of_all_at depth (item ∷ items) all = joined (is_at depth item) (are_at depth items) (of_at depth item all.0) (of_all_at depth items all.1)
+of_all_at path depth [] all = refl
+of_all_at path depth (item ∷ items) all = joined (is_at path depth item) (are_at path depth items) (of_at path depth item all.0) (of_all_at path depth items all.1)
 
 after_of : (options : Options) (depth : ℕ) (after : Option DirEntry) → is_after options depth after ≡ true
-    → IfSome after (λ entry. (entry.depth ≡ depth) × (options.contents_first ≡ true))
+    → IfSome after (λ entry. (entry.depth ≡ depth) × (is_dir entry ≡ true) × (options.contents_first ≡ true))
 after_of options depth None is = tt
-after_of options depth (Some entry) is = let parts = both (entry.depth == depth) options.contents_first is in (eq_true entry.depth depth parts.0, parts.1)
+after_of options depth (Some entry) is =
+    let parts = both (entry.depth == depth) (is_dir entry && options.contents_first) is in
+    let more = both (is_dir entry) options.contents_first parts.1 in
+    (eq_true entry.depth depth parts.0, more.0, more.1)
 
-of_after : (options : Options) (depth : ℕ) (after : Option DirEntry) → IfSome after (λ entry. (entry.depth ≡ depth) × (options.contents_first ≡ true))
-    → is_after options depth after ≡ true
+of_after : (options : Options) (depth : ℕ) (after : Option DirEntry)
+    → IfSome after (λ entry. (entry.depth ≡ depth) × (is_dir entry ≡ true) × (options.contents_first ≡ true)) → is_after options depth after ≡ true
 of_after options depth None is = refl
-of_after options depth (Some entry) is = joined (entry.depth == depth) options.contents_first (true_eq entry.depth depth is.0) is.1
+of_after options depth (Some entry) is =
+    joined (entry.depth == depth) (is_dir entry && options.contents_first) (true_eq entry.depth depth is.0) (joined (is_dir entry) options.contents_first is.1 is.2)
 
 no_stream : (o : Option ℕ) → not (is_some o) ≡ true → o ≡ None
 no_stream None is = refl
@@ -88,31 +116,37 @@ of_deepest most depth items deepest = elim (nat_lt depth most) as (λ b. nat_lt 
   | false ↦ λ deep. of_nothing items (deepest (false_lt depth most deep))
 ] refl
 
+fit_of : (options : Options) (depth : ℕ) (list : DirList) → fits_at options depth list ≡ true → FitsAt options depth list
+fit_of options depth list is =
+    let after = both (is_after options depth list.after) (are_at list.path (depth + 1) (held list.items) && (nat_lt depth options.max_depth || has_nothing list.items)) is in
+    let children = both (are_at list.path (depth + 1) (held list.items)) (nat_lt depth options.max_depth || has_nothing list.items) after.1 in
+    record {
+      after = after_of options depth list.after after.0;
+      children = all_at_of list.path (depth + 1) (held list.items) children.0;
+      deepest = deepest_of options.max_depth depth list.items children.1;
+    }
+
+of_fit : (options : Options) (depth : ℕ) (list : DirList) → FitsAt options depth list → fits_at options depth list ≡ true
+of_fit options depth list fit =
+    joined (is_after options depth list.after) (are_at list.path (depth + 1) (held list.items) && (nat_lt depth options.max_depth || has_nothing list.items))
+    (of_after options depth list.after fit.after)
+    (joined (are_at list.path (depth + 1) (held list.items)) (nat_lt depth options.max_depth || has_nothing list.items)
+    (of_all_at list.path (depth + 1) (held list.items) fit.children) (of_deepest options.max_depth depth list.items fit.deepest))
+
 all_fits_of : (options : Options) (stack : List DirList) → all_fit options stack ≡ true → Fits options stack
 unfolding all_fit Fits
 all_fits_of options [] is = tt
 all_fits_of options (list ∷ outer) is =
-    let parts = both (fits_at options (length outer) list) (all_fit options outer) is in
-    let after = both (is_after options (length outer) list.after) (are_at (length outer + 1) (held list.items) && (nat_lt (length outer) options.max_depth || has_nothing list.items)) parts.0 in
-    let children = both (are_at (length outer + 1) (held list.items)) (nat_lt (length outer) options.max_depth || has_nothing list.items) after.1 in (
-      record {
-        after = after_of options (length outer) list.after after.0;
-        children = all_at_of (length outer + 1) (held list.items) children.0;
-        deepest = deepest_of options.max_depth (length outer) list.items children.1;
-      },
-      all_fits_of options outer parts.1,
-    )
+    let parts = both (fits_at options (length outer) list) (is_nested list outer && all_fit options outer) is in
+    let more = both (is_nested list outer) (all_fit options outer) parts.1 in
+    (fit_of options (length outer) list parts.0, nested_of_test list outer more.0, all_fits_of options outer more.1)
 
 of_all_fits : (options : Options) (stack : List DirList) → Fits options stack → all_fit options stack ≡ true
 unfolding all_fit Fits
 of_all_fits options [] fits = refl
 of_all_fits options (list ∷ outer) fits =
-    joined (fits_at options (length outer) list) (all_fit options outer)
-    (joined (is_after options (length outer) list.after) (are_at (length outer + 1) (held list.items) && (nat_lt (length outer) options.max_depth || has_nothing list.items))
-    (of_after options (length outer) list.after fits.0.after)
-    (joined (are_at (length outer + 1) (held list.items)) (nat_lt (length outer) options.max_depth || has_nothing list.items)
-    (of_all_at (length outer + 1) (held list.items) fits.0.children) (of_deepest options.max_depth (length outer) list.items fits.0.deepest)))
-    (of_all_fits options outer fits.1)
+    joined (fits_at options (length outer) list) (is_nested list outer && all_fit options outer) (of_fit options (length outer) list fits.0)
+    (joined (is_nested list outer) (all_fit options outer) (nested_tested list outer fits.1) (of_all_fits options outer fits.2))
 
 -- ---- a stack
 

@@ -3,7 +3,7 @@ use Rattle.std.proofs.Common.{◌≡◌, ℕ, zero, suc, ◌+◌, ◌-◌, ◌<�
 use Rattle.std.specs.Prelude.{Bool, true, false, nat_lt, if◌then◌else◌}
 use Rattle.std.specs.List.{cons_option}
 use Rattle.std.proofs.lemmas.Bool.Decides.{nat_tests}
-use Rattle.walkdir.specs.Walk.{Item}
+use Rattle.walkdir.specs.Walk.{Ancestor, Item}
 use Rattle.std.proofs.lemmas.List.{reverse-append}
 use Rattle.std.proofs.lemmas.List.Elements.{filter_map-append}
 use lib.ListN.{length-reverse}
@@ -11,8 +11,10 @@ use lib.ListN.{get_or, set}
 use lib.Seq.{append_snoc, get_or-append_seam, length-take-le, set_split, split_at, take-append-le, take-append_seam}
 use mathlib.Core.List.{reverse-cons}
 use Rattle.odb_base.specs.Path.{Path}
-use Rattle.walkdir.specs.Stack.{AreAt, FitsAt, Fits, is_skipped, IsSound, held, own_streams, stream_in}
+use Rattle.walkdir.specs.Entry.{is_dir}
+use Rattle.walkdir.specs.Stack.{AreAt, FitsAt, Fits, is_skipped, IsNested, IsSound, ancestors, held, own_streams, stream_in}
 use Rattle.walkdir.specs.Turns.{AllSkipped, Puts, Unskips, given_if}
+use Rattle.walkdir.specs.Within.{LiesIn}
 use Rattle.walkdir.specs.declared.dent.DirEntry.{DirEntry}
 use Rattle.walkdir.specs.declared.builder.Options.{Options}
 use Rattle.walkdir.specs.declared.list.DirList.{DirList}
@@ -109,14 +111,22 @@ closed_less (suc count) (suc fewer) (first ∷ lists) more le within is =
 pub fits_at : (options : Options) (inner : List DirList) (list : DirList) (outer : List DirList) → Fits options (inner ++ list ∷ outer) → FitsAt options (length outer) list
 unfolding Fits
 fits_at options [] list outer fits = fits.0
-fits_at options (first ∷ inner) list outer fits = fits_at options inner list outer fits.1
+fits_at options (first ∷ inner) list outer fits = fits_at options inner list outer fits.2
 
-pub fits_put : (options : Options) (inner : List DirList) (list other : DirList) (outer : List DirList) → FitsAt options (length outer) other → Fits options (inner ++ list ∷ outer)
-    → Fits options (inner ++ other ∷ outer)
+nested_put : (first : DirList) (inner : List DirList) (list : DirList) (items : Items) (outer : List DirList) → IsNested first (inner ++ list ∷ outer)
+    → IsNested first (inner ++ (record list { items = items }) ∷ outer)
+nested_put first [] list items outer nested = nested
+nested_put first (next ∷ inner) list items outer nested = nested
+
+pub fits_put : (options : Options) (inner : List DirList) (list : DirList) (items : Items) (outer : List DirList) → FitsAt options (length outer) (record list { items = items })
+    → Fits options (inner ++ list ∷ outer) → Fits options (inner ++ (record list { items = items }) ∷ outer)
 unfolding Fits
-fits_put options [] list other outer at fits = (at, fits.1)
-fits_put options (first ∷ inner) list other outer at fits =
-    (subst (λ depth. FitsAt options depth first) (length-append inner (list ∷ outer) ∙ sym (length-append inner (other ∷ outer))) fits.0, fits_put options inner list other outer at fits.1)
+fits_put options [] list items outer at fits = (at, fits.1, fits.2)
+fits_put options (first ∷ inner) list items outer at fits = (
+  subst (λ depth. FitsAt options depth first) (length-append inner (list ∷ outer) ∙ sym (length-append inner ((record list { items = items }) ∷ outer))) fits.0,
+  nested_put first inner list items outer fits.1,
+  fits_put options inner list items outer at fits.2,
+)
 
 -- ---- what always holds
 
@@ -130,7 +140,8 @@ begun_put None old new outer list inner was begun = tt
 begun_put (Some root) old new outer list inner was begun = absurd (not_empty outer list inner (sym was ∙ begun))
 
 pub sound_put : (options : Options) (start : Option Path) (old new : List DirList) (first_open index : ℕ) (items : Items) → IsSound options start old first_open
-    → Puts old new index items → stream_in items ≡ None → AreAt (index + 1) (held items) → (options.max_depth ≤ index → held items ≡ []) → IsSound options start new first_open
+    → (puts : Puts old new index items) → stream_in items ≡ None → AreAt puts.list.path (index + 1) (held items) → (options.max_depth ≤ index → held items ≡ [])
+    → IsSound options start new first_open
 sound_put options start old new first_open index items sound puts none children deepest =
     let other : DirList = record puts.list { items = items } in
     let same : length new ≡ length old =
@@ -140,7 +151,7 @@ sound_put options start old new first_open index items sound puts none children 
     subst (Fits options) (ap reverse puts.was ∙ reversed_at puts.outer puts.list puts.inner) sound.fits in
     let was_at : FitsAt options (length (reverse puts.outer)) puts.list = fits_at options (reverse puts.inner) puts.list (reverse puts.outer) fits in
     let at : FitsAt options (length (reverse puts.outer)) other =
-    record { after = was_at.after; children = subst (λ n. AreAt (n + 1) (held items)) (sym depth) children; deepest = λ deep. record { no_stream = none; nothing = deepest (subst (λ n. options.max_depth ≤ n) depth deep) } } in
+    record { after = was_at.after; children = subst (λ n. AreAt puts.list.path (n + 1) (held items)) (sym depth) children; deepest = λ deep. record { no_stream = none; nothing = deepest (subst (λ n. options.max_depth ≤ n) depth deep) } } in
     record {
       begun = begun_put start old new puts.outer puts.list puts.inner puts.was sound.begun;
       some_open = sound.some_open;
@@ -148,7 +159,7 @@ sound_put options start old new first_open index items sound puts none children 
       few = subst (λ n. n ≤ first_open + options.max_open) (sym same) sound.few;
       closed = ap (λ l. own_streams (take first_open l)) puts.is ∙ closed_put first_open puts.outer puts.list puts.inner items none (ap (λ l. own_streams (take first_open l)) (sym puts.was) ∙ sound.closed);
       fits = subst (Fits options) (sym (ap reverse puts.is ∙ reversed_at puts.outer other puts.inner))
-          (fits_put options (reverse puts.inner) puts.list other (reverse puts.outer) at fits);
+          (fits_put options (reverse puts.inner) puts.list items (reverse puts.outer) at fits);
     }
 
 begun_pop : (start : Option Path) (old new : List DirList) (list : DirList) → old ≡ new ++ list ∷ [] → IfSome start (λ _. old ≡ []) → IfSome start (λ _. new ≡ [])
@@ -169,13 +180,14 @@ sound_pop options start old new list first_open first sound was is =
       in_range = omega arith;
       few = omega arith;
       closed = closed_less first_open first new (list ∷ []) (omega arith) (omega arith) (ap (λ l. own_streams (take first_open l)) (sym was) ∙ sound.closed);
-      fits = fits.1;
+      fits = fits.2;
     }
 
 pub sound_push : (options : Options) (start : Option Path) (old new : List DirList) (list : DirList) (first_open : ℕ) → IsSound options start old first_open
-    → start ≡ None → new ≡ old ++ list ∷ [] → length old < first_open + options.max_open → FitsAt options (length old) list → IsSound options start new first_open
+    → start ≡ None → new ≡ old ++ list ∷ [] → length old < first_open + options.max_open → FitsAt options (length old) list → IsNested list (reverse old)
+    → IsSound options start new first_open
 unfolding Fits
-sound_push options start old new list first_open sound none is room at =
+sound_push options start old new list first_open sound none is room at nested =
     let long : length new ≡ length old + 1 = ap length is ∙ length-append old (list ∷ []) in
     let in_range : first_open ≤ length old = sound.in_range in
     record {
@@ -184,7 +196,7 @@ sound_push options start old new list first_open sound none is room at =
       in_range = omega arith;
       few = omega arith;
       closed = ap (λ l. own_streams (take first_open l)) is ∙ ap own_streams (take-append-le first_open old (list ∷ []) in_range) ∙ sound.closed;
-      fits = subst (Fits options) (sym (ap reverse is ∙ reversed_last old list)) (subst (λ depth. FitsAt options depth list) (sym (length-reverse old)) at, sound.fits);
+      fits = subst (Fits options) (sym (ap reverse is ∙ reversed_last old list)) (subst (λ depth. FitsAt options depth list) (sym (length-reverse old)) at, nested, sound.fits);
     }
 
 pub sound_closed : (options : Options) (start : Option Path) (lists : List DirList) (first_open next : ℕ) → IsSound options start lists first_open → next ≡ first_open + 1
@@ -199,7 +211,7 @@ cut_at lists index list within is = split_at lists index list within ∙ ap (λ 
 pub cut_length : (lists : List DirList) (index : ℕ) → index < length lists → length (take index lists) ≡ index
 cut_length lists index within = length-take-le index lists (omega arith)
 
-pub puts_set : (lists : List DirList) (index : ℕ) (list : DirList) (items : Items) → index < length lists → list ≡ get_or lists index list
+unfoldable pub puts_set : (lists : List DirList) (index : ℕ) (list : DirList) (items : Items) → index < length lists → list ≡ get_or lists index list
     → Puts lists (set lists index (record list { items = items })) index items
 puts_set lists index list items within is = record {
   outer = take index lists;
@@ -209,6 +221,17 @@ puts_set lists index list items within is = record {
   was = split_at lists index list within ∙ ap (λ l. take index lists ++ l ∷ drop (suc index) lists) (sym is);
   is = set_split lists index (record list { items = items }) within;
 }
+
+ancestors_put : (inner : List DirList) (list : DirList) (items : Items) (outer : List DirList) → ancestors (inner ++ (record list { items = items }) ∷ outer) ≡ ancestors (inner ++ list ∷ outer)
+ancestors_put [] list items outer = refl
+ancestors_put (first ∷ inner) list items outer = ap (λ (a : List Ancestor). (record { path = first.path; place = first.place }) ∷ a) (ancestors_put inner list items outer)
+
+-- the directories stay where one has other contents
+pub puts_above : (old new : List DirList) (index : ℕ) (items : Items) → Puts old new index items → ancestors (reverse new) ≡ ancestors (reverse old)
+puts_above old new index items puts =
+    ap (λ (l : List DirList). ancestors (reverse l)) puts.is ∙ ap ancestors (reversed_at puts.outer (record puts.list { items = items }) puts.inner)
+    ∙ ancestors_put (reverse puts.inner) puts.list items (reverse puts.outer)
+    ∙ sym (ap (λ (l : List DirList). ancestors (reverse l)) puts.was ∙ ap ancestors (reversed_at puts.outer puts.list puts.inner))
 
 -- ---- the directory at an index has no stream any more
 
@@ -281,7 +304,7 @@ shallow_held options start lists first_open index list item items sound within a
 
 -- what was read of a directory stands one deeper
 pub held_at : (options : Options) (start : Option Path) (lists : List DirList) (first_open index : ℕ) (list : DirList) → IsSound options start lists first_open
-    → index < length lists → list ≡ get_or lists index list → AreAt (index + 1) (held list.items)
+    → index < length lists → list ≡ get_or lists index list → AreAt list.path (index + 1) (held list.items)
 held_at options start lists first_open index list sound within at = (fit_at options start lists first_open index list sound within at).children
 
 pub top_fit : (options : Options) (start : Option Path) (old new : List DirList) (list : DirList) (first_open : ℕ) → IsSound options start old first_open → old ≡ new ++ list ∷ []
@@ -291,9 +314,17 @@ top_fit options start old new list first_open sound was =
     let fits : Fits options (list ∷ reverse new) = subst (Fits options) (ap reverse was ∙ reversed_last new list) sound.fits in
     subst (λ n. FitsAt options n list) (length-reverse new) fits.0
 
-after_fits : (options : Options) (after : Option DirEntry) (entry : DirEntry) (n : ℕ) → after ≡ Some entry → IfSome after (λ e. (e.depth ≡ n) × (options.contents_first ≡ true))
-    → (entry.depth ≡ n) × (options.contents_first ≡ true)
-after_fits options after entry n is fits = subst (λ (o : Option DirEntry). IfSome o (λ e. (e.depth ≡ n) × (options.contents_first ≡ true))) is fits
+-- the directory above the innermost one holds it
+top_nested : (options : Options) (start : Option Path) (old new : List DirList) (list : DirList) (first_open : ℕ) → IsSound options start old first_open → old ≡ new ++ list ∷ []
+    → IsNested list (reverse new)
+unfolding Fits
+top_nested options start old new list first_open sound was =
+    let fits : Fits options (list ∷ reverse new) = subst (Fits options) (ap reverse was ∙ reversed_last new list) sound.fits in
+    fits.1
+
+after_fits : (options : Options) (after : Option DirEntry) (entry : DirEntry) (n : ℕ) → after ≡ Some entry
+    → IfSome after (λ e. (e.depth ≡ n) × (is_dir e ≡ true) × (options.contents_first ≡ true)) → (entry.depth ≡ n) × (is_dir entry ≡ true) × (options.contents_first ≡ true)
+after_fits options after entry n is fits = subst (λ (o : Option DirEntry). IfSome o (λ e. (e.depth ≡ n) × (is_dir e ≡ true) × (options.contents_first ≡ true))) is fits
 
 given_depth : (b : Bool) (entry : DirEntry) (n : ℕ) → entry.depth ≡ n → IfSome (given_if b entry) (λ e. e.depth ≡ n)
 given_depth true entry n is = is
@@ -310,7 +341,22 @@ left_depth options start old new list first_open entry result b sound was is giv
 pub left_first : (options : Options) (start : Option Path) (old new : List DirList) (list : DirList) (first_open : ℕ) (entry : DirEntry) → IsSound options start old first_open → old ≡ new ++ list ∷ []
     → list.after ≡ Some entry → options.contents_first ≡ true
 left_first options start old new list first_open entry sound was is =
-    (after_fits options list.after entry (length new) is (top_fit options start old new list first_open sound was).after).1
+    (after_fits options list.after entry (length new) is (top_fit options start old new list first_open sound was).after).2
+
+given_own : (b : Bool) (entry : DirEntry) (outer : List DirList) → is_dir entry ≡ true → LiesIn entry.path outer
+    → IfSome (given_if b entry) (λ e. (is_dir e ≡ true) × LiesIn e.path outer)
+given_own true entry outer dir lies = (dir, lies)
+given_own false entry outer dir lies = tt
+
+-- the entry of a directory that is left is a directory, and lies in the one that is innermost then
+pub left_own : (options : Options) (start : Option Path) (old new : List DirList) (list : DirList) (first_open : ℕ) (entry : DirEntry) (result : Option DirEntry) (b : Bool)
+    → IsSound options start old first_open → old ≡ new ++ list ∷ [] → list.after ≡ Some entry → result ≡ given_if b entry
+    → IfSome result (λ e. (is_dir e ≡ true) × LiesIn e.path (reverse new))
+left_own options start old new list first_open entry result b sound was is given =
+    let own = after_fits options list.after entry (length new) is (top_fit options start old new list first_open sound was).after in
+    let nested = top_nested options start old new list first_open sound was in
+    subst (λ (o : Option DirEntry). IfSome o (λ e. (is_dir e ≡ true) × LiesIn e.path (reverse new))) (sym given)
+    (given_own b entry (reverse new) own.1 (subst (λ (o : Option DirEntry). IfSome o (λ e. LiesIn e.path (reverse new))) is nested.1))
 
 -- an element is what stands at its index
 pub one_at : (lists : List DirList) (index : ℕ) (a b : DirList) → index < length lists → a ≡ get_or lists index a → b ≡ get_or lists index b → a ≡ b
@@ -321,9 +367,10 @@ one_at lists index a b within first second =
 -- ---- a directory is put on the stack, or memory ran out
 
 pub sound_pushed : (options : Options) (start : Option Path) (old new : List DirList) (list : DirList) (first_open : ℕ) (b : Bool) → new ≡ (if b then old ++ list ∷ [] else old)
-    → IsSound options start old first_open → start ≡ None → length old < first_open + options.max_open → FitsAt options (length old) list → IsSound options start new first_open
-sound_pushed options start old new list first_open true is sound none room fit = sound_push options start old new list first_open sound none is room fit
-sound_pushed options start old new list first_open false is sound none room fit = subst (λ l. IsSound options start l first_open) (sym is) sound
+    → IsSound options start old first_open → start ≡ None → length old < first_open + options.max_open → FitsAt options (length old) list → IsNested list (reverse old)
+    → IsSound options start new first_open
+sound_pushed options start old new list first_open true is sound none room fit nested = sound_push options start old new list first_open sound none is room fit nested
+sound_pushed options start old new list first_open false is sound none room fit nested = subst (λ l. IsSound options start l first_open) (sym is) sound
 
 -- ---- the innermost directory that isn't skipped yet
 

@@ -14,7 +14,8 @@ use Rattle.walkdir.specs.declared.list.DirList.{DirList}
 use Rattle.walkdir.specs.declared.list.Items.{Items}
 use Rattle.walkdir.specs.declared.list.Items.TheVariants.{Opened, Closed, Skipped}
 use Rattle.walkdir.proofs.OwnStreamsLemmas.{at_insert, at_remove, one_closed, open_apart, same_number, tied}
-use Rattle.walkdir.proofs.StepLemmas.{AllOpen, all_open, keeps_open}
+use Rattle.walkdir.proofs.StepLemmas.{keeps_open}
+use Rattle.walkdir.proofs.WorkLemmas.{AllOpen, all_open}
 
 -- ---- streams that give what they gave
 

@@ -1,157 +1,22 @@
 -- Laws of the steps of a walk: what a step keeps, how often it fails, and how much it leaves to do.
-use Rattle.std.proofs.Common.{◌≡◌, ℕ, ◌+◌, ◌-◌, ◌*◌, ◌^◌, ◌≤◌, inl, inr, Bool, true, false, max, cond, List, [], ◌∷◌, ◌++◌, length, Option, Some, None, is_some, unwrap_or, refl, sym, ap, subst, ◌∙◌, arith, length-append}
-use Rattle.std.specs.Option.{option_map}
+use Rattle.std.proofs.Common.{◌≡◌, ℕ, ◌+◌, ◌-◌, ◌*◌, ◌^◌, ◌≤◌, inl, inr, true, false, max, List, [], ◌∷◌, ◌++◌, length, Option, Some, None, refl, sym, ap, subst, ◌∙◌, arith, length-append}
 use Rattle.std.specs.List.{cons_option}
 use Rattle.std.specs.FinMap as finite
 use native.Mathlib.Nat.{mul-le-mul_right, one-le-pow}
-use lib.Seq.{append_snoc}
-use Rattle.odb_disk.specs.declared.disk.Entry.{Entry}
-use Rattle.odb_disk.specs.Streams.{Streams, is_open, open_count, with_closed, with_stream}
+use Rattle.odb_disk.specs.Streams.{Streams, open_count, with_closed}
 use Rattle.walkdir.specs.Failures.{Costs, RoseBy, failures_left, waiting}
-use Rattle.walkdir.specs.OwnStreams.{OpenDirs, AreBeside, Owns}
+use Rattle.walkdir.specs.OwnStreams.{OpenDirs, Owns}
 use Rattle.walkdir.specs.Progress.{Progress, Keeps, FailsByFault}
-use Rattle.walkdir.specs.Stack.{left_in, many, own_streams, stream_in, weight, without_stream, work_in}
-use Rattle.walkdir.specs.Turns.{GoesOn, IsDrawn, LeavesLess, OpensAtMost, fresh, left_of}
+use Rattle.walkdir.specs.Stack.{is_skipped, left_in, many, own_streams, stream_in, weight, without_stream, work_in}
+use Rattle.walkdir.specs.Turns.{GoesOn, IsDrawn, LeavesLess, OpensAtMost, fresh}
 use Rattle.walkdir.specs.declared.list.DirList.{DirList}
-use Rattle.walkdir.specs.declared.list.Items.{Items}
-use Rattle.walkdir.specs.declared.list.Items.TheVariants.{Opened, Closed, Skipped}
-use Rattle.walkdir.proofs.OwnStreamsLemmas.{tied, same_number, at_insert, at_remove, own_is_open, owns_closed, owns_drawn, owns_opened, owns_same, remove_new}
+use Rattle.walkdir.proofs.OwnStreamsLemmas.{owns_closed, owns_drawn, owns_opened, owns_same, remove_new}
+use Rattle.walkdir.proofs.SkippedLemmas.{skips_popped, skips_pushed, skips_put, skips_same}
 use Rattle.walkdir.proofs.StackLemmas.{own_at, own_past}
+use Rattle.walkdir.proofs.WorkLemmas.{AllOpen, LeftLess, NoneMore, all_open, less_opened, less_same, none_more, none_without, work_less, work_none_more, work_put}
 use Rattle.walkdir.proofs.FailuresLemmas.{costs_none, waiting-append}
 
--- ---- streams that have no more left than before
-
-pub LeftLess : Streams → Streams → Type 0
-LeftLess old new = (dir : ℕ) → is_open old dir ≡ true → left_of new dir ≤ left_of old dir
-
-pub less_same : (old new : Streams) → new.open_dirs ≡ old.open_dirs → LeftLess old new
-unfolding LeftLess
-less_same old new is dir opened = let e : left_of new dir ≡ left_of old dir = ap (λ (m : OpenDirs). unwrap_or (option_map length (finite.get m dir)) 0) is in omega arith
-
-left_put : (b : Bool) (rest : List Entry) (o : Option (List Entry)) (n : ℕ) → length rest ≤ n → unwrap_or (option_map length o) 0 ≡ n
-    → unwrap_or (option_map length (cond b (Some rest) o)) 0 ≤ n
-left_put true rest o n le is = le
-left_put false rest o n le is = omega arith
-
-drawn_less : (old : Streams) (dir : ℕ) (rest : List Entry) → length rest ≤ left_of old dir → LeftLess old (with_stream old dir rest)
-unfolding LeftLess
-drawn_less old dir rest few q opened =
-    subst (λ o. unwrap_or (option_map length o) 0 ≤ left_of old q) (sym (at_insert old.open_dirs dir rest q))
-    (elim (tied q dir) as (λ b. tied q dir ≡ b → unwrap_or (option_map length (cond b (Some rest) (finite.get old.open_dirs q))) 0 ≤ left_of old q) [
-      | true ↦ λ t. let n : left_of old q ≡ left_of old dir = ap (left_of old) (same_number q dir t) in omega arith
-      | false ↦ λ _. omega arith
-    ] refl)
-
-pub less_drawn : (old : Streams) (dir : ℕ) (new : Streams) → IsDrawn old dir new → LeftLess old new
-less_drawn old dir new (inl same) = less_same old new (ap (λ (s : Streams). s.open_dirs) same)
-less_drawn old dir new (inr drawn) = subst (LeftLess old) (sym drawn.3) (drawn_less old dir drawn.0 drawn.2)
-
-closed_less : (old : Streams) (dir q : ℕ) → left_of (with_closed old dir) q ≤ left_of old q
-closed_less old dir q =
-    subst (λ o. unwrap_or (option_map length o) 0 ≤ left_of old q) (sym (at_remove old.open_dirs dir q)) (gone (tied q dir) (finite.get old.open_dirs q))
-  where
-    gone : (b : Bool) (o : Option (List Entry)) → unwrap_or (option_map length (cond b None o)) 0 ≤ unwrap_or (option_map length o) 0
-    gone true o = omega arith
-    gone false o = omega arith
-
-pub less_closed : (old : Streams) (dir : ℕ) (mid : Streams) → IsDrawn old dir mid → LeftLess old (with_closed mid dir)
-unfolding LeftLess
-less_closed old dir mid drawn q opened = let a = closed_less mid dir q in let b = less_drawn old dir mid drawn q opened in omega arith
-
-pub less_without : (old : Streams) (dir : Option ℕ) → LeftLess old (without_stream dir old)
-unfolding LeftLess
-less_without old None q opened = omega arith
-less_without old (Some dir) q opened = closed_less old dir q
-
-opened_less : (old new : Streams) (dir : ℕ) (entries : List Entry) → finite.get old.open_dirs dir ≡ None → new.open_dirs ≡ finite.insert old.open_dirs dir entries → LeftLess old new
-unfolding LeftLess
-opened_less old new dir entries free is q opened =
-    subst (λ (m : OpenDirs). unwrap_or (option_map length (finite.get m q)) 0 ≤ left_of old q) (sym is)
-    (subst (λ o. unwrap_or (option_map length o) 0 ≤ left_of old q) (sym (at_insert old.open_dirs dir entries q))
-    (elim (tied q dir) as (λ b. tied q dir ≡ b → unwrap_or (option_map length (cond b (Some entries) (finite.get old.open_dirs q))) 0 ≤ left_of old q) [
-      | true ↦ λ t.
-          let none : is_open old q ≡ false = ap is_some (ap (finite.get old.open_dirs) (same_number q dir t) ∙ free) in
-          let no : false ≡ true = sym none ∙ opened in
-          cc
-      | false ↦ λ _. omega arith
-    ] refl))
-
-pub less_opened : (old : Streams) (dir : Option ℕ) (new : Streams) → OpensAtMost old dir new → LeftLess old new
-less_opened old None new opens = less_same old new opens.dirs
-less_opened old (Some dir) new opens = opened_less old new dir opens.dirs.0 opens.dirs.1 opens.dirs.3
-
--- ---- how much is left to do
-
-unfoldable pub AllOpen : List ℕ → OpenDirs → Type 0
-AllOpen [] now = Unit {0}
-AllOpen (dir ∷ own) now = (finite.contains_key now dir ≡ true) × AllOpen own now
-
-pub all_open : (others : OpenDirs) (inner outer : List ℕ) (now : OpenDirs) → AreBeside others (inner ++ outer) now → AllOpen outer now
-unfolding AllOpen
-all_open others inner [] now beside = tt
-all_open others inner (dir ∷ outer) now beside = (
-  own_is_open others inner dir outer now beside,
-  all_open others (inner ++ dir ∷ []) outer now (subst (λ own. AreBeside others own now) (sym (append_snoc inner dir outer)) beside),
-)
-
-pub open_behind : (o : Option ℕ) (own : List ℕ) (now : OpenDirs) → AllOpen (cons_option o own) now → AllOpen own now
-unfolding AllOpen
-open_behind None own now opened = opened
-open_behind (Some dir) own now opened = opened.1
-
--- none of these streams has more left
-pub NoneMore : List ℕ → Streams → Streams → Type 0
-NoneMore [] old new = Unit {0}
-NoneMore (dir ∷ own) old new = (left_of new dir ≤ left_of old dir) × NoneMore own old new
-
-none_more : (own : List ℕ) (old new : Streams) → AllOpen own old.open_dirs → LeftLess old new → NoneMore own old new
-unfolding AllOpen LeftLess NoneMore
-none_more [] old new opened less = tt
-none_more (dir ∷ own) old new opened less = (less dir opened.0, none_more own old new opened.1 less)
-
-pub none_without : (own : List ℕ) (old : Streams) (dir : Option ℕ) → NoneMore own old (without_stream dir old)
-unfolding NoneMore
-none_without [] old dir = tt
-none_without (first ∷ own) old None = (omega arith, none_without own old None)
-none_without (first ∷ own) old (Some dir) = (closed_less old dir first, none_without own old (Some dir))
-
-more_behind : (o : Option ℕ) (own : List ℕ) (old new : Streams) → NoneMore (cons_option o own) old new → NoneMore own old new
-unfolding NoneMore
-more_behind None own old new none = none
-more_behind (Some dir) own old new none = none.1
-
-left_less : (old new : Streams) (items : Items) (own : List ℕ) → NoneMore (cons_option (stream_in items) own) old new → left_in new items ≤ left_in old items
-unfolding NoneMore
-left_less old new (Opened dir) own none = let le : left_of new dir ≤ left_of old dir = none.0 in omega arith
-left_less old new (Closed items) own none = omega arith
-left_less old new Skipped own none = omega arith
-
-weigh : (a b w x y : ℕ) → a ≤ b → x ≤ y → (a + 1) * w + x ≤ (b + 1) * w + y
-weigh a b w x y le more = let p : (a + 1) * w ≤ (b + 1) * w = mul-le-mul_right w (omega arith) in omega arith
-
-work_none_more : (most : ℕ) (old new : Streams) (stack : List DirList) → NoneMore (own_streams stack) old new → work_in most new stack ≤ work_in most old stack
-unfolding work_in
-work_none_more most old new [] none = omega arith
-work_none_more most old new (list ∷ outer) none =
-    weigh (left_in new list.items) (left_in old list.items) (weight most (length outer)) (work_in most new outer) (work_in most old outer)
-    (left_less old new list.items (own_streams outer) none) (work_none_more most old new outer (more_behind (stream_in list.items) (own_streams outer) old new none))
-
-pub work_less : (most : ℕ) (old new : Streams) (stack : List DirList) → AllOpen (own_streams stack) old.open_dirs → LeftLess old new → work_in most new stack ≤ work_in most old stack
-work_less most old new stack opened less = work_none_more most old new stack (none_more (own_streams stack) old new opened less)
-
-pub work_put : (most : ℕ) (old new : Streams) (inner : List DirList) (list other : DirList) (outer : List DirList) → NoneMore (own_streams (inner ++ list ∷ outer)) old new
-    → left_in new other.items ≤ left_in old list.items → work_in most new (inner ++ other ∷ outer) ≤ work_in most old (inner ++ list ∷ outer)
-unfolding work_in
-work_put most old new [] list other outer none le =
-    weigh (left_in new other.items) (left_in old list.items) (weight most (length outer)) (work_in most new outer) (work_in most old outer)
-    le (work_none_more most old new outer (more_behind (stream_in list.items) (own_streams outer) old new none))
-work_put most old new (first ∷ inner) list other outer none le =
-    let same : length (inner ++ list ∷ outer) ≡ length (inner ++ other ∷ outer) = length-append inner (list ∷ outer) ∙ sym (length-append inner (other ∷ outer)) in
-    subst (λ n. (left_in new first.items + 1) * weight most n + work_in most new (inner ++ other ∷ outer) ≤ (left_in old first.items + 1) * weight most (length (inner ++ list ∷ outer)) + work_in most old (inner ++ list ∷ outer))
-    same
-    (weigh (left_in new first.items) (left_in old first.items) (weight most (length (inner ++ list ∷ outer))) (work_in most new (inner ++ other ∷ outer)) (work_in most old (inner ++ list ∷ outer))
-    (left_less old new first.items (own_streams (inner ++ list ∷ outer)) none)
-    (work_put most old new inner list other outer (more_behind (stream_in first.items) (own_streams (inner ++ list ∷ outer)) old new none) le))
+-- ---- its streams
 
 pub keeps_open : (streams : Streams) (at : Progress) → Keeps streams at → AllOpen (own_streams at.stack) at.streams.open_dirs
 keeps_open streams at keeps = all_open streams.open_dirs [] (own_streams at.stack) at.streams.open_dirs keeps.beside
@@ -193,6 +58,7 @@ goes_drawn old new given before now same stack less keeps costs =
       start = same.start;
       keeps = keeps;
       faults = fails_by old new given given before now costs (omega arith);
+      skips = skips_same old.stack new.stack stack;
       work = λ streams k. work_as old new 0 same (subst (λ s. work_in old.options.max_depth new.streams s ≤ work_in old.options.max_depth old.streams old.stack + 0) (sym stack)
           (let le = work_less old.options.max_depth old.streams new.streams old.stack (keeps_open streams old k) less in omega arith));
     }
@@ -245,8 +111,9 @@ keeps_plain old new inner list other outer same was is none still streams_are st
 pub goes_put : (old new : Progress) (inner : List DirList) (list other : DirList) (outer : List DirList) (count given before now : ℕ) → Same old new
     → old.stack ≡ inner ++ list ∷ outer → new.stack ≡ inner ++ other ∷ outer → ((streams : Streams) → Keeps streams old → Keeps streams new)
     → LeftLess old.streams new.streams → left_in new.streams other.items ≤ left_in old.streams list.items
-    → given + failures_left other.items ≤ count + failures_left list.items → Costs count before now → GoesOn old before given 0 new now
-goes_put old new inner list other outer count given before now same was is keeps less left fails costs =
+    → given + failures_left other.items ≤ count + failures_left list.items → Costs count before now → other.path ≡ list.path
+    → (is_skipped other.items ≡ true → is_skipped list.items ≡ true) → GoesOn old before given 0 new now
+goes_put old new inner list other outer count given before now same was is keeps less left fails costs same_path skipped =
     let there : waiting old.stack ≡ waiting inner + waiting (list ∷ outer) = ap waiting was ∙ waiting-append inner (list ∷ outer) in
     let here : waiting new.stack ≡ waiting inner + waiting (other ∷ outer) = ap waiting is ∙ waiting-append inner (other ∷ outer) in
     record {
@@ -255,6 +122,7 @@ goes_put old new inner list other outer count given before now same was is keeps
       start = same.start;
       keeps = keeps;
       faults = fails_by old new count given before now costs (omega arith);
+      skips = skips_put old.stack new.stack inner list other outer was is same_path skipped;
       work = λ streams k.
           let opened : AllOpen (own_streams (inner ++ list ∷ outer)) old.streams.open_dirs = subst (λ s. AllOpen (own_streams s) old.streams.open_dirs) was (keeps_open streams old k) in
           let le : work_in old.options.max_depth new.streams (inner ++ other ∷ outer) ≤ work_in old.options.max_depth old.streams (inner ++ list ∷ outer) =
@@ -278,6 +146,7 @@ goes_then a b c x y z g h k d e f given more first second = record {
         let q : RoseBy (count + g + h + waiting c.stack) begun z = second.faults.rose begun (count + g) p in
         subst (λ n. RoseBy (n + waiting c.stack) begun z) (let s : count + g + h ≡ count + k = omega arith in s) q;
   };
+  skips = λ path depth was. first.skips path depth (second.skips path depth was);
   work = λ streams keeps.
       let p = first.work streams keeps in
       let q = second.work streams (first.keeps streams keeps) in
@@ -294,9 +163,9 @@ pushed_owns before most own now new (Some dir) owns room opens =
 
 pub goes_pushed : (old new : Progress) (list : DirList) (before now : ℕ) → Same old new → new.stack ≡ list ∷ old.stack → OpensAtMost old.streams (stream_in list.items) new.streams
     → length (own_streams old.stack) + 1 ≤ old.options.max_open → left_in new.streams list.items ≤ 2 ^ 64 → Costs (failures_left list.items) before now
-    → GoesOn old before 0 (fresh old.options.max_depth (length old.stack)) new now
+    → is_skipped list.items ≡ false → GoesOn old before 0 (fresh old.options.max_depth (length old.stack)) new now
 unfolding work_in
-goes_pushed old new list before now same is opens room bounded costs =
+goes_pushed old new list before now same is opens room bounded costs unskipped =
     let there : waiting new.stack ≡ failures_left list.items + waiting old.stack = ap waiting is in
     record {
       options = same.options;
@@ -306,6 +175,7 @@ goes_pushed old new list before now same is opens room bounded costs =
           (most_of old new same) (ap own_streams (sym is)) refl
           (pushed_owns streams old.options.max_open (own_streams old.stack) old.streams new.streams (stream_in list.items) keeps room opens);
       faults = fails_by old new (failures_left list.items) 0 before now costs (omega arith);
+      skips = skips_pushed list old.stack new.stack is unskipped;
       work = λ streams k.
           let le : work_in old.options.max_depth new.streams old.stack ≤ work_in old.options.max_depth old.streams old.stack =
           work_less old.options.max_depth old.streams new.streams old.stack (keeps_open streams old k) (less_opened old.streams (stream_in list.items) new.streams opens) in
@@ -371,6 +241,7 @@ goes_popped old new list at same was closed =
           (most_of old new same) refl (sym closed)
           (popped_owns streams old.options.max_open (stream_in list.items) (own_streams new.stack) old.streams (subst (λ s. Owns streams old.options.max_open (own_streams s) old.streams) was keeps));
       faults = fails_by old new 0 0 at at (costs_none at at (omega arith)) (omega arith);
+      skips = skips_popped list old.stack new.stack was;
       work = λ streams k. let le = work_popped old new list same was closed streams k in omega arith;
     }
 
@@ -383,6 +254,7 @@ goes_more a b x y given less more le goes = record {
   start = goes.start;
   keeps = goes.keeps;
   faults = goes.faults;
+  skips = goes.skips;
   work = λ streams keeps. let w = goes.work streams keeps in omega arith;
 }
 

@@ -19,7 +19,8 @@ use Rattle.walkdir.specs.Walk.{Nothing as NoChildren}
 use Rattle.walkdir.specs.declared.list.DirList.{DirList}
 use Rattle.walkdir.specs.declared.list.Items.{Items}
 use Rattle.walkdir.specs.declared.list.Items.TheVariants.{Opened, Closed, Skipped}
-use Rattle.walkdir.proofs.StepLemmas.{AllOpen, keeps_open, open_behind}
+use Rattle.walkdir.proofs.StepLemmas.{keeps_open}
+use Rattle.walkdir.proofs.WorkLemmas.{AllOpen, open_behind}
 
 parts : (a b c : Bool) → (a || (b || c)) ≡ false → (a ≡ false) × (b ≡ false) × (c ≡ false)
 parts true b c off = absurd cc

@@ -7,8 +7,9 @@ use Rattle.odb_disk.specs.Streams.{Streams}
 use Rattle.odb_disk.specs.Tree.{State}
 use Rattle.walkdir.specs.Error.{is_no_memory}
 use Rattle.walkdir.specs.Failures.{RoseBy, waiting}
+use Rattle.walkdir.specs.Innermost.{SkipsNone}
 use Rattle.walkdir.specs.OwnStreams.{AreBack, AreBeside, Owns}
-use Rattle.walkdir.specs.Progress.{Progress, FailsByFault, GivesDirectory, GivesNext, IsOf, Keeps, Steps, StillGives, is_lost, still_to_come, work_left, work_of}
+use Rattle.walkdir.specs.Progress.{Progress, FailsByFault, GivesDirectory, GivesEntered, GivesNext, IsOf, Keeps, Steps, StillGives, is_lost, still_to_come, work_left, work_of}
 use Rattle.walkdir.proofs.CausesLemmas.{caused_by_call, lost_call}
 use Rattle.walkdir.specs.Stack.{StandsFor, ancestors, own_streams, work_in}
 use Rattle.walkdir.specs.Turns.{BeginsWalk, DrawsChild, HandlesEntry, IsIn, LeavesIt, Turns, handed, item_of, turn_given, turn_of}
@@ -16,6 +17,8 @@ use Rattle.walkdir.specs.Walk.{Walking, Item, IsWalk}
 use Rattle.walkdir.specs.declared.dent.DirEntry.{DirEntry}
 use Rattle.walkdir.specs.declared.error.Error.{Error}
 use Rattle.walkdir.specs.declared.stack.Turn.TheVariants as turns
+use Rattle.walkdir.proofs.InnermostLemmas.{after_lost}
+use Rattle.walkdir.proofs.SkippedLemmas.{none_skipped}
 use Rattle.walkdir.proofs.ProgressLemmas.{item_turn}
 
 -- ---- what is still to come
@@ -101,6 +104,8 @@ pub record Passes (state : Option State) (old new : Progress) : Type 0 where
   pub keeps : (before : Streams) → Keeps before old → Keeps before new
   pub options : new.options ≡ old.options
   pub entered : new.entered ≡ false
+  pub skips : SkipsNone old.stack new.stack
+  pub above : GivesEntered state old None new
   pub less : work_left new ≤ work_left old
 
 work_same : (old new : Progress) → new.options ≡ old.options → new.start ≡ old.start → new.streams ≡ old.streams → new.stack ≡ old.stack → work_left new ≡ work_left old
@@ -112,6 +117,20 @@ work_same old new options start streams stack = ap (work_of new) start ∙ parts
         ap (λ o. work_in o.max_depth new.streams new.stack) options ∙ ap (λ s. work_in old.options.max_depth s new.stack) streams ∙ ap (work_in old.options.max_depth old.streams) stack
     parts (Some root) = ap (λ o. work_of (record new { options = o }) (Some root)) options
 
+entered_same : (state : Option State) (old new : Progress) → GivesEntered state old None (record old { entered = false })
+entered_same None old new = tt
+entered_same (Some s) old new = λ walk before tree of keeps lost entered. entered
+
+pub entered_then : (state : Option State) (old mid new : Progress) (item : Option Item) → Passes state old mid → GivesEntered state mid item new → GivesEntered state old item new
+entered_then None old mid new item passes tells = tt
+entered_then (Some s) old mid new item passes tells = λ walk before tree of keeps lost entered.
+    let one = passes.gives walk before tree of keeps refl in
+    tells walk before tree one.0 (passes.keeps before keeps) lost (passes.above walk before tree of keeps refl entered)
+
+lost_entered : (state : Option State) (old new : Progress) (error : Error) → is_no_memory error ≡ true → GivesEntered state old (Some (Err error)) new
+lost_entered None old new error is = tt
+lost_entered (Some s) old new error is = λ walk before tree of keeps lost entered. absurd (let no : true ≡ false = sym is ∙ lost in cc)
+
 -- only the mark of an entered directory goes
 pub passes_none : (state : Option State) (old : Progress) → Passes state old (record old { entered = false })
 passes_none state old =
@@ -122,11 +141,14 @@ passes_none state old =
       keeps = λ before keeps. keeps;
       options = refl;
       entered = refl;
+      skips = λ path depth was. was;
+      above = entered_same state old old;
       less = omega arith;
     }
 
-pub passes_on : (state : Option State) (old mid new : Progress) → Passes state old mid → GivesNext state mid None new → Turns mid turns.Passed new → Passes state old new
-passes_on state old mid new passes gives turn =
+pub passes_on : (state : Option State) (old mid new : Progress) → Passes state old mid → GivesNext state mid None new → Turns mid turns.Passed new → GivesEntered state mid None new
+    → Passes state old new
+passes_on state old mid new passes gives turn above =
     let was = passes.less in
     let less : work_left new < work_left mid = turn.ends in
     record {
@@ -134,6 +156,8 @@ passes_on state old mid new passes gives turn =
       keeps = λ before keeps. turn.keeps before (passes.keeps before keeps);
       options = turn.options ∙ passes.options;
       entered = turn.entered passes.entered;
+      skips = λ path depth was. passes.skips path depth (turn.skips path depth was);
+      above = entered_then state old mid new None passes above;
       less = omega arith;
     }
 
@@ -147,8 +171,8 @@ never_over : (at : Progress) (n : ℕ) → n < work_left at → at.stack ≡ [] 
 never_over at n less empty none = let zero = over_none at empty none in omega arith
 
 pub steps_ended : (state : Option State) (old mid new : Progress) → Passes state old mid → GivesNext state mid None new → Turns mid turns.Ended new → GivesDirectory state old None new
-    → Steps state old None new
-steps_ended state old mid new passes gives turn directory =
+    → GivesEntered state old None new → Steps state old None new
+steps_ended state old mid new passes gives turn directory above =
     let ends = turn.ends in
     let same : new ≡ mid = ends.0 in
     record {
@@ -161,12 +185,15 @@ steps_ended state old mid new passes gives turn directory =
       lost = λ lost. absurd cc;
       less = tt;
       causes = tt;
+      innermost = tt;
+      skips = λ path depth was. passes.skips path depth (turn.skips path depth was);
       directory = directory;
+      above = above;
     }
 
 pub steps_given : (state : Option State) (old mid new : Progress) (item : Item) → is_lost (Some item) ≡ false → Passes state old mid → GivesNext state mid (Some item) new
-    → Turns mid (turns.Item item) new → GivesDirectory state old (Some item) new → Steps state old (Some item) new
-steps_given state old mid new item kept passes gives turn directory =
+    → Turns mid (turns.Item item) new → GivesDirectory state old (Some item) new → GivesEntered state old (Some item) new → Steps state old (Some item) new
+steps_given state old mid new item kept passes gives turn directory above =
     let was = passes.less in
     let less : work_left new < work_left mid = turn.ends in
     let fewer : work_left new < work_left old = omega arith in
@@ -180,7 +207,10 @@ steps_given state old mid new item kept passes gives turn directory =
       lost = λ lost. absurd (let no : true ≡ false = sym lost ∙ kept in cc);
       less = fewer;
       causes = turn.causes;
+      innermost = turn.innermost;
+      skips = λ path depth was. passes.skips path depth (turn.skips path depth was);
       directory = directory;
+      above = above;
     }
 
 back_keeps : (before : Streams) (at : Progress) (most : ℕ) → at.options.max_open ≡ most → at.stack ≡ [] → AreBack before most at.streams → Keeps before at
@@ -202,7 +232,8 @@ lost_gives (Some s) old new error is = λ walk before tree of kept lost. absurd 
 -- memory ran out, and the walk was ended
 pub steps_lost : (state : Option State) (old mid there new : Progress) (error : Error) → is_no_memory error ≡ true → Passes state old mid → Turns mid (turns.Item (Err error)) there
     → new.stack ≡ [] → new.start ≡ None → new.options ≡ there.options → new.entered ≡ false
-    → ((before : Streams) → Keeps before there → AreBack before there.options.max_open new.streams) → GivesDirectory state old (Some (Err error)) new → Steps state old (Some (Err error)) new
+    → ((before : Streams) → Keeps before there → AreBack before there.options.max_open new.streams) → GivesDirectory state old (Some (Err error)) new
+    → Steps state old (Some (Err error)) new
 steps_lost state old mid there new error is passes turn empty none options entered back directory =
     let was = passes.less in
     let less : work_left there < work_left mid = turn.ends in
@@ -218,7 +249,10 @@ steps_lost state old mid there new error is passes turn empty none options enter
       lost = λ _. (empty, none);
       less = fewer;
       causes = caused_by_call new.options (ancestors new.stack) error (lost_call error is);
+      innermost = after_lost new.options error new.stack is;
+      skips = λ path depth there_too. absurd (none_skipped path depth new.stack empty there_too);
       directory = directory;
+      above = lost_entered state old new error is;
     }
 
 -- ---- what one turn gives

@@ -8,6 +8,7 @@ use Rattle.odb_disk.specs.Tree.{State, Tree, tree_of}
 use Rattle.walkdir.proofs.ProgressLemmas.{has_streams}
 use Rattle.walkdir.proofs.StillGivesLemmas.{something_left}
 use Rattle.walkdir.specs.BuiltWalk.{walking}
+pub use Rattle.walkdir.specs.FilteredWalk.{NoneLost}
 use Rattle.walkdir.specs.Failures.{RoseBy, failures_among, failures_of, waiting}
 use Rattle.walkdir.specs.OnDisk as OnDisks
 use Rattle.walkdir.specs.Options.{Built}
@@ -18,11 +19,6 @@ use Rattle.walkdir.specs.Walk.{Item, IsWalk, Order, Walking}
 use Rattle.walkdir.specs.declared.builder.Options.{Options}
 use Rattle.walkdir.specs.declared.dent.DirEntry.{DirEntry}
 use Rattle.walkdir.specs.declared.iter.OnDisk.{OnDisk}
-
--- none of these items is want of memory
-abbrev pub NoneLost : List Item → Type 0
-NoneLost [] = Unit {0}
-NoneLost (item ∷ items) = (is_lost (Some item) ≡ false) × NoneLost items
 
 pub entries_kept : (entries : List DirEntry) → NoneLost (map Ok entries)
 entries_kept [] = tt

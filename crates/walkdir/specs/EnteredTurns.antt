@@ -1,14 +1,22 @@
 -- What the parts of a turn tell of a directory that is given before its contents. No public clause cites this module.
-use Rattle.std.specs.Prelude.{◌≡◌, ℕ, Option, Ok, IfSome}
+use Rattle.std.specs.Prelude.{◌≡◌, ℕ, false, [], Option, Ok, IfSome}
 use Rattle.odb_base.specs.Path.{Path}
 use Rattle.odb_disk.specs.Tree.{State, tree_of}
+use Rattle.odb_disk.specs.Tree.Follow.{looked}
+use Rattle.odb_disk.specs.declared.disk.Meta.{Meta}
+use Rattle.walkdir.specs.Above.{AreEntered}
 use Rattle.walkdir.specs.Entered.{HoldsContents}
-use Rattle.walkdir.specs.Progress.{Progress, TellsEntered}
+use Rattle.walkdir.specs.Progress.{Progress, TellsEntered, is_lost}
+use Rattle.walkdir.specs.Stack.{ancestors}
 use Rattle.walkdir.specs.Turns.{IsIn}
-use Rattle.walkdir.specs.Walk.{Walking, Item, entering}
+use Rattle.walkdir.specs.Walk.{Walking, Item, entering, entry_by}
 use Rattle.walkdir.specs.declared.dent.DirEntry.{DirEntry}
 use Rattle.walkdir.specs.declared.list.Entering.TheVariants.{Enters}
 use Rattle.walkdir.specs.declared.list.Place.{Place}
+
+-- an entry is the root, by what a look at it tells
+abbrev pub IsRootEntry : Walking → DirEntry → Type 0
+IsRootEntry walk entry = (meta : Meta) × (looked walk.tree walk.root false ≡ Ok meta) × (entry ≡ entry_by walk.root false 0 meta)
 
 -- a directory at this path and depth is put on the stack with all that it contains
 abbrev pub PushesContents : Option State → Progress → Path → ℕ → Option Place → Progress → Type 0
@@ -24,6 +32,18 @@ EntersTelling state old entry place item new =
 -- an entry that is handled
 abbrev pub HandlesTelling : Option State → Progress → Option Item → Progress → Type 0
 HandlesTelling state old item new = IfSome state (λ s. (walk : Walking) → walk.tree ≡ tree_of s → IsIn walk old → TellsEntered walk item new)
+
+-- the directories that the walk is in after an entry was handled, or the root, if nothing is above it
+abbrev pub HandlesAbove : Option State → Progress → DirEntry → Option Item → Progress → Type 0
+HandlesAbove state old entry item new =
+    IfSome state (λ s. (walk : Walking) → walk.tree ≡ tree_of s → IsIn walk old → is_lost item ≡ false → (old.stack ≡ [] → IsRootEntry walk entry) → AreEntered walk (ancestors old.stack)
+    → AreEntered walk (ancestors new.stack))
+
+-- those after the root was taken up
+abbrev pub BeginsAbove : Option State → Progress → Path → Option Item → Progress → Type 0
+BeginsAbove state old root item new =
+    IfSome state (λ s. (walk : Walking) → walk.tree ≡ tree_of s → walk.options ≡ old.options → walk.order ≡ old.order → walk.root ≡ root → is_lost item ≡ false
+    → AreEntered walk (ancestors new.stack))
 
 -- the root of a walk
 abbrev pub BeginsTelling : Option State → Progress → Path → Option Item → Progress → Type 0

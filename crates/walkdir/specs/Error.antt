@@ -75,6 +75,27 @@ is_of_call_in NoMemory = true
 abbrev pub is_of_call : Error → Bool
 is_of_call error = is_of_call_in error.inner
 
+-- a call on this path, at this depth, was refused, or memory ran out
+abbrev pub IsOnPathIn : Path → ℕ → ℕ → ErrorInner → Type 0
+IsOnPathIn path depth own (Io (Some at) error) = (at ≡ path) × (own ≡ depth)
+IsOnPathIn path depth own (Io None error) = ⊥
+IsOnPathIn path depth own (Loop ancestor child) = ⊥
+IsOnPathIn path depth own NoMemory = Unit {0}
+
+abbrev pub IsOnPath : Path → ℕ → Error → Type 0
+IsOnPath path depth error = IsOnPathIn path depth error.depth error.inner
+
+-- a call on an entry's path, at its depth, was refused; the entry is a link that leads to a directory above it; or memory
+-- ran out
+abbrev pub IsOfEntryIn : Path → ℕ → ℕ → ErrorInner → Type 0
+IsOfEntryIn path depth own (Io (Some at) error) = (at ≡ path) × (own ≡ depth)
+IsOfEntryIn path depth own (Io None error) = ⊥
+IsOfEntryIn path depth own (Loop ancestor child) = (child ≡ path) × (own ≡ depth)
+IsOfEntryIn path depth own NoMemory = Unit {0}
+
+abbrev pub IsOfEntry : Path → ℕ → Error → Type 0
+IsOfEntry path depth error = IsOfEntryIn path depth error.depth error.inner
+
 -- how many failures of the disk an error is: one, or none
 abbrev pub failures_in : ErrorInner → ℕ
 failures_in (Io path refusals.Failed) = 1

@@ -1,11 +1,22 @@
 -- What a filter leaves of a walk: rejected entries are left out, and what a rejected directory contains that comes before
 -- its contents and was entered.
-use Rattle.std.specs.Prelude.{◌≡◌, Bool, true, false, List, [], ◌∷◌, ◌++◌, Option, Ok, Err}
+use Rattle.std.specs.Prelude.{◌≡◌, ℕ, Bool, true, false, List, [], ◌∷◌, ◌++◌, Option, Some, None, Ok, Err}
+use Rattle.std.specs.Fn.{Mut, CalledAt}
+use Rattle.std.specs.Iterator.{Yields}
+use denote.Ref.{Bor}
+use Rattle.odb_disk.specs.Streams.{Streams}
+use Rattle.odb_disk.specs.Tree.{State, tree_of}
+use Rattle.walkdir.specs.Above.{AreAbove}
 use Rattle.walkdir.specs.Entered.{StaysOut}
 use Rattle.walkdir.specs.Entry.{is_dir}
+use Rattle.walkdir.specs.Filter.{Filters}
+use Rattle.walkdir.specs.OnDisk.{NextOn, SkipsOn, at_walk}
+use Rattle.walkdir.specs.Progress.{Progress, is_lost}
 use Rattle.walkdir.specs.Walk.{Walking, Ancestor, ContentsOf, IsWalk, Item, enter, entering}
 use Rattle.walkdir.specs.declared.dent.DirEntry.{DirEntry}
 use Rattle.walkdir.specs.declared.error.Error.{Error}
+use Rattle.walkdir.specs.declared.filter.FilterEntry.{FilterEntry}
+use Rattle.walkdir.specs.declared.iter.OnDisk.{OnDisk}
 use Rattle.walkdir.specs.declared.list.Entering.TheVariants.{Enters}
 use Rattle.walkdir.specs.declared.list.Place.{Place}
 
@@ -17,9 +28,10 @@ pub data LeavesOut (walk : Walking) (accepts : DirEntry → Bool) : List Item �
   Accepted : {entry : DirEntry} {items given : List Item} → accepts entry ≡ true → LeavesOut walk accepts items given → LeavesOut walk accepts (Ok entry ∷ items) (Ok entry ∷ given)
   -- a rejected entry alone: it is no directory, or it comes after its contents, or it isn't entered
   Alone : {entry : DirEntry} {items given : List Item} → accepts entry ≡ false → StaysOut walk entry → LeavesOut walk accepts items given → LeavesOut walk accepts (Ok entry ∷ items) given
-  -- a rejected directory that comes before its contents and was entered, with its contents
+  -- a rejected directory that comes before its contents and was entered, with its contents below the directories above it
   WithContents : {entry : DirEntry} {items given : List Item} (place : Option Place) (above : List Ancestor) (contents behind : List Item) → accepts entry ≡ false → is_dir entry ≡ true
-      → walk.options.contents_first ≡ false → entering walk entry ≡ Ok (Enters place) → ContentsOf walk (enter entry place above) entry contents → items ≡ contents ++ behind
+      → walk.options.contents_first ≡ false → entering walk entry ≡ Ok (Enters place) → AreAbove walk entry.path entry.depth above
+      → ContentsOf walk (enter entry place above) entry contents → items ≡ contents ++ behind
       → LeavesOut walk accepts behind given → LeavesOut walk accepts (Ok entry ∷ items) given
 
 -- a walk without what a filter leaves out
@@ -27,3 +39,42 @@ pub record IsFilteredWalk (walk : Walking) (accepts : DirEntry → Bool) (given 
   pub items : List Item
   pub is : IsWalk walk items
   pub leaves : LeavesOut walk accepts items given
+
+-- What a walk gave first, and what a filter leaves of that. The walk goes on with others.
+pub record BeginsFiltered (walk : Walking) (accepts : DirEntry → Bool) (given : List Item) : Type 0 where
+  pub items : List Item
+  pub rest : List Item
+  pub is : IsWalk walk (items ++ rest)
+  pub leaves : LeavesOut walk accepts items given
+
+-- ---- a filtered walk on a disk
+
+-- none of these items is want of memory
+abbrev pub NoneLost : List Item → Type 0
+NoneLost [] = Unit {0}
+NoneLost (item ∷ items) = (is_lost (Some item) ≡ false) × NoneLost items
+
+-- a walk that hasn't begun, with no streams of its own
+pub record HasNotBegun (walk : Walking) (at : Progress) : Type 0 where
+  pub options : at.options ≡ walk.options
+  pub order : at.order ≡ walk.order
+  pub start : at.start ≡ Some walk.root
+  pub stack : at.stack ≡ []
+
+-- a predicate answers so, whatever it was asked before
+abbrev pub AnswersBy : {F : Type 0} → Mut F (Bor DirEntry × Unit {0}) Bool → (DirEntry → Bool) → Type 0
+AnswersBy {F} calls accepts = (f g : F) (entry : DirEntry) (answer : Bool) → CalledAt calls f entry answer g → answer ≡ accepts entry
+
+module _ {D W F : Type 0} (state : D → Option State) (streams : D → Streams) (faults : D → ℕ) (progress : W → Streams → Progress) (calls : Mut F (Bor DirEntry × Unit {0}) Bool) where
+  -- what `next` of a filtered walk gives
+  abbrev pub FilteredOn : FilterEntry (OnDisk D W) F → Option Item → FilterEntry (OnDisk D W) F → Type 0
+  FilteredOn s item t =
+      Filters (NextOn state streams faults progress) (SkipsOn state streams faults progress) (λ x. (at_walk state streams faults progress x).entered) calls s.walk s.predicate item t.walk t.predicate
+
+  -- From a walk that hasn't begun, on a disk that tells its tree: whatever is given first, without want of memory, is what
+  -- the filter leaves of the first items of the walk; and at the end, of all.
+  pub record GivesFiltered (accepts : DirEntry → Bool) (s : FilterEntry (OnDisk D W) F) : Type 0 where
+    pub begins : (walk : Walking) (told : State) (items : List Item) (t : FilterEntry (OnDisk D W) F) → walk.tree ≡ tree_of told → state s.walk.disk.now ≡ Some told
+        → HasNotBegun walk (at_walk state streams faults progress s.walk) → Yields FilteredOn s items t → NoneLost items → BeginsFiltered walk accepts items
+    pub whole : (walk : Walking) (told : State) (items : List Item) (t u : FilterEntry (OnDisk D W) F) → walk.tree ≡ tree_of told → state s.walk.disk.now ≡ Some told
+        → HasNotBegun walk (at_walk state streams faults progress s.walk) → Yields FilteredOn s items t → FilteredOn t None u → NoneLost items → IsFilteredWalk walk accepts items

@@ -4,9 +4,12 @@ pub mod Error
 pub mod Sorted
 pub mod Walk
 pub mod Failures
+pub mod Within
+pub mod Above
 pub mod WalkLaws
 pub mod OwnStreams
 pub mod Stack
+pub mod Innermost
 pub mod Entered
 pub mod Progress
 pub mod OnDisk

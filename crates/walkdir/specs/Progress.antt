@@ -4,10 +4,12 @@ use Rattle.std.specs.Option.{option_map, option_to_list}
 use Rattle.odb_base.specs.Path.{Path}
 use Rattle.odb_disk.specs.Tree.{State, tree_of}
 use Rattle.odb_disk.specs.Streams.{Streams}
+use Rattle.walkdir.specs.Above.{AreEntered}
 use Rattle.walkdir.specs.Entered.{IsEntered, StaysOut}
 use Rattle.walkdir.specs.Entry.{is_dir}
 use Rattle.walkdir.specs.Error.{is_no_memory, is_stream_refusal}
 use Rattle.walkdir.specs.Failures.{RoseBy, waiting}
+use Rattle.walkdir.specs.Innermost.{IsAfter, SkipsNone}
 use Rattle.walkdir.specs.Options.{Built}
 pub use Rattle.walkdir.specs.OwnStreams.{AreBack}
 use Rattle.walkdir.specs.OwnStreams.{Owns, are_apart}
@@ -136,6 +138,12 @@ abbrev pub GivesDirectory : Option State → Progress → Option Item → Progre
 GivesDirectory state old item new =
     IfSome state (λ s. (walk : Walking) (before : Streams) → walk.tree ≡ tree_of s → IsOf walk old → Keeps before old → TellsEntered walk item new)
 
+-- where the tree is told, the directories that the walk is in are those that it entered
+abbrev pub GivesEntered : Option State → Progress → Option Item → Progress → Type 0
+GivesEntered state old item new =
+    IfSome state (λ s. (walk : Walking) (before : Streams) → walk.tree ≡ tree_of s → IsOf walk old → Keeps before old → is_lost item ≡ false → AreEntered walk (ancestors old.stack)
+    → AreEntered walk (ancestors new.stack))
+
 -- what a call of `next` gives and leaves
 pub record Steps (state : Option State) (old : Progress) (item : Option Item) (new : Progress) : Type 0 where
   pub gives : GivesNext state old item new
@@ -147,7 +155,10 @@ pub record Steps (state : Option State) (old : Progress) (item : Option Item) (n
   pub lost : is_lost item ≡ true → (new.stack ≡ []) × (new.start ≡ None)
   pub less : IfSome item (λ _. work_left new < work_left old)
   pub causes : CausedWithin new item
+  pub innermost : IsAfter new.options item new.stack
+  pub skips : SkipsNone old.stack new.stack
   pub directory : GivesDirectory state old item new
+  pub above : GivesEntered state old item new
 
 -- ---- `skip_current_dir`
 

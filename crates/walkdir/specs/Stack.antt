@@ -2,13 +2,18 @@
 -- it is left.
 use Rattle.std.specs.Prelude.{◌≡◌, ℕ, ◌+◌, ◌-◌, ◌*◌, ◌^◌, ◌≤◌, ◌==◌, ◌&&◌, ◌||◌, Bool, true, false, not, nat_lt, is_some, List, [], ◌∷◌, ◌++◌, length, map, reverse, take, Option, Some, None, Ok, Err, IfSome, unwrap_or}
 use Rattle.std.specs.List.{filter_map}
-use Rattle.odb_base.specs.Path.{Path}
+use lib.Pointwise.{pointwise}
+use Rattle.odb_base.specs.Path.{Path, same_name}
 use Rattle.odb_disk.specs.Streams.{Streams, still_gives, left, with_closed}
 use Rattle.odb_disk.specs.declared.disk.Entry.{Entry}
-use Rattle.walkdir.specs.Error.{is_of_call}
+use Rattle.walkdir.specs.Entry.{is_dir}
+use Rattle.walkdir.specs.Error.{is_stream_refusal}
 use Rattle.walkdir.specs.Walk.{Walking, Item, Ancestor, WalksOf, IsStreamed, child_of, shown}
 use Rattle.walkdir.specs.declared.builder.Options.{Options}
+use Rattle.walkdir.specs.Within.{IsChild, LiesIn, is_child, lies_in}
 use Rattle.walkdir.specs.declared.dent.DirEntry.{DirEntry}
+use Rattle.walkdir.specs.declared.error.ErrorInner.{ErrorInner}
+use Rattle.walkdir.specs.declared.error.ErrorInner.TheVariants.{Io, Loop, NoMemory}
 use Rattle.walkdir.specs.declared.list.DirList.{DirList}
 use Rattle.walkdir.specs.declared.list.Items.{Items}
 use Rattle.walkdir.specs.declared.list.Items.TheVariants.{Opened, Closed, Skipped}
@@ -37,10 +42,10 @@ pub record HasNothing (items : Items) : Type 0 where
   pub no_stream : stream_in items ≡ None
   pub nothing : held items ≡ []
 
--- the first is taken of what was read before
+-- The first is taken of what was read before. A closed list stays one, also where nothing is left.
 abbrev pub TakesHeld : Items → Option Item → Items → Type 0
-TakesHeld old None new = (held old ≡ []) × HasNothing new
-TakesHeld old (Some item) new = (held old ≡ item ∷ held new) × (stream_in new ≡ None)
+TakesHeld old None new = (held old ≡ []) × HasNothing new × (is_skipped new ≡ is_skipped old)
+TakesHeld old (Some item) new = (held old ≡ item ∷ held new) × (stream_in new ≡ None) × (is_skipped old ≡ false) × (is_skipped new ≡ false)
 
 -- the streams without one, if there is one
 abbrev pub without_stream : Option ℕ → Streams → Streams
@@ -54,25 +59,37 @@ own_streams stack = filter_map (λ list. stream_in list.items) stack
 
 -- ---- what always holds of a stack
 
--- whether entries stand at a depth, and each error comes from one call
-abbrev pub IsAt : ℕ → Item → Type 0
-IsAt depth (Ok entry) = entry.depth ≡ depth
-IsAt depth (Err error) = is_of_call error ≡ true
+-- An error of a directory at this path, whose entries have this depth: a call on the directory was refused, its stream
+-- failed, or memory ran out.
+abbrev pub IsOfDirectory : Path → ℕ → ℕ → ErrorInner → Type 0
+IsOfDirectory path depth own (Io (Some at) error) = (at ≡ path) × (own + 1 ≡ depth)
+IsOfDirectory path depth own (Io None error) = (own ≡ depth) × (is_stream_refusal error ≡ true)
+IsOfDirectory path depth own (Loop ancestor child) = ⊥
+IsOfDirectory path depth own NoMemory = Unit {0}
 
-abbrev pub AreAt : ℕ → List Item → Type 0
-AreAt depth [] = Unit {0}
-AreAt depth (item ∷ items) = IsAt depth item × AreAt depth items
+-- a child of the directory at this path, whose entries have this depth, or an error of the directory
+abbrev pub IsAt : Path → ℕ → Item → Type 0
+IsAt path depth (Ok entry) = (entry.depth ≡ depth) × IsChild path entry.path
+IsAt path depth (Err error) = IsOfDirectory path depth error.depth error.inner
+
+abbrev pub AreAt : Path → ℕ → List Item → Type 0
+AreAt path depth [] = Unit {0}
+AreAt path depth (item ∷ items) = IsAt path depth item × AreAt path depth items
 
 -- the entry of a directory that comes after its contents stands as deep as the directory itself, and what was read of it
 -- one deeper. From the greatest depth on a directory has nothing
 pub record FitsAt (options : Options) (depth : ℕ) (list : DirList) : Type 0 where
-  pub after : IfSome list.after (λ entry. (entry.depth ≡ depth) × (options.contents_first ≡ true))
-  pub children : AreAt (depth + 1) (held list.items)
+  pub after : IfSome list.after (λ entry. (entry.depth ≡ depth) × (is_dir entry ≡ true) × (options.contents_first ≡ true))
+  pub children : AreAt list.path (depth + 1) (held list.items)
   pub deepest : options.max_depth ≤ depth → HasNothing list.items
+
+-- a directory lies in the one above it, and so does its entry that comes after its contents
+abbrev pub IsNested : DirList → List DirList → Type 0
+IsNested list outer = LiesIn list.path outer × IfSome list.after (λ entry. LiesIn entry.path outer)
 
 unfoldable pub Fits : Options → List DirList → Type 0
 Fits options [] = Unit {0}
-Fits options (list ∷ outer) = FitsAt options (length outer) list × Fits options outer
+Fits options (list ∷ outer) = FitsAt options (length outer) list × IsNested list outer × Fits options outer
 
 -- A walk's options, its root until it begins, its directories, the outermost first, and the number of those that have
 -- no stream any more.
@@ -86,27 +103,44 @@ pub record IsSound (options : Options) (start : Option Path) (lists : List DirLi
 
 -- ---- the same as tests
 
-abbrev pub is_at : ℕ → Item → Bool
-is_at depth (Ok entry) = entry.depth == depth
-is_at depth (Err error) = is_of_call error
+abbrev pub same_path : Path → Path → Bool
+same_path = pointwise same_name
 
-unfoldable pub are_at : ℕ → List Item → Bool
-are_at depth [] = true
-are_at depth (item ∷ items) = is_at depth item && are_at depth items
+abbrev pub is_of_directory : Path → ℕ → ℕ → ErrorInner → Bool
+is_of_directory path depth own (Io (Some at) error) = same_path at path && (own + 1 == depth)
+is_of_directory path depth own (Io None error) = (own == depth) && is_stream_refusal error
+is_of_directory path depth own (Loop ancestor child) = false
+is_of_directory path depth own NoMemory = true
+
+abbrev pub is_at : Path → ℕ → Item → Bool
+is_at path depth (Ok entry) = (entry.depth == depth) && is_child path entry.path
+is_at path depth (Err error) = is_of_directory path depth error.depth error.inner
+
+unfoldable pub are_at : Path → ℕ → List Item → Bool
+are_at path depth [] = true
+are_at path depth (item ∷ items) = is_at path depth item && are_at path depth items
 
 abbrev pub is_after : Options → ℕ → Option DirEntry → Bool
 is_after options depth None = true
-is_after options depth (Some entry) = (entry.depth == depth) && options.contents_first
+is_after options depth (Some entry) = (entry.depth == depth) && (is_dir entry && options.contents_first)
 
 abbrev pub has_nothing : Items → Bool
 has_nothing items = not (is_some (stream_in items)) && (length (held items) == 0)
 
 abbrev pub fits_at : Options → ℕ → DirList → Bool
-fits_at options depth list = is_after options depth list.after && (are_at (depth + 1) (held list.items) && (nat_lt depth options.max_depth || has_nothing list.items))
+fits_at options depth list =
+    is_after options depth list.after && (are_at list.path (depth + 1) (held list.items) && (nat_lt depth options.max_depth || has_nothing list.items))
+
+abbrev pub after_lies_in : Option DirEntry → List DirList → Bool
+after_lies_in None outer = true
+after_lies_in (Some entry) outer = lies_in entry.path outer
+
+abbrev pub is_nested : DirList → List DirList → Bool
+is_nested list outer = lies_in list.path outer && after_lies_in list.after outer
 
 unfoldable pub all_fit : Options → List DirList → Bool
 all_fit options [] = true
-all_fit options (list ∷ outer) = fits_at options (length outer) list && all_fit options outer
+all_fit options (list ∷ outer) = fits_at options (length outer) list && (is_nested list outer && all_fit options outer)
 
 unfoldable pub is_sound : Options → Option Path → List DirList → ℕ → Bool
 is_sound options start lists first_open =

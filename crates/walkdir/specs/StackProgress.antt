@@ -3,6 +3,7 @@ use Rattle.std.specs.Prelude.{◌≡◌, reverse, length}
 use Rattle.std.specs.Option.{option_map}
 use Rattle.odb_disk.specs.Streams.{Streams}
 use Rattle.walkdir.specs.Progress.{Progress}
+use Rattle.walkdir.specs.Stack.{ancestors}
 use Rattle.walkdir.specs.Walk.{Order}
 use Rattle.walkdir.specs.declared.stack.Stack.{Stack}
 
@@ -26,3 +27,4 @@ pub record KeepsStack {S : Type 0} (old new : Stack S) : Type 0 where
   pub device : new.root_device ≡ old.root_device
   pub entered : new.entered ≡ old.entered
   pub count : length new.lists.items ≡ length old.lists.items
+  pub above : ancestors (reverse new.lists.items) ≡ ancestors (reverse old.lists.items)

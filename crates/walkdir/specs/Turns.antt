@@ -14,15 +14,17 @@ use Rattle.odb_disk.specs.declared.disk.DiskError.TheVariants as refusals
 use Rattle.walkdir.specs.Entry.{is_dir, is_link}
 use Rattle.walkdir.specs.Error.{failures, io_error, no_memory, stream_error, IsFromLoop}
 use Rattle.walkdir.specs.Failures.{failures_left}
+use Rattle.walkdir.specs.Innermost.{IsAfter, SkipsNone}
 use Rattle.walkdir.specs.OwnStreams.{OpenDirs}
 use Rattle.walkdir.specs.Progress.{Progress, Keeps, FailsByFault, CausedWithin, is_innermost, is_lost, work_left}
-use Rattle.walkdir.specs.Stack.{HasLeft, StandsFor, ancestors, held, own_entry, is_skipped, stream_in, weight, work_in}
-use Rattle.walkdir.specs.Walk.{Walking, Ancestor, Item, Order, IsInOrder, IsStreamed, IsWalk, ContentsOf, Tells, WalkOf, WalksOf, around, child_of, enter, place_of, root_device, same_place, taken_for}
+use Rattle.walkdir.specs.Stack.{AreAt, HasLeft, StandsFor, ancestors, held, own_entry, is_skipped, stream_in, weight, work_in}
+use Rattle.walkdir.specs.Walk.{Walking, Ancestor, Item, Order, IsInOrder, IsStreamed, IsWalk, ContentsOf, Tells, WalkOf, WalksOf, around, child_of, enter, is_root_link, place_of, root_device, same_place, taken_for}
 use Rattle.walkdir.specs.declared.builder.Options.{Options}
 use Rattle.walkdir.specs.declared.dent.DirEntry.{DirEntry}
 use Rattle.walkdir.specs.declared.error.Error.{Error}
 use Rattle.walkdir.specs.declared.list.DirList.{DirList}
 use Rattle.walkdir.specs.declared.list.Entering.{Entering}
+use Rattle.walkdir.specs.declared.list.Entering.TheVariants.{Stays, Enters}
 use Rattle.walkdir.specs.declared.list.Items.{Items}
 use Rattle.walkdir.specs.declared.list.Place.{Place}
 use Rattle.walkdir.specs.declared.stack.Found.{Found}
@@ -85,14 +87,19 @@ pub record Puts (old new : List DirList) (index : ℕ) (items : Items) : Type 0 
   pub was : old ≡ outer ++ list ∷ inner
   pub is : new ≡ outer ++ (record list { items = items }) ∷ inner
 
--- A step of a walk: its options stay, its streams remain its own, so many failures are given, and so much more is left to
--- do at most.
+-- what is put into the directory at an index was read of it
+abbrev pub AreOf : List DirList → ℕ → Items → Type 0
+AreOf lists index items = (list : DirList) → list ≡ slice_index_or lists index list → AreAt list.path (index + 1) (held items)
+
+-- A step of a walk: its options stay, its streams remain its own, so many failures are given, no directory is skipped, and
+-- so much more is left to do at most.
 pub record GoesOn (old : Progress) (before given more : ℕ) (new : Progress) (now : ℕ) : Type 0 where
   pub options : new.options ≡ old.options
   pub order : new.order ≡ old.order
   pub start : new.start ≡ old.start
   pub keeps : (streams : Streams) → Keeps streams old → Keeps streams new
   pub faults : FailsByFault old before given new now
+  pub skips : SkipsNone old.stack new.stack
   pub work : (streams : Streams) → Keeps streams old → work_in new.options.max_depth new.streams new.stack ≤ work_in old.options.max_depth old.streams old.stack + more
 
 -- how much a directory of this depth is at most, when it is put on the stack
@@ -136,6 +143,8 @@ pub record Turns (old : Progress) (turn : Turn) (new : Progress) : Type 0 where
   pub entered : old.entered ≡ false → new.entered ≡ is_innermost new.stack (item_of turn)
   pub ends : EndsWell old turn new
   pub causes : CausedWithin new (item_of turn)
+  pub innermost : IsAfter new.options (item_of turn) new.stack
+  pub skips : SkipsNone old.stack new.stack
 
 -- the directory at an index has this stream
 pub record OwnsAt (lists : List DirList) (index dir : ℕ) : Type 0 where
@@ -273,6 +282,12 @@ EntersDirectory state old entry place item new =
     IfSome state (λ s. (walk : Walking) (before : Streams) → walk.tree ≡ tree_of s → walk.options ≡ old.options → walk.order ≡ old.order → Keeps before old
     → (is_dir entry || is_link entry) ≡ true → is_lost item ≡ false → (rest : List Item) → StandsFor walk new.streams new.stack rest
     → StandsEntered walk old entry place (option_to_list item ++ rest))
+
+-- only a directory is entered, or what stands behind a link at the root
+abbrev pub OnlyEnters : DirEntry → Result Entering Error → Type 0
+OnlyEnters entry (Ok (Enters place)) = (is_dir entry || is_root_link entry) ≡ true
+OnlyEnters entry (Ok Stays) = Unit {0}
+OnlyEnters entry (Err error) = Unit {0}
 
 -- where an entry stands that was found behind a link
 pub record IsPlaceOf (walk : Walking) (entry : DirEntry) (place : Place) : Type 0 where

@@ -3,6 +3,7 @@ ghost use Rattle.std.specs.Prelude.{◌≡◌, Bool, true, false, [], None};
 ghost use Rattle.odb_disk.specs.Streams.{Streams};
 ghost use Rattle.walkdir.specs.Filter.{LeavesNoMore};
 ghost use Rattle.walkdir.specs.Failures.{failures_given};
+ghost use Rattle.walkdir.specs.FilteredWalk.{AnswersBy, GivesFiltered};
 ghost use Rattle.walkdir.specs.OnDisk.{NextOn, SkipsOn};
 ghost use Rattle.walkdir.specs.SkipLaws.{SkipDrops, SkipLeaves};
 ghost use Rattle.walkdir.specs.Walk.{Walking};
@@ -104,6 +105,7 @@ impl<'d, D: Disk, W: Steps> OnDisk<'d, D, W> {
     pub fn filter_entry<P: FnMut(&DirEntry) -> bool>(self, predicate: P) -> FilterEntry<Self, P>
         ensures walk { result.walk ≡ self.entry }
         ensures predicate { result.predicate ≡ predicate }
+        ensures gives { (accepts : DirEntry → Bool) → AnswersBy P.FnMut accepts → GivesFiltered D.state D.streams D.faults W.progress P.FnMut accepts result }
     {
         FilterEntry::new(self, predicate)
     }

@@ -20,8 +20,6 @@ mod list;
 mod read;
 mod sort;
 mod stack;
-#[cfg(test)]
-mod tests;
 
 pub use builder::WalkDir;
 pub use dent::{DirEntry, DirEntryExt};

@@ -6,7 +6,7 @@ ghost use Rattle.odb_disk.specs.declared.disk.DiskError.TheVariants.{NoMemory as
 ghost use Rattle.odb_disk.specs.Tree.{tree_of};
 ghost use Rattle.odb_disk.specs.Tree.Follow.{looked};
 ghost use Rattle.odb_base.specs.Path.{is_name};
-ghost use Rattle.walkdir.specs.Error.{no_memory, is_no_memory, is_of_call};
+ghost use Rattle.walkdir.specs.Error.{no_memory, is_no_memory, IsOnPath};
 ghost use Rattle.walkdir.specs.Failures.{Costs, failures_among, failures_by, failures_given, failures_left, failures_of};
 ghost use Rattle.walkdir.specs.Stack.{AreAt, IsAt, held, is_skipped, left_in};
 ghost use Rattle.walkdir.specs.Turns.{Draws, IsDrawn, OnlyFailure, OpensAtMost, OpensContents, ReadInOrder, StreamsAll, left_of, stream_of};
@@ -27,7 +27,7 @@ pub(crate) fn look<D: Disk>(
     path: &PathText,
     follow: bool,
 ) -> Result<Meta>
-    ensures call { IfErr result (λ e. is_of_call e ≡ true) }
+    ensures call { IfErr result (λ e. IsOnPath path.now depth e) }
     ensures told { IfSome (D.state disk.old) (λ s. Tells depth path.now result (told_at depth path.now (looked (tree_of s) path.now follow))) }
     ensures kept { D.state disk.new ≡ D.state disk.old }
     ensures streams { D.streams disk.new ≡ D.streams disk.old }
@@ -48,7 +48,7 @@ pub(crate) fn next_of<D: Disk>(
     depth: usize,
 ) -> Option<Result<DirEntry>>
     ensures draws { Draws depth parent.now (D.streams disk.old) dir result (D.streams disk.new) }
-    ensures at { IfSome result (λ item. IsAt depth item) }
+    ensures at { IfSome result (λ item. IsAt parent.now depth item) }
     ensures kept { D.state disk.new ≡ D.state disk.old }
     ensures cause { Costs (failures_given result) (D.faults disk.old) (D.faults disk.new) }
 {
@@ -70,7 +70,7 @@ pub(crate) fn rest_of<D: Disk>(
     ensures drawn { IsDrawn (D.streams disk.old) dir (D.streams disk.new) }
     ensures streamed { IfOk result (λ items. StreamsAll depth parent.now (D.streams disk.old) dir items.items) }
     ensures few { IfOk result (λ items. length items.items ≤ left_of (D.streams disk.old) dir + 1) }
-    ensures children { IfOk result (λ items. AreAt depth items.items) }
+    ensures children { IfOk result (λ items. AreAt parent.now depth items.items) }
     ensures lost { IfErr result (λ e. is_no_memory e ≡ true) }
     ensures kept { D.state disk.new ≡ D.state disk.old }
     ensures cause { Costs (failures_by (λ items. failures_among items.items) result) (D.faults disk.old) (D.faults disk.new) }
@@ -102,7 +102,7 @@ pub(crate) fn open<D: Disk, S: Sorter>(
     requires { depth < 2 ^ 64 - 1 }
     ensures streams { OpensAtMost (D.streams disk.old) (stream_of result) (D.streams disk.new) }
     ensures bounded { IfOk result (λ items. left_in (D.streams disk.new) items ≤ 2 ^ 64) }
-    ensures children { IfOk result (λ items. AreAt (depth + 1) (held items)) }
+    ensures children { IfOk result (λ items. AreAt path.now (depth + 1) (held items)) }
     ensures contents { OpensContents (D.state disk.old) (option_map S.order sorter.now) path.now depth result (D.streams disk.new) }
     ensures whole { IfOk result (λ items. is_skipped items ≡ false) }
     ensures lost { IfErr result (λ e. is_no_memory e ≡ true) }
@@ -123,7 +123,7 @@ fn unopened(alloc: Global, path: &PathText, depth: usize, error: DiskError) -> R
     ensures held { IfOk result (λ items. OnlyFailure depth path.now error items) }
     ensures refused { IfOk result (λ _. error ≢ out_of_memory) }
     ensures whole { IfOk result (λ items. is_skipped items ≡ false) }
-    ensures children { IfOk result (λ items. AreAt (depth + 1) (held items)) }
+    ensures children { IfOk result (λ items. AreAt path.now (depth + 1) (held items)) }
     ensures lost { IfErr result (λ e. is_no_memory e ≡ true) }
 {
     let error = Error::from_path(alloc, depth, path, error);
@@ -149,7 +149,7 @@ fn sorted<D: Disk, S: Sorter>(
     ensures closed { stream_of result ≡ None }
     ensures whole { IfOk result (λ items. is_skipped items ≡ false) }
     ensures bounded { IfOk result (λ items. length (held items) < 2 ^ 64) }
-    ensures children { IfOk result (λ items. AreAt depth (held items)) }
+    ensures children { IfOk result (λ items. AreAt parent.now depth (held items)) }
     ensures order { IfOk result (λ items. ReadInOrder (S.order sorter.now) depth parent.now (D.streams disk.old) dir items) }
     ensures lost { IfErr result (λ e. is_no_memory e ≡ true) }
     ensures kept { D.state disk.new ≡ D.state disk.old }

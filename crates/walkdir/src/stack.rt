@@ -1,11 +1,12 @@
 //! A walk beside its disk: the directories that it is in, on a stack.
-ghost use Rattle.std.specs.Prelude.{◌≡◌, ℕ, ◌+◌, ◌^◌, ◌<◌, ◌≤◌, ◌&&◌, ◌||◌, true, false, [], Option, Some, None, reverse, length, take, IfOk, IfErr, IfSome, OnOk, OnErr};
+ghost use Rattle.std.specs.Prelude.{◌≡◌, ℕ, ◌+◌, ◌^◌, ◌<◌, ◌≤◌, ◌&&◌, ◌||◌, true, false, [], ◌∷◌, Option, Some, None, reverse, length, take, IfOk, IfErr, IfSome, OnOk, OnErr};
 ghost use Rattle.odb_disk.specs.Streams.{Streams};
-ghost use Rattle.walkdir.specs.Error.{is_no_memory, is_of_call};
+ghost use Rattle.walkdir.specs.Error.{is_no_memory, IsOfEntry, IsOnPath};
 ghost use Rattle.walkdir.specs.Failures.{Costs, failures_by, failures_given, failures_left, failures_of};
 ghost use Rattle.walkdir.specs.Options.{AreBuilt, is_given};
 ghost use Rattle.walkdir.specs.Turns.{turn_given, turn_of};
-ghost use Rattle.walkdir.specs.Stack.{AreAt, HasNothing, IsAt, held, is_skipped, is_sound, left_in, own_streams, stream_in};
+ghost use Rattle.walkdir.specs.Stack.{AreAt, HasNothing, held, is_skipped, is_sound, left_in, own_streams, stream_in};
+ghost use Rattle.walkdir.specs.Within.{LiesIn};
 
 use crate::builder::Options;
 use crate::iter::Steps;
@@ -56,14 +57,16 @@ pub struct Found {
 }
 
 impl<S: Sorter + Drop> Stack<S> {
-    ghost use Rattle.walkdir.specs.Progress.{begun, has_its_streams, is_innermost, FailsByFault, GivesDirectory, GivesNext, IsCausedAmong, Keeps};
+    ghost use Rattle.walkdir.specs.Progress.{begun, has_its_streams, is_innermost, FailsByFault, GivesDirectory, GivesEntered, GivesNext, IsCausedAmong, Keeps};
     ghost use Rattle.walkdir.specs.StackProgress.{progress, KeepsStack};
-    ghost use Rattle.walkdir.specs.Turns.{fresh, given_if, handed, item_of, BeginsWalk, DrawsChild, GoesOn, HandlesEntry, IsUnskipped, LeavesIt, LeavesLess, OpensAtMost, OwnsAt, Puts, StandsAsBefore, TakesWork, Turns, stream_of};
+    ghost use Rattle.walkdir.specs.Innermost.{is_head_skipped, IsAfter, IsFromHead, IsHead};
+    ghost use Rattle.walkdir.specs.Turns.{AreOf, OnlyEnters, fresh, given_if, handed, item_of, BeginsWalk, DrawsChild, GoesOn, HandlesEntry, IsUnskipped, LeavesIt, LeavesLess, OpensAtMost, OwnsAt, Puts, StandsAsBefore, TakesWork, Turns, stream_of};
     ghost use Rattle.walkdir.specs.Turns.{may_enter, standing_at, ChecksLoop, EntersBy, EntersDirectory, FindsPlace, Follows, HasContents, PushesDirectory};
-    ghost use Rattle.walkdir.specs.EnteredTurns.{BeginsTelling, EntersTelling, HandlesTelling, PushesContents};
-    ghost use Rattle.walkdir.specs.Walk.{entering, enters_directory, is_looked_at};
-    ghost use Rattle.walkdir.specs.Entry.{is_link};
+    ghost use Rattle.walkdir.specs.EnteredTurns.{BeginsAbove, BeginsTelling, EntersTelling, HandlesAbove, HandlesTelling, PushesContents};
+    ghost use Rattle.walkdir.specs.Walk.{enter, entering, enters_directory, is_looked_at, is_root_link};
+    ghost use Rattle.walkdir.specs.Entry.{is_dir, is_link};
     ghost use Rattle.walkdir.specs.Stack.{ancestors};
+    ghost use Rattle.walkdir.specs.declared.list.DirList.{DirList};
     ghost use Rattle.std.specs.Option.{option_map};
 
     #[tactic(auto, unfolding(crate::specs::Stack::is_sound, crate::specs::Stack::all_fit))]
@@ -95,6 +98,7 @@ impl<S: Sorter + Drop> Stack<S> {
         ensures turns { Turns (progress S.order self.old (D.streams disk.old)) result (progress S.order self.new (D.streams disk.new)) }
         ensures faults { FailsByFault (progress S.order self.old (D.streams disk.old)) (D.faults disk.old) (failures_given (item_of result)) (progress S.order self.new (D.streams disk.new)) (D.faults disk.new) }
         ensures directory { self.old.entered ≡ false → GivesDirectory (D.state disk.old) (progress S.order self.old (D.streams disk.old)) (item_of result) (progress S.order self.new (D.streams disk.new)) }
+        ensures above { GivesEntered (D.state disk.old) (progress S.order self.old (D.streams disk.old)) (item_of result) (progress S.order self.new (D.streams disk.new)) }
         ensures state { D.state disk.new ≡ D.state disk.old }
     {
         if let Some(root) = self.start.take() {
@@ -119,7 +123,9 @@ impl<S: Sorter + Drop> Stack<S> {
         ensures sorter { self.new.sorter ≡ self.old.sorter }
         ensures entered { self.old.entered ≡ false → self.new.entered ≡ is_innermost (reverse self.new.lists.items) (handed result) }
         ensures state { D.state disk.new ≡ D.state disk.old }
+        ensures innermost { IsAfter self.new.options (handed result) (reverse self.new.lists.items) }
         ensures begins { BeginsWalk (D.state disk.old) (progress S.order self.old (D.streams disk.old)) root (handed result) (progress S.order self.new (D.streams disk.new)) }
+        ensures above { BeginsAbove (D.state disk.old) (progress S.order self.old (D.streams disk.old)) root (handed result) (progress S.order self.new (D.streams disk.new)) }
         ensures directory { self.old.entered ≡ false → BeginsTelling (D.state disk.old) (progress S.order self.old (D.streams disk.old)) root (handed result) (progress S.order self.new (D.streams disk.new)) }
     {
         if self.options.same_file_system {
@@ -133,13 +139,17 @@ impl<S: Sorter + Drop> Stack<S> {
     fn handle<D: Disk>(&mut self, disk: &mut D, entry: DirEntry) -> Result<Option<DirEntry>>
         requires start { self.old.start ≡ None }
         requires depth { entry.depth ≡ length self.old.lists.items }
+        requires parent { LiesIn entry.path (reverse self.old.lists.items) }
+        requires unskipped { is_head_skipped (reverse self.old.lists.items) ≡ false }
         ensures goes { GoesOn (progress S.order self.old (D.streams disk.old)) (D.faults disk.old) (failures_of result) (fresh self.old.options.max_depth (length self.old.lists.items)) (progress S.order self.new (D.streams disk.new)) (D.faults disk.new) }
         ensures causes { IfErr result (λ e. IsCausedAmong self.new.options (ancestors (reverse self.new.lists.items)) e) }
         ensures sorter { self.new.sorter ≡ self.old.sorter }
         ensures entered { self.old.entered ≡ false → self.new.entered ≡ is_innermost (reverse self.new.lists.items) (handed result) }
         ensures state { D.state disk.new ≡ D.state disk.old }
         ensures device { self.new.root_device ≡ self.old.root_device }
+        ensures innermost { IsAfter self.new.options (handed result) (reverse self.new.lists.items) }
         ensures walks { HandlesEntry (D.state disk.old) (progress S.order self.old (D.streams disk.old)) entry (handed result) (progress S.order self.new (D.streams disk.new)) }
+        ensures above { HandlesAbove (D.state disk.old) (progress S.order self.old (D.streams disk.old)) entry (handed result) (progress S.order self.new (D.streams disk.new)) }
         ensures directory { self.old.entered ≡ false → HandlesTelling (D.state disk.old) (progress S.order self.old (D.streams disk.old)) (handed result) (progress S.order self.new (D.streams disk.new)) }
     {
         let found = self.followed(disk, entry)?;
@@ -151,7 +161,8 @@ impl<S: Sorter + Drop> Stack<S> {
 
     /// The entry itself, or what stands behind it where it is a link that is followed.
     fn followed<D: Disk>(&self, disk: &mut D, entry: DirEntry) -> Result<Found>
-        ensures depth { IfOk result (λ found. found.entry.depth ≡ entry.depth) }
+        ensures same { IfOk result (λ found. (found.entry.depth ≡ entry.depth) × (found.entry.path ≡ entry.path)) }
+        ensures place { IfErr result (λ e. IsOfEntry entry.path entry.depth e) }
         ensures follows { Follows (D.state disk.old) self.now.options (ancestors (reverse self.now.lists.items)) entry result }
         ensures looks { IfErr result (λ _. (self.now.options.follow_links && is_link entry) ≡ true) }
         ensures causes { IfErr result (λ e. IsCausedAmong self.now.options (ancestors (reverse self.now.lists.items)) e) }
@@ -188,7 +199,8 @@ impl<S: Sorter + Drop> Stack<S> {
     fn entering<D: Disk>(&self, disk: &mut D, found: &Found) -> Result<Entering>
         ensures enters { EntersBy entering (D.state disk.old) self.now.options self.now.root_device found.now result }
         ensures looks { IfErr result (λ _. is_looked_at self.now.options found.now.entry ≡ true) }
-        ensures call { IfErr result (λ e. is_of_call e ≡ true) }
+        ensures kind { OnlyEnters found.now.entry result }
+        ensures call { IfErr result (λ e. IsOnPath found.now.entry.path found.now.entry.depth e) }
         ensures streams { D.streams disk.new ≡ D.streams disk.old }
         ensures state { D.state disk.new ≡ D.state disk.old }
         ensures cause { Costs (failures_of result) (D.faults disk.old) (D.faults disk.new) }
@@ -212,7 +224,7 @@ impl<S: Sorter + Drop> Stack<S> {
     fn entering_directory<D: Disk>(&self, disk: &mut D, found: &Found) -> Result<Entering>
         ensures enters { EntersBy enters_directory (D.state disk.old) self.now.options self.now.root_device found.now result }
         ensures looks { IfErr result (λ _. (self.now.options.follow_links || self.now.options.same_file_system) ≡ true) }
-        ensures call { IfErr result (λ e. is_of_call e ≡ true) }
+        ensures call { IfErr result (λ e. IsOnPath found.now.entry.path found.now.entry.depth e) }
         ensures streams { D.streams disk.new ≡ D.streams disk.old }
         ensures state { D.state disk.new ≡ D.state disk.old }
         ensures cause { Costs (failures_of result) (D.faults disk.old) (D.faults disk.new) }
@@ -229,7 +241,7 @@ impl<S: Sorter + Drop> Stack<S> {
     fn place_of<D: Disk>(&self, disk: &mut D, found: &Found) -> Result<Option<Place>>
         ensures place { FindsPlace (D.state disk.old) self.now.options found.now result }
         ensures looks { IfErr result (λ _. (self.now.options.follow_links || self.now.options.same_file_system) ≡ true) }
-        ensures call { IfErr result (λ e. is_of_call e ≡ true) }
+        ensures call { IfErr result (λ e. IsOnPath found.now.entry.path found.now.entry.depth e) }
         ensures streams { D.streams disk.new ≡ D.streams disk.old }
         ensures state { D.state disk.new ≡ D.state disk.old }
         ensures cause { Costs (failures_of result) (D.faults disk.old) (D.faults disk.new) }
@@ -267,12 +279,15 @@ impl<S: Sorter + Drop> Stack<S> {
     ) -> Result<Option<DirEntry>>
         requires start { self.old.start ≡ None }
         requires depth { entry.depth ≡ length self.old.lists.items }
+        requires parent { LiesIn entry.path (reverse self.old.lists.items) }
         ensures goes { GoesOn (progress S.order self.old (D.streams disk.old)) (D.faults disk.old) (failures_of result) (fresh self.old.options.max_depth (length self.old.lists.items)) (progress S.order self.new (D.streams disk.new)) (D.faults disk.new) }
-        ensures call { IfErr result (λ e. is_of_call e ≡ true) }
+        ensures lost { IfErr result (λ e. is_no_memory e ≡ true) }
         ensures sorter { self.new.sorter ≡ self.old.sorter }
         ensures entered { self.old.entered ≡ false → self.new.entered ≡ is_innermost (reverse self.new.lists.items) (handed result) }
         ensures state { D.state disk.new ≡ D.state disk.old }
         ensures device { self.new.root_device ≡ self.old.root_device }
+        ensures innermost { (is_dir entry || is_root_link entry) ≡ true → IsAfter self.new.options (handed result) (reverse self.new.lists.items) }
+        ensures above { OnOk result (ancestors (reverse self.new.lists.items) ≡ enter entry place (ancestors (reverse self.old.lists.items))) }
         ensures enters { EntersDirectory (D.state disk.old) (progress S.order self.old (D.streams disk.old)) entry place (handed result) (progress S.order self.new (D.streams disk.new)) }
         ensures directory { EntersTelling (D.state disk.old) (progress S.order self.old (D.streams disk.old)) entry place (handed result) (progress S.order self.new (D.streams disk.new)) }
     {
@@ -300,7 +315,9 @@ impl<S: Sorter + Drop> Stack<S> {
     ) -> Result<()>
         requires start { self.old.start ≡ None }
         requires depth { depth ≡ length self.old.lists.items }
-        requires after { IfSome after (λ entry. (entry.depth ≡ depth) × (self.old.options.contents_first ≡ true)) }
+        requires parent { LiesIn path (reverse self.old.lists.items) }
+        requires after { IfSome after (λ entry. (entry.depth ≡ depth) × (is_dir entry ≡ true) × (self.old.options.contents_first ≡ true)) }
+        requires own { IfSome after (λ entry. entry.path ≡ path) }
         ensures goes { GoesOn (progress S.order self.old (D.streams disk.old)) (D.faults disk.old) (0) (fresh self.old.options.max_depth (length self.old.lists.items)) (progress S.order self.new (D.streams disk.new)) (D.faults disk.new) }
         ensures lost { IfErr result (λ e. is_no_memory e ≡ true) }
         ensures count { OnOk result (length self.new.lists.items ≡ length self.old.lists.items + 1) }
@@ -308,6 +325,8 @@ impl<S: Sorter + Drop> Stack<S> {
         ensures entered { self.new.entered ≡ self.old.entered }
         ensures state { D.state disk.new ≡ D.state disk.old }
         ensures device { self.new.root_device ≡ self.old.root_device }
+        ensures head { OnOk result (IsHead path depth (reverse self.new.lists.items) × (is_head_skipped (reverse self.new.lists.items) ≡ false)) }
+        ensures above { OnOk result (ancestors (reverse self.new.lists.items) ≡ record { path = path; place = place } ∷ ancestors (reverse self.old.lists.items)) }
         ensures pushes { OnOk result (PushesDirectory (D.state disk.old) (progress S.order self.old (D.streams disk.old)) path depth place after (progress S.order self.new (D.streams disk.new))) }
         ensures holds { OnOk result (PushesContents (D.state disk.old) (progress S.order self.old (D.streams disk.old)) path depth place (progress S.order self.new (D.streams disk.new))) }
     {
@@ -332,7 +351,7 @@ impl<S: Sorter + Drop> Stack<S> {
     fn contents<D: Disk>(&self, disk: &mut D, path: &PathText, depth: usize) -> Result<Items>
         ensures streams { OpensAtMost (D.streams disk.old) (stream_of result) (D.streams disk.new) }
         ensures bounded { IfOk result (λ items. left_in (D.streams disk.new) items ≤ 2 ^ 64) }
-        ensures children { IfOk result (λ items. AreAt (depth + 1) (held items)) }
+        ensures children { IfOk result (λ items. AreAt path.now (depth + 1) (held items)) }
         ensures deepest { IfOk result (λ items. self.now.options.max_depth ≤ depth → HasNothing items) }
         ensures contents { HasContents (D.state disk.old) (option_map S.order self.now.sorter) self.now.options path.now depth result (D.streams disk.new) }
         ensures whole { IfOk result (λ items. is_skipped items ≡ false) }
@@ -389,7 +408,7 @@ impl<S: Sorter + Drop> Stack<S> {
     fn put(&mut self, index: usize, items: Items)
         requires index { index < length self.old.lists.items }
         requires none { stream_in items ≡ None }
-        requires children { AreAt (index + 1) (held items) }
+        requires children { AreOf self.old.lists.items index items }
         requires deepest { self.old.options.max_depth ≤ index → held items ≡ [] }
         ensures lists { Puts self.old.lists.items self.new.lists.items index items }
         ensures kept { KeepsStack self.old self.new }
@@ -403,7 +422,7 @@ impl<S: Sorter + Drop> Stack<S> {
         requires { index + 1 ≡ length self.old.lists.items }
         ensures goes { GoesOn (progress S.order self.old (D.streams disk.old)) (D.faults disk.old) (failures_given result) (0) (progress S.order self.new (D.streams disk.new)) (D.faults disk.new) }
         ensures kept { KeepsStack self.old self.new }
-        ensures depth { IfSome result (λ item. IsAt (index + 1) item) }
+        ensures from { IfSome result (λ item. IsFromHead (reverse self.new.lists.items) item) }
         ensures less { IfSome result (λ _. (index < self.old.options.max_depth) × ((before : Streams) → Keeps before (progress S.order self.old (D.streams disk.old)) → TakesWork (progress S.order self.old (D.streams disk.old)) (progress S.order self.new (D.streams disk.new)) index)) }
         ensures state { D.state disk.new ≡ D.state disk.old }
         ensures draws { DrawsChild (progress S.order self.old (D.streams disk.old)) result (progress S.order self.new (D.streams disk.new)) }
@@ -426,7 +445,7 @@ impl<S: Sorter + Drop> Stack<S> {
         requires dir { OwnsAt self.old.lists.items index dir }
         ensures goes { GoesOn (progress S.order self.old (D.streams disk.old)) (D.faults disk.old) (failures_given result) (0) (progress S.order self.new (D.streams disk.new)) (D.faults disk.new) }
         ensures kept { KeepsStack self.old self.new }
-        ensures depth { IfSome result (λ item. IsAt (index + 1) item) }
+        ensures from { IfSome result (λ item. IsFromHead (reverse self.new.lists.items) item) }
         ensures less { IfSome result (λ _. (index < self.old.options.max_depth) × ((before : Streams) → Keeps before (progress S.order self.old (D.streams disk.old)) → TakesWork (progress S.order self.old (D.streams disk.old)) (progress S.order self.new (D.streams disk.new)) index)) }
         ensures state { D.state disk.new ≡ D.state disk.old }
         ensures draws { DrawsChild (progress S.order self.old (D.streams disk.old)) result (progress S.order self.new (D.streams disk.new)) }
@@ -450,11 +469,13 @@ impl<S: Sorter + Drop> Stack<S> {
         ensures entered { self.new.entered ≡ self.old.entered }
         ensures depth { IfSome result (λ entry. entry.depth ≡ length self.new.lists.items) }
         ensures first { IfSome result (λ _. self.old.options.contents_first ≡ true) }
+        ensures own { IfSome result (λ entry. (is_dir entry ≡ true) × LiesIn entry.path (reverse self.new.lists.items)) }
         ensures count { length self.new.lists.items + 1 ≡ length self.old.lists.items }
         ensures faults { D.faults disk.new ≡ D.faults disk.old }
         ensures less { (before : Streams) → Keeps before (progress S.order self.old (D.streams disk.old)) → LeavesLess (progress S.order self.old (D.streams disk.old)) (progress S.order self.new (D.streams disk.new)) }
         ensures state { D.state disk.new ≡ D.state disk.old }
         ensures device { self.new.root_device ≡ self.old.root_device }
+        ensures above { (list : DirList) × (reverse self.old.lists.items ≡ list ∷ reverse self.new.lists.items) }
         ensures leaves { LeavesIt (progress S.order self.old (D.streams disk.old)) result (progress S.order self.new (D.streams disk.new)) }
     {
         let list = self.lists.pop()?;

@@ -17,12 +17,14 @@ use Rattle.walkdir.specs.Options.{Built, default_options}
 use Rattle.walkdir.specs.Sorted.{by_key}
 use Rattle.walkdir.specs.Error.{is_no_memory}
 use Rattle.walkdir.specs.OwnStreams.{AreBack}
-use Rattle.walkdir.specs.Walk.{Order, Walking, told_at}
+use Rattle.walkdir.specs.FilteredWalk.{BeginsFiltered, HasNotBegun, NoneLost}
+use Rattle.walkdir.specs.Progress.{Progress, begun}
+use Rattle.walkdir.specs.Walk.{Item, Order, Walking, told_at}
 use Rattle.walkdir.specs.declared.error.Error.{Error}
 use Rattle.odb_disk.specs.Streams.{Streams}
 use Rattle.walkdir.specs.declared.builder.Options.{Options}
 use Rattle.walkdir.specs.declared.dent.DirEntry.{DirEntry}
-use Rattle.walkdir_uses.specs.Found.{ComesFirst, below, inside, is_file, is_hidden, length_of, size_at, total_size, visible_names}
+use Rattle.walkdir_uses.specs.Found.{ComesFirst, EndsWith, IsStoppedIn, below, inside, is_file, is_hidden, length_of, size_at, total_size, visible_names}
 
 -- one item more is given
 pub yields_more : {S A : Type 0} (steps : S → Option A → S → Type 0) (s : S) (xs : List A) (t : S) (x : A) (u : S) → Yields steps s xs t → steps t (Some x) u → Yields steps s (xs ++ x ∷ []) u
@@ -38,9 +40,29 @@ pub if_ok_then : {A E : Type 0} (result : Result A E) (First Second : A → Type
 if_ok_then (Ok x) First Second first further = further x first
 if_ok_then (Err e) First Second first further = tt
 
+pub if_err_then : {A E : Type 0} (result : Result A E) (First Second : E → Type 0) → IfErr result First → ((e : E) → First e → Second e) → IfErr result Second
+if_err_then (Ok x) First Second first further = tt
+if_err_then (Err e) First Second first further = further e first
+
 pub lost_or_first : (walk : Walking) (error : Error) (lost : Bool) → is_no_memory error ≡ lost → (is_no_memory error ≡ false → ComesFirst walk error) → (is_no_memory error ≡ true) ⊎ ComesFirst walk error
 lost_or_first walk error true is first = inl is
 lost_or_first walk error false is first = inr (first is)
+
+-- ---- what stops a filtered walk
+
+none_lost : (entries : List DirEntry) (error : Error) → is_no_memory error ≡ false → NoneLost (map Ok entries ++ Err error ∷ [])
+none_lost [] error some = (some, tt)
+none_lost (entry ∷ entries) error some = (refl, none_lost entries error some)
+
+pub stopped_in : (walk : Walking) (accepts : DirEntry → Bool) (error : Error) (lost : Bool) → is_no_memory error ≡ lost → (items : List Item)
+    → (is_no_memory error ≡ true) ⊎ EndsWith items error → (NoneLost items → BeginsFiltered walk accepts items) → IsStoppedIn walk accepts error
+stopped_in walk accepts error true is items ends begins = inl is
+stopped_in walk accepts error false is items (inl gone) begins = inl gone
+stopped_in walk accepts error false is items (inr ends) begins =
+    inr (ends.0, subst (λ (l : List Item). BeginsFiltered walk accepts l) ends.1 (begins (subst NoneLost (sym ends.1) (none_lost ends.0 error is))))
+
+pub begun_unbegun : {S : Type 0} (order : S → Order) (built : Built S) (before : Streams) (tree : Tree) (at : Progress) → at ≡ begun order built before → HasNotBegun (walking order tree built) at
+begun_unbegun order built before tree at is = subst (HasNotBegun (walking order tree built)) (sym is) (record { options = refl; order = refl; start = refl; stack = refl })
 
 -- a walk with the default options
 pub back_default : (before now : Streams) (options : Options) → options ≡ default_options → AreBack before options.max_open now → AreBack before default_options.max_open now

@@ -9,6 +9,7 @@ use Rattle.odb_disk.specs.declared.disk.Kind.TheVariants.{File, Dir, Link}
 use Rattle.odb_disk.specs.declared.disk.Meta.{Meta}
 use Rattle.walkdir.specs.Entry.{file_name_of}
 use Rattle.walkdir.specs.Error.{is_no_memory}
+use Rattle.walkdir.specs.FilteredWalk.{BeginsFiltered}
 use Rattle.walkdir.specs.Options.{default_options}
 use Rattle.walkdir.specs.Sorted.{all_equal, by_key}
 use Rattle.walkdir.specs.Walk.{Walking, Item, IsWalk, Order, Tells, told_at}
@@ -45,6 +46,14 @@ ComesFirst walk error = (entries : List DirEntry) × (rest : List Item) × IsWal
 abbrev pub IsStoppedBy : Walking → Error → Type 0
 IsStoppedBy walk error = (is_no_memory error ≡ true) ⊎ ComesFirst walk error
 
+-- What a filter leaves of what a walk gave first: entries alone, and then this error.
+abbrev pub ComesFirstOf : Walking → (DirEntry → Bool) → Error → Type 0
+ComesFirstOf walk accepts error = (entries : List DirEntry) × BeginsFiltered walk accepts (map Ok entries ++ Err error ∷ [])
+
+-- a call that walks with a filter stops so: for want of memory, or at the first error that is left
+abbrev pub IsStoppedIn : Walking → (DirEntry → Bool) → Error → Type 0
+IsStoppedIn walk accepts error = (is_no_memory error ≡ true) ⊎ ComesFirstOf walk accepts error
+
 -- entries alone, and then this error
 abbrev pub EndsWith : List Item → Error → Type 0
 EndsWith items error = (entries : List DirEntry) × (items ≡ map Ok entries ++ Err error ∷ [])
@@ -70,11 +79,14 @@ length_of (Some meta) = meta.len
 abbrev pub size_at : Tree → DirEntry → ℕ
 size_at tree entry = length_of (result_ok (looked tree entry.path entry.followed))
 
+-- this error is what a look at the path of a file among entries tells
+abbrev pub IsRefusedAmong : Tree → List DirEntry → Error → Type 0
+IsRefusedAmong tree entries error =
+    (entry : DirEntry) × Contains (filter is_file entries) entry × Tells entry.depth entry.path (Err error) (told_at entry.depth entry.path (looked tree entry.path entry.followed))
+
 -- a walk gives entries and no error, and this error is what a look at the path of a file among them tells
 abbrev pub IsRefusedLook : Walking → Error → Type 0
-IsRefusedLook walk error =
-    FoundIn walk (λ entries. (entry : DirEntry) × Contains (filter is_file entries) entry
-    × Tells entry.depth entry.path (Err error) (told_at entry.depth entry.path (looked walk.tree entry.path entry.followed)))
+IsRefusedLook walk error = FoundIn walk (λ entries. IsRefusedAmong walk.tree entries error)
 
 -- the lengths of the files among entries, added up, and at most the greatest number of 64 bits
 abbrev pub total_size : Tree → List DirEntry → ℕ

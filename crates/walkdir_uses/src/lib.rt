@@ -17,12 +17,9 @@ ghost use Rattle.walkdir.specs.Progress.{FailsByFault, Keeps, begun, has_its_str
 ghost use Rattle.walkdir.specs.declared.sort.NoSort.{NoSort};
 ghost use Rattle.walkdir.specs.StackProgress.{progress};
 ghost use Rattle.walkdir.specs.Walk.{IsWalk, Item};
-ghost use Rattle.walkdir_uses.specs.Found.{AreOnly, EndsWith, FoundIn, IsRefusedLook, IsStoppedBy, as_given, below, inside, is_visible, paths_of_files, total_size, visible_names};
+ghost use Rattle.walkdir_uses.specs.Found.{AreOnly, EndsWith, FoundIn, IsRefusedAmong, IsRefusedLook, IsStoppedBy, IsStoppedIn, as_given, below, inside, is_visible, paths_of_files, total_size, visible_names};
 
-#[cfg(test)]
-mod tests;
-
-use std::alloc::Global;
+use std::alloc::{AllocError, Global};
 use walkdir::{DirEntry, Disk, IntoIter, Kind, NoSort, PathText, Result, Sorter, Walk, WalkDir};
 
 /// All entries of a walk, or its first error. They are the same however many directories may be open.
@@ -53,8 +50,16 @@ pub fn files_below<D: Disk>(alloc: Global, disk: &mut D, folder: &PathText) -> R
     ensures state { D.state disk.new ≡ D.state disk.old }
     ensures back { AreBack (D.streams disk.old) default_options.max_open (D.streams disk.new) }
 {
+    let entries = entries_of(alloc, disk, WalkDir::new(alloc, folder)?)?;
+    Ok(files_of(alloc, entries)?)
+}
+
+/// The paths of the files among entries.
+fn files_of(alloc: Global, entries: Vec<DirEntry>) -> std::result::Result<Vec<PathText>, AllocError>
+    ensures paths { IfOk result (λ paths. paths.items ≡ paths_of_files entries.items) }
+{
     let mut paths = Vec::new(alloc);
-    for entry in entries_of(alloc, disk, WalkDir::new(alloc, folder)?)? {
+    for entry in entries {
         if entry.file_type() == Kind::File {
             paths.push(entry.into_path())?;
         }
@@ -70,8 +75,20 @@ pub fn size_below<D: Disk>(alloc: Global, disk: &mut D, folder: &PathText) -> Re
     ensures state { D.state disk.new ≡ D.state disk.old }
     ensures back { AreBack (D.streams disk.old) default_options.max_open (D.streams disk.new) }
 {
+    let entries = entries_of(alloc, disk, WalkDir::new(alloc, folder)?)?;
+    total_of(alloc, disk, entries)
+}
+
+/// The sizes of the files among entries, added up, or the greatest `u64` where that is more.
+fn total_of<D: Disk>(alloc: Global, disk: &mut D, entries: Vec<DirEntry>) -> Result<u64>
+    ensures size { IfSome (D.state disk.old) (λ s. IfOk result (λ size. size ≡ total_size (tree_of s) entries.items)) }
+    ensures refused { IfSome (D.state disk.old) (λ s. IfErr result (IsRefusedAmong (tree_of s) entries.items)) }
+    ensures cost { Costs (failures_of result) (D.faults disk.old) (D.faults disk.new) }
+    ensures state { D.state disk.new ≡ D.state disk.old }
+    ensures streams { D.streams disk.new ≡ D.streams disk.old }
+{
     let mut size = 0u64;
-    for entry in entries_of(alloc, disk, WalkDir::new(alloc, folder)?)? {
+    for entry in entries {
         if entry.file_type() == Kind::File {
             size = size.saturating_add(entry.metadata(alloc, disk)?.len);
         }
@@ -95,8 +112,19 @@ pub fn visible_names_in<D: Disk>(
         .max_depth(1)
         .min_depth(1)
         .sort_by_file_name();
+    let entries = entries_of(alloc, disk, walk)?;
+    Ok(visible_names_of(alloc, entries)?)
+}
+
+/// The names of entries, without those that begin with a dot.
+fn visible_names_of(
+    alloc: Global,
+    entries: Vec<DirEntry>,
+) -> std::result::Result<Vec<String>, AllocError>
+    ensures names { IfOk result (λ names. map (λ name. name.bytes.items) names.items ≡ visible_names entries.items) }
+{
     let mut names = Vec::new(alloc);
-    for entry in entries_of(alloc, disk, walk)? {
+    for entry in entries {
         if !entry.file_name().starts_with('.') {
             names.push(String::from_str(alloc, entry.file_name())?)?;
         }
@@ -133,6 +161,7 @@ fn visible_of<'d, D: Disk>(
 ) -> IntoIter<'d, D, NoSort>
     requires can { has_its_streams (progress as_given walk.walk (D.streams walk.disk.now)) ≡ true }
     ensures entries { (built : Built NoSort) (before : Streams) → progress as_given walk.entry.walk (D.streams walk.entry.disk.now) ≡ begun as_given built before → IfSome (D.state walk.entry.disk.now) (λ s. IfOk found.new (λ entries. IsFilteredWalk (walking as_given (tree_of s) built) is_visible (map Ok entries.items))) }
+    ensures first { (built : Built NoSort) (before : Streams) → progress as_given walk.entry.walk (D.streams walk.entry.disk.now) ≡ begun as_given built before → IfSome (D.state walk.entry.disk.now) (λ s. IfErr found.new (IsStoppedIn (walking as_given (tree_of s) built) is_visible)) }
     ensures disk { result.disk.ghost_name ≡ walk.entry.disk.ghost_name }
     ensures visible { IfOk found.new (λ entries. All (λ entry. is_visible entry ≡ true) entries.items) }
     ensures state { D.state result.disk.now ≡ D.state walk.entry.disk.now }
@@ -153,6 +182,7 @@ pub fn visible_below<D: Disk>(
     folder: &PathText,
 ) -> Result<Vec<DirEntry>>
     ensures entries { IfSome (D.state disk.old) (λ s. IfOk result (λ entries. IsFilteredWalk (below (tree_of s) folder.now) is_visible (map Ok entries.items))) }
+    ensures first { IfSome (D.state disk.old) (λ s. IfErr result (IsStoppedIn (below (tree_of s) folder.now) is_visible)) }
     ensures visible { IfOk result (λ entries. All (λ entry. is_visible entry ≡ true) entries.items) }
     ensures cost { Costs (failures_of result) (D.faults disk.old) (D.faults disk.new) }
     ensures state { D.state disk.new ≡ D.state disk.old }

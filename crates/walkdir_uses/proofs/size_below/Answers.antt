@@ -1,77 +1,37 @@
-use Rattle.std.proofs.Common.{rules, ◌≡◌, ◌++◌, ◌∷◌, [], map, Ok, Err, Global, inr, sym, ap, subst, ◌∙◌}
-use Rattle.std.specs.List.{Contains, filter}
-use Rattle.std.specs.Prelude.{IfSome}
+use Rattle.std.proofs.Common.{◌≡◌, map, Ok, Err, inr, ap, subst, ◌∙◌}
+use Rattle.std.specs.Prelude.{IfErr, IfOk, IfSome}
 use Rattle.odb_disk.specs.Tree.{tree_of}
-use Rattle.std.specs.declared.vec.IntoIter.{IntoIter}
-use Rattle.odb_disk.specs.Tree.Follow.{looked}
-use Rattle.odb_disk.specs.declared.disk.Meta.{Meta}
 use Rattle.walkdir.specs.BuiltWalk.{walking}
-use Rattle.walkdir.specs.Error.{failures}
-use Rattle.walkdir.specs.declared.dent.DirEntry.{DirEntry}
+use Rattle.walkdir.specs.Failures.{failures_of}
+use Rattle.walkdir.specs.Walk.{IsWalk}
 use Rattle.walkdir.proofs.WholeWalks.{if_told}
-use Rattle.walkdir.specs.Walk.{IsWalk, Tells, told_at}
-use Rattle.walkdir_uses.proofs.CostLemmas.{costs_earlier, costs_later, costs_nothing, costs_of_error}
-use Rattle.walkdir_uses.proofs.FoundLemmas.{all_taken, if_err, passes_among, size_file, size_other, walks_below}
-use Rattle.walkdir_uses.specs.Found.{as_given, below, is_file, total_size}
+use Rattle.walkdir_uses.proofs.CostLemmas.{costs_earlier}
+use Rattle.walkdir_uses.proofs.FoundLemmas.{if_err_then, if_ok_then, walks_below}
+use Rattle.walkdir_uses.specs.Found.{IsRefusedAmong, as_given, below, total_size}
 use Rattle.walkdir_uses.proofs.size_below.Goals as goal
-use Rattle.walkdir_uses.proofs.size_below.Goals.{then-eq+in_ok-metadata, else-eq}
 
-pub loop-entry-preserved : goal.loop-entry-preserved
-loop-entry-preserved g c =
-    let entry = c.in-Some.entry in
-    let entries = c.loop-entry.yielded in
-    elim c.if-eq.branch [
-      | then-eq+in_ok-metadata w ↦ record {
-        kept = search rules;
-        back = search rules;
-        later = (let more = costs_later 0 _ _ _ (costs_nothing _ _ c.loop-entry.invariant.later) w.in_ok-metadata.ensures.cause.later in let most = more.later in search rules);
-        size = if_told (g.D.Disk.state c.args.disk.now) (λ s. c.if-eq.size ≡ total_size (tree_of s) (entries ++ entry ∷ [])) (λ s told.
-            w.size-is ∙ w.saturating_add-size.ensures
-            ∙ size_file (tree_of s) entries entry w.in_ok-metadata.field-0 c.loop-entry.size (search rules)
-            (subst (λ o. IfSome o (λ x. Tells entry.depth entry.path (Ok w.in_ok-metadata.field-0) (told_at entry.depth entry.path (looked (tree_of x) entry.path entry.followed)))) (c.loop-entry.invariant.kept ∙ told)
-            w.in_ok-metadata.ensures.told)
-            (subst (λ o. IfSome o (λ x. c.loop-entry.size ≡ total_size (tree_of x) entries)) told c.loop-entry.invariant.size));
-      }
-      | else-eq w ↦ record {
-        kept = search rules;
-        back = search rules;
-        later = search rules;
-        size = if_told (g.D.Disk.state c.args.disk.now) (λ s. c.if-eq.size ≡ total_size (tree_of s) (entries ++ entry ∷ [])) (λ s told.
-            w.size-is
-            ∙ size_other (tree_of s) entries entry c.loop-entry.size (search rules)
-            (subst (λ o. IfSome o (λ x. c.loop-entry.size ≡ total_size (tree_of x) entries)) told c.loop-entry.invariant.size));
-      }
-    ]
-
-pub returns-clause-cost : goal.returns-clause-cost
-returns-clause-cost g c = costs_nothing _ _ c.loop-entry.invariant.later
-
--- a look that is refused has its failure by a fault
-pub returns-in_err-metadata-clause-cost : goal.returns-in_err-metadata-clause-cost
-returns-in_err-metadata-clause-cost g c =
-    let error = c.in_err-metadata.field-0.0 in
-    costs_of_error c.from_residual-in_err-metadata.result error _ _ c.from_residual-in_err-metadata.ensures.1 (costs_earlier (failures error) _ _ _ c.loop-entry.invariant.later c.in_err-metadata.ensures.cause)
-
--- it is a look at a file of the walk
-pub returns-in_err-metadata-clause-first : goal.returns-in_err-metadata-clause-first
-returns-in_err-metadata-clause-first g c =
-    let error = c.in_err-metadata.field-0.0 in
-    let entries = c.in_ok-entry-items.entry-items.items in
-    let entry = c.in-Some.entry in
+pub returns-clause-size : goal.returns-clause-size
+returns-clause-size g c =
+    let entries = c.in_ok-entries.entries.items in
     let built = c.in_ok-new.field-0 in
-    let taken = all_taken (λ (i : IntoIter DirEntry Global). i.rest.items) (λ (i : IntoIter DirEntry Global). i.rest.len) c.into_iter-entry-iterator.result c.loop-entry.yielded
-    c.loop-entry.entry-iterator c.loop-entry.yielded_by in
-    let split : entries ≡ c.loop-entry.yielded ++ entry ∷ c.next.new.self.rest.items =
-    sym c.into_iter-entry-iterator.ensures.into_iter_gives.0 ∙ taken ∙ ap (λ rest. c.loop-entry.yielded ++ rest) c.in-Some.ensures.steps.0 in
-    let among : Contains (filter is_file entries) entry =
-    subst (λ xs. Contains (filter is_file xs) entry) (sym split) (passes_among is_file c.loop-entry.yielded entry c.next.new.self.rest.items (search rules)) in
     if_told (g.D.Disk.state c.args.disk.now) _ (λ s told.
     let walked : IsWalk (walking as_given (tree_of s) built) (map Ok entries) =
-    subst (λ o. IfSome o (λ x. IsWalk (walking as_given (tree_of x) built) (map Ok entries))) told c.in_ok-entry-items.ensures.entries in
-    let same : walking as_given (tree_of s) built ≡ below (tree_of s) c.args.folder.now =
-    walks_below as_given built c.args.folder.now (tree_of s) c.in_ok-new.ensures.root c.in_ok-new.ensures.options c.in_ok-new.ensures.sorter in
-    let tells : Tells {A = Meta} entry.depth entry.path (Err error) (told_at entry.depth entry.path (looked (tree_of s) entry.path entry.followed)) =
-    subst (λ o. IfSome o (λ x. Tells {A = Meta} entry.depth entry.path (Err error) (told_at entry.depth entry.path (looked (tree_of x) entry.path entry.followed)))) (c.loop-entry.invariant.kept ∙ told)
-    c.in_err-metadata.ensures.told in
-    if_err c.from_residual-in_err-metadata.result error _ c.from_residual-in_err-metadata.ensures.1
-    (inr (entries, subst (λ walk. IsWalk walk (map Ok entries)) same walked, (entry, among, tells))))
+    subst (λ o. IfSome o (λ x. IsWalk (walking as_given (tree_of x) built) (map Ok entries))) told c.in_ok-entries.ensures.entries in
+    let same = walks_below as_given built c.args.folder.now (tree_of s) c.in_ok-new.ensures.root c.in_ok-new.ensures.options c.in_ok-new.ensures.sorter in
+    let sized = subst (λ o. IfSome o (λ x. IfOk c.total_of.result (λ size. size ≡ total_size (tree_of x) entries))) (c.in_ok-entries.ensures.state ∙ told) c.total_of.ensures.size in
+    if_ok_then c.total_of.result _ _ sized (λ size is. (entries, subst (λ walk. IsWalk walk (map Ok entries)) same walked, is)))
+
+-- it is a look at a file of the walk
+pub returns-clause-first : goal.returns-clause-first
+returns-clause-first g c =
+    let entries = c.in_ok-entries.entries.items in
+    let built = c.in_ok-new.field-0 in
+    if_told (g.D.Disk.state c.args.disk.now) _ (λ s told.
+    let walked : IsWalk (walking as_given (tree_of s) built) (map Ok entries) =
+    subst (λ o. IfSome o (λ x. IsWalk (walking as_given (tree_of x) built) (map Ok entries))) told c.in_ok-entries.ensures.entries in
+    let same = walks_below as_given built c.args.folder.now (tree_of s) c.in_ok-new.ensures.root c.in_ok-new.ensures.options c.in_ok-new.ensures.sorter in
+    let refused = subst (λ o. IfSome o (λ x. IfErr c.total_of.result (IsRefusedAmong (tree_of x) entries))) (c.in_ok-entries.ensures.state ∙ told) c.total_of.ensures.refused in
+    if_err_then c.total_of.result _ _ refused (λ error is. inr (entries, subst (λ walk. IsWalk walk (map Ok entries)) same walked, is)))
+
+pub returns-clause-cost : goal.returns-clause-cost
+returns-clause-cost g c = costs_earlier (failures_of c.total_of.result) _ _ _ c.in_ok-entries.ensures.cost.later c.total_of.ensures.cost

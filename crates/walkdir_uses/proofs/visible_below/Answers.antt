@@ -1,5 +1,5 @@
 use Rattle.std.proofs.Common.{map, Ok, ap, subst, ◌∙◌, rules}
-use Rattle.std.specs.Prelude.{IfOk, IfSome}
+use Rattle.std.specs.Prelude.{IfErr, IfOk, IfSome}
 use Rattle.odb_disk.specs.Tree.{tree_of}
 use Rattle.walkdir.proofs.FilteredWalks.{Kept, filtered_back}
 use Rattle.walkdir.proofs.WholeWalks.{if_told}
@@ -11,7 +11,7 @@ use Rattle.walkdir.specs.StackProgress.{progress}
 use Rattle.walkdir.specs.Walk.{Walking}
 use Rattle.walkdir_uses.proofs.CostLemmas.{costs_as, costs_begun}
 use Rattle.walkdir_uses.proofs.FoundLemmas.{back_default, walks_below}
-use Rattle.walkdir_uses.specs.Found.{as_given, is_visible}
+use Rattle.walkdir_uses.specs.Found.{IsStoppedIn, as_given, is_visible}
 use Rattle.walkdir_uses.proofs.visible_below.Goals as goal
 
 -- the disk is back where the walk is dropped, which is on it still
@@ -40,6 +40,11 @@ returns g c =
           (walks_below as_given built c.args.folder.now (tree_of s) c.in_ok-new.ensures.root c.in_ok-new.ensures.options c.in_ok-new.ensures.sorter)
           (subst (λ o. IfSome o (λ x. IfOk c.visible_of-walk.new.found (λ entries. IsFilteredWalk (walking as_given (tree_of x) built) is_visible (map Ok entries.items))))
           (ap g.D.Disk.state c.in_ok-walk.ensures.same ∙ told) (c.visible_of-walk.ensures.entries built (g.D.Disk.streams c.args.disk.now) c.in_ok-walk.ensures.begun)));
+      first = if_told (g.D.Disk.state c.args.disk.now) _ (λ s told.
+          subst (λ (walk : Walking). IfErr c.visible_of-walk.new.found (IsStoppedIn walk is_visible))
+          (walks_below as_given built c.args.folder.now (tree_of s) c.in_ok-new.ensures.root c.in_ok-new.ensures.options c.in_ok-new.ensures.sorter)
+          (subst (λ o. IfSome o (λ x. IfErr c.visible_of-walk.new.found (IsStoppedIn (walking as_given (tree_of x) built) is_visible)))
+          (ap g.D.Disk.state c.in_ok-walk.ensures.same ∙ told) (c.visible_of-walk.ensures.first built (g.D.Disk.streams c.args.disk.now) c.in_ok-walk.ensures.begun)));
       visible = search rules;
       cost = search rules;
       state = search rules;

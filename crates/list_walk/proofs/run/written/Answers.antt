@@ -1,5 +1,6 @@
 use Rattle.std.proofs.Common.{ap, arith, refl, sym, ◌∙◌}
-use Rattle.list_walk.proofs.WrittenLemmas.{all_of, begins, cut_by, ends_cut, ends_whole, front, front_more, leaves_all, leaves_more, more, status_with, step_at, whole}
+use Rattle.list_walk.specs.declared.status.Status.TheVariants as statuses
+use Rattle.list_walk.proofs.WrittenLemmas.{all_of, begins, cut_by, ends_by, ends_cut, ends_whole, front, front_more, leaves_all, leaves_more, more, status_with, step_at, whole}
 use Rattle.list_walk.proofs.run.written.Goals as goal
 use Rattle.list_walk.proofs.run.written.Goals.{then-is_err, else-is_err}
 
@@ -8,11 +9,11 @@ pub items-init : goal.items-init
 items-init g c = record { own = c.requires; state = refl; name = refl; faults = omega arith; leaves = leaves_all _; so_far = begins _ _ _ _ _ c.new-lines.ensures }
 
 -- want of memory: the lines before it
-pub returns-in_err-flush-clause-ends : goal.returns-in_err-flush-clause-ends
-returns-in_err-flush-clause-ends g c = ends_cut _ c.from_residual.result c.from_residual.ensures.0 (front _ _ _ _ _ _ _ _ _ _ _ c.items.invariant.so_far _ _ c.in-Some.ensures.steps.2 c.in_err-flush.ensures.err)
-
 pub returns-then-is_want-clause-ends : goal.returns-then-is_want-clause-ends
-returns-then-is_want-clause-ends g c = front _ _ _ _ _ _ _ _ _ _ _ c.items.invariant.so_far _ _ c.in-Some.ensures.steps.2 (all_of _ _ _ c.in_ok-flush.ensures.ok)
+returns-then-is_want-clause-ends g c =
+    ends_by _ c.ended.result statuses.NoMemory _ _ c.ended.ensures.ok c.ended.ensures.err
+    (λ added. front _ _ _ _ _ _ _ _ _ _ _ c.items.invariant.so_far _ _ c.in-Some.ensures.steps.2 (all_of _ _ _ added))
+    (λ part. front _ _ _ _ _ _ _ _ _ _ _ c.items.invariant.so_far _ _ c.in-Some.ensures.steps.2 part)
 
 -- an item more
 pub items-preserved : goal.items-preserved
@@ -32,30 +33,22 @@ items-preserved g c = record {
 
 pub returns-in_err-add-clause-ends : goal.returns-in_err-add-clause-ends
 returns-in_err-add-clause-ends g c =
-    ends_cut _ c.from_residual-in_err-add.result c.from_residual-in_err-add.ensures.0
+    ends_cut _ c.from_residual.result c.from_residual.ensures.0
     (front_more _ _ _ _ _ _ _ _ _ _ _ c.items.invariant.so_far c.in-Some.item _ (step_at _ _ _ _ _ c.items.invariant.state c.in-Some.ensures.steps.1) c.in-Some.ensures.steps.2 (cut_by _ _ _ c.in_err-add.field-0.0 c.in_err-add.ensures.failed c.in_err-add.ensures.lost))
 
 -- the end of the walk
-pub returns-in_err-flush-2-clause-ends : goal.returns-in_err-flush-2-clause-ends
-returns-in_err-flush-2-clause-ends g c =
-    ends_cut _ c.from_residual-in_err-flush-2.result c.from_residual-in_err-flush-2.ensures.0 (front _ _ _ _ _ _ _ _ _ _ _ c.items.invariant.so_far _ _ c.in_default.ensures.steps.2 c.in_err-flush-2.ensures.err)
-
 pub returns-clause-ends : goal.returns-clause-ends
 returns-clause-ends g c =
-    ends_whole _ _ (whole _ _ _ _ _ _ _ _ _ _ _ c.items.invariant.so_far _ (step_at _ _ _ _ _ c.items.invariant.state c.in_default.ensures.steps.1) c.in_default.ensures.steps.2 c.in_ok-flush-2.ensures.ok)
+    ends_by _ c.ended-2.result _ _ _ c.ended-2.ensures.ok c.ended-2.ensures.err
+    (λ added. ends_whole _ _ (whole _ _ _ _ _ _ _ _ _ _ _ c.items.invariant.so_far _ (step_at _ _ _ _ _ c.items.invariant.state c.in_default.ensures.steps.1) c.in_default.ensures.steps.2 added))
+    (λ part. front _ _ _ _ _ _ _ _ _ _ _ c.items.invariant.so_far _ _ c.in_default.ensures.steps.2 part)
 
 -- what the walk leaves as it was
-pub returns-in_err-flush-clause-leaves : goal.returns-in_err-flush-clause-leaves
-returns-in_err-flush-clause-leaves g c = leaves_more _ _ _ _ _ c.items.invariant.leaves c.in-Some.ensures.steps.1
-
 pub returns-then-is_want-clause-leaves : goal.returns-then-is_want-clause-leaves
 returns-then-is_want-clause-leaves g c = leaves_more _ _ _ _ _ c.items.invariant.leaves c.in-Some.ensures.steps.1
 
 pub returns-in_err-add-clause-leaves : goal.returns-in_err-add-clause-leaves
 returns-in_err-add-clause-leaves g c = leaves_more _ _ _ _ _ c.items.invariant.leaves c.in-Some.ensures.steps.1
-
-pub returns-in_err-flush-2-clause-leaves : goal.returns-in_err-flush-2-clause-leaves
-returns-in_err-flush-2-clause-leaves g c = leaves_more _ _ _ _ _ c.items.invariant.leaves c.in_default.ensures.steps.1
 
 pub returns-clause-leaves : goal.returns-clause-leaves
 returns-clause-leaves g c = leaves_more _ _ _ _ _ c.items.invariant.leaves c.in_default.ensures.steps.1

@@ -1,5 +1,5 @@
 use Rattle.walkdir.proofs.FailuresLemmas.{costs_none}
-use Rattle.walkdir.proofs.ReadLemmas.{costs_refused, told_found, told_refused}
+use Rattle.walkdir.proofs.ReadLemmas.{costs_refused, refused_on, told_found, told_refused}
 use Rattle.walkdir.proofs.read.look.Goals as goal
 
 pub returns-in-Ok-clause-told : goal.returns-in-Ok-clause-told
@@ -14,3 +14,6 @@ returns-in-Err-clause-told g c =
 
 pub returns-in-Err-clause-cause : goal.returns-in-Err-clause-cause
 returns-in-Err-clause-cause g c = costs_refused c.args.depth c.args.path.now c.in-Err.error c.from_path.result _ _ c.in-Err.ensures.cause c.from_path.ensures
+
+pub returns-in-Err-clause-call : goal.returns-in-Err-clause-call
+returns-in-Err-clause-call g c = refused_on c.args.depth c.args.path.now c.in-Err.error c.from_path.result c.from_path.ensures

@@ -17,7 +17,7 @@ loop-items-init g c =
       drawn = inl refl;
       streams = streams_none c.args.depth c.args.parent.now (g.D.Disk.streams c.args.disk.now) c.args.dir c.new-items.result.items none;
       few = omega arith;
-      children = subst (AreAt c.args.depth) (sym none) tt;
+      children = subst (AreAt c.args.parent.now c.args.depth) (sym none) tt;
       no_failure = ap failures_among none;
       kept = refl;
       later = omega arith;
@@ -45,8 +45,8 @@ loop-items-preserved g c =
       drawn = drawn_on old c.args.dir mid new before.drawn (draws_drawn c.args.depth c.args.parent.now mid c.args.dir c.in-Some-Ok.entry new draws);
       streams = streams_more c.args.depth c.args.parent.now old c.args.dir c.loop-items.items.items mid new c.in-Some-Ok.entry c.push_back.new.self.items before.streams draws items;
       few = (let was = before.few in omega arith);
-      children = subst (AreAt c.args.depth) (sym items)
-          (at-push c.args.depth c.loop-items.items.items (Ok c.in-Some-Ok.entry) before.children (child_at c.args.depth c.args.parent.now mid c.args.dir c.in-Some-Ok.entry new draws));
+      children = subst (AreAt c.args.parent.now c.args.depth) (sym items)
+          (at-push c.args.parent.now c.args.depth c.loop-items.items.items (Ok c.in-Some-Ok.entry) before.children (child_at c.args.depth c.args.parent.now mid c.args.dir c.in-Some-Ok.entry new draws));
       no_failure = (let none = before.no_failure in omega arith);
       kept = c.in-Some-Ok.ensures.kept ∙ before.kept;
       later = (let first = before.later in let then_later = c.in-Some-Ok.ensures.cause.later in omega arith);
@@ -71,9 +71,9 @@ returns-in-Some-Err-clause-drawn g c =
 
 pub returns-in-Some-Err-clause-children : goal.returns-in-Some-Err-clause-children
 returns-in-Some-Err-clause-children g c =
-    subst (AreAt c.args.depth) (sym c.in_ok-push_back-in-Some-Err.ensures.items)
-    (at-push c.args.depth c.loop-items.items.items (Err c.in-Some-Err.error) c.loop-items.invariant.children
-    (subst (λ item. IsAt c.args.depth item) c.in-Some-Err.field-0-is c.in-Some-Err.ensures.at))
+    subst (AreAt c.args.parent.now c.args.depth) (sym c.in_ok-push_back-in-Some-Err.ensures.items)
+    (at-push c.args.parent.now c.args.depth c.loop-items.items.items (Err c.in-Some-Err.error) c.loop-items.invariant.children
+    (subst (λ item. IsAt c.args.parent.now c.args.depth item) c.in-Some-Err.field-0-is c.in-Some-Err.ensures.at))
 
 pub returns-in-Some-Err-clause-cause : goal.returns-in-Some-Err-clause-cause
 returns-in-Some-Err-clause-cause g c =

@@ -11,7 +11,7 @@ invariant-loop-items g l = record {
   drawn : IsDrawn (g.D.Disk.streams l.fn.disk) l.dir (g.D.Disk.streams l.disk);
   streams : StreamsOn l.depth l.parent (g.D.Disk.streams l.fn.disk) l.dir l.items.items (g.D.Disk.streams l.disk);
   few : length l.items.items + left_of (g.D.Disk.streams l.disk) l.dir ≤ left_of (g.D.Disk.streams l.fn.disk) l.dir;
-  children : AreAt l.depth l.items.items;
+  children : AreAt l.parent l.depth l.items.items;
   no_failure : failures_among l.items.items ≡ 0;
   kept : g.D.Disk.state l.disk ≡ g.D.Disk.state l.fn.disk;
   later : g.D.Disk.faults l.fn.disk ≤ g.D.Disk.faults l.disk;

@@ -22,7 +22,7 @@ returns-clause-drawn g c =
 
 pub returns-clause-children : goal.returns-clause-children
 returns-clause-children g c =
-    ordered_at c.args.depth (g.S.Sorter.order c.args.sorter.now) c.in_ok-read.field-0.items c.in_ok-in_order.field-0.items c.in_ok-in_order.ensures.order c.in_ok-read.ensures.children
+    ordered_at c.args.parent.now c.args.depth (g.S.Sorter.order c.args.sorter.now) c.in_ok-read.field-0.items c.in_ok-in_order.field-0.items c.in_ok-in_order.ensures.order c.in_ok-read.ensures.children
 
 pub returns-clause-cause : goal.returns-clause-cause
 returns-clause-cause g c =

@@ -1,15 +1,17 @@
-use Rattle.std.proofs.Common.{ap, refl, reverse, suc, sym, subst, take, drop, ◌∙◌, arith}
+use Rattle.std.proofs.Common.{◌+◌, ap, refl, reverse, suc, sym, subst, take, drop, ◌∙◌, arith}
 use Rattle.std.specs.Option.{option_map}
 use Rattle.walkdir.specs.Failures.{Costs, failures_among}
-use Rattle.walkdir.specs.Stack.{own_streams}
+use Rattle.walkdir.specs.Stack.{AreAt, own_streams}
 use Rattle.walkdir.specs.StackProgress.{progress}
+use Rattle.walkdir.specs.declared.list.DirList.{DirList}
 use Rattle.walkdir.specs.declared.list.Items.TheVariants.{Closed}
 use Rattle.walkdir.proofs.DrawsLemmas.{close_stands, stands_alike}
 use Rattle.walkdir.proofs.FailuresLemmas.{costs_zero}
 use Rattle.walkdir.proofs.ListLemmas.{goes_closed}
 use Rattle.walkdir.proofs.SoundLemmas.{sound_of}
-use Rattle.walkdir.proofs.StackLemmas.{closed_past, closed_put, cut_at, cut_length, no_deep_stream, reversed_at}
-use Rattle.walkdir.proofs.StepLemmas.{goes_drawn, keeps_drawn, less_drawn}
+use Rattle.walkdir.proofs.StackLemmas.{closed_past, closed_put, cut_at, cut_length, no_deep_stream, one_at, reversed_at}
+use Rattle.walkdir.proofs.StepLemmas.{goes_drawn, keeps_drawn}
+use Rattle.walkdir.proofs.WorkLemmas.{less_drawn}
 use Rattle.walkdir.proofs.stack.Stack.close.Goals as goal
 
 pub returns-in_default-clause-closed : goal.returns-in_default-clause-closed
@@ -33,6 +35,12 @@ returns-in_err-items-clause-goes g c =
     (ap reverse (cut_at lists c.args.index list c.requires c.index-list.ensures) ∙ reversed_at outer list inner) (sym c.in-Some.ensures) refl c.in_err-items.ensures.drawn)
     (costs_zero _ _ _ c.in_err-items.ensures.cause)
 
+pub put-requires-clause-children : goal.put-requires-clause-children
+put-requires-clause-children g c list at =
+    let lists = c.args.self.now.lists.items in
+    subst (λ (l : DirList). AreAt l.path (c.args.index + 1) c.in_ok-items.items.items) (one_at lists c.args.index c.index-list.result.now list c.requires c.index-list.ensures at)
+    c.in_ok-items.ensures.children
+
 pub put-requires-clause-deepest : goal.put-requires-clause-deepest
 put-requires-clause-deepest g c deep =
     let walk = c.args.self.now in
@@ -49,7 +57,7 @@ returns-clause-goes g c =
     (record { options = kept.options; order = ap (option_map g.S.Sorter.order) kept.sorter; start = kept.start }) refl refl c.put.ensures.lists c.index-list.ensures
     c.in-Some.dir (g.D.Disk.streams c.rest_of.new.disk) count 0 (g.D.Disk.faults c.args.disk.now) (g.D.Disk.faults c.close_dir.new.self) (sym c.in-Some.ensures) refl
     c.in_ok-items.ensures.drawn c.close_dir.ensures.closed c.in_ok-items.ensures.few (omega arith)
-    (subst (λ n. Costs count (g.D.Disk.faults c.args.disk.now) n) (sym c.close_dir.ensures.faults) c.in_ok-items.ensures.cause)
+    (subst (λ n. Costs count (g.D.Disk.faults c.args.disk.now) n) (sym c.close_dir.ensures.faults) c.in_ok-items.ensures.cause) refl
 
 pub returns-clause-closed : goal.returns-clause-closed
 returns-clause-closed g c closed =

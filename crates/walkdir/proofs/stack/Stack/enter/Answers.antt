@@ -1,11 +1,15 @@
-use Rattle.std.proofs.Common.{◌≡◌, ◌&&◌, false, ap, is_some, sym, ◌∙◌, arith}
+use Rattle.std.proofs.Common.{◌≡◌, ◌∷◌, ℕ, ◌&&◌, false, ap, is_some, reverse, subst, sym, ◌∙◌, arith}
+use Rattle.odb_base.specs.Path.{Path}
 use Rattle.walkdir.specs.Entry.{is_dir}
+use Rattle.walkdir.specs.Innermost.{IsHead}
 use Rattle.walkdir.specs.Options.{is_given}
 use Rattle.walkdir.specs.Progress.{Progress}
+use Rattle.walkdir.specs.Stack.{ancestors}
 use Rattle.walkdir.specs.StackProgress.{progress}
 use Rattle.walkdir.specs.Turns.{given_if}
 use Rattle.walkdir.specs.declared.builder.Options.{Options}
 use Rattle.walkdir.proofs.ContainsLemmas.{entered_first, entered_now}
+use Rattle.walkdir.proofs.InnermostLemmas.{after_entered}
 use Rattle.walkdir.proofs.EnteredLemmas.{enters_nothing, enters_telling}
 use Rattle.walkdir.proofs.stack.Stack.enter.Goals as goal
 use Rattle.walkdir.proofs.stack.Stack.enter.Goals.{else-is_dir-2, else-self-via-then-self+else-is_dir, else-self-via-else-self, then-is_dir-2}
@@ -53,3 +57,28 @@ returns-clause-directory g c =
     enters_telling (g.D.Disk.state c.args.disk.now) old new entry c.args.place c.in_ok-path.path c.depth-depth.result c.shown-shown.result (is_given c.push-2.new.self.options entry.depth)
     (c.in_ok-path.ensures ∙ c.path.ensures) c.depth-depth.ensures (c.in_ok-push-2.ensures.goes.start ∙ c.requires.start) c.shown-shown.ensures marked first
     c.in_ok-push-2.ensures.holds
+
+pub returns-clause-innermost : goal.returns-clause-innermost
+returns-clause-innermost g c kind =
+    let walk = c.args.self.now in
+    let entry = c.args.entry in
+    let new = c.push-2.new.self in
+    let stack = reverse new.lists.items in
+    let first : (walk.options.contents_first && is_dir entry) ≡ false = elim c.else-self.branch [
+      | else-self-via-then-self+else-is_dir w ↦ grind arith
+      | else-self-via-else-self w ↦ grind arith
+    ] in
+    let head = c.in_ok-push-2.ensures.head in
+    after_entered (is_given new.options entry.depth) new.options entry c.shown-shown.result stack c.shown-shown.ensures
+    (subst (λ (n : ℕ). IsHead entry.path n stack) c.depth-depth.ensures (subst (λ (p : Path). IsHead p c.depth-depth.result stack) (c.in_ok-path.ensures ∙ c.path.ensures) head.0))
+    head.1 kind (ap (λ (o : Options). o.contents_first && is_dir entry) c.in_ok-push-2.ensures.goes.options ∙ first)
+
+pub returns-then-is_dir-clause-above : goal.returns-then-is_dir-clause-above
+returns-then-is_dir-clause-above g c =
+    c.in_ok-push.ensures.above
+    ∙ ap (λ (p : Path). (record { path = p; place = c.args.place }) ∷ ancestors (reverse c.args.self.now.lists.items)) (c.in_ok-path.ensures ∙ c.path.ensures)
+
+pub returns-clause-above : goal.returns-clause-above
+returns-clause-above g c =
+    c.in_ok-push-2.ensures.above
+    ∙ ap (λ (p : Path). (record { path = p; place = c.args.place }) ∷ ancestors (reverse c.args.self.now.lists.items)) (c.in_ok-path.ensures ∙ c.path.ensures)

@@ -6,6 +6,7 @@ use Rattle.walkdir.specs.Walk.{entering, is_root_link, place_of}
 use Rattle.walkdir.specs.declared.list.Entering.{Entering}
 use Rattle.walkdir.specs.declared.list.Entering.TheVariants.{Stays, Enters}
 use Rattle.walkdir.proofs.HandlesLemmas.{enters_dir, enters_link, enters_other, enters_refused, err_is, kind_tested}
+use Rattle.walkdir.proofs.InnermostLemmas.{only_dir}
 use Rattle.walkdir.proofs.stack.Stack.entering.Goals as goal
 use Rattle.walkdir.proofs.stack.Stack.entering.Goals.{then-not-is_link-via-then-not-is_link, then-not-is_link-via-else-not-is_link+then-depth-ne0, then-not-is_link-via-else-not-is_link+else-depth-ne0+then-not-self}
 
@@ -54,3 +55,6 @@ returns-else-eq-clause-enters g c =
     let dir : is_dir_kind meta.kind ≡ false = sym (c.eq.ensures ∙ kind_tested meta.kind) ∙ c.if-eq.false in
     enters_link (g.D.Disk.state c.args.disk.now) walk.options walk.root_device c.args.found.now c.path.result.now meta Stays
     (sym c.is_dir.ensures ∙ c.if-is_dir.false) root c.path.ensures c.in_ok-meta.ensures.told (sym (ap (λ b. cond b (Enters (Some (place_of meta))) Stays) dir))
+
+pub returns-then-is_dir-clause-kind : goal.returns-then-is_dir-clause-kind
+returns-then-is_dir-clause-kind g c = only_dir c.args.found.now.entry c.entering_directory.result (sym c.is_dir.ensures ∙ c.if-is_dir.true)

@@ -1,12 +1,19 @@
-use Rattle.std.proofs.Common.{Ok, Err, refl, subst, sym, ◌∙◌}
+use Rattle.std.proofs.Common.{◌≡◌, Ok, Err, refl, reverse, subst, sym, ◌∙◌}
+use lib.ListN.{length-reverse}
+use Rattle.odb_base.specs.Path.{Path}
 use Rattle.walkdir.specs.EnteredTurns.{EntersTelling, HandlesTelling}
+use Rattle.walkdir.specs.Innermost.{IsAfter}
 use Rattle.walkdir.specs.Options.{is_given}
 use Rattle.walkdir.specs.StackProgress.{progress}
-use Rattle.walkdir.specs.Turns.{EntersBy, EntersDirectory, HandlesEntry, handed}
-use Rattle.walkdir.specs.Walk.{entering}
+use Rattle.walkdir.specs.Turns.{EntersBy, EntersDirectory, HandlesEntry, OnlyEnters, handed}
+use Rattle.walkdir.specs.Within.{LiesIn}
+use Rattle.walkdir.specs.Stack.{ancestors}
+use Rattle.walkdir.specs.Walk.{enter, entering}
 use Rattle.walkdir.specs.declared.list.Entering.TheVariants.{Stays, Enters}
+use Rattle.walkdir.proofs.AboveLemmas.{above_entering, above_same, unless_lost}
 use Rattle.walkdir.proofs.EnteredLemmas.{handles_entering, handles_error, handles_staying}
 use Rattle.walkdir.proofs.HandlesLemmas.{err_is, handles_alone, handles_closed, handles_entered, handles_wrong}
+use Rattle.walkdir.proofs.InnermostLemmas.{after_entry_error, after_shown, link_looked, looked_at, on_entry}
 use Rattle.walkdir.proofs.stack.Stack.handle.Goals as goal
 
 pub returns-in_err-found-clause-walks : goal.returns-in_err-found-clause-walks
@@ -101,3 +108,70 @@ returns-in-Enters-clause-directory g c = λ unmarked.
     (subst (λ s. EntersTelling s old found.entry place item new) (c.in_ok-entering.ensures.state ∙ c.in_ok-found.ensures.state)
     (subst (λ t. EntersTelling (g.D.Disk.state c.entering.new.disk) (progress g.S.Sorter.order walk t) found.entry place item new)
     (c.in_ok-entering.ensures.streams ∙ c.in_ok-found.ensures.streams) c.enter.ensures.directory))
+
+pub returns-in_err-found-clause-innermost : goal.returns-in_err-found-clause-innermost
+returns-in_err-found-clause-innermost g c =
+    let walk = c.args.self.now in
+    let stack = reverse walk.lists.items in
+    let error = c.in_err-found.field-0.0 in
+    subst (λ r. IsAfter walk.options (handed r) stack) (sym (err_is c.from_residual.result error c.from_residual.ensures.1))
+    (after_entry_error walk.options c.args.entry.path c.args.entry.depth error stack c.in_err-found.ensures.place (c.requires.depth ∙ sym (length-reverse walk.lists.items)) c.requires.parent
+    c.requires.unskipped (link_looked walk.options c.args.entry c.in_err-found.ensures.looks))
+
+pub returns-in_err-entering-clause-innermost : goal.returns-in_err-entering-clause-innermost
+returns-in_err-entering-clause-innermost g c =
+    let walk = c.args.self.now in
+    let stack = reverse walk.lists.items in
+    let found = c.in_ok-found.found in
+    let same = c.in_ok-found.ensures.same in
+    let error = c.in_err-entering.field-0.0 in
+    subst (λ r. IsAfter walk.options (handed r) stack) (sym (err_is c.from_residual-in_err-entering.result error c.from_residual-in_err-entering.ensures.1))
+    (after_entry_error walk.options found.entry.path found.entry.depth error stack (on_entry found.entry.path found.entry.depth error c.in_err-entering.ensures.call)
+    (same.0 ∙ c.requires.depth ∙ sym (length-reverse walk.lists.items)) (subst (λ (p : Path). LiesIn p stack) (sym same.1) c.requires.parent)
+    c.requires.unskipped (looked_at walk.options found.entry c.in_err-entering.ensures.looks))
+
+pub returns-in-Stays-clause-innermost : goal.returns-in-Stays-clause-innermost
+returns-in-Stays-clause-innermost g c =
+    let walk = c.args.self.now in
+    let stack = reverse walk.lists.items in
+    let found = c.in_ok-found.found in
+    let same = c.in_ok-found.ensures.same in
+    after_shown (is_given walk.options found.entry.depth) walk.options found.entry c.shown.result stack c.shown.ensures (same.0 ∙ c.requires.depth ∙ sym (length-reverse walk.lists.items))
+    (subst (λ (p : Path). LiesIn p stack) (sym same.1) c.requires.parent) c.requires.unskipped
+
+pub enter-requires-clause-parent : goal.enter-requires-clause-parent
+enter-requires-clause-parent g c = subst (λ (p : Path). LiesIn p (reverse c.args.self.now.lists.items)) (sym c.in_ok-found.ensures.same.1) c.requires.parent
+
+pub returns-in-Enters-clause-innermost : goal.returns-in-Enters-clause-innermost
+returns-in-Enters-clause-innermost g c =
+    c.enter.ensures.innermost (subst (λ e. OnlyEnters c.in_ok-found.found.entry (Ok e)) c.in-Enters.is c.in_ok-entering.ensures.kind)
+
+pub returns-in_err-found-clause-above : goal.returns-in_err-found-clause-above
+returns-in_err-found-clause-above g c =
+    above_same (g.D.Disk.state c.args.disk.now) (progress g.S.Sorter.order c.args.self.now (g.D.Disk.streams c.args.disk.now))
+    (progress g.S.Sorter.order c.args.self.now (g.D.Disk.streams c.followed.new.disk)) c.args.entry (handed c.from_residual.result) refl
+
+pub returns-in_err-entering-clause-above : goal.returns-in_err-entering-clause-above
+returns-in_err-entering-clause-above g c =
+    above_same (g.D.Disk.state c.args.disk.now) (progress g.S.Sorter.order c.args.self.now (g.D.Disk.streams c.args.disk.now))
+    (progress g.S.Sorter.order c.args.self.now (g.D.Disk.streams c.entering.new.disk)) c.args.entry (handed c.from_residual-in_err-entering.result) refl
+
+pub returns-in-Stays-clause-above : goal.returns-in-Stays-clause-above
+returns-in-Stays-clause-above g c =
+    above_same (g.D.Disk.state c.args.disk.now) (progress g.S.Sorter.order c.args.self.now (g.D.Disk.streams c.args.disk.now))
+    (progress g.S.Sorter.order c.args.self.now (g.D.Disk.streams c.entering.new.disk)) c.args.entry (handed (Ok c.shown.result)) refl
+
+pub returns-in-Enters-clause-above : goal.returns-in-Enters-clause-above
+returns-in-Enters-clause-above g c =
+    let state = g.D.Disk.state c.args.disk.now in
+    let walk = c.args.self.now in
+    let found = c.in_ok-found.found in
+    let same = c.in_ok-found.ensures.same in
+    let place = c.in-Enters.place in
+    let old = progress g.S.Sorter.order walk (g.D.Disk.streams c.args.disk.now) in
+    let new = progress g.S.Sorter.order c.enter.new.self (g.D.Disk.streams c.enter.new.disk) in
+    above_entering state old new c.args.entry found place (handed c.enter.result) c.in_ok-found.ensures.follows
+    (subst (λ s. EntersBy entering s walk.options walk.root_device found (Ok (Enters place))) c.in_ok-found.ensures.state
+    (subst (λ e. EntersBy entering (g.D.Disk.state c.followed.new.disk) walk.options walk.root_device found (Ok e)) c.in-Enters.is c.in_ok-entering.ensures.enters))
+    (same.0 ∙ c.requires.depth ∙ sym (length-reverse walk.lists.items)) same.1 c.requires.parent
+    (unless_lost c.enter.result (ancestors new.stack ≡ enter found.entry place (ancestors old.stack)) c.enter.ensures.above c.enter.ensures.lost)

@@ -9,7 +9,7 @@ use Rattle.walkdir.specs.StackProgress.{progress}
 use Rattle.walkdir.specs.Turns.{GoesOn}
 use Rattle.walkdir.proofs.DrawsLemmas.{leaves_it, own_given, own_none}
 use Rattle.walkdir.proofs.SoundLemmas.{is_sound_of, sound_of}
-use Rattle.walkdir.proofs.StackLemmas.{left_depth, left_first, reversed_last, sound_pop}
+use Rattle.walkdir.proofs.StackLemmas.{left_depth, left_first, left_own, reversed_last, sound_pop}
 use Rattle.walkdir.proofs.StepLemmas.{goes_popped, pops_less}
 use Rattle.walkdir.proofs.stack.Stack.leave.Goals as goal
 
@@ -90,3 +90,16 @@ returns-clause-first g c =
     of_any : {P : Type 0} (given : Option DirEntry) → P → IfSome given (λ _. P)
     of_any None first = tt
     of_any (Some entry) first = first
+
+pub returns-clause-own : goal.returns-clause-own
+returns-clause-own g c =
+    let walk = c.args.self.now in
+    left_own walk.options walk.start walk.lists.items c.pop.new.self.items c.in_ok-list.list walk.first_open c.in_ok-list-2.field-0 c.shown.result
+    (is_given walk.options c.in_ok-list-2.field-0.depth)
+    (sound_of walk.options walk.start walk.lists.items walk.first_open walk.some_open walk.in_range walk.few walk.sound) c.in_ok-list.ensures.items c.in_ok-list-2.was c.shown.ensures
+
+pub returns-in_err-list-2-clause-above : goal.returns-in_err-list-2-clause-above
+returns-in_err-list-2-clause-above g c = (c.in_ok-list.list, ap reverse c.in_ok-list.ensures.items ∙ reversed_last c.pop.new.self.items c.in_ok-list.list)
+
+pub returns-clause-above : goal.returns-clause-above
+returns-clause-above g c = (c.in_ok-list.list, ap reverse c.in_ok-list.ensures.items ∙ reversed_last c.pop.new.self.items c.in_ok-list.list)

@@ -4,17 +4,19 @@ use Rattle.walkdir.specs.Progress.{Keeps, Progress}
 use Rattle.walkdir.specs.Stack.{held, left_in, stream_in}
 use Rattle.walkdir.specs.StackProgress.{progress}
 use Rattle.walkdir.specs.Turns.{TakesWork}
-use Rattle.walkdir.proofs.DrawsLemmas.{draws_held, is_top, was_top}
+use Rattle.walkdir.proofs.DrawsLemmas.{draws_held, is_top, top_depth, was_top}
 use Rattle.walkdir.proofs.FailuresLemmas.{costs_none}
-use Rattle.walkdir.proofs.HeldLemmas.{held_closed, held_fails, held_few, held_item_at, held_none, held_rest_at, if_taken}
+use Rattle.walkdir.proofs.HeldLemmas.{held_closed, held_fails, held_few, held_item_at, held_none, held_rest_at, held_skips, if_taken}
+use Rattle.walkdir.proofs.InnermostLemmas.{from_top}
 use Rattle.walkdir.proofs.ListLemmas.{goes_held, left_held, put_takes}
 use Rattle.walkdir.proofs.SoundLemmas.{is_sound_of, sound_of}
-use Rattle.walkdir.proofs.StackLemmas.{fit_at, held_at, one_at, puts_set, shallow_held, sound_put}
-use Rattle.walkdir.proofs.StepLemmas.{less_same}
+use Rattle.walkdir.proofs.StackLemmas.{fit_at, held_at, one_at, puts_above, puts_set, shallow_held, sound_put}
+use Rattle.walkdir.proofs.WorkLemmas.{less_same}
 use Rattle.walkdir.specs.declared.list.DirList.{DirList}
 use Rattle.walkdir.proofs.stack.Stack.next_child.Goals as goal
 
 pub invariant_of-self-clause-sound : goal.invariant_of-self-clause-sound
+unfolding puts_set
 invariant_of-self-clause-sound g c =
     let walk = c.args.self.now in
     let lists = walk.lists.items in
@@ -27,7 +29,7 @@ invariant_of-self-clause-sound g c =
     is_sound_of walk.options walk.start (set lists c.args.index (record list { items = items })) walk.first_open
     (sound_put walk.options walk.start lists (set lists c.args.index (record list { items = items })) walk.first_open c.args.index items sound
     (puts_set lists c.args.index list items within at) (held_closed list.items c.take_first.result items c.take_first.ensures)
-    (held_rest_at (c.args.index + 1) list.items c.take_first.result items c.take_first.ensures fit.children)
+    (held_rest_at list.path (c.args.index + 1) list.items c.take_first.result items c.take_first.ensures fit.children)
     (λ deep. held_none list.items c.take_first.result items c.take_first.ensures (fit.deepest deep).nothing))
 
 pub invariant_of-self-clause-in_range : goal.invariant_of-self-clause-in_range
@@ -57,16 +59,24 @@ returns-clause-goes g c =
     (puts_set lists c.args.index list items within at) at _ (g.D.Disk.faults c.args.disk.now) (g.D.Disk.faults c.args.disk.now) none
     (held_closed list.items c.take_first.result items c.take_first.ensures) refl (held_few list.items c.take_first.result items c.take_first.ensures)
     (held_fails list.items c.take_first.result items c.take_first.ensures) (costs_none (g.D.Disk.faults c.args.disk.now) (g.D.Disk.faults c.args.disk.now) (omega arith))
+    (held_skips list.items c.take_first.result items c.take_first.ensures)
 
-pub returns-clause-depth : goal.returns-clause-depth
-returns-clause-depth g c =
+pub returns-clause-from : goal.returns-clause-from
+returns-clause-from g c =
     let walk = c.args.self.now in
     let lists = walk.lists.items in
     let list = c.index_mut-list.result.now in
+    let items = c.take_first.new.self in
     let within : c.args.index < length lists = omega (arith, c.requires) in
-    held_item_at (c.args.index + 1) list.items c.take_first.result c.take_first.new.self c.take_first.ensures
-    (held_at walk.options walk.start lists walk.first_open c.args.index list (sound_of walk.options walk.start lists walk.first_open walk.some_open walk.in_range walk.few walk.sound) within
-    c.index_mut-list.ensures.value)
+    let at = c.index_mut-list.ensures.value in
+    let old = progress g.S.Sorter.order walk (g.D.Disk.streams c.args.disk.now) in
+    let after_lists = set lists c.args.index (record list { items = items }) in
+    let new : Progress = record old { stack = reverse after_lists } in
+    let puts = puts_set lists c.args.index list items within at in
+    let sound = sound_of walk.options walk.start lists walk.first_open walk.some_open walk.in_range walk.few walk.sound in
+    from_top (reverse after_lists) (record list { items = items }) (reverse puts.outer) c.args.index c.take_first.result
+    (is_top old new lists after_lists c.args.index items list refl refl puts at c.requires) (top_depth old new lists after_lists c.args.index items list refl refl puts at)
+    (held_item_at list.path (c.args.index + 1) list.items c.take_first.result items c.take_first.ensures (held_at walk.options walk.start lists walk.first_open c.args.index list sound within at))
 
 pub returns-clause-less : goal.returns-clause-less
 returns-clause-less g c =
@@ -107,3 +117,21 @@ returns-clause-draws g c =
     let puts = puts_set lists c.args.index list items within at in
     draws_held old new list items (reverse puts.outer) (was_top old new lists after_lists c.args.index items list refl refl puts at c.requires)
     (is_top old new lists after_lists c.args.index items list refl refl puts at c.requires) c.take_first.result c.take_first.ensures none refl
+
+pub returns-clause-kept : goal.returns-clause-kept
+returns-clause-kept g c =
+    let walk = c.args.self.now in
+    let lists = walk.lists.items in
+    let list = c.index_mut-list.result.now in
+    let items = c.take_first.new.self in
+    let within : c.args.index < length lists = omega (arith, c.requires) in
+    let puts = puts_set lists c.args.index list items within c.index_mut-list.ensures.value in
+    record {
+      options = refl;
+      sorter = refl;
+      start = refl;
+      device = refl;
+      entered = refl;
+      count = length-set lists c.args.index (record list { items = items });
+      above = puts_above lists (set lists c.args.index (record list { items = items })) c.args.index items puts;
+    }

@@ -3,17 +3,21 @@ use Rattle.std.specs.Option.{option_map}
 use lib.ListN.{length-reverse}
 use Rattle.walkdir.specs.Error.{failures}
 use Rattle.walkdir.specs.Failures.{Costs, failures_among, failures_of}
-use Rattle.walkdir.specs.Stack.{left_in}
+use Rattle.std.specs.Prelude.{Ok, Err}
+use Rattle.walkdir.specs.Stack.{IsAt, left_in}
 use Rattle.walkdir.specs.StackProgress.{progress}
 use Rattle.walkdir.specs.Turns.{BreaksOff, Draws, DrawsEntry, left_of}
 use Rattle.walkdir.specs.declared.list.DirList.{DirList}
 use Rattle.walkdir.specs.declared.list.Items.TheVariants.{Closed}
 use Rattle.walkdir.proofs.DrawsLemmas.{draws_broken_off, draws_next, draws_over, is_top, top_depth, was_top}
+use Rattle.walkdir.proofs.InnermostLemmas.{from_top}
+use Rattle.walkdir.proofs.SkippedLemmas.{stream_open}
 use Rattle.walkdir.proofs.ListLemmas.{goes_closed, left_stream, put_takes, takes_work}
 use Rattle.walkdir.proofs.ReadLemmas.{draws_drawn, entry_left}
 use Rattle.walkdir.proofs.SoundLemmas.{sound_of}
 use Rattle.walkdir.proofs.StackLemmas.{cut_at, cut_length, one_at, reversed_at, shallow_stream, top_cut}
-use Rattle.walkdir.proofs.StepLemmas.{LeftLess, goes_drawn, keeps_drawn, less_closed, less_drawn}
+use Rattle.walkdir.proofs.StepLemmas.{goes_drawn, keeps_drawn}
+use Rattle.walkdir.proofs.WorkLemmas.{LeftLess, less_closed, less_drawn}
 use Rattle.walkdir.proofs.stack.Stack.next_open.Goals as goal
 
 pub returns-in-Some-Ok-clause-goes : goal.returns-in-Some-Ok-clause-goes
@@ -72,7 +76,7 @@ returns-in-Some-Err-clause-goes g c =
     (record { options = kept.options; order = ap (option_map g.S.Sorter.order) kept.sorter; start = kept.start }) refl refl c.put.ensures.lists c.requires.dir.at
     c.args.dir less_streams (failures c.in-Some-Err.error) (failures c.in-Some-Err.error) (g.D.Disk.faults c.args.disk.now) (g.D.Disk.faults c.close_dir.new.self) c.requires.dir.own refl
     draws.1 c.close_dir.ensures.closed (omega arith) (omega arith)
-    (subst (λ n. Costs (failures c.in-Some-Err.error) (g.D.Disk.faults c.args.disk.now) n) (sym c.close_dir.ensures.faults) cost)
+    (subst (λ n. Costs (failures c.in-Some-Err.error) (g.D.Disk.faults c.args.disk.now) n) (sym c.close_dir.ensures.faults) cost) refl
 
 pub returns-in-Some-Err-clause-less : goal.returns-in-Some-Err-clause-less
 returns-in-Some-Err-clause-less g c =
@@ -138,3 +142,35 @@ returns-in-Some-Err-clause-draws g c =
     draws_broken_off old new list items (reverse puts.outer) (was_top old new lists after_lists c.args.index items list refl refl puts c.requires.dir.at c.requires.index)
     (is_top old new lists after_lists c.args.index items list refl refl puts c.requires.dir.at c.requires.index) c.args.dir c.in-Some-Err.error less_streams c.requires.dir.own refl c.new.ensures.items
     (subst (λ n. BreaksOff (n + 1) streams c.args.dir c.in-Some-Err.error) (sym depth) draws.0) draws.1 c.close_dir.ensures.closed
+
+pub returns-in-Some-Ok-clause-from : goal.returns-in-Some-Ok-clause-from
+returns-in-Some-Ok-clause-from g c =
+    let lists = c.args.self.now.lists.items in
+    let list = c.requires.dir.list in
+    let within : c.args.index < length lists = omega (arith, c.requires.index) in
+    let same = one_at lists c.args.index c.index.result.now list within c.index.ensures c.requires.dir.at in
+    from_top (reverse lists) list (reverse (take c.args.index lists)) c.args.index (Some (Ok c.in-Some-Ok.entry))
+    (top_cut lists c.args.index list c.requires.index c.requires.dir.at) (length-reverse (take c.args.index lists) ∙ cut_length lists c.args.index within) (
+      stream_open list.items c.args.dir c.requires.dir.own,
+      subst (λ (l : DirList). IsAt l.path (c.args.index + 1) (Ok c.in-Some-Ok.entry)) same
+          (subst (λ item. IsAt c.index.result.now.path (c.args.index + 1) item) c.in-Some-Ok.field-0-is c.in-Some-Ok.ensures.at),
+    )
+
+pub returns-in-Some-Err-clause-from : goal.returns-in-Some-Err-clause-from
+returns-in-Some-Err-clause-from g c =
+    let lists = c.args.self.now.lists.items in
+    let after_lists = c.put.new.self.lists.items in
+    let list = c.requires.dir.list in
+    let within : c.args.index < length lists = omega (arith, c.requires.index) in
+    let same = one_at lists c.args.index c.index.result.now list within c.index.ensures c.requires.dir.at in
+    let old = progress g.S.Sorter.order c.args.self.now (g.D.Disk.streams c.args.disk.now) in
+    let new = progress g.S.Sorter.order c.put.new.self (g.D.Disk.streams c.close_dir.new.self) in
+    let items = Closed c.new.result in
+    let puts = c.put.ensures.lists in
+    from_top (reverse after_lists) (record list { items = items }) (reverse puts.outer) c.args.index (Some (Err c.in-Some-Err.error))
+    (is_top old new lists after_lists c.args.index items list refl refl puts c.requires.dir.at c.requires.index)
+    (top_depth old new lists after_lists c.args.index items list refl refl puts c.requires.dir.at) (
+      refl,
+      subst (λ (l : DirList). IsAt l.path (c.args.index + 1) (Err c.in-Some-Err.error)) same
+          (subst (λ item. IsAt c.index.result.now.path (c.args.index + 1) item) c.in-Some-Err.field-0-is c.in-Some-Err.ensures.at),
+    )

@@ -1,20 +1,25 @@
-use Rattle.std.proofs.Common.{◌≡◌, ◌+◌, ◌<◌, ◌≤◌, IfSome, Ok, true, ap, length, max, refl, reverse, subst, sym, ◌∙◌, arith}
+use Rattle.std.proofs.Common.{◌≡◌, ◌+◌, ◌<◌, ◌≤◌, IfSome, Ok, true, ap, length, max, refl, reverse, subst, sym, ◌∙◌, arith, List, ◌∷◌}
 use lib.ListN.{length-reverse}
 use Rattle.std.specs.Option.{option_map}
 use Rattle.std.specs.Result.{is_ok}
 use Rattle.odb_disk.specs.Streams.{Streams, open_count}
+use Rattle.walkdir.specs.Entry.{is_dir}
 use Rattle.walkdir.specs.Failures.{Costs, failures_left}
 use Rattle.walkdir.specs.Progress.{Progress}
-use Rattle.walkdir.specs.Stack.{FitsAt, IsSound, stream_in, without_stream}
+use Rattle.walkdir.specs.Walk.{Ancestor}
+use Rattle.walkdir.specs.Stack.{FitsAt, ancestors, IsSound, stream_in, without_stream}
 use Rattle.walkdir.specs.StackProgress.{progress}
 use Rattle.walkdir.specs.declared.builder.Options.{Options}
 use Rattle.walkdir.specs.declared.list.DirList.{DirList}
 use Rattle.walkdir.specs.Turns.{HasContents}
+use Rattle.walkdir.specs.Within.{LiesIn}
 use Rattle.walkdir.proofs.ContainsLemmas.{pushed_stands}
 use Rattle.walkdir.proofs.EnteredLemmas.{pushed_holds}
 use Rattle.walkdir.proofs.FailuresLemmas.{costs_zero}
+use Rattle.walkdir.proofs.InnermostLemmas.{head_pushed}
 use Rattle.walkdir.proofs.SoundLemmas.{is_sound_of, sound_of}
 use Rattle.walkdir.proofs.StackLemmas.{own_within, reversed_last, sound_pushed}
+use Rattle.walkdir.proofs.WithinLemmas.{lies_alike, own_lies}
 use Rattle.walkdir.proofs.StepLemmas.{goes_back, goes_failed, goes_in, goes_pushed, peak_without, reopened}
 use Rattle.walkdir.proofs.stack.Stack.push.Goals as goal
 
@@ -36,11 +41,14 @@ invariant_of-self g c =
     let list : DirList = record { path = c.args.path; place = c.args.place; items = c.in_ok-items.items; after = c.args.after } in
     let depth : c.args.depth ≡ length mid.lists.items = c.requires.depth ∙ sym c.in_ok-make_room.ensures.kept.count in
     let fit : FitsAt mid.options c.args.depth list =
-    record { after = subst (λ (o : Options). IfSome c.args.after (λ entry. (entry.depth ≡ c.args.depth) × (o.contents_first ≡ true))) (sym c.in_ok-make_room.ensures.kept.options) c.requires.after; children = c.in_ok-items.ensures.children; deepest = c.in_ok-items.ensures.deepest } in
+    record { after = subst (λ (o : Options). IfSome c.args.after (λ entry. (entry.depth ≡ c.args.depth) × (is_dir entry ≡ true) × (o.contents_first ≡ true))) (sym c.in_ok-make_room.ensures.kept.options) c.requires.after; children = c.in_ok-items.ensures.children; deepest = c.in_ok-items.ensures.deepest } in
+    let parent : LiesIn c.args.path (reverse mid.lists.items) =
+    lies_alike c.args.path (reverse c.args.self.now.lists.items) (reverse mid.lists.items) (sym c.in_ok-make_room.ensures.stands.0) c.requires.parent in
     let sound : IsSound mid.options mid.start c.push.new.self.items mid.first_open =
     sound_pushed mid.options mid.start mid.lists.items c.push.new.self.items list mid.first_open (is_ok c.push.result) c.push.ensures.items
     (sound_of mid.options mid.start mid.lists.items mid.first_open mid.some_open mid.in_range mid.few mid.sound) (c.in_ok-make_room.ensures.kept.start ∙ c.requires.start)
-    c.in_ok-make_room.ensures.room (subst (λ n. FitsAt mid.options n list) depth fit) in
+    c.in_ok-make_room.ensures.room (subst (λ n. FitsAt mid.options n list) depth fit)
+    (parent, own_lies c.args.after c.args.path (reverse mid.lists.items) c.requires.own parent) in
     record { some_open = mid.some_open; in_range = sound.in_range; few = sound.few; sound = is_sound_of mid.options mid.start c.push.new.self.items mid.first_open sound }
 
 pub returns-in-Ok-clause-goes : goal.returns-in-Ok-clause-goes
@@ -55,7 +63,7 @@ returns-in-Ok-clause-goes g c =
     goes_in old there new (g.D.Disk.faults c.args.disk.now) (g.D.Disk.faults c.make_room.new.disk) (g.D.Disk.faults c.contents.new.disk) (length c.args.self.now.lists.items)
     (length-reverse mid.lists.items ∙ c.in_ok-make_room.ensures.kept.count) c.in_ok-make_room.ensures.goes
     (goes_pushed there new list (g.D.Disk.faults c.make_room.new.disk) (g.D.Disk.faults c.contents.new.disk) (record { options = refl; order = refl; start = refl })
-    (ap reverse c.in-Ok.ensures.items ∙ reversed_last mid.lists.items list) c.in_ok-items.ensures.streams (omega arith) c.in_ok-items.ensures.bounded c.in_ok-items.ensures.cause)
+    (ap reverse c.in-Ok.ensures.items ∙ reversed_last mid.lists.items list) c.in_ok-items.ensures.streams (omega arith) c.in_ok-items.ensures.bounded c.in_ok-items.ensures.cause c.in_ok-items.ensures.whole)
 
 pub returns-in-Err-clause-goes : goal.returns-in-Err-clause-goes
 returns-in-Err-clause-goes g c =
@@ -103,3 +111,17 @@ returns-in-Ok-clause-holds g c =
     pushed_holds state old there new c.args.path c.args.depth c.args.place c.args.after c.in_ok-items.items kept.options (ap (option_map g.S.Sorter.order) kept.sorter)
     (length-reverse mid.lists.items ∙ kept.count ∙ sym c.requires.depth) (ap reverse c.in-Ok.ensures.items ∙ reversed_last mid.lists.items list) c.in_ok-items.ensures.whole
     (subst (λ s. HasContents s there.order there.options c.args.path c.args.depth (Ok c.in_ok-items.items) new.streams) c.in_ok-make_room.ensures.state c.in_ok-items.ensures.contents)
+
+pub returns-in-Ok-clause-head : goal.returns-in-Ok-clause-head
+returns-in-Ok-clause-head g c =
+    let mid = c.make_room.new.self in
+    let list : DirList = record { path = c.args.path; place = c.args.place; items = c.in_ok-items.items; after = c.args.after } in
+    head_pushed (reverse c.push.new.self.items) list (reverse mid.lists.items) c.args.depth (ap reverse c.in-Ok.ensures.items ∙ reversed_last mid.lists.items list)
+    (c.requires.depth ∙ sym (length-reverse mid.lists.items ∙ c.in_ok-make_room.ensures.kept.count)) c.in_ok-items.ensures.whole
+
+pub returns-in-Ok-clause-above : goal.returns-in-Ok-clause-above
+returns-in-Ok-clause-above g c =
+    let mid = c.make_room.new.self in
+    let list : DirList = record { path = c.args.path; place = c.args.place; items = c.in_ok-items.items; after = c.args.after } in
+    ap (λ (l : List DirList). ancestors (reverse l)) c.in-Ok.ensures.items ∙ ap ancestors (reversed_last mid.lists.items list)
+    ∙ ap (λ (a : List Ancestor). (record { path = c.args.path; place = c.args.place }) ∷ a) c.in_ok-make_room.ensures.kept.above

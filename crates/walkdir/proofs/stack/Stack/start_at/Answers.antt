@@ -4,13 +4,17 @@ use Rattle.std.specs.Prelude.{IfSome}
 use Rattle.odb_disk.specs.Tree.{tree_of}
 use Rattle.odb_disk.specs.Tree.Follow.{looked}
 use Rattle.odb_disk.specs.declared.disk.Meta.{Meta}
-use Rattle.walkdir.specs.EnteredTurns.{BeginsTelling, HandlesTelling}
+use Rattle.walkdir.specs.EnteredTurns.{BeginsTelling, HandlesAbove, HandlesTelling}
+use Rattle.walkdir.specs.Innermost.{IsAfter}
 use Rattle.walkdir.specs.StackProgress.{progress}
 use Rattle.walkdir.specs.Turns.{BeginsWalk, HandlesEntry, handed}
 use Rattle.walkdir.specs.Walk.{Tells, entry_by, told_at}
 use Rattle.walkdir.specs.declared.stack.Stack.{Stack}
+use Rattle.walkdir.proofs.AboveLemmas.{begins_above, begins_above_none}
 use Rattle.walkdir.proofs.EnteredLemmas.{begins_error, begins_handling}
-use Rattle.walkdir.proofs.HandlesLemmas.{FoundDevice, begins_lost, begins_nowhere, begins_root, device_unwanted, device_wanted, err_is, keeps_alike}
+use Rattle.walkdir.proofs.HandlesLemmas.{err_is, keeps_alike}
+use Rattle.walkdir.proofs.RootLemmas.{FoundDevice, begins_lost, begins_nowhere, begins_root, device_unwanted, device_wanted}
+use Rattle.walkdir.proofs.InnermostLemmas.{after_root_error, lies_nowhere, open_nowhere}
 use Rattle.walkdir.proofs.stack.Stack.start_at.Goals as goal
 use Rattle.walkdir.proofs.stack.Stack.start_at.Goals.{then-self+in_ok-self, else-self}
 
@@ -137,3 +141,92 @@ returns-clause-directory g c = λ unmarked.
     ] in
     begins_handling state old mid new c.args.root item options (ap (option_map g.S.Sorter.order) sorter) device
     (subst (λ o. HandlesTelling o mid item new) (c.in_ok-meta.ensures.kept ∙ same_state) (c.handle.ensures.directory (marked ∙ unmarked)))
+
+pub returns-in_err-self-clause-innermost : goal.returns-in_err-self-clause-innermost
+returns-in_err-self-clause-innermost g c =
+    let walk = c.args.self.now in
+    let stack = reverse walk.lists.items in
+    let error = c.in_err-self.field-0.0 in
+    subst (λ r. IsAfter walk.options (handed r) stack) (sym (err_is c.from_residual.result error c.from_residual.ensures.1))
+    (after_root_error walk.options c.args.root error stack (ap reverse c.requires.stack) c.in_err-self.ensures.call)
+
+pub returns-in_err-meta-clause-innermost : goal.returns-in_err-meta-clause-innermost
+returns-in_err-meta-clause-innermost g c =
+    let walk = c.args.self.now in
+    let error = c.in_err-meta.field-0.0 in
+    let stack = reverse c.if-self.self.lists.items in
+    let lists : c.if-self.self.lists.items ≡ walk.lists.items = elim c.if-self.branch [
+      | then-self+in_ok-self w ↦ ap (λ (s : Stack g.row.S.Denot). s.lists.items) w.self-is
+      | else-self w ↦ ap (λ (s : Stack g.row.S.Denot). s.lists.items) w.self-is
+    ] in
+    subst (λ r. IsAfter c.if-self.self.options (handed r) stack) (sym (err_is c.from_residual-in_err-meta.result error c.from_residual-in_err-meta.ensures.1))
+    (after_root_error c.if-self.self.options c.args.root error stack (ap reverse (lists ∙ c.requires.stack)) c.in_err-meta.ensures.call)
+
+pub handle-requires-clause-parent : goal.handle-requires-clause-parent
+handle-requires-clause-parent g c =
+    let walk = c.args.self.now in
+    let lists : c.if-self.self.lists.items ≡ walk.lists.items = elim c.if-self.branch [
+      | then-self+in_ok-self w ↦ ap (λ (s : Stack g.row.S.Denot). s.lists.items) w.self-is
+      | else-self w ↦ ap (λ (s : Stack g.row.S.Denot). s.lists.items) w.self-is
+    ] in
+    lies_nowhere c.entry_by.result.path (reverse c.if-self.self.lists.items) (ap reverse (lists ∙ c.requires.stack))
+
+pub handle-requires-clause-unskipped : goal.handle-requires-clause-unskipped
+handle-requires-clause-unskipped g c =
+    let walk = c.args.self.now in
+    let lists : c.if-self.self.lists.items ≡ walk.lists.items = elim c.if-self.branch [
+      | then-self+in_ok-self w ↦ ap (λ (s : Stack g.row.S.Denot). s.lists.items) w.self-is
+      | else-self w ↦ ap (λ (s : Stack g.row.S.Denot). s.lists.items) w.self-is
+    ] in
+    open_nowhere (reverse c.if-self.self.lists.items) (ap reverse (lists ∙ c.requires.stack))
+
+pub returns-clause-above : goal.returns-clause-above
+returns-clause-above g c =
+    let state = g.D.Disk.state c.args.disk.now in
+    let walk = c.args.self.now in
+    let meta = c.in_ok-meta.meta in
+    let item = handed c.handle.result in
+    let old = progress g.S.Sorter.order walk (g.D.Disk.streams c.args.disk.now) in
+    let mid = progress g.S.Sorter.order c.if-self.self (g.D.Disk.streams c.look-2.new.disk) in
+    let new = progress g.S.Sorter.order c.handle.new.self (g.D.Disk.streams c.handle.new.disk) in
+    let options : c.if-self.self.options ≡ walk.options = elim c.if-self.branch [
+      | then-self+in_ok-self w ↦ ap (λ (s : Stack g.row.S.Denot). s.options) w.self-is
+      | else-self w ↦ ap (λ (s : Stack g.row.S.Denot). s.options) w.self-is
+    ] in
+    let sorter : c.if-self.self.sorter ≡ walk.sorter = elim c.if-self.branch [
+      | then-self+in_ok-self w ↦ ap (λ (s : Stack g.row.S.Denot). s.sorter) w.self-is
+      | else-self w ↦ ap (λ (s : Stack g.row.S.Denot). s.sorter) w.self-is
+    ] in
+    let lists : c.if-self.self.lists.items ≡ walk.lists.items = elim c.if-self.branch [
+      | then-self+in_ok-self w ↦ ap (λ (s : Stack g.row.S.Denot). s.lists.items) w.self-is
+      | else-self w ↦ ap (λ (s : Stack g.row.S.Denot). s.lists.items) w.self-is
+    ] in
+    let same_state : g.D.Disk.state c.if-self.disk ≡ state = elim c.if-self.branch [
+      | then-self+in_ok-self w ↦ ap g.D.Disk.state w.disk-is ∙ w.in_ok-self.ensures.kept
+      | else-self w ↦ ap g.D.Disk.state w.disk-is
+    ] in
+    let device : FoundDevice state walk.options c.args.root c.if-self.self.root_device = elim c.if-self.branch [
+      | then-self+in_ok-self w ↦
+          let is : w.in_ok-self.field-0.dev ≡ c.if-self.self.root_device = sym (ap (λ (s : Stack g.row.S.Denot). s.root_device) w.self-is) in
+          subst (λ d. FoundDevice state walk.options c.args.root d) is (device_wanted state walk.options c.args.root w.in_ok-self.field-0 w.in_ok-self.ensures.told)
+      | else-self w ↦ device_unwanted state walk.options c.args.root c.if-self.self.root_device w.if-self.false
+    ] in
+    begins_above state old mid new c.args.root meta item options (ap (option_map g.S.Sorter.order) sorter) (ap reverse (lists ∙ c.requires.stack)) device
+    (subst (λ o. IfSome o (λ s. Tells 0 c.args.root (Ok meta) (told_at 0 c.args.root (looked (tree_of s) c.args.root false)))) same_state c.in_ok-meta.ensures.told)
+    (subst (λ o. HandlesAbove o mid (entry_by c.args.root false 0 meta) item new) (c.in_ok-meta.ensures.kept ∙ same_state)
+    (subst (λ e. HandlesAbove (g.D.Disk.state c.look-2.new.disk) mid e item new) c.entry_by.ensures c.handle.ensures.above))
+
+pub returns-in_err-self-clause-above : goal.returns-in_err-self-clause-above
+returns-in_err-self-clause-above g c =
+    begins_above_none (g.D.Disk.state c.args.disk.now) (progress g.S.Sorter.order c.args.self.now (g.D.Disk.streams c.args.disk.now))
+    (progress g.S.Sorter.order c.args.self.now (g.D.Disk.streams c.look.new.disk)) c.args.root (handed c.from_residual.result) (ap reverse c.requires.stack)
+
+pub returns-in_err-meta-clause-above : goal.returns-in_err-meta-clause-above
+returns-in_err-meta-clause-above g c =
+    let walk = c.args.self.now in
+    let lists : c.if-self.self.lists.items ≡ walk.lists.items = elim c.if-self.branch [
+      | then-self+in_ok-self w ↦ ap (λ (s : Stack g.row.S.Denot). s.lists.items) w.self-is
+      | else-self w ↦ ap (λ (s : Stack g.row.S.Denot). s.lists.items) w.self-is
+    ] in
+    begins_above_none (g.D.Disk.state c.args.disk.now) (progress g.S.Sorter.order walk (g.D.Disk.streams c.args.disk.now))
+    (progress g.S.Sorter.order c.if-self.self (g.D.Disk.streams c.look-2.new.disk)) c.args.root (handed c.from_residual-in_err-meta.result) (ap reverse (lists ∙ c.requires.stack))

@@ -1,15 +1,18 @@
 use Rattle.std.proofs.Common.{◌≡◌, ◌+◌, ◌≤◌, [], None, ap, refl, length, reverse, subst, sym, ◌∙◌, arith}
 use lib.ListN.{length-reverse}
-use Rattle.std.specs.Prelude.{IfSome, Ok, Some, true}
+use Rattle.std.specs.Prelude.{Err, IfSome, Ok, Some, true}
 use Rattle.std.specs.Option.{option_map}
-use Rattle.walkdir.specs.Progress.{GivesDirectory, GivesNext, CausedWithin, Progress, is_innermost}
-use Rattle.walkdir.specs.Stack.{IsAt, ancestors, work_in}
-use Rattle.walkdir.specs.EnteredTurns.{HandlesTelling}
+use Rattle.walkdir.specs.Progress.{GivesDirectory, GivesEntered, GivesNext, CausedWithin, Progress, is_innermost}
+use Rattle.walkdir.specs.Innermost.{IsAfter, IsFromHead}
+use Rattle.walkdir.specs.Stack.{ancestors, work_in}
+use Rattle.walkdir.specs.EnteredTurns.{HandlesAbove, HandlesTelling}
 use Rattle.walkdir.specs.StackProgress.{progress}
 use Rattle.walkdir.specs.Turns.{DrawsChild, EndsWell, HandlesEntry, fresh, handed, item_of}
 use Rattle.walkdir.specs.declared.builder.Options.{Options}
+use Rattle.walkdir.proofs.AboveLemmas.{turn_above_begun, turn_above_handled, turn_above_left, turn_above_same}
 use Rattle.walkdir.proofs.CausesLemmas.{caused_given, caused_by_call, caused_turn}
 use Rattle.walkdir.proofs.EnteredLemmas.{gives_error, turn_tells_begun, turn_tells_handled, turn_tells_left}
+use Rattle.walkdir.proofs.InnermostLemmas.{after_head_error, after_left, after_turn, from_call, from_depth, from_open, from_parent, from_some}
 use Rattle.walkdir.proofs.ProgressLemmas.{begun_less, begun_with, ends_less, handled_less, item_turn, left_less, not_innermost, taken_less}
 use Rattle.walkdir.proofs.SoundLemmas.{is_sound_begun, nothing_before}
 use Rattle.walkdir.proofs.TurnsLemmas.{Runs, turn_begins, turn_fails, turn_handles, turn_leaves}
@@ -25,19 +28,36 @@ start_at-requires-clause-stack g c =
     let walk = c.args.self.now in
     nothing_before walk.options walk.start c.in-Some.root walk.lists.items walk.first_open (sym c.in-Some.ensures.value) walk.some_open walk.in_range walk.few walk.sound
 
+pub handle-requires-clause-depth : goal.handle-requires-clause-depth
+handle-requires-clause-depth g c =
+    let stack = reverse c.next_child.new.self.lists.items in
+    from_depth stack c.in-Some-Ok.entry (subst (λ i. IsFromHead stack i) c.in-Some-Ok.field-0-is c.in-Some-Ok.ensures.from) ∙ length-reverse c.next_child.new.self.lists.items
+
+pub handle-requires-clause-parent : goal.handle-requires-clause-parent
+handle-requires-clause-parent g c =
+    let stack = reverse c.next_child.new.self.lists.items in
+    from_parent stack c.in-Some-Ok.entry (subst (λ i. IsFromHead stack i) c.in-Some-Ok.field-0-is c.in-Some-Ok.ensures.from)
+
+pub handle-requires-clause-unskipped : goal.handle-requires-clause-unskipped
+handle-requires-clause-unskipped g c =
+    let stack = reverse c.next_child.new.self.lists.items in
+    from_open stack (Ok c.in-Some-Ok.entry) (subst (λ i. IsFromHead stack i) c.in-Some-Ok.field-0-is c.in-Some-Ok.ensures.from)
+
 pub returns-in-Some-Err-clause-turns : goal.returns-in-Some-Err-clause-turns
 returns-in-Some-Err-clause-turns g c =
     let old = progress g.S.Sorter.order c.args.self.now (g.D.Disk.streams c.args.disk.now) in
     let new = progress g.S.Sorter.order c.next_child.new.self (g.D.Disk.streams c.next_child.new.disk) in
     let begun = begun_with old c.requires in
     let first : c.args.self.now.start ≡ None = sym c.take.ensures.value ∙ c.in_default.is in
+    let from = subst (λ i. IsFromHead new.stack i) c.in-Some-Err.field-0-is c.in-Some-Err.ensures.from in
     record {
       options = c.in-Some-Err.ensures.goes.options;
       keeps = c.in-Some-Err.ensures.goes.keeps;
       entered = λ no. c.in-Some-Err.ensures.kept.entered ∙ no;
       ends = taken_less old new c.in-Some-checked_sub.index first (c.in-Some-Err.ensures.kept.start ∙ c.take.ensures.after) (c.in-Some-Err.ensures.less.1 begun.0 begun.1);
-      causes = caused_by_call new.options (ancestors new.stack) c.in-Some-Err.error
-          (subst (λ i. IsAt (c.in-Some-checked_sub.index + 1) i) c.in-Some-Err.field-0-is c.in-Some-Err.ensures.depth);
+      causes = caused_by_call new.options (ancestors new.stack) c.in-Some-Err.error (from_call new.stack c.in-Some-Err.error from);
+      innermost = after_head_error new.options c.in-Some-Err.error new.stack from;
+      skips = c.in-Some-Err.ensures.goes.skips;
     }
 
 pub returns-in-Some-Ok-clause-turns : goal.returns-in-Some-Ok-clause-turns
@@ -60,6 +80,8 @@ returns-in-Some-Ok-clause-turns g c =
           c.handle.ensures.goes.options c.in-Some-Ok.ensures.less.0 deep (c.in-Some-Ok.ensures.less.1 begun.0 begun.1)
           (c.handle.ensures.goes.work begun.0 (c.in-Some-Ok.ensures.goes.keeps begun.0 begun.1))));
       causes = subst (λ t. CausedWithin new (item_of t)) (sym c.turn_of-in-Some-Ok.ensures) (caused_turn new c.handle.result c.handle.ensures.causes);
+      innermost = subst (λ t. IsAfter new.options (item_of t) new.stack) (sym c.turn_of-in-Some-Ok.ensures) (after_turn new.options c.handle.result new.stack c.handle.ensures.innermost);
+      skips = λ path depth was. c.in-Some-Ok.ensures.goes.skips path depth (c.handle.ensures.goes.skips path depth was);
     }
 
 pub returns-in-None-clause-turns : goal.returns-in-None-clause-turns
@@ -79,6 +101,10 @@ returns-in-None-clause-turns g c =
           (ends_less old new (Ok c.leave.result)
           (left_less old mid new first (c.leave.ensures.goes.start ∙ there) (c.leave.ensures.less begun.0 (c.in-None.ensures.goes.keeps begun.0 begun.1)) (c.in-None.ensures.goes.work begun.0 begun.1)));
       causes = subst (λ t. CausedWithin new (item_of t)) (sym c.given.ensures) (caused_given new c.leave.result);
+      innermost = subst (λ t. IsAfter new.options (item_of t) new.stack) (sym c.given.ensures)
+          (after_left new.options c.leave.result new.stack (subst (λ n. IfSome c.leave.result (λ entry. entry.depth ≡ n)) (sym (length-reverse c.leave.new.self.lists.items)) c.leave.ensures.depth)
+          c.leave.ensures.own (subst (λ (o : Options). IfSome c.leave.result (λ _. o.contents_first ≡ true)) (sym c.leave.ensures.goes.options) c.leave.ensures.first));
+      skips = λ path depth was. c.in-None.ensures.goes.skips path depth (c.leave.ensures.goes.skips path depth was);
     }
 
 pub returns-in-Some-clause-turns : goal.returns-in-Some-clause-turns
@@ -100,6 +126,8 @@ returns-in-Some-clause-turns g c =
           (subst (λ n. work_in new.options.max_depth new.streams new.stack ≤ work_in mid.options.max_depth mid.streams mid.stack + fresh mid.options.max_depth n) (ap length none)
           (c.start_at.ensures.goes.work begun.0 begun.1))));
       causes = subst (λ t. CausedWithin new (item_of t)) (sym c.turn_of.ensures) (caused_turn new c.start_at.result c.start_at.ensures.causes);
+      innermost = subst (λ t. IsAfter new.options (item_of t) new.stack) (sym c.turn_of.ensures) (after_turn new.options c.start_at.result new.stack c.start_at.ensures.innermost);
+      skips = c.start_at.ensures.goes.skips;
     }
 
 pub returns-in-Some-clause-gives : goal.returns-in-Some-clause-gives
@@ -228,3 +256,48 @@ returns-in-None-clause-directory g c = λ unmarked.
     subst (λ t. GivesDirectory state old (item_of t) new) (sym c.given.ensures)
     (turn_tells_left state old new c.leave.result (c.leave.ensures.entered ∙ kept.entered ∙ unmarked)
     (subst (λ (o : Options). IfSome c.leave.result (λ _. o.contents_first ≡ true)) kept.options c.leave.ensures.first))
+
+pub returns-in-Some-clause-above : goal.returns-in-Some-clause-above
+returns-in-Some-clause-above g c =
+    let walk = c.args.self.now in
+    let state = g.D.Disk.state c.args.disk.now in
+    let old = progress g.S.Sorter.order walk (g.D.Disk.streams c.args.disk.now) in
+    let mid : Progress = record old { start = c.take.new.self } in
+    let new = progress g.S.Sorter.order c.start_at.new.self (g.D.Disk.streams c.start_at.new.disk) in
+    subst (λ t. GivesEntered state old (item_of t) new) (sym c.turn_of.ensures)
+    (turn_above_begun state old mid new c.in-Some.root c.start_at.result (sym c.in-Some.ensures.value) refl refl c.start_at.ensures.above)
+
+pub returns-in-Some-Err-clause-above : goal.returns-in-Some-Err-clause-above
+returns-in-Some-Err-clause-above g c =
+    turn_above_same (g.D.Disk.state c.args.disk.now) (progress g.S.Sorter.order c.args.self.now (g.D.Disk.streams c.args.disk.now))
+    (progress g.S.Sorter.order c.next_child.new.self (g.D.Disk.streams c.next_child.new.disk)) (Some (Err c.in-Some-Err.error)) c.in-Some-Err.ensures.kept.above
+
+pub returns-in-Some-Ok-clause-above : goal.returns-in-Some-Ok-clause-above
+returns-in-Some-Ok-clause-above g c =
+    let walk = c.args.self.now in
+    let state = g.D.Disk.state c.args.disk.now in
+    let old = progress g.S.Sorter.order walk (g.D.Disk.streams c.args.disk.now) in
+    let mid = progress g.S.Sorter.order c.next_child.new.self (g.D.Disk.streams c.next_child.new.disk) in
+    let new = progress g.S.Sorter.order c.handle.new.self (g.D.Disk.streams c.handle.new.disk) in
+    let first : walk.start ≡ None = sym c.take.ensures.value ∙ c.in_default.is in
+    let kept = c.in-Some-Ok.ensures.kept in
+    let there : Runs old mid = record {
+      begun = first;
+      some = λ empty. (let none : length (reverse walk.lists.items) ≡ 0 = ap length empty in let same = length-reverse walk.lists.items in omega arith);
+      options = kept.options;
+      order = ap (option_map g.S.Sorter.order) kept.sorter;
+      start = kept.start ∙ c.take.ensures.after;
+      device = kept.device;
+    } in
+    subst (λ t. GivesEntered state old (item_of t) new) (sym c.turn_of-in-Some-Ok.ensures)
+    (turn_above_handled state old mid new c.in-Some-Ok.entry c.handle.result there
+    (from_some mid.stack (Ok c.in-Some-Ok.entry) (subst (λ i. IsFromHead mid.stack i) c.in-Some-Ok.field-0-is c.in-Some-Ok.ensures.from)) kept.above
+    (subst (λ s. HandlesAbove s mid c.in-Some-Ok.entry (handed c.handle.result) new) c.in-Some-Ok.ensures.state c.handle.ensures.above))
+
+pub returns-in-None-clause-above : goal.returns-in-None-clause-above
+returns-in-None-clause-above g c =
+    let state = g.D.Disk.state c.args.disk.now in
+    let old = progress g.S.Sorter.order c.args.self.now (g.D.Disk.streams c.args.disk.now) in
+    let mid = progress g.S.Sorter.order c.next_child.new.self (g.D.Disk.streams c.next_child.new.disk) in
+    let new = progress g.S.Sorter.order c.leave.new.self (g.D.Disk.streams c.leave.new.disk) in
+    turn_above_left state old mid new c.leave.ensures.above.0 (item_of c.given.result) c.in-None.ensures.kept.above c.leave.ensures.above.1

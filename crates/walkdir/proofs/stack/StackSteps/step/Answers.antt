@@ -1,13 +1,13 @@
 use Rattle.std.proofs.Common.{false, Some, None, refl, subst, sym, ◌∙◌}
 use Rattle.std.specs.Prelude.{Ok, Err}
 use Rattle.walkdir.specs.Failures.{failures_given}
-use Rattle.walkdir.specs.Progress.{FailsByFault, GivesDirectory, GivesNext}
+use Rattle.walkdir.specs.Progress.{FailsByFault, GivesDirectory, GivesEntered, GivesNext}
 use Rattle.walkdir.specs.StackProgress.{progress}
 use Rattle.walkdir.specs.Turns.{Turns}
 use Rattle.walkdir.specs.declared.stack.Turn.TheVariants as turns
 use Rattle.walkdir.proofs.EnteredLemmas.{directory_then, gives_error, gives_nothing_entered}
 use Rattle.walkdir.proofs.ProgressLemmas.{still_has_streams}
-use Rattle.walkdir.proofs.TurnsLemmas.{ended_keeps, fails_over, fails_same, fails_then, passes_none, passes_on, steps_ended, steps_given, steps_lost}
+use Rattle.walkdir.proofs.TurnsLemmas.{ended_keeps, entered_then, fails_over, fails_same, fails_then, passes_none, passes_on, steps_ended, steps_given, steps_lost}
 use Rattle.walkdir.proofs.stack.StackSteps.step.Goals as goal
 use Rattle.walkdir.proofs.stack.StackSteps.step.Goals.{then-is_out_of_memory, else-is_out_of_memory}
 
@@ -33,7 +33,8 @@ loop-entry-preserved g c =
     let new = progress g.S.Sorter.order c.turn.new.self (g.D.Disk.streams c.turn.new.disk) in
     let so_far = c.loop-entry.invariant in
     record {
-      passes = passes_on state old mid new so_far.passes (subst (λ s. GivesNext s mid None new) so_far.state c.in-Passed.ensures.gives) c.in-Passed.ensures.turns;
+      passes = passes_on state old mid new so_far.passes (subst (λ s. GivesNext s mid None new) so_far.state c.in-Passed.ensures.gives) c.in-Passed.ensures.turns
+          (subst (λ s. GivesEntered s mid None new) so_far.state c.in-Passed.ensures.above);
       faults = fails_then old mid new (g.D.Disk.faults c.args.disk.now) (g.D.Disk.faults c.loop-entry.disk) (g.D.Disk.faults c.turn.new.disk) 0 so_far.faults c.in-Passed.ensures.faults;
       state = c.in-Passed.ensures.state ∙ so_far.state;
     }
@@ -56,6 +57,7 @@ returns-in-Ended-clause-steps g c =
     let so_far = c.loop-entry.invariant in
     steps_ended state old mid new so_far.passes (subst (λ s. GivesNext s mid None new) so_far.state c.in-Ended.ensures.gives) c.in-Ended.ensures.turns
     (gives_nothing_entered state old new)
+    (entered_then state old mid new None so_far.passes (subst (λ s. GivesEntered s mid None new) so_far.state c.in-Ended.ensures.above))
 
 pub returns-in-Ended-clause-faults : goal.returns-in-Ended-clause-faults
 returns-in-Ended-clause-faults g c =
@@ -84,6 +86,9 @@ returns-in-Item-Ok-clause-steps g c =
     (directory_then state old mid new (Some (Ok c.in-Item-Ok.entry)) so_far.passes
     (subst (λ s. GivesDirectory s mid (Some (Ok c.in-Item-Ok.entry)) new) so_far.state
     (subst (λ i. GivesDirectory (g.D.Disk.state c.loop-entry.disk) mid (Some i) new) is (c.in-Item-Ok.ensures.directory so_far.passes.entered))))
+    (entered_then state old mid new (Some (Ok c.in-Item-Ok.entry)) so_far.passes
+    (subst (λ s. GivesEntered s mid (Some (Ok c.in-Item-Ok.entry)) new) so_far.state
+    (subst (λ i. GivesEntered (g.D.Disk.state c.loop-entry.disk) mid (Some i) new) is c.in-Item-Ok.ensures.above)))
 
 pub returns-in-Item-Ok-clause-faults : goal.returns-in-Item-Ok-clause-faults
 returns-in-Item-Ok-clause-faults g c =
@@ -131,7 +136,9 @@ returns-in-Item-Err-clause-steps g c =
           rw (w.self-is, w.disk-is)
           (steps_given state old mid there (Err error) (sym c.is_out_of_memory.ensures ∙ w.if-is_out_of_memory.false) so_far.passes
           (subst (λ s. GivesNext s mid (Some (Err error)) there) so_far.state (subst (λ i. GivesNext (g.D.Disk.state c.loop-entry.disk) mid (Some i) there) is c.in-Item-Err.ensures.gives)) turn
-          (gives_error state old there error))
+          (gives_error state old there error)
+          (entered_then state old mid there (Some (Err error)) so_far.passes
+          (subst (λ s. GivesEntered s mid (Some (Err error)) there) so_far.state (subst (λ i. GivesEntered (g.D.Disk.state c.loop-entry.disk) mid (Some i) there) is c.in-Item-Err.ensures.above))))
     ]
 
 pub returns-in-Item-Err-clause-faults : goal.returns-in-Item-Err-clause-faults

@@ -1,0 +1,22 @@
+//! What walks give on disks in memory, and what the crates on walks make of it: Git's order, composed names, and the
+//! answers that callers read off a walk.
+//!
+//! It has tests alone. Most are tables: a row has what is walked and how, and behind a bar what is told of it.
+#![tactic(auto)]
+
+#[cfg(test)]
+mod composed;
+#[cfg(test)]
+mod entries;
+#[cfg(test)]
+mod led;
+#[cfg(test)]
+mod skips;
+#[cfg(test)]
+mod streams;
+#[cfg(test)]
+mod uses;
+#[cfg(test)]
+mod walks;
+#[cfg(test)]
+mod words;

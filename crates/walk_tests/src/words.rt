@@ -1,0 +1,173 @@
+//! Disks, walks and items in words.
+use odb_disk::{ByteList, Change, MemDisk, PathText};
+use std::alloc::{AllocError, Global};
+use std::fmt::Write;
+use std::test::Fail;
+use walkdir::{DirEntry, Error, NoSort, WalkDir};
+
+/// The first word of a text and what stands behind it, which is empty where there is one word alone.
+pub fn cut(text: &str) -> (&str, &str) {
+    text.split_once(' ').unwrap_or((text, ""))
+}
+
+/// What a table asks of a disk.
+pub trait Question {
+    /// Tells what is asked.
+    fn tell(
+        &self,
+        alloc: Global,
+        told: &mut String,
+        disk: &mut MemDisk,
+        asked: &str,
+    ) -> Result<(), Fail>;
+}
+
+/// Compares what is told of each row on a new disk with these nodes. A row is what is asked, and behind a bar what is to be
+/// told. Before it may stand `fail` and the number of the call that fails.
+pub fn check<Q: Question>(
+    alloc: Global,
+    question: &Q,
+    nodes: &str,
+    rows: &str,
+) -> Result<(), Fail> {
+    for row in rows.split('\n') {
+        check_row(alloc, question, nodes, row)?;
+    }
+    Ok(())
+}
+
+fn check_row<Q: Question>(alloc: Global, question: &Q, nodes: &str, row: &str) -> Result<(), Fail> {
+    let (text, want) = row.split_once('|').unwrap_or((row, ""));
+    let (number, asked) = match text.strip_prefix("fail ") {
+        Some(rest) => cut(rest),
+        None => ("0", text),
+    };
+    let number = number.parse::<u64>()?;
+    check_call(alloc, question, nodes, asked, number, want)?;
+    Ok(())
+}
+
+/// Compares what is told where the call of this number fails, and hands out how many calls were made.
+pub fn check_call<Q: Question>(
+    alloc: Global,
+    question: &Q,
+    nodes: &str,
+    asked: &str,
+    number: u64,
+    want: &str,
+) -> Result<u64, Fail> {
+    let mut told = String::new(alloc);
+    let mut disk = MemDisk::with_faults(alloc, &[number])?;
+    put_all(alloc, &mut disk, nodes)?;
+    question.tell(alloc, &mut told, &mut disk, asked)?;
+    compare(asked, told.as_str(), want)?;
+    Ok(disk.calls())
+}
+
+/// Fails where something else is told than is wanted. A blank at the end doesn't count.
+fn compare(asked: &str, told: &str, want: &str) -> Result<(), Fail> {
+    if told.trim_end() == want {
+        return Ok(());
+    }
+    Err(Fail::new(format_args!("{asked}: {told} in place of {want}")))
+}
+
+/// Puts these nodes on a disk: `dir PATH`, `dev NUMBER PATH` for a directory on a device, `file PATH TEXT`,
+/// `link PATH TARGET`.
+fn put_all(alloc: Global, disk: &mut MemDisk, nodes: &str) -> Result<(), Fail> {
+    for node in nodes.split(", ") {
+        put(alloc, disk, node)?;
+    }
+    Ok(())
+}
+
+fn put(alloc: Global, disk: &mut MemDisk, node: &str) -> Result<(), Fail> {
+    let change = change_of(alloc, node)?;
+    disk.change(alloc, &change)?;
+    Ok(())
+}
+
+fn change_of(alloc: Global, node: &str) -> Result<Change, Fail> {
+    let (verb, rest) = cut(node);
+    let (first, second) = cut(rest);
+    match verb {
+        "dir" => dir_of(alloc, first, "0"),
+        "dev" => dir_of(alloc, second, first),
+        "link" => link_of(alloc, first, second),
+        _ => file_of(alloc, first, second),
+    }
+}
+
+fn dir_of(alloc: Global, path: &str, dev: &str) -> Result<Change, Fail> {
+    let dev = dev.parse::<u64>()?;
+    let path = PathText::parse(alloc, path)?;
+    Ok(Change::MakeDir { path, dev })
+}
+
+fn link_of(alloc: Global, path: &str, target: &str) -> Result<Change, Fail> {
+    let path = PathText::parse(alloc, path)?;
+    let target = PathText::parse(alloc, target)?;
+    Ok(Change::PutLink { path, target })
+}
+
+fn file_of(alloc: Global, path: &str, text: &str) -> Result<Change, Fail> {
+    let path = PathText::parse(alloc, path)?;
+    let bytes = ByteList::from_slice(alloc, text.as_bytes())?;
+    let time = 0;
+    Ok(Change::PutFile { path, time, bytes })
+}
+
+/// A walk with options: `follow`, `noroot`, `first` for contents first, `same` for one file system, `min N`, `max N`,
+/// `open N`. Other words change nothing.
+pub fn built(walk: WalkDir<NoSort>, options: &str) -> WalkDir<NoSort> {
+    let mut walk = walk;
+    for option in options.split(", ") {
+        let (word, number) = cut(option);
+        walk = with_option(walk, word, number.parse::<usize>().unwrap_or(0));
+    }
+    walk
+}
+
+fn with_option(walk: WalkDir<NoSort>, word: &str, number: usize) -> WalkDir<NoSort> {
+    match word {
+        "follow" => walk.follow_links(true),
+        "noroot" => walk.follow_root_links(false),
+        "first" => walk.contents_first(true),
+        "same" => walk.same_file_system(true),
+        "min" => walk.min_depth(number),
+        "max" => walk.max_depth(number),
+        "open" => walk.max_open(number),
+        _ => walk,
+    }
+}
+
+/// Tells an item: the path, with `@` behind an entry that is a link or lies behind one, or the error.
+pub fn tell(told: &mut String, item: walkdir::Result<DirEntry>) -> Result<(), AllocError> {
+    match item {
+        Ok(entry) => tell_entry(told, &entry),
+        Err(error) => tell_error(told, &error),
+    }
+}
+
+/// Tells an item, or that there is none.
+pub fn tell_next(
+    told: &mut String,
+    item: Option<walkdir::Result<DirEntry>>,
+) -> Result<(), AllocError> {
+    match item {
+        Some(item) => tell(told, item),
+        None => told.push_str("end "),
+    }
+}
+
+fn tell_entry(told: &mut String, entry: &DirEntry) -> Result<(), AllocError> {
+    let mark = if entry.path_is_symlink() { "@" } else { "" };
+    let path = entry.path();
+    write!(told, "{path}{mark} ")
+}
+
+/// Tells an error's text and depth, in brackets.
+pub fn tell_error(told: &mut String, error: &Error) -> Result<(), AllocError> {
+    let depth = error.depth();
+    write!(told, "[{error} {depth}] ")
+}

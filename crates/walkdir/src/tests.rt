@@ -1,3 +1,0 @@
-mod fixture;
-mod steps;
-mod walks;

@@ -1,7 +1,0 @@
-use Rattle.std.proofs.Common.{◌≡◌}
-use Rattle.walkdir_uses.specs.Found.{paths_of_files}
-use Rattle.walkdir_uses.proofs.files_below.Given as goal
-
--- the paths of the files so far
-abbrev pub invariant-loop-entry : goal.invariant-loop-entry
-invariant-loop-entry g l = l.paths.items ≡ paths_of_files l.yielded
