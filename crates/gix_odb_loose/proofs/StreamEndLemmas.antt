@@ -1,7 +1,7 @@
 -- What a turn of a write from a source comes to, and where memory runs out.
 use Rattle.std.specs.Result.{IsErr}
-use Rattle.std.specs.Prelude.{is_some, ◌≡◌, ℕ, ◌+◌, ◌-◌, ◌≤◌, true, false, List, [], ◌∷◌, ◌++◌, Option, Some, None, Result, Ok, Err, IfSome, refl}
-use Rattle.std.proofs.Common.{inl, sym, ap, subst, arith}
+use Rattle.std.specs.Prelude.{is_some, ◌≡◌, ◌⊎◌, ℕ, ◌+◌, ◌-◌, ◌≤◌, true, false, List, [], ◌∷◌, ◌++◌, Option, Some, None, Result, Ok, Err, IfSome, refl}
+use Rattle.std.proofs.Common.{inl, inr, sym, ap, ◌∙◌, subst, arith}
 use Rattle.odb_base.specs.Faults.{Rose}
 use Rattle.odb_disk.specs.Ask.{AnswersAsk, answer_of, state_told_after}
 use Rattle.odb_disk.specs.Tree.{State, IsTree, tree_of}
@@ -12,11 +12,12 @@ use Rattle.odb_disk.specs.declared.ask.DiskAnswer.TheVariants as answers
 use Rattle.odb_disk.specs.declared.disk.DiskError.TheVariants as disk_errors
 use Rattle.gix_hash.specs.declared.object_id.ObjectId.{ObjectId}
 use Rattle.gix_odb_loose.specs.Exchanges.{exchanged, left_by, AreGiven}
-use Rattle.gix_odb_loose.specs.WriteHistory.{IsRemovedAfter, tried}
+use Rattle.gix_odb_loose.specs.WriteHistory.{IsFailedRead, IsRemovedAfter, tried}
 use Rattle.gix_odb_loose.specs.WriteNames.{Names}
 use Rattle.gix_odb_loose.specs.WriteOrder.{temp_path, number_made}
-use Rattle.gix_odb_loose.specs.StreamJobs.{Begun, at_hand, SourceFailed, StandsAt, IsReady, IsAtItsEnd, BreaksAt, IsBrokenOff, TurnsTo, removal_at}
+use Rattle.gix_odb_loose.specs.StreamJobs.{Begun, at_hand, SourceFailed, IsSpared, FailedAt, LostAt, StandsAt, IsReady, IsAtItsEnd, BreaksAt, IsBrokenOff, LeadsTo, TurnsTo, RunsTo, removal_at}
 use Rattle.gix_odb_loose.specs.declared.stream_job.StreamJob.{StreamJob}
+use Rattle.gix_odb_loose.specs.declared.write_call.Onward.{Onward}
 use Rattle.gix_odb_loose.specs.declared.write_call.Refusal.{Refusal}
 use Rattle.gix_odb_loose.specs.declared.write_call.WriteStage.{WriteStage}
 use Rattle.gix_odb_loose.specs.declared.write_call.WriteStage.TheVariants as stages
@@ -32,13 +33,20 @@ pub turns_broken : {E : Type 0} (w : Begun) (state : Option State) (now : ℕ) (
 turns_broken w state now rest source_now job (Ok x) err broken = absurd (cc err)
 turns_broken w state now rest source_now job (Err error) err broken = broken
 
+pub leads_broken : {E : Type 0} (w : Begun) (state : Option State) (now : ℕ) (rest : Option (List ℕ)) (source_now : ℕ) (job : StreamJob) (result : Result Onward E) → IsErr result → BreaksAt w state now rest source_now job job.stage → LeadsTo w state now rest source_now job result
+leads_broken w state now rest source_now job (Ok x) err broken = absurd (cc err)
+leads_broken w state now rest source_now job (Err error) err broken = broken
+
 -- memory ran out before the next ask
 pub broken_first : (w : Begun) (state : Option State) (now : ℕ) (rest : Option (List ℕ)) (source_now : ℕ) (job fed : StreamJob) → fed ≡ record job { piece = [] } → StandsAt w state now rest source_now job job.stage
     → BreaksAt w state now rest source_now fed fed.stage
 broken_first w state now rest source_now job fed same at =
     subst (λ (j : StreamJob). BreaksAt w state now rest source_now j j.stage) (sym same)
-    (record { past = at.past; appended = at.appended; all = at.all; did = at.did; took = at.took; removal = ready job.stage at.removal; history = at.history; follows = λ bytes told. cuts_at w bytes (SourceFailed w source_now) job.stage at.past (at.follows bytes told) })
+    (record { past = at.past; appended = at.appended; all = at.all; did = at.did; took = at.took; removal = ready job.stage at.removal; history = at.history; spared = lost; follows = λ bytes told. cuts_at w bytes (SourceFailed w source_now) job.stage at.past (at.follows bytes told) })
   where
+    lost : IsSpared w source_now ⊎ LostAt w job.stage at.past
+    lost = elim at.spared [ inl spared ↦ inl spared | inr failed ↦ inr (record { number = failed.number; appended = failed.appended; filled = failed.filled; made = ap number_made failed.is }) ]
+
     ready : (stage : WriteStage) → job.removal ≡ removal_at w stage → IsReady w job.removal stage
     ready (stages.Making number) e = tt
     ready (stages.Heading number) e = e
@@ -53,7 +61,7 @@ module _ (w : Begun) (state : Option State) (now : ℕ) (rest : Option (List ℕ
   -- no file was made
   pub off_unmade : (stage : WriteStage) → is_some (number_made stage) ≡ false → BreaksAt w state now rest source_now job stage → IsBrokenOff w state now rest source_now
   off_unmade (stages.Making number) e at =
-      record { past = at.past; all = at.all; did = at.did; run = record { stage = stages.Making number; appended = at.appended; before = at.past; history = at.history; removed = refl }; took = at.took; follows = λ bytes told. cut_off w bytes (stages.Making number) at.past at.past (at.follows bytes told) refl }
+      record { past = at.past; all = at.all; did = at.did; run = record { stage = stages.Making number; appended = at.appended; before = at.past; history = at.history; removed = refl }; took = at.took; spared = elim at.spared [ inl spared ↦ inl spared | inr lost ↦ absurd (let none = lost.made in cc none) ]; follows = λ bytes told. cut_off w bytes (stages.Making number) at.past at.past (at.follows bytes told) refl }
   off_unmade (stages.Heading number) e at = absurd (cc e)
   off_unmade (stages.Filling number written) e at = absurd (cc e)
   off_unmade (stages.Foldering number id) e at = absurd (cc e)
@@ -77,9 +85,22 @@ module _ (w : Begun) (state : Option State) (now : ℕ) (rest : Option (List ℕ
                 removed = removal_asked;
               };
           took = at.took;
+          spared = elim at.spared [ inl spared ↦ inl spared | inr lost ↦ inr (failed lost) ];
           follows = λ bytes told. cut_off w bytes stage at.past (at.past ++ exchanged job.removal answer ∷ []) (at.follows bytes told) removal_asked;
         }
       where
+        failed : LostAt w stage at.past → IsFailedRead w.head (at.past ++ exchanged job.removal answer ∷ [])
+        failed lost =
+            let same : number ≡ lost.number = let both = sym made ∙ lost.made in cc both in
+            record {
+              number = lost.number;
+              appended = lost.appended;
+              before = at.past;
+              answer = answer;
+              filled = lost.filled;
+              removed = ap (λ (a : DiskAsk). at.past ++ exchanged a answer ∷ []) (ready ∙ ap (λ (n : ℕ). asks.Remove (temp_path w.head.objects n)) same);
+            }
+
         removal_asked : IsRemovedAfter w.head (number_made stage) at.past (at.past ++ exchanged job.removal answer ∷ [])
         removal_asked = subst (λ (n : Option ℕ). IsRemovedAfter w.head n at.past (at.past ++ exchanged job.removal answer ∷ [])) (sym made) (answer, ap (λ (a : DiskAsk). at.past ++ exchanged a answer ∷ []) ready)
 
@@ -109,6 +130,7 @@ stands_first w job head stage ended named removal =
       removal = removal;
       history = (omega arith, refl, refl);
       holds = (refl, ended, named);
+      spared = inl refl;
       follows = λ bytes told. inl (IsAlong-start (at_hand w bytes));
     })
 
@@ -123,3 +145,12 @@ module _ {E : Type 0} (w : Begun) (state : Option State) (now : ℕ) (rest : Opt
 
   pub came_to_want : (error : E) → result ≡ Err error → BreaksAt w state now rest source_now job job.stage
   came_to_want error e = subst (λ (r : Result (Option (Result ObjectId Refusal)) E). TurnsTo w state now rest source_now job r) e turned
+
+-- ---- what all turns came to, by their result
+
+module _ {E : Type 0} (w : Begun) (state : Option State) (now : ℕ) (rest : Option (List ℕ)) (source_now : ℕ) (result : Result (Result ObjectId Refusal) E) (ran : RunsTo w state now rest source_now result) where
+  pub ran_to : (end : Result ObjectId Refusal) → result ≡ Ok end → IsAtItsEnd w state now rest source_now end
+  ran_to end e = subst (RunsTo w state now rest source_now) e ran
+
+  pub ran_off : (error : E) → result ≡ Err error → IsBrokenOff w state now rest source_now
+  ran_off error e = subst (RunsTo w state now rest source_now) e ran

@@ -12,8 +12,8 @@ use Rattle.gix_odb_loose.specs.WriteAsks.{IsAlong}
 use Rattle.gix_odb_loose.specs.WriteHistory.{IsHistory}
 use Rattle.gix_odb_loose.proofs.WriteHistoryLaws.{IsHistory-ended}
 use Rattle.gix_odb_loose.specs.WriteNames.{name_for, Names}
-use Rattle.gix_odb_loose.specs.WriteOrder.{written_in, room_behind, ended_with, source_failed}
-use Rattle.gix_odb_loose.specs.StreamJobs.{Begun, at_hand, Loses, Takes, NamedBy, SourceFailed, Took, HasPiece, HoldsFed, IsNext, StandsAt, IsFed, BreaksAt, GoesOn, IsEnded}
+use Rattle.gix_odb_loose.specs.WriteOrder.{written_in, room_behind, number_made, ended_with, source_failed}
+use Rattle.gix_odb_loose.specs.StreamJobs.{Begun, at_hand, Loses, Takes, NamedBy, SourceFailed, IsSpared, FailedAt, LostAt, Took, HasPiece, HoldsFed, IsNext, StandsAt, IsFed, BreaksAt, GoesOn, IsEnded}
 use Rattle.gix_odb_loose.specs.WriteStreams.{Draws, IsAtEnd, OtherLength}
 use Rattle.gix_odb_loose.specs.declared.stream_job.StreamJob.{StreamJob}
 use Rattle.gix_odb_loose.specs.declared.write_call.Onward.TheVariants.{Stage}
@@ -40,9 +40,10 @@ named_from : (left : Option (List ℕ)) (known : Option ObjectId) (hash : HashKi
 named_from None known hash head all h = tt
 named_from (Some bytes) known hash head all h = ap (name_for known hash head) (sym h)
 
-counts_from : (left : Option (List ℕ)) (size written : ℕ) (all : List ℕ) → IfSome left (λ bytes. bytes ≡ all) → written ≡ length all → written ≤ size → (written ≡ size → ⊥) → OtherLength left size written
-counts_from None size written all h is within differs = tt
-counts_from (Some bytes) size written all h is within differs = let long : length bytes ≡ length all = ap length h in inl (omega (arith, within, differs, is, long), is ∙ sym long)
+counts_from : (left : Option (List ℕ)) (size written : ℕ) (all : List ℕ) → IfSome left (λ bytes. bytes ≡ all) → written ≡ length all → written ≤ size → (written ≡ size → ⊥) → (written < size) × OtherLength left size written
+counts_from None size written all h is within differs = (omega (arith, within, differs), tt)
+counts_from (Some bytes) size written all h is within differs =
+    let long : length bytes ≡ length all = ap length h in (omega (arith, within, differs), inl (omega (arith, within, differs, is, long), is ∙ sym long))
 
 some_bytes : (piece : List ℕ) → piece ≢ [] → 1 ≤ length piece
 some_bytes [] some = absurd (some refl)
@@ -63,6 +64,9 @@ module _ (w : Begun) (state : Option State) (now : ℕ) where
 
     so_far : written ≡ length fed.all
     so_far = fed.history.0 ∙ ap length (sym all_appended)
+
+    fed_spared : IsSpared w source_now
+    fed_spared = elim fed.spared [ inl spared ↦ spared | inr failed ↦ absurd (let other = failed.is in cc other) ]
 
     few_more : (more : List ℕ) → length more ≤ room_behind w.head.size written → length fed.all + length more ≤ w.head.size + 1
     few_more more few = let room = room_within w.head.size written fed.holds.0.within in omega (arith, room, few, so_far)
@@ -96,6 +100,7 @@ module _ (w : Begun) (state : Option State) (now : ℕ) where
             history =
                 subst (λ (b : Bool). IsHistory w.head (NamedBy w) (SourceFailed w source_now) (OtherLength w.left w.head.size) fed.appended (if b then stages.Foldering number id else stages.Removing number (refusals.SizeMismatch written)) fed.past) e ended_history;
             holds = (at_end, all_appended, ap (name_for w.known w.hash w.head) all_appended);
+            spared = inl fed_spared;
             follows = λ bytes is. inl (subst (λ (b : Bool). IsAlong (at_hand w bytes) (Stage (if b then stages.Foldering number id else stages.Removing number (refusals.SizeMismatch written))) fed.past) e (ended_follows bytes is));
           }
       by_length false e =
@@ -110,6 +115,7 @@ module _ (w : Begun) (state : Option State) (now : ℕ) where
             history =
                 subst (λ (b : Bool). IsHistory w.head (NamedBy w) (SourceFailed w source_now) (OtherLength w.left w.head.size) fed.appended (if b then stages.Foldering number id else stages.Removing number (refusals.SizeMismatch written)) fed.past) e ended_history;
             holds = tt;
+            spared = inl fed_spared;
             follows = λ bytes is. inl (subst (λ (b : Bool). IsAlong (at_hand w bytes) (Stage (if b then stages.Foldering number id else stages.Removing number (refusals.SizeMismatch written))) fed.past) e (ended_follows bytes is));
           }
 
@@ -126,7 +132,7 @@ module _ (w : Begun) (state : Option State) (now : ℕ) where
       -- for want of memory
       pub breaks_lost : (new : StreamJob) → new.removal ≡ job.removal → BreaksAt w state now last later new (stages.Filling number written)
       breaks_lost new removal =
-          record { past = fed.past; appended = fed.appended; all = fed.all ++ loses.lost; did = fed.did; took = took_lost; removal = removal ∙ fed.removal; history = fed.history; follows = λ bytes is. cuts_fed w bytes (stages.Filling number written) fed.past (fed.follows bytes is) }
+          record { past = fed.past; appended = fed.appended; all = fed.all ++ loses.lost; did = fed.did; took = took_lost; removal = removal ∙ fed.removal; history = fed.history; spared = inr (record { number = number; appended = fed.appended; filled = fed.history.1; made = refl }); follows = λ bytes is. cuts_fed w bytes (stages.Filling number written) fed.past (fed.follows bytes is) }
 
       -- by a failure of the source
       pub stands_failed : Rose source_now later → (new : StreamJob) → new.head ≡ job.head → new.removal ≡ job.removal → StandsAt w state now last later new (source_failed (stages.Filling number written))
@@ -141,6 +147,7 @@ module _ (w : Begun) (state : Option State) (now : ℕ) where
             removal = removal ∙ fed.removal;
             history = inl (grind (arith, rose, fed.took.later), (fed.appended, fed.history.1));
             holds = tt;
+            spared = inr (record { number = number; appended = fed.appended; filled = fed.history.1; is = refl });
             follows =
                 λ bytes is.
                 let cuts = cuts_fed w bytes (stages.Filling number written) fed.past (fed.follows bytes is) in
@@ -151,7 +158,7 @@ module _ (w : Begun) (state : Option State) (now : ℕ) where
     module _ (last : Option (List ℕ)) (later : ℕ) (piece : List ℕ) (takes : Takes (room_behind w.head.size written) rest last source_now later piece) (new : StreamJob) (head : new.head ≡ job.head) (removal : new.removal ≡ job.removal)
         (is : new.piece ≡ piece) (ended : new.has_ended ≡ nat_lt (length piece) (room_behind w.head.size written)) (named : Names w.known w.hash w.head (fed.all ++ piece) new.naming) (open' : job.has_ended ≡ false) where
       took_piece : Took w last later (fed.all ++ piece)
-      took_piece = took_more rest last source_now later fed.all piece fed.took takes.drawn (few_more piece takes.few) takes.later
+      took_piece = took_more rest last source_now later fed.all piece fed.took takes.drawn (few_more piece takes.few) (let same = takes.same in omega (arith, same))
 
       shorter : new.has_ended ≡ true → IsAtEnd last
       shorter e = takes.at_end (let less = sym ended ∙ e in grind (arith, common_steps, less))
@@ -188,6 +195,7 @@ module _ (w : Begun) (state : Option State) (now : ℕ) where
             removal = removal ∙ fed.removal;
             history = fed.history;
             holds = (has_piece, next some);
+            spared = inl (takes.same ∙ fed_spared);
             follows = λ bytes told. inl (follows_piece w bytes number written fed.past (more_left bytes told some) (fed.follows bytes told));
           }
 
@@ -204,6 +212,7 @@ module _ (w : Begun) (state : Option State) (now : ℕ) where
             removal = removal ∙ fed.removal;
             history = fed.history;
             holds = (subst (λ (p : List ℕ). HasPiece w last written fed.appended (fed.all ++ piece) p new) none has_piece, λ e. fed.holds.1 open');
+            spared = inl (takes.same ∙ fed_spared);
             follows = fed.follows;
           }
 
@@ -298,6 +307,7 @@ module _ (w : Begun) (state : Option State) (now : ℕ) (rest : Option (List ℕ
         removal = fed.removal;
         history = fed.history;
         holds = holds_staged fed.appended fed.all stage fed.holds;
+        spared = fed.spared;
         follows = fed.follows;
       }
 
@@ -312,5 +322,6 @@ module _ (w : Begun) (state : Option State) (now : ℕ) (rest : Option (List ℕ
         took = fed.took;
         removal = fed.removal;
         history = fed.history;
+        spared = elim fed.spared [ inl spared ↦ inl spared | inr failed ↦ inr (record { number = failed.number; appended = failed.appended; filled = failed.filled; made = ap number_made failed.is }) ];
         follows = λ bytes told. cuts_fed w bytes stage fed.past (fed.follows bytes told);
       }

@@ -1,5 +1,5 @@
 -- One turn of a write from a source: an ask, its answer, and the stage that this leads to.
-use Rattle.std.specs.Prelude.{◌≡◌, ◌≢◌, ℕ, ◌+◌, ◌-◌, ◌^◌, ◌<◌, ◌≤◌, Bool, true, false, nat_lt, nat_le, min, List, [], ◌∷◌, ◌++◌, length, All, Option, Some, None, Ok, Err, IfSome, if◌then◌else◌, refl}
+use Rattle.std.specs.Prelude.{◌≡◌, ◌≢◌, ◌⊎◌, ℕ, ◌+◌, ◌-◌, ◌^◌, ◌<◌, ◌≤◌, Bool, true, false, nat_lt, nat_le, min, List, [], ◌∷◌, ◌++◌, length, All, Option, Some, None, Ok, Err, IfSome, if◌then◌else◌, refl}
 use Rattle.std.proofs.Common.{inl, inr, sym, ap, ◌∙◌, subst, arith, append-nil}
 use Rattle.std.proofs.lemmas.Grind.{common_steps}
 use Rattle.std.proofs.lemmas.List.{length-append}
@@ -15,12 +15,12 @@ use Rattle.odb_disk.specs.declared.disk.DiskError.TheVariants as disk_errors
 use Rattle.gix_hash.specs.declared.object_id.ObjectId.{ObjectId}
 use Rattle.gix_odb_loose.specs.Exchanges.{Exchange, exchanged, left_by, FailByFaults}
 use Rattle.gix_odb_loose.specs.Exchanges.Laws.{left_by-push, AreGiven-push}
-use Rattle.gix_odb_loose.specs.WriteHistory.{IsHistory, IsHistoryOnward, data_after}
+use Rattle.gix_odb_loose.specs.WriteHistory.{IsFailedRead, IsHistory, IsHistoryOnward, data_after}
 use Rattle.gix_odb_loose.specs.WritePieces.{IsInPieces}
 use Rattle.gix_odb_loose.proofs.WriteHistoryLaws.{IsHistory-next, CountsTooMany, IsNextPiece}
 use Rattle.gix_odb_loose.specs.WriteNames.{Names}
 use Rattle.gix_odb_loose.specs.WriteOrder.{room_behind, temp_path, write_ask, next_write, made_by, headed_by, filled_by, foldered_by, moved_by, grown}
-use Rattle.gix_odb_loose.specs.StreamJobs.{Begun, NamedBy, SourceFailed, Did, Took, HasPiece, IsNext, Named, HoldsFed, Holds, StandsAt, IsFed, IsReady, IsAtItsEnd, removal_at, turns_left}
+use Rattle.gix_odb_loose.specs.StreamJobs.{Begun, NamedBy, SourceFailed, IsSpared, FailedAt, Did, Took, HasPiece, IsNext, Named, HoldsFed, Holds, StandsAt, IsFed, IsReady, IsAtItsEnd, Leads, removal_at, turns_left}
 use Rattle.gix_odb_loose.specs.WriteStreams.{Draws, OtherLength}
 use Rattle.gix_odb_loose.specs.declared.stream_job.StreamJob.{StreamJob}
 use Rattle.gix_odb_loose.specs.declared.write.Message.TheVariants as messages
@@ -179,7 +179,7 @@ module _ (w : Begun) (rest : Option (List ℕ)) (job fed : StreamJob) (removal :
         λ more.
         let long : written + length job.piece ≡ length all = rw (history.0) (sym (length-append appended job.piece)) ∙ ap length (sym holds.0.is) in
         let exact : written + length job.piece ≡ w.head.size + 1 = omega (arith, more, long, took.few) in
-        by_left w.left (Draws-length w.left rest all took.drawn) long exact
+        (exact, by_left w.left (Draws-length w.left rest all took.drawn) long exact)
       where
         by_left : (left : Option (List ℕ)) → IfSome left (λ bytes. length all ≤ length bytes) → written + length job.piece ≡ length all → written + length job.piece ≡ w.head.size + 1 → OtherLength left w.head.size (grown written (length job.piece))
         by_left None h long exact = tt
@@ -202,11 +202,6 @@ module _ (w : Begun) (rest : Option (List ℕ)) (job fed : StreamJob) (removal :
     next_piece (stages.Removing number refusal) holds = tt
 
 -- ---- a whole turn
-
--- what an answer leads to: a stage, or the end
-abbrev pub Leads : Begun → Option State → ℕ → Option (List ℕ) → ℕ → StreamJob → Onward → Type 0
-Leads w state now rest source_now fed (Stage onward) = IsFed w state now rest source_now fed onward
-Leads w state now rest source_now fed (End end) = IsAtItsEnd w state now rest source_now end
 
 module _ (w : Begun) (state new : Option State) (now later : ℕ) (rest : Option (List ℕ)) (source_now : ℕ) (job fed : StreamJob) (stage : WriteStage) (ask : DiskAsk) (answer : DiskAnswer)
     (given : IfSome state (λ s. AnswersAsk answer (answer_of (tree_of s) ask))) (left : new ≡ state_told_after state ask answer) (more : now ≤ later) (cause : answer ≡ answers.Refused disk_errors.Failed → Rose now later) (tree : IfSome state (λ s. IsTree (tree_of s)))
@@ -235,8 +230,35 @@ module _ (w : Begun) (state new : Option State) (now later : ℕ) (rest : Option
       subst (λ (a : DiskAsk). FollowsTo w bytes (SourceFailed w source_now) (next_write w.head.size (length job.piece) stage answer) (at.past ++ exchanged a answer ∷ [])) (sym is)
       (follows_next w bytes (SourceFailed w source_now) stage job.piece at.past answer (is_next stage bytes told at.history at.holds) (at.follows bytes told))
 
-  led_to : (appended : List ℕ) (onward : Onward) → IsHistoryOnward w.head (NamedBy w) (SourceFailed w source_now) (OtherLength w.left w.head.size) appended onward past' → Kept w rest job fed removal naming ended appended at.all onward → Followed onward → Leads w new later rest source_now fed onward
-  led_to appended (Stage onward) history kept follows =
+  -- where the source failed, the removal came next, and ended the write
+  abbrev SparedTo : Onward → Type 0
+  SparedTo (Stage onward) = IsSpared w source_now
+  SparedTo (End end) = IsSpared w source_now ⊎ ((end ≡ Err (refusals.Io messages.StreamData)) × IsFailedRead w.head past')
+
+  spared_to : (onward : Onward) → IsSpared w source_now → SparedTo onward
+  spared_to (Stage onward) spared = spared
+  spared_to (End end) spared = inl spared
+
+  failed_to : ask ≡ write_ask w.head job.piece stage → FailedAt w stage at.past → SparedTo (next_write w.head.size (length job.piece) stage answer)
+  failed_to is failed =
+      subst (λ (s : WriteStage). SparedTo (next_write w.head.size (length job.piece) s answer)) (sym failed.is)
+      (inr (
+        refl,
+        record {
+          number = failed.number;
+          appended = failed.appended;
+          before = at.past;
+          answer = answer;
+          filled = failed.filled;
+          removed = ap (λ (a : DiskAsk). at.past ++ exchanged a answer ∷ []) (is ∙ ap (write_ask w.head job.piece) failed.is);
+        },
+      ))
+
+  spared_next : ask ≡ write_ask w.head job.piece stage → SparedTo (next_write w.head.size (length job.piece) stage answer)
+  spared_next is = elim at.spared [ inl spared ↦ spared_to (next_write w.head.size (length job.piece) stage answer) spared | inr failed ↦ failed_to is failed ]
+
+  led_to : (appended : List ℕ) (onward : Onward) → IsHistoryOnward w.head (NamedBy w) (SourceFailed w source_now) (OtherLength w.left w.head.size) appended onward past' → Kept w rest job fed removal naming ended appended at.all onward → Followed onward → SparedTo onward → Leads w new later rest source_now fed onward
+  led_to appended (Stage onward) history kept follows spared =
       record {
         past = past';
         appended = appended;
@@ -248,10 +270,11 @@ module _ (w : Begun) (state new : Option State) (now later : ℕ) (rest : Option
         removal = kept.1;
         history = history;
         holds = kept.0;
+        spared = inl spared;
         follows = follows;
       }
-  led_to appended (End (Ok id)) history kept follows = record { past = past'; appended = appended; all = at.all; did = did'; took = at.took; ends = (history, kept); follows = follows }
-  led_to appended (End (Err refusal)) history kept follows = record { past = past'; appended = appended; all = at.all; did = did'; took = at.took; ends = history; follows = follows }
+  led_to appended (End (Ok id)) history kept follows spared = record { past = past'; appended = appended; all = at.all; did = did'; took = at.took; ends = (history, kept); spared = spared; follows = follows }
+  led_to appended (End (Err refusal)) history kept follows spared = record { past = past'; appended = appended; all = at.all; did = did'; took = at.took; ends = history; spared = spared; follows = follows }
 
   pub led : ask ≡ write_ask w.head job.piece stage → Leads w new later rest source_now fed (next_write w.head.size (length job.piece) stage answer)
   led is =
@@ -259,7 +282,7 @@ module _ (w : Begun) (state new : Option State) (now later : ℕ) (rest : Option
       (subst (λ (a : DiskAsk). IsHistoryOnward w.head (NamedBy w) (SourceFailed w source_now) (OtherLength w.left w.head.size) (data_after stage job.piece answer at.appended) (next_write w.head.size (length job.piece) stage answer) (at.past ++ exchanged a answer ∷ [])) (sym is)
       (IsHistory-next w.head (NamedBy w) (SourceFailed w source_now) (OtherLength w.left w.head.size) stage at.appended job.piece at.past answer (counts w rest job fed removal naming ended source_now at.appended at.all at.past stage at.history at.holds at.took)
       (next_piece w rest job fed removal naming ended source_now at.appended at.all at.past stage at.holds) at.history))
-      (kept w rest job fed removal naming ended source_now at.appended at.all at.past stage answer at.history at.holds at.removal) (followed is)
+      (kept w rest job fed removal naming ended source_now at.appended at.all at.past stage answer at.history at.holds at.removal) (followed is) (spared_next is)
 
 -- ---- a turn as the code has it
 

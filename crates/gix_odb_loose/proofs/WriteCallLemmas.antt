@@ -65,8 +65,8 @@ module _ (head : WriteHead) (Named : ObjectId → Type 0) (Counted : ℕ → Typ
             inr (record { stage = broken.0.stage; appended = broken.0.appended; before = broken.0.before; history = unfailing_history broken.0.appended broken.0.stage broken.0.before broken.0.history; removed = broken.0.removed }, broken.1)
       ]
 
-module _ (head : WriteHead) (hash : HashKind) (source : Option (List ℕ)) (SourceFailed : Type 0) (state new : Option State) (before now : ℕ) (result : Result ObjectId Error) where
-  module _ (run : WriteRuns head hash None source SourceFailed state new before now result) where
+module _ (head : WriteHead) (hash : HashKind) (source : Option (List ℕ)) (SourceFailed Spared : Type 0) (state new : Option State) (before now : ℕ) (result : Result ObjectId Error) where
+  module _ (run : WriteRuns head hash None source SourceFailed Spared state new before now result) where
     by_data : (id : ObjectId) → result ≡ Ok id → (bytes : List ℕ) × (id ≡ object_id hash head.kind bytes) × IfSome source (λ all. all ≡ bytes)
     by_data id is = let writes = run.wrote id is in (writes.bytes, writes.name ∙ object_named hash head writes.bytes writes.size, writes.whole)
 
@@ -82,11 +82,11 @@ module _ (head : WriteHead) (hash : HashKind) (source : Option (List ℕ)) (Sour
     wrote_kind = if_ok (λ id. kind_of id ≡ hash) result (λ id is. let by = by_data id is in ap kind_of by.1 ∙ kind_of-object_id hash head.kind by.0)
 
   -- or the known one
-  pub wrote_known : (known : ObjectId) → WriteRuns head hash (Some known) source SourceFailed state new before now result → IfOk result (λ id. id ≡ known)
+  pub wrote_known : (known : ObjectId) → WriteRuns head hash (Some known) source SourceFailed Spared state new before now result → IfOk result (λ id. id ≡ known)
   wrote_known known run = if_ok (λ id. id ≡ known) result (λ id is. (run.wrote id is).name)
 
   -- the source was as long as was told, and is at its end
-  pub wrote_whole : (known : Option ObjectId) (rest : Option (List ℕ)) (faults faults_now : ℕ) → WriteRuns head hash known source SourceFailed state new before now result → TakesFrom head.size source rest faults faults_now → IfOk result (λ _. IsAtEnd rest)
+  pub wrote_whole : (known : Option ObjectId) (rest : Option (List ℕ)) (faults faults_now : ℕ) → WriteRuns head hash known source SourceFailed Spared state new before now result → TakesFrom head.size source rest faults faults_now → IfOk result (λ _. IsAtEnd rest)
       → IfOk result (λ _. IsWhole head.size source rest)
   wrote_whole known rest faults faults_now run takes ended = by_result result refl ended
     where
@@ -103,11 +103,21 @@ module _ (head : WriteHead) (hash : HashKind) (source : Option (List ℕ)) (Sour
       by_result (Ok id) is e = let writes = run.wrote id is in record { size_is = whole source writes.bytes writes.whole writes.size; at_end = at_end source rest takes.all takes.drawn e }
       by_result (Err error) is e = tt
 
+  -- the count of the source is as it was
+  pub wrote_spared : (known : Option ObjectId) → WriteRuns head hash known source SourceFailed Spared state new before now result → IfOk result (λ _. Spared)
+  wrote_spared known run =
+      if_ok (λ _. Spared) result (λ id is.
+      elim run.spared [
+        | inl spared ↦ spared
+        | inr failed ↦
+            absurd (elim failed.1 [ inl io ↦ (let both = sym is ∙ io in cc both) | inr want ↦ (let both = sym is ∙ want in cc both) ])
+      ])
+
   unfailing_asks : (job : WriteJob) (past : List Exchange) → (SourceFailed → ⊥) → RunsAlong job SourceFailed past result → RunsAlong job ⊥ past result
   unfailing_asks job past none h = elim h [ inl ended ↦ inl ended | inr cut ↦ inr (cut.0, elim cut.1 [ inl failed ↦ absurd (none failed.0) | inr no_memory ↦ inr no_memory ]) ]
 
   -- a source that never fails is no cause
-  pub runs_unfailing : (known : Option ObjectId) → (SourceFailed → ⊥) → WriteRuns head hash known source SourceFailed state new before now result → WriteRuns head hash known source ⊥ state new before now result
+  pub runs_unfailing : (known : Option ObjectId) → (SourceFailed → ⊥) → WriteRuns head hash known source SourceFailed Spared state new before now result → WriteRuns head hash known source ⊥ ⊤ state new before now result
   runs_unfailing known none run =
       record {
         exchanges = run.exchanges;
@@ -115,6 +125,7 @@ module _ (head : WriteHead) (hash : HashKind) (source : Option (List ℕ)) (Sour
         left = run.left;
         own = run.own;
         asks = λ bytes told. unfailing_asks (write_of head hash known bytes) run.exchanges none (run.asks bytes told);
+        spared = inl tt;
         wrote = run.wrote;
         stopped = λ error is. unfailing_write head (NamedFrom head hash known source) (OtherLength source head.size) SourceFailed none run.exchanges error (run.stopped error is);
         unnamed = run.unnamed;

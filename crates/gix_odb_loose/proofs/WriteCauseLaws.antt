@@ -1,7 +1,8 @@
 -- The cause of a refused write stands in its exchanges, or in the source of its data.
-use Rattle.std.specs.Prelude.{◌≡◌, ◌⊎◌, ℕ, zero, suc, ◌+◌, ◌<◌, List, [], ◌∷◌, ◌++◌, Contains, refl}
+use Rattle.std.specs.Prelude.{◌≡◌, ◌⊎◌, ℕ, zero, suc, ◌+◌, ◌<◌, List, [], ◌∷◌, ◌++◌, map, All, Contains, slice_index_or, refl}
 use Rattle.std.proofs.Common.{inl, inr, sym, subst, arith}
 use Rattle.std.proofs.lemmas.Bool.{cases_lt}
+use Rattle.std.proofs.lemmas.List.{length-map, get_or-map}
 use Rattle.std.proofs.lemmas.List.Elements.{Contains-append_left, Contains-append_right}
 use Rattle.odb_disk.specs.declared.ask.DiskAsk.{DiskAsk}
 use Rattle.odb_disk.specs.declared.ask.DiskAsk.TheVariants as asks
@@ -9,10 +10,12 @@ use Rattle.odb_disk.specs.declared.ask.DiskAnswer.{DiskAnswer}
 use Rattle.odb_disk.specs.declared.ask.DiskAnswer.TheVariants as answers
 use Rattle.odb_disk.specs.declared.disk.DiskError.TheVariants as disk_errors
 use Rattle.gix_hash.specs.declared.object_id.ObjectId.{ObjectId}
+use Rattle.gix_odb_loose.specs.Causes.{AppendsOther}
 use Rattle.gix_odb_loose.specs.Causes.WriteLaws.{WriteCause-wider}
 use Rattle.gix_odb_loose.specs.Exchanges.{Exchange, exchanged}
 use Rattle.gix_odb_loose.specs.WriteOrder.{temp_path, prefix_path, write_ask, error_from}
 use Rattle.gix_odb_loose.specs.WriteHistory.{tried, made, headed, IsFilled, IsFoldered, IsThere, IsRefused, RefusedIn, TakenIn, DoneIn, WantedIn, HasCauseIn, IsAnswered, Wants, IsStopped, IsUnmade, IsRefusedRun}
+use Rattle.gix_odb_loose.specs.WriteStreams.{CountsOther}
 use Rattle.gix_odb_loose.specs.declared.write.Error.{Error}
 use Rattle.gix_odb_loose.specs.declared.write.Message.TheVariants as messages
 use Rattle.gix_odb_loose.specs.declared.write_call.Refusal.{Refusal}
@@ -48,6 +51,16 @@ module _ (head : WriteHead) (number : ℕ) where
   filled_in : (appended : List ℕ) (past : List Exchange) → IsFilled head number appended past → DoneIn past new_file
   filled_in appended past h =
       subst (λ (xs : List Exchange). DoneIn xs new_file) (sym h.is) (Contains-append_left (headed head number) _ _ (Contains-append_left (made head number) _ _ made_in))
+
+  abbrev appended_as : List ℕ → Exchange
+  appended_as piece = exchanged (asks.Append (temp_path head.objects number) piece) answers.Done
+
+  -- each piece was appended
+  pieces_in : (appended : List ℕ) (past : List Exchange) (h : IsFilled head number appended past) → All (λ (piece : List ℕ). DoneIn past (asks.Append (temp_path head.objects number) piece)) h.pieces
+  pieces_in appended past h = λ k d less.
+      let piece : List ℕ = slice_index_or h.pieces k d in
+      subst (λ (xs : List Exchange). Contains xs (appended_as piece)) (sym h.is)
+      (Contains-append_right (headed head number) (map appended_as h.pieces) (appended_as piece) (k, omega (arith, less, length-map h.pieces appended_as), get_or-map appended_as h.pieces k d (appended_as piece) less))
 
   foldered_in : (id : ObjectId) (appended : List ℕ) (past : List Exchange) → IsFoldered head number id appended past → DoneIn past new_file
   foldered_in id appended past h = subst (λ (xs : List Exchange). DoneIn xs new_file) (sym h.is) (Contains-append_left h.before _ _ (filled_in appended h.before h.filled))
@@ -101,6 +114,17 @@ module _ (head : WriteHead) (Named : ObjectId → Type 0) (SourceFailed : Type 0
     before_in : (So : DiskAsk → DiskAnswer → Type 0) (h : Shown So) (x : Exchange) → Contains h.before x → Contains past x
     before_in So h x c = subst (λ (xs : List Exchange). Contains xs x) (sym h.is) (Contains-append_left h.before _ x c)
 
+  -- the pieces that were appended
+  appends_other : (number : ℕ) (appended : List ℕ) (past : List Exchange) (actual : ℕ) → IsFilled head number appended past → CountsOther head.size appended actual → AppendsOther head (DoneIn past) actual
+  appends_other number appended past actual filled counted =
+      record {
+        number = number;
+        made = filled_in head number appended past filled;
+        pieces = filled.pieces;
+        each = pieces_in head number appended past filled;
+        counted = subst (λ (xs : List ℕ). CountsOther head.size xs actual) (sym filled.whole) counted;
+      }
+
   stopped_cause : (number : ℕ) (refusal : Refusal) (past : List Exchange) → IsStopped head Named SourceFailed Counted number refusal past → Caused past (error_from head refusal)
   stopped_cause number (refusals.Io messages.CreateTempFile) past h = absurd h
   stopped_cause number (refusals.Io messages.WriteHeader) past h =
@@ -123,7 +147,7 @@ module _ (head : WriteHead) (Named : ObjectId → Type 0) (SourceFailed : Type 0
       refused_in (stages.Moving number id) past h,
     ),
   )
-  stopped_cause number (refusals.SizeMismatch actual) past h = (refl, h.0)
+  stopped_cause number (refusals.SizeMismatch actual) past h = (refl, h.0, appends_other number h.1.0 past actual h.1.1 h.1.2)
   stopped_cause number refusals.NoMemory past h = wanted_in h.0 past h.2
 
   unmade_cause : (refusal : Refusal) (past : List Exchange) → IsUnmade head Named refusal past → Caused past (error_from head refusal)

@@ -1,5 +1,5 @@
 -- The laws of the exchanges of a write, for callers: how one more carries the write on.
-use Rattle.std.specs.Prelude.{◌≡◌, ℕ, ◌+◌, ◌*◌, ◌<◌, ◌≤◌, ◌==◌, Bool, true, false, nat_lt, nat_le, List, [], ◌∷◌, ◌++◌, length, All, Err, if◌then◌else◌, refl}
+use Rattle.std.specs.Prelude.{◌≡◌, ℕ, ◌+◌, ◌-◌, ◌*◌, ◌^◌, ◌<◌, ◌≤◌, ◌==◌, Bool, true, false, nat_lt, nat_le, min, List, [], ◌∷◌, ◌++◌, length, All, Err, if◌then◌else◌, refl}
 use Rattle.std.specs.List.{concat}
 use Rattle.std.proofs.Common.{inl, inr, sym, ap, ◌∙◌, subst, arith, add-one, append-nil, append_assoc}
 use Rattle.std.proofs.lemmas.Grind.{common_steps}
@@ -172,7 +172,8 @@ module _ (head : WriteHead) (Named : ObjectId → Type 0) (SourceFailed : Type 0
       headed_next (answers.Refused error) = unheaded (answers.Refused error) (λ e. cc e)
 
     -- a piece is appended
-    module _ (written : ℕ) (appended piece : List ℕ) (so_far : written ≡ length appended) (is : IsFilled head number appended past) (too_many : head.size < written + length piece → Counted (grown written (length piece)))
+    module _ (written : ℕ) (appended piece : List ℕ) (so_far : written ≡ length appended) (is : IsFilled head number appended past)
+        (too_many : head.size < written + length piece → (written + length piece ≡ head.size + 1) × Counted (grown written (length piece)))
         (in_pieces : IsInPieces written) (some : 1 ≤ length piece) (few : length piece ≤ 65536) where
       abbrev append : DiskAsk
       append = asks.Append temporary piece
@@ -197,7 +198,10 @@ module _ (head : WriteHead) (Named : ObjectId → Type 0) (SourceFailed : Type 0
       fits_next : (fits : Bool) → nat_le (written + length piece) head.size ≡ fits
           → Onwards (appended ++ piece) (if fits then Stage (stages.Filling number (written + length piece)) else Stage (stages.Removing number (refusals.SizeMismatch (grown written (length piece))))) (past ++ exchanged append answers.Done ∷ [])
       fits_next true e = (ap (λ (n : ℕ). n + length piece) so_far ∙ sym (length-append appended piece), more_filled)
-      fits_next false e = (too_many (grind (arith, common_steps, e)), (appended ++ piece, more_filled))
+      fits_next false e =
+          let counts = too_many (grind (arith, common_steps, e)) in
+          let long = length-append appended piece in
+          (counts.1, (appended ++ piece, more_filled, inr (omega (arith, counts.0, so_far, long), ap (λ (n : ℕ). min n (2 ^ 64 - 1)) counts.0)))
 
       filled_next : (answer : DiskAnswer) → Onwards (data_after (stages.Filling number written) piece answer appended) (filled_by number written head.size (length piece) answer) (past ++ exchanged append answer ∷ [])
       filled_next answers.Done = fits_next (nat_le (written + length piece) head.size) refl
@@ -246,9 +250,9 @@ module _ (head : WriteHead) (Named : ObjectId → Type 0) (SourceFailed : Type 0
         moved_next (answers.File bytes time) = unmoved (answers.File bytes time) (λ e. cc e)
         moved_next (answers.Refused error) = unmoved (answers.Refused error) (λ e. cc e)
 
-  -- what a piece counts that is one byte too long
+  -- a piece that doesn't fit is one byte too long, and what it counts
   abbrev pub CountsTooMany : WriteStage → List ℕ → Type 0
-  CountsTooMany (stages.Filling number written) piece = head.size < written + length piece → Counted (grown written (length piece))
+  CountsTooMany (stages.Filling number written) piece = head.size < written + length piece → (written + length piece ≡ head.size + 1) × Counted (grown written (length piece))
   CountsTooMany stage piece = Unit {0}
 
   -- a piece is appended behind whole ones, and has some bytes
@@ -269,11 +273,13 @@ module _ (head : WriteHead) (Named : ObjectId → Type 0) (SourceFailed : Type 0
   IsHistory-next (stages.Removing number refusal) appended piece past answer counts next is = inr (number, past, is, (answer, refl))
 
   -- The end of the data carries on a write that waits for data: they are as many as were told, or the write is refused.
-  pub IsHistory-ended : (number written : ℕ) (id : ObjectId) (appended : List ℕ) (past : List Exchange) → Named id → ((written ≡ head.size → ⊥) → Counted written) → IsHistory head Named SourceFailed Counted appended (stages.Filling number written) past
+  pub IsHistory-ended : (number written : ℕ) (id : ObjectId) (appended : List ℕ) (past : List Exchange) → Named id → ((written ≡ head.size → ⊥) → (written < head.size) × Counted written) → IsHistory head Named SourceFailed Counted appended (stages.Filling number written) past
       → IsHistory head Named SourceFailed Counted appended (ended_with head.size id (stages.Filling number written)) past
   IsHistory-ended number written id appended past named counts is = by_length (written == head.size) refl
     where
       by_length : (same : Bool) → (written == head.size) ≡ same
           → IsHistory head Named SourceFailed Counted appended (if same then stages.Foldering number id else stages.Removing number (refusals.SizeMismatch written)) past
       by_length true e = (let same : written ≡ head.size = grind (arith, common_steps, e) in sym is.0 ∙ same, named, is.1)
-      by_length false e = (counts (grind (arith, common_steps, e)), (appended, is.1))
+      by_length false e =
+          let other = counts (grind (arith, common_steps, e)) in
+          (other.1, (appended, is.1, inl (omega (arith, other.0, is.0), is.0)))

@@ -1,6 +1,6 @@
 -- From the end of a write to what the calls of a store promise.
 use Rattle.std.specs.Result.{IsErrAnd}
-use Rattle.std.specs.Prelude.{◌≡◌, ◌⊎◌, ⊤, ℕ, zero, suc, ◌<◌, List, [], ◌∷◌, length, slice_index_or, Contains, Option, Some, None, Result, Ok, Err, IfSome, refl}
+use Rattle.std.specs.Prelude.{◌≡◌, ◌⊎◌, ⊤, ℕ, false, zero, suc, ◌<◌, List, [], ◌∷◌, length, slice_index_or, Contains, Option, Some, None, Result, Ok, Err, IfOk, IfSome, refl}
 use Rattle.std.proofs.Common.{inl, inr, sym, ap, ◌∙◌, subst, arith}
 use Rattle.odb_base.specs.Faults.{Rose}
 use Rattle.odb_disk.specs.Ask.{AnswersAsk, answer_of, state_told_after, write_answer, error_of_write}
@@ -27,14 +27,15 @@ use Rattle.gix_odb_loose.specs.WriteAsks.{RunsAlong}
 use Rattle.gix_odb_loose.specs.WriteHistory.{IsMoved, IsRefused, RefusedIn, TakenIn, DoneIn, WantedIn, HasCauseIn, IsRefusedRun, IsBrokenRun, tried}
 use Rattle.gix_odb_loose.specs.WriteOwn.{AreOwn, LeavesNothing}
 use Rattle.gix_odb_loose.specs.WriteOrder.{error_from, temp_path}
-use Rattle.gix_odb_loose.specs.WriteRuns.{IsOnWay, Refuses, FoundThere, IsRefusedWrite, Writes, WriteRuns}
-use Rattle.gix_odb_loose.specs.StreamJobs.{Begun, at_hand, NamedBy, SourceFailed, Did, Took, IsAtItsEnd, IsBrokenOff}
-use Rattle.gix_odb_loose.specs.WriteStreams.{OtherLength, TakesFrom}
+use Rattle.gix_odb_loose.specs.WriteRuns.{IsOnWay, Refuses, FoundThere, IsRefusedWrite, IsStoppedBySource, Writes, WriteRuns}
+use Rattle.gix_odb_loose.specs.StreamJobs.{Begun, at_hand, NamedBy, SourceFailed, IsSpared, Did, IsNew, IsToldBy, StandsAt, Took, IsAtItsEnd, IsBrokenOff}
+use Rattle.gix_odb_loose.specs.WriteStreams.{IsAtEnd, OtherLength, TakesFrom}
 use Rattle.gix_odb_loose.proofs.WriteShownLaws.{refused_unnamed, refused_cleared, refused_own, broken_unnamed, broken_cleared, broken_own, moved_own, moved_below, unmade_left}
 use Rattle.gix_odb_loose.proofs.WriteCauseLaws.{refused_cause}
 use Rattle.gix_odb_loose.specs.declared.write.Error.{Error}
 use Rattle.gix_odb_loose.specs.declared.write.Error.TheVariants as errors
 use Rattle.gix_odb_loose.specs.declared.write_call.Refusal.{Refusal}
+use Rattle.gix_odb_loose.specs.declared.write_call.Refusal.TheVariants as refusals
 use Rattle.gix_odb_loose.specs.declared.write_call.WriteHead.{WriteHead}
 use Rattle.gix_odb_loose.specs.declared.write_call.WriteStage.TheVariants as stages
 use Rattle.gix_odb_loose.specs.declared.write.Message.TheVariants as messages
@@ -42,6 +43,10 @@ use Rattle.odb_base.specs.Path.{Path}
 use Rattle.gix_odb_loose.proofs.AskLaws.{IsAlong-start}
 use Rattle.gix_odb_loose.proofs.DrawLemmas.{Draws-end}
 use Rattle.gix_odb_loose.proofs.StreamAskLemmas.{runs_end}
+use Rattle.gix_odb_loose.proofs.StreamEndLemmas.{stands_first}
+use Rattle.gix_odb_loose.specs.WriteNames.{Names}
+use Rattle.gix_odb_loose.specs.declared.stream_job.StreamJob.{StreamJob}
+use Rattle.gix_hash.specs.declared.kind.Kind.{Kind as HashKind}
 
 -- ---- what a refused ask was answered
 
@@ -145,7 +150,7 @@ reads_back (Some s) new head number id bytes past moved given left tree =
 
 module _ (w : Begun) (state : Option State) (now : ℕ) (rest : Option (List ℕ)) (source_now : ℕ) where
   abbrev Runs : Result ObjectId Error → Type 0
-  Runs result = WriteRuns w.head w.hash w.known w.left (Rose w.source_faults source_now) w.state state w.faults now result
+  Runs result = WriteRuns w.head w.hash w.known w.left (Rose w.source_faults source_now) (IsSpared w source_now) w.state state w.faults now result
 
   abbrev Refused : List Exchange → Error → Type 0
   Refused past error = WriteCause w.head (NamedBy w) (Refuses w.state (Rose w.faults now) past) (FoundThere past) (DoneIn past) (Rose w.source_faults source_now) ⊤ (OtherLength w.left w.head.size) error
@@ -172,14 +177,18 @@ module _ (w : Begun) (state : Option State) (now : ℕ) (rest : Option (List ℕ
   abbrev Asked : List Exchange → Result ObjectId Error → Type 0
   Asked past result = (bytes : List ℕ) → w.left ≡ Some bytes → RunsAlong (at_hand w bytes) (SourceFailed w source_now) past result
 
-  runs_refused : (past : List Exchange) (error : Error) (result : Result ObjectId Error) → result ≡ Err error → Did w state now past → Shows past error → Asked past result → Runs result
-  runs_refused past error result is did shows asked =
+  abbrev SparedBy : List Exchange → Result ObjectId Error → Type 0
+  SparedBy past result = IsSpared w source_now ⊎ IsStoppedBySource w.head past result
+
+  runs_refused : (past : List Exchange) (error : Error) (result : Result ObjectId Error) → result ≡ Err error → Did w state now past → Shows past error → Asked past result → SparedBy past result → Runs result
+  runs_refused past error result is did shows asked spared =
       record {
         exchanges = past;
         given = did.given;
         left = did.left;
         own = shows.own;
         asks = asked;
+        spared = spared;
         wrote = λ id e. absurd (let both : Ok id ≡ Err error = sym e ∙ is in cc both);
         stopped = λ other e. let same : error ≡ other = cc (sym is ∙ e) in subst (Stopped past) same shows.stopped;
         unnamed = λ other e. shows.unnamed;
@@ -197,6 +206,7 @@ module _ (w : Begun) (state : Option State) (now : ℕ) (rest : Option (List ℕ
         left = at.did.left;
         own = moved_own w.head (NamedBy w) at.ends.0.2.0 id at.appended at.past at.ends.0.1 at.ends.0.2.1;
         asks = λ bytes told. runs_end w bytes (SourceFailed w source_now) (Ok id) at.past result (inl is) (at.follows bytes told);
+        spared = elim at.spared [ inl spared ↦ inl spared | inr failed ↦ absurd (let both = failed.0 in cc both) ];
         wrote = λ other e. let same : id ≡ other = cc (sym is ∙ e) in subst (λ (i : ObjectId). Writes w.head w.hash w.known w.left w.state state at.past i) same writes;
         stopped = λ error e. absurd (let both : Err error ≡ Ok id = sym e ∙ is in cc both);
         unnamed = λ error e. absurd (let both : Err error ≡ Ok id = sym e ∙ is in cc both);
@@ -223,6 +233,9 @@ module _ (w : Begun) (state : Option State) (now : ℕ) (rest : Option (List ℕ
     abbrev run : IsRefusedRun w.head (NamedBy w) (SourceFailed w source_now) (OtherLength w.left w.head.size) refusal at.past
     run = at.ends
 
+    spared_by : (result : Result ObjectId Error) → (refusal ≡ refusals.Io messages.StreamData → (result ≡ Err (errors.Io messages.StreamData w.head.objects)) ⊎ (result ≡ Err errors.NoMemory)) → SparedBy at.past result
+    spared_by result told = elim at.spared [ inl spared ↦ inl spared | inr failed ↦ inr (failed.1, told (let both = failed.0 in cc both)) ]
+
     shown : (error : Error) → (error ≡ error_from w.head refusal) ⊎ (error ≡ errors.NoMemory) → ((path : Path) → error ≡ errors.Io messages.CreateTempFile path → left_by w.state at.past ≡ w.state) → Refused at.past error → Shows at.past error
     shown error is untouched cause =
         record {
@@ -239,12 +252,12 @@ module _ (w : Begun) (state : Option State) (now : ℕ) (rest : Option (List ℕ
         runs_refused at.past (error_from w.head refusal) result is at.did
         (shown (error_from w.head refusal) (inl refl) (λ path e. unmade_left w.head (NamedBy w) (SourceFailed w source_now) (OtherLength w.left w.head.size) w.state refusal path at.past e run)
         (cause_told at.past (error_from w.head refusal) at.did (refused_cause w.head (NamedBy w) (SourceFailed w source_now) (OtherLength w.left w.head.size) refusal at.past run)))
-        (λ bytes told. runs_end w bytes (SourceFailed w source_now) (Err refusal) at.past result (inl is) (at.follows bytes told))
+        (λ bytes told. runs_end w bytes (SourceFailed w source_now) (Err refusal) at.past result (inl is) (at.follows bytes told)) (spared_by result (λ same. inl (is ∙ ap (λ (r : Refusal). Err (error_from w.head r)) same)))
 
     pub runs_untold : (result : Result ObjectId Error) → result ≡ Err errors.NoMemory → Runs result
     runs_untold result is =
         runs_refused at.past errors.NoMemory result is at.did (shown errors.NoMemory (inr refl) (λ path e. absurd (cc e)) tt)
-        (λ bytes told. runs_end w bytes (SourceFailed w source_now) (Err refusal) at.past result (inr is) (at.follows bytes told))
+        (λ bytes told. runs_end w bytes (SourceFailed w source_now) (Err refusal) at.past result (inr is) (at.follows bytes told)) (spared_by result (λ same. inr is))
 
   shown_broken : (past : List Exchange) → IsBrokenRun w.head (NamedBy w) (SourceFailed w source_now) (OtherLength w.left w.head.size) past → Shows past errors.NoMemory
   shown_broken past run =
@@ -259,6 +272,20 @@ module _ (w : Begun) (state : Option State) (now : ℕ) (rest : Option (List ℕ
 
   pub runs_broken : IsBrokenOff w state now rest source_now → (result : Result ObjectId Error) → result ≡ Err errors.NoMemory → Runs result
   runs_broken off result is = runs_refused off.past errors.NoMemory result is off.did (shown_broken off.past off.run) (λ bytes told. inr (off.follows bytes told, inr is))
+      (elim off.spared [ inl spared ↦ inl spared | inr failed ↦ inr (failed, inr is) ])
+
+  -- by its end, as it is told
+  pub runs_told : (end : Result ObjectId Refusal) → IsAtItsEnd w state now rest source_now end → (result : Result ObjectId Error) → IsToldBy w.head end result → Runs result
+  runs_told (Ok id) at result told = runs_wrote id at result told
+  runs_told (Err refusal) at result told = elim told [ inl is ↦ runs_ended refusal at result is | inr is ↦ runs_untold refusal at result is ]
+
+  pub ended_told : (end : Result ObjectId Refusal) → IsAtItsEnd w state now rest source_now end → (result : Result ObjectId Error) → IsToldBy w.head end result → IfOk result (λ _. IsAtEnd rest)
+  ended_told (Ok id) at result told = subst (λ (r : Result ObjectId Error). IfOk r (λ _. IsAtEnd rest)) (sym told) at.ends.1.0
+  ended_told (Err refusal) at result told =
+      elim told [
+        | inl is ↦ subst (λ (r : Result ObjectId Error). IfOk r (λ _. IsAtEnd rest)) (sym is) tt
+        | inr is ↦ subst (λ (r : Result ObjectId Error). IfOk r (λ _. IsAtEnd rest)) (sym is) tt
+      ]
 
 -- what it took
 pub took_from : (w : Begun) (rest : Option (List ℕ)) (source_now : ℕ) (all : List ℕ) → Took w rest source_now all → TakesFrom w.head.size w.left rest w.source_faults source_now
@@ -270,9 +297,26 @@ unfolding AreGiven left_by tried
 runs_nothing w result is =
     runs_refused w w.state w.faults w.left w.source_faults [] errors.NoMemory result is (record { given = tt; left = refl; failed = λ k d l. absurd (omega (arith, l)); later = omega arith; tree = inl refl })
     (shown_broken w w.state w.faults w.left w.source_faults [] (record { stage = stages.Making 0; appended = []; before = []; history = (omega arith, refl, refl); removed = refl }))
-    (λ bytes told. inr (record { stage = stages.Making 0; before = []; along = IsAlong-start (at_hand w bytes); removed = refl }, inr is))
+    (λ bytes told. inr (record { stage = stages.Making 0; before = []; along = IsAlong-start (at_hand w bytes); removed = refl }, inr is)) (inl refl)
 
 -- a call that was refused for want of memory
 pub for_memory : {A : Type 0} (result : Result A Error) → IsErrAnd result (λ e. e ≡ errors.NoMemory) → result ≡ Err errors.NoMemory
 for_memory (Ok x) h = absurd h
 for_memory (Err error) h = ap (λ (e : Error). Err e) h
+
+-- ---- how it begins
+
+pub new_underway : (w : Begun) (job : StreamJob) → IsNew w.head w.hash w.known job → StandsAt w w.state w.faults w.left w.source_faults job job.stage
+new_underway w job new = stands_first w job new.about new.stage new.has_ended new.naming new.removal
+
+pub new_in : {E : Type 0} (head made : WriteHead) (hash taken : HashKind) (known : Option ObjectId) (result : Result StreamJob E) → made ≡ head → taken ≡ hash → IfOk result (λ job. job.head ≡ made) → IfOk result (λ job. job.stage ≡ stages.Making 0)
+    → IfOk result (λ job. job.has_ended ≡ false) → IfOk result (λ job. Names known taken made [] job.naming) → IfOk result (λ job. job.removal ≡ asks.Remove (temp_path made.objects 0)) → IfOk result (IsNew head hash known)
+new_in head made hash taken known (Err error) same hash_is heads stage ended naming removal = tt
+new_in head made hash taken known (Ok job) same hash_is heads stage ended naming removal =
+    record {
+      about = heads ∙ same;
+      stage = stage;
+      has_ended = ended;
+      naming = subst (λ (h : HashKind). Names known h head [] job.naming) hash_is (subst (λ (h : WriteHead). Names known taken h [] job.naming) same naming);
+      removal = removal ∙ ap (λ (h : WriteHead). asks.Remove (temp_path h.objects 0)) same;
+    }

@@ -42,6 +42,12 @@ GaveIn state path read = IfSome state (λ s. read ≡ read_of (tree_of s) path)
 abbrev pub path_in : Store → ObjectId → Path
 path_in store id = loose_path (store_path store) id
 
+-- what a find answered that puts data into a buffer, by what the buffer holds then
+abbrev pub put_in : {E : Type 0} → Result (Option Kind) E → List ℕ → Result (Option Object) E
+put_in (Ok (Some kind)) bytes = Ok (Some (record { kind = kind; bytes = bytes }))
+put_in (Ok None) bytes = Ok None
+put_in (Err error) bytes = Err error
+
 -- a find answers by the object that the file at the path holds
 abbrev pub Finds : Store → ObjectId → State → (Failed : Type 0) → Result (Option Object) Error → Type 0
 Finds store id state Failed result =

@@ -7,13 +7,15 @@
 -- it. A store's call, the machine and a run over a changing tree each have their own.
 pub mod Laws
 pub mod WriteLaws
-use Rattle.std.specs.Prelude.{◌≡◌, ◌≢◌, ◌⊎◌, ℕ, ◌<◌, List, [], length, Option, Some, None, Ok, Err}
+use Rattle.std.specs.Prelude.{◌≡◌, ◌≢◌, ◌⊎◌, ℕ, ◌<◌, List, [], length, All, Option, Some, None, Ok, Err}
+use Rattle.std.specs.List.{concat}
 use Rattle.odb_disk.specs.declared.ask.DiskAsk.{DiskAsk}
 use Rattle.odb_disk.specs.declared.ask.DiskAsk.TheVariants as asks
 use Rattle.gix_hash.specs.declared.object_id.ObjectId.{ObjectId}
 use Rattle.gix_object.specs.Loose.{header_of}
 use Rattle.gix_odb_loose.specs.LooseFile.{loose_path}
 use Rattle.gix_odb_loose.specs.WriteOrder.{temp_path, prefix_path}
+use Rattle.gix_odb_loose.specs.WriteStreams.{CountsOther}
 use Rattle.gix_odb_loose.specs.declared.write_call.WriteHead.{WriteHead}
 use Rattle.gix_odb_loose.specs.declared.write.Error.{Error as WriteError}
 use Rattle.gix_odb_loose.specs.declared.write.Error.TheVariants as write_errors
@@ -116,8 +118,16 @@ IoCause head Refuses Exists Done SourceFailed messages.WriteHeader =
 IoCause head Refuses Exists Done SourceFailed messages.StreamData =
     SourceFailed ⊎ ((number : ℕ) × (piece : List ℕ) × Done (asks.NewFile (temp_path head.objects number)) × Refuses (asks.Append (temp_path head.objects number) piece))
 
+-- Pieces of data were appended to the file that was made: fewer bytes than were told, or one more.
+pub record AppendsOther (head : WriteHead) (Done : DiskAsk → Type 0) (actual : ℕ) : Type 0 where
+  pub number : ℕ
+  pub made : Done (asks.NewFile (temp_path head.objects number))
+  pub pieces : List (List ℕ)
+  pub each : All (λ (piece : List ℕ). Done (asks.Append (temp_path head.objects number) piece)) pieces
+  pub counted : CountsOther head.size (concat pieces) actual
+
 -- What each error of a write says, where `Named id` says that the object gets this id, and `Counted actual` that there
--- were so many bytes of data, and not as many as were told. A file is renamed that was made, after the directory of the
+-- were so many bytes of data, and not as many as were told: so many were appended. A file is renamed that was made, after the directory of the
 -- object was made or was there.
 abbrev pub WriteCause : WriteHead → (Named : ObjectId → Type 0) (Refuses Exists Done : DiskAsk → Type 0) (SourceFailed Wanting : Type 0) (Counted : ℕ → Type 0) → WriteError → Type 0
 WriteCause head Named Refuses Exists Done SourceFailed Wanting Counted (write_errors.Io message at) = (at ≡ head.objects) × IoCause head Refuses Exists Done SourceFailed message
@@ -125,5 +135,5 @@ WriteCause head Named Refuses Exists Done SourceFailed Wanting Counted write_err
 WriteCause head Named Refuses Exists Done SourceFailed Wanting Counted (write_errors.Persist target) =
     (id : ObjectId) × Named id × (target ≡ loose_path head.objects id)
     × ((number : ℕ) × Done (asks.NewFile (temp_path head.objects number)) × (Done (asks.MakeDir (prefix_path head.objects id)) ⊎ Exists (asks.MakeDir (prefix_path head.objects id))) × Refuses (asks.Rename (temp_path head.objects number) target))
-WriteCause head Named Refuses Exists Done SourceFailed Wanting Counted (write_errors.SizeMismatch expected actual) = (expected ≡ head.size) × Counted actual
+WriteCause head Named Refuses Exists Done SourceFailed Wanting Counted (write_errors.SizeMismatch expected actual) = (expected ≡ head.size) × Counted actual × AppendsOther head Done actual
 WriteCause head Named Refuses Exists Done SourceFailed Wanting Counted write_errors.NoMemory = Wanting

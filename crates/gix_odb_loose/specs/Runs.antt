@@ -36,6 +36,10 @@ pub record ComesToReply (state : Option State) (before now : ℕ) (call : LooseC
   pub gave : Gave state before now ask given
   pub replied : reply_of (fed call given) ≡ Some reply
 
+-- what a call replies now is the reply that it comes to
+abbrev pub HasReplied : Option State → ℕ → ℕ → LooseCall → LooseCall → Type 0
+HasReplied state before now call after = (reply : LooseReply) → reply_of after ≡ Some reply → ComesToReply state before now call reply
+
 -- one turn of a call over a disk: what it asked, what it was given, and what is left of the disk and of the call
 pub record Turned (state new : Option State) (before now : ℕ) (call after : LooseCall) : Type 0 where
   pub ask : DiskAsk

@@ -9,19 +9,22 @@ use Rattle.gix_hash.specs.declared.object_id.ObjectId.{ObjectId}
 use Rattle.gix_object.specs.declared.kind.Kind.{Kind}
 use Rattle.gix_odb_loose.specs.Exchanges.{Exchange, left_by, AreGiven, FailByFaults}
 use Rattle.gix_odb_loose.specs.Store.{store_hash}
-use Rattle.gix_odb_loose.specs.WriteHistory.{IsHistory, IsHistoryOfEnd, IsBrokenRun}
+use Rattle.gix_odb_loose.specs.WriteHistory.{IsFilled, IsFailedRead, IsHistory, IsHistoryOfEnd, IsBrokenRun}
 use Rattle.gix_odb_loose.specs.WritePieces.{IsInPieces}
 use Rattle.gix_odb_loose.specs.WriteNames.{name_for, Names}
 use Rattle.gix_odb_loose.specs.WriteAsks.{write_of, IsAlong, IsCutOff}
 use Rattle.gix_odb_loose.specs.WriteJobs.{supplied_to}
-use Rattle.gix_odb_loose.specs.WriteOrder.{temp_path, ended_with, number_made, room_behind}
+use Rattle.gix_odb_loose.specs.WriteOrder.{temp_path, ended_with, error_from, number_made, room_behind}
 use Rattle.gix_odb_loose.specs.WriteRuns.{write_head}
 use Rattle.gix_odb_loose.specs.WriteStreams.{Draws, IsAtEnd, OtherLength}
 use Rattle.gix_odb_loose.specs.declared.fetch.Fetched.{Fetched}
 use Rattle.gix_odb_loose.specs.declared.fetch.Fetched.TheVariants.{Piece, Failed}
 use Rattle.gix_odb_loose.specs.declared.store.Store.{Store}
 use Rattle.gix_odb_loose.specs.declared.stream_job.StreamJob.{StreamJob}
+use Rattle.gix_odb_loose.specs.declared.write.Error.{Error}
+use Rattle.gix_odb_loose.specs.declared.write.Error.TheVariants as errors
 use Rattle.gix_odb_loose.specs.declared.write.Message.TheVariants as messages
+use Rattle.gix_odb_loose.specs.declared.write_call.Onward.{Onward}
 use Rattle.gix_odb_loose.specs.declared.write_call.Onward.TheVariants.{Stage, End}
 use Rattle.gix_odb_loose.specs.declared.write_call.Refusal.{Refusal}
 use Rattle.gix_odb_loose.specs.declared.write_call.Refusal.TheVariants as refusals
@@ -39,12 +42,12 @@ pub record Loses (most : ℕ) (left rest : Option (List ℕ)) (faults now : ℕ)
   pub few : length lost ≤ most
   pub later : faults ≤ now
 
--- a piece was taken: fewer bytes than were asked for only at the end
+-- a piece was taken, and no read failed: fewer bytes than were asked for only at the end
 pub record Takes (most : ℕ) (left rest : Option (List ℕ)) (faults now : ℕ) (piece : List ℕ) : Type 0 where
   pub drawn : Draws left rest piece
   pub few : length piece ≤ most
   pub at_end : length piece < most → IsAtEnd rest
-  pub later : faults ≤ now
+  pub same : now ≡ faults
 
 abbrev pub Fetches : (most : ℕ) (left rest : Option (List ℕ)) (faults now : ℕ) → Fetched → Type 0
 Fetches most left rest faults now (Piece piece) = Takes most left rest faults now piece
@@ -73,6 +76,24 @@ NamedBy w id = IfSome w.left (λ bytes. id ≡ name_for w.known w.hash w.head by
 
 abbrev pub SourceFailed : Begun → ℕ → Type 0
 SourceFailed w now = Rose w.source_faults now
+
+-- no read of the source has failed since the write began
+abbrev pub IsSpared : Begun → ℕ → Type 0
+IsSpared w now = now ≡ w.source_faults
+
+-- the source failed behind what was appended, and the temporary file is to be removed
+pub record FailedAt (w : Begun) (stage : WriteStage) (past : List Exchange) : Type 0 where
+  pub number : ℕ
+  pub appended : List ℕ
+  pub filled : IsFilled w.head number appended past
+  pub is : stage ≡ stages.Removing number (refusals.Io messages.StreamData)
+
+-- reads were made behind what was appended
+pub record LostAt (w : Begun) (stage : WriteStage) (past : List Exchange) : Type 0 where
+  pub number : ℕ
+  pub appended : List ℕ
+  pub filled : IsFilled w.head number appended past
+  pub made : number_made stage ≡ Some number
 
 -- the exchanges so far, and the disk that they left
 pub record Did (w : Begun) (state : Option State) (now : ℕ) (past : List Exchange) : Type 0 where
@@ -143,6 +164,14 @@ abbrev pub IsReady : Begun → DiskAsk → WriteStage → Type 0
 IsReady w removal (stages.Making number) = Unit {0}
 IsReady w removal stage = removal ≡ removal_at w stage
 
+-- a write that has asked nothing and read nothing
+pub record IsNew (head : WriteHead) (hash : HashKind) (known : Option ObjectId) (job : StreamJob) : Type 0 where
+  pub about : job.head ≡ head
+  pub stage : job.stage ≡ stages.Making 0
+  pub has_ended : job.has_ended ≡ false
+  pub naming : Names known hash head [] job.naming
+  pub removal : job.removal ≡ asks.Remove (temp_path head.objects 0)
+
 -- ---- what it asks, where its source tells its data
 
 -- the same write with its data at hand
@@ -179,6 +208,7 @@ pub record StandsAt (w : Begun) (state : Option State) (now : ℕ) (rest : Optio
   pub removal : job.removal ≡ removal_at w stage
   pub history : IsHistory w.head (NamedBy w) (SourceFailed w source_now) (OtherLength w.left w.head.size) appended stage past
   pub holds : Holds w rest appended all job stage
+  pub spared : IsSpared w source_now ⊎ FailedAt w stage past
   pub follows : (bytes : List ℕ) → w.left ≡ Some bytes → FollowsAt (at_hand w bytes) (SourceFailed w source_now) stage past
 
 abbrev pub IsUnderway : Begun → Option State → ℕ → Option (List ℕ) → ℕ → StreamJob → Type 0
@@ -196,6 +226,7 @@ pub record IsFed (w : Begun) (state : Option State) (now : ℕ) (rest : Option (
   pub removal : IsReady w job.removal stage
   pub history : IsHistory w.head (NamedBy w) (SourceFailed w source_now) (OtherLength w.left w.head.size) appended stage past
   pub holds : HoldsFed w rest appended all job stage
+  pub spared : IsSpared w source_now ⊎ FailedAt w stage past
   pub follows : (bytes : List ℕ) → w.left ≡ Some bytes → IsAlong (at_hand w bytes) (Stage (supplied_to (at_hand w bytes) stage)) past
 
 -- a write that memory ran out of between two asks: its removal is ready, where it made its file
@@ -207,6 +238,7 @@ pub record BreaksAt (w : Begun) (state : Option State) (now : ℕ) (rest : Optio
   pub took : Took w rest source_now all
   pub removal : IsReady w job.removal stage
   pub history : IsHistory w.head (NamedBy w) (SourceFailed w source_now) (OtherLength w.left w.head.size) appended stage past
+  pub spared : IsSpared w source_now ⊎ LostAt w stage past
   pub follows : (bytes : List ℕ) → w.left ≡ Some bytes → CutsAt (at_hand w bytes) stage past
 
 abbrev pub IsBroken : Begun → Option State → ℕ → Option (List ℕ) → ℕ → StreamJob → Type 0
@@ -236,6 +268,7 @@ pub record IsAtItsEnd (w : Begun) (state : Option State) (now : ℕ) (rest : Opt
   pub did : Did w state now past
   pub took : Took w rest source_now all
   pub ends : EndsWith w rest source_now appended all past end
+  pub spared : IsSpared w source_now ⊎ ((end ≡ Err (refusals.Io messages.StreamData)) × IsFailedRead w.head past)
   pub follows : (bytes : List ℕ) → w.left ≡ Some bytes → FollowsToEnd (at_hand w bytes) (SourceFailed w source_now) end past
 
 -- a write that memory ran out of, and that has asked to remove the temporary file that it made
@@ -245,6 +278,7 @@ pub record IsBrokenOff (w : Begun) (state : Option State) (now : ℕ) (rest : Op
   pub did : Did w state now past
   pub run : IsBrokenRun w.head (NamedBy w) (SourceFailed w source_now) (OtherLength w.left w.head.size) past
   pub took : Took w rest source_now all
+  pub spared : IsSpared w source_now ⊎ IsFailedRead w.head past
   pub follows : (bytes : List ℕ) → w.left ≡ Some bytes → IsCutOff (at_hand w bytes) past
 
 -- what one turn comes to: the write goes on, ends, or wants memory
@@ -252,6 +286,30 @@ abbrev pub TurnsTo : {E : Type 0} → Begun → Option State → ℕ → Option 
 TurnsTo w state now rest source_now job (Ok None) = IsUnderway w state now rest source_now job
 TurnsTo w state now rest source_now job (Ok (Some end)) = IsAtItsEnd w state now rest source_now end
 TurnsTo w state now rest source_now job (Err error) = IsBroken w state now rest source_now job
+
+-- what an answer leads to: a stage, or the end
+abbrev pub Leads : Begun → Option State → ℕ → Option (List ℕ) → ℕ → StreamJob → Onward → Type 0
+Leads w state now rest source_now fed (Stage onward) = IsFed w state now rest source_now fed onward
+Leads w state now rest source_now fed (End end) = IsAtItsEnd w state now rest source_now end
+
+-- what one ask comes to: its answer leads on, or memory ran out before it
+abbrev pub LeadsTo : {E : Type 0} → Begun → Option State → ℕ → Option (List ℕ) → ℕ → StreamJob → Result Onward E → Type 0
+LeadsTo w state now rest source_now job (Ok onward) = Leads w state now rest source_now job onward
+LeadsTo w state now rest source_now job (Err error) = IsBroken w state now rest source_now job
+
+-- some write is underway
+abbrev pub IsSomeUnderway : Option State → ℕ → Option (List ℕ) → ℕ → StreamJob → Type 0
+IsSomeUnderway state now rest source_now job = (w : Begun) × IsUnderway w state now rest source_now job
+
+-- what all turns come to: the end, or want of memory
+abbrev pub RunsTo : {E : Type 0} → Begun → Option State → ℕ → Option (List ℕ) → ℕ → Result (Result ObjectId Refusal) E → Type 0
+RunsTo w state now rest source_now (Ok end) = IsAtItsEnd w state now rest source_now end
+RunsTo w state now rest source_now (Err error) = IsBrokenOff w state now rest source_now
+
+-- what a write answers that ended so: its reply, or that there was no memory to tell why it was refused
+abbrev pub IsToldBy : WriteHead → Result ObjectId Refusal → Result ObjectId Error → Type 0
+IsToldBy head (Ok id) result = result ≡ Ok id
+IsToldBy head (Err refusal) result = (result ≡ Err (error_from head refusal)) ⊎ (result ≡ Err errors.NoMemory)
 
 -- how many turns are still to come, at most, for so many bytes
 abbrev pub turns_left : ℕ → WriteStage → ℕ

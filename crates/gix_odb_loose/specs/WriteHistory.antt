@@ -12,6 +12,7 @@ use Rattle.gix_odb_loose.specs.LooseFile.{loose_path}
 use Rattle.gix_odb_loose.specs.Causes.{WriteCause}
 use Rattle.gix_odb_loose.specs.Exchanges.{Exchange, exchanged}
 use Rattle.gix_odb_loose.specs.WritePieces.{IsCut}
+use Rattle.gix_odb_loose.specs.WriteStreams.{CountsOther}
 use Rattle.gix_odb_loose.specs.WriteOrder.{temp_path, prefix_path, number_made, write_ask}
 use Rattle.gix_odb_loose.specs.declared.write.Error.{Error}
 use Rattle.gix_odb_loose.specs.declared.write.Message.TheVariants as messages
@@ -97,6 +98,15 @@ DoneIn past ask = Contains past (exchanged ask answers.Done)
 abbrev pub WantedIn : List Exchange → Type 0
 WantedIn past = (ask : DiskAsk) × Contains past (exchanged ask (answers.Refused disk_errors.NoMemory))
 
+-- The source of the data failed behind what was appended, and then the temporary file was asked to be removed.
+pub record IsFailedRead (head : WriteHead) (past : List Exchange) : Type 0 where
+  pub number : ℕ
+  pub appended : List ℕ
+  pub before : List Exchange
+  pub answer : DiskAnswer
+  pub filled : IsFilled head number appended before
+  pub removed : past ≡ before ++ exchanged (asks.Remove (temp_path head.objects number)) answer ∷ []
+
 -- an error has its cause in the exchanges, or in the source
 abbrev pub HasCauseIn : WriteHead → (Named : ObjectId → Type 0) (SourceFailed : Type 0) (Counted : ℕ → Type 0) → List Exchange → Error → Type 0
 HasCauseIn head Named SourceFailed Counted past error = WriteCause head Named (RefusedIn past) (TakenIn past) (DoneIn past) SourceFailed (WantedIn past) Counted error
@@ -127,7 +137,8 @@ abbrev pub Wants : DiskAsk → DiskAnswer → Type 0
 Wants ask answer = answer ≡ answers.Refused disk_errors.NoMemory
 
 -- The exchanges of a write that made its temporary file and then was refused, before the file is removed: its last ask was
--- refused, or the source failed, or the data had another length than was told. All before went well.
+-- refused, or the source failed, or the data had another length than was told, which is that of the appended ones. All
+-- before went well.
 abbrev pub IsStopped : WriteHead → (Named : ObjectId → Type 0) (SourceFailed : Type 0) (Counted : ℕ → Type 0) (number : ℕ) → Refusal → List Exchange → Type 0
 IsStopped head Named SourceFailed Counted number (refusals.Io messages.CreateTempFile) past = ⊥
 IsStopped head Named SourceFailed Counted number (refusals.Io messages.WriteHeader) past = IsAnswered head Named IsRefused (stages.Heading number) past
@@ -135,7 +146,7 @@ IsStopped head Named SourceFailed Counted number (refusals.Io messages.StreamDat
     (SourceFailed × ((appended : List ℕ) × IsFilled head number appended past)) ⊎ ((written : ℕ) × IsAnswered head Named IsRefused (stages.Filling number written) past)
 IsStopped head Named SourceFailed Counted number refusals.IoRaw past = (id : ObjectId) × IsAnswered head Named IsRefused (stages.Foldering number id) past
 IsStopped head Named SourceFailed Counted number (refusals.Persist id) past = IsAnswered head Named IsRefused (stages.Moving number id) past
-IsStopped head Named SourceFailed Counted number (refusals.SizeMismatch actual) past = Counted actual × ((appended : List ℕ) × IsFilled head number appended past)
+IsStopped head Named SourceFailed Counted number (refusals.SizeMismatch actual) past = Counted actual × ((appended : List ℕ) × IsFilled head number appended past × CountsOther head.size appended actual)
 IsStopped head Named SourceFailed Counted number refusals.NoMemory past = (stage : WriteStage) × (number_made stage ≡ Some number) × IsAnswered head Named Wants stage past
 
 -- The exchanges of a write, and the data that they appended, when it stands at a stage: all went well, or it was refused.

@@ -15,7 +15,7 @@ use Rattle.gix_object.specs.declared.kind.Kind.{Kind}
 use Rattle.gix_odb_loose.specs.Causes.{WriteCause}
 use Rattle.gix_odb_loose.specs.Exchanges.{Exchange, exchanged, left_by, AreGiven, RenamedNothing}
 use Rattle.gix_odb_loose.specs.Store.{store_path}
-use Rattle.gix_odb_loose.specs.WriteHistory.{IsMoved, IsRefused, DoneIn, IsRefusedRun, IsBrokenRun}
+use Rattle.gix_odb_loose.specs.WriteHistory.{IsMoved, IsFailedRead, IsRefused, DoneIn, IsRefusedRun, IsBrokenRun}
 use Rattle.gix_odb_loose.specs.WriteAsks.{write_of, RunsAlong}
 use Rattle.gix_odb_loose.specs.WriteOwn.{AreOwn, LeavesNothing}
 use Rattle.gix_odb_loose.specs.WriteNames.{name_for}
@@ -80,9 +80,13 @@ pub record Writes (head : WriteHead) (hash : HashKind) (known : Option ObjectId)
   -- where the disk tells its states, the object's path reads as the header and the data
   pub read_back : IfSome state (λ _. ReadsBack head number id bytes (left_by state moved.before) new)
 
+-- A read of the source failed behind what was appended, and the removal of the temporary file was asked next.
+abbrev pub IsStoppedBySource : WriteHead → List Exchange → Result ObjectId Error → Type 0
+IsStoppedBySource head exchanges result = IsFailedRead head exchanges × ((result ≡ Err (errors.Io messages.StreamData head.objects)) ⊎ (result ≡ Err errors.NoMemory))
+
 -- A write of these data, where the source of them tells which: the states of the disk, its counts of faults, and what the
--- call answered.
-pub record WriteRuns (head : WriteHead) (hash : HashKind) (known : Option ObjectId) (source : Option (List ℕ)) (SourceFailed : Type 0) (state new : Option State) (before now : ℕ) (result : Result ObjectId Error) : Type 0 where
+-- call answered. `Spared` says that the source's count of faults is as it was.
+pub record WriteRuns (head : WriteHead) (hash : HashKind) (known : Option ObjectId) (source : Option (List ℕ)) (SourceFailed Spared : Type 0) (state new : Option State) (before now : ℕ) (result : Result ObjectId Error) : Type 0 where
   -- the calls of the disk that it made, and what they were answered and left
   pub exchanges : List Exchange
   pub given : AreGiven state exchanges
@@ -92,6 +96,8 @@ pub record WriteRuns (head : WriteHead) (hash : HashKind) (known : Option Object
   -- and they are those of a write that has the same data at hand, where the source tells them: each is the one that the
   -- answers before it led to, up to the end, or to where the source failed or memory ran out
   pub asks : (bytes : List ℕ) → source ≡ Some bytes → RunsAlong (write_of head hash known bytes) SourceFailed exchanges result
+  -- no read of the source failed; or one did, and the removal of the temporary file was asked next
+  pub spared : Spared ⊎ IsStoppedBySource head exchanges result
   -- an object that was written got its name last
   pub wrote : (id : ObjectId) → result ≡ Ok id → Writes head hash known source state new exchanges id
   -- a refused write went well up to what refused it, and removed last the temporary file that it made

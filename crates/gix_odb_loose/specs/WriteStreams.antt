@@ -24,3 +24,8 @@ pub record TakesFrom (size : ℕ) (left rest : Option (List ℕ)) (faults now : 
 -- There are fewer bytes of data than were told, and all are counted; or there are more, and one more is counted, in 64 bits.
 abbrev pub OtherLength : Option (List ℕ) → ℕ → ℕ → Type 0
 OtherLength left size actual = IfSome left (λ bytes. ((length bytes < size) × (actual ≡ length bytes)) ⊎ ((size < length bytes) × (actual ≡ min (size + 1) (2 ^ 64 - 1))))
+
+-- So many bytes were appended, and not as many as were told: fewer, and all are counted; or one above the size, which is
+-- counted in 64 bits.
+abbrev pub CountsOther : (size : ℕ) (appended : List ℕ) (actual : ℕ) → Type 0
+CountsOther size appended actual = ((length appended < size) × (actual ≡ length appended)) ⊎ ((length appended ≡ size + 1) × (actual ≡ min (size + 1) (2 ^ 64 - 1)))

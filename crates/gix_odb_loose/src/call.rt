@@ -1,10 +1,11 @@
 //! A call of a store as a machine: it names a call of the disk, is fed the answer, and comes to a reply.
-ghost use Rattle.std.specs.Prelude.{◌≡◌, true, is_some, IfOk, OnOk, OnErr};
+ghost use Rattle.std.specs.Prelude.{◌≡◌, true, None, Some, is_some, IfOk, OnOk, OnErr};
 ghost use Rattle.gix_hash.specs.ObjectId.{kind_of};
 ghost use Rattle.gix_odb_loose.specs.Store.{store_hash};
 ghost use Rattle.gix_odb_loose.specs.LooseFile.{id_asked};
 ghost use Rattle.gix_odb_loose.specs.LooseOrder.{started, ask_of, disk_ask_of, reply_of, temporary_in, led_at, written_to, next_stage};
 ghost use Rattle.gix_odb_loose.specs.LooseOrder.{fed as fed_with};
+ghost use Rattle.odb_disk.specs.declared.ask.DiskAnswer.{DiskAnswer as answer_of_disk};
 
 use crate::write_call::{WriteHead, WriteStage};
 use crate::write_job::{Led, WriteJob};
@@ -143,9 +144,7 @@ impl LooseCall {
         ensures refused { OnErr result (self.new ≡ self.old) }
     {
         let led = self.stage.led(alloc, &answer)?;
-        let meanwhile = Stage::Done(LooseReply::Contains(Ok(false)));
-        let stage = mem::replace(&mut self.stage, meanwhile);
-        self.stage = led_on(stage, answer, led);
+        self.stage.go_on(answer, led);
         Ok(())
     }
 
@@ -183,21 +182,60 @@ impl LooseReply {
         ensures { IfOk result (λ copy. copy ≡ self.now) }
     {
         match self {
-            LooseReply::Contains(Ok(there)) => Ok(LooseReply::Contains(Ok(*there))),
-            LooseReply::Contains(Err(error)) => {
-                Ok(LooseReply::Contains(Err(error.try_clone(alloc)?)))
-            }
-            LooseReply::Found(Ok(None)) => Ok(LooseReply::Found(Ok(None))),
-            LooseReply::Found(Ok(Some((kind, bytes)))) => Ok(LooseReply::Found(Ok(Some((
-                *kind,
-                bytes.try_clone(alloc)?,
-            ))))),
-            LooseReply::Found(Err(error)) => Ok(LooseReply::Found(Err(error.try_clone(alloc)?))),
-            LooseReply::Header(Ok(found)) => Ok(LooseReply::Header(Ok(*found))),
-            LooseReply::Header(Err(error)) => Ok(LooseReply::Header(Err(error.try_clone(alloc)?))),
-            LooseReply::Wrote(Ok(id)) => Ok(LooseReply::Wrote(Ok(*id))),
-            LooseReply::Wrote(Err(error)) => Ok(LooseReply::Wrote(Err(error.try_clone(alloc)?))),
+            LooseReply::Contains(answer) => Ok(LooseReply::Contains(presence_copy(alloc, answer)?)),
+            LooseReply::Found(answer) => Ok(LooseReply::Found(object_copy(alloc, answer)?)),
+            LooseReply::Header(answer) => Ok(LooseReply::Header(header_copy(alloc, answer)?)),
+            LooseReply::Wrote(answer) => Ok(LooseReply::Wrote(id_copy(alloc, answer)?)),
         }
+    }
+}
+
+fn presence_copy(
+    alloc: Global,
+    answer: &Result<bool, find::Error>,
+) -> Result<Result<bool, find::Error>, NoMemory>
+    ensures { IfOk result (λ copy. copy ≡ answer.now) }
+{
+    match answer {
+        Ok(there) => Ok(Ok(*there)),
+        Err(error) => Ok(Err(error.try_clone(alloc)?)),
+    }
+}
+
+fn object_copy(
+    alloc: Global,
+    answer: &Result<Option<(Kind, ByteList)>, find::Error>,
+) -> Result<Result<Option<(Kind, ByteList)>, find::Error>, NoMemory>
+    ensures { IfOk result (λ copy. copy ≡ answer.now) }
+{
+    match answer {
+        Ok(None) => Ok(Ok(None)),
+        Ok(Some((kind, bytes))) => Ok(Ok(Some((*kind, bytes.try_clone(alloc)?)))),
+        Err(error) => Ok(Err(error.try_clone(alloc)?)),
+    }
+}
+
+fn header_copy(
+    alloc: Global,
+    answer: &Result<Option<(u64, Kind)>, find::Error>,
+) -> Result<Result<Option<(u64, Kind)>, find::Error>, NoMemory>
+    ensures { IfOk result (λ copy. copy ≡ answer.now) }
+{
+    match answer {
+        Ok(found) => Ok(Ok(*found)),
+        Err(error) => Ok(Err(error.try_clone(alloc)?)),
+    }
+}
+
+fn id_copy(
+    alloc: Global,
+    answer: &Result<ObjectId, write::Error>,
+) -> Result<Result<ObjectId, write::Error>, NoMemory>
+    ensures { IfOk result (λ copy. copy ≡ answer.now) }
+{
+    match answer {
+        Ok(id) => Ok(Ok(*id)),
+        Err(error) => Ok(Err(error.try_clone(alloc)?)),
     }
 }
 
@@ -211,6 +249,16 @@ impl Stage {
             _ => Ok(None),
         }
     }
+
+    // Goes on by the answer to its ask, which led a write so.
+    fn go_on(&mut self, answer: DiskAnswer, led: Option<Led>)
+        requires { led ≡ led_at self.old answer }
+        ensures { self.new ≡ next_stage self.old answer }
+    {
+        let meanwhile = Stage::Done(LooseReply::Contains(Ok(false)));
+        let stage = mem::replace(self, meanwhile);
+        *self = led_on(stage, answer, led);
+    }
 }
 
 // A stage after the answer to its ask, which led a write so.
@@ -218,19 +266,34 @@ fn led_on(stage: Stage, answer: DiskAnswer, led: Option<Led>) -> Stage
     requires { led ≡ led_at stage answer }
     ensures { result ≡ next_stage stage answer }
 {
+    match led {
+        Some(led) => write_led_on(stage, led),
+        None => find_led_on(stage, answer),
+    }
+}
+
+// A stage of a find after the answer to its ask.
+fn find_led_on(stage: Stage, answer: DiskAnswer) -> Stage
+    requires { led_at stage answer ≡ None }
+    ensures { result ≡ next_stage stage answer }
+{
     match stage {
-        Stage::Testing { path } => {
-            Stage::Done(LooseReply::Contains(reply::tested(path, &answer)))
-        }
+        Stage::Testing { path } => Stage::Done(LooseReply::Contains(reply::tested(path, &answer))),
         Stage::Finding { path, limit } => {
             Stage::Done(LooseReply::Found(reply::found(path, limit, answer)))
         }
         Stage::Heading { path } => Stage::Done(LooseReply::Header(reply::headed(path, &answer))),
-        Stage::Writing(job) => match led {
-            Some(led) => written_on(job, led),
-            None => unreachable!("an answer leads each write on"),
-        },
-        Stage::Done(reply) => Stage::Done(reply),
+        other => other,
+    }
+}
+
+// A stage of a write after an answer that led it so.
+fn write_led_on(stage: Stage, led: Led) -> Stage
+    ensures { (answer : answer_of_disk) → led_at stage answer ≡ Some led → result ≡ next_stage stage answer }
+{
+    match stage {
+        Stage::Writing(job) => written_on(job, led),
+        other => other,
     }
 }
 

@@ -20,8 +20,6 @@ mod paths;
 mod reply;
 mod store;
 mod stream_job;
-#[cfg(test)]
-mod tests;
 pub mod write;
 mod write_call;
 mod write_job;

@@ -1,19 +1,21 @@
-ghost use Rattle.std.specs.Prelude.{◌≡◌, ◌<◌, ◌≤◌, ◌↔◌, None, IfOk, IfErr, IfSome, OnErr, IsTrue};
+ghost use Rattle.std.specs.Prelude.{◌≡◌, ◌<◌, ◌≤◌, ◌↔◌, [], Some, None, IfOk, IfErr, IfSome, OnOk, OnErr, IsTrue};
 ghost use Rattle.odb_base.specs.Faults.{Rose};
 ghost use Rattle.odb_disk.specs.Tree.{tree_of};
 ghost use Rattle.gix_hash.specs.ObjectId.{kind_of};
 ghost use Rattle.gix_object.specs.Data.{found_of};
 ghost use Rattle.gix_odb_loose.specs.Store.{store_path, store_hash, store_limit};
 ghost use Rattle.gix_odb_loose.specs.LooseFile.{id_asked, IsFinding, LeadsToFile};
-ghost use Rattle.gix_odb_loose.specs.Answers.{path_in, Finds, TellsHeader, FindRefused, HeaderRefused, TestRefused};
-ghost use Rattle.gix_odb_loose.specs.LooseOrder.{started, asks_left};
-ghost use Rattle.gix_odb_loose.specs.Runs.{ComesToReply, Turns, Broke};
+ghost use Rattle.gix_odb_loose.specs.Answers.{path_in, put_in, Finds, TellsHeader, FindRefused, HeaderRefused, TestRefused};
+ghost use Rattle.gix_odb_loose.specs.LooseOrder.{started, asks_left, disk_ask_of};
+ghost use Rattle.gix_odb_loose.specs.Runs.{ComesToReply, HasReplied, Turns, Broke};
+ghost use Rattle.gix_odb_loose.specs.declared.call.LooseJob.{LooseJob as job_of};
+ghost use Rattle.gix_odb_loose.specs.declared.store.Store.{Store as store_of};
 
 use crate::{LooseCall, LooseJob, LooseReply, find, paths};
 use gix_hash::ObjectId;
 use gix_object::{Data, Kind};
 use odb_base::{NoMemory, PathText};
-use odb_disk::Disk;
+use odb_disk::{Disk, DiskAsk};
 use std::alloc::Global;
 
 /// The options of a store. The default has no limit.
@@ -155,15 +157,41 @@ impl Store {
         ensures later { D.faults disk.old ≤ D.faults disk.new }
         ensures streams { D.streams disk.new ≡ D.streams disk.old }
     {
+        match self.find_into(alloc, disk, id, out) {
+            Ok(Some(kind)) => Ok(Some(Data {
+                kind,
+                object_hash: self.object_hash,
+                bytes: out.as_slice(),
+            })),
+            Ok(None) => Ok(None),
+            Err(error) => Err(error),
+        }
+    }
+
+    /// The same, with the object's data left in `out`, and nothing beside them: its kind.
+    pub fn find_into<D: Disk>(
+        &self,
+        alloc: Global,
+        disk: &mut D,
+        id: &ObjectId,
+        out: &mut Vec<u8>,
+    ) -> Result<Option<Kind>, find::Error>
+        requires { kind_of id.now ≡ store_hash self.now }
+        ensures answer { IfSome (D.state disk.old) (λ s.
+            Finds self.now id.now s (Rose (D.faults disk.old) (D.faults disk.new)) (put_in result out.new.items)) }
+        ensures none { IfOk result (λ found. found ≡ None → out.new.items ≡ []) }
+        ensures refused { OnErr result (out.new.items ≡ []) }
+        ensures cause { IfErr result
+            (FindRefused self.now id.now (D.state disk.old) (Rose (D.faults disk.old) (D.faults disk.new))) }
+        ensures kept { D.state disk.new ≡ D.state disk.old }
+        ensures later { D.faults disk.old ≤ D.faults disk.new }
+        ensures streams { D.streams disk.new ≡ D.streams disk.old }
+    {
         out.clear();
         match self.run(alloc, disk, LooseJob::Find(*id))? {
             LooseReply::Found(Ok(Some((kind, bytes)))) => {
                 *out = bytes.into_vec();
-                Ok(Some(Data {
-                    kind,
-                    object_hash: self.object_hash,
-                    bytes: out.as_slice(),
-                }))
+                Ok(Some(kind))
             }
             LooseReply::Found(Ok(None)) => Ok(None),
             LooseReply::Found(Err(error)) => Err(error),
@@ -212,12 +240,25 @@ impl Store {
         ensures streams { D.streams disk.new ≡ D.streams disk.old }
     {
         let mut call = LooseCall::start(alloc, self, job)?;
-        'turns: while turn(alloc, disk, &mut call)? {}
+        turn_through(alloc, disk, &mut call)?;
         match call.into_reply() {
             Some(reply) => Ok(reply),
             None => unreachable!("a call without an ask has its reply"),
         }
     }
+}
+
+// All calls of the disk of a call that finds.
+fn turn_through<D: Disk>(alloc: Global, disk: &mut D, call: &mut LooseCall) -> Result<(), NoMemory>
+    ensures through { (store : store_of) (job : job_of) → IsFinding job → call.old ≡ started store job →
+        OnOk result (HasReplied (D.state disk.old) (D.faults disk.old) (D.faults disk.new) (started store job) call.new) }
+    ensures done { OnOk result (disk_ask_of call.new ≡ None) }
+    ensures kept { (store : store_of) (job : job_of) → IsFinding job → call.old ≡ started store job → D.state disk.new ≡ D.state disk.old }
+    ensures later { D.faults disk.old ≤ D.faults disk.new }
+    ensures streams { D.streams disk.new ≡ D.streams disk.old }
+{
+    'turns: while turn(alloc, disk, call)? {}
+    Ok(())
 }
 
 // One call of the disk, and its answer to the call of the store: whether there was one to make.
@@ -230,11 +271,27 @@ fn turn<D: Disk>(alloc: Global, disk: &mut D, call: &mut LooseCall) -> Result<bo
     ensures streams { D.streams disk.new ≡ D.streams disk.old }
 {
     match call.disk_ask(alloc)? {
-        Some(ask) => {
-            let answer = ask.carry_out(alloc, disk);
-            call.feed(alloc, answer)?;
-            Ok(true)
-        }
+        Some(ask) => ask_once(alloc, disk, call, &ask),
         None => Ok(false),
     }
+}
+
+// This call of the disk, which is the next of the call, and its answer.
+fn ask_once<D: Disk>(
+    alloc: Global,
+    disk: &mut D,
+    call: &mut LooseCall,
+    ask: &DiskAsk,
+) -> Result<bool, NoMemory>
+    requires { disk_ask_of call.old ≡ Some ask.now }
+    ensures turned { IfOk result (λ more.
+        Turns more (D.state disk.old) (D.state disk.new) (D.faults disk.old) (D.faults disk.new) call.old call.new) }
+    ensures fewer { IfOk result (λ more. IsTrue more → asks_left call.new.stage < asks_left call.old.stage) }
+    ensures broke { OnErr result (Broke (D.state disk.old) (D.state disk.new) call.old call.new) }
+    ensures later { D.faults disk.old ≤ D.faults disk.new }
+    ensures streams { D.streams disk.new ≡ D.streams disk.old }
+{
+    let answer = ask.carry_out(alloc, disk);
+    call.feed(alloc, answer)?;
+    Ok(true)
 }

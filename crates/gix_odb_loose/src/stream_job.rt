@@ -4,10 +4,11 @@ ghost use Rattle.odb_disk.specs.Tree.{State};
 ghost use Rattle.gix_odb_loose.specs.WriteOrder.{write_ask, written_in};
 ghost use Rattle.gix_odb_loose.specs.WriteOrder.{temp_path as temp_path_of};
 ghost use Rattle.gix_odb_loose.specs.declared.write_call.WriteHead.{WriteHead as head_of_write};
+ghost use Rattle.gix_odb_loose.specs.declared.write_call.WriteStage.{WriteStage as stage_of_write};
 ghost use Rattle.gix_hash.specs.declared.kind.Kind.{Kind as hash_kind};
 ghost use Rattle.gix_hash.specs.declared.object_id.ObjectId.{ObjectId as id_of_object};
 ghost use Rattle.gix_odb_loose.specs.WriteNames.{Names};
-ghost use Rattle.gix_odb_loose.specs.StreamJobs.{Begun, IsFed, IsUnderway, GoesOn, IsEnded, TurnsTo, IsBroken, IsBrokenOff, turns_left};
+ghost use Rattle.gix_odb_loose.specs.StreamJobs.{Begun, IsFed, IsUnderway, IsSomeUnderway, GoesOn, IsEnded, LeadsTo, TurnsTo, RunsTo, IsBroken, IsBrokenOff, turns_left};
 
 use crate::fetch::{Fetched, next_piece};
 use crate::naming::Naming;
@@ -79,15 +80,41 @@ impl StreamJob {
         ensures later { D.faults disk.old ≤ D.faults disk.new }
         ensures streams { D.streams disk.new ≡ D.streams disk.old }
     {
-        let len = self.piece.len() as u64;
-        let ask = self.ask(alloc)?;
-        let answer = ask.carry_out(alloc, disk);
-        match self.stage.next(self.head.size, len, &answer) {
+        let onward = self.asked(alloc, disk)?;
+        match onward {
             Onward::Stage(stage) => {
                 self.go_on(alloc, from, stage)?;
                 Ok(None)
             }
             Onward::End(end) => Ok(Some(end)),
+        }
+    }
+
+    /// All turns of a write that is underway: how it ends. Where memory runs out, the removal of the temporary file is
+    /// asked, if one was made.
+    pub fn run<D: Disk, S: Source>(
+        &mut self,
+        alloc: Global,
+        disk: &mut D,
+        from: &mut S,
+    ) -> Result<Result<ObjectId, Refusal>, NoMemory>
+        requires { IsSomeUnderway (D.state disk.old) (D.faults disk.old) (S.left from.old) (S.faults from.old) self.old }
+        ensures ran { (w : Begun) →
+            IsUnderway w (D.state disk.old) (D.faults disk.old) (S.left from.old) (S.faults from.old) self.old →
+            RunsTo w (D.state disk.new) (D.faults disk.new) (S.left from.new) (S.faults from.new) result }
+        ensures head { self.new.head ≡ self.old.head }
+        ensures later { D.faults disk.old ≤ D.faults disk.new }
+        ensures streams { D.streams disk.new ≡ D.streams disk.old }
+    {
+        'turns: loop {
+            match self.turn(alloc, disk, from) {
+                Ok(None) => {}
+                Ok(Some(end)) => return Ok(end),
+                Err(NoMemory) => {
+                    self.clear(alloc, disk);
+                    return Err(NoMemory);
+                }
+            }
         }
     }
 
@@ -102,6 +129,24 @@ impl StreamJob {
         if self.stage.number_made().is_some() {
             let _ = self.removal.carry_out(alloc, disk);
         }
+    }
+
+    // One ask of the disk: what its answer leads to.
+    fn asked<D: Disk>(&mut self, alloc: Global, disk: &mut D) -> Result<Onward, NoMemory>
+        ensures led { (w : Begun) (rest : Option (List ℕ)) (source_now : ℕ) →
+            IsUnderway w (D.state disk.old) (D.faults disk.old) rest source_now self.old →
+            LeadsTo w (D.state disk.new) (D.faults disk.new) rest source_now self.new result }
+        ensures fewer { (w : Begun) (rest : Option (List ℕ)) (source_now : ℕ) →
+            IsUnderway w (D.state disk.old) (D.faults disk.old) rest source_now self.old →
+            IfOk result (λ onward. (stage : stage_of_write) → onward ≡ Onward.Stage stage → turns_left w.head.size stage < turns_left w.head.size self.old.stage) }
+        ensures head { self.new.head ≡ self.old.head }
+        ensures later { D.faults disk.old ≤ D.faults disk.new }
+        ensures streams { D.streams disk.new ≡ D.streams disk.old }
+    {
+        let len = self.piece.len() as u64;
+        let ask = self.ask(alloc)?;
+        let answer = ask.carry_out(alloc, disk);
+        Ok(self.stage.next(self.head.size, len, &answer))
     }
 
     // The next call of the disk, which takes the piece that it appends.

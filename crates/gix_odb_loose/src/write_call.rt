@@ -2,6 +2,10 @@
 ghost use Rattle.std.specs.Prelude.{◌≡◌, IfOk};
 ghost use Rattle.gix_odb_loose.specs.WriteOrder.{write_ask, written_in, number_made, next_write, ended_with, source_failed, room_behind};
 ghost use Rattle.gix_odb_loose.specs.WriteOrder.{made_by, headed_by, filled_by, foldered_by, moved_by, refused_by, error_from, wrote_by};
+ghost use Rattle.gix_object.specs.Loose.{header_of};
+ghost use Rattle.gix_odb_loose.specs.LooseFile.{loose_path};
+ghost use Rattle.gix_odb_loose.specs.WriteOrder.{prefix_path};
+ghost use Rattle.gix_odb_loose.specs.WriteOrder.{temp_path as temp_path_of};
 
 use crate::paths;
 use crate::write::{Error, Message};
@@ -146,28 +150,62 @@ impl WriteHead {
         ensures { IfOk result (λ ask. ask ≡ write_ask self.now piece stage.now) }
     {
         match stage {
-            WriteStage::Making { number } => Ok(DiskAsk::NewFile {
-                path: paths::temp_path(alloc, &self.objects, *number)?,
-            }),
-            WriteStage::Heading { number } => Ok(DiskAsk::Append {
-                path: paths::temp_path(alloc, &self.objects, *number)?,
-                bytes: encode::loose_header(alloc, self.kind, self.size)?,
-            }),
-            WriteStage::Filling { number, .. } => Ok(DiskAsk::Append {
-                path: paths::temp_path(alloc, &self.objects, *number)?,
-                bytes: piece,
-            }),
-            WriteStage::Foldering { id, .. } => Ok(DiskAsk::MakeDir {
-                path: paths::prefix_folder(alloc, &self.objects, id)?,
-            }),
-            WriteStage::Moving { number, id } => Ok(DiskAsk::Rename {
-                from: paths::temp_path(alloc, &self.objects, *number)?,
-                to: paths::object_path(alloc, &self.objects, id)?,
-            }),
-            WriteStage::Removing { number, .. } => Ok(DiskAsk::Remove {
-                path: paths::temp_path(alloc, &self.objects, *number)?,
-            }),
+            WriteStage::Making { number } => self.new_file_ask(alloc, *number),
+            WriteStage::Heading { number } => self.header_ask(alloc, *number),
+            WriteStage::Filling { number, .. } => self.append_ask(alloc, *number, piece),
+            WriteStage::Foldering { id, .. } => self.make_dir_ask(alloc, id),
+            WriteStage::Moving { number, id } => self.rename_ask(alloc, *number, id),
+            WriteStage::Removing { number, .. } => self.remove_ask(alloc, *number),
         }
+    }
+
+    fn new_file_ask(&self, alloc: Global, number: u64) -> Result<DiskAsk, NoMemory>
+        ensures { IfOk result (λ ask. ask ≡ DiskAsk.NewFile (temp_path_of self.now.objects number)) }
+    {
+        Ok(DiskAsk::NewFile {
+            path: paths::temp_path(alloc, &self.objects, number)?,
+        })
+    }
+
+    fn header_ask(&self, alloc: Global, number: u64) -> Result<DiskAsk, NoMemory>
+        ensures { IfOk result (λ ask. ask ≡ DiskAsk.Append (temp_path_of self.now.objects number) (header_of self.now.kind self.now.size)) }
+    {
+        let header = encode::loose_header(alloc, self.kind, self.size)?;
+        self.append_ask(alloc, number, header)
+    }
+
+    fn append_ask(&self, alloc: Global, number: u64, bytes: ByteList) -> Result<DiskAsk, NoMemory>
+        ensures { IfOk result (λ ask. ask ≡ DiskAsk.Append (temp_path_of self.now.objects number) bytes) }
+    {
+        Ok(DiskAsk::Append {
+            path: paths::temp_path(alloc, &self.objects, number)?,
+            bytes,
+        })
+    }
+
+    fn make_dir_ask(&self, alloc: Global, id: &ObjectId) -> Result<DiskAsk, NoMemory>
+        ensures { IfOk result (λ ask. ask ≡ DiskAsk.MakeDir (prefix_path self.now.objects id.now)) }
+    {
+        Ok(DiskAsk::MakeDir {
+            path: paths::prefix_folder(alloc, &self.objects, id)?,
+        })
+    }
+
+    fn rename_ask(&self, alloc: Global, number: u64, id: &ObjectId) -> Result<DiskAsk, NoMemory>
+        ensures { IfOk result (λ ask. ask ≡ DiskAsk.Rename (temp_path_of self.now.objects number) (loose_path self.now.objects id.now)) }
+    {
+        Ok(DiskAsk::Rename {
+            from: paths::temp_path(alloc, &self.objects, number)?,
+            to: paths::object_path(alloc, &self.objects, id)?,
+        })
+    }
+
+    fn remove_ask(&self, alloc: Global, number: u64) -> Result<DiskAsk, NoMemory>
+        ensures { IfOk result (λ ask. ask ≡ DiskAsk.Remove (temp_path_of self.now.objects number)) }
+    {
+        Ok(DiskAsk::Remove {
+            path: paths::temp_path(alloc, &self.objects, number)?,
+        })
     }
 
     /// What a write answers that ended so.

@@ -1,16 +1,17 @@
 //! The calls of a store that write.
-ghost use Rattle.std.specs.Prelude.{◌≡◌, ◌≤◌, Option, Some, None, length, IfOk, IfSome};
+ghost use Rattle.std.specs.Prelude.{◌≡◌, ◌≤◌, ⊤, Option, Some, None, length, IfOk, IfSome};
 ghost use Rattle.odb_base.specs.Faults.{Rose};
 ghost use Rattle.gix_hash.specs.ObjectId.{kind_of};
 ghost use Rattle.gix_object.specs.Id.{object_id};
 ghost use Rattle.gix_object.specs.Stream.{stream_of, IsDrawn, IsWhole};
 ghost use Rattle.gix_odb_loose.specs.Store.{store_hash};
+ghost use Rattle.gix_odb_loose.specs.StreamJobs.{IsNew, IsToldBy};
 ghost use Rattle.gix_odb_loose.specs.WriteRuns.{WriteRuns, write_head};
 ghost use Rattle.gix_odb_loose.specs.WriteStreams.{IsAtEnd, TakesFrom};
 
 use crate::lent::Lent;
 use crate::stream_job::StreamJob;
-use crate::write_call::WriteHead;
+use crate::write_call::{Refusal, WriteHead};
 use crate::{Store, write};
 use gix_hash::ObjectId;
 use gix_object::{Kind, WriteTo};
@@ -30,7 +31,7 @@ impl Store {
         kind: Kind,
         from: &[u8],
     ) -> Result<ObjectId, write::Error>
-        ensures run { WriteRuns (write_head self.now kind (length from.now)) (store_hash self.now) None (Some from.now) ⊥ (D.state disk.old) (D.state disk.new) (D.faults disk.old) (D.faults disk.new) result }
+        ensures run { WriteRuns (write_head self.now kind (length from.now)) (store_hash self.now) None (Some from.now) ⊥ ⊤ (D.state disk.old) (D.state disk.new) (D.faults disk.old) (D.faults disk.new) result }
         ensures id { IfOk result (λ id. id ≡ object_id (store_hash self.now) kind from.now) }
         ensures kind { IfOk result (λ id. kind_of id ≡ store_hash self.now) }
         ensures later { D.faults disk.old ≤ D.faults disk.new }
@@ -50,7 +51,7 @@ impl Store {
         id: ObjectId,
     ) -> Result<ObjectId, write::Error>
         requires { kind_of id ≡ store_hash self.now }
-        ensures run { WriteRuns (write_head self.now kind (length from.now)) (store_hash self.now) (Some id) (Some from.now) ⊥ (D.state disk.old) (D.state disk.new) (D.faults disk.old) (D.faults disk.new) result }
+        ensures run { WriteRuns (write_head self.now kind (length from.now)) (store_hash self.now) (Some id) (Some from.now) ⊥ ⊤ (D.state disk.old) (D.state disk.new) (D.faults disk.old) (D.faults disk.new) result }
         ensures id { IfOk result (λ answered. answered ≡ id) }
         ensures later { D.faults disk.old ≤ D.faults disk.new }
         ensures streams { D.streams disk.new ≡ D.streams disk.old }
@@ -62,7 +63,7 @@ impl Store {
     /// Writes an object whose data are the bytes of a source, which are to be `size`, and answers its id.
     ///
     /// The data are read in pieces of 65,536 bytes between the calls of the disk, and one byte above the size at most.
-    /// Fewer or more are `SizeMismatch`, and a source that fails is `Io`.
+    /// Fewer or more are `SizeMismatch`, and a source that fails is `Io`: nothing is read or appended after a failure.
     pub fn write_stream<D: Disk, S: Source>(
         &self,
         alloc: Global,
@@ -71,10 +72,11 @@ impl Store {
         size: u64,
         from: &mut S,
     ) -> Result<ObjectId, write::Error>
-        ensures run { WriteRuns (write_head self.now kind size) (store_hash self.now) None (S.left from.old) (Rose (S.faults from.old) (S.faults from.new)) (D.state disk.old) (D.state disk.new) (D.faults disk.old) (D.faults disk.new) result }
+        ensures run { WriteRuns (write_head self.now kind size) (store_hash self.now) None (S.left from.old) (Rose (S.faults from.old) (S.faults from.new)) (S.faults from.new ≡ S.faults from.old) (D.state disk.old) (D.state disk.new) (D.faults disk.old) (D.faults disk.new) result }
         ensures from { IsDrawn (stream_of (S.left from.old) (S.faults from.old) (S.left from.new) (S.faults from.new)) }
         ensures few { TakesFrom size (S.left from.old) (S.left from.new) (S.faults from.old) (S.faults from.new) }
         ensures whole { IfOk result (λ _. IsWhole size (S.left from.old) (S.left from.new)) }
+        ensures spared { IfOk result (λ _. S.faults from.new ≡ S.faults from.old) }
         ensures id { IfOk result (λ id. IfSome (S.left from.old) (λ bytes. id ≡ object_id (store_hash self.now) kind bytes)) }
         ensures kind { IfOk result (λ id. kind_of id ≡ store_hash self.now) }
         ensures later { D.faults disk.old ≤ D.faults disk.new }
@@ -94,10 +96,11 @@ impl Store {
         id: ObjectId,
     ) -> Result<ObjectId, write::Error>
         requires { kind_of id ≡ store_hash self.now }
-        ensures run { WriteRuns (write_head self.now kind size) (store_hash self.now) (Some id) (S.left from.old) (Rose (S.faults from.old) (S.faults from.new)) (D.state disk.old) (D.state disk.new) (D.faults disk.old) (D.faults disk.new) result }
+        ensures run { WriteRuns (write_head self.now kind size) (store_hash self.now) (Some id) (S.left from.old) (Rose (S.faults from.old) (S.faults from.new)) (S.faults from.new ≡ S.faults from.old) (D.state disk.old) (D.state disk.new) (D.faults disk.old) (D.faults disk.new) result }
         ensures from { IsDrawn (stream_of (S.left from.old) (S.faults from.old) (S.left from.new) (S.faults from.new)) }
         ensures few { TakesFrom size (S.left from.old) (S.left from.new) (S.faults from.old) (S.faults from.new) }
         ensures whole { IfOk result (λ _. IsWhole size (S.left from.old) (S.left from.new)) }
+        ensures spared { IfOk result (λ _. S.faults from.new ≡ S.faults from.old) }
         ensures id { IfOk result (λ answered. answered ≡ id) }
         ensures later { D.faults disk.old ≤ D.faults disk.new }
         ensures streams { D.streams disk.new ≡ D.streams disk.old }
@@ -112,7 +115,7 @@ impl Store {
         disk: &mut D,
         object: &O,
     ) -> Result<ObjectId, write::Error>
-        ensures run { WriteRuns (write_head self.now (O.kind object.now) (length (O.bytes object.now))) (store_hash self.now) None (Some (O.bytes object.now)) ⊥ (D.state disk.old) (D.state disk.new) (D.faults disk.old) (D.faults disk.new) result }
+        ensures run { WriteRuns (write_head self.now (O.kind object.now) (length (O.bytes object.now))) (store_hash self.now) None (Some (O.bytes object.now)) ⊥ ⊤ (D.state disk.old) (D.state disk.new) (D.faults disk.old) (D.faults disk.new) result }
         ensures id { IfOk result (λ id. id ≡ object_id (store_hash self.now) (O.kind object.now) (O.bytes object.now)) }
         ensures kind { IfOk result (λ id. kind_of id ≡ store_hash self.now) }
         ensures later { D.faults disk.old ≤ D.faults disk.new }
@@ -135,28 +138,46 @@ impl Store {
         known: Option<ObjectId>,
         from: &mut S,
     ) -> Result<ObjectId, write::Error>
-        ensures run { WriteRuns (write_head self.now kind size) (store_hash self.now) known (S.left from.old) (Rose (S.faults from.old) (S.faults from.new)) (D.state disk.old) (D.state disk.new) (D.faults disk.old) (D.faults disk.new) result }
+        ensures run { WriteRuns (write_head self.now kind size) (store_hash self.now) known (S.left from.old) (Rose (S.faults from.old) (S.faults from.new)) (S.faults from.new ≡ S.faults from.old) (D.state disk.old) (D.state disk.new) (D.faults disk.old) (D.faults disk.new) result }
         ensures taken { TakesFrom size (S.left from.old) (S.left from.new) (S.faults from.old) (S.faults from.new) }
         ensures ended { IfOk result (λ _. IsAtEnd (S.left from.new)) }
         ensures later { D.faults disk.old ≤ D.faults disk.new }
         ensures streams { D.streams disk.new ≡ D.streams disk.old }
+    {
+        let mut job = self.new_write(alloc, kind, size, known)?;
+        let end = job.run(alloc, disk, from)?;
+        told(alloc, &job.head, end)
+    }
+
+    // A write into the store that has asked nothing and read nothing.
+    fn new_write(
+        &self,
+        alloc: Global,
+        kind: Kind,
+        size: u64,
+        known: Option<ObjectId>,
+    ) -> Result<StreamJob, NoMemory>
+        ensures { IfOk result (IsNew (write_head self.now kind size) (store_hash self.now) known) }
     {
         let head = WriteHead {
             objects: self.path().try_clone(alloc)?,
             kind,
             size,
         };
-        let mut job = StreamJob::start(alloc, self.object_hash(), head, known)?;
-        'turns: loop {
-            match job.turn(alloc, disk, from) {
-                Ok(None) => {}
-                Ok(Some(Ok(id))) => return Ok(id),
-                Ok(Some(Err(refusal))) => return Err(job.head.error(alloc, refusal)?),
-                Err(NoMemory) => {
-                    job.clear(alloc, disk);
-                    return Err(write::Error::NoMemory);
-                }
-            }
-        }
+        StreamJob::start(alloc, self.object_hash(), head, known)
+    }
+}
+
+// What a write answers that ended so.
+fn told(
+    alloc: Global,
+    head: &WriteHead,
+    end: Result<ObjectId, Refusal>,
+) -> Result<ObjectId, write::Error>
+    ensures { IsToldBy head.now end result }
+{
+    match end {
+        Ok(id) => Ok(id),
+        Err(refusal) => Err(head.error(alloc, refusal)?),
     }
 }

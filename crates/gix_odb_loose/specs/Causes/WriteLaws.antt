@@ -34,5 +34,9 @@ module _ (head : WriteHead) (Refuses Refuses' Exists Exists' Done Done' : DiskAs
   WriteCause-wider Named Named' named Wanting Wanting' wants Counted Counted' counted errors.IoRaw h = (h.0, named h.0 h.1, refuses _ tt h.2)
   WriteCause-wider Named Named' named Wanting Wanting' wants Counted Counted' counted (errors.Persist target) h =
       (h.0, named h.0 h.1, h.2, (h.3.0, done _ h.3.1, elim h.3.2 [ inl made ↦ inl (done _ made) | inr there ↦ inr (exists _ there) ], refuses _ tt h.3.3))
-  WriteCause-wider Named Named' named Wanting Wanting' wants Counted Counted' counted (errors.SizeMismatch expected actual) h = (h.0, counted actual h.1)
+  WriteCause-wider Named Named' named Wanting Wanting' wants Counted Counted' counted (errors.SizeMismatch expected actual) h = (
+    h.0,
+    counted actual h.1,
+    record { number = h.2.number; made = done _ h.2.made; pieces = h.2.pieces; each = λ k d less. done _ (h.2.each k d less); counted = h.2.counted },
+  )
   WriteCause-wider Named Named' named Wanting Wanting' wants Counted Counted' counted errors.NoMemory h = wants h

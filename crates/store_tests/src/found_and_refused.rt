@@ -1,8 +1,7 @@
-use crate::tests::calls::{check, check_on, store_at};
-use crate::tests::words::{compare, id_of};
-use crate::tests::{FILE, HELLO};
-use crate::{Options, Store};
+//! Answers of finds, looks for headers and tests of presence, and their errors.
+use crate::changes::{check, check_on};
 use gix_hash::Kind::{Sha1, Sha256};
+use gix_odb_loose::{Options, Store};
 use odb_base::PathText;
 use odb_disk::MemDisk;
 use std::alloc::Global;
@@ -62,27 +61,39 @@ fn finds(rt: HostRuntime) -> Result<(), Fail> {
 }
 
 /// What a find leaves in what it was lent: the data, or nothing. The second file has more data than its header says.
-const LEFT: [&str; 8] = [
+const LEFT: [&str; 11] = [
     "mkdir /o|done",
     "left b6fc4c620b67d95f953a5c1c1230aaab5db5a1b0|",
+    "into b6fc4c620b67d95f953a5c1c1230aaab5db5a1b0|",
     "write blob hello|b6fc4c620b67d95f953a5c1c1230aaab5db5a1b0",
     "left b6fc4c620b67d95f953a5c1c1230aaab5db5a1b0|hello",
+    "into b6fc4c620b67d95f953a5c1c1230aaab5db5a1b0|blob hello",
     "take /o/b6/fc4c620b67d95f953a5c1c1230aaab5db5a1b0|done",
     "put /o/b6/fc4c620b67d95f953a5c1c1230aaab5db5a1b0 blob 4\0hello|done",
     "left b6fc4c620b67d95f953a5c1c1230aaab5db5a1b0|",
+    "into b6fc4c620b67d95f953a5c1c1230aaab5db5a1b0|",
     "hello|size, blob 4, yes",
 ];
 
-// What stood in the lent bytes before, or data that weren't found. The store has no limit by default.
+fn check_left(alloc: Global, store: &Store) -> Result<(), Fail> {
+    let mut disk = MemDisk::new(alloc)?;
+    check_on(alloc, store, &mut disk, &LEFT)
+}
+
+// What stood in the lent bytes before, or data that weren't found. The store has no limit.
 #[test]
 fn lent_bytes(rt: HostRuntime) -> Result<(), Fail> {
-    let alloc = rt.alloc();
-    let path = PathText::parse(alloc, "/o")?;
-    let store = Store::at(alloc, &path, Sha1)?;
-    let mut disk = MemDisk::new(alloc)?;
-    check_on(alloc, &store, &mut disk, &LEFT)?;
-    let same = Store::at_opts(alloc, &path, Sha1, Options::default())?;
-    check_on(alloc, &same, &mut disk, &["hello|size, blob 4, yes"])
+    let path = PathText::parse(rt.alloc(), "/o")?;
+    let store = Store::at(rt.alloc(), &path, Sha1)?;
+    check_left(rt.alloc(), &store)
+}
+
+// The default options with a limit.
+#[test]
+fn no_limit(rt: HostRuntime) -> Result<(), Fail> {
+    let path = PathText::parse(rt.alloc(), "/o")?;
+    let store = Store::at_opts(rt.alloc(), &path, Sha1, Options::default())?;
+    check_left(rt.alloc(), &store)
 }
 
 // A limit that is off by one, that isn't tested first, or that counts for a header.
@@ -136,36 +147,4 @@ fn faults(rt: HostRuntime) -> Result<(), Fail> {
         check(rt.alloc(), Sha1, None, &failing, &rows)?;
     }
     Ok(())
-}
-
-/// The path of an object of a copy of a store in `/o`, as a text.
-fn path_of(alloc: Global, hash: gix_hash::Kind, hex: &str) -> Result<String, Fail> {
-    let store = store_at(alloc, "/o", hash, None)?.try_clone(alloc)?;
-    let id = id_of(&store, hex)?;
-    Ok(store.object_path(alloc, &id)?.to_text(alloc)?)
-}
-
-// A path that is cut at another digit, or after an id of the other hash. The second id is told by `git hash-object` in
-// a repository of SHA-256, the third is Git's example of a blob, `hello` and a line feed.
-#[test]
-fn paths(rt: HostRuntime) -> Result<(), Fail> {
-    for (hash, hex, path) in [
-        (Sha1, HELLO, FILE),
-        (
-            Sha256,
-            "8aec4e4876f854f688d0ebfc8f37598f38e5fd6903cccc850ca36591175aeb60",
-            "/o/8a/ec4e4876f854f688d0ebfc8f37598f38e5fd6903cccc850ca36591175aeb60",
-        ),
-        (
-            Sha1,
-            "ce013625030ba8dba906f756967f9e9ca394464a",
-            "/o/ce/013625030ba8dba906f756967f9e9ca394464a",
-        ),
-    ] {
-        let found = path_of(rt.alloc(), hash, hex)?;
-        compare(hex, found.as_str(), path)?;
-    }
-    let store = store_at(rt.alloc(), "/o/p", Sha1, None)?;
-    let folder = store.path().to_text(rt.alloc())?;
-    compare("folder", folder.as_str(), "/o/p")
 }

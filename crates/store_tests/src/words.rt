@@ -1,13 +1,19 @@
-//! Ids, data, errors and answers of the tests in words.
+//! Ids, data, errors and answers in words.
 ghost use Rattle.std.specs.Prelude.{◌≡◌, IfOk};
 ghost use Rattle.gix_hash.specs.ObjectId.{kind_of};
 ghost use Rattle.gix_odb_loose.specs.Store.{store_hash};
 
-use crate::{Store, find, write};
 use gix_hash::ObjectId;
-use gix_object::Kind;
+use gix_object::{Data, Kind};
+use gix_odb_loose::{Store, find, write};
 use std::alloc::{AllocError, Global};
 use std::test::Fail;
+
+/// The path of the blob `hello` below `/o`; its id is told by `git hash-object`.
+pub const FILE: &str = "/o/b6/fc4c620b67d95f953a5c1c1230aaab5db5a1b0";
+
+/// The id of the blob `hello`.
+pub const HELLO: &str = "b6fc4c620b67d95f953a5c1c1230aaab5db5a1b0";
 
 /// The first word of a text and what stands behind it, which is empty where there is one word alone.
 pub fn cut(text: &str) -> (&str, &str) {
@@ -47,24 +53,36 @@ pub fn data_of(alloc: Global, word: &str) -> Result<Vec<u8>, AllocError> {
 }
 
 /// An object: its kind and its data, of which the number is told where they are a hundred bytes `a` or more.
-pub fn object_shown(alloc: Global, kind: Kind, bytes: &[u8]) -> Result<String, AllocError> {
+pub fn object_shown(alloc: Global, kind: Kind, bytes: &[u8]) -> Result<String, Fail> {
     let len = bytes.len();
-    if len >= 100 && bytes == vec![in alloc; b'a'; len]?.as_slice() {
-        return format!(in alloc; "{kind} {len}");
+    if len >= 100 && bytes.iter().all(|&byte| byte == b'a') {
+        return Ok(format!(in alloc; "{kind} {len}")?);
     }
     let text = String::from_utf8_lossy(alloc, bytes)?;
-    format!(in alloc; "{kind} {text}")
+    Ok(format!(in alloc; "{kind} {text}")?)
+}
+
+/// What a find answers: the kind and the data, `none`, or an error's word.
+pub fn found_shown(
+    alloc: Global,
+    found: &Result<Option<Data<'_>>, find::Error>,
+) -> Result<String, Fail> {
+    match found {
+        Ok(Some(object)) => object_shown(alloc, object.kind, object.bytes),
+        Ok(None) => word_of(alloc, "none"),
+        Err(error) => word_of(alloc, find_word(error)),
+    }
 }
 
 /// What a look for a header answers: the kind and the size, `none`, or an error's word.
 pub fn header_shown(
     alloc: Global,
     found: &Result<Option<(u64, Kind)>, find::Error>,
-) -> Result<String, AllocError> {
+) -> Result<String, Fail> {
     match found {
-        Ok(Some((size, kind))) => format!(in alloc; "{kind} {size}"),
-        Ok(None) => "none".to_string(alloc),
-        Err(error) => find_word(error).to_string(alloc),
+        Ok(Some((size, kind))) => Ok(format!(in alloc; "{kind} {size}")?),
+        Ok(None) => word_of(alloc, "none"),
+        Err(error) => word_of(alloc, find_word(error)),
     }
 }
 
@@ -81,10 +99,10 @@ pub fn presence_shown(found: &Result<bool, find::Error>) -> &'static str {
 pub fn wrote_shown(
     alloc: Global,
     written: &Result<ObjectId, write::Error>,
-) -> Result<String, AllocError> {
+) -> Result<String, Fail> {
     match written {
-        Ok(id) => format!(in alloc; "{id}"),
-        Err(error) => write_word(error).to_string(alloc),
+        Ok(id) => Ok(format!(in alloc; "{id}")?),
+        Err(error) => write_shown(alloc, error),
     }
 }
 
@@ -98,12 +116,17 @@ pub fn find_word(error: &find::Error) -> &'static str {
     }
 }
 
-fn write_word(error: &write::Error) -> &'static str {
+/// An error of a write in a word, with the number of bytes where this is another than was told.
+fn write_shown(alloc: Global, error: &write::Error) -> Result<String, Fail> {
     match error {
-        write::Error::Io { .. } => "io",
-        write::Error::IoRaw => "raw",
-        write::Error::Persist { .. } => "persist",
-        write::Error::SizeMismatch { .. } => "size",
-        write::Error::NoMemory => "memory",
+        write::Error::Io { .. } => word_of(alloc, "io"),
+        write::Error::IoRaw => word_of(alloc, "raw"),
+        write::Error::Persist { .. } => word_of(alloc, "persist"),
+        write::Error::SizeMismatch { actual, .. } => Ok(format!(in alloc; "size {actual}")?),
+        write::Error::NoMemory => word_of(alloc, "memory"),
     }
+}
+
+pub fn word_of(alloc: Global, word: &str) -> Result<String, Fail> {
+    Ok(word.to_string(alloc)?)
 }

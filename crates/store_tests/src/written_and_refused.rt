@@ -1,11 +1,13 @@
-use crate::tests::calls::{changed, check, check_on, store_at};
+//! What writes leave and answer: Git's ids, pieces, sources that fail, and failing calls of the disk.
+use crate::changes::check;
 use gix_hash::Kind::{Sha1, Sha256};
-use odb_disk::MemDisk;
 use std::test::Fail;
 
 /// Git's example of a blob, and the blob `hello` by each call, under its own id and as a known one.
-const WRITES: [&str; 19] = [
+const WRITES: [&str; 21] = [
     "mkdir /o|done",
+    "machine 5 other|b6fc4c620b67d95f953a5c1c1230aaab5db5a1b0",
+    "hello|blob other, blob 5, yes",
     "write blob hello\n|ce013625030ba8dba906f756967f9e9ca394464a",
     "ask ce013625030ba8dba906f756967f9e9ca394464a|blob hello\n, blob 6, yes",
     "object blob hello|b6fc4c620b67d95f953a5c1c1230aaab5db5a1b0",
@@ -21,7 +23,7 @@ const WRITES: [&str; 19] = [
     "hello|tree , tree 0, yes",
     "streamas 5 0 other|b6fc4c620b67d95f953a5c1c1230aaab5db5a1b0",
     "hello|blob other, blob 5, yes",
-    "streamas 6 0 hello|size",
+    "streamas 6 0 hello|size 5",
     "hello|blob other, blob 5, yes",
     "read /o/tmp_obj_0|Absent",
 ];
@@ -50,9 +52,9 @@ const STREAMS: [&str; 13] = [
     "mkdir /o|done",
     "stream 0 0 |e69de29bb2d1d6434b8b29ae775ad8c2e48c5391",
     "read /o/tmp_obj_0|Absent",
-    "stream 6 0 hello|size",
+    "stream 6 0 hello|size 5",
     "read /o/tmp_obj_0|Absent",
-    "stream 4 0 hello|size",
+    "stream 4 0 hello|size 5",
     "read /o/tmp_obj_0|Absent",
     "stream 5 1 hello|io",
     "read /o/tmp_obj_0|Absent",
@@ -156,7 +158,41 @@ fn faults(rt: HostRuntime) -> Result<(), Fail> {
     Ok(())
 }
 
-const NAMES_TAKEN: [&str; 6] = [
+/// The names are taken one after another, and each write finds the first free one; the last finds none.
+const NAMES: [&str; 39] = [
+    "mkdir /o|done",
+    "write blob hello|b6fc4c620b67d95f953a5c1c1230aaab5db5a1b0",
+    "put /o/tmp_obj_0 other|done",
+    "write blob hello|b6fc4c620b67d95f953a5c1c1230aaab5db5a1b0",
+    "put /o/tmp_obj_1 other|done",
+    "write blob hello|b6fc4c620b67d95f953a5c1c1230aaab5db5a1b0",
+    "put /o/tmp_obj_2 other|done",
+    "write blob hello|b6fc4c620b67d95f953a5c1c1230aaab5db5a1b0",
+    "put /o/tmp_obj_3 other|done",
+    "write blob hello|b6fc4c620b67d95f953a5c1c1230aaab5db5a1b0",
+    "put /o/tmp_obj_4 other|done",
+    "write blob hello|b6fc4c620b67d95f953a5c1c1230aaab5db5a1b0",
+    "put /o/tmp_obj_5 other|done",
+    "write blob hello|b6fc4c620b67d95f953a5c1c1230aaab5db5a1b0",
+    "put /o/tmp_obj_6 other|done",
+    "write blob hello|b6fc4c620b67d95f953a5c1c1230aaab5db5a1b0",
+    "put /o/tmp_obj_7 other|done",
+    "write blob hello|b6fc4c620b67d95f953a5c1c1230aaab5db5a1b0",
+    "put /o/tmp_obj_8 other|done",
+    "write blob hello|b6fc4c620b67d95f953a5c1c1230aaab5db5a1b0",
+    "put /o/tmp_obj_9 other|done",
+    "write blob hello|b6fc4c620b67d95f953a5c1c1230aaab5db5a1b0",
+    "put /o/tmp_obj_10 other|done",
+    "write blob hello|b6fc4c620b67d95f953a5c1c1230aaab5db5a1b0",
+    "put /o/tmp_obj_11 other|done",
+    "write blob hello|b6fc4c620b67d95f953a5c1c1230aaab5db5a1b0",
+    "put /o/tmp_obj_12 other|done",
+    "write blob hello|b6fc4c620b67d95f953a5c1c1230aaab5db5a1b0",
+    "put /o/tmp_obj_13 other|done",
+    "write blob hello|b6fc4c620b67d95f953a5c1c1230aaab5db5a1b0",
+    "put /o/tmp_obj_14 other|done",
+    "write blob hello|b6fc4c620b67d95f953a5c1c1230aaab5db5a1b0",
+    "put /o/tmp_obj_15 other|done",
     "calls|200",
     "write tree |io",
     "calls|216",
@@ -168,18 +204,5 @@ const NAMES_TAKEN: [&str; 6] = [
 // A temporary name that is used though it is there, or a seventeenth that is tried.
 #[test]
 fn temporary_names(rt: HostRuntime) -> Result<(), Fail> {
-    let store = store_at(rt.alloc(), "/o", Sha1, None)?;
-    let mut disk = MemDisk::new(rt.alloc())?;
-    check_on(rt.alloc(), &store, &mut disk, &["mkdir /o|done"])?;
-    for number in 0..16 {
-        check_on(
-            rt.alloc(),
-            &store,
-            &mut disk,
-            &["write blob hello|b6fc4c620b67d95f953a5c1c1230aaab5db5a1b0"],
-        )?;
-        let name = format!(in rt.alloc(); "/o/tmp_obj_{number} other")?;
-        changed(rt.alloc(), &mut disk, "put", name.as_str())?;
-    }
-    check_on(rt.alloc(), &store, &mut disk, &NAMES_TAKEN)
+    check(rt.alloc(), Sha1, None, &[], &NAMES)
 }

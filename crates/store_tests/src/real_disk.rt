@@ -1,10 +1,10 @@
 //! A real disk.
-use crate::Store;
-use crate::tests::calls::{called, store_at};
-use crate::tests::words::{compare, cut, halves};
+use crate::calls::{called, store_at};
+use crate::words::{compare, cut, halves};
 use gix_hash::Kind::Sha1;
+use gix_odb_loose::Store;
 use odb_disk::HostDisk;
-use std::os::fd::AsRawFd;
+use std::os::fd::{AsRawFd, RawFd};
 use std::os::unix::fs::symlink;
 use std::test::Fail;
 use std::{env, fs, io};
@@ -50,13 +50,22 @@ fn told(
     }
 }
 
+fn check_row(
+    rt: &HostRuntime,
+    store: &Store,
+    disk: &mut HostDisk<&HostRuntime>,
+    row: &str,
+) -> Result<(), Fail> {
+    let (text, want) = halves(row);
+    let found = told(rt, store, disk, text)?;
+    compare(text, found.as_str(), want)
+}
+
 /// What each row gives, in turn. Tells how many calls failed.
 fn check(rt: &HostRuntime, store: &Store, rows: &[&str]) -> Result<u64, Fail> {
     let mut disk = HostDisk::new(rt.alloc(), rt);
     for row in rows {
-        let (text, want) = halves(row);
-        let found = told(rt, store, &mut disk, text)?;
-        compare(text, found.as_str(), want)?;
+        check_row(rt, store, &mut disk, row)?;
     }
     Ok(disk.faults())
 }
@@ -84,18 +93,27 @@ const FINDS: [&str; 20] = [
     "take b6/fc4c620b67d95f953a5c1c1230aaab5db5a1b0|done",
 ];
 
+/// How many calls fail at a link to an open pipe.
+fn faults_at_a_pipe(rt: &HostRuntime, store: &Store) -> Result<u64, Fail> {
+    let (reader, writer) = io::pipe(rt)?;
+    let faults = faults_at(rt, store, reader.as_raw_fd())?;
+    drop(writer);
+    Ok(faults)
+}
+
+fn faults_at(rt: &HostRuntime, store: &Store, number: RawFd) -> Result<u64, Fail> {
+    let name = "b6/fc4c620b67d95f953a5c1c1230aaab5db5a1b0";
+    let link = format!(in rt.alloc(); "link {name} /proc/self/fd/{number}|done")?;
+    check(rt, store, &[link.as_str(), "hello|io, io, io"])
+}
+
 // A real folder that is answered otherwise than one in memory: nothing, a file, a link to one, other bytes, no
 // bytes, a directory; a device or a pipe that is read, which would wait for bytes that nobody writes.
 #[test]
 fn finds(rt: HostRuntime) -> Result<(), Fail> {
     let store = enter_folder(&rt, "out/finds")?;
     let faults = check(&rt, &store, &FINDS)?;
-    let (reader, writer) = io::pipe(&rt)?;
-    let number = reader.as_raw_fd();
-    let name = "b6/fc4c620b67d95f953a5c1c1230aaab5db5a1b0";
-    let link = format!(in rt.alloc(); "link {name} /proc/self/fd/{number}|done")?;
-    let more = check(&rt, &store, &[link.as_str(), "hello|io, io, io"])?;
-    drop(writer);
+    let more = faults_at_a_pipe(&rt, &store)?;
     assert!(rt; faults == 3 && more == 3);
     Ok(())
 }
@@ -109,7 +127,7 @@ const WRITES: [&str; 10] = [
     "ask ce013625030ba8dba906f756967f9e9ca394464a|blob hello\n, blob 6, yes",
     "stream 70000 0 70000|a4468a72cf236519af2d10907beb2b1877bfc244",
     "ask a4468a72cf236519af2d10907beb2b1877bfc244|blob 70000, blob 70000, yes",
-    "stream 70001 0 70000|size",
+    "stream 70001 0 70000|size 70000",
     "there tmp_obj_0|false",
 ];
 

@@ -1,7 +1,7 @@
 //! The texts of errors.
-use crate::find::{self, Action};
-use crate::tests::words::compare;
-use crate::write::{self, Message};
+use crate::words::compare;
+use gix_odb_loose::find::{self, Action};
+use gix_odb_loose::write::{self, Message};
 use odb_base::PathText;
 use std::alloc::Global;
 use std::test::Fail;
@@ -38,15 +38,24 @@ fn write_error(path: PathText, word: &str) -> write::Error {
     write::Error::Io { message, path }
 }
 
-/// The text of a copy of an error with the path `/o/ab`.
-fn text_of(alloc: Global, word: &str) -> Result<String, Fail> {
+fn find_text(alloc: Global, word: &str) -> Result<String, Fail> {
     let path = PathText::parse(alloc, "/o/ab")?;
-    if word.starts_with("find") {
-        let error = find_error(path, word).try_clone(alloc)?;
-        return Ok(format!(in alloc; "{error}")?);
-    }
+    let error = find_error(path, word).try_clone(alloc)?;
+    Ok(format!(in alloc; "{error}")?)
+}
+
+fn write_text(alloc: Global, word: &str) -> Result<String, Fail> {
+    let path = PathText::parse(alloc, "/o/ab")?;
     let error = write_error(path, word).try_clone(alloc)?;
     Ok(format!(in alloc; "{error}")?)
+}
+
+/// The text of a copy of an error with the path `/o/ab`.
+fn text_of(alloc: Global, word: &str) -> Result<String, Fail> {
+    if word.starts_with("find") {
+        return find_text(alloc, word);
+    }
+    write_text(alloc, word)
 }
 
 // Other texts than these.

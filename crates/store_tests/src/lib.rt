@@ -1,0 +1,29 @@
+//! What no clause of a store of loose objects says: that calls succeed, which answers damaged files get, Git's ids, and
+//! the texts of errors.
+//!
+//! Each test is a table. A row is a call or a change in words, and behind a bar what is to come of it; `calls` says
+//! which words there are.
+#![tactic(auto)]
+
+#[cfg(test)]
+mod calls;
+#[cfg(test)]
+mod changes;
+#[cfg(test)]
+mod error_texts;
+#[cfg(test)]
+mod found_and_refused;
+#[cfg(test)]
+mod machine;
+#[cfg(test)]
+mod machine_by_hand;
+#[cfg(test)]
+mod paths_of_objects;
+#[cfg(test)]
+mod real_disk;
+#[cfg(test)]
+mod same_calls_from_a_source;
+#[cfg(test)]
+mod words;
+#[cfg(test)]
+mod written_and_refused;

@@ -1,0 +1,87 @@
+//! Calls of a store as machines.
+use crate::words::{
+    HELLO, cut, data_of, find_word, header_shown, id_of, object_shown, presence_shown, word_of,
+    wrote_shown,
+};
+use gix_object::Kind;
+use gix_odb_loose::{LooseCall, LooseJob, LooseReply, Store};
+use odb_base::{ByteList, NoMemory};
+use odb_disk::{Disk, DiskAsk};
+use std::alloc::Global;
+use std::test::Fail;
+
+pub fn reply_shown(alloc: Global, reply: &LooseReply) -> Result<String, Fail> {
+    match reply {
+        LooseReply::Contains(answer) => word_of(alloc, presence_shown(answer)),
+        LooseReply::Found(Ok(Some((kind, bytes)))) => object_shown(alloc, *kind, bytes.as_slice()),
+        LooseReply::Found(Ok(None)) => word_of(alloc, "none"),
+        LooseReply::Found(Err(error)) => word_of(alloc, find_word(error)),
+        LooseReply::Header(answer) => header_shown(alloc, answer),
+        LooseReply::Wrote(answer) => wrote_shown(alloc, answer),
+    }
+}
+
+/// A write of a blob with these data, which are said to be `size`, under the id of the blob `hello`.
+pub fn write_started(
+    alloc: Global,
+    store: &Store,
+    size: u64,
+    data: &str,
+) -> Result<LooseCall, Fail> {
+    let known = id_of(store, HELLO)?;
+    let bytes = ByteList::from_vec(data_of(alloc, data)?);
+    let job = LooseJob::Write {
+        kind: Kind::Blob,
+        size,
+        bytes,
+        id: Some(known),
+    };
+    Ok(LooseCall::start(alloc, store, job)?)
+}
+
+/// One call of the disk, and its answer: whether there was one.
+fn turn<D: Disk>(alloc: Global, disk: &mut D, call: &mut LooseCall) -> Result<bool, NoMemory> {
+    match call.disk_ask(alloc)? {
+        Some(ask) => answered(alloc, disk, call, &ask),
+        None => Ok(false),
+    }
+}
+
+fn answered<D: Disk>(
+    alloc: Global,
+    disk: &mut D,
+    call: &mut LooseCall,
+    ask: &DiskAsk,
+) -> Result<bool, NoMemory> {
+    call.feed(alloc, ask.carry_out(alloc, disk))?;
+    Ok(true)
+}
+
+/// Thirty calls of the disk at most, or until memory runs out.
+fn run<D: Disk>(alloc: Global, disk: &mut D, call: &mut LooseCall) {
+    for _ in 0..30 {
+        let Ok(true) = turn(alloc, disk, call) else {
+            return;
+        };
+    }
+}
+
+/// `machine SIZE DATA`: the reply of such a write, or `asks` where it isn't done.
+pub fn machine_reply<D: Disk>(
+    alloc: Global,
+    store: &Store,
+    disk: &mut D,
+    rest: &str,
+) -> Result<String, Fail> {
+    let (size, data) = cut(rest);
+    let mut call = write_started(alloc, store, size.parse::<u64>()?, data)?;
+    run(alloc, disk, &mut call);
+    done_shown(alloc, call)
+}
+
+fn done_shown(alloc: Global, call: LooseCall) -> Result<String, Fail> {
+    match call.into_reply() {
+        Some(reply) => reply_shown(alloc, &reply),
+        None => word_of(alloc, "asks"),
+    }
+}
