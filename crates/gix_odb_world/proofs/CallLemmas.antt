@@ -124,6 +124,7 @@ module _ (trees : ℕ → Tree) (Failed : Type 0) (store : Store) (begun now tur
       noted = noted;
       folder = folder;
       among = later_too store.parts.objects store.parts.folders folder (found_at store.parts.folders turns folder is);
+      place = let next : suc turns ≡ turns + 1 = omega arith in subst (λ n. slice_get (folder_list store.parts) n ≡ Some folder) next is;
       stage_is = refl;
       seen = noted_next folder noted (drop_here store.parts.folders turns folder is) behind;
     },

@@ -14,7 +14,7 @@ use Rattle.odb_disk.specs.declared.ask.DiskAsk.{DiskAsk}
 use Rattle.odb_disk.specs.declared.ask.DiskAsk.TheVariants.{Look, Read, MakeDir, NewFile, Append, Rename, Remove}
 use Rattle.odb_disk.specs.declared.ask.DiskAnswer.{DiskAnswer}
 use Rattle.odb_disk.specs.declared.ask.DiskAnswer.TheVariants as answers
-use Rattle.gix_odb_world.specs.Table.{has_failed}
+use Rattle.gix_odb_world.specs.Run.{has_failed}
 
 has_failed-error : (refusal : Refusal) → has_failed (answers.Refused (error_of refusal)) ≡ false
 has_failed-error Absent = refl

@@ -197,21 +197,21 @@ module _ (store : Store) (ignoring : Bool) (begun : ℕ) where
   ended reply (Resting own mode) a = cc a.is
   ended reply (Working own mode since turns work) a = rests own mode reply a
 
-  fed_before : (own : Store) (mode : Bool) (since turns : ℕ) (work : Work) (answer : DiskAnswer) → Before (turned (Some answer) (Working own mode since turns work)) → Before (Working own mode since turns work)
-  fed_before own mode since turns (Opening state) answer a = absurd (cc a.is)
-  fed_before own mode since turns (Calling (Looking state)) answer a = absurd (cc a.is)
-  fed_before own mode since turns (Calling (Written reply)) answer a = absurd (cc a.is)
-  fed_before own mode since turns (Calling (Writing folder)) answer a =
+  fed_before : (own : Store) (mode : Bool) (since turns : ℕ) (work : Work) (asked : DiskAsk × DiskAnswer) → Before (turned (Some asked) (Working own mode since turns work)) → Before (Working own mode since turns work)
+  fed_before own mode since turns (Opening state) asked a = absurd (cc a.is)
+  fed_before own mode since turns (Calling (Looking state)) asked a = absurd (cc a.is)
+  fed_before own mode since turns (Calling (Written reply)) asked a = absurd (cc a.is)
+  fed_before own mode since turns (Calling (Writing folder)) asked a =
       let one : own ≡ store = cc a.is in
       let two : mode ≡ ignoring = cc a.is in
       let three : since ≡ begun = cc a.is in
       record { turns = turns; folder = folder; is = ap (λ o. Working o mode since turns (Calling (Writing folder))) one ∙ ap (λ m. Working store m since turns (Calling (Writing folder))) two ∙ ap (λ b. Working store ignoring b turns (Calling (Writing folder))) three }
 
-  turned_before : (told : Option DiskAnswer) (status : Status) → Before (turned told status) → Before status
+  turned_before : (turn : Option (DiskAsk × DiskAnswer)) (status : Status) → Before (turned turn status) → Before status
   turned_before None status a = a
-  turned_before (Some answer) Free a = absurd (cc a.is)
-  turned_before (Some answer) (Resting own mode) a = absurd (cc a.is)
-  turned_before (Some answer) (Working own mode since turns work) a = fed_before own mode since turns work answer a
+  turned_before (Some asked) Free a = absurd (cc a.is)
+  turned_before (Some asked) (Resting own mode) a = absurd (cc a.is)
+  turned_before (Some asked) (Working own mode since turns work) a = fed_before own mode since turns work asked a
 
   ignoring_before : (status : Status) → Before (ignoring_from status) → Before status
   ignoring_before Free a = a
@@ -231,28 +231,28 @@ module _ (store : Store) (ignoring : Bool) (begun : ℕ) where
         by_number true is a = subst (λ n. Before (table n)) (sym (eqb-true handle number is)) (back a)
         by_number false is a = a
 
-    pub write_before : (number : ℕ) (step : Step) (outcome : Outcome) (told : Option DiskAnswer) → begun < number → Before (status_after number step outcome told table handle) → Before (table handle)
-    write_before number (steps.Open h path folders replacements options) outcomes.Applied told soon a = set_before h _ (λ b. absurd (cc b.is)) a
-    write_before number (steps.Open h path folders replacements options) outcomes.Pending told soon a = a
-    write_before number (steps.Open h path folders replacements options) (outcomes.Reply reply) told soon a = a
-    write_before number (steps.Open h path folders replacements options) (outcomes.Misuse why) told soon a = a
-    write_before number (steps.Close h) outcomes.Applied told soon a = set_before h _ (λ b. absurd (cc b.is)) a
-    write_before number (steps.Close h) outcomes.Pending told soon a = a
-    write_before number (steps.Close h) (outcomes.Reply reply) told soon a = a
-    write_before number (steps.Close h) (outcomes.Misuse why) told soon a = a
-    write_before number (steps.Ignore h) outcomes.Applied told soon a = set_before h _ (ignoring_before (table h)) a
-    write_before number (steps.Ignore h) outcomes.Pending told soon a = a
-    write_before number (steps.Ignore h) (outcomes.Reply reply) told soon a = a
-    write_before number (steps.Ignore h) (outcomes.Misuse why) told soon a = a
-    write_before number (steps.Start h call) outcomes.Applied told soon a = set_before h _ (started_before number call (table h) soon) a
-    write_before number (steps.Start h call) outcomes.Pending told soon a = a
-    write_before number (steps.Start h call) (outcomes.Reply reply) told soon a = a
-    write_before number (steps.Start h call) (outcomes.Misuse why) told soon a = a
-    write_before number (steps.Turn h) outcomes.Applied told soon a = a
-    write_before number (steps.Turn h) outcomes.Pending told soon a = set_before h _ (turned_before told (table h)) a
-    write_before number (steps.Turn h) (outcomes.Reply reply) told soon a = set_before h _ (λ b. absurd (ended reply (table h) b)) a
-    write_before number (steps.Turn h) (outcomes.Misuse why) told soon a = a
-    write_before number (steps.Disk change) outcomes.Applied told soon a = a
-    write_before number (steps.Disk change) outcomes.Pending told soon a = a
-    write_before number (steps.Disk change) (outcomes.Reply reply) told soon a = a
-    write_before number (steps.Disk change) (outcomes.Misuse why) told soon a = a
+    pub write_before : (number : ℕ) (step : Step) (outcome : Outcome) (turn : Option (DiskAsk × DiskAnswer)) → begun < number → Before (status_after number step outcome turn table handle) → Before (table handle)
+    write_before number (steps.Open h path folders replacements options) outcomes.Applied turn soon a = set_before h _ (λ b. absurd (cc b.is)) a
+    write_before number (steps.Open h path folders replacements options) outcomes.Pending turn soon a = a
+    write_before number (steps.Open h path folders replacements options) (outcomes.Reply reply) turn soon a = a
+    write_before number (steps.Open h path folders replacements options) (outcomes.Misuse why) turn soon a = a
+    write_before number (steps.Close h) outcomes.Applied turn soon a = set_before h _ (λ b. absurd (cc b.is)) a
+    write_before number (steps.Close h) outcomes.Pending turn soon a = a
+    write_before number (steps.Close h) (outcomes.Reply reply) turn soon a = a
+    write_before number (steps.Close h) (outcomes.Misuse why) turn soon a = a
+    write_before number (steps.Ignore h) outcomes.Applied turn soon a = set_before h _ (ignoring_before (table h)) a
+    write_before number (steps.Ignore h) outcomes.Pending turn soon a = a
+    write_before number (steps.Ignore h) (outcomes.Reply reply) turn soon a = a
+    write_before number (steps.Ignore h) (outcomes.Misuse why) turn soon a = a
+    write_before number (steps.Start h call) outcomes.Applied turn soon a = set_before h _ (started_before number call (table h) soon) a
+    write_before number (steps.Start h call) outcomes.Pending turn soon a = a
+    write_before number (steps.Start h call) (outcomes.Reply reply) turn soon a = a
+    write_before number (steps.Start h call) (outcomes.Misuse why) turn soon a = a
+    write_before number (steps.Turn h) outcomes.Applied turn soon a = a
+    write_before number (steps.Turn h) outcomes.Pending turn soon a = set_before h _ (turned_before turn (table h)) a
+    write_before number (steps.Turn h) (outcomes.Reply reply) turn soon a = set_before h _ (λ b. absurd (ended reply (table h) b)) a
+    write_before number (steps.Turn h) (outcomes.Misuse why) turn soon a = a
+    write_before number (steps.Disk change) outcomes.Applied turn soon a = a
+    write_before number (steps.Disk change) outcomes.Pending turn soon a = a
+    write_before number (steps.Disk change) (outcomes.Reply reply) turn soon a = a
+    write_before number (steps.Disk change) (outcomes.Misuse why) turn soon a = a

@@ -26,4 +26,5 @@ mod WriteTurn
 mod WriteGoes
 mod WriteFive
 mod WriteAsk
+mod AskLemmas
 mod RefusedLemmas

@@ -26,27 +26,17 @@ use Rattle.gix_odb_world.specs.declared.step.Outcome.TheVariants as outcomes
 use Rattle.gix_odb_world.specs.declared.work.Work.TheVariants.{Calling}
 use Rattle.gix_odb_world.specs.Event.{Event}
 use Rattle.gix_odb_world.specs.Headline.{IsLawful}
-use Rattle.gix_odb_world.specs.Run.{BegunBy, disk_after, tree_at}
+use Rattle.gix_odb_world.specs.Run.{MakeCall, disk_after, tree_at}
 use Rattle.gix_odb_world.specs.Running.{RunsThroughout}
 use Rattle.gix_odb_world.specs.Undisturbed.{HasMade, IsUndisturbed}
 use Rattle.gix_odb_world.specs.WholeNames.{GivesAgain, GivesName, HoldsWhole, LeavesAlone, NamesStayWhole, ReadsWhole, name_path}
-use Rattle.gix_odb_world.specs.Writing.{AskedAt, IsRename, LeftAlone, ToWrite, call_to_write, name_to_write}
-use Rattle.gix_odb_world.specs.Written.{HasWritten, KeepsWrite}
+use Rattle.gix_odb_world.specs.Writing.{AskedAt, IsRename, LeftAlone, ToWrite, call_to_write, name_to_write, to_write}
+use Rattle.gix_odb_world.specs.Written.{HasWritten}
 use Rattle.gix_odb_world.proofs.FileSteps.{new_at}
 use Rattle.gix_odb_world.proofs.OwnFiles as files
 use Rattle.gix_odb_world.proofs.RunSteps.{front_of_front, is_tree_at, length_take, take_next, there_in_front, there_in_whole}
 use Rattle.gix_odb_world.proofs.StandAlone.{Own, own_at_rename}
 use Rattle.gix_odb_world.proofs.RunLemmas.{slice_get-last}
-use Rattle.gix_odb_world.proofs.WriteGoes.{begun_once}
-use Rattle.gix_odb_world.proofs.WriteKept.{begun_kept}
-
-same_write : (w v : ToWrite) → call_to_write w ≡ call_to_write v → w.objects ≡ v.objects → w ≡ v
-same_write w v call objects =
-    let kind : w.kind ≡ v.kind = cc call in
-    let size : w.size ≡ v.size = cc call in
-    let bytes : w.bytes ≡ v.bytes = cc call in
-    let known : w.known ≡ v.known = cc call in
-    λ i. record { objects = objects i; kind = kind i; size = size i; bytes = bytes i; known = known i }
 
 module _ (first : Volume) (events : List Event) (start : IsTree (tree_of first.state)) (lawful : IsLawful first events) (throughout : RunsThroughout first events) where
   abbrev tree : ℕ → Tree
@@ -89,19 +79,16 @@ module _ (first : Volume) (events : List Event) (start : IsTree (tree_of first.s
     ends =
         files.rename_ends first events start lawful throughout place gives.event gives.there gives.handle gives.store gives.ignoring gives.begun gives.turns gives.folder gives.status gives.turn gives.from to gives.moves
 
-    keeps : KeepsWrite first upto gives.handle gives.begun gives.store.parts.objects (replies.Wrote ends.0)
+    keeps : HasWritten first upto gives.handle gives.begun (to_write gives.store.parts.objects w.kind w.size w.bytes w.known) ends.0
     keeps =
-        subst (λ es. KeepsWrite first es gives.handle gives.begun gives.store.parts.objects (replies.Wrote ends.0)) (sym upto_is)
-        ((lawful place gives.event gives.there).promise gives.handle gives.store gives.ignoring gives.begun gives.turns (Calling (Writing gives.folder)) (replies.Wrote ends.0) (record { step = gives.turn; status = gives.status }) ends.1)
-
-    write_is : keeps.write ≡ w
-    write_is =
-        let begins = subst (λ es. BegunBy es gives.handle gives.begun (call_to_write w)) (sym upto_is) (begun_kept past gives.event gives.handle gives.begun (call_to_write w) gives.begins) in
-        same_write keeps.write w (begun_once upto gives.handle gives.begun (call_to_write keeps.write) (call_to_write w) keeps.begins begins) (keeps.into ∙ sym gives.into)
+        subst (λ es. HasWritten first es gives.handle gives.begun (to_write gives.store.parts.objects w.kind w.size w.bytes w.known) ends.0) (sym upto_is)
+        ((lawful place gives.event gives.there).promise gives.handle gives.store gives.ignoring gives.begun gives.turns (Calling (Writing gives.folder)) (MakeCall (call_to_write w)) (replies.Wrote ends.0)
+        (record { step = gives.turn; status = gives.status }) gives.begins ends.1)
 
     written : HasWritten first upto gives.handle gives.begun w (name_to_write w)
     written =
-        let as_replied = subst (λ v. HasWritten first upto gives.handle gives.begun v ends.0) write_is keeps.keeps in
+        let as_replied : HasWritten first upto gives.handle gives.begun w ends.0 =
+        subst (λ objects. HasWritten first upto gives.handle gives.begun (to_write objects w.kind w.size w.bytes w.known) ends.0) (sym gives.into) keeps in
         subst (HasWritten first upto gives.handle gives.begun w) as_replied.name as_replied
 
     full : length w.bytes ≡ w.size

@@ -13,6 +13,8 @@ use Rattle.gix_odb_world.specs.declared.step.Outcome.TheVariants as outcomes
 use Rattle.gix_odb_world.specs.declared.step.Why.{Why}
 use Rattle.gix_odb_world.specs.declared.step.Why.TheVariants.{BadOpen}
 use Rattle.gix_odb_world.specs.declared.init.Options.{Options}
+use Rattle.gix_odb_world.specs.declared.init.Slots.{Slots}
+use Rattle.gix_odb_world.specs.declared.init.Slots.TheVariants.{Given}
 use Rattle.gix_odb_world.specs.declared.open_state.OpenState.TheVariants.{Looking}
 use Rattle.gix_odb_world.specs.declared.record.Did.TheVariants.{Nothing}
 use Rattle.gix_odb_world.specs.declared.handle.Handle.{Handle}
@@ -21,23 +23,46 @@ use Rattle.gix_odb_world.specs.declared.work.Work.{Work}
 use Rattle.gix_odb_world.specs.declared.work.Work.TheVariants.{Opening}
 use Rattle.gix_odb_world.specs.declared.world.World.{World}
 use Rattle.gix_odb_world.specs.Contents.{id_cmp}
-use Rattle.gix_odb_world.specs.Event.{Event, Store, Status, Free, Resting, Working, store_at, opening_at, ignoring_from}
+use Rattle.gix_odb_world.specs.Event.{Event, Store, Status, Free, Resting, Working, given_slots, store_at, opening_at, ignoring_from}
 use Rattle.gix_odb_world.specs.Handle.{IsHandleOf, IsOpened}
-use Rattle.gix_odb_world.specs.Run.{IsTurnOf}
+use Rattle.gix_odb_world.specs.Run.{IsTurnOf, OpenedBy}
 use Rattle.gix_odb_world.specs.Running.{Runs}
 use Rattle.gix_odb_world.specs.Valid.{Phase, NoneThere, Idle, Running, why_not_open, why_not_idle, are_distinct, are_good_folders, is_openable}
 use Rattle.gix_odb_world.specs.World.{Continues, Matches, handle_at}
 use Rattle.gix_odb_world.specs.Table.{SetsHandle, Notes, phase_of_handle, phase_of_work, why_not_now, with_ignoring}
 use Rattle.gix_odb_world.proofs.OpeningLemmas.{IsDistinct-by_count, ids_equal}
-use Rattle.gix_odb_world.proofs.RunLemmas.{none_failed_yet}
+use Rattle.gix_odb_world.proofs.RunLemmas.{none_failed_yet, slice_get-last}
 use Rattle.gix_odb_world.proofs.StepLemmas.{applied}
 use Rattle.gix_odb_world.proofs.RunningLemmas.{runs-push}
+use Rattle.gix_odb_world.proofs.WriteKept.{open_store_kept}
+
+given_as : (slots : Slots) → slots ≡ Given (given_slots slots)
+given_as (Given slots) = refl
 
 -- an opening that the event begins has seen nothing
-runs_opening : (first : Volume) (events : List Event) (e : Event) (handle : ℕ) (store : Store) → Runs first (events ++ e ∷ []) handle (opening_at (length events + 1) store)
-runs_opening first events e handle store =
+runs_opening : (first : Volume) (events : List Event) (e : Event) (handle : ℕ) (path : Path) (folders : List Path) (replacements : List (ObjectId × ObjectId)) (options : Options) → e.step ≡ steps.Open handle path folders replacements options
+    → Runs first (events ++ e ∷ []) handle (opening_at (length events + 1) (store_at (length events + 1) path folders replacements options))
+runs_opening first events e handle path folders replacements options opens =
+    let store : Store = store_at (length events + 1) path folders replacements options in
     let whole : length (events ++ e ∷ []) ≡ length events + 1 = length-append events (e ∷ []) in
-    (omega (arith, whole), (refl, refl, none_failed_yet (events ++ e ∷ []) handle (length events + 1) (omega (arith, whole))))
+    let opened : OpenedBy (events ++ e ∷ []) handle (length events + 1) store =
+    record {
+      place = length events;
+      number = refl;
+      event = e;
+      there = slice_get-last events e;
+      path = path;
+      folders = folders;
+      replacements = replacements;
+      options = options;
+      opens = opens;
+      slots = given_as options.slots;
+      parts = refl;
+    } in (
+      omega (arith, whole),
+      (opened, (refl, refl, none_failed_yet (events ++ e ∷ []) handle (length events + 1) (omega (arith, whole)))),
+      record { opener = handle; opened = opened },
+    )
 
 -- each pair's first id is replaced by its second, where no id is replaced twice
 replacements_same : (path : Path) (folders : List Path) (replacements : List (ObjectId × ObjectId)) (options : Options) (n : ℕ) (state : HandleState) → is_openable path folders replacements ≡ true
@@ -62,7 +87,7 @@ opened old mid new number path folders replacements options state free good begu
     (λ n status. opening_at n (store_at n path folders replacements options))
     (ap (why_not_open (phase_of_handle (handle_at old number))) good ∙ free) sets notes refl refl (λ other turn. cc) (λ n table. refl)
     (λ n status match. (replacements_same path folders replacements options n state good begun, refl))
-    (λ first events e status starts no_turn runs. runs_opening first events e number (store_at (length events + 1) path folders replacements options))
+    (λ first events e status opens no_turn runs. runs_opening first events e number path folders replacements options opens)
 
 -- a bad opening is told where the number is free
 pub bad_open : (phase : Phase) (openable : Bool) → why_not_open phase true ≡ None → openable ≡ false → why_not_open phase openable ≡ Some BadOpen
@@ -98,7 +123,7 @@ matches_ignoring (Working store ignoring begun turns work) (Some handle) idle ma
 runs_ignoring : (number : ℕ) (first : Volume) (events : List Event) (e : Event) (status : Status) → ((other : ℕ) → ¬ IsTurnOf other e.step)
     → Runs first events number status → Runs first (events ++ e ∷ []) number (ignoring_from status)
 runs_ignoring number first events e Free no_turn runs = tt
-runs_ignoring number first events e (Resting store ignoring) no_turn runs = tt
+runs_ignoring number first events e (Resting store ignoring) no_turn runs = open_store_kept events e store runs
 runs_ignoring number first events e (Working store ignoring begun turns work) no_turn runs = runs-push first events e number (Working store ignoring begun turns work) (no_turn number) runs
 
 pub ignored : (old mid new : World) (number : ℕ) → why_not_now old (steps.Ignore number) ≡ None

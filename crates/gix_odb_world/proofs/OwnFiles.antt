@@ -5,7 +5,7 @@ use Rattle.std.proofs.lemmas.Bool.{cases_lt, eqb-false, eqb-true}
 use Rattle.std.proofs.lemmas.Option.{slice_get_within}
 use Rattle.odb_base.specs.Path.{Name, Path, parent_of}
 use Rattle.odb_base.specs.PathLaws.{parent_of-push, parent_of-some}
-use Rattle.odb_disk.specs.Ask.{answer_now, op_of}
+use Rattle.odb_disk.specs.Ask.{answer_now, change_of_ask, op_of}
 use Rattle.odb_disk.specs.MemDisk.{Volume, next_fails}
 use Rattle.odb_disk.specs.Tree.{IsTree, Tree, tree_of}
 use Rattle.odb_disk.specs.Tree.Change.{changed}
@@ -13,6 +13,7 @@ use Rattle.odb_disk.specs.Tree.Way.{SameOnWay, crosses}
 use Rattle.odb_disk.specs.Tree.Write.{change_of_append, file_spot, spot, vacant}
 use Rattle.odb_disk.specs.declared.ask.DiskAnswer.{DiskAnswer}
 use Rattle.odb_disk.specs.declared.ask.DiskAnswer.TheVariants as answers
+use Rattle.odb_disk.specs.declared.ask.DiskAsk.{DiskAsk}
 use Rattle.odb_disk.specs.declared.ask.DiskAsk.TheVariants as asks
 use Rattle.odb_disk.specs.declared.change.Change.{Change}
 use Rattle.odb_disk.specs.declared.change.Change.TheVariants.{PutFile, MakeDir, Rename, Append, Remove}
@@ -41,7 +42,7 @@ use Rattle.gix_odb_world.specs.declared.step.Step.TheVariants as steps
 use Rattle.gix_odb_world.specs.declared.work.Work.{Work}
 use Rattle.gix_odb_world.specs.declared.work.Work.TheVariants.{Opening, Calling}
 use Rattle.gix_odb_world.specs.Event.{Event, Status, Store, Working, fed_in, replied, status_after, status_of}
-use Rattle.gix_odb_world.specs.Headline.{ChangesInWork, IsLawful, Turns, Works, outcome_of}
+use Rattle.gix_odb_world.specs.Headline.{IsLawful, Turns, Works, outcome_of}
 use Rattle.gix_odb_world.specs.Run.{IsTurnOf, change_by, disk_after, tree_at}
 use Rattle.gix_odb_world.specs.Running.{IsWriting, Runs, RunsThroughout, write_at}
 use Rattle.gix_odb_world.specs.Undisturbed.{CutsOff, HasMade, IsUndisturbed}
@@ -49,7 +50,9 @@ use Rattle.gix_odb_world.specs.WorkOrder.{ask_in, result_in}
 use Rattle.gix_odb_world.specs.Writing.{AskedAt, IsMaking, IsNewFile, IsRename, LeftAlone, ToWrite, head_to_write, name_to_write}
 use Rattle.gix_odb_world.proofs.FileSteps.{AtWrite, Does, IsNewAt, NotTemporary, WriterMoves, does, does_first, does_nothing, ended, new_at, write_before, writer_moves}
 use Rattle.gix_odb_world.proofs.RunSteps.{IsLeft, IsTurned, Kind, Made, Quiet, Turned, event_or_end, front_of_front, is_tree_at, kind_at, left_at, none_beyond, status_next, take_none, there_in_front, there_in_whole}
-use Rattle.gix_odb_world.proofs.WriteAsk.{made_done}
+use Rattle.gix_odb_world.proofs.TurnLaw.{act_of}
+use Rattle.gix_odb_world.proofs.WorkLemmas.{LooksOnly}
+use Rattle.gix_odb_world.proofs.WriteAsk.{change_by-quiet, made_done}
 use Rattle.gix_odb_world.proofs.WriteGoes.{ask_at_stage}
 
 pub one_event : {A : Type 0} (xs : List A) (place : ℕ) (x y : A) → slice_get xs place ≡ Some x → slice_get xs place ≡ Some y → x ≡ y
@@ -67,11 +70,11 @@ removing_ends store w number refusal answer = (_, refl)
 moving_ends : (store : Store) (w : ToWrite) (number : ℕ) (id : ObjectId) → outcome_of (result_in (fed_in store (Calling (Writing (write_at w (stages.Moving number id)))) answers.Done)) ≡ outcomes.Reply (replies.Wrote id)
 moving_ends store w number id = refl
 
-no_write_after : (store : Store) (ignoring : Bool) (begun number : ℕ) (step : Step) (outcome : Outcome) (told : Option DiskAnswer) (table : ℕ → Status) (handle : ℕ) (reply : Reply)
-    → step ≡ steps.Turn handle → outcome ≡ outcomes.Reply reply → ¬ (AtWrite store ignoring begun (status_after number step outcome told table handle))
-no_write_after store ignoring begun number step outcome told table handle reply turn is at =
-    let here : AtWrite store ignoring begun (status_after number (steps.Turn handle) (outcomes.Reply reply) told table handle) =
-    subst (λ o. AtWrite store ignoring begun (status_after number (steps.Turn handle) o told table handle)) is (subst (λ s. AtWrite store ignoring begun (status_after number s outcome told table handle)) turn at) in
+no_write_after : (store : Store) (ignoring : Bool) (begun number : ℕ) (step : Step) (outcome : Outcome) (asked : Option (DiskAsk × DiskAnswer)) (table : ℕ → Status) (handle : ℕ) (reply : Reply)
+    → step ≡ steps.Turn handle → outcome ≡ outcomes.Reply reply → ¬ (AtWrite store ignoring begun (status_after number step outcome asked table handle))
+no_write_after store ignoring begun number step outcome asked table handle reply turn is at =
+    let here : AtWrite store ignoring begun (status_after number (steps.Turn handle) (outcomes.Reply reply) asked table handle) =
+    subst (λ o. AtWrite store ignoring begun (status_after number (steps.Turn handle) o asked table handle)) is (subst (λ s. AtWrite store ignoring begun (status_after number s outcome asked table handle)) turn at) in
     ended store ignoring begun reply (table handle) (subst (λ b. AtWrite store ignoring begun (if b then replied reply (table handle) else table handle)) (eq-eqb handle handle refl) here)
 
 module _ (first : Volume) (events : List Event) (start : IsTree (tree_of first.state)) (lawful : IsLawful first events) (throughout : RunsThroughout first events) where
@@ -97,7 +100,7 @@ module _ (first : Volume) (events : List Event) (start : IsTree (tree_of first.s
           there = there.1;
           turn = a.turn;
           did = a.did ∙ ap (λ es. Disk (op_of (asks.NewFile path)) path (next_fails (disk_after first es))) fronts;
-          told = a.told;
+          asked = a.asked;
           given = a.given ∙ ap (λ es. answer_now (disk_after first es) (asks.NewFile path)) fronts;
         },
       )
@@ -163,24 +166,34 @@ module _ (first : Volume) (events : List Event) (start : IsTree (tree_of first.s
   within_events : (place : ℕ) (e : Event) → slice_get events place ≡ Some e → place ≤ length events
   within_events place e there = let inside = slice_get_within events place e there in omega (arith, inside)
 
-  moves_of : (place : ℕ) (e : Event) (handle : ℕ) (store : Store) (begun turns : ℕ) (folder : LooseCall) (writes : IsWriting first (take place events) handle begun turns store.parts.objects folder)
-      (works : Works (disk_after first (take place events)) store (Calling (Writing folder)) e) (c : Change) → e.entry.change ≡ Some c → WriterMoves (tree place) store.parts.objects writes.stage c
-  moves_of place e handle store begun turns folder writes works c is =
+  moves_of : (place : ℕ) (e : Event) (handle : ℕ) (store : Store) (ignoring : Bool) (begun turns : ℕ) (folder : LooseCall) (writes : IsWriting first (take place events) handle begun turns store.parts.objects folder)
+      (works : Works first (take place events) handle store ignoring begun turns (Calling (Writing folder)) e) (c : Change) → e.entry.change ≡ Some c → WriterMoves (tree place) store.parts.objects writes.stage c
+  moves_of place e handle store ignoring begun turns folder writes works c is =
       let asks_it : Some works.ask ≡ Some (ask_at_stage writes.write writes.stage) = sym works.asks ∙ ap (λ f. ask_in store.parts.objects (Calling (Writing f))) writes.is in
       let ask : works.ask ≡ ask_at_stage writes.write writes.stage = cc asks_it in
       subst (λ o. WriterMoves (tree place) o writes.stage c) writes.into
       (writer_moves (disk_after first (take place events)) writes.write writes.stage c (ap (change_by (disk_after first (take place events))) (sym ask) ∙ (sym works.changed ∙ is)))
 
   pub quiet_or_writer : (place : ℕ) (e : Event) (there : slice_get events place ≡ Some e) (t : IsTurned first (take place events) e) → (e.entry.change ≡ None) ⊎ ByWriter place e
-  quiet_or_writer place e there t = by_work t.work t.turn t.works e.entry.change refl t.works.five
+  quiet_or_writer place e there t = by_work t.work t.turn t.works e.entry.change refl
     where
-      by_work : (work : Work) → Turns (take place events) e t.handle t.store t.ignoring t.begun t.turns work → Works (disk_after first (take place events)) t.store work e → (change : Option Change) → e.entry.change ≡ change
-          → ChangesInWork (tree place) t.store.parts.objects work e.entry.change → (e.entry.change ≡ None) ⊎ ByWriter place e
-      by_work work turn works None is five = inl is
-      by_work (Opening state) turn works (Some c) is five = absurd (subst (ChangesInWork (tree place) t.store.parts.objects (Opening state)) is five)
-      by_work (Calling (Looking state)) turn works (Some c) is five = absurd (subst (ChangesInWork (tree place) t.store.parts.objects (Calling (Looking state))) is five)
-      by_work (Calling (Written reply)) turn works (Some c) is five = absurd (subst (ChangesInWork (tree place) t.store.parts.objects (Calling (Written reply))) is five)
-      by_work (Calling (Writing folder)) turn works (Some c) is five =
+      runs : (work : Work) → Turns (take place events) e t.handle t.store t.ignoring t.begun t.turns work → Runs first (take place events) t.handle (Working t.store t.ignoring t.begun t.turns work)
+      runs work turn = subst (Runs first (take place events) t.handle) turn.status (throughout place t.handle (within_events place e there))
+
+      quiet : (work : Work) → LooksOnly work → Turns (take place events) e t.handle t.store t.ignoring t.begun t.turns work → Works first (take place events) t.handle t.store t.ignoring t.begun t.turns work e → e.entry.change ≡ None
+      quiet work only turn works =
+          let act = act_of first (take place events) t.handle t.store t.ignoring t.begun t.turns work (runs work turn).0 (runs work turn).1 in
+          let both : Some works.ask ≡ Some act.ask = sym works.asks ∙ act.asks in
+          let same : act.ask ≡ works.ask = cc both in
+          works.changed ∙ change_by-quiet (disk_after first (take place events)) works.ask (subst (λ ask. change_of_ask (tree place) ask ≡ None) same (act.quiet only (tree place)))
+
+      by_work : (work : Work) → Turns (take place events) e t.handle t.store t.ignoring t.begun t.turns work → Works first (take place events) t.handle t.store t.ignoring t.begun t.turns work e → (change : Option Change) → e.entry.change ≡ change
+          → (e.entry.change ≡ None) ⊎ ByWriter place e
+      by_work work turn works None is = inl is
+      by_work (Opening state) turn works (Some c) is = inl (quiet (Opening state) tt turn works)
+      by_work (Calling (Looking state)) turn works (Some c) is = inl (quiet (Calling (Looking state)) tt turn works)
+      by_work (Calling (Written reply)) turn works (Some c) is = absurd (runs (Calling (Written reply)) turn).1
+      by_work (Calling (Writing folder)) turn works (Some c) is =
           let writes = writing_at place t.handle t.store t.ignoring t.begun t.turns folder (within_events place e there) turn.status in
           inr (record {
             handle = t.handle;
@@ -194,18 +207,18 @@ module _ (first : Volume) (events : List Event) (start : IsTree (tree_of first.s
             writes = writes;
             change = c;
             is = is;
-            moves = moves_of place e t.handle t.store t.begun t.turns folder writes works c is;
+            moves = moves_of place e t.handle t.store t.ignoring t.begun t.turns folder writes works c is;
           })
 
   -- a turn of a write that renames is its last, and says that the object is written
   pub rename_ends : (place : ℕ) (e : Event) → slice_get events place ≡ Some e → (handle : ℕ) (store : Store) (ignoring : Bool) (begun turns : ℕ) (folder : LooseCall)
       → status_of (take place events) handle ≡ Working store ignoring begun turns (Calling (Writing folder)) → IsTurnOf handle e.step → (from to : Path) → e.entry.change ≡ Some (Rename from to) → (id : ObjectId) × (e.outcome ≡ outcomes.Reply (replies.Wrote id))
-  rename_ends place e there handle store ignoring begun turns folder status turn from to moves = by_stage writes.stage refl (moves_of place e handle store begun turns folder writes works (Rename from to) moves)
+  rename_ends place e there handle store ignoring begun turns folder status turn from to moves = by_stage writes.stage refl (moves_of place e handle store ignoring begun turns folder writes works (Rename from to) moves)
     where
       writes : IsWriting first (take place events) handle begun turns store.parts.objects folder
       writes = writing_at place handle store ignoring begun turns folder (within_events place e there) status
 
-      works : Works (disk_after first (take place events)) store (Calling (Writing folder)) e
+      works : Works first (take place events) handle store ignoring begun turns (Calling (Writing folder)) e
       works = (lawful place e there).worked handle store ignoring begun turns (Calling (Writing folder)) (record { step = turn; status = status })
 
       by_stage : (stage : WriteStage) → writes.stage ≡ stage → WriterMoves (tree place) store.parts.objects stage (Rename from to) → (id : ObjectId) × (e.outcome ≡ outcomes.Reply (replies.Wrote id))
@@ -279,9 +292,9 @@ module _ (first : Volume) (events : List Event) (start : IsTree (tree_of first.s
     pub made_before : (handle made : ℕ) (path : Path) → HasMade first events handle made path (now + 1) → made < now → HasMade first events handle made path now
     made_before handle made path hm soon =
         let later = hm.later in
-        let at : AtWrite hm.store hm.ignoring hm.begun (status_after (now + 1) e.step e.outcome e.told (status_of (take now events)) handle) =
+        let at : AtWrite hm.store hm.ignoring hm.begun (status_after (now + 1) e.step e.outcome e.turn (status_of (take now events)) handle) =
         record { turns = hm.turns; folder = hm.folder; is = ap (λ (table : ℕ → Status). table handle) (sym (status_next first events start lawful now e there)) ∙ hm.status } in
-        let was = write_before hm.store hm.ignoring hm.begun (status_of (take now events)) handle (now + 1) e.step e.outcome e.told (omega (arith, later, soon)) at in
+        let was = write_before hm.store hm.ignoring hm.begun (status_of (take now events)) handle (now + 1) e.step e.outcome e.turn (omega (arith, later, soon)) at in
         record { store = hm.store; ignoring = hm.ignoring; begun = hm.begun; turns = was.turns; folder = was.folder; status = was.is; later = hm.later; before = soon; number = hm.number; named = hm.named; makes = hm.makes }
 
     own_same : (handle made : ℕ) (path : Path) → SameOnWay (tree now) (tree (now + 1)) true path → Own handle made path now → Own handle made path (now + 1)
@@ -402,14 +415,14 @@ module _ (first : Volume) (events : List Event) (start : IsTree (tree_of first.s
     -- ---- the write's own turn
 
     module _ (handle made : ℕ) (path : Path) (hm : HasMade first events handle made path now) (turn : IsTurnOf handle e.step) where
-      works : Works (disk_after first (take now events)) hm.store (Calling (Writing hm.folder)) e
+      works : Works first (take now events) handle hm.store hm.ignoring hm.begun hm.turns (Calling (Writing hm.folder)) e
       works = (lawful now e there).worked handle hm.store hm.ignoring hm.begun hm.turns (Calling (Writing hm.folder)) (record { step = turn; status = hm.status })
 
       writes : IsWriting first (take now events) handle hm.begun hm.turns hm.store.parts.objects hm.folder
       writes = writing_at now handle hm.store hm.ignoring hm.begun hm.turns hm.folder (within_events now e there) hm.status
 
       own_moves : (c : Change) → e.entry.change ≡ Some c → WriterMoves (tree now) hm.store.parts.objects writes.stage c
-      own_moves c is = moves_of now e handle hm.store hm.begun hm.turns hm.folder writes works c is
+      own_moves c is = moves_of now e handle hm.store hm.ignoring hm.begun hm.turns hm.folder writes works c is
 
       -- one that was cut off changes nothing
       pub lost_turn : Lost path now → e.entry.change ≡ None
@@ -442,7 +455,7 @@ module _ (first : Volume) (events : List Event) (start : IsTree (tree_of first.s
               let answer = answer_now (disk_after first (take now events)) works.ask in
               let ends = removing_ends hm.store writes.write number refusal answer in
               let outcome : e.outcome ≡ outcomes.Reply ends.0 = works.goes ∙ (ap (λ f. outcome_of (result_in (fed_in hm.store (Calling (Writing f)) answer))) folder ∙ ends.1) in
-              no_write_after after.store after.ignoring after.begun (now + 1) e.step e.outcome e.told (status_of (take now events)) handle ends.0 turn outcome
+              no_write_after after.store after.ignoring after.begun (now + 1) e.step e.outcome e.turn (status_of (take now events)) handle ends.0 turn outcome
               (record { turns = after.turns; folder = after.folder; is = ap (λ (table : ℕ → Status). table handle) (sym (status_next first events start lawful now e there)) ∙ after.status })
 
           own_by : (c : Change) → e.entry.change ≡ Some c → OwnSpot (changed (tree now) c) path o.spot → Own handle made path (now + 1)

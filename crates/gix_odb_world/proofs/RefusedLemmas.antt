@@ -47,7 +47,7 @@ module _ (first : Volume) (events : List Event) (handle begun : ℕ) (ask : Disk
           asked = record {
             place = asked.place;
             later = asked.later;
-            at = record { event = asked.at.event; there = asked.at.there; turn = asked.at.turn; did = asked.at.did; told = asked.at.told ∙ ap Some e; given = sym e ∙ asked.at.given };
+            at = record { event = asked.at.event; there = asked.at.there; turn = asked.at.turn; did = asked.at.did; asked = asked.at.asked ∙ ap (λ a. Some (ask, a)) e; given = sym e ∙ asked.at.given };
           };
           failed = subst Fails (sym asked.at.did) fails;
         })

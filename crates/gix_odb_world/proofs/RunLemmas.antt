@@ -34,17 +34,17 @@ take-push xs x =
 
 -- ---- what the handles do, and the disk, after one more event
 
-statuses_from-push : (n : ℕ) (table : ℕ → Status) (events : List Event) (e : Event) → statuses_from n table (events ++ e ∷ []) ≡ status_after (n + length events) e.step e.outcome e.told (statuses_from n table events)
+statuses_from-push : (n : ℕ) (table : ℕ → Status) (events : List Event) (e : Event) → statuses_from n table (events ++ e ∷ []) ≡ status_after (n + length events) e.step e.outcome e.turn (statuses_from n table events)
 unfolding statuses_from
-statuses_from-push n table [] e = let same : n ≡ n + 0 = omega arith in ap (λ m. status_after m e.step e.outcome e.told table) same
+statuses_from-push n table [] e = let same : n ≡ n + 0 = omega arith in ap (λ m. status_after m e.step e.outcome e.turn table) same
 statuses_from-push n table (x ∷ events) e =
     let later : n + 1 + length events ≡ n + length (x ∷ events) = omega arith in
-    statuses_from-push (n + 1) (status_after n x.step x.outcome x.told table) events e ∙ ap (λ m. status_after m e.step e.outcome e.told (statuses_from (n + 1) (status_after n x.step x.outcome x.told table) events)) later
+    statuses_from-push (n + 1) (status_after n x.step x.outcome x.turn table) events e ∙ ap (λ m. status_after m e.step e.outcome e.turn (statuses_from (n + 1) (status_after n x.step x.outcome x.turn table) events)) later
 
-pub status_of-push : (events : List Event) (e : Event) → status_of (events ++ e ∷ []) ≡ status_after (length events + 1) e.step e.outcome e.told (status_of events)
+pub status_of-push : (events : List Event) (e : Event) → status_of (events ++ e ∷ []) ≡ status_after (length events + 1) e.step e.outcome e.turn (status_of events)
 status_of-push events e =
     let later : 1 + length events ≡ length events + 1 = omega arith in
-    statuses_from-push 1 (λ handle. Free) events e ∙ ap (λ m. status_after m e.step e.outcome e.told (status_of events)) later
+    statuses_from-push 1 (λ handle. Free) events e ∙ ap (λ m. status_after m e.step e.outcome e.turn (status_of events)) later
 
 pub disk_after-push : (first : Volume) (events : List Event) (e : Event) → disk_after first (events ++ e ∷ []) ≡ disk_after_record (disk_after first events) e.entry
 unfolding disk_after

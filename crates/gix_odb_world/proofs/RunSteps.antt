@@ -93,7 +93,7 @@ pub record IsTurned (first : Volume) (past : List Event) (e : Event) : Type 0 wh
   pub turns : ℕ
   pub work : Work
   pub turn : Turns past e handle store ignoring begun turns work
-  pub works : Works (disk_after first past) store work e
+  pub works : Works first past handle store ignoring begun turns work e
 
 -- another program made a change, which was possible
 pub record IsMade (first : Volume) (past : List Event) (e : Event) : Type 0 where
@@ -235,10 +235,10 @@ module _ (first : Volume) (events : List Event) (start : IsTree (tree_of first.s
   pub left_at : (place : ℕ) (e : Event) → slice_get events place ≡ Some e → IsLeft (tree_at first events place) (tree_at first events (place + 1)) e.entry.change
   left_at place e there = subst (λ u. IsLeft (tree_at first events place) u e.entry.change) (sym (tree_next place e there)) (left first (take place events) e (kind_at place e there))
 
-  pub status_next : (place : ℕ) (e : Event) → slice_get events place ≡ Some e → status_of (take (place + 1) events) ≡ status_after (place + 1) e.step e.outcome e.told (status_of (take place events))
+  pub status_next : (place : ℕ) (e : Event) → slice_get events place ≡ Some e → status_of (take (place + 1) events) ≡ status_after (place + 1) e.step e.outcome e.turn (status_of (take place events))
   status_next place e there =
       ap status_of (take_next events place e there) ∙ status_of-push (take place events) e
-      ∙ ap (λ n. status_after (n + 1) e.step e.outcome e.told (status_of (take place events))) (length_take events place e there)
+      ∙ ap (λ n. status_after (n + 1) e.step e.outcome e.turn (status_of (take place events))) (length_take events place e there)
 
   tree_zero : IsTree (tree_at first events 0)
   unfolding disk_after

@@ -20,8 +20,8 @@ use Rattle.gix_odb_world.specs.LookOrder.{job_of}
 use Rattle.gix_odb_world.specs.Causes.{Sometime, GaveSometime, LooseCause}
 use Rattle.gix_odb_world.specs.Event.{Event, Store, Status, Free, Resting, Working, with_status}
 use Rattle.gix_odb_world.specs.Run.{tree_at, IsTurnOf, FailedSince}
-use Rattle.gix_odb_world.specs.Running.{Passed, Leaves, Noted, Seeks, Seen, Knows, Runs}
-use Rattle.gix_odb_world.proofs.WriteKept.{writing_push}
+use Rattle.gix_odb_world.specs.Running.{call_of, Passed, Leaves, Noted, Seeks, Seen, Knows, Runs}
+use Rattle.gix_odb_world.proofs.WriteKept.{begun_kept, open_store_kept, opened_kept, writing_push}
 use Rattle.gix_odb_world.proofs.RunLemmas.{tree_at-before, failed-kept, failed_before}
 
 -- more moments of the same trees
@@ -60,7 +60,7 @@ module _ (trees wider : ℕ → Tree) (begun now later : ℕ) (le : now ≤ late
 
       seeks_wider : (turns : ℕ) (call : Query) (id : ObjectId) (stage : Stage) → Seeks trees Failed store begun now turns call id stage → Seeks wider Fails store begun later turns call id stage
       seeks_wider turns call id stage s =
-          record { noted = s.noted; folder = s.folder; among = s.among; stage_is = s.stage_is; seen = noted_wider call id s.folder (drop turns store.parts.folders) s.noted s.seen }
+          record { noted = s.noted; folder = s.folder; among = s.among; place = s.place; stage_is = s.stage_is; seen = noted_wider call id s.folder (drop turns store.parts.folders) s.noted s.seen }
 
       pub seen_wider : (ignoring : Bool) (turns : ℕ) (work : Work) → Seen trees Failed store ignoring begun now turns work → Seen wider Fails store ignoring begun later turns work
       seen_wider ignoring turns (Opening state) seen = (seen.0, seen.1, λ f. seen.2 (failed f))
@@ -82,19 +82,21 @@ look_push first events e handle store ignoring begun turns work other seen =
 
 knows_push : (first : Volume) (events : List Event) (e : Event) (handle : ℕ) (store : Store) (ignoring : Bool) (begun turns : ℕ) (work : Work) → ¬ IsTurnOf handle e.step
     → Knows first events handle store ignoring begun turns work → Knows first (events ++ e ∷ []) handle store ignoring begun turns work
-knows_push first events e handle store ignoring begun turns (Opening state) other knows = look_push first events e handle store ignoring begun turns (Opening state) other knows
-knows_push first events e handle store ignoring begun turns (Calling (Looking state)) other knows = look_push first events e handle store ignoring begun turns (Calling (Looking state)) other knows
+knows_push first events e handle store ignoring begun turns (Opening state) other knows = (opened_kept events e handle begun store knows.0, look_push first events e handle store ignoring begun turns (Opening state) other knows.1)
+knows_push first events e handle store ignoring begun turns (Calling (Looking state)) other knows =
+    (begun_kept events e handle begun (call_of state.head.query) knows.0, look_push first events e handle store ignoring begun turns (Calling (Looking state)) other knows.1)
 knows_push first events e handle store ignoring begun turns (Calling (Writing folder)) other knows = writing_push first events e handle begun turns store.parts.objects folder other knows
 knows_push first events e handle store ignoring begun turns (Calling (Written reply)) other knows = absurd knows
 
 -- a handle at work goes on as it is over an event that isn't its turn
 pub runs-push : (first : Volume) (events : List Event) (e : Event) (handle : ℕ) (status : Status) → ¬ IsTurnOf handle e.step → Runs first events handle status → Runs first (events ++ e ∷ []) handle status
 runs-push first events e handle Free other runs = tt
-runs-push first events e handle (Resting store ignoring) other runs = tt
+runs-push first events e handle (Resting store ignoring) other runs = open_store_kept events e store runs
 runs-push first events e handle (Working store ignoring begun turns work) other runs =
     let longer : length events ≤ length (events ++ e ∷ []) = omega (arith, length-append events (e ∷ [])) in (
       omega (arith, longer, runs.0),
       knows_push first events e handle store ignoring begun turns work other runs.1,
+      open_store_kept events e store runs.2,
     )
 
 runs_either : (first : Volume) (events : List Event) (e : Event) (number : ℕ) (status : Status) (other : ℕ) (before : Status) (b : Bool) → (other == number) ≡ b

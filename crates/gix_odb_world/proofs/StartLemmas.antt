@@ -28,16 +28,16 @@ use Rattle.gix_odb_loose.specs.declared.call.LooseJob.TheVariants as jobs
 use Rattle.gix_odb_world.specs.Contents.{or_itself, replaced, replacement_in, sought}
 use Rattle.gix_odb_world.specs.Event.{Event, Store, Status, Free, Resting, Working, started, call_started}
 use Rattle.gix_odb_world.specs.Handle.{IsHandleOf, replaced_by, replacement_of, sought_by}
-use Rattle.gix_odb_world.specs.Run.{IsTurnOf, FailedSince, tree_at}
+use Rattle.gix_odb_world.specs.Run.{BegunBy, IsOpenStore, IsTurnOf, FailedSince, tree_at}
 use Rattle.gix_odb_world.specs.Running.{Knows, Runs, Seen}
 use Rattle.gix_odb_world.specs.Valid.{why_not_idle}
 use Rattle.gix_odb_world.specs.World.{Continues, Matches, handle_at}
 use Rattle.gix_odb_world.specs.Table.{SetsHandle, Notes, phase_of_handle, phase_of_work, why_not_now, with_work}
 use Rattle.gix_odb_world.proofs.CallLemmas.{first_or_later}
-use Rattle.gix_odb_world.proofs.RunLemmas.{none_failed_yet}
+use Rattle.gix_odb_world.proofs.RunLemmas.{none_failed_yet, slice_get-last}
 use Rattle.gix_odb_world.proofs.StepLemmas.{applied}
 use Rattle.gix_odb_world.proofs.RunningLemmas.{runs-push}
-use Rattle.gix_odb_world.proofs.WriteKept.{writing_begun}
+use Rattle.gix_odb_world.proofs.WriteKept.{open_store_kept, writing_begun}
 
 -- the id that a write is about is of the hash that it is written with
 pub start_fits : (kind : Kind) (size : ℕ) (bytes : List ℕ) (known : Option ObjectId) (hash : HashKind) → hash ≡ hash_to_write known → kind_of (id_asked hash (jobs.Write kind size bytes known)) ≡ hash
@@ -91,6 +91,7 @@ seen_querying first events e handle store ignoring query =
         noted = None;
         folder = store.parts.objects;
         among = (0, omega arith, refl);
+        place = refl;
         stage_is = refl;
         seen = (
           none_failed_yet (events ++ e ∷ []) handle (length events + 1) (omega (arith, whole)),
@@ -99,24 +100,27 @@ seen_querying first events e handle store ignoring query =
       },
     )
 
+begun_here : (events : List Event) (e : Event) (handle : ℕ) (call : Call) → e.step ≡ steps.Start handle call → BegunBy (events ++ e ∷ []) handle (length events + 1) call
+begun_here events e handle call starts = record { place = length events; number = refl; event = e; there = slice_get-last events e; starts = starts }
+
 -- a call that the event begins knows so much
 knows_calling : (first : Volume) (events : List Event) (e : Event) (handle : ℕ) (store : Store) (ignoring : Bool) (call : Call) → HasSize call → e.step ≡ steps.Start handle call
     → Knows first (events ++ e ∷ []) handle store ignoring (length events + 1) 0 (call_started store ignoring call)
-knows_calling first events e handle store ignoring (call_kinds.Find id) sized starts = seen_querying first events e handle store ignoring (Find id)
-knows_calling first events e handle store ignoring (call_kinds.Header id) sized starts = seen_querying first events e handle store ignoring (Header id)
-knows_calling first events e handle store ignoring (call_kinds.Test id) sized starts = seen_querying first events e handle store ignoring (Test id)
+knows_calling first events e handle store ignoring (call_kinds.Find id) sized starts = (begun_here events e handle (call_kinds.Find id) starts, seen_querying first events e handle store ignoring (Find id))
+knows_calling first events e handle store ignoring (call_kinds.Header id) sized starts = (begun_here events e handle (call_kinds.Header id) starts, seen_querying first events e handle store ignoring (Header id))
+knows_calling first events e handle store ignoring (call_kinds.Test id) sized starts = (begun_here events e handle (call_kinds.Test id) starts, seen_querying first events e handle store ignoring (Test id))
 knows_calling first events e handle store ignoring (call_kinds.Write kind size bytes id) sized starts = writing_begun first events e handle store.parts.objects kind size bytes id sized starts
 
-runs_calling : (first : Volume) (events : List Event) (e : Event) (handle : ℕ) (store : Store) (ignoring : Bool) (call : Call) → HasSize call → e.step ≡ steps.Start handle call
+runs_calling : (first : Volume) (events : List Event) (e : Event) (handle : ℕ) (store : Store) (ignoring : Bool) (call : Call) → IsOpenStore events store → HasSize call → e.step ≡ steps.Start handle call
     → Runs first (events ++ e ∷ []) handle (Working store ignoring (length events + 1) 0 (call_started store ignoring call))
-runs_calling first events e handle store ignoring call sized starts =
+runs_calling first events e handle store ignoring call of_step sized starts =
     let whole : length (events ++ e ∷ []) ≡ length events + 1 = length-append events (e ∷ []) in
-    (omega (arith, whole), knows_calling first events e handle store ignoring call sized starts)
+    (omega (arith, whole), knows_calling first events e handle store ignoring call sized starts, open_store_kept events e store of_step)
 
 runs_started : (number : ℕ) (call : Call) → HasSize call → (first : Volume) (events : List Event) (e : Event) (status : Status) → e.step ≡ steps.Start number call → ((other : ℕ) → ¬ IsTurnOf other e.step)
     → Runs first events number status → Runs first (events ++ e ∷ []) number (started (length events + 1) call status)
 runs_started number call sized first events e Free starts no_turn runs = tt
-runs_started number call sized first events e (Resting store ignoring) starts no_turn runs = runs_calling first events e number store ignoring call sized starts
+runs_started number call sized first events e (Resting store ignoring) starts no_turn runs = runs_calling first events e number store ignoring call runs sized starts
 runs_started number call sized first events e (Working store ignoring begun turns work) starts no_turn runs = runs-push first events e number (Working store ignoring begun turns work) (no_turn number) runs
 
 pub begun : (old mid new : World) (number : ℕ) (call : Call) (handle : Handle) (work : Work) → HasSize call → why_not_now old (steps.Start number call) ≡ None → handle_at old number ≡ Some handle

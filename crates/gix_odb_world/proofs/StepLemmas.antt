@@ -25,6 +25,7 @@ use Rattle.gix_odb_world.specs.Table.{SetsHandle, Notes, phase_of_handle, phase_
 use Rattle.gix_odb_world.proofs.RunLemmas.{status_of-push, disk_after-push, IsLawful-push}
 use Rattle.gix_odb_world.proofs.RunningLemmas.{runs-push, runs_set}
 use Rattle.gix_odb_world.proofs.WorldLemmas.{matches_set, throughout-push}
+use Rattle.gix_odb_world.proofs.WriteKept.{open_store_kept}
 
 -- ---- the reason for misuse, by the history and by the world
 
@@ -50,8 +51,8 @@ why_not-same first events world (steps.Disk change) explains =
 
 pub goes_on : (first : Volume) (events : List Event) (old new : World) (e : Event) → Explains first events old → Law first events e
     → new.outcomes ≡ old.outcomes ++ e.outcome ∷ [] → new.records ≡ old.records ++ e.entry ∷ [] → new.disk ≡ disk_after_record old.disk e.entry
-    → ((handle : ℕ) → Matches (status_after (length events + 1) e.step e.outcome e.told (status_of events) handle) (handle_at new handle))
-    → ((handle : ℕ) → Runs first (events ++ e ∷ []) handle (status_after (length events + 1) e.step e.outcome e.told (status_of events) handle))
+    → ((handle : ℕ) → Matches (status_after (length events + 1) e.step e.outcome e.turn (status_of events) handle) (handle_at new handle))
+    → ((handle : ℕ) → Runs first (events ++ e ∷ []) handle (status_after (length events + 1) e.step e.outcome e.turn (status_of events) handle))
     → GoesOn first events e.step e.outcome new
 goes_on first events old new e explains law outcomes records disk handles running =
     record {
@@ -73,7 +74,7 @@ goes_on first events old new e explains law outcomes records disk handles runnin
 
 -- an event without a call of the disk
 abbrev quiet : Step → Outcome → Option Change → ℕ → Event
-quiet step outcome change faults = record { step = step; outcome = outcome; entry = record { did = Nothing; change = change; faults = faults }; told = None }
+quiet step outcome change faults = record { step = step; outcome = outcome; entry = record { did = Nothing; change = change; faults = faults }; turn = None }
 
 -- a turn that is no misuse gives a reply, or its call goes on
 no_quiet_turn : (handle : ℕ) (outcome : Outcome) → Suits (steps.Turn handle) outcome Nothing → misuse_of outcome ≡ None → ((reply : Reply) → outcome ≢ outcomes.Reply reply) → outcome ≢ outcomes.Pending → ⊥
@@ -94,12 +95,13 @@ law_quiet first past step outcome change faults valid suits made counted no_repl
       change = made;
       failed = tt;
       faults = counted ∙ ap (λ (disk : Volume). disk.calls.faults) (sym (disk_after-push first past (quiet step outcome change faults)));
+      did = refl;
       worked = λ handle store ignoring begun turns work turn.
           let valid_turn : misuse_of outcome ≡ None =
           subst (λ s. misuse_of outcome ≡ why_not_after first past s) turn.step valid ∙ ap (λ s. why_not_running (phase_of s)) turn.status in
           absurd (no_quiet_turn handle outcome (subst (λ s. Suits s outcome Nothing) turn.step suits) valid_turn no_reply not_pending);
-      promise = λ handle store ignoring begun turns work reply turn is. absurd (no_reply reply is);
-      in_time = λ handle store ignoring begun turns work entries write turn is most many. absurd (not_pending is);
+      promise = λ handle store ignoring begun turns work task reply turn began is. absurd (no_reply reply is);
+      in_time = λ handle store ignoring begun turns work task entries turn began is most. absurd (not_pending is);
     }
 
 -- ---- a misused step
@@ -132,7 +134,7 @@ status_after-misused number (steps.Disk change) why table = refl
 runs_misused : (first : Volume) (events : List Event) (e : Event) (why : Why) (handle : ℕ) (status : Status) → e.outcome ≡ outcomes.Misuse why
     → (IsTurnOf handle e.step → why_not_running (phase_of status) ≡ Some why) → Runs first events handle status → Runs first (events ++ e ∷ []) handle status
 runs_misused first events e why handle Free is reason runs = tt
-runs_misused first events e why handle (Resting store ignoring) is reason runs = tt
+runs_misused first events e why handle (Resting store ignoring) is reason runs = open_store_kept events e store runs
 runs_misused first events e why handle (Working store ignoring begun turns work) is reason runs =
     runs-push first events e handle (Working store ignoring begun turns work) (λ turn. absurd (cc (reason turn))) runs
 

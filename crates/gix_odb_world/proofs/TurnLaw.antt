@@ -7,7 +7,7 @@ use Rattle.odb_disk.specs.Tree.Write.{written}
 use Rattle.odb_disk.specs.declared.change.Change.{Change}
 use Rattle.gix_odb_loose.specs.LooseOrder.{disk_ask_of}
 use Rattle.odb_disk.specs.MemDisk.{Volume, next_fails, after_call}
-use Rattle.odb_disk.specs.Ask.{op_of, path_asked, answer_now}
+use Rattle.odb_disk.specs.Ask.{answer_now, change_of_ask, op_of, path_asked}
 use Rattle.odb_disk.specs.declared.ask.DiskAsk.{DiskAsk}
 use Rattle.odb_disk.specs.declared.ask.DiskAnswer.{DiskAnswer}
 use Rattle.gix_odb_world.specs.declared.step.Step.TheVariants as steps
@@ -16,6 +16,8 @@ use Rattle.gix_odb_world.specs.declared.call.CallError.TheVariants as call_error
 use Rattle.gix_odb_world.specs.declared.call.Reply.{Reply}
 use Rattle.gix_odb_world.specs.declared.call.Reply.TheVariants as replies
 use Rattle.gix_odb_world.specs.declared.look_state.LookState.{LookState}
+use Rattle.gix_odb_world.specs.declared.query.Query.{Query}
+use Rattle.gix_odb_world.specs.declared.query.Query.TheVariants.{Find, Header, Test}
 use Rattle.gix_odb_world.specs.declared.look_state.Head.{Head}
 use Rattle.gix_odb_world.specs.declared.look_state.Stage.{Stage}
 use Rattle.gix_odb_world.specs.declared.look_state.Stage.TheVariants as stages
@@ -25,7 +27,8 @@ use Rattle.gix_odb_world.specs.declared.handle.HandleState.{HandleState}
 use Rattle.gix_odb_world.specs.declared.work.Work.{Work}
 use Rattle.gix_odb_world.specs.declared.work.Work.TheVariants.{Opening, Calling}
 use Rattle.gix_odb_world.specs.declared.world.World.{World}
-use Rattle.gix_odb_world.specs.Bound.{WritesSoMany, bound_of_work}
+use Rattle.gix_odb_world.specs.Asks.{AsksInOrder}
+use Rattle.gix_odb_world.specs.Bound.{bound_of_task, bytes_to_write, default_changes, turn_bound}
 use Rattle.gix_odb_world.specs.LookOrder.{result_at}
 use Rattle.gix_odb_world.specs.CallOrder.{looking_result}
 use Rattle.gix_odb_world.specs.declared.call_state.CallState.TheVariants.{Looking, Writing, Written}
@@ -33,19 +36,22 @@ use Rattle.gix_odb_world.specs.Contents.{folder_list}
 use Rattle.gix_odb_world.specs.Event.{Event, Store, Status, Free, Resting, Working, status_of, replied, turned, fed_in}
 use Rattle.gix_odb_world.specs.Event as statuses
 use Rattle.gix_odb_world.specs.Handle.{IsHandleOf}
-use Rattle.gix_odb_world.specs.Run.{Fails, FailedSince, change_by, disk_after, disk_after_did, tree_at}
-use Rattle.gix_odb_world.specs.Running.{Knows, Runs, Seen}
+use Rattle.gix_odb_world.specs.Run.{BegunAs, BegunBy, Fails, FailedSince, IsOpenStore, MakeCall, OpenStore, Task, change_by, did_of, disk_after, disk_after_did, has_failed, tree_at}
+use Rattle.gix_odb_world.specs.Running.{Knows, Runs, Seen, call_of}
 use Rattle.gix_odb_world.specs.Valid.{phase_of, why_not_running, misuse_of}
-use Rattle.gix_odb_world.specs.Headline.{ChangesAs, ChangesInWork, Law, Turns, Works, Suits, outcome_of}
-use Rattle.gix_odb_world.specs.Promise.{LookPromise, Promise}
+use Rattle.gix_odb_world.specs.Headline.{ChangesAs, ChangesInTask, Law, Turns, Works, Suits, outcome_of}
+use Rattle.gix_odb_world.specs.Promise.{Promise, QueryPromise}
 use Rattle.gix_odb_world.specs.WorkOrder.{ask_in, calling_result, result_in}
 use Rattle.gix_odb_world.specs.World.{Explains, Matches}
-use Rattle.gix_odb_world.specs.Table.{after_reply, after_turn, did_of, has_failed}
+use Rattle.gix_odb_world.specs.Table.{after_reply, after_turn}
+use Rattle.gix_odb_world.specs.Writing.{call_to_write}
 use Rattle.gix_odb_world.proofs.RunLemmas.{disk_after-push, tree_at-now, tree_at-before, failed-kept, failed_last, failed_before}
-use Rattle.gix_odb_world.proofs.WorkLemmas.{Acts, LooksOnly, WorkComes, acts, comes}
+use Rattle.gix_odb_world.proofs.WorkLemmas.{Acts, LookPromise, LooksOnly, SameQuery, WorkComes, acts, comes}
+use Rattle.gix_odb_world.proofs.AskLemmas.{in_order_opening, in_order_query, in_order_write}
 use Rattle.gix_odb_world.proofs.WriteAsk.{change_by-quiet}
 use Rattle.gix_odb_world.proofs.WriteFive.{five_written}
-use Rattle.gix_odb_world.proofs.WriteGoes.{ComesTo, ask_at_stage, write_comes}
+use Rattle.gix_odb_world.proofs.WriteGoes.{ComesTo, ask_at_stage, of_call, of_opening, write_comes}
+use Rattle.gix_odb_world.proofs.WriteKept.{begun_kept, open_store_kept}
 use Rattle.gix_odb_world.proofs.WriteTurn.{IsTurnWith}
 use Rattle.gix_odb_world.proofs.FailedLemmas.{has_failed-now}
 
@@ -94,22 +100,27 @@ few_turns factor slots folders each some some_each =
     let b : 1 * (8 + 8 * slots + folders * each) ≤ factor * (8 + 8 * slots + folders * each) = mul-le-mul some whole in
     omega (arith, a, b)
 
-in_bound : (store : Store) (begun turns handle : ℕ) (events : List Event) (work : Work) → LooksOnly work → turns + 1 < length (folder_list store.parts) → (entries : ℕ) (write : Option ℕ) → WritesSoMany events handle begun work write
-    → turns + 1 < bound_of_work store work entries write
-in_bound store begun turns handle events (Opening state) only few entries write none =
+-- a query has no bytes to write
+no_bytes : (query : Query) → None ≡ bytes_to_write (call_of query)
+no_bytes (Find id) = refl
+no_bytes (Header id) = refl
+no_bytes (Test id) = refl
+
+few_openings : (store : Store) (turns : ℕ) → turns + 1 < length (folder_list store.parts) → (entries : ℕ) → turns + 1 < bound_of_task store OpenStore entries
+few_openings store turns few entries =
     let many = few_turns 2 0 (length (folder_list store.parts)) (8 * entries + 16) (omega arith) (omega arith) in omega (arith, few, many)
-in_bound store begun turns handle events (Calling (Looking state)) only few entries write none =
+
+few_queries : (store : Store) (turns : ℕ) (query : Query) → turns + 1 < length (folder_list store.parts) → (entries : ℕ) → turns + 1 < bound_of_task store (MakeCall (call_of query)) entries
+few_queries store turns query few entries =
     let many = few_turns 18 store.slots (length (folder_list store.parts)) (8 * entries + 16) (omega arith) (omega arith) in
-    subst (λ (n : Option ℕ). turns + 1 < bound_of_work store (Calling (Looking state)) entries n) (sym none) (omega (arith, few, many))
-in_bound store begun turns handle events (Calling (Writing folder)) only few entries write none = absurd only
-in_bound store begun turns handle events (Calling (Written reply)) only few entries write none = absurd only
+    subst (λ (n : Option ℕ). turns + 1 < turn_bound store.slots (length (folder_list store.parts)) default_changes entries n) (no_bytes query) (omega (arith, few, many))
 
 -- ---- what a turn comes to
 
 -- the call of the disk that any work names
 abbrev pub act_of : (first : Volume) (events : List Event) (handle : ℕ) (store : Store) (ignoring : Bool) (begun turns : ℕ) (work : Work) → begun ≤ length events → Knows first events handle store ignoring begun turns work → Acts store.parts.objects work
-act_of first events handle store ignoring begun turns (Opening state) since knows = acts (tree_at first events) (FailedSince events handle begun) store ignoring begun (length events) turns (Opening state) knows
-act_of first events handle store ignoring begun turns (Calling (Looking state)) since knows = acts (tree_at first events) (FailedSince events handle begun) store ignoring begun (length events) turns (Calling (Looking state)) knows
+act_of first events handle store ignoring begun turns (Opening state) since knows = acts (tree_at first events) (FailedSince events handle begun) store ignoring begun (length events) turns (Opening state) knows.1
+act_of first events handle store ignoring begun turns (Calling (Looking state)) since knows = acts (tree_at first events) (FailedSince events handle begun) store ignoring begun (length events) turns (Calling (Looking state)) knows.1
 act_of first events handle store ignoring begun turns (Calling (Writing folder)) since knows =
     record { ask = ask_at_stage knows.write knows.stage; asks = ap disk_ask_of knows.is; quiet = λ only. absurd only }
 act_of first events handle store ignoring begun turns (Calling (Written reply)) since knows = absurd knows
@@ -118,24 +129,56 @@ module _ (first : Volume) (events : List Event) (e : Event) (handle : ℕ) (stor
   abbrev whole_of : List Event
   whole_of = events ++ e ∷ []
 
-  abbrev Comes : Work → Result Reply Work → Type 0
-  Comes work result = ComesTo first events e handle store ignoring begun turns since work result
+  abbrev Comes : Result Reply Work → Type 0
+  Comes result = ComesTo first events e handle store ignoring begun turns since result
+
+  abbrev Known : Work → Type 0
+  Known work = Knows first events handle store ignoring begun turns work
+
+  abbrev Promised : Reply → Task → Type 0
+  Promised reply task = Promise first whole_of handle store ignoring begun task reply
+
+  abbrev InBound : Task → Type 0
+  InBound task = (entries : ℕ) → turns + 1 < bound_of_task store task entries
 
   count : length events + 1 ≡ length whole_of
   count = sym (length-append events (e ∷ []))
 
-  knows_look : (left : Work) → Seen (tree_at first whole_of) (FailedSince whole_of handle begun) store ignoring begun (length events + 1) (turns + 1) left → Knows first whole_of handle store ignoring begun (turns + 1) left
-  knows_look (Opening state) seen = subst (λ n. Seen (tree_at first whole_of) (FailedSince whole_of handle begun) store ignoring begun n (turns + 1) (Opening state)) count seen
-  knows_look (Calling (Looking state)) seen = subst (λ n. Seen (tree_at first whole_of) (FailedSince whole_of handle begun) store ignoring begun n (turns + 1) (Calling (Looking state))) count seen
-  knows_look (Calling (Writing folder)) seen = absurd seen
-  knows_look (Calling (Written reply)) seen = absurd seen
+  abbrev SeenNow : Work → ℕ → Type 0
+  SeenNow left n = Seen (tree_at first whole_of) (FailedSince whole_of handle begun) store ignoring begun n (turns + 1) left
 
-  promise_look : (work : Work) → LooksOnly work → (reply : Reply) → LookPromise (tree_at first whole_of) (FailedSince whole_of handle begun) store ignoring begun (length events + 1) work reply
-      → Promise first whole_of handle store ignoring begun work reply
-  promise_look (Opening state) only reply p = subst (λ n. LookPromise (tree_at first whole_of) (FailedSince whole_of handle begun) store ignoring begun n (Opening state) reply) count p
-  promise_look (Calling (Looking state)) only reply p = subst (λ n. LookPromise (tree_at first whole_of) (FailedSince whole_of handle begun) store ignoring begun n (Calling (Looking state)) reply) count p
-  promise_look (Calling (Writing folder)) only reply p = absurd only
-  promise_look (Calling (Written own)) only reply p = absurd only
+  knows_look : (work left : Work) → Known work → SameQuery work left → SeenNow left (length events + 1) → Knows first whole_of handle store ignoring begun (turns + 1) left
+  knows_look (Opening state) left knows same seen = absurd same
+  knows_look (Calling (Writing folder)) left knows same seen = absurd same
+  knows_look (Calling (Written reply)) left knows same seen = absurd same
+  knows_look (Calling (Looking state)) (Opening after) knows same seen = absurd same
+  knows_look (Calling (Looking state)) (Calling (Writing folder)) knows same seen = absurd same
+  knows_look (Calling (Looking state)) (Calling (Written reply)) knows same seen = absurd same
+  knows_look (Calling (Looking state)) (Calling (Looking after)) knows same seen = (
+    subst (λ (h : Head). BegunBy whole_of handle begun (call_of h.query)) (sym same) (begun_kept events e handle begun (call_of state.head.query) knows.0),
+    subst (SeenNow (Calling (Looking after))) count seen,
+  )
+
+  by_query : (query : Query) (reply : Reply) → QueryPromise (tree_at first whole_of) (FailedSince whole_of handle begun) store ignoring begun (length whole_of) query reply → Promised reply (MakeCall (call_of query))
+  by_query (Find id) reply p = p
+  by_query (Header id) reply p = p
+  by_query (Test id) reply p = p
+
+  abbrev PromisedNow : Work → Reply → ℕ → Type 0
+  PromisedNow work reply n = LookPromise (tree_at first whole_of) (FailedSince whole_of handle begun) store ignoring begun n work reply
+
+  promise_look : (work : Work) → LooksOnly work → Known work → (reply : Reply) → PromisedNow work reply (length events + 1) → (task : Task) → BegunAs events handle begun store task → Promised reply task
+  promise_look (Opening state) only knows reply p = of_opening events handle begun store (Promised reply) knows.0 (subst (PromisedNow (Opening state) reply) count p)
+  promise_look (Calling (Looking state)) only knows reply p =
+      of_call events handle begun store (Promised reply) (call_of state.head.query) knows.0 (by_query state.head.query reply (subst (PromisedNow (Calling (Looking state)) reply) count p))
+  promise_look (Calling (Writing folder)) only knows reply p = absurd only
+  promise_look (Calling (Written own)) only knows reply p = absurd only
+
+  in_bound : (work : Work) → LooksOnly work → Known work → turns + 1 < length (folder_list store.parts) → (task : Task) → BegunAs events handle begun store task → InBound task
+  in_bound (Opening state) only knows few = of_opening events handle begun store InBound knows.0 (few_openings store turns few)
+  in_bound (Calling (Looking state)) only knows few = of_call events handle begun store InBound (call_of state.head.query) knows.0 (few_queries store turns state.head.query few)
+  in_bound (Calling (Writing folder)) only knows few = absurd only
+  in_bound (Calling (Written reply)) only knows few = absurd only
 
   module _ (ask : DiskAsk) (is : IsTurnWith first events e handle ask) where
     abbrev disk_of : Volume
@@ -163,40 +206,65 @@ module _ (first : Volume) (events : List Event) (e : Event) (handle : ℕ) (stor
     LookComes work result none = WorkComes (tree_at first events) (tree_at first whole_of) (FailedSince events handle begun) (FailedSince whole_of handle begun) store ignoring begun (length events) since (tree_at-before first events e)
         (failed-kept events e handle begun) disk_of (shown_of none) fails_of sound_of turns work result
 
-    from_look : (work : Work) → LooksOnly work → (none : change_by disk_of ask ≡ None) (result : Result Reply Work) → LookComes work result none → Comes work result
-    from_look work only none (Ok reply) c = promise_look work only reply c
-    from_look work only none (Err left) c = (knows_look left c.0, in_bound store begun turns handle events work only c.1)
+    from_look : (work : Work) → LooksOnly work → Known work → (none : change_by disk_of ask ≡ None) (result : Result Reply Work) → LookComes work result none → Comes result
+    from_look work only knows none (Ok reply) c = promise_look work only knows reply c
+    from_look work only knows none (Err left) c = (knows_look work left knows c.2 c.0, in_bound work only knows c.1)
 
-    look_comes : (work : Work) → LooksOnly work → change_by disk_of ask ≡ None → Seen (tree_at first events) (FailedSince events handle begun) store ignoring begun (length events) turns work → ask_in store.parts.objects work ≡ Some ask
-        → Comes work (result_in (fed_in store work given_of))
-    look_comes work only none seen asks =
-        from_look work only none (result_in (fed_in store work given_of))
+    look_comes : (work : Work) → LooksOnly work → Known work → change_by disk_of ask ≡ None → Seen (tree_at first events) (FailedSince events handle begun) store ignoring begun (length events) turns work → ask_in store.parts.objects work ≡ Some ask
+        → Comes (result_in (fed_in store work given_of))
+    look_comes work only knows none seen asks =
+        from_look work only knows none (result_in (fed_in store work given_of))
         (comes (tree_at first events) (tree_at first whole_of) (FailedSince events handle begun) (FailedSince whole_of handle begun) store ignoring begun (length events) since (tree_at-before first events e)
         (failed-kept events e handle begun) disk_of (shown_of none) fails_of sound_of turns work ask seen asks)
 
   -- the whole turn of any work
   come_of : (work : Work) (knows : Knows first events handle store ignoring begun turns work) → IsTurnWith first events e handle (act_of first events handle store ignoring begun turns work since knows).ask
-      → Comes work (result_in (fed_in store work (answer_now (disk_after first events) (act_of first events handle store ignoring begun turns work since knows).ask)))
+      → Comes (result_in (fed_in store work (answer_now (disk_after first events) (act_of first events handle store ignoring begun turns work since knows).ask)))
   come_of (Opening state) knows is =
       let act = act_of first events handle store ignoring begun turns (Opening state) since knows in
-      look_comes act.ask is (Opening state) tt (change_by-quiet (disk_after first events) act.ask (act.quiet tt (tree_of (disk_after first events).state))) knows act.asks
+      look_comes act.ask is (Opening state) tt knows (change_by-quiet (disk_after first events) act.ask (act.quiet tt (tree_of (disk_after first events).state))) knows.1 act.asks
   come_of (Calling (Looking state)) knows is =
       let act = act_of first events handle store ignoring begun turns (Calling (Looking state)) since knows in
-      look_comes act.ask is (Calling (Looking state)) tt (change_by-quiet (disk_after first events) act.ask (act.quiet tt (tree_of (disk_after first events).state))) knows act.asks
+      look_comes act.ask is (Calling (Looking state)) tt knows (change_by-quiet (disk_after first events) act.ask (act.quiet tt (tree_of (disk_after first events).state))) knows.1 act.asks
   come_of (Calling (Writing folder)) knows is = write_comes first events e handle store ignoring begun turns since folder knows is
   come_of (Calling (Written reply)) knows is = absurd knows
 
--- the change of any work is none, but for that of a write
-five_of : (first : Volume) (events : List Event) (handle : ℕ) (store : Store) (ignoring : Bool) (begun turns : ℕ) (since : begun ≤ length events) (disk : Volume) (work : Work) (knows : Knows first events handle store ignoring begun turns work)
-    → ChangesInWork (tree_of disk.state) store.parts.objects work (change_by disk (act_of first events handle store ignoring begun turns work since knows).ask)
-five_of first events handle store ignoring begun turns since disk (Opening state) knows =
+-- the task that the work was begun with, the turn of its call of the disk, and the change that this makes: none, but for that of a
+-- write
+record HasTask (first : Volume) (events : List Event) (handle : ℕ) (store : Store) (ignoring : Bool) (begun turns : ℕ) (ask : DiskAsk) : Type 0 where
+  task : Task
+  begins : BegunAs events handle begun store task
+  in_order : AsksInOrder first events handle store ignoring begun turns task ask
+  five : ChangesInTask first events handle store begun task ask (change_by (disk_after first events) ask)
+
+quiet_task : (first : Volume) (events : List Event) (handle : ℕ) (store : Store) (ignoring : Bool) (begun turns : ℕ) (ask : DiskAsk) (task : Task) → BegunAs events handle begun store task
+    → AsksInOrder first events handle store ignoring begun turns task ask → change_of_ask (tree_of (disk_after first events).state) ask ≡ None → HasTask first events handle store ignoring begun turns ask
+quiet_task first events handle store ignoring begun turns ask task begins in_order quiet =
+    record {
+      task = task;
+      begins = begins;
+      in_order = in_order;
+      five = subst (ChangesInTask first events handle store begun task ask) (sym (change_by-quiet (disk_after first events) ask quiet)) tt;
+    }
+
+task_of : (first : Volume) (events : List Event) (handle : ℕ) (store : Store) (ignoring : Bool) (begun turns : ℕ) (since : begun ≤ length events) (work : Work) (knows : Knows first events handle store ignoring begun turns work)
+    → HasTask first events handle store ignoring begun turns (act_of first events handle store ignoring begun turns work since knows).ask
+task_of first events handle store ignoring begun turns since (Opening state) knows =
     let act = act_of first events handle store ignoring begun turns (Opening state) since knows in
-    subst (ChangesInWork (tree_of disk.state) store.parts.objects (Opening state)) (sym (change_by-quiet disk act.ask (act.quiet tt (tree_of disk.state)))) tt
-five_of first events handle store ignoring begun turns since disk (Calling (Looking state)) knows =
+    quiet_task first events handle store ignoring begun turns act.ask OpenStore knows.0 (in_order_opening first events handle store ignoring begun turns state act.ask knows.1.0 knows.1.1 act.asks)
+    (act.quiet tt (tree_of (disk_after first events).state))
+task_of first events handle store ignoring begun turns since (Calling (Looking state)) knows =
     let act = act_of first events handle store ignoring begun turns (Calling (Looking state)) since knows in
-    subst (ChangesInWork (tree_of disk.state) store.parts.objects (Calling (Looking state))) (sym (change_by-quiet disk act.ask (act.quiet tt (tree_of disk.state)))) tt
-five_of first events handle store ignoring begun turns since disk (Calling (Writing folder)) knows = five_written first events handle begun turns disk store.parts.objects folder knows
-five_of first events handle store ignoring begun turns since disk (Calling (Written reply)) knows = absurd knows
+    quiet_task first events handle store ignoring begun turns act.ask (MakeCall (call_of state.head.query)) knows.0 (in_order_query first events handle store ignoring begun turns state act.ask knows.1.0 knows.1.1 act.asks)
+    (act.quiet tt (tree_of (disk_after first events).state))
+task_of first events handle store ignoring begun turns since (Calling (Writing folder)) knows =
+    record {
+      task = MakeCall (call_to_write knows.write);
+      begins = knows.begins;
+      in_order = in_order_write first events handle store ignoring begun turns folder knows;
+      five = five_written first events handle begun turns store folder knows;
+    }
+task_of first events handle store ignoring begun turns since (Calling (Written reply)) knows = absurd knows
 
 module _ (first : Volume) (events : List Event) (old : World) (number : ℕ) (store : Store) (ignoring : Bool) (begun turns : ℕ) (work : Work)
     (explains : Explains first events old) (status : status_of events number ≡ Working store ignoring begun turns work) where
@@ -215,7 +283,7 @@ module _ (first : Volume) (events : List Event) (old : World) (number : ℕ) (st
 
   module _ (tree : IsTree (tree_of old.disk.state)) (faults : ℕ) (counted : faults ≡ (after_call old.disk).calls.faults) where
     abbrev pub event : Event
-    event = record { step = steps.Turn number; outcome = outcome_of (result_in after); entry = record { did = did_of act.ask given; change = change_by old.disk act.ask; faults = faults }; told = Some given }
+    event = record { step = steps.Turn number; outcome = outcome_of (result_in after); entry = record { did = did_of act.ask given; change = change_by old.disk act.ask; faults = faults }; turn = Some (act.ask, given) }
 
     abbrev pub whole : List Event
     whole = events ++ event ∷ []
@@ -228,28 +296,47 @@ module _ (first : Volume) (events : List Event) (old : World) (number : ℕ) (st
         record {
           turn = refl;
           did = ap (Disk (op_of act.ask) (path_asked act.ask)) (listed ∙ ap next_fails explains.disk);
-          told = ap (λ d. Some (answer_now d act.ask)) explains.disk;
+          asked = ap (λ d. Some (act.ask, answer_now d act.ask)) explains.disk;
           change = ap (λ d. change_by d act.ask) explains.disk;
           tree = subst (λ (d : Volume). IsTree (tree_of d.state)) explains.disk tree;
         }
 
     abbrev pub WorkNow : Result Reply Work → Type 0
-    WorkNow result = ComesTo first events event number store ignoring begun turns runs.0 work result
+    WorkNow result = ComesTo first events event number store ignoring begun turns runs.0 result
 
     pub come : WorkNow (result_in after)
     come = subst (λ d. WorkNow (result_in (fed_in store work (answer_now d act.ask)))) (sym explains.disk) (come_of first events event number store ignoring begun turns runs.0 work runs.1 turn_is)
 
     -- ---- its law
 
-    promised : (result : Result Reply Work) → WorkNow result → (reply : Reply) → outcome_of result ≡ outcomes.Reply reply → Promise first whole number store ignoring begun work reply
-    promised (Ok own) now reply is =
+    promised : (result : Result Reply Work) → WorkNow result → (task : Task) → BegunAs events number begun store task → (reply : Reply) → outcome_of result ≡ outcomes.Reply reply → Promise first whole number store ignoring begun task reply
+    promised (Ok own) now task began reply is =
         let same : own ≡ reply = cc is in
-        subst (Promise first whole number store ignoring begun work) same now
-    promised (Err left) now reply is = absurd (cc is)
+        subst (Promise first whole number store ignoring begun task) same (now task began)
+    promised (Err left) now task began reply is = absurd (cc is)
 
-    timed : (result : Result Reply Work) → WorkNow result → outcome_of result ≡ outcomes.Pending → (entries : ℕ) (write : Option ℕ) → WritesSoMany events number begun work write → turns + 1 < bound_of_work store work entries write
-    timed (Ok own) now is entries write many = absurd (cc is)
-    timed (Err left) now is entries write many = now.1 entries write many
+    timed : (result : Result Reply Work) → WorkNow result → (task : Task) → BegunAs events number begun store task → outcome_of result ≡ outcomes.Pending → (entries : ℕ) → turns + 1 < bound_of_task store task entries
+    timed (Ok own) now task began is entries = absurd (cc is)
+    timed (Err left) now task began is entries = now.1 task began entries
+
+    tasked : HasTask first events number store ignoring begun turns act.ask
+    tasked = task_of first events number store ignoring begun turns runs.0 work runs.1
+
+    works : Works first events number store ignoring begun turns work event
+    works =
+        record {
+          task = tasked.task;
+          begins = tasked.begins;
+          opened = runs.2;
+          ask = act.ask;
+          asks = act.asks;
+          in_order = tasked.in_order;
+          asked = turn_is.did;
+          told = turn_is.asked;
+          goes = ap (λ d. outcome_of (result_in (fed_in store work (answer_now d act.ask)))) explains.disk;
+          changed = turn_is.change;
+          five = subst (ChangesInTask first events number store begun tasked.task act.ask) (sym turn_is.change) tasked.five;
+        }
 
     -- what holds of this work holds of the work that a turn of the handle takes
     of_turn : (P : ℕ → Store → Bool → ℕ → ℕ → Work → Type 0) → P number store ignoring begun turns work
@@ -267,30 +354,21 @@ module _ (first : Volume) (events : List Event) (old : World) (number : ℕ) (st
           change = changes_turn number (result_in after) event.entry.change;
           failed = listed ∙ ap next_fails explains.disk;
           faults = counted ∙ (ap (λ d. (after_call d).calls.faults) explains.disk ∙ ap (λ (d : Volume). d.calls.faults) (sym (disk_after-push first events event)));
-          worked = of_turn (λ h s i b t w. Works (disk_after first events) s w event)
-              (subst (λ d. Works d store work event) explains.disk
-              (record {
-                ask = act.ask;
-                asks = act.asks;
-                asked = ap (Disk (op_of act.ask) (path_asked act.ask)) listed;
-                told = refl;
-                goes = refl;
-                changed = refl;
-                five = five_of first events number store ignoring begun turns runs.0 old.disk work runs.1;
-              }));
-          promise = λ handle other mode since taken own reply turns_it is.
-              of_turn (λ h s i b t w. (r : Reply) → outcome_of (result_in after) ≡ outcomes.Reply r → Promise first whole h s i b w r)
-              (promised (result_in after) come) handle other mode since taken own turns_it reply is;
-          in_time = λ handle other mode since taken own entries write turns_it is most many.
-              of_turn (λ h s i b t w. outcome_of (result_in after) ≡ outcomes.Pending → (n : ℕ) (m : Option ℕ) → WritesSoMany events h b w m → t + 1 < bound_of_work s w n m)
-              (timed (result_in after) come) handle other mode since taken own turns_it is entries write many;
+          did = refl;
+          worked = of_turn (λ h s i b t w. Works first events h s i b t w event) works;
+          promise = λ handle other mode since taken own task reply turns_it began is.
+              of_turn (λ h s i b t w. (k : Task) → BegunAs events h b s k → (r : Reply) → outcome_of (result_in after) ≡ outcomes.Reply r → Promise first whole h s i b k r)
+              (promised (result_in after) come) handle other mode since taken own turns_it task began reply is;
+          in_time = λ handle other mode since taken own task entries turns_it began is most.
+              of_turn (λ h s i b t w. (k : Task) → BegunAs events h b s k → outcome_of (result_in after) ≡ outcomes.Pending → (n : ℕ) → t + 1 < bound_of_task s k n)
+              (timed (result_in after) come) handle other mode since taken own turns_it task began is entries;
         }
 
     -- ---- the handle after it
 
     abbrev pub status_next : Result Reply Work → Status
     status_next (Ok reply) = replied reply (Working store ignoring begun turns work)
-    status_next (Err left) = turned (Some given) (Working store ignoring begun turns work)
+    status_next (Err left) = turned (Some (act.ask, given)) (Working store ignoring begun turns work)
 
     matches_rest : (state : HandleState) → IsHandleOf store ignoring state → (reply : Reply) → Matches (statuses.after_reply store ignoring reply) (after_reply state reply)
     matches_rest state own (replies.Refused (call_errors.Open error)) = tt
@@ -307,19 +385,22 @@ module _ (first : Volume) (events : List Event) (old : World) (number : ℕ) (st
     matches_next state own (Ok reply) is = matches_rest state own reply
     matches_next state own (Err left) is = (own, ap Some (left_of after left is))
 
+    open_still : IsOpenStore whole store
+    open_still = open_store_kept events event store runs.2
+
     runs_rest : (reply : Reply) → Runs first whole number (statuses.after_reply store ignoring reply)
     runs_rest (replies.Refused (call_errors.Open error)) = tt
-    runs_rest (replies.Refused (call_errors.Find error)) = tt
-    runs_rest (replies.Refused (call_errors.Write error)) = tt
-    runs_rest (replies.Opened slots) = tt
-    runs_rest (replies.Found kind bytes) = tt
-    runs_rest (replies.Header header) = tt
-    runs_rest (replies.Tested there) = tt
-    runs_rest replies.NotFound = tt
-    runs_rest (replies.Wrote id) = tt
+    runs_rest (replies.Refused (call_errors.Find error)) = open_still
+    runs_rest (replies.Refused (call_errors.Write error)) = open_still
+    runs_rest (replies.Opened slots) = open_still
+    runs_rest (replies.Found kind bytes) = open_still
+    runs_rest (replies.Header header) = open_still
+    runs_rest (replies.Tested there) = open_still
+    runs_rest replies.NotFound = open_still
+    runs_rest (replies.Wrote id) = open_still
 
     pub runs_next : (result : Result Reply Work) → result_in after ≡ result → WorkNow result → Runs first whole number (status_next result)
     runs_next (Ok reply) is now = runs_rest reply
     runs_next (Err left) is now =
         let count : length whole ≡ length events + 1 = length-append events (event ∷ []) in
-        (omega (arith, count, runs.0), subst (Knows first whole number store ignoring begun (turns + 1)) (left_of after left is) now.0)
+        (omega (arith, count, runs.0), subst (Knows first whole number store ignoring begun (turns + 1)) (left_of after left is) now.0, open_still)

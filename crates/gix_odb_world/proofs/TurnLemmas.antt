@@ -7,6 +7,7 @@ use Rattle.odb_disk.specs.Tree.{IsTree, tree_of}
 use Rattle.odb_disk.specs.Tree.Write.{written}
 use Rattle.odb_disk.specs.declared.change.Change.{Change}
 use Rattle.odb_disk.specs.declared.ask.DiskAnswer.{DiskAnswer}
+use Rattle.odb_disk.specs.declared.ask.DiskAsk.{DiskAsk}
 use Rattle.gix_odb_world.specs.declared.step.Step.TheVariants as steps
 use Rattle.gix_odb_world.specs.declared.step.Outcome.{Outcome}
 use Rattle.gix_odb_world.specs.declared.call.Reply.{Reply}
@@ -22,10 +23,10 @@ use Rattle.gix_odb_world.specs.Running.{Runs}
 use Rattle.gix_odb_world.specs.Headline.{outcome_of}
 use Rattle.gix_odb_world.specs.WorkOrder.{ask_in, fed, result_in}
 use Rattle.gix_odb_world.specs.World.{Explains, Continues, GoesOn, Matches, handle_at}
-use Rattle.gix_odb_world.specs.Table.{SetsHandle, Notes, after_turn, change_now, did_now, did_of, disk_now, work_now}
+use Rattle.gix_odb_world.specs.Table.{SetsHandle, Notes, after_turn, change_now, did_now, disk_now, work_now}
 use Rattle.gix_odb_world.proofs.RunningLemmas.{runs_set}
 use Rattle.gix_odb_world.proofs.StepLemmas.{goes_on, table_noted}
-use Rattle.gix_odb_world.specs.Run.{change_by}
+use Rattle.gix_odb_world.specs.Run.{change_by, did_of}
 use Rattle.gix_odb_world.proofs.FailedLemmas.{has_failed-now}
 use Rattle.gix_odb_world.proofs.WorkLemmas.{Acts}
 use Rattle.gix_odb_world.proofs.WriteAsk.{after_ask-change}
@@ -33,18 +34,18 @@ use Rattle.gix_odb_world.proofs.WorldLemmas.{matches_set}
 use Rattle.gix_odb_world.proofs.TurnLaw.{act, come, event, law, matches_next, runs_next}
 
 -- a status after a turn that left its work so
-abbrev next_from : DiskAnswer → Status → Result Reply Work → Status
-next_from answer status (Ok reply) = replied reply status
-next_from answer status (Err left) = turned (Some answer) status
+abbrev next_from : DiskAsk × DiskAnswer → Status → Result Reply Work → Status
+next_from asked status (Ok reply) = replied reply status
+next_from asked status (Err left) = turned (Some asked) status
 
-status_after-turn : (n number : ℕ) (answer : DiskAnswer) (result : Result Reply Work) (table : ℕ → Status)
-    → statuses.status_after n (steps.Turn number) (outcome_of result) (Some answer) table ≡ statuses.with_status table number (next_from answer (table number) result)
-status_after-turn n number answer (Ok reply) table = refl
-status_after-turn n number answer (Err left) table = refl
+status_after-turn : (n number : ℕ) (asked : DiskAsk × DiskAnswer) (result : Result Reply Work) (table : ℕ → Status)
+    → statuses.status_after n (steps.Turn number) (outcome_of result) (Some asked) table ≡ statuses.with_status table number (next_from asked (table number) result)
+status_after-turn n number asked (Ok reply) table = refl
+status_after-turn n number asked (Err left) table = refl
 
-next_is : (answer : DiskAnswer) (store : Store) (ignoring : Bool) (begun turns : ℕ) (work : Work) (status : Status) (result : Result Reply Work) → status ≡ Working store ignoring begun turns work
-    → next_from answer status result ≡ next_from answer (Working store ignoring begun turns work) result
-next_is answer store ignoring begun turns work status result is = ap (λ s. next_from answer s result) is
+next_is : (asked : DiskAsk × DiskAnswer) (store : Store) (ignoring : Bool) (begun turns : ℕ) (work : Work) (status : Status) (result : Result Reply Work) → status ≡ Working store ignoring begun turns work
+    → next_from asked status result ≡ next_from asked (Working store ignoring begun turns work) result
+next_is asked store ignoring begun turns work status result is = ap (λ s. next_from asked s result) is
 
 -- a handle that is taken out and put back
 set_twice : (b : Bool) (handle before : Option Handle) → (if b then handle else (if b then None else before)) ≡ (if b then handle else before)
@@ -92,15 +93,16 @@ module _ (old took mid new : World) (disk : Volume) (number : ℕ) (state : Hand
       let counted : mid.disk.calls.faults ≡ (after_call old.disk).calls.faults = ap (λ (d : Volume). d.calls.faults) (took_it.sets.disk ∙ disk_is) in
       let e : Event = event first events old number store ignoring begun turns work explains status tree mid.disk.calls.faults counted in
       let table : ℕ → Status = status_of events in
-      let next : Status = next_from answer (table number) result in
-      let next_same : next ≡ next_from answer (Working store ignoring begun turns work) result = next_is answer store ignoring begun turns work (table number) result status in
+      let told : DiskAsk × DiskAnswer = (does.ask, answer) in
+      let next : Status = next_from told (table number) result in
+      let next_same : next ≡ next_from told (Working store ignoring begun turns work) result = next_is told store ignoring begun turns work (table number) result status in
       let put : (other : ℕ) → handle_at new other ≡ (if other == number then handle else handle_at old other) =
       λ other.
       table_noted (record took { disk = disk }) mid new number handle outcome did change took_it.sets took_it.notes other
       ∙ (ap (λ before. if other == number then handle else before) (took_it.takes.table other) ∙ set_twice (other == number) handle (handle_at old other)) in
       let here : Matches next handle =
       subst (λ s. Matches s handle) (sym next_same)
-      (subst (Matches (next_from answer (Working store ignoring begun turns work) result)) (sym handle_is)
+      (subst (Matches (next_from told (Working store ignoring begun turns work) result)) (sym handle_is)
       (matches_next first events old number store ignoring begun turns work explains status tree mid.disk.calls.faults counted state own result refl)) in
       let on : Runs first (events ++ e ∷ []) number next =
       subst (Runs first (events ++ e ∷ []) number) (sym next_same)
@@ -115,8 +117,8 @@ module _ (old took mid new : World) (disk : Volume) (number : ℕ) (state : Hand
             ∙ (ap (λ d. old.records ++ record { did = d; change = change; faults = mid.disk.calls.faults } ∷ []) did_is
             ∙ ap (λ c. old.records ++ record { did = did_of does.ask answer; change = c; faults = mid.disk.calls.faults } ∷ []) change_is)))
             (took_it.notes.disk ∙ (took_it.sets.disk ∙ disk_is))
-            (λ other. rw (status_after-turn (length events + 1) number answer result table) (matches_set old new table number next handle explains.handles put here other))
-            (λ other. rw (status_after-turn (length events + 1) number answer result table) (runs_set first events e table number next explains.running (λ o apart turns_it. apart (cc turns_it)) on other)),
+            (λ other. rw (status_after-turn (length events + 1) number told result table) (matches_set old new table number next handle explains.handles put here other))
+            (λ other. rw (status_after-turn (length events + 1) number told result table) (runs_set first events e table number next explains.running (λ o apart turns_it. apart (cc turns_it)) on other)),
       )
 
   by_status : (status : Status) → status_of events number ≡ status → Matches status (Some (record { state = state; work = Some work })) → (o : Outcome) × GoesOn first events (steps.Turn number) o new

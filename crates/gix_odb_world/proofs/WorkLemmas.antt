@@ -31,7 +31,7 @@ use Rattle.gix_odb_world.specs.Causes.{Sometime, ShowsDirectory}
 use Rattle.gix_odb_world.specs.Contents.{folder_list, sought}
 use Rattle.gix_odb_world.specs.Event.{Store, fed_in}
 use Rattle.gix_odb_world.specs.OpenOrder.{most_slots, opened, opening_refused, opening_reply}
-use Rattle.gix_odb_world.specs.Promise.{Keeps, LookPromise, OpeningPromise, claim_of}
+use Rattle.gix_odb_world.specs.Promise.{Keeps, OpeningPromise, QueryPromise, claim_of}
 use Rattle.gix_odb_world.specs.Running.{Noted, Seeks, Seen}
 use Rattle.gix_odb_world.specs.WorkOrder.{ask_in, calling_result, result_in}
 use Rattle.gix_odb_world.proofs.CallLemmas.{Carried, Comes, turn_comes}
@@ -106,12 +106,24 @@ module _ (trees : ℕ → Tree) (Failed : Type 0) (store : Store) (begun now : �
 
 -- ---- the whole turn
 
+-- what a reply to such work promises
+abbrev pub LookPromise : (ℕ → Tree) → Type 0 → Store → (ignoring : Bool) → ℕ → ℕ → Work → Reply → Type 0
+LookPromise trees Failed store ignoring begun now (Opening state) reply = OpeningPromise trees Failed store begun now reply
+LookPromise trees Failed store ignoring begun now (Calling (Looking state)) reply = QueryPromise trees Failed store ignoring begun now state.head.query reply
+LookPromise trees Failed store ignoring begun now (Calling (Writing folder)) reply = ⊥
+LookPromise trees Failed store ignoring begun now (Calling (Written own)) reply = ⊥
+
+-- work that goes on keeps its query
+abbrev pub SameQuery : Work → Work → Type 0
+SameQuery (Calling (Looking state)) (Calling (Looking after)) = after.head ≡ state.head
+SameQuery work after = ⊥
+
 module _ (trees wider : ℕ → Tree) (Failed Fails : Type 0) (store : Store) (ignoring : Bool) (begun now : ℕ) (from : begun ≤ now) (same : (moment : ℕ) → moment ≤ now → wider moment ≡ trees moment)
     (fails : Failed → Fails) (disk : Volume) (shown : wider (now + 1) ≡ tree_of disk.state) (broke : next_fails disk ≡ true → Fails) (sound : next_fails disk ≡ false → Fails → Failed) where
   -- what a turn comes to
   abbrev pub WorkComes : ℕ → Work → Result Reply Work → Type 0
   WorkComes turns work (Ok reply) = LookPromise wider Fails store ignoring begun (now + 1) work reply
-  WorkComes turns work (Err after) = Seen wider Fails store ignoring begun (now + 1) (turns + 1) after × (turns + 1 < length (folder_list store.parts))
+  WorkComes turns work (Err after) = Seen wider Fails store ignoring begun (now + 1) (turns + 1) after × (turns + 1 < length (folder_list store.parts)) × SameQuery work after
 
   carried_wider : (turns : ℕ) (head : Head) (asked : Path) (noted : Option loose.Error) → Noted trees Failed store begun now head.query head.id asked (drop turns store.parts.folders) noted
       → Carried wider Fails store begun (now + 1) turns (omega (arith, from)) head disk shown asked noted
@@ -129,6 +141,7 @@ module _ (trees wider : ℕ → Tree) (Failed Fails : Type 0) (store : Store) (i
       subst (λ (h : Head). Seeks wider Fails store begun (now + 1) (turns + 1) h.query h.id after.stage) (sym comes.0) comes.1,
     ),
     comes.2,
+    comes.0,
   )
 
   calling_comes : (turns : ℕ) (head : Head) (stage : Stage) (ask : DiskAsk) → head.id ≡ sought store.parts ignoring head.query → Seeks trees Failed store begun now turns head.query head.id stage → ask_at stage ≡ Some ask

@@ -1,10 +1,11 @@
 -- The change that a turn of a running write makes is one of its five.
-use Rattle.std.proofs.Common.{◌≡◌, ℕ, ◌<◌, ◌≤◌, ◌^◌, List, length, drop, Option, Some, None, refl, sym, subst, arith, inl, inr}
+use Rattle.std.proofs.Common.{◌≡◌, ◌⊎◌, ℕ, ◌<◌, ◌≤◌, ◌^◌, List, length, drop, Option, Some, None, refl, sym, subst, arith, inl, inr}
 use Rattle.std.proofs.lemmas.List.{length-take}
 use Rattle.odb_base.specs.Path.{Path}
 use Rattle.odb_disk.specs.MemDisk.{Volume}
 use Rattle.odb_disk.specs.Tree.{Tree, tree_of}
 use Rattle.odb_disk.specs.Tree.Write.{change_of_append, change_of_make_dir, change_of_new_file, change_of_remove, change_of_rename}
+use Rattle.odb_disk.specs.declared.ask.DiskAnswer.TheVariants as answers
 use Rattle.odb_disk.specs.declared.ask.DiskAsk.TheVariants as asks
 use Rattle.odb_disk.specs.declared.change.Change.{Change}
 use Rattle.odb_disk.proofs.TreeLemmas.Write.{movable_at, removable_at, replaceable_at, vacant_at}
@@ -12,7 +13,7 @@ use Rattle.odb_disk.proofs.WayWriteLaws.{append_change, make_dir_change, new_fil
 use Rattle.gix_hash.specs.declared.object_id.ObjectId.{ObjectId}
 use Rattle.gix_object.specs.Loose.{header_of}
 use Rattle.gix_object.specs.Loose.Laws.{length-header_of-fits}
-use Rattle.gix_odb_loose.specs.Exchanges.{Exchange}
+use Rattle.gix_odb_loose.specs.Exchanges.{Exchange, exchanged}
 use Rattle.gix_odb_loose.specs.LooseFile.{loose_path}
 use Rattle.gix_odb_loose.specs.WriteHistory.{GoesWell, IsHistory, IsStopped}
 use Rattle.gix_odb_loose.specs.WriteJobs.{piece_of}
@@ -25,18 +26,26 @@ use Rattle.gix_odb_loose.specs.declared.write_call.Refusal.TheVariants as refusa
 use Rattle.gix_odb_loose.specs.declared.write_call.WriteHead.{WriteHead}
 use Rattle.gix_odb_loose.specs.declared.write_call.WriteStage.{WriteStage}
 use Rattle.gix_odb_loose.specs.declared.write_call.WriteStage.TheVariants as stages
-use Rattle.gix_odb_world.specs.declared.call_state.CallState.TheVariants.{Writing}
-use Rattle.gix_odb_world.specs.declared.work.Work.TheVariants.{Calling}
-use Rattle.gix_odb_world.specs.Event.{Event}
-use Rattle.gix_odb_world.specs.Headline.{ChangesInWork, IsOneOfFive}
-use Rattle.gix_odb_world.specs.Run.{change_by}
-use Rattle.gix_odb_world.specs.Running.{IsWriting, StandsAt, write_at}
-use Rattle.gix_odb_world.specs.Writing.{ToWrite, head_to_write, name_to_write, number_at}
+use Rattle.gix_odb_loose.proofs.WriteMadeLaws.{history_makes}
+use Rattle.gix_odb_world.specs.Event.{Event, Store}
+use Rattle.gix_odb_world.specs.Headline.{ChangesInTask, ChangesInWrite, IsOneOfFive}
+use Rattle.gix_odb_world.specs.Run.{MakeCall, change_by, disk_after}
+use Rattle.gix_odb_world.specs.Running.{IsWriting, StandsAt}
+use Rattle.gix_odb_world.specs.Writing.{DoneSince, ToWrite, call_to_write, head_to_write, name_to_write, to_write}
 use Rattle.gix_odb_world.proofs.WriteAsk.{change_by-all, told_append, told_make_dir, told_new_file, told_remove, told_rename}
 use Rattle.gix_odb_world.proofs.WriteGoes.{ask_at_stage}
 use Rattle.gix_odb_world.proofs.WriteTimeLemmas.{room_small}
 
 -- ---- its number
+
+-- the number of the temporary file that a stage tries to make, or has made
+abbrev number_at : WriteStage → ℕ
+number_at (stages.Making number) = number
+number_at (stages.Heading number) = number
+number_at (stages.Filling number written) = number
+number_at (stages.Foldering number id) = number
+number_at (stages.Moving number id) = number
+number_at (stages.Removing number refusal) = number
 
 module _ (head : WriteHead) (Named : ObjectId → Type 0) (Counted : ℕ → Type 0) where
   well_below : (stage : WriteStage) (appended : List ℕ) (past : List Exchange) → GoesWell head Named appended stage past → number_at stage < 16
@@ -64,7 +73,7 @@ module _ (head : WriteHead) (Named : ObjectId → Type 0) (Counted : ℕ → Typ
   stopped_below number (refusals.SizeMismatch actual) past h = h.1.1.below
   stopped_below number refusals.NoMemory past h = made_at h.0 number h.1 (well_below h.0 h.2.appended h.2.before h.2.well)
 
-  below : (stage : WriteStage) (appended : List ℕ) (past : List Exchange) → IsHistory head Named ⊥ Counted appended stage past → number_at stage < 16
+  pub below : (stage : WriteStage) (appended : List ℕ) (past : List Exchange) → IsHistory head Named ⊥ Counted appended stage past → number_at stage < 16
   below (stages.Making number) appended past h = well_below (stages.Making number) appended past h
   below (stages.Heading number) appended past h = well_below (stages.Heading number) appended past h
   below (stages.Filling number written) appended past h = well_below (stages.Filling number written) appended past h
@@ -134,20 +143,44 @@ module _ (first : Volume) (events : List Event) (handle begun turns : ℕ) (disk
       subst (λ (own : ObjectId). Five disk w.objects number own (change_by disk (asks.Rename (temp_path w.objects number) (loose_path w.objects id)))) s.history.1 (five_moved disk w.objects number id)
   five_at w (stages.Removing number refusal) fits s = five_removed disk w.objects number (name_to_write w)
 
-  module _ (objects : Path) (folder : LooseCall) (writes : IsWriting first events handle begun turns objects folder) where
-    abbrev pub w : ToWrite
-    w = writes.write
+-- the file whose number a stage has is the one that it asks to make, or was made before
+module _ (first : Volume) (events : List Event) (handle begun turns : ℕ) (w : ToWrite) where
+  abbrev IsOwn : WriteStage → Type 0
+  IsOwn stage = (ask_at_stage w stage ≡ asks.NewFile (temp_path w.objects (number_at stage))) ⊎ DoneSince first events handle begun (asks.NewFile (temp_path w.objects (number_at stage)))
 
-    abbrev pub stage : WriteStage
-    stage = writes.stage
+  pub made_before : (stage : WriteStage) (number : ℕ) → number_made stage ≡ Some number → StandsAt first events handle begun turns w stage → DoneSince first events handle begun (asks.NewFile (temp_path w.objects number))
+  made_before stage number made s =
+      s.asked (exchanged (asks.NewFile (temp_path w.objects number)) answers.Done) (history_makes (head_to_write w) (λ id. id ≡ name_to_write w) number ⊥ (OtherLength (Some w.bytes) w.size) stage s.appended s.past made s.history)
 
-    by_change : (change : Option Change) → FiveAt w stage change → ChangesInWork (tree_of disk.state) w.objects (Calling (Writing (write_at w stage))) change
-    by_change None five = tt
-    by_change (Some change) five = (below (head_to_write w) (λ id. id ≡ name_to_write w) (λ n. OtherLength (Some w.bytes) w.size n) stage writes.stands.appended writes.stands.past writes.stands.history, five)
+  is_own : (stage : WriteStage) → StandsAt first events handle begun turns w stage → IsOwn stage
+  is_own (stages.Making number) s = inl refl
+  is_own (stages.Heading number) s = inr (made_before (stages.Heading number) number refl s)
+  is_own (stages.Filling number written) s = inr (made_before (stages.Filling number written) number refl s)
+  is_own (stages.Foldering number id) s = inr (made_before (stages.Foldering number id) number refl s)
+  is_own (stages.Moving number id) s = inr (made_before (stages.Moving number id) number refl s)
+  is_own (stages.Removing number refusal) s = inr (made_before (stages.Removing number refusal) number refl s)
 
-    -- so does a running write
-    pub five_written : ChangesInWork (tree_of disk.state) objects (Calling (Writing folder)) (change_by disk (ask_at_stage w stage))
-    five_written =
-        subst (λ (call : LooseCall). ChangesInWork (tree_of disk.state) objects (Calling (Writing call)) (change_by disk (ask_at_stage w stage))) (sym writes.is)
-        (subst (λ (o : Path). ChangesInWork (tree_of disk.state) o (Calling (Writing (write_at w stage))) (change_by disk (ask_at_stage w stage))) writes.into
-        (by_change (change_by disk (ask_at_stage w stage)) (five_at w stage writes.fits writes.stands)))
+module _ (first : Volume) (events : List Event) (handle begun turns : ℕ) (store : Store) (folder : LooseCall) (writes : IsWriting first events handle begun turns store.parts.objects folder) where
+  abbrev w : ToWrite
+  w = writes.write
+
+  abbrev stage : WriteStage
+  stage = writes.stage
+
+  abbrev now : Volume
+  now = disk_after first events
+
+  by_change : (change : Option Change) → FiveAt first events handle begun turns now w stage change → ChangesInTask first events handle store begun (MakeCall (call_to_write w)) (ask_at_stage w stage) change
+  by_change None five = tt
+  by_change (Some change) five =
+      subst (λ objects. ChangesInWrite first events handle begun (to_write objects w.kind w.size w.bytes w.known) (ask_at_stage w stage) change) writes.into
+      (record {
+        number = number_at stage;
+        below = below (head_to_write w) (λ id. id ≡ name_to_write w) (λ n. OtherLength (Some w.bytes) w.size n) stage writes.stands.appended writes.stands.past writes.stands.history;
+        own = is_own first events handle begun turns w stage writes.stands;
+        one = five;
+      })
+
+  -- so does a running write
+  pub five_written : ChangesInTask first events handle store begun (MakeCall (call_to_write w)) (ask_at_stage w stage) (change_by now (ask_at_stage w stage))
+  five_written = by_change (change_by now (ask_at_stage w stage)) (five_at first events handle begun turns now w stage writes.fits writes.stands)

@@ -26,8 +26,8 @@ use Rattle.gix_odb_world.specs.declared.call.Call.{Call}
 use Rattle.gix_odb_world.specs.declared.call.Call.TheVariants.{Write}
 use Rattle.gix_odb_world.specs.declared.step.Step.TheVariants as steps
 use Rattle.gix_odb_world.specs.declared.record.Did.TheVariants.{Disk}
-use Rattle.gix_odb_world.specs.Event.{Event}
-use Rattle.gix_odb_world.specs.Run.{BegunBy, IsTurnOf, disk_after, tree_at}
+use Rattle.gix_odb_world.specs.Event.{Event, Store}
+use Rattle.gix_odb_world.specs.Run.{BegunBy, IsOpenStore, IsTurnOf, OpenedBy, disk_after, tree_at}
 use Rattle.gix_odb_world.specs.Running.{HoldsFile, Holds, IsUntouched, IsWriting, content_at}
 use Rattle.gix_odb_world.specs.Writing.{AskedAt, AskedSince, EachTurn, LeftAlone}
 use Rattle.gix_odb_world.proofs.RunLemmas.{slice_get-push, slice_get-last, slice_get-kept, tree_at-before}
@@ -36,6 +36,25 @@ use Rattle.gix_odb_world.proofs.RunLemmas.{slice_get-push, slice_get-last, slice
 
 pub begun_kept : (events : List Event) (e : Event) (handle begun : ℕ) (call : Call) → BegunBy events handle begun call → BegunBy (events ++ e ∷ []) handle begun call
 begun_kept events e handle begun call b = record { place = b.place; number = b.number; event = b.event; there = slice_get-kept events e b.place b.event b.there; starts = b.starts }
+
+pub opened_kept : (events : List Event) (e : Event) (handle begun : ℕ) (store : Store) → OpenedBy events handle begun store → OpenedBy (events ++ e ∷ []) handle begun store
+opened_kept events e handle begun store o =
+    record {
+      place = o.place;
+      number = o.number;
+      event = o.event;
+      there = slice_get-kept events e o.place o.event o.there;
+      path = o.path;
+      folders = o.folders;
+      replacements = o.replacements;
+      options = o.options;
+      opens = o.opens;
+      slots = o.slots;
+      parts = o.parts;
+    }
+
+pub open_store_kept : (events : List Event) (e : Event) (store : Store) → IsOpenStore events store → IsOpenStore (events ++ e ∷ []) store
+open_store_kept events e store is = record { opener = is.opener; opened = opened_kept events e is.opener store.opened store is.opened }
 
 module _ (first : Volume) (events : List Event) (e : Event) where
   abbrev whole : List Event
@@ -53,7 +72,7 @@ module _ (first : Volume) (events : List Event) (e : Event) where
         there = slice_get-kept events e place a.event a.there;
         turn = a.turn;
         did = a.did ∙ ap (λ es. Disk (op_of ask) (path_asked ask) (next_fails (disk_after first es))) (sym same);
-        told = a.told;
+        asked = a.asked;
         given = a.given ∙ ap (λ es. answer_now (disk_after first es) ask) (sym same);
       }
 
@@ -62,15 +81,15 @@ module _ (first : Volume) (events : List Event) (e : Event) where
 
   -- the last event's own call
   pub asked_now : (handle : ℕ) (ask : DiskAsk) (answer : DiskAnswer) → IsTurnOf handle e.step → e.entry.did ≡ Disk (op_of ask) (path_asked ask) (next_fails (disk_after first events))
-      → e.told ≡ Some answer → answer ≡ answer_now (disk_after first events) ask → AskedAt first whole handle (length events) ask answer
-  asked_now handle ask answer turn did told given =
+      → e.turn ≡ Some (ask, answer) → answer ≡ answer_now (disk_after first events) ask → AskedAt first whole handle (length events) ask answer
+  asked_now handle ask answer turn did asked given =
       let same : take (length events) whole ≡ events = take-append_seam events (e ∷ []) in
       record {
         event = e;
         there = slice_get-last events e;
         turn = turn;
         did = did ∙ ap (λ es. Disk (op_of ask) (path_asked ask) (next_fails (disk_after first es))) (sym same);
-        told = told;
+        asked = asked;
         given = given ∙ ap (λ es. answer_now (disk_after first es) ask) (sym same);
       }
 
@@ -159,6 +178,7 @@ writing_begun first events e handle objects kind size bytes known fits starts =
         untouched = each_turn_none (events ++ e ∷ []) handle (length events + 1) _ short;
         holds = tt;
         time = omega arith;
+        had = refl;
       };
     }
 
@@ -185,5 +205,6 @@ writing_push first events e handle begun turns objects folder other writes =
         untouched = untouched_push events e handle begun (number_made writes.stage) other writes.stands.untouched;
         holds = holds_push first events e handle begun writes.write.objects (number_made writes.stage) (content_at writes.write writes.stands.appended writes.stage) other writes.stands.holds;
         time = writes.stands.time;
+        had = writes.stands.had;
       };
     }

@@ -77,7 +77,7 @@ piece_full len written size piece is more fits = by_test (nat_lt written size) r
 
 -- one byte too many, and that is seen
 pub one_too_many : (len written size piece : ℕ) → piece ≡ min (room_behind size written) (len - written) → written ≤ size → written ≤ len → size < written + piece
-    → (size < len) × (min (written + piece) (2 ^ 64 - 1) ≡ min (size + 1) (2 ^ 64 - 1))
+    → (written + piece ≡ size + 1) × (size < len) × (min (written + piece) (2 ^ 64 - 1) ≡ min (size + 1) (2 ^ 64 - 1))
 one_too_many len written size piece is few within more =
     let room : room_behind size written ≤ size - written + 1 = room_few size written few in
-    (omega arith, omega arith)
+    (omega arith, omega arith, omega arith)

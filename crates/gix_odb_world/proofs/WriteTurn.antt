@@ -33,6 +33,7 @@ use Rattle.gix_odb_loose.specs.WriteHistory.{DoneIn, HasCauseIn, IsHistoryOnward
 use Rattle.gix_odb_loose.proofs.WriteCauseLaws.{refused_cause}
 use Rattle.gix_odb_loose.proofs.WriteHistoryLaws.{IsHistory-next, IsNextPiece}
 use Rattle.gix_odb_loose.specs.WriteJobs.{piece_of, pieces_of}
+use Rattle.gix_odb_loose.specs.WritePieces.{IsInPieces}
 use Rattle.gix_odb_loose.specs.WriteOrder.{error_from, grown, next_write, number_made, prefix_path, refused_by, room_behind, temp_path, write_ask, written_in}
 use Rattle.gix_odb_loose.specs.WriteStreams.{OtherLength}
 use Rattle.gix_odb_loose.specs.declared.write.Error.TheVariants as loose_errors
@@ -47,7 +48,7 @@ use Rattle.gix_odb_loose.specs.declared.write_call.WriteStage.TheVariants as sta
 use Rattle.gix_odb_world.specs.declared.record.Did.TheVariants.{Disk}
 use Rattle.gix_odb_world.specs.Event.{Event}
 use Rattle.gix_odb_world.specs.Run.{IsTurnOf, change_by, disk_after, disk_after_did, tree_at}
-use Rattle.gix_odb_world.specs.Running.{Holds, HoldsFile, IsFront, IsUntouched, IsWaiting, StandsAt, content_at, turns_left}
+use Rattle.gix_odb_world.specs.Running.{HadTurns, Holds, HoldsFile, IsFront, IsUntouched, IsWaiting, StandsAt, content_at, turns_left}
 use Rattle.gix_odb_world.specs.Writing.{AskedAt, AskedSince, CauseOfWrite, ChangedNothing, DoneSince, IsNewFile, IsRename, MadeOnly, RefusedSince, RenamedNothing, TakenSince, ToWrite, head_to_write, name_to_write}
 use Rattle.gix_odb_world.specs.Written.{HasWritten, WasRefused}
 use Rattle.gix_odb_world.proofs.RunLemmas.{tree_at-before, tree_at-now}
@@ -67,11 +68,15 @@ made_before_removal head Named Counted number (refusals.Persist id) past at stop
 made_before_removal head Named Counted number (refusals.SizeMismatch actual) past at stopped same P = absurd (cc same)
 made_before_removal head Named Counted number refusals.NoMemory past at stopped same P = absurd (cc same)
 
+-- one piece more has one turn more
+piece_had : {turns written : ℕ} (number piece : ℕ) → IsInPieces written → 1 ≤ piece → piece ≤ 65536 → turns ≡ number + 2 + pieces_of written → turns + 1 ≡ number + 2 + pieces_of (written + piece)
+piece_had number piece pieces some few had = omega (arith, pieces.1, some, few, had)
+
 -- the last event is a turn of the handle that made this call of the disk
 pub record IsTurnWith (first : Volume) (events : List Event) (e : Event) (handle : ℕ) (ask : DiskAsk) : Type 0 where
   pub turn : IsTurnOf handle e.step
   pub did : e.entry.did ≡ Disk (op_of ask) (path_asked ask) (next_fails (disk_after first events))
-  pub told : e.told ≡ Some (answer_now (disk_after first events) ask)
+  pub asked : e.turn ≡ Some (ask, answer_now (disk_after first events) ask)
   pub change : e.entry.change ≡ change_by (disk_after first events) ask
   pub tree : IsTree (tree_of (disk_after first events).state)
 
@@ -118,7 +123,7 @@ module _ (first : Volume) (events : List Event) (e : Event) (handle begun turns 
     now_same none = now_is ∙ (ap (λ c. tree_of (written disk.state c)) none ∙ before_is)
 
     own : AskedAt first whole handle (length events) ask answer
-    own = asked_now first events e handle ask answer is.turn is.did (is.told ∙ ap Some (sym given)) given
+    own = asked_now first events e handle ask answer is.turn is.did (is.asked ∙ ap (λ a. Some (ask, a)) (sym given)) given
 
     asked_since : AskedSince first whole handle begun ask answer
     asked_since = record { place = length events; later = since; at = own }
@@ -160,7 +165,7 @@ module _ (first : Volume) (events : List Event) (e : Event) (handle begun turns 
       Parts appended (Stage stage) =
           IsFront w appended stage × (¬ (IsRename e.entry.change)) × MadeOnly whole handle begun w.objects (number_made stage)
           × Holds first whole handle begun w.objects (number_made stage) (content_at w appended stage) × (turns + 1 + turns_left w stage ≤ 21 + pieces_of (length w.bytes))
-          × IsUntouched whole handle begun (number_made stage)
+          × IsUntouched whole handle begun (number_made stage) × HadTurns w (turns + 1) stage
       Parts appended (End (Ok id)) = HasWritten first whole handle begun w id
       Parts appended (End (Err refusal)) =
           (¬ (IsRename e.entry.change)) × IsUntouchedAt refusal × ((made : Option ℕ) × MadeOnly whole handle begun w.objects made
@@ -179,6 +184,7 @@ module _ (first : Volume) (events : List Event) (e : Event) (handle begun turns 
             holds = parts.3;
             time = parts.4;
             untouched = parts.5;
+            had = parts.6;
           }
       goes unnamed appended (End (Ok id)) history parts = parts
       goes unnamed appended (End (Err refusal)) history parts =
@@ -251,7 +257,7 @@ module _ (first : Volume) (events : List Event) (e : Event) (handle begun turns 
   cleared : (ask : DiskAsk) (is : IsTurnWith first events e handle ask) (answer : DiskAnswer) (given : answer ≡ answer_now disk ask) (past : List Exchange) (asked : (x : Exchange) → Contains past x → AskedSince first events handle begun x.ask x.answer)
       → (appended : List ℕ) (number : ℕ) (refusal : Refusal) → ¬ (IsRename e.entry.change) → ¬ (IsNewFile e.entry.change) → MadeOnly events handle begun w.objects (Some number) → turns + 2 ≤ 21 + pieces_of (length w.bytes)
       → Parts ask is answer given past asked appended (Stage (stages.Removing number refusal))
-  cleared ask is answer given past asked appended number refusal unmoved unmade made time = (tt, unmoved, made_same ask is answer given (Some number) unmade made, tt, omega (arith, time), tt)
+  cleared ask is answer given past asked appended number refusal unmoved unmade made time = (tt, unmoved, made_same ask is answer given (Some number) unmade made, tt, omega (arith, time), tt, tt)
 
   module _ (number : ℕ) where
     abbrev path : Path
@@ -275,7 +281,7 @@ module _ (first : Volume) (events : List Event) (e : Event) (handle begun turns 
       next_name given true few =
           let none = untaken (λ d. cc (d, given)) in
           let less : number + 1 < 16 = grind (arith, common_steps, few) in
-          (tt, no_rename (asks.NewFile path) is _ given none, made_same (asks.NewFile path) is _ given None (no_file (asks.NewFile path) is _ given none) s.made, tt, omega (arith, less, s.time), each_turn_push events e handle begun _ s.untouched (λ turn. is.change ∙ none))
+          (tt, no_rename (asks.NewFile path) is _ given none, made_same (asks.NewFile path) is _ given None (no_file (asks.NewFile path) is _ given none) s.made, tt, omega (arith, less, s.time), each_turn_push events e handle begun _ s.untouched (λ turn. is.change ∙ none), omega (arith, s.had))
       next_name given false few = unmade (answers.Refused disk_errors.Exists) given (refusals.Io messages.CreateTempFile) (λ d. cc d)
 
       making : (answer : DiskAnswer) (given : answer ≡ answer_now disk (asks.NewFile path)) → MakingParts answer given (next_write head.size 0 (stages.Making number) answer)
@@ -289,6 +295,7 @@ module _ (first : Volume) (events : List Event) (e : Event) (handle begun turns 
             new_holds (asks.NewFile path) is answers.Done given path refl refl m,
             omega (arith, s.time),
             tt,
+            omega (arith, s.had),
           )
       making (answers.Refused disk_errors.Exists) given = next_name given (nat_lt (number + 1) 16) refl
       making (answers.Meta meta) given = unmade (answers.Meta meta) given (refusals.Io messages.CreateTempFile) (λ d. cc d)
@@ -330,6 +337,7 @@ module _ (first : Volume) (events : List Event) (e : Event) (handle begun turns 
             subst (HoldsFile first whole handle begun path) whole_header (appended_holds ask is answers.Done given path [] (header_of w.kind w.size) m s.holds),
             subst (λ n. turns + 1 + (3 + pieces_of n) ≤ 21 + pieces_of (length w.bytes)) all (omega (arith, s.time)),
             tt,
+            omega (arith, s.had),
           )
       heading (answers.Meta meta) given = unappended (header_of w.kind w.size) is (answers.Meta meta) given s.past s.asked s.appended (refusals.Io messages.WriteHeader) (λ d. cc d) s.made (omega (arith, s.time))
       heading (answers.File bytes time) given = unappended (header_of w.kind w.size) is (answers.File bytes time) given s.past s.asked s.appended (refusals.Io messages.WriteHeader) (λ d. cc d) s.made (omega (arith, s.time))
@@ -385,14 +393,17 @@ module _ (first : Volume) (events : List Event) (e : Event) (handle begun turns 
               subst (HoldsFile first whole handle begun path) (append_assoc (header_of w.kind w.size) s.appended piece) (appended_holds ask is answers.Done given path (header_of w.kind w.size ++ s.appended) piece m s.holds),
               omega (arith, s.time, full),
               tt,
+              piece_had number (length piece) next_piece.0 next_piece.1 next_piece.2 s.had,
             )
         filled given false fits =
             let ask : DiskAsk = asks.Append path piece in
             let c = append_is piece is (append_made piece is given) in
             cleared ask is answers.Done given s.past s.asked (s.appended ++ piece) number (refusals.SizeMismatch (grown written (length piece))) (λ renames. subst IsRename c.1 renames) (λ makes. subst IsNewFile c.1 makes) s.made (omega (arith, s.time))
 
-        pub counts : w.size < written + length piece → Counted (grown written (length piece))
-        counts too_many = inr (one_too_many (length w.bytes) written w.size (length piece) piece_length s.front.1 (omega (arith, more)) too_many)
+        pub counts : w.size < written + length piece → (written + length piece ≡ w.size + 1) × Counted (grown written (length piece))
+        counts too_many =
+            let one = one_too_many (length w.bytes) written w.size (length piece) piece_length s.front.1 (omega (arith, more)) too_many in
+            (one.0, inr (one.1, one.2))
 
     module _ (id : ObjectId) where
       abbrev folder : Path
@@ -422,6 +433,7 @@ module _ (first : Volume) (events : List Event) (e : Event) (handle begun turns 
               foldered_holds (asks.MakeDir folder) is answers.Done given path folder (header_of w.kind w.size ++ s.appended) m s.holds,
               omega (arith, s.time),
               tt,
+              omega (arith, s.had),
             )
         foldering (answers.Refused disk_errors.Exists) given =
             let none = unfolded (λ d. cc (d, given)) in (
@@ -431,6 +443,7 @@ module _ (first : Volume) (events : List Event) (e : Event) (handle begun turns 
               same_holds (asks.MakeDir folder) is _ given path (header_of w.kind w.size ++ s.appended) none s.holds,
               omega (arith, s.time),
               tt,
+              omega (arith, s.had),
             )
         foldering (answers.Meta meta) given = unfoldered (answers.Meta meta) given refusals.IoRaw (λ d. cc d)
         foldering (answers.File bytes time) given = unfoldered (answers.File bytes time) given refusals.IoRaw (λ d. cc d)

@@ -4,14 +4,12 @@ use Rattle.std.specs.List.{list_all, list_any}
 use Rattle.odb_base.specs.Path.{Path, Name}
 use Rattle.odb_disk.specs.Tree.{Tree}
 use Rattle.odb_disk.specs.Tree.Follow.{listed}
-use Rattle.gix_odb_world.specs.declared.call_state.CallState.TheVariants.{Writing}
-use Rattle.gix_odb_world.specs.declared.work.Work.{Work}
-use Rattle.gix_odb_world.specs.declared.work.Work.TheVariants.{Opening, Calling}
+use Rattle.gix_odb_world.specs.declared.call.Call.{Call}
+use Rattle.gix_odb_world.specs.declared.call.Call.TheVariants.{Write}
 use Rattle.gix_odb_loose.specs.WriteJobs.{pieces_of}
 use Rattle.gix_odb_world.specs.Contents.{StoreData, folder_list}
-use Rattle.gix_odb_world.specs.Event.{Event, Store}
-use Rattle.gix_odb_world.specs.Run.{BegunBy}
-use Rattle.gix_odb_world.specs.Writing.{ToWrite, call_to_write}
+use Rattle.gix_odb_world.specs.Event.{Store}
+use Rattle.gix_odb_world.specs.Run.{Task, OpenStore, MakeCall}
 
 -- a write of n bytes has 40 turns more, and one for each begun 65,536 bytes
 abbrev pub turns_of_write : Option ℕ → ℕ
@@ -42,13 +40,12 @@ abbrev pub HasAtMost : (ℕ → Tree) → StoreData → ℕ → ℕ → ℕ → 
 HasAtMost trees store begun now entries =
     (moment : ℕ) → begun ≤ moment → moment ≤ now → (folder : Path) (names : List Name) → IsListed store folder → listed (trees moment) folder ≡ Ok names → length names ≤ entries
 
--- the bound of a piece of work, for a write with the number of its bytes; an opening is bounded with no slots and no changes
-abbrev pub bound_of_work : Store → Work → ℕ → Option ℕ → ℕ
-bound_of_work store (Opening state) entries write = turn_bound 0 (length (folder_list store.parts)) 0 entries None
-bound_of_work store (Calling state) entries write = turn_bound store.slots (length (folder_list store.parts)) default_changes entries write
+-- how many bytes a call is to write, if it is a write
+abbrev pub bytes_to_write : Call → Option ℕ
+bytes_to_write (Write kind size bytes known) = Some (length bytes)
+bytes_to_write call = None
 
--- how many bytes the work is to write that the step with the number `begun` began
-abbrev pub WritesSoMany : List Event → (handle begun : ℕ) → Work → Option ℕ → Type 0
-WritesSoMany events handle begun (Calling (Writing folder)) (Some bytes) = (w : ToWrite) × BegunBy events handle begun (call_to_write w) × (bytes ≡ length w.bytes)
-WritesSoMany events handle begun (Calling (Writing folder)) None = ⊥
-WritesSoMany events handle begun work write = write ≡ None
+-- the bound of a task; an opening is bounded with no slots and no changes
+abbrev pub bound_of_task : Store → Task → (entries : ℕ) → ℕ
+bound_of_task store OpenStore entries = turn_bound 0 (length (folder_list store.parts)) 0 entries None
+bound_of_task store (MakeCall call) entries = turn_bound store.slots (length (folder_list store.parts)) default_changes entries (bytes_to_write call)

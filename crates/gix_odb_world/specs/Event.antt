@@ -2,6 +2,7 @@
 use Rattle.std.specs.Prelude.{ℕ, ◌+◌, ◌==◌, Bool, true, false, List, [], ◌∷◌, Option, Some, if◌then◌else◌}
 use Rattle.odb_base.specs.Path.{Path}
 use Rattle.odb_disk.specs.declared.ask.DiskAnswer.{DiskAnswer}
+use Rattle.odb_disk.specs.declared.ask.DiskAsk.{DiskAsk}
 use Rattle.gix_hash.specs.declared.object_id.ObjectId.{ObjectId}
 use Rattle.gix_odb_world.specs.Contents.{StoreData, sought}
 use Rattle.gix_odb_world.specs.CallOrder as calls
@@ -22,12 +23,12 @@ use Rattle.gix_odb_world.specs.declared.record.Record.{Record}
 use Rattle.gix_odb_world.specs.declared.work.Work.{Work}
 use Rattle.gix_odb_world.specs.declared.work.Work.TheVariants.{Opening, Calling}
 
--- a step, what it came to, its record, and what the disk answered where the step made a call
+-- a step, what it came to, its record, and what a turn asked of the disk, with the answer
 pub record Event : Type 0 where
   pub step : Step
   pub outcome : Outcome
   pub entry : Record
-  pub told : Option DiskAnswer
+  pub turn : Option (DiskAsk × DiskAnswer)
 
 -- a store that was opened, or whose opening runs: the number of its open step, its slots, and its parts
 pub record Store : Type 0 where
@@ -74,10 +75,10 @@ started number call status = status
 abbrev pub fed_in : Store → Work → DiskAnswer → Work
 fed_in store work answer = fed store.slots store.parts.folders store.parts.limit work answer
 
--- a turn after which the call goes on, with what the disk answered
-abbrev pub turned : Option DiskAnswer → Status → Status
-turned (Some answer) (Working store ignoring begun turns work) = Working store ignoring begun (turns + 1) (fed_in store work answer)
-turned told status = status
+-- a turn after which the call goes on, with what it asked of the disk and the answer
+abbrev pub turned : Option (DiskAsk × DiskAnswer) → Status → Status
+turned (Some asked) (Working store ignoring begun turns work) = Working store ignoring begun (turns + 1) (fed_in store work asked.1)
+turned turn status = status
 
 -- a refused opening leaves the number free; a call that has its reply leaves its handle at rest
 abbrev pub after_reply : Store → (ignoring : Bool) → Reply → Status
@@ -93,20 +94,20 @@ abbrev pub with_status : (ℕ → Status) → ℕ → Status → ℕ → Status
 with_status table handle status other = if other == handle then status else table other
 
 -- what all handles do after the event that has a number
-abbrev pub status_after : ℕ → Step → Outcome → Option DiskAnswer → (ℕ → Status) → ℕ → Status
-status_after number (steps.Open handle path folders replacements options) outcomes.Applied told table =
+abbrev pub status_after : ℕ → Step → Outcome → Option (DiskAsk × DiskAnswer) → (ℕ → Status) → ℕ → Status
+status_after number (steps.Open handle path folders replacements options) outcomes.Applied turn table =
     with_status table handle (opening_at number (store_at number path folders replacements options))
-status_after number (steps.Close handle) outcomes.Applied told table = with_status table handle Free
-status_after number (steps.Ignore handle) outcomes.Applied told table = with_status table handle (ignoring_from (table handle))
-status_after number (steps.Start handle call) outcomes.Applied told table = with_status table handle (started number call (table handle))
-status_after number (steps.Turn handle) outcomes.Pending told table = with_status table handle (turned told (table handle))
-status_after number (steps.Turn handle) (outcomes.Reply reply) told table = with_status table handle (replied reply (table handle))
-status_after number step outcome told table = table
+status_after number (steps.Close handle) outcomes.Applied turn table = with_status table handle Free
+status_after number (steps.Ignore handle) outcomes.Applied turn table = with_status table handle (ignoring_from (table handle))
+status_after number (steps.Start handle call) outcomes.Applied turn table = with_status table handle (started number call (table handle))
+status_after number (steps.Turn handle) outcomes.Pending turn table = with_status table handle (turned turn (table handle))
+status_after number (steps.Turn handle) (outcomes.Reply reply) turn table = with_status table handle (replied reply (table handle))
+status_after number step outcome turn table = table
 
 -- what all handles do after events, of which the first has a number
 unfoldable pub statuses_from : ℕ → (ℕ → Status) → List Event → ℕ → Status
 statuses_from number table [] = table
-statuses_from number table (e ∷ events) = statuses_from (number + 1) (status_after number e.step e.outcome e.told table) events
+statuses_from number table (e ∷ events) = statuses_from (number + 1) (status_after number e.step e.outcome e.turn table) events
 
 -- what a handle does after all events of a run, which are numbered from 1
 abbrev pub status_of : List Event → ℕ → Status

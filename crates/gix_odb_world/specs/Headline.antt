@@ -2,10 +2,11 @@
 -- what is found was held by the store's files, a not-found means that no sound object lay still, a write names its
 -- object last and changes nothing else of the tree than five changes tell, each call ends within its bound, and each
 -- error has its cause.
-use Rattle.std.specs.Prelude.{◌≡◌, ℕ, ◌+◌, ◌<◌, ◌≤◌, Bool, List, [], ◌∷◌, ◌++◌, map, length, take, slice_get, Option, Some, None, Result, Ok, Err}
+use Rattle.std.specs.Prelude.{◌≡◌, ◌⊎◌, ℕ, ◌+◌, ◌<◌, ◌≤◌, Bool, List, [], ◌∷◌, ◌++◌, map, length, take, slice_get, Option, Some, None, Result, Ok, Err}
 use Rattle.odb_disk.specs.MemDisk.{Volume, next_fails}
 use Rattle.odb_disk.specs.Ask.{op_of, path_asked, answer_now}
 use Rattle.odb_disk.specs.declared.ask.DiskAsk.{DiskAsk}
+use Rattle.odb_disk.specs.declared.ask.DiskAsk.TheVariants as asks
 use Rattle.odb_base.specs.Path.{Path}
 use Rattle.odb_disk.specs.Tree.{Tree, tree_of}
 use Rattle.odb_disk.specs.Tree.Write.{spot, file_spot}
@@ -13,11 +14,8 @@ use Rattle.odb_disk.specs.declared.change.Change.{Change}
 use Rattle.odb_disk.specs.declared.change.Change.TheVariants.{PutFile, MakeDir, PutLink, Rename, Append, Remove, SetTime}
 use Rattle.gix_hash.specs.declared.object_id.ObjectId.{ObjectId}
 use Rattle.gix_odb_loose.specs.LooseFile.{loose_path}
-use Rattle.gix_odb_loose.specs.WriteNames.{name_for}
 use Rattle.gix_odb_loose.specs.WriteOrder.{temp_path, prefix_path}
-use Rattle.gix_odb_loose.specs.declared.call.Stage.{Stage}
-use Rattle.gix_odb_loose.specs.declared.call.Stage.TheVariants as loose_stages
-use Rattle.gix_odb_world.specs.declared.call_state.CallState.TheVariants.{Writing}
+use Rattle.gix_odb_world.specs.declared.call.Call.TheVariants.{Write}
 use Rattle.gix_odb_world.specs.declared.call.Reply.{Reply}
 use Rattle.gix_odb_world.specs.declared.step.Step.{Step}
 use Rattle.gix_odb_world.specs.declared.step.Step.TheVariants as steps
@@ -27,16 +25,16 @@ use Rattle.gix_odb_world.specs.declared.record.Did.{Did}
 use Rattle.gix_odb_world.specs.declared.record.Did.TheVariants.{Nothing, Disk}
 use Rattle.gix_odb_world.specs.declared.record.Run.{Run}
 use Rattle.gix_odb_world.specs.declared.work.Work.{Work}
-use Rattle.gix_odb_world.specs.declared.work.Work.TheVariants.{Calling}
 use Rattle.gix_odb_world.specs.Event.{Event, Store, Working, fed_in, status_of}
-use Rattle.gix_odb_world.specs.Run.{change_by, disk_after, tree_at}
+use Rattle.gix_odb_world.specs.Run.{BegunAs, IsOpenStore, MakeCall, Task, change_by, did_of_turn, disk_after, tree_at}
 use Rattle.gix_odb_world.specs.Undisturbed.{WritesStandAlone}
 use Rattle.gix_odb_world.specs.WholeNames.{NamesStayWhole}
 use Rattle.gix_odb_world.specs.WorkOrder.{ask_in, result_in}
 use Rattle.gix_odb_world.specs.Valid.{why_not_after, misuse_of}
-use Rattle.gix_odb_world.specs.Bound.{HasAtMost, WritesSoMany, bound_of_work}
+use Rattle.gix_odb_world.specs.Asks.{AsksInOrder}
+use Rattle.gix_odb_world.specs.Bound.{HasAtMost, bound_of_task}
 use Rattle.gix_odb_world.specs.Promise.{Promise}
-use Rattle.gix_odb_world.specs.Writing.{number_at}
+use Rattle.gix_odb_world.specs.Writing.{DoneSince, ToWrite, name_to_write, to_write}
 
 -- The outcomes that a step may have, and what its record did: a turn makes at most one call of the disk, and
 -- makes one where its call goes on; all other steps, and all misused ones, did nothing.
@@ -72,18 +70,20 @@ IsOneOfFive tree objects number id (Remove path) = spot tree (temp_path objects 
 IsOneOfFive tree objects number id (PutLink path target) = ⊥
 IsOneOfFive tree objects number id (SetTime path time) = ⊥
 
--- A write changes the tree by one of its five changes. Its temporary path has the number that its stage tries to make, or
--- that it made and keeps from then on; its object has the id that the write names.
-abbrev pub ChangesAtStage : Tree → Path → Stage → Change → Type 0
-ChangesAtStage tree objects (loose_stages.Writing job) change =
-    (number_at job.stage < 16) × IsOneOfFive tree objects (number_at job.stage) (name_for job.known job.hash job.head job.bytes) change
-ChangesAtStage tree objects stage change = ⊥
+-- A write changes the tree by one of its five changes. Its temporary path has the number that this turn asks to make, or that
+-- of the file that the write made before; its object has the id that the write names.
+pub record ChangesInWrite (first : Volume) (past : List Event) (handle begun : ℕ) (w : ToWrite) (ask : DiskAsk) (change : Change) : Type 0 where
+  pub number : ℕ
+  pub below : number < 16
+  pub own : (ask ≡ asks.NewFile (temp_path w.objects number)) ⊎ DoneSince first past handle begun (asks.NewFile (temp_path w.objects number))
+  pub one : IsOneOfFive (tree_of (disk_after first past).state) w.objects number (name_to_write w) change
 
 -- a turn changes the tree in a write alone
-abbrev pub ChangesInWork : Tree → Path → Work → Option Change → Type 0
-ChangesInWork tree objects work None = Unit {0}
-ChangesInWork tree objects (Calling (Writing folder)) (Some change) = ChangesAtStage tree objects folder.stage change
-ChangesInWork tree objects work (Some change) = ⊥
+abbrev pub ChangesInTask : Volume → List Event → (handle : ℕ) → Store → (begun : ℕ) → Task → DiskAsk → Option Change → Type 0
+ChangesInTask first past handle store begun task ask None = Unit {0}
+ChangesInTask first past handle store begun (MakeCall (Write kind size bytes known)) ask (Some change) =
+    ChangesInWrite first past handle begun (to_write store.parts.objects kind size bytes known) ask change
+ChangesInTask first past handle store begun task ask (Some change) = ⊥
 
 -- a call of the disk fails exactly where its number is listed
 abbrev pub FailsAsListed : Volume → Did → Type 0
@@ -102,15 +102,22 @@ outcome_of (Err work) = outcomes.Pending
 
 -- A turn makes the one call of the disk that its work names at its stage. Its outcome is the reply where the work is
 -- done after the disk's answer, and else that the work goes on.
-pub record Works (disk : Volume) (store : Store) (work : Work) (e : Event) : Type 0 where
+pub record Works (first : Volume) (past : List Event) (handle : ℕ) (store : Store) (ignoring : Bool) (begun turns : ℕ) (work : Work) (e : Event) : Type 0 where
+  -- the step that began the work set its task, in the store of an open step
+  pub task : Task
+  pub begins : BegunAs past handle begun store task
+  pub opened : IsOpenStore past store
+  -- the call of the disk, which the event tells with its answer
   pub ask : DiskAsk
   pub asks : ask_in store.parts.objects work ≡ Some ask
-  pub asked : e.entry.did ≡ Disk (op_of ask) (path_asked ask) (next_fails disk)
-  pub told : e.told ≡ Some (answer_now disk ask)
-  pub goes : e.outcome ≡ outcome_of (result_in (fed_in store work (answer_now disk ask)))
+  -- which is the one of this turn of the task: of turn t of a find, the read of the loose path in the t-th folder
+  pub in_order : AsksInOrder first past handle store ignoring begun turns task ask
+  pub asked : e.entry.did ≡ Disk (op_of ask) (path_asked ask) (next_fails (disk_after first past))
+  pub told : e.turn ≡ Some (ask, answer_now (disk_after first past) ask)
+  pub goes : e.outcome ≡ outcome_of (result_in (fed_in store work (answer_now (disk_after first past) ask)))
   -- the change of the record is that of the call
-  pub changed : e.entry.change ≡ change_by disk ask
-  pub five : ChangesInWork (tree_of disk.state) store.parts.objects work e.entry.change
+  pub changed : e.entry.change ≡ change_by (disk_after first past) ask
+  pub five : ChangesInTask first past handle store begun task ask e.entry.change
 
 -- What an event may be after those before it.
 pub record Law (first : Volume) (past : List Event) (e : Event) : Type 0 where
@@ -121,14 +128,16 @@ pub record Law (first : Volume) (past : List Event) (e : Event) : Type 0 where
   pub failed : FailsAsListed (disk_after first past) e.entry.did
   -- the record has the disk's count of faults after the step
   pub faults : e.entry.faults ≡ (disk_after first (past ++ e ∷ [])).calls.faults
+  -- the record tells the call of the disk that the event's turn made, and that no other event made one
+  pub did : e.entry.did ≡ did_of_turn e.turn
   -- a turn does what the order of work says
-  pub worked : (handle : ℕ) (store : Store) (ignoring : Bool) (begun turns : ℕ) (work : Work) → Turns past e handle store ignoring begun turns work → Works (disk_after first past) store work e
-  -- a reply keeps its promise
-  pub promise : (handle : ℕ) (store : Store) (ignoring : Bool) (begun turns : ℕ) (work : Work) (reply : Reply) → Turns past e handle store ignoring begun turns work → e.outcome ≡ outcomes.Reply reply
-      → Promise first (past ++ e ∷ []) handle store ignoring begun work reply
+  pub worked : (handle : ℕ) (store : Store) (ignoring : Bool) (begun turns : ℕ) (work : Work) → Turns past e handle store ignoring begun turns work → Works first past handle store ignoring begun turns work e
+  -- a reply keeps its promise, which is that of the task that the step `begun` set
+  pub promise : (handle : ℕ) (store : Store) (ignoring : Bool) (begun turns : ℕ) (work : Work) (task : Task) (reply : Reply) → Turns past e handle store ignoring begun turns work → BegunAs past handle begun store task
+      → e.outcome ≡ outcomes.Reply reply → Promise first (past ++ e ∷ []) handle store ignoring begun task reply
   -- a call that goes on has had fewer turns than its bound
-  pub in_time : (handle : ℕ) (store : Store) (ignoring : Bool) (begun turns : ℕ) (work : Work) (entries : ℕ) (write : Option ℕ) → Turns past e handle store ignoring begun turns work → e.outcome ≡ outcomes.Pending
-      → HasAtMost (tree_at first (past ++ e ∷ [])) store.parts begun (length past + 1) entries → WritesSoMany past handle begun work write → turns + 1 < bound_of_work store work entries write
+  pub in_time : (handle : ℕ) (store : Store) (ignoring : Bool) (begun turns : ℕ) (work : Work) (task : Task) (entries : ℕ) → Turns past e handle store ignoring begun turns work → BegunAs past handle begun store task
+      → e.outcome ≡ outcomes.Pending → HasAtMost (tree_at first (past ++ e ∷ [])) store.parts begun (length past + 1) entries → turns + 1 < bound_of_task store task entries
 
 -- each event is lawful after those before it
 abbrev pub IsLawful : Volume → List Event → Type 0

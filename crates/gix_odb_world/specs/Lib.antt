@@ -9,6 +9,7 @@ pub mod Run
 pub mod Valid
 pub mod Causes
 pub mod Writing
+pub mod Asks
 pub mod Written
 pub mod Undisturbed
 pub mod WholeNames

@@ -9,14 +9,13 @@ use Rattle.gix_odb_world.specs.declared.call.Reply.{Reply}
 use Rattle.gix_odb_world.specs.declared.call.Reply.TheVariants as replies
 use Rattle.gix_odb_world.specs.declared.call.CallError.TheVariants as call_errors
 use Rattle.gix_odb_world.specs.declared.find.Error as finding
-use Rattle.gix_odb_world.specs.declared.call_state.CallState.TheVariants.{Looking, Writing, Written}
-use Rattle.gix_odb_world.specs.declared.work.Work.{Work}
-use Rattle.gix_odb_world.specs.declared.work.Work.TheVariants.{Opening, Calling}
+use Rattle.gix_odb_world.specs.declared.call.Call.TheVariants as calls
 use Rattle.gix_odb_world.specs.Contents.{Answer, Object, HeaderOf, Presence, sought}
 use Rattle.gix_odb_world.specs.Held.{Held, Still}
 use Rattle.gix_odb_world.specs.Event.{Event, Store}
-use Rattle.gix_odb_world.specs.Run.{tree_at, FailedSince}
-use Rattle.gix_odb_world.specs.Written.{KeepsWrite}
+use Rattle.gix_odb_world.specs.Run.{Task, OpenStore, MakeCall, tree_at, FailedSince}
+use Rattle.gix_odb_world.specs.Writing.{to_write}
+use Rattle.gix_odb_world.specs.Written.{PromiseOfWrite}
 use Rattle.gix_odb_world.specs.Causes.{Sometime, ShowsDirectory, OpeningCause, FindCause}
 use Rattle.gix_odb_world.specs.OpenOrder.{most_slots}
 
@@ -63,19 +62,19 @@ OpeningPromise trees Failed store begun now (replies.Opened slots) = Opens trees
 OpeningPromise trees Failed store begun now (replies.Refused (call_errors.Open error)) = OpeningCause trees Failed store begun now error
 OpeningPromise trees Failed store begun now reply = ⊥
 
--- What the reply to an opening or a query promises.
-abbrev pub LookPromise : (ℕ → Tree) → Type 0 → Store → (ignoring : Bool) → ℕ → ℕ → Work → Reply → Type 0
-LookPromise trees Failed store ignoring begun now (Opening state) reply = OpeningPromise trees Failed store begun now reply
-LookPromise trees Failed store ignoring begun now (Calling (Looking state)) reply =
-    Keeps trees Failed store begun now state.head.query (sought store.parts ignoring state.head.query) (claim_of state.head.query reply)
-LookPromise trees Failed store ignoring begun now (Calling (Writing folder)) reply = ⊥
-LookPromise trees Failed store ignoring begun now (Calling (Written own)) reply = ⊥
+-- What the reply to a query promises, of the id that it seeks.
+abbrev pub QueryPromise : (ℕ → Tree) → Type 0 → Store → (ignoring : Bool) → ℕ → ℕ → Query → Reply → Type 0
+QueryPromise trees Failed store ignoring begun now query reply = Keeps trees Failed store begun now query (sought store.parts ignoring query) (claim_of query reply)
 
--- What a reply promises that the last event gives.
-abbrev pub Promise : Volume → List Event → (handle : ℕ) → Store → (ignoring : Bool) → ℕ → Work → Reply → Type 0
-Promise first events handle store ignoring begun (Calling (Writing folder)) reply = KeepsWrite first events handle begun store.parts.objects reply
-Promise first events handle store ignoring begun (Calling (Written own)) reply = ⊥
-Promise first events handle store ignoring begun (Calling (Looking state)) reply =
-    LookPromise (tree_at first events) (FailedSince events handle begun) store ignoring begun (length events) (Calling (Looking state)) reply
-Promise first events handle store ignoring begun (Opening state) reply =
-    LookPromise (tree_at first events) (FailedSince events handle begun) store ignoring begun (length events) (Opening state) reply
+-- What a reply that the last event gives promises, by the task that the handle was begun with.
+abbrev pub Promise : Volume → List Event → (handle : ℕ) → Store → (ignoring : Bool) → ℕ → Task → Reply → Type 0
+Promise first events handle store ignoring begun OpenStore reply =
+    OpeningPromise (tree_at first events) (FailedSince events handle begun) store begun (length events) reply
+Promise first events handle store ignoring begun (MakeCall (calls.Find id)) reply =
+    QueryPromise (tree_at first events) (FailedSince events handle begun) store ignoring begun (length events) (Find id) reply
+Promise first events handle store ignoring begun (MakeCall (calls.Header id)) reply =
+    QueryPromise (tree_at first events) (FailedSince events handle begun) store ignoring begun (length events) (Header id) reply
+Promise first events handle store ignoring begun (MakeCall (calls.Test id)) reply =
+    QueryPromise (tree_at first events) (FailedSince events handle begun) store ignoring begun (length events) (Test id) reply
+Promise first events handle store ignoring begun (MakeCall (calls.Write kind size bytes known)) reply =
+    PromiseOfWrite first events handle begun (to_write store.parts.objects kind size bytes known) reply

@@ -1,18 +1,25 @@
 -- The disk and its states over a run: state 0 is the handed-in one, and each record takes the disk one step on.
-use Rattle.std.specs.Prelude.{◌≡◌, ℕ, ◌+◌, ◌≤◌, true, List, fold, take, slice_get, Option, Some, None, if◌then◌else◌}
+use Rattle.std.specs.Prelude.{◌≡◌, ℕ, ◌+◌, ◌≤◌, Bool, true, false, List, fold, take, slice_get, Option, Some, None, if◌then◌else◌}
+use Rattle.odb_base.specs.Path.{Path}
 use Rattle.odb_disk.specs.Tree.{Tree, tree_of}
 use Rattle.odb_disk.specs.Tree.Write.{written}
-use Rattle.odb_disk.specs.Ask.{change_of_ask}
+use Rattle.odb_disk.specs.Ask.{change_of_ask, op_of, path_asked}
 use Rattle.odb_disk.specs.MemDisk.{Volume, next_fails, after_call, after_outside_change}
+use Rattle.odb_disk.specs.declared.ask.DiskAnswer.{DiskAnswer}
+use Rattle.odb_disk.specs.declared.ask.DiskAnswer.TheVariants as answers
 use Rattle.odb_disk.specs.declared.ask.DiskAsk.{DiskAsk}
 use Rattle.odb_disk.specs.declared.change.Change.{Change}
+use Rattle.odb_disk.specs.declared.disk.DiskError.TheVariants as disk_errors
+use Rattle.gix_hash.specs.declared.object_id.ObjectId.{ObjectId}
 use Rattle.gix_odb_world.specs.declared.call.Call.{Call}
+use Rattle.gix_odb_world.specs.declared.init.Options.{Options}
+use Rattle.gix_odb_world.specs.declared.init.Slots.TheVariants.{Given}
 use Rattle.gix_odb_world.specs.declared.record.Did.{Did}
 use Rattle.gix_odb_world.specs.declared.record.Did.TheVariants.{Nothing, Disk}
 use Rattle.gix_odb_world.specs.declared.record.Record.{Record}
 use Rattle.gix_odb_world.specs.declared.step.Step.{Step}
 use Rattle.gix_odb_world.specs.declared.step.Step.TheVariants as steps
-use Rattle.gix_odb_world.specs.Event.{Event}
+use Rattle.gix_odb_world.specs.Event.{Event, Store}
 
 abbrev pub disk_after_change : Volume → Option Change → Volume
 disk_after_change disk None = disk
@@ -30,6 +37,20 @@ disk_after_record disk entry = disk_after_did disk entry.did entry.change
 -- the change that a call of the disk makes: none where it fails or is refused
 abbrev pub change_by : Volume → DiskAsk → Option Change
 change_by disk ask = if next_fails disk then None else change_of_ask (tree_of disk.state) ask
+
+-- whether a call of the disk failed, by its answer
+abbrev pub has_failed : DiskAnswer → Bool
+has_failed (answers.Refused disk_errors.Failed) = true
+has_failed answer = false
+
+-- the record of a call of the disk
+abbrev pub did_of : DiskAsk → DiskAnswer → Did
+did_of ask answer = Disk (op_of ask) (path_asked ask) (has_failed answer)
+
+-- the record of a turn that asked so; a step that asked nothing did nothing
+abbrev pub did_of_turn : Option (DiskAsk × DiskAnswer) → Did
+did_of_turn None = Nothing
+did_of_turn (Some asked) = did_of asked.0 asked.1
 
 -- the disk after all events
 unfoldable pub disk_after : Volume → List Event → Volume
@@ -49,6 +70,36 @@ pub record BegunBy (events : List Event) (handle begun : ℕ) (call : Call) : Ty
   pub event : Event
   pub there : slice_get events place ≡ Some event
   pub starts : event.step ≡ steps.Start handle call
+
+-- the event that has the number `begun` is the open step of a store under a handle's number
+pub record OpenedBy (events : List Event) (handle begun : ℕ) (store : Store) : Type 0 where
+  pub place : ℕ
+  pub number : begun ≡ place + 1
+  pub event : Event
+  pub there : slice_get events place ≡ Some event
+  pub path : Path
+  pub folders : List Path
+  pub replacements : List (ObjectId × ObjectId)
+  pub options : Options
+  pub opens : event.step ≡ steps.Open handle path folders replacements options
+  -- the store has what the step handed in
+  pub slots : options.slots ≡ Given store.slots
+  pub parts : store.parts ≡ record { objects = path; folders = folders; replacements = replacements; limit = options.alloc_limit_bytes }
+
+-- a store is that of one of the open steps
+pub record IsOpenStore (events : List Event) (store : Store) : Type 0 where
+  pub opener : ℕ
+  pub opened : OpenedBy events opener store.opened store
+
+-- what a handle at work is to do: to open its store, or to make a call
+pub data Task : Type 0 where
+  OpenStore : Task
+  MakeCall : (call : Call) → Task
+
+-- The event that has the number `begun` set a task: it is the open step of the store, or the start of the call.
+abbrev pub BegunAs : List Event → (handle begun : ℕ) → Store → Task → Type 0
+BegunAs events handle begun store OpenStore = OpenedBy events handle begun store
+BegunAs events handle begun store (MakeCall call) = BegunBy events handle begun call
 
 abbrev pub Fails : Did → Type 0
 Fails Nothing = ⊥

@@ -1,5 +1,5 @@
 -- What a handle at work has seen since its call began. No public clause needs more of it than its name.
-use Rattle.std.specs.Prelude.{◌+◌, ◌-◌, ◌<◌, ◌^◌, [], ◌++◌, ◌≡◌, ◌⊎◌, ℕ, ◌≤◌, Bool, List, drop, take, length, Contains, Option, Some, None}
+use Rattle.std.specs.Prelude.{◌+◌, ◌-◌, ◌<◌, ◌^◌, [], ◌++◌, ◌≡◌, ◌⊎◌, ℕ, ◌≤◌, Bool, List, drop, take, slice_get, length, Contains, Option, Some, None}
 use Rattle.odb_base.specs.Path.{Path}
 use Rattle.odb_disk.specs.Tree.{Tree}
 use Rattle.odb_disk.specs.MemDisk.{Volume}
@@ -20,7 +20,10 @@ use Rattle.gix_odb_loose.specs.declared.call.Stage.TheVariants as loose_stages
 use Rattle.gix_odb_loose.specs.declared.write_call.WriteStage.{WriteStage}
 use Rattle.gix_odb_loose.specs.declared.write_call.WriteStage.TheVariants as write_stages
 use Rattle.gix_odb_loose.specs.declared.find.Error as loose
+use Rattle.gix_odb_world.specs.declared.call.Call.{Call}
+use Rattle.gix_odb_world.specs.declared.call.Call.TheVariants as calls
 use Rattle.gix_odb_world.specs.declared.query.Query.{Query}
+use Rattle.gix_odb_world.specs.declared.query.Query.TheVariants.{Find, Header, Test}
 use Rattle.gix_odb_world.specs.declared.call_state.CallState.TheVariants.{Looking, Writing, Written}
 use Rattle.gix_odb_world.specs.declared.look_state.Stage.{Stage}
 use Rattle.gix_odb_world.specs.declared.look_state.Stage.TheVariants as stages
@@ -31,7 +34,7 @@ use Rattle.gix_odb_world.specs.LookOrder.{asking}
 use Rattle.gix_odb_world.specs.Contents.{folder_list, sought}
 use Rattle.gix_odb_world.specs.Causes.{Sometime, LooseCause}
 use Rattle.gix_odb_world.specs.Event.{Event, Store, Status, Free, Resting, Working, status_of}
-use Rattle.gix_odb_world.specs.Run.{BegunBy, tree_at, FailedSince}
+use Rattle.gix_odb_world.specs.Run.{BegunBy, IsOpenStore, OpenedBy, tree_at, FailedSince}
 use Rattle.gix_odb_world.specs.CallOrder.{hash_to_write}
 use Rattle.gix_odb_world.specs.Writing.{AskedAt, AskedSince, ChangedNothing, LeftAlone, MadeOnly, RenamedNothing, ToWrite, call_to_write, head_to_write, name_to_write}
 
@@ -55,8 +58,15 @@ pub record Seeks (trees : ℕ → Tree) (Failed : Type 0) (store : Store) (begun
   pub noted : Option loose.Error
   pub folder : Path
   pub among : Contains (folder_list store.parts) folder
+  pub place : slice_get (folder_list store.parts) turns ≡ Some folder
   pub stage_is : stage ≡ stages.Loose turns noted (asking store.parts.limit call id folder)
   pub seen : Noted trees Failed store begun now call id folder (drop turns store.parts.folders) noted
+
+-- the call that makes a query
+abbrev pub call_of : Query → Call
+call_of (Find id) = calls.Find id
+call_of (Header id) = calls.Header id
+call_of (Test id) = calls.Test id
 
 -- What an opening or a query has seen. Before its one turn an opening has seen nothing.
 abbrev pub Seen : (ℕ → Tree) → Type 0 → Store → (ignoring : Bool) → ℕ → ℕ → ℕ → Work → Type 0
@@ -119,6 +129,16 @@ turns_left w (write_stages.Foldering number id) = 3
 turns_left w (write_stages.Moving number id) = 2
 turns_left w (write_stages.Removing number refusal) = 1
 
+-- how many turns a write has had where it stands at a stage: one for each name that it tried, one for the header, one for each
+-- piece, and one for the directory
+abbrev pub HadTurns : ToWrite → (turns : ℕ) → WriteStage → Type 0
+HadTurns w turns (write_stages.Making number) = turns ≡ number
+HadTurns w turns (write_stages.Heading number) = turns ≡ number + 1
+HadTurns w turns (write_stages.Filling number written) = turns ≡ number + 2 + pieces_of written
+HadTurns w turns (write_stages.Foldering number id) = turns ≡ number + 2 + pieces_of (length w.bytes)
+HadTurns w turns (write_stages.Moving number id) = turns ≡ number + 3 + pieces_of (length w.bytes)
+HadTurns w turns (write_stages.Removing number refusal) = Unit {0}
+
 -- what a write knows that was led to a stage
 pub record StandsAt (first : Volume) (events : List Event) (handle begun turns : ℕ) (w : ToWrite) (stage : WriteStage) : Type 0 where
   pub past : List Exchange
@@ -131,6 +151,7 @@ pub record StandsAt (first : Volume) (events : List Event) (handle begun turns :
   pub untouched : IsUntouched events handle begun (number_made stage)
   pub holds : Holds first events handle begun w.objects (number_made stage) (content_at w appended stage)
   pub time : turns + turns_left w stage ≤ 21 + pieces_of (length w.bytes)
+  pub had : HadTurns w turns stage
 
 -- a running write: what it is to write, and what it knows
 pub record IsWriting (first : Volume) (events : List Event) (handle begun turns : ℕ) (objects : Path) (folder : LooseCall) : Type 0 where
@@ -145,21 +166,21 @@ pub record IsWriting (first : Volume) (events : List Event) (handle begun turns 
 
 -- ---- any work
 
--- What work has seen and done.
+-- What work has seen and done, and which step began it.
 abbrev pub Knows : Volume → List Event → (handle : ℕ) → Store → (ignoring : Bool) → ℕ → ℕ → Work → Type 0
 Knows first events handle store ignoring begun turns (Calling (Writing folder)) = IsWriting first events handle begun turns store.parts.objects folder
 Knows first events handle store ignoring begun turns (Calling (Written reply)) = ⊥
 Knows first events handle store ignoring begun turns (Calling (Looking state)) =
-    Seen (tree_at first events) (FailedSince events handle begun) store ignoring begun (length events) turns (Calling (Looking state))
+    BegunBy events handle begun (call_of state.head.query) × Seen (tree_at first events) (FailedSince events handle begun) store ignoring begun (length events) turns (Calling (Looking state))
 Knows first events handle store ignoring begun turns (Opening state) =
-    Seen (tree_at first events) (FailedSince events handle begun) store ignoring begun (length events) turns (Opening state)
+    OpenedBy events handle begun store × Seen (tree_at first events) (FailedSince events handle begun) store ignoring begun (length events) turns (Opening state)
 
--- A handle at work began in one of the events, and has seen what its stage says.
+-- A handle at work began in one of the events, and has seen what its stage says. Its store is that of an open step.
 abbrev pub Runs : Volume → List Event → ℕ → Status → Type 0
 Runs first events handle Free = Unit {0}
-Runs first events handle (Resting store ignoring) = Unit {0}
+Runs first events handle (Resting store ignoring) = IsOpenStore events store
 Runs first events handle (Working store ignoring begun turns work) =
-    (begun ≤ length events) × Knows first events handle store ignoring begun turns work
+    (begun ≤ length events) × Knows first events handle store ignoring begun turns work × IsOpenStore events store
 
 -- after each of the events each handle had seen what its status says
 abbrev pub RunsThroughout : Volume → List Event → Type 0

@@ -1,13 +1,10 @@
 -- What the code of a world does with its table of handles and its lists. No public clause cites this.
-use Rattle.std.specs.Prelude.{◌≡◌, ℕ, ◌==◌, Bool, true, false, [], ◌∷◌, ◌++◌, Option, Some, None, Result, Ok, Err, if◌then◌else◌}
-use Rattle.odb_disk.specs.Ask.{op_of, path_asked, answer_now, after_ask, change_of_ask}
+use Rattle.std.specs.Prelude.{◌≡◌, ℕ, ◌==◌, true, [], ◌∷◌, ◌++◌, Option, Some, None, Result, Ok, Err, if◌then◌else◌}
+use Rattle.odb_disk.specs.Ask.{answer_now, after_ask, change_of_ask}
 use Rattle.odb_disk.specs.Tree.{tree_of}
 use Rattle.odb_disk.specs.MemDisk.{Volume}
 use Rattle.odb_disk.specs.declared.ask.DiskAsk.{DiskAsk}
-use Rattle.odb_disk.specs.declared.ask.DiskAnswer.{DiskAnswer}
-use Rattle.odb_disk.specs.declared.ask.DiskAnswer.TheVariants as answers
 use Rattle.odb_disk.specs.declared.change.Change.{Change}
-use Rattle.odb_disk.specs.declared.disk.DiskError.TheVariants as disk_errors
 use Rattle.gix_odb_world.specs.declared.call.Reply.{Reply}
 use Rattle.gix_odb_world.specs.declared.call.Reply.TheVariants as replies
 use Rattle.gix_odb_world.specs.declared.call.CallError.TheVariants as call_errors
@@ -19,6 +16,7 @@ use Rattle.gix_odb_world.specs.declared.record.Did.TheVariants as done
 use Rattle.gix_odb_world.specs.declared.handle.Handle.{Handle}
 use Rattle.gix_odb_world.specs.declared.handle.HandleState.{HandleState}
 use Rattle.gix_odb_world.specs.declared.work.Work.{Work}
+use Rattle.gix_odb_world.specs.Run.{did_of, has_failed}
 use Rattle.gix_odb_world.specs.WorkOrder.{fed}
 use Rattle.gix_odb_world.specs.declared.world.World.{World}
 use Rattle.gix_odb_world.specs.World.{handle_at}
@@ -74,14 +72,6 @@ pub record Notes (old new : World) (outcome : Outcome) (did : Did) (change : Opt
 -- the world has one outcome more than another
 abbrev pub HasOneMore : World → World → Type 0
 HasOneMore old new = (outcome : Outcome) × (new.outcomes ≡ old.outcomes ++ outcome ∷ [])
-
-abbrev pub has_failed : DiskAnswer → Bool
-has_failed (answers.Refused disk_errors.Failed) = true
-has_failed answer = false
-
--- the record of a call of the disk
-abbrev pub did_of : DiskAsk → DiskAnswer → Did
-did_of ask answer = done.Disk (op_of ask) (path_asked ask) (has_failed answer)
 
 -- what a turn did whose work asked so
 abbrev pub did_now : Volume → Option DiskAsk → Did

@@ -21,8 +21,6 @@ use Rattle.gix_odb_loose.specs.WriteRuns.{IsOnWay}
 use Rattle.gix_odb_loose.specs.WriteStreams.{OtherLength}
 use Rattle.gix_odb_loose.specs.declared.write.Error as loose_write
 use Rattle.gix_odb_loose.specs.declared.write_call.WriteHead.{WriteHead}
-use Rattle.gix_odb_loose.specs.declared.write_call.WriteStage.{WriteStage}
-use Rattle.gix_odb_loose.specs.declared.write_call.WriteStage.TheVariants as write_stages
 use Rattle.gix_odb_world.specs.CallOrder.{hash_to_write}
 use Rattle.gix_odb_world.specs.Event.{Event}
 use Rattle.gix_odb_world.specs.Run.{Fails, IsTurnOf, disk_after, tree_at}
@@ -41,6 +39,10 @@ pub record ToWrite : Type 0 where
   pub bytes : List ℕ
   pub known : Option ObjectId
 
+-- what a write into an objects directory is to write
+abbrev pub to_write : (objects : Path) (kind : Kind) (size : ℕ) (bytes : List ℕ) (known : Option ObjectId) → ToWrite
+to_write objects kind size bytes known = record { objects = objects; kind = kind; size = size; bytes = bytes; known = known }
+
 abbrev pub call_to_write : ToWrite → Call
 call_to_write w = Write w.kind w.size w.bytes w.known
 
@@ -51,15 +53,6 @@ head_to_write w = record { objects = w.objects; kind = w.kind; size = w.size }
 abbrev pub name_to_write : ToWrite → ObjectId
 name_to_write w = name_for w.known (hash_to_write w.known) (head_to_write w) w.bytes
 
--- the number of the temporary file that a stage tries to make, or has made
-abbrev pub number_at : WriteStage → ℕ
-number_at (write_stages.Making number) = number
-number_at (write_stages.Heading number) = number
-number_at (write_stages.Filling number written) = number
-number_at (write_stages.Foldering number id) = number
-number_at (write_stages.Moving number id) = number
-number_at (write_stages.Removing number refusal) = number
-
 -- ---- what was asked of the disk
 
 -- in the event at a place, which is a turn of the handle, this call of the disk was made and was answered so
@@ -68,7 +61,7 @@ pub record AskedAt (first : Volume) (events : List Event) (handle place : ℕ) (
   pub there : slice_get events place ≡ Some event
   pub turn : IsTurnOf handle event.step
   pub did : event.entry.did ≡ Disk (op_of ask) (path_asked ask) (next_fails (disk_after first (take place events)))
-  pub told : event.told ≡ Some answer
+  pub asked : event.turn ≡ Some (ask, answer)
   pub given : answer ≡ answer_now (disk_after first (take place events)) ask
 
 -- the same in some turn of the handle since its call began. (Events are numbered from 1, so the events from place

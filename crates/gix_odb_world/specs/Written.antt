@@ -17,8 +17,8 @@ use Rattle.gix_odb_loose.specs.declared.write.Error as loose_write
 use Rattle.gix_odb_loose.specs.declared.write.Error.TheVariants as loose_errors
 use Rattle.gix_odb_loose.specs.declared.write.Message.TheVariants as messages
 use Rattle.gix_odb_world.specs.Event.{Event}
-use Rattle.gix_odb_world.specs.Run.{BegunBy, tree_at}
-use Rattle.gix_odb_world.specs.Writing.{AskedAt, CauseOfWrite, ChangedNothing, LeftAlone, MadeOnly, RenamedNothing, ToWrite, call_to_write, name_to_write}
+use Rattle.gix_odb_world.specs.Run.{tree_at}
+use Rattle.gix_odb_world.specs.Writing.{AskedAt, CauseOfWrite, ChangedNothing, LeftAlone, MadeOnly, RenamedNothing, ToWrite, name_to_write}
 use Rattle.gix_odb_world.specs.declared.call.CallError.TheVariants as call_errors
 use Rattle.gix_odb_world.specs.declared.call.Reply.{Reply}
 use Rattle.gix_odb_world.specs.declared.call.Reply.TheVariants as replies
@@ -60,10 +60,3 @@ abbrev pub PromiseOfWrite : Volume → List Event → (handle begun : ℕ) → T
 PromiseOfWrite first events handle begun w (replies.Wrote id) = HasWritten first events handle begun w id
 PromiseOfWrite first events handle begun w (replies.Refused (call_errors.Write (write_errors.LooseWrite error))) = WasRefused first events handle begun w error
 PromiseOfWrite first events handle begun w reply = ⊥
-
--- the same of the write that the handle began
-pub record KeepsWrite (first : Volume) (events : List Event) (handle begun : ℕ) (objects : Path) (reply : Reply) : Type 0 where
-  pub write : ToWrite
-  pub begins : BegunBy events handle begun (call_to_write write)
-  pub into : write.objects ≡ objects
-  pub keeps : PromiseOfWrite first events handle begun write reply

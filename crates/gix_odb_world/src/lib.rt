@@ -25,8 +25,6 @@ mod play;
 mod query;
 mod record;
 mod step;
-#[cfg(test)]
-mod tests;
 mod work;
 mod world;
 pub mod write;

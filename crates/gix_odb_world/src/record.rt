@@ -1,5 +1,5 @@
 ghost use Rattle.std.specs.Prelude.{◌≡◌, IfOk};
-ghost use Rattle.gix_odb_world.specs.Table.{did_of};
+ghost use Rattle.gix_odb_world.specs.Run.{did_of};
 
 use crate::step::Outcome;
 use odb_base::{NoMemory, Sequence};

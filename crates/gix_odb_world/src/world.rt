@@ -2,13 +2,14 @@ ghost use Rattle.std.specs.Prelude.{if◌then◌else◌, ◌≡◌, ◌≢◌, �
 ghost use Rattle.odb_disk.specs.MemDisk.{Volume};
 ghost use Rattle.odb_disk.specs.Tree.{IsTree, tree_of};
 ghost use Rattle.gix_odb_world.specs.Event.{Event};
+ghost use Rattle.gix_odb_world.specs.Run.{has_failed};
 ghost use Rattle.gix_odb_world.specs.Valid as reasons;
 ghost use Rattle.gix_odb_world.specs.Valid.{why_not_after, is_openable};
 ghost use Rattle.gix_odb_world.specs.Headline.{Headline, IsRun, outcome_of};
 ghost use Rattle.gix_odb_world.specs.WorkOrder.{ask_in, result_in};
 ghost use Rattle.gix_odb_world.specs.World.{Explains, GoesOn, Continues, handle_at};
 ghost use Rattle.gix_odb_world.specs.Table as tables;
-ghost use Rattle.gix_odb_world.specs.Table.{HasOneMore, Notes, SetsHandle, after_turn, change_now, did_now, disk_now, has_failed, phase_of_handle, with_ignoring, with_work, work_now, why_not_now};
+ghost use Rattle.gix_odb_world.specs.Table.{HasOneMore, Notes, SetsHandle, after_turn, change_now, did_now, disk_now, phase_of_handle, with_ignoring, with_work, work_now, why_not_now};
 
 use crate::call::{Call, CallError, Reply};
 use crate::call_state::CallState;

@@ -1,13 +1,6 @@
-//! What no clause says: values from outside, printed texts, and that calls succeed.
-mod finds;
-mod openings;
-mod others;
-mod played;
-mod steps;
-mod words;
-mod writes;
-
-use self::played::{check_each, check_faults, check_run};
+//! Each table of steps is made, in turn or row by row.
+use crate::played::{check_each, check_faults, check_run};
+use crate::{finds, misuse, openings, others, writes};
 use std::test::Fail;
 
 // Each table's steps are made in turn, and so many calls of the disk.
@@ -19,7 +12,7 @@ fn steps_in_turn(rt: HostRuntime) -> Result<(), Fail> {
         (finds::REPLACED, 16),
         (writes::WRITES, 39),
         (others::READER, 10),
-        (steps::MISUSES, 10),
+        (misuse::MISUSES, 10),
     ] {
         let run = check_run(rt.alloc(), rows)?;
         assert!(rt; run.disk.calls() == calls);

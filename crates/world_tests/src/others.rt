@@ -1,18 +1,18 @@
 //! Writers, readers and other programs that take turns.
 
 // A name that is there before its data, or an object that is found nowhere afterwards.
-pub(super) const READER: &str = "\
+pub(crate) const READER: &str = "\
     make /o; open 0 /o; finish 0; open 1 /o; finish 1|1: 32 slots; 1: 32 slots\n\
     write 0 0 -; turn 0; turn 0; turn 0; find 1 E; turn 1; test 1 E; turn 1|\
     pending; pending; pending; not found; false\n\
     turn 0|wrote e69de29bb2d1d6434b8b29ae775ad8c2e48c5391\n\
     find 1 E; turn 1; test 1 E; turn 1|Blob ; true";
 
-pub(super) const WRITERS_FRONT: &str =
+pub(crate) const WRITERS_FRONT: &str =
     "make /o; open 0 /o; finish 0; open 1 /o; finish 1; open 2 /o; finish 2";
 
 // A temporary name that two writers share, or a writer that removes the other's file.
-pub(super) const WRITERS: &str = "\
+pub(crate) const WRITERS: &str = "\
     write 0 5 - hello; write 1 5 - hello; turn 0; turn 1; turn 1; turn 0; turn 1; turn 0; turn 1; turn 0; turn 1; \
     find 2 H; turn 2; turn 0; find 2 H; turn 2; turn 1; find 2 H; turn 2; take /o/tmp_obj_0; take /o/tmp_obj_1|\
     pending; pending; pending; pending; pending; pending; pending; pending; pending; not found; \
@@ -29,13 +29,13 @@ pub(super) const WRITERS: &str = "\
     pending; pending; pending; pending; 6: wrote b6fc4c620b67d95f953a5c1c1230aaab5db5a1b0; \
     1: wrote b6fc4c620b67d95f953a5c1c1230aaab5db5a1b0; Blob hello";
 
-pub(super) const CHANGES_FRONT: &str =
+pub(crate) const CHANGES_FRONT: &str =
     "make /o; open 0 /o; finish 0; open 1 /o; finish 1; write 0 5 - hello";
 
 // A write makes the file, adds the header, adds the data, makes the directory and renames.
 // A change that a writer or a reader doesn't see in its turn, or sees before; a refusal that is told of another call.
 // What another program puts into the temporary file is what has the name.
-pub(super) const CHANGES: &str = "\
+pub(crate) const CHANGES: &str = "\
     turn 0; take /o/tmp_obj_0; finish 0|pending; 2: could not write header to tempfile in /o\n\
     turn 0; turn 0; move /o/tmp_obj_0 /o/x; finish 0; take /o/x|\
     pending; pending; 2: could not stream all data into tempfile in /o\n\

@@ -1,16 +1,16 @@
 //! Finds, headers and tests of presence: what stands at the path, several folders, replacements, and the limit.
 
 // A header that is read as data, or a path whose digits are split elsewhere.
-pub(super) const FOUND: &str = "\
+pub(crate) const FOUND: &str = "\
     make /o; make /o/e6; put /o:E blob 0~; open 0 /o; finish 0|1: 32 slots\n\
     find 0 E; turn 0|Blob ";
 
-pub(super) const FILE_FRONT: &str = "\
+pub(crate) const FILE_FRONT: &str = "\
     make /o; make /o/e6; open 0 /o; finish 0; open 1 /o limit=4; finish 1; open 2 /o limit=5; finish 2";
 
 // An error of one kind of file that is given for another, or whose fields are lost; a header that needs the data, or
 // a test that needs a header; a limit that is off by one, that isn't tested first, or that counts for a header.
-pub(super) const FILES: &str = "\
+pub(crate) const FILES: &str = "\
     put /o:E blob 0~; find 0 E; turn 0; header 0 E; turn 0; test 0 E; turn 0|\
     Blob ; Loose { kind: Blob, size: 0 }; true\n\
     put /o:E tree 0~; find 0 E; turn 0; header 0 E; turn 0; test 0 E; turn 0|\
@@ -50,7 +50,7 @@ pub(super) const FILES: &str = "\
     /o/e6/9de29bb2d1d6434b8b29ae775ad8c2e48c5391 has 5 bytes of data, and 4 by its header";
 
 // A second folder that is skipped, asked in the first one's turn or before it, or a find that goes on after an error.
-pub(super) const FOLDERS: &str = "\
+pub(crate) const FOLDERS: &str = "\
     make /o; make /o/e6; make /p; make /p/e6; put /p:E blob 0~; open 0 /o folder=/p folder=/q; finish 0|1: 32 slots\n\
     find 0 E; finish 0|2: Blob \n\
     find 0 Z; turn 0; turn 0; turn 0|pending; pending; not found\n\
@@ -63,14 +63,14 @@ pub(super) const FOLDERS: &str = "\
     make /q; make /q/e6; put /q:E tree 0~; take /o:E; find 0 E; finish 0|3: Tree \n\
     put /p:E x; find 0 E; finish 0; test 0 E; finish 0|2: the loose object has no header; 2: true";
 
-pub(super) const FAULT_STEPS: &str = "\
+pub(crate) const FAULT_STEPS: &str = "\
     make /o; make /p; make /p/e6; put /p:E blob 0~; open 0 /o folder=/p; finish 0; \
     find 0 E; finish 0; header 0 E; finish 0; test 0 E; finish 0; test 0 Z; finish 0";
 
 // The opening makes call 1, and each question two more.
 // A failed call that is answered as a miss, a test that ends with it though another folder says yes, a noted failure
 // that is forgotten, or told with the path of the last one.
-pub(super) const FAULTS: &str = "\
+pub(crate) const FAULTS: &str = "\
     99|1: 32 slots; 2: Blob ; 2: Loose { kind: Blob, size: 0 }; 2: true; 2: false\n\
     1|1: the objects directory could not be looked at; misuse NoHandle; 1: misuse NoHandle; misuse NoHandle; \
     1: misuse NoHandle; misuse NoHandle; 1: misuse NoHandle; misuse NoHandle; 1: misuse NoHandle\n\
@@ -91,7 +91,7 @@ pub(super) const FAULTS: &str = "\
 
 // A replacement that is followed twice or not at all, taken by a test, or taken after it is to be ignored, by this
 // handle or by another.
-pub(super) const REPLACED: &str = "\
+pub(crate) const REPLACED: &str = "\
     make /o; make /o/e6; put /o:E blob 0~; make /o/b6; put /o:H blob 5~hello|\n\
     open 0 /o replace=Z:E replace=E:H; finish 0; open 1 /o replace=E:Z; finish 1|1: 32 slots; 1: 32 slots\n\
     find 0 Z; finish 0; find 0 E; finish 0; find 0 H; finish 0|1: Blob ; 1: Blob hello; 1: Blob hello\n\

@@ -1,11 +1,11 @@
 //! Rows of steps that are made in a world, and what they come to in words.
-use super::words::{compare, halves, step_of};
-use crate::{Did, Outcome, Record, Reply, Run, Step, World, is_valid};
+use crate::words::{compare, halves, step_of};
+use gix_odb_world::{Did, Outcome, Record, Reply, Run, Step, World, is_valid};
 use odb_disk::MemDisk;
 use std::alloc::{AllocError, Global};
 use std::test::Fail;
 
-pub(super) fn outcome_shown(alloc: Global, outcome: &Outcome) -> Result<String, AllocError> {
+pub(crate) fn outcome_shown(alloc: Global, outcome: &Outcome) -> Result<String, AllocError> {
     match outcome {
         Outcome::Applied => "applied".to_string(alloc),
         Outcome::Pending => "pending".to_string(alloc),
@@ -56,11 +56,14 @@ fn stepped(alloc: Global, world: &mut World, step: &Step) -> Result<String, Fail
     Ok(told)
 }
 
+fn turned(alloc: Global, world: &mut World, handle: u32) -> Result<String, Fail> {
+    stepped(alloc, world, &Step::Turn { handle })
+}
+
 /// Makes turns of a handle up to the first that isn't pending: how many, and what the last one comes to.
 fn finished(alloc: Global, world: &mut World, handle: u32) -> Result<String, Fail> {
-    let turn = Step::Turn { handle };
     for count in 1..50_u8 {
-        let told = stepped(alloc, world, &turn)?;
+        let told = turned(alloc, world, handle)?;
         if told.as_str() != "pending" {
             return numbered(alloc, count, told.as_str());
         }
@@ -72,11 +75,16 @@ fn numbered(alloc: Global, count: u8, told: &str) -> Result<String, Fail> {
     Ok(format!(in alloc; "{count}: {told}")?)
 }
 
+fn done_step(alloc: Global, world: &mut World, text: &str) -> Result<String, Fail> {
+    let step = step_of(alloc, text)?;
+    stepped(alloc, world, &step)
+}
+
 /// What a step in words comes to, or what `finish` of a handle does.
 fn done(alloc: Global, world: &mut World, text: &str) -> Result<String, Fail> {
     match text.strip_prefix("finish ") {
         Some(handle) => finished(alloc, world, handle.parse::<u32>()?),
-        None => stepped(alloc, world, &step_of(alloc, text)?),
+        None => done_step(alloc, world, text),
     }
 }
 
@@ -90,7 +98,7 @@ fn joined(alloc: Global, before: &str, told: &str) -> Result<String, AllocError>
 }
 
 /// Makes steps, between which stand semicolons, and tells what they come to but for `applied`.
-pub(super) fn told(alloc: Global, world: &mut World, steps: &str) -> Result<String, Fail> {
+pub(crate) fn told(alloc: Global, world: &mut World, steps: &str) -> Result<String, Fail> {
     let mut out = String::new(alloc);
     for text in steps.split(';') {
         let told = done(alloc, world, text.trim_start())?;
@@ -99,7 +107,7 @@ pub(super) fn told(alloc: Global, world: &mut World, steps: &str) -> Result<Stri
     Ok(out)
 }
 
-fn check_row(alloc: Global, world: &mut World, row: &str) -> Result<(), Fail> {
+pub(crate) fn check_row(alloc: Global, world: &mut World, row: &str) -> Result<(), Fail> {
     let (steps, want) = halves(row);
     let found = told(alloc, world, steps)?;
     compare(steps, found.as_str(), want)
@@ -114,14 +122,14 @@ fn check(alloc: Global, world: &mut World, rows: &str) -> Result<(), Fail> {
 }
 
 /// The same on a disk of its own.
-pub(super) fn check_run(alloc: Global, rows: &str) -> Result<Run, Fail> {
+pub(crate) fn check_run(alloc: Global, rows: &str) -> Result<Run, Fail> {
     let mut world = World::new(alloc, MemDisk::new(alloc)?);
     check(alloc, &mut world, rows)?;
     Ok(world.finish())
 }
 
 /// The same for each row on a disk of its own, after these steps.
-pub(super) fn check_each(alloc: Global, front: &str, rows: &str) -> Result<(), Fail> {
+pub(crate) fn check_each(alloc: Global, front: &str, rows: &str) -> Result<(), Fail> {
     for row in rows.split('\n') {
         check_alone(alloc, front, row)?;
     }
@@ -130,12 +138,16 @@ pub(super) fn check_each(alloc: Global, front: &str, rows: &str) -> Result<(), F
 
 fn check_alone(alloc: Global, front: &str, row: &str) -> Result<(), Fail> {
     let mut world = World::new(alloc, MemDisk::new(alloc)?);
-    told(alloc, &mut world, front)?;
-    check_row(alloc, &mut world, row)
+    check_behind(alloc, &mut world, front, row)
+}
+
+fn check_behind(alloc: Global, world: &mut World, front: &str, row: &str) -> Result<(), Fail> {
+    told(alloc, world, front)?;
+    check_row(alloc, world, row)
 }
 
 /// Each row has numbers of calls that fail, and what the steps come to then.
-pub(super) fn check_faults(alloc: Global, steps: &str, rows: &str) -> Result<(), Fail> {
+pub(crate) fn check_faults(alloc: Global, steps: &str, rows: &str) -> Result<(), Fail> {
     for row in rows.split('\n') {
         check_failing(alloc, steps, row)?;
     }
@@ -144,10 +156,19 @@ pub(super) fn check_faults(alloc: Global, steps: &str, rows: &str) -> Result<(),
 
 fn check_failing(alloc: Global, steps: &str, row: &str) -> Result<(), Fail> {
     let (calls, want) = halves(row);
-    let numbers = numbers_of(alloc, calls)?;
-    let mut world = World::new(alloc, MemDisk::with_faults(alloc, &numbers)?);
-    let found = told(alloc, &mut world, steps)?;
+    let found = told_with(alloc, calls, steps)?;
     compare(calls, found.as_str(), want)
+}
+
+/// What steps come to where the calls with these numbers fail.
+fn told_with(alloc: Global, calls: &str, steps: &str) -> Result<String, Fail> {
+    let mut world = World::new(alloc, failing(alloc, calls)?);
+    told(alloc, &mut world, steps)
+}
+
+fn failing(alloc: Global, calls: &str) -> Result<MemDisk, Fail> {
+    let numbers = numbers_of(alloc, calls)?;
+    Ok(MemDisk::with_faults(alloc, &numbers)?)
 }
 
 fn numbers_of(alloc: Global, text: &str) -> Result<Vec<u64>, Fail> {
@@ -159,13 +180,13 @@ fn numbers_of(alloc: Global, text: &str) -> Result<Vec<u64>, Fail> {
 }
 
 /// All of a disk's tree.
-pub(super) fn tree_shown(alloc: Global, disk: &MemDisk) -> Result<String, Fail> {
+pub(crate) fn tree_shown(alloc: Global, disk: &MemDisk) -> Result<String, Fail> {
     let tree = disk.tree();
     Ok(format!(in alloc; "{tree:?}")?)
 }
 
 /// What a step did, whether it made a change, and the count of faults.
-pub(super) fn record_shown(alloc: Global, record: &Record) -> Result<String, AllocError> {
+pub(crate) fn record_shown(alloc: Global, record: &Record) -> Result<String, AllocError> {
     let did = did_shown(alloc, &record.did)?;
     let change = record.change.is_some();
     let faults = record.faults;

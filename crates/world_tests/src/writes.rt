@@ -1,14 +1,14 @@
 //! Writes: their ends, and each of their calls that fails.
-use super::played::{told, tree_shown};
-use super::words::compare;
-use crate::World;
+use crate::played::{check_row, told, tree_shown};
+use crate::words::compare;
+use gix_odb_world::World;
 use odb_disk::MemDisk;
 use std::alloc::Global;
 use std::test::Fail;
 
 // An id of the data without their header, a write that answers another id than it wrote under, a length that isn't
 // tested, a temporary file that stays, or a temporary name that is taken though another file has it.
-pub(super) const WRITES: &str = "\
+pub(crate) const WRITES: &str = "\
     make /o; open 0 /o; finish 0|1: 32 slots\n\
     write 0 5 - hello; finish 0|5: wrote b6fc4c620b67d95f953a5c1c1230aaab5db5a1b0\n\
     find 0 H; finish 0; header 0 H; finish 0|1: Blob hello; 1: Loose { kind: Blob, size: 5 }\n\
@@ -23,13 +23,13 @@ pub(super) const WRITES: &str = "\
     put /o/tmp_obj_0 x; put /o/tmp_obj_2 y; write 0 5 - hello; turn 0; turn 0; take /o/tmp_obj_1; finish 0|\
     pending; pending; 2: could not write header to tempfile in /o";
 
-pub(super) const FAULT_STEPS: &str = "\
+pub(crate) const FAULT_STEPS: &str = "\
     make /o; open 0 /o; finish 0; write 0 5 - hello; finish 0; find 0 H; finish 0; take /o/tmp_obj_0";
 
 // The opening makes call 1, and the write those from 2 on. The last column is of the temporary file that isn't there.
 // An error that is told of another call, a name that stands nevertheless, or a temporary file that is left though it
 // could be removed.
-pub(super) const FAULTS: &str = "\
+pub(crate) const FAULTS: &str = "\
     99|1: 32 slots; 5: wrote b6fc4c620b67d95f953a5c1c1230aaab5db5a1b0; 1: Blob hello; misuse ImpossibleChange\n\
     2|1: 32 slots; 1: could not create named temp file in /o; 1: not found; misuse ImpossibleChange\n\
     3|1: 32 slots; 3: could not write header to tempfile in /o; 1: not found; misuse ImpossibleChange\n\
@@ -45,11 +45,11 @@ pub(super) const FAULTS: &str = "\
     7|1: 32 slots; 5: wrote b6fc4c620b67d95f953a5c1c1230aaab5db5a1b0; \
     1: could not open or map /o/b6/fc4c620b67d95f953a5c1c1230aaab5db5a1b0; misuse ImpossibleChange";
 
-pub(super) const NAMES_FRONT: &str = "make /o; open 0 /o; finish 0";
+pub(crate) const NAMES_FRONT: &str = "make /o; open 0 /o; finish 0";
 
 // A directory or a file in the way that is told otherwise, or a write that goes to another folder, takes a
 // replacement, or heeds the limit.
-pub(super) const NAMES: &str = "\
+pub(crate) const NAMES: &str = "\
     make /o/b6; write 0 5 - hello; finish 0|5: wrote b6fc4c620b67d95f953a5c1c1230aaab5db5a1b0\n\
     put /o/b6 x; write 0 5 - hello; finish 0; take /o/tmp_obj_0|\
     6: could not turn the temporary file into /o/b6/fc4c620b67d95f953a5c1c1230aaab5db5a1b0; misuse ImpossibleChange\n\
@@ -63,36 +63,44 @@ pub(super) const NAMES: &str = "\
     open 1 /o replace=H:E limit=0; finish 1; write 1 5 - hello; finish 1; find 1 H; finish 1; find 0 H; finish 0|\
     1: 32 slots; 5: wrote b6fc4c620b67d95f953a5c1c1230aaab5db5a1b0; 1: not found; 1: Blob hello";
 
-/// A disk on which all temporary names are taken.
-fn taken(alloc: Global) -> Result<MemDisk, Fail> {
-    let mut world = World::new(alloc, MemDisk::new(alloc)?);
-    told(alloc, &mut world, "make /o")?;
+/// Takes all temporary names.
+fn take_names(alloc: Global, world: &mut World) -> Result<(), Fail> {
+    told(alloc, world, "make /o")?;
     for number in 0..16_u8 {
-        let step = format!(in alloc; "put /o/tmp_obj_{number} x")?;
-        told(alloc, &mut world, step.as_str())?;
+        take_name(alloc, world, number)?;
     }
+    Ok(())
+}
+
+fn take_name(alloc: Global, world: &mut World, number: u8) -> Result<(), Fail> {
+    let step = format!(in alloc; "put /o/tmp_obj_{number} x")?;
+    told(alloc, world, step.as_str())?;
+    Ok(())
+}
+
+/// The disk after steps where all temporary names are taken. What the steps come to is compared.
+fn disk_after(alloc: Global, row: &str) -> Result<MemDisk, Fail> {
+    let mut world = World::new(alloc, MemDisk::new(alloc)?);
+    take_names(alloc, &mut world)?;
+    check_row(alloc, &mut world, row)?;
     Ok(world.finish().disk)
 }
 
-/// What steps on a disk come to, and the disk after them.
-fn told_on(alloc: Global, disk: MemDisk, steps: &str) -> Result<(String, MemDisk), Fail> {
-    let mut world = World::new(alloc, disk);
-    let told = told(alloc, &mut world, steps)?;
-    Ok((told, world.finish().disk))
+/// Its tree, where so many calls of it were made.
+fn tree_after(alloc: Global, row: &str, calls: u64) -> Result<String, Fail> {
+    let disk = disk_after(alloc, row)?;
+    if disk.calls() != calls {
+        return Err(Fail::new(format_args!("{row}: other calls than {calls}")));
+    }
+    tree_shown(alloc, &disk)
 }
 
 // A seventeenth name, one of the others' files that is written or removed, or anything else that changes.
 #[test]
 fn leaves_all_names_that_are_taken(rt: HostRuntime) -> Result<(), Fail> {
-    let alloc = rt.alloc();
-    let disk = taken(alloc)?;
-    let before = tree_shown(alloc, &disk)?;
-    let steps = "open 0 /o; finish 0; write 0 0 -; finish 0";
-    let (found, disk) = told_on(alloc, disk, steps)?;
-    let want = "1: 32 slots; 16: could not create named temp file in /o";
-    compare(steps, found.as_str(), want)?;
-    let after = tree_shown(alloc, &disk)?;
-    compare("the tree", after.as_str(), before.as_str())?;
-    assert!(rt; disk.calls() == 17);
-    Ok(())
+    let before = tree_after(rt.alloc(), "open 0 /o|", 0)?;
+    let row = "open 0 /o; finish 0; write 0 0 -; finish 0|\
+        1: 32 slots; 16: could not create named temp file in /o";
+    let after = tree_after(rt.alloc(), row, 17)?;
+    compare("the tree", after.as_str(), before.as_str())
 }

@@ -1,10 +1,10 @@
 //! The conditions of opening.
-use super::played::check_each;
+use crate::played::check_each;
 use std::alloc::Global;
 use std::test::Fail;
 
 // A condition that isn't asked.
-pub(super) const OPENINGS: &str = "\
+pub(crate) const OPENINGS: &str = "\
     open 0 /o folder=/p folder=/q replace=E:Z replace=Z:Z|\n\
     open 0 /o folder=/p folder=/q folder=/p|misuse BadOpen\n\
     open 0 /o folder=/p folder=/o|misuse BadOpen\n\

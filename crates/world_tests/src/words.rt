@@ -2,26 +2,25 @@
 //!
 //! The letters E and H are the ids of the blobs of no bytes and of `hello`, as `git hash-object` tells them, and Z is
 //! a one behind zeros. `/o:E` is the path of such an object below `/o`. In data `~` is a NUL.
-use crate::init::{Options, Slots};
-use crate::{Call, IdPairs, PathList, Step};
 use gix_hash::ObjectId;
 use gix_object::Kind;
+use gix_odb_world::{Call, IdPairs, Options, PathList, Slots, Step};
 use odb_disk::{ByteList, Change, PathText};
 use std::alloc::Global;
 use std::test::Fail;
 
 /// The first word of a text and what stands behind it, which is empty where there is one word alone.
-pub(super) fn cut(text: &str) -> (&str, &str) {
+pub(crate) fn cut(text: &str) -> (&str, &str) {
     text.split_once(' ').unwrap_or((text, ""))
 }
 
 /// The steps of a row, and what they are to come to.
-pub(super) fn halves(row: &str) -> (&str, &str) {
+pub(crate) fn halves(row: &str) -> (&str, &str) {
     row.split_once('|').unwrap_or((row, ""))
 }
 
 /// Fails where a row comes to something else than is wanted.
-pub(super) fn compare(text: &str, found: &str, want: &str) -> Result<(), Fail> {
+pub(crate) fn compare(text: &str, found: &str, want: &str) -> Result<(), Fail> {
     if found == want {
         return Ok(());
     }
@@ -60,7 +59,7 @@ fn bytes_of(alloc: Global, text: &str) -> Result<ByteList, Fail> {
 
 /// A step: `make /o`, `put /o:E blob 0~`, `move /o /p`, `take /o`, `open 0 /o folder=/p`, `write 0 5 - hello`,
 /// `find 0 E`, `turn 0` and the like.
-pub(super) fn step_of(alloc: Global, text: &str) -> Result<Step, Fail> {
+pub(crate) fn step_of(alloc: Global, text: &str) -> Result<Step, Fail> {
     let (verb, rest) = cut(text);
     match verb {
         "make" => make_of(alloc, rest),

@@ -1,0 +1,87 @@
+-- The call of the disk of each turn comes in its order.
+use Rattle.std.proofs.Common.{◌≡◌, ℕ, ◌+◌, ◌*◌, ◌<◌, Bool, true, List, length, Some, slice_get, refl, sym, ap, ◌∙◌, subst, arith}
+use Rattle.odb_base.specs.Path.{Path}
+use Rattle.odb_disk.specs.MemDisk.{Volume}
+use Rattle.odb_disk.specs.declared.ask.DiskAsk.{DiskAsk}
+use Rattle.odb_disk.specs.declared.ask.DiskAsk.TheVariants as asks
+use Rattle.gix_hash.specs.declared.object_id.ObjectId.{ObjectId}
+use Rattle.gix_odb_loose.specs.LooseFile.{loose_path}
+use Rattle.gix_odb_loose.specs.LooseOrder.{disk_ask_of}
+use Rattle.gix_odb_loose.specs.WriteJobs.{piece_at, pieces_of}
+use Rattle.gix_odb_loose.specs.WriteOrder.{prefix_path, temp_path}
+use Rattle.gix_odb_loose.specs.WritePieces.{IsInPieces}
+use Rattle.gix_odb_loose.specs.WriteStreams.{OtherLength}
+use Rattle.gix_odb_loose.specs.declared.call.LooseCall.{LooseCall}
+use Rattle.gix_odb_loose.specs.declared.write_call.WriteStage.{WriteStage}
+use Rattle.gix_odb_loose.specs.declared.write_call.WriteStage.TheVariants as stages
+use Rattle.gix_odb_world.specs.declared.look_state.LookState.{LookState}
+use Rattle.gix_odb_world.specs.declared.look_state.Stage.TheVariants as look_stages
+use Rattle.gix_odb_world.specs.declared.open_state.OpenState.{OpenState}
+use Rattle.gix_odb_world.specs.declared.open_state.OpenState.TheVariants as opens
+use Rattle.gix_odb_world.specs.declared.query.Query.{Query}
+use Rattle.gix_odb_world.specs.declared.query.Query.TheVariants.{Find, Header, Test}
+use Rattle.gix_odb_world.specs.Asks.{AppendsHeader, AppendsPiece, AsksInOrder, AsksToWrite, MakesDirectory, MakesFile, Removes, Renames}
+use Rattle.gix_odb_world.specs.Contents.{folder_list, sought}
+use Rattle.gix_odb_world.specs.Event.{Event, Store}
+use Rattle.gix_odb_world.specs.LookOrder.{ask_at, asking}
+use Rattle.gix_odb_world.specs.OpenOrder as openings
+use Rattle.gix_odb_world.specs.Run.{FailedSince, MakeCall, OpenStore, tree_at}
+use Rattle.gix_odb_world.specs.Running.{HadTurns, IsWaiting, IsWriting, Seeks, StandsAt, call_of}
+use Rattle.gix_odb_world.specs.Writing.{ToWrite, call_to_write, head_to_write, name_to_write, to_write}
+use Rattle.gix_odb_world.proofs.WriteFive.{below, made_before}
+use Rattle.gix_odb_world.proofs.WriteGoes.{ask_at_stage}
+
+module _ (first : Volume) (events : List Event) (handle : ℕ) (store : Store) (ignoring : Bool) (begun turns : ℕ) where
+  -- an opening looks at its objects directory
+  pub in_order_opening : (state : OpenState) (ask : DiskAsk) → state ≡ opens.Looking → turns ≡ 0 → openings.ask_of store.parts.objects state ≡ Some ask → AsksInOrder first events handle store ignoring begun turns OpenStore ask
+  in_order_opening state ask is none asked =
+      let looks : Some (asks.Look store.parts.objects true) ≡ Some ask = ap (openings.ask_of store.parts.objects) (sym is) ∙ asked in
+      let same : asks.Look store.parts.objects true ≡ ask = cc looks in
+      (none, sym same)
+
+  by_query : (query : Query) (id : ObjectId) (folder : Path) (ask : DiskAsk) → id ≡ sought store.parts ignoring query → slice_get (folder_list store.parts) turns ≡ Some folder → disk_ask_of (asking store.parts.limit query id folder) ≡ Some ask
+      → AsksInOrder first events handle store ignoring begun turns (MakeCall (call_of query)) ask
+  by_query (Find asked) id folder ask is place e =
+      let same : asks.Read (loose_path folder id) ≡ ask = cc e in record { folder = folder; place = place; is = sym same ∙ ap (λ i. asks.Read (loose_path folder i)) is }
+  by_query (Header asked) id folder ask is place e =
+      let same : asks.Read (loose_path folder id) ≡ ask = cc e in record { folder = folder; place = place; is = sym same ∙ ap (λ i. asks.Read (loose_path folder i)) is }
+  by_query (Test asked) id folder ask is place e =
+      let same : asks.Look (loose_path folder id) true ≡ ask = cc e in record { folder = folder; place = place; is = sym same ∙ ap (λ i. asks.Look (loose_path folder i) true) is }
+
+  -- a query asks the folder of its turn
+  pub in_order_query : (state : LookState) (ask : DiskAsk) → state.head.id ≡ sought store.parts ignoring state.head.query
+      → Seeks (tree_at first events) (FailedSince events handle begun) store begun (length events) turns state.head.query state.head.id state.stage → ask_at state.stage ≡ Some ask
+      → AsksInOrder first events handle store ignoring begun turns (MakeCall (call_of state.head.query)) ask
+  in_order_query state ask is seeks asked = by_query state.head.query state.head.id seeks.folder ask is seeks.place (ap ask_at (sym seeks.stage_is) ∙ asked)
+
+module _ (first : Volume) (events : List Event) (handle begun turns : ℕ) (w : ToWrite) where
+  abbrev Asks : DiskAsk → Type 0
+  Asks ask = AsksToWrite first events handle begun turns w ask
+
+  whole_pieces : (count : ℕ) → pieces_of (65536 * count) ≡ count
+  whole_pieces count = omega arith
+
+  by_pieces : (number written : ℕ) → StandsAt first events handle begun turns w (stages.Filling number written) → written < length w.bytes → IsInPieces written → Asks (asks.Append (temp_path w.objects number) (piece_at w.size w.bytes written))
+  by_pieces number written s more pieces =
+      let turn : turns ≡ number + 2 + pieces.0 = s.had ∙ (ap (λ n. number + 2 + pieces_of n) pieces.1 ∙ ap (λ n. number + 2 + n) (whole_pieces pieces.0)) in
+      subst (λ n. Asks (asks.Append (temp_path w.objects number) (piece_at w.size w.bytes n))) (sym pieces.1)
+      (AppendsPiece number (made_before first events handle begun turns w (stages.Filling number written) number refl s) pieces.0 turn (subst (λ n. n < length w.bytes) pieces.1 more))
+
+  -- each stage of a write asks in its turn
+  at_stage : (stage : WriteStage) → IsWaiting w stage → StandsAt first events handle begun turns w stage → Asks (ask_at_stage w stage)
+  at_stage (stages.Making number) more s = MakesFile number (below (head_to_write w) (λ id. id ≡ name_to_write w) (λ n. OtherLength (Some w.bytes) w.size n) (stages.Making number) s.appended s.past s.history) s.had
+  at_stage (stages.Heading number) more s = AppendsHeader number (made_before first events handle begun turns w (stages.Heading number) number refl s) s.had
+  at_stage (stages.Filling number written) more s = by_pieces number written s more (s.front.2 more)
+  at_stage (stages.Foldering number id) more s =
+      subst (λ i. Asks (asks.MakeDir (prefix_path w.objects i))) (sym s.history.1) (MakesDirectory number (made_before first events handle begun turns w (stages.Foldering number id) number refl s) s.had)
+  at_stage (stages.Moving number id) more s =
+      subst (λ i. Asks (asks.Rename (temp_path w.objects number) (loose_path w.objects i))) (sym s.history.1) (Renames number (made_before first events handle begun turns w (stages.Moving number id) number refl s) s.had)
+  at_stage (stages.Removing number refusal) more s = Removes number (made_before first events handle begun turns w (stages.Removing number refusal) number refl s)
+
+-- a running write asks in its turn
+pub in_order_write : (first : Volume) (events : List Event) (handle : ℕ) (store : Store) (ignoring : Bool) (begun turns : ℕ) (folder : LooseCall) (writes : IsWriting first events handle begun turns store.parts.objects folder)
+    → AsksInOrder first events handle store ignoring begun turns (MakeCall (call_to_write writes.write)) (ask_at_stage writes.write writes.stage)
+in_order_write first events handle store ignoring begun turns folder writes =
+    let w : ToWrite = writes.write in
+    subst (λ objects. AsksToWrite first events handle begun turns (to_write objects w.kind w.size w.bytes w.known) (ask_at_stage w writes.stage)) writes.into
+    (at_stage first events handle begun turns w writes.stage writes.more writes.stands)

@@ -1,0 +1,87 @@
+//! Lines that are played, of which one may take several steps.
+use crate::played::outcome_shown;
+use crate::words::{compare, step_of};
+use gix_odb_world::{Line, OutcomeList, Play, World};
+use odb_disk::MemDisk;
+use std::alloc::Global;
+use std::test::Fail;
+
+/// The outcomes of a run, in a row.
+fn outcomes_shown(alloc: Global, outcomes: &OutcomeList) -> Result<String, Fail> {
+    let mut text = String::new(alloc);
+    for outcome in outcomes.as_slice() {
+        let told = outcome_shown(alloc, outcome)?;
+        text.push_str(told.as_str())?;
+        text.push_str("; ")?;
+    }
+    Ok(text)
+}
+
+fn line_of(alloc: Global, text: &str) -> Result<Line, Fail> {
+    match text.strip_prefix("finish ") {
+        Some(handle) => finish_of(handle),
+        None => Ok(Line::One(step_of(alloc, text)?)),
+    }
+}
+
+fn finish_of(text: &str) -> Result<Line, Fail> {
+    let handle = text.parse::<u32>()?;
+    Ok(Line::Finish { handle })
+}
+
+fn lines_of(alloc: Global, rows: &str) -> Result<Vec<Line>, Fail> {
+    let mut lines = Vec::new(alloc);
+    for row in rows.split('\n') {
+        lines.push(line_of(alloc, row)?)?;
+    }
+    Ok(lines)
+}
+
+fn played(alloc: Global, rows: &str) -> Result<Play, Fail> {
+    let lines = lines_of(alloc, rows)?;
+    let disk = MemDisk::new(alloc)?;
+    Ok(World::play(alloc, disk, &lines)?)
+}
+
+/// How many steps were made, and each line's last.
+fn places_shown(alloc: Global, play: &Play) -> Result<String, Fail> {
+    let count = play.steps.len();
+    let last = play.last.as_slice();
+    Ok(format!(in alloc; "{count} {last:?}")?)
+}
+
+// The second folder isn't there, so that a find takes two turns.
+const LINES: &str = "\
+    make /o\n\
+    open 0 /o folder=/p\n\
+    finish 0\n\
+    find 0 Z\n\
+    finish 0\n\
+    finish 0\n\
+    write 0 0 -\n\
+    finish 0\n\
+    close 0";
+
+const LINE_OUTCOMES: &str = "\
+    applied; applied; 32 slots; applied; pending; not found; misuse NotRunning; applied; pending; pending; pending; \
+    wrote e69de29bb2d1d6434b8b29ae775ad8c2e48c5391; applied; ";
+
+const LINE_PLACES: &str = "13 [0, 1, 2, 3, 5, 6, 7, 11, 12]";
+
+fn check_outcomes(alloc: Global, play: &Play) -> Result<(), Fail> {
+    let found = outcomes_shown(alloc, &play.run.outcomes)?;
+    compare("lines", found.as_str(), LINE_OUTCOMES)
+}
+
+fn check_places(alloc: Global, play: &Play) -> Result<(), Fail> {
+    let found = places_shown(alloc, play)?;
+    compare("places", found.as_str(), LINE_PLACES)
+}
+
+// A line whose place is that of its first step, or a turn too many.
+#[test]
+fn plays_lines(rt: HostRuntime) -> Result<(), Fail> {
+    let play = played(rt.alloc(), LINES)?;
+    check_outcomes(rt.alloc(), &play)?;
+    check_places(rt.alloc(), &play)
+}

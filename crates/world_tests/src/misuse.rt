@@ -1,0 +1,21 @@
+//! Steps that aren't valid, and the first reason of each.
+
+// A reason that hides an earlier one, a find that remembers a file that is gone when its turn comes, or a misused step
+// that makes a call of the disk.
+pub(crate) const MISUSES: &str = "\
+    make /o; make /o/e6; put /o:E blob 0~|\n\
+    turn 0; close 0; ignore 0; find 0 E; write 0 0 -|\
+    misuse NoHandle; misuse NoHandle; misuse NoHandle; misuse NoHandle; misuse NoHandle\n\
+    open 0 /o; open 0 /o; open 0 /o folder=/o|misuse HandleTaken; misuse HandleTaken\n\
+    close 0; ignore 0; find 0 E; write 0 0 -|misuse Busy; misuse Busy; misuse Busy; misuse Busy\n\
+    turn 0; turn 0|32 slots; misuse NotRunning\n\
+    find 0 E; close 0; take /o:E; turn 0|misuse Busy; not found\n\
+    take /o:E; make /o/e6; make /x/y; put /o x; move /x /y|misuse ImpossibleChange; misuse ImpossibleChange; \
+    misuse ImpossibleChange; misuse ImpossibleChange; misuse ImpossibleChange\n\
+    ignore 0; put /o:E blob 0~; write 0 0 -; turn 0; write 0 0 -; close 0; ignore 0|\
+    pending; misuse Busy; misuse Busy; misuse Busy\n\
+    finish 0; close 0; close 0|3: wrote e69de29bb2d1d6434b8b29ae775ad8c2e48c5391; misuse NoHandle\n\
+    open 0 /x; turn 0; turn 0|the objects directory is not a directory; misuse NoHandle\n\
+    open 0 /o:E; turn 0|the objects directory is not a directory\n\
+    open 0 /o slots=32768; turn 0|32768 slots are too many\n\
+    open 0 /o slots=32767; turn 0|32767 slots";

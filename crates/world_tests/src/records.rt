@@ -1,0 +1,66 @@
+//! What each step of a run did to the disk.
+use crate::played::record_shown;
+use crate::words::{compare, halves, step_of};
+use gix_odb_world::{Run, Step, World};
+use odb_disk::MemDisk;
+use std::alloc::Global;
+use std::test::Fail;
+
+/// Compares what each step of a run did with the second half of its row.
+fn check_records(alloc: Global, run: &Run, rows: &str) -> Result<(), Fail> {
+    for (record, row) in run.records.as_slice().iter().zip(rows.split('\n')) {
+        let (step, want) = halves(row);
+        let found = record_shown(alloc, record)?;
+        compare(step, found.as_str(), want)?;
+    }
+    Ok(())
+}
+
+fn steps_of(alloc: Global, rows: &str) -> Result<Vec<Step>, Fail> {
+    let mut steps = Vec::new(alloc);
+    for row in rows.split('\n') {
+        let (step, _) = halves(row);
+        steps.push(step_of(alloc, step)?)?;
+    }
+    Ok(steps)
+}
+
+/// The run of the steps of the rows.
+fn run_of(alloc: Global, faults: &[u64], rows: &str) -> Result<Run, Fail> {
+    let steps = steps_of(alloc, rows)?;
+    let disk = MemDisk::with_faults(alloc, faults)?;
+    Ok(World::run(alloc, disk, &steps)?)
+}
+
+const RECORDS: &str = "\
+    make /o|- true 0\n\
+    open 0 /o|- false 0\n\
+    turn 0|Look /o true false 1\n\
+    open 0 /o|- false 1\n\
+    turn 0|Look /o false false 1\n\
+    open 1 /o|- false 1\n\
+    turn 1|Look /o false false 1\n\
+    find 0 E|- false 1\n\
+    turn 0|Read /o/e6/9de29bb2d1d6434b8b29ae775ad8c2e48c5391 true false 2\n\
+    write 0 0 -|- false 2\n\
+    write 1 1 - x|- false 2\n\
+    turn 0|NewFile /o/tmp_obj_0 false true 2\n\
+    turn 1|NewFile /o/tmp_obj_0 false false 2\n\
+    turn 1|NewFile /o/tmp_obj_1 false true 2\n\
+    take /x|- false 2\n\
+    turn 0|Append /o/tmp_obj_0 false true 2\n\
+    turn 0|MakeDir /o/e6 true false 3\n\
+    turn 0|Remove /o/tmp_obj_0 false true 3\n\
+    turn 1|Append /o/tmp_obj_1 false true 3\n\
+    turn 1|Append /o/tmp_obj_1 false true 3\n\
+    turn 1|MakeDir /o/c1 false true 3\n\
+    turn 1|Rename /o/tmp_obj_1 false true 3\n\
+    close 0|- false 3";
+
+// A failed call that is counted twice or makes its change, a path of another call, or a change that is lost.
+#[test]
+fn records_what_each_step_did(rt: HostRuntime) -> Result<(), Fail> {
+    let run = run_of(rt.alloc(), &[1, 4, 9], RECORDS)?;
+    assert!(rt; run.records.len() == 23 && run.outcomes.len() == 23);
+    check_records(rt.alloc(), &run, RECORDS)
+}
