@@ -1,6 +1,7 @@
 #!/usr/bin/env bash
-# Runs each script of this folder and compares what it prints with the `.output` file beside it.
-# The program is the one that `rt ci`, or ../gitodb, built.
+# Runs the program that `rt ci`, or ../gitodb, built, and compares what it writes and the status that it ends with:
+# for each `.script` of this folder the `.output` beside it and status 0, for each line of refused.txt what stands there,
+# and for words, streams and long scripts what stands below.
 set -u -o pipefail
 cd "$(dirname "$0")" || exit 1
 program=${1:-../crates/gitodb/out/gitodb}
@@ -9,10 +10,84 @@ if [ ! -x "$program" ]; then
     exit 1
 fi
 wrong=0
+
+# Compares what words come to, over standard input, with a status and a text.
+expect() { # NAME STATUS TEXT WORD..
+    local name=$1 want found
+    want=$(printf '%b' "$3"; echo "status $2")
+    found=$("$program" "${@:4}"; echo "status $?")
+    if [ "$found" != "$want" ]; then
+        printf 'examples: %s\ncomes to\n%s\nin place of\n%s\n' "$name" "$found" "$want" >&2
+        wrong=1
+    fi
+}
+
 for script in *.script; do
-    if ! "$program" world <"$script" | diff "${script%.script}.output" -; then
-        echo "examples: $script prints something else" >&2
+    if ! diff <(cat "${script%.script}.output"; echo "status 0") <("$program" world <"$script"; echo "status $?"); then
+        echo "examples: $script comes to something else" >&2
         wrong=1
     fi
 done
+
+# The table in which a line of refused.txt stands: its status, its text, and the line before it.
+table= status= text= front=
+while IFS= read -r line; do
+    case $line in
+    '' | '#'*) ;;
+    '== scripts') table=scripts ;;
+    '== '*)
+        table=lines front= number=1
+        read -r _ status text <<<"$line"
+        if [[ $text == *' behind '* ]]; then
+            front="${text#* behind }\n" text=${text%% behind *} number=2
+        fi
+        ;;
+    *)
+        if [ "$table" = lines ]; then
+            expect "$line" "$status" "line $number $text\n" world < <(printf '%b' "$front$line\n")
+        else
+            read -r status text <<<"${line##* => }"
+            expect "$line" "$status" "${text:+$text\n}" world < <(printf '%b' "${line%% => *}")
+        fi
+        ;;
+    esac
+done <refused.txt
+
+# Words that are none of the program's, of which no script is read.
+for word in '' frob World 'world ' --Help; do
+    expect "the word '$word'" 1 'words not understood\n' "$word" <first_find.script
+done
+expect 'no word' 1 'words not understood\n' <first_find.script
+expect 'a word too many' 1 'words not understood\n' world frob <first_find.script
+expect 'an empty word behind another' 1 'words not understood\n' world '' <first_find.script
+expect 'two words' 1 'words not understood\n' --help world <first_find.script
+expect 'a word that is no text' 1 'words not understood\n' $'\xff' <first_find.script
+
+expect 'the version' 0 'gitodb 0.1.0\n' --version <first_find.script
+if [[ $("$program" --help) != 'usage: gitodb world '* ]]; then
+    echo "examples: --help begins with something else" >&2
+    wrong=1
+fi
+
+# A folder can't be read as a file, and nothing can be written to a full device.
+expect 'a source that fails' 3 '' world <.
+for word in world --help --version frob; do
+    "$program" "$word" <first_find.script >/dev/full
+    if [ $? != 4 ]; then
+        echo "examples: a failed write of $word is not told by its status" >&2
+        wrong=1
+    fi
+done
+
+# A script of two lines and a comment that is so long.
+long() {
+    printf 'steps\nturn 0\n'
+    head -c "$1" /dev/zero | tr '\0' '#'
+}
+limit=67108864
+told='misuse no-handle\n'
+expect 'a script of the greatest length' 0 "$told" world < <(long $((limit - 13)) 2>/dev/null)
+expect 'a script of one byte more' 2 "${told}line 3 refused\n" world < <(long $((limit - 12)) 2>/dev/null)
+expect 'a script without end' 2 "${told}line 3 refused\n" world < <(long $((1 << 50)) 2>/dev/null)
+./check_list_walk.sh || wrong=1
 exit "$wrong"

@@ -63,33 +63,26 @@ reading_from-more is_cut bytes line more number script e =
     ap (λ lines. reading_from (items_in is_cut lines) number script) e
     ∙ ap (λ items. reading_from items number script) (items_in-more is_cut line (lines_in more) (some_line more))
 
-module _ (is_cut : Bool) (bytes line more : List ℕ) (number : ℕ) (script next : Script) (item : Item) (first : lines_in bytes ≡ line ∷ lines_in more) (item_is : item ≡ item_of line) where
-  begun : reading_from (items_in is_cut (lines_in bytes)) number script ≡ carried (reading_from (items_in is_cut (lines_in more)) (number + 1)) number (taken script item)
-  begun =
-      reading_from-more is_cut bytes line more number script first
-      ∙ ap (λ i. carried (reading_from (items_in is_cut (lines_in more)) (number + 1)) number (taken script i)) (sym item_is)
+module _ (is_cut : Bool) (bytes line more : List ℕ) (number : ℕ) (script next : Script) (first : lines_in bytes ≡ line ∷ lines_in more) where
+  begun : reading_from (items_in is_cut (lines_in bytes)) number script ≡ carried (reading_from (items_in is_cut (lines_in more)) (number + 1)) number (taken script (item_of line))
+  begun = reading_from-more is_cut bytes line more number script first
 
   -- it goes on with the lines after it
-  pub goes_on : taken script item ≡ GoesOn next → reading_from (items_in is_cut (lines_in bytes)) number script ≡ reading_from (items_in is_cut (lines_in more)) (number + 1) next
+  pub goes_on : taken script (item_of line) ≡ GoesOn next → reading_from (items_in is_cut (lines_in bytes)) number script ≡ reading_from (items_in is_cut (lines_in more)) (number + 1) next
   goes_on e = begun ∙ ap (carried (reading_from (items_in is_cut (lines_in more)) (number + 1)) number) e
 
   -- or ends there
-  pub refused : taken script item ≡ RefusedHere next → reading_from (items_in is_cut (lines_in bytes)) number script ≡ record { script = next; ending = RefusedAt number }
+  pub refused : taken script (item_of line) ≡ RefusedHere next → reading_from (items_in is_cut (lines_in bytes)) number script ≡ record { script = next; ending = RefusedAt number }
   refused e = begun ∙ ap (carried (reading_from (items_in is_cut (lines_in more)) (number + 1)) number) e
 
-  pub not_built : taken script item ≡ NotBuiltHere next → reading_from (items_in is_cut (lines_in bytes)) number script ≡ record { script = next; ending = NotBuiltAt number }
+  pub not_built : taken script (item_of line) ≡ NotBuiltHere next → reading_from (items_in is_cut (lines_in bytes)) number script ≡ record { script = next; ending = NotBuiltAt number }
   not_built e = begun ∙ ap (carried (reading_from (items_in is_cut (lines_in more)) (number + 1)) number) e
 
 -- the last line is taken, or refused where it is cut off
-reading_from-last : (is_cut : Bool) (bytes : List ℕ) (number : ℕ) (script : Script) → lines_in bytes ≡ bytes ∷ [] → reading_from (items_in is_cut (lines_in bytes)) number script ≡ carried (reading_from [] (number + 1)) number (taken script (if is_cut then Refused else item_of bytes))
+pub last : (is_cut : Bool) (bytes : List ℕ) (number : ℕ) (script : Script) → lines_in bytes ≡ bytes ∷ [] → reading_from (items_in is_cut (lines_in bytes)) number script ≡ carried (reading_from [] (number + 1)) number (taken script (if is_cut then Refused else item_of bytes))
 unfolding reading_from
-reading_from-last false bytes number script e = ap (λ lines. reading_from (items_in false lines) number script) e
-reading_from-last true bytes number script e = ap (λ lines. reading_from (items_in true lines) number script) e
-
-pub last : (is_cut : Bool) (bytes : List ℕ) (number : ℕ) (script : Script) (item : Item) → lines_in bytes ≡ bytes ∷ [] → item ≡ (if is_cut then Refused else item_of bytes) → reading_from (items_in is_cut (lines_in bytes)) number script ≡ carried (reading_from [] (number + 1)) number (taken script item)
-last is_cut bytes number script item e item_is =
-    reading_from-last is_cut bytes number script e
-    ∙ ap (λ i. carried (reading_from [] (number + 1)) number (taken script i)) (sym item_is)
+last false bytes number script e = ap (λ lines. reading_from (items_in false lines) number script) e
+last true bytes number script e = ap (λ lines. reading_from (items_in true lines) number script) e
 
 -- ---- the limit
 

@@ -15,15 +15,10 @@ abbrev pub unbuilt_words : List (List ℕ)
 unbuilt_words =
     codes "ids" ∷ codes "clone" ∷ codes "upgrade" ∷ codes "never" ∷ codes "prefix" ∷ codes "locate" ∷ codes "entry" ∷ []
 
--- the word that a line may begin with
-unfoldable pub word_of : List ℕ → Option Word
-word_of text =
-    if same_name text (codes "fail") then Some words.Fail
-    else if same_name text (codes "mkdir") then Some words.Mkdir
-    else if same_name text (codes "put") then Some words.Put
-    else if same_name text (codes "link") then Some words.Link
-    else if same_name text (codes "steps") then Some words.Steps
-    else if same_name text (codes "open") then Some words.Open
+-- the word of a step, with which a line may begin
+abbrev pub step_word_of : List ℕ → Option Word
+step_word_of text =
+    if same_name text (codes "open") then Some words.Open
     else if same_name text (codes "close") then Some words.Close
     else if same_name text (codes "ignore") then Some words.Ignore
     else if same_name text (codes "find") then Some (words.Ask questions.Find)
@@ -37,6 +32,16 @@ word_of text =
     else if same_name text (codes "do") then Some words.Do
     else if is_one_of unbuilt_words text then Some words.NotBuilt
     else None
+
+-- the word that a line may begin with: of the setup, or of a step
+unfoldable pub word_of : List ℕ → Option Word
+word_of text =
+    if same_name text (codes "fail") then Some words.Fail
+    else if same_name text (codes "mkdir") then Some words.Mkdir
+    else if same_name text (codes "put") then Some words.Put
+    else if same_name text (codes "link") then Some words.Link
+    else if same_name text (codes "steps") then Some words.Steps
+    else step_word_of text
 
 -- the word that may follow `do`
 unfoldable pub change_word_of : List ℕ → Option Word

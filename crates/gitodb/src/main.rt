@@ -5,6 +5,10 @@
 //! calls it with the real ones.
 #![tactic(auto)]
 
+ghost use Rattle.std.specs.Prelude.{◌≡◌};
+ghost use Rattle.std.specs.Process.{exit_status};
+ghost use Rattle.gitodb.specs.Status.{code_of};
+
 mod command;
 mod print;
 mod run;
@@ -26,18 +30,25 @@ fn main(rt: HostRuntime) -> ExitCode {
     let words = match words(&rt, alloc) {
         Ok(words) => words,
         Err(error) if error.kind() == io::ErrorKind::OutOfMemory => {
-            return ExitCode::from(Status::NoMemory.code());
+            return exit_code(Status::NoMemory);
         }
         // Arguments that are no text are words that aren't understood.
         Err(_) => Vec::new(alloc),
     };
     let Ok(files) = rt.clone() else {
-        return ExitCode::from(Status::NoMemory.code());
+        return exit_code(Status::NoMemory);
     };
     let mut source = StdSource::new(rt.reader());
     let mut sink = StdSink::new(io::writer(&rt));
     let mut disk = HostDisk::new(alloc, files);
     let status = run::run(&rt, alloc, &words, &mut source, &mut sink, &mut disk);
+    exit_code(status)
+}
+
+/// What the process ends with.
+fn exit_code(status: Status) -> ExitCode
+    ensures { exit_status result ≡ code_of status }
+{
     ExitCode::from(status.code())
 }
 

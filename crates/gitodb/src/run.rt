@@ -24,6 +24,7 @@ with `#` say nothing. See docs/SCRIPT.md for the whole language.
   fail N                     the disk's call number N fails; before all others
   mkdir PATH                 a directory is there at the start
   put PATH TIME CONTENT      a file is there at the start
+  link PATH TARGET           a link is there at the start
   steps                      the steps begin
 
   open H PATH slots=N        handle H begins to open the store at PATH; further
@@ -40,8 +41,11 @@ with `#` say nothing. See docs/SCRIPT.md for the whole language.
   finish H                   turns H until its call has ended
   do mkdir PATH              another program makes a directory
   do put PATH TIME CONTENT   another program puts a file
-  do rename PATH PATH        another program moves a file or a directory
-  do remove PATH             another program removes a file or an empty directory
+  do link PATH TARGET        another program makes a link
+  do rename PATH PATH        another program moves a file, a link or a directory
+  do remove PATH             another program removes a file, a link or an empty
+                             directory
+  do time PATH TIME          another program sets the time of a file
 
 CONTENT is DATA, @loose:OBJ, @pack:OBJ,OBJ.., @idx:OBJ,OBJ.. or
 @midx:STEM=OBJ,OBJ..;STEM=OBJ.., and OBJ is KIND:DATA. KIND is commit, tree, blob

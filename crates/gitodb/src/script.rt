@@ -11,3 +11,5 @@ mod write;
 
 pub use item::{Item, item_of};
 pub use reader::{Ending, Reading, SCRIPT_LIMIT, Script, read};
+#[cfg(test)]
+pub use word::{Question, Word, change_word_of, word_of};

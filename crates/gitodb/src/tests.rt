@@ -1,39 +1,15 @@
-//! What no clause says: scripts from outside with what is printed for them, and lines that are read loosely.
-mod lines;
-mod links;
-mod program;
-mod scripts;
-mod words;
-mod writes;
+//! What no clause says: bytes of contents from outside, words that `--help` leaves out, and streams that fail. What is
+//! printed for scripts is compared in the folder of examples.
+mod contents;
+mod help;
+mod streams;
 
-use self::program::{check_ends, check_scripts};
 use std::test::Fail;
 
-#[test]
-fn whole_scripts(rt: HostRuntime) -> Result<(), Fail> {
-    for rows in [
-        scripts::FINDS,
-        scripts::OPENINGS,
-        scripts::REFUSED,
-        writes::WRITERS,
-        writes::FAULTS,
-        links::LINKS,
-        links::WRITES,
-    ] {
-        check_scripts(rt.alloc(), rows)?;
+/// Fails where a row gives something else than is wanted.
+fn compare(row: &str, found: &str, want: &str) -> Result<(), Fail> {
+    if found == want {
+        return Ok(());
     }
-    Ok(())
-}
-
-// Each row is the end of a script whose front is the table's.
-#[test]
-fn ends_of_scripts(rt: HostRuntime) -> Result<(), Fail> {
-    for (front, rows) in [
-        (scripts::DAMAGED_FRONT, scripts::DAMAGED),
-        (writes::FRONT, writes::WRITES),
-        (writes::FRONT, writes::OTHERS),
-    ] {
-        check_ends(rt.alloc(), front, "0 applied|opened 4|", rows)?;
-    }
-    Ok(())
+    Err(Fail::new(format_args!("{row}: {found} in place of {want}")))
 }

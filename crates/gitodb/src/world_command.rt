@@ -1,14 +1,17 @@
 //! `world`: a script in, a line for each of its step lines out.
 ghost use Rattle.std.specs.Prelude.{◌≡◌, ◌++◌, ℕ, IfOk, OnOk};
 ghost use Rattle.std.specs.Option.{option_copied};
+ghost use Rattle.gix_odb_world.specs.Headline.{Headline};
+ghost use Rattle.gix_odb_world.specs.Play.{Plays, made_of};
 ghost use Rattle.gitodb.specs.Print.{printed_at, ending_text, line_of};
 ghost use Rattle.gitodb.specs.Session.{AnswersWith, status_of_ending};
 
 use crate::print::{labelled, print_outcome, text};
 use crate::script::{Ending, read};
 use crate::status::Status;
-use gix_odb_world::{Outcome, OutcomeList, World};
-use odb_base::NoMemory;
+use gix_odb_world::{Line, Outcome, OutcomeList, Play, World};
+use odb_base::{NoMemory, Sequence};
+use odb_disk::MemDisk;
 use std::alloc::Global;
 
 /// What is written for a script, and the status.
@@ -16,11 +19,27 @@ pub fn answer_script(alloc: Global, script: &[u8]) -> Result<(Vec<u8>, Status), 
     ensures { IfOk result (λ answer. AnswersWith script.now answer.0.items answer.1) }
 {
     let (disk, lines, ending) = read(alloc, script)?.into_parts(alloc)?;
-    let play = World::play(alloc, disk, lines.as_slice())?;
+    let play = played(alloc, disk, lines)?;
+    let out = printed(alloc, &play, ending)?;
+    Ok((out, status_of(ending)))
+}
+
+/// The play of lines on a disk.
+fn played(alloc: Global, disk: MemDisk, lines: Sequence<Line>) -> Result<Play, NoMemory>
+    ensures headline { IfOk result (λ play. Headline disk play.steps play.run) }
+    ensures plays { IfOk result (λ play. Plays 0 lines (made_of play.steps play.run.outcomes) play.last) }
+{
+    World::play(alloc, disk, lines.as_slice())
+}
+
+/// What is written for a play, and for the ending of its script.
+fn printed(alloc: Global, play: &Play, ending: Ending) -> Result<Vec<u8>, NoMemory>
+    ensures { IfOk result (λ out. out.items ≡ printed_at play.now.run.outcomes play.now.last ++ ending_text ending) }
+{
     let mut out = Vec::new(alloc);
     print_places(alloc, &mut out, &play.run.outcomes, play.last.as_slice())?;
     print_ending(alloc, &mut out, ending)?;
-    Ok((out, status_of(ending)))
+    Ok(out)
 }
 
 /// Adds a line for the outcome at each place.

@@ -84,12 +84,18 @@ fn with_line(script: Script, line: Line) -> Result<Taken, NoMemory>
     ensures { IfOk result (λ t. t ≡ taken script (Item.Play line)) }
 {
     match script {
-        Script::Steps { disk, mut lines } => {
-            lines.push(line)?;
-            Ok(Taken::GoesOn(Script::Steps { disk, lines }))
-        }
+        Script::Steps { disk, lines } => one_more(disk, lines, line),
         script => Ok(Taken::RefusedHere(script)),
     }
+}
+
+#[tactic(auto, unfolding(crate::specs::Script::taken))]
+fn one_more(disk: MemDisk, lines: Sequence<Line>, line: Line) -> Result<Taken, NoMemory>
+    ensures { IfOk result (λ t. t ≡ taken (Script.Steps disk lines) (Item.Play line)) }
+{
+    let mut lines = lines;
+    lines.push(line)?;
+    Ok(Taken::GoesOn(Script::Steps { disk, lines }))
 }
 
 /// The steps begin.
@@ -113,22 +119,33 @@ fn set_up(script: Script, alloc: Global, change: Change) -> Result<Taken, NoMemo
     ensures { IfOk result (λ t. t ≡ taken script (Item.Setup change)) }
 {
     match script {
-        Script::Faults(numbers) => {
-            let mut disk = MemDisk::with_faults(alloc, numbers.as_slice())?;
-            if try_change(&mut disk, alloc, &change)? {
-                Ok(Taken::GoesOn(Script::Setup(disk)))
-            } else {
-                Ok(Taken::RefusedHere(Script::Faults(numbers)))
-            }
-        }
-        Script::Setup(mut disk) => {
-            if try_change(&mut disk, alloc, &change)? {
-                Ok(Taken::GoesOn(Script::Setup(disk)))
-            } else {
-                Ok(Taken::RefusedHere(Script::Setup(disk)))
-            }
-        }
+        Script::Faults(numbers) => first_change(numbers, alloc, &change),
+        Script::Setup(disk) => next_change(disk, alloc, &change),
         script => Ok(Taken::RefusedHere(script)),
+    }
+}
+
+#[tactic(auto, unfolding(crate::specs::Script::taken))]
+fn first_change(numbers: Sequence<u64>, alloc: Global, change: &Change) -> Result<Taken, NoMemory>
+    ensures { IfOk result (λ t. t ≡ taken (Script.Faults numbers) (Item.Setup change.now)) }
+{
+    let mut disk = MemDisk::with_faults(alloc, numbers.as_slice())?;
+    if try_change(&mut disk, alloc, change)? {
+        Ok(Taken::GoesOn(Script::Setup(disk)))
+    } else {
+        Ok(Taken::RefusedHere(Script::Faults(numbers)))
+    }
+}
+
+#[tactic(auto, unfolding(crate::specs::Script::taken))]
+fn next_change(disk: MemDisk, alloc: Global, change: &Change) -> Result<Taken, NoMemory>
+    ensures { IfOk result (λ t. t ≡ taken (Script.Setup disk) (Item.Setup change.now)) }
+{
+    let mut disk = disk;
+    if try_change(&mut disk, alloc, change)? {
+        Ok(Taken::GoesOn(Script::Setup(disk)))
+    } else {
+        Ok(Taken::RefusedHere(Script::Setup(disk)))
     }
 }
 
@@ -186,8 +203,7 @@ fn read_lines(alloc: Global, bytes: &[u8], is_cut: bool) -> Result<Reading, NoMe
     let mut rest = bytes;
     let mut number = 1;
     while let Some((line, more)) = next_line(rest) {
-        let item = item_of(alloc, line)?;
-        match script.take(alloc, item)? {
+        match with_text(script, alloc, line)? {
             Taken::GoesOn(next) => script = next,
             Taken::RefusedHere(script) => return Ok(refused_at(script, number)),
             Taken::NotBuiltHere(script) => return Ok(not_built_at(script, number)),
@@ -195,7 +211,28 @@ fn read_lines(alloc: Global, bytes: &[u8], is_cut: bool) -> Result<Reading, NoMe
         rest = more;
         number += 1;
     }
-    let item = last_item(alloc, rest, is_cut)?;
+    with_last(script, alloc, rest, is_cut, number)
+}
+
+/// The script with the line more that is these bytes.
+fn with_text(script: Script, alloc: Global, line: &[u8]) -> Result<Taken, NoMemory>
+    ensures { IfOk result (λ t. t ≡ taken script (item_of line.now)) }
+{
+    let item = item_of(alloc, line)?;
+    script.take(alloc, item)
+}
+
+/// The reading of a script with its last line, which has this number.
+fn with_last(
+    script: Script,
+    alloc: Global,
+    line: &[u8],
+    is_cut: bool,
+    number: u64,
+) -> Result<Reading, NoMemory>
+    ensures { IfOk result (λ reading. reading ≡ carried (reading_from [] (number + 1)) number (taken script (if is_cut then Item.Refused else item_of line.now))) }
+{
+    let item = last_item(alloc, line, is_cut)?;
     Ok(reading_at(script.take(alloc, item)?, number))
 }
 

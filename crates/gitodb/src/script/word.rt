@@ -1,5 +1,5 @@
 ghost use Rattle.std.specs.Prelude.{◌≡◌, Some, None, if◌then◌else◌};
-ghost use Rattle.gitodb.specs.Word.{word_of, change_word_of, unbuilt_words, is_one_of};
+ghost use Rattle.gitodb.specs.Word.{word_of, step_word_of, change_word_of, unbuilt_words, is_one_of};
 
 /// A question about the object of an id.
 #[derive(Clone, Copy, Debug, PartialEq, Eq)]
@@ -46,6 +46,15 @@ pub fn word_of(text: &str) -> Option<Word>
         "put" => Some(Word::Put),
         "link" => Some(Word::Link),
         "steps" => Some(Word::Steps),
+        _ => step_word_of(text),
+    }
+}
+
+/// The word of a step, or one that isn't built yet, with which a line may begin.
+fn step_word_of(text: &str) -> Option<Word>
+    ensures { result ≡ step_word_of text.now }
+{
+    match text {
         "open" => Some(Word::Open),
         "close" => Some(Word::Close),
         "ignore" => Some(Word::Ignore),

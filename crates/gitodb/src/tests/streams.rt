@@ -1,0 +1,52 @@
+//! Sources and sinks that fail.
+use crate::run::run;
+use crate::status::Status;
+use odb_disk::{MemDisk, MemSink, MemSource};
+use std::alloc::Global;
+use std::test::Fail;
+
+/// The status of a word where the calls with these numbers fail, if nothing was written.
+fn status_of(
+    alloc: Global,
+    word: &str,
+    reads: &[u64],
+    writes: &[u64],
+) -> Result<Option<Status>, Fail> {
+    let words = vec![in alloc; word.to_string(alloc)?]?;
+    let mut source = script_of(alloc, reads)?;
+    let mut sink = MemSink::with_faults(alloc, writes)?;
+    let mut disk = MemDisk::new(alloc)?;
+    let status = run(&(), alloc, &words, &mut source, &mut sink, &mut disk);
+    Ok(sink.bytes().is_empty().then_some(status))
+}
+
+fn script_of(alloc: Global, reads: &[u64]) -> Result<MemSource, Fail> {
+    let script = b"steps\nturn 0\n".to_vec(alloc)?;
+    Ok(MemSource::with_faults(alloc, script, reads)?)
+}
+
+fn is_read_fault(alloc: Global, call: u64) -> Result<bool, Fail> {
+    Ok(status_of(alloc, "world", &[call], &[])? == Some(Status::ReadFault))
+}
+
+fn is_write_fault(alloc: Global, word: &str) -> Result<bool, Fail> {
+    Ok(status_of(alloc, word, &[], &[1])? == Some(Status::WriteFault))
+}
+
+// A failed read that is taken for the end, at the first call or behind the whole script.
+#[test]
+fn tells_of_failed_reads(rt: HostRuntime) -> Result<(), Fail> {
+    for call in [1, 2] {
+        assert!(rt; is_read_fault(rt.alloc(), call)?);
+    }
+    Ok(())
+}
+
+// A failed write that is taken for success.
+#[test]
+fn tells_of_failed_writes(rt: HostRuntime) -> Result<(), Fail> {
+    for word in ["world", "--help", "--version", "frob"] {
+        assert!(rt; is_write_fault(rt.alloc(), word)?);
+    }
+    Ok(())
+}

@@ -1,0 +1,91 @@
+#!/usr/bin/env bash
+# Runs list_walk over folders that it makes, and compares the lines and the status with those that are wanted.
+# The program is the one that `rt ci` built, or the one that is named.
+set -u
+program=$(realpath "${1:-$(dirname "$0")/../crates/list_walk/out/list_walk}")
+if [ ! -x "$program" ]; then
+    echo "examples: no program at $program: build it with rt ci list_walk" >&2
+    exit 1
+fi
+folder=$(mktemp -d) && cd "$folder" || exit 1
+trap 'rm -rf "$folder"' EXIT
+wrong=0
+
+fail() {
+    echo "examples: list_walk $1" >&2
+    wrong=1
+}
+
+# A row has the status, the words and the lines with a blank behind each. `@` stands for the folder.
+check() {
+    local status words lines found
+    while IFS='|' read -r status words lines; do
+        # shellcheck disable=SC2086
+        found=$("$program" ${words//@/$folder} | tr '\n' ' '; echo "|${PIPESTATUS[0]}")
+        [ "$found" = "${lines//@/$folder}|$status" ] || fail "$words: $found"
+    done
+}
+
+mkdir -p t/b/c t/a
+ln -s .. t/b/l
+
+# Shows an option that is taken for another, a word that is passed over, and an error that leaves the status at 0.
+check <<'ROWS'
+0|@/t --sort|@/t @/t/a @/t/b @/t/b/c @/t/b/l 
+0|@/t --sort --contents-first|@/t/a @/t/b/c @/t/b/l @/t/b @/t 
+0|@/t --sort --contents-first --max-open 1 --max-depth 1|@/t/a @/t/b @/t 
+2|@/t --sort --follow --max-open 1|@/t @/t/a @/t/b @/t/b/c File system loop found: @/t/b/l points to an ancestor @/t 
+0|@/t --sort --min-depth 1 --max-depth 1|@/t/a @/t/b 
+0|@/t --max-depth 9 --max-depth 0 --same-file-system|@/t 
+2|@/x|IO error for operation on @/x: Absent 
+1||words not understood 
+1|t|words not understood 
+1|@/t --frob|words not understood 
+1|@/t --max-open|words not understood 
+1|@/t --max-open x|words not understood 
+1|@/t --max-open 1 2|words not understood 
+ROWS
+
+# Shows an item that is lost without an order.
+"$program" "$folder/t" | LC_ALL=C sort | diff <("$program" "$folder/t" --sort | LC_ALL=C sort) - || fail "unsorted"
+
+mkdir -p links/d
+touch links/f links/d/g
+ln -s .. links/d/up
+ln -s f links/to_f
+ln -s d links/to_d
+ln -s none links/to_none
+ln -s itself links/itself
+
+# Shows a link of a real disk that is followed where it mustn't be or isn't where it must, and one that leads nowhere or
+# back and is passed over or walked without end.
+check <<'ROWS'
+0|@/links --sort|@/links @/links/d @/links/d/g @/links/d/up @/links/f @/links/itself @/links/to_d @/links/to_f @/links/to_none 
+2|@/links --sort --follow|@/links @/links/d @/links/d/g File system loop found: @/links/d/up points to an ancestor @/links @/links/f IO error for operation on @/links/itself: LinkLoop @/links/to_d @/links/to_d/g File system loop found: @/links/to_d/up points to an ancestor @/links @/links/to_f IO error for operation on @/links/to_none: Absent 
+ROWS
+
+# The program writes pieces of 32,768 bytes and what is left of the line; the listing of this folder is more than one.
+mkdir wide
+long=a-name-that-is-so-long-that-a-few-hundred-of-its-kind-are-more-than-one-piece-of-output
+for number in {1000..1399}; do
+    : >"wide/$number-$long"
+done
+printf '%s\n' "$folder/wide" "$folder"/wide/* >listing
+
+# Shows a piece that is written twice, out of turn or not at all.
+"$program" "$folder/wide" --sort | cmp - listing || fail "another listing"
+
+# Shows a failed write that is passed over: of the first piece, of the words that aren't understood, and of the last piece.
+"$program" "$folder/wide" --sort >/dev/full
+[ $? = 4 ] || fail "the first write is passed over"
+"$program" --frob >/dev/full
+[ $? = 4 ] || fail "the refusal's write is passed over"
+(
+    trap '' XFSZ
+    ulimit -f 36
+    exec "$program" "$folder/wide" --sort >part
+)
+[ $? = 4 ] || fail "the last write is passed over"
+[ "$(stat -c %s part)" -gt 32768 ] && cmp -n "$(stat -c %s part)" part listing || fail "not a front of the listing"
+
+exit "$wrong"
