@@ -89,5 +89,12 @@ told='misuse no-handle\n'
 expect 'a script of the greatest length' 0 "$told" world < <(long $((limit - 13)) 2>/dev/null)
 expect 'a script of one byte more' 2 "${told}line 3 refused\n" world < <(long $((limit - 12)) 2>/dev/null)
 expect 'a script without end' 2 "${told}line 3 refused\n" world < <(long $((1 << 50)) 2>/dev/null)
+
+# The same, by a program that may have less memory than the script takes.
+found=$(long $((limit - 13)) 2>/dev/null | (ulimit -v 60000 && exec "$program" world); echo "status $?")
+if [ "$found" != 'status 5' ]; then
+    printf 'examples: want of memory comes to\n%s\n' "$found" >&2
+    wrong=1
+fi
 ./check_list_walk.sh || wrong=1
 exit "$wrong"
