@@ -49,8 +49,26 @@ fn answered(alloc: Global, disk: &mut MemDisk, ask: &DiskAsk) -> Result<String, 
 /// The name of a call, and what it gives where the disk is passed it as a value.
 fn carried_out(alloc: Global, disk: &mut MemDisk, text: &str) -> Result<String, Fail> {
     let (verb, rest) = cut(text);
-    let ask = ask_of(alloc, verb, rest)?;
+    let ask = value_of(alloc, verb, rest)?;
     value_shown(alloc, disk, &ask)
+}
+
+/// A call as a value, also one of streams.
+fn value_of(alloc: Global, verb: &str, rest: &str) -> Result<DiskAsk, Fail> {
+    match verb {
+        "open" => open_ask(PathText::parse(alloc, rest)?),
+        "next" => Ok(DiskAsk::NextEntry {
+            dir: dir_of(alloc, rest)?,
+        }),
+        "close" => Ok(DiskAsk::CloseDir {
+            dir: dir_of(alloc, rest)?,
+        }),
+        _ => ask_of(alloc, verb, rest),
+    }
+}
+
+fn open_ask(path: PathText) -> Result<DiskAsk, Fail> {
+    Ok(DiskAsk::OpenDir { path })
 }
 
 fn value_shown(alloc: Global, disk: &mut MemDisk, ask: &DiskAsk) -> Result<String, Fail> {

@@ -2,7 +2,8 @@
 use crate::words::{
     answer_shown, ask_of, compare, cut, error_shown, halves, kind_word, next_shown,
 };
-use odb_disk::{DirId, Disk, DiskAnswer, DiskAsk, Entry, HostDisk, Meta, PathText};
+use odb_disk::{DirId, Disk, DiskAnswer, DiskAsk, Entry, Meta, PathText};
+use odb_host::HostDisk;
 use std::alloc::{AllocError, Global};
 use std::test::Fail;
 use std::{env, fs, io};

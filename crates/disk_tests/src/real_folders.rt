@@ -1,7 +1,8 @@
 //! What a real disk tells of large and odd directories, and the numbers and times that it tells.
 use crate::real::{count, enter, here, listed_there};
 use crate::words::compare;
-use odb_disk::{DirId, Disk, DiskError, Entry, HostDisk, Meta, PathText};
+use odb_disk::{DirId, Disk, DiskError, Entry, Meta, PathText};
+use odb_host::HostDisk;
 use std::alloc::{AllocError, Global};
 use std::fs::{self, Metadata};
 use std::os::unix::fs::MetadataExt;

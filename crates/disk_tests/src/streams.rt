@@ -66,10 +66,28 @@ const AT_A_FILE: &str = "\
     mkdir /a|Exists\n\
     remove /x|Absent";
 
+// Catches a call of streams as a value that is another call, tells another number, or is counted where it closes.
+const VALUES: &str = "\
+    make /a|done\n\
+    put /a/f|done\n\
+    value open /x|OpenDir Absent\n\
+    value open /a|OpenDir 0\n\
+    value open /|OpenDir 1\n\
+    value next 0|NextEntry f File 3\n\
+    value next 0|NextEntry end\n\
+    value next 5|NextEntry Absent\n\
+    value close 0|CloseDir done\n\
+    value next 1|NextEntry Failed\n\
+    value next 0|NextEntry Absent\n\
+    value open /a|OpenDir 0\n\
+    next 1|a Dir 2\n\
+    counts|10 1";
+
 // Catches what the lines above the tables say.
 #[test]
 fn streams(rt: HostRuntime) -> Result<(), Fail> {
     check_anew(rt.alloc(), &[14], ROWS)?;
     check_anew(rt.alloc(), &[], MADE_BY_CALLS)?;
+    check_anew(rt.alloc(), &[7], VALUES)?;
     check_anew(rt.alloc(), &[], AT_A_FILE)
 }

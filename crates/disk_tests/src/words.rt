@@ -126,14 +126,21 @@ fn look_ask(path: PathText, follow: bool) -> DiskAsk {
     DiskAsk::Look { path, follow }
 }
 
-/// An answer in words: what a look or a read tells, `done`, or the error.
+/// An answer in words: what a look or a read tells, a stream's number or what it gives, `done`, or the error.
 pub(crate) fn answer_shown(alloc: Global, answer: &DiskAnswer) -> Result<String, AllocError> {
     match answer {
         DiskAnswer::Meta(meta) => meta_shown(alloc, *meta),
         DiskAnswer::File { bytes, time } => file_shown(alloc, bytes.as_slice(), *time),
         DiskAnswer::Refused(error) => error_shown(alloc, *error),
-        _ => "done".to_string(alloc),
+        DiskAnswer::Dir(dir) => number_shown(alloc, dir.number()),
+        DiskAnswer::Entry(entry) => entry_shown(alloc, entry),
+        DiskAnswer::End => "end".to_string(alloc),
+        DiskAnswer::Done => "done".to_string(alloc),
     }
+}
+
+fn number_shown(alloc: Global, number: u64) -> Result<String, AllocError> {
+    format!(in alloc; "{number}")
 }
 
 /// What a look tells: kind, device, inode number, length and time.

@@ -1,7 +1,7 @@
 -- From the answers of a look and a read to those of a call that is given as a value.
 use Rattle.std.specs.Prelude.{if◌then◌else◌}
 use Rattle.std.specs.Result.{result_ok}
-use Rattle.std.proofs.Common.{◌≡◌, ◌≢◌, true, false, ℕ, Bool, List, Option, Some, None, Result, Ok, Err, IfSome, OnOk, OnErr, refl, sym, ap, ◌∙◌, subst, cond}
+use Rattle.std.proofs.Common.{◌≡◌, ◌≢◌, true, false, ℕ, Bool, List, [], ◌∷◌, Option, Some, None, Result, Ok, Err, IfSome, OnOk, OnErr, refl, sym, ap, ◌∙◌, subst, cond}
 use Rattle.odb_base.specs.Path.{Path}
 use Rattle.odb_disk.specs.Tree.{Tree, State, tree_of}
 use Rattle.odb_disk.specs.Tree.Follow.{Refusal, looked, read_of}
@@ -9,9 +9,13 @@ use Rattle.odb_disk.specs.Tree.Write as writing
 use Rattle.odb_disk.specs.Tree.Write.{change_of_make_dir, change_of_new_file, change_of_append, change_of_rename, change_of_remove, done, written, written_as}
 use Rattle.odb_disk.specs.Disk.{Answers, AnswersWrite}
 use Rattle.odb_disk.specs.MemDisk.{Volume, after_call, next_fails}
-use Rattle.odb_disk.specs.Ask.{meta_answer, file_answer, write_answer, told_look, told_read, told_write, answer_of, change_of_ask, state_after, state_told_after, after_ask, AnswersAsk, ran_out}
+use Rattle.odb_disk.specs.Streams.{Streams, still_gives, opened}
+use Rattle.odb_disk.specs.Told.{told_look, told_read, told_write}
+use Rattle.odb_disk.specs.StreamAsks.{streams_after, after_opening, after_taking, least_closed}
+use Rattle.odb_disk.specs.Ask.{meta_answer, file_answer, dir_answer, entry_answer, write_answer, answer_of, answer_in, change_of_ask, state_after, state_told_after, streams_left, is_counted, fails_now, after_count, after_ask, AnswersAsk, ran_out}
 use Rattle.odb_disk.specs.declared.change.Change.{Change}
 use Rattle.odb_disk.specs.declared.disk.Meta.{Meta}
+use Rattle.odb_disk.specs.declared.disk.Entry.{Entry}
 use Rattle.odb_disk.specs.declared.disk.DiskError.{DiskError}
 use Rattle.odb_disk.specs.declared.disk.DiskError.TheVariants as errors
 use Rattle.odb_disk.specs.declared.ask.DiskAsk.{DiskAsk}
@@ -64,6 +68,9 @@ pub answered_by : (fails : Bool) (answer told : DiskAnswer) → AnswersAsk answe
 answered_by true answer told is failed listed some = listed refl
 answered_by false (answers.Meta found) told is failed listed some = is
 answered_by false (answers.File bytes time) told is failed listed some = is
+answered_by false (answers.Dir dir) told is failed listed some = is
+answered_by false (answers.Entry entry) told is failed listed some = is
+answered_by false answers.End told is failed listed some = is
 answered_by false answers.Done told is failed listed some = is
 answered_by false (answers.Refused errors.Absent) told is failed listed some = is
 answered_by false (answers.Refused errors.WrongKind) told is failed listed some = is
@@ -178,26 +185,55 @@ undone_write (Ok change) other = absurd (other refl)
 undone_write (Err refusal) other = refl
 
 -- a call that isn't done makes no change
-pub undone : (t : Tree) (ask : DiskAsk) → answer_of t ask ≢ answers.Done → change_of_ask t ask ≡ None
+pub undone : (t : Tree) (streams : Streams) (ask : DiskAsk) → answer_in t streams ask ≢ answers.Done → change_of_ask t ask ≡ None
 unfolding answer_of change_of_ask
-undone t (asks.Look path follow) other = refl
-undone t (asks.Read path) other = refl
-undone t (asks.MakeDir path) other = undone_write (change_of_make_dir t path) other
-undone t (asks.NewFile path) other = undone_write (change_of_new_file t path) other
-undone t (asks.Append path bytes) other = undone_write (change_of_append t path bytes) other
-undone t (asks.Rename from to) other = undone_write (change_of_rename t from to) other
-undone t (asks.Remove path) other = undone_write (change_of_remove t path) other
+undone t streams (asks.Look path follow) other = refl
+undone t streams (asks.Read path) other = refl
+undone t streams (asks.OpenDir path) other = refl
+undone t streams (asks.NextEntry dir) other = refl
+undone t streams (asks.CloseDir dir) other = refl
+undone t streams (asks.MakeDir path) other = undone_write (change_of_make_dir t path) other
+undone t streams (asks.NewFile path) other = undone_write (change_of_new_file t path) other
+undone t streams (asks.Append path bytes) other = undone_write (change_of_append t path bytes) other
+undone t streams (asks.Rename from to) other = undone_write (change_of_rename t from to) other
+undone t streams (asks.Remove path) other = undone_write (change_of_remove t path) other
 
-module _ (s : State) (ask : DiskAsk) where
-  not_done : (answer : DiskAnswer) → answer ≢ answers.Done → answer ≡ answer_of (tree_of s) ask → s ≡ written s (change_of_ask (tree_of s) ask)
-  not_done answer other is = sym (ap (written s) (undone (tree_of s) ask (λ d. other (is ∙ d))))
+-- a call that its tree and its streams refuse changes no stream
+unmoved : (t : Tree) (streams : Streams) (ask : DiskAsk) (error : DiskError) → answers.Refused error ≡ answer_in t streams ask → streams ≡ streams_after t streams ask
+unfolding answer_of
+unmoved t streams (asks.Look path follow) error is = refl
+unmoved t streams (asks.Read path) error is = refl
+unmoved t streams (asks.OpenDir path) error is = by_told (opened t path) is
+  where
+    by_told : (told : Result (List Entry) Refusal) → answers.Refused error ≡ dir_answer (least_closed streams) told → streams ≡ after_opening streams told
+    by_told (Ok entries) is = absurd (cc is)
+    by_told (Err refusal) is = refl
+unmoved t streams (asks.NextEntry dir) error is = by_left (still_gives streams dir) is
+  where
+    by_left : (left : Option (List Entry)) → answers.Refused error ≡ entry_answer left → streams ≡ after_taking streams dir left
+    by_left (Some (entry ∷ rest)) is = absurd (cc is)
+    by_left (Some []) is = refl
+    by_left None is = refl
+unmoved t streams (asks.CloseDir dir) error is = absurd (cc is)
+unmoved t streams (asks.MakeDir path) error is = refl
+unmoved t streams (asks.NewFile path) error is = refl
+unmoved t streams (asks.Append path bytes) error is = refl
+unmoved t streams (asks.Rename from to) error is = refl
+unmoved t streams (asks.Remove path) error is = refl
 
-  state_by : (fails : Bool) (answer : DiskAnswer) → answer ≢ answers.Refused errors.NoMemory → AnswersAsk answer (answer_of (tree_of s) ask) → (answer ≡ answers.Refused errors.Failed → fails ≡ true) → (fails ≡ true → answer ≡ answers.Refused errors.Failed)
+module _ (s : State) (streams : Streams) (ask : DiskAsk) where
+  not_done : (answer : DiskAnswer) → answer ≢ answers.Done → answer ≡ answer_in (tree_of s) streams ask → s ≡ written s (change_of_ask (tree_of s) ask)
+  not_done answer other is = sym (ap (written s) (undone (tree_of s) streams ask (λ d. other (is ∙ d))))
+
+  state_by : (fails : Bool) (answer : DiskAnswer) → answer ≢ answers.Refused errors.NoMemory → AnswersAsk answer (answer_in (tree_of s) streams ask) → (answer ≡ answers.Refused errors.Failed → fails ≡ true) → (fails ≡ true → answer ≡ answers.Refused errors.Failed)
       → state_after s ask answer ≡ cond fails s (written s (change_of_ask (tree_of s) ask))
   state_by true answer some is failed listed = ap (state_after s ask) (listed refl)
   state_by false answers.Done some is failed listed = refl
   state_by false (answers.Meta found) some is failed listed = not_done (answers.Meta found) (λ e. cc) is
   state_by false (answers.File bytes time) some is failed listed = not_done (answers.File bytes time) (λ e. cc) is
+  state_by false (answers.Dir dir) some is failed listed = not_done (answers.Dir dir) (λ e. cc) is
+  state_by false (answers.Entry entry) some is failed listed = not_done (answers.Entry entry) (λ e. cc) is
+  state_by false answers.End some is failed listed = not_done answers.End (λ e. cc) is
   state_by false (answers.Refused errors.Absent) some is failed listed = not_done (answers.Refused errors.Absent) (λ e. cc) is
   state_by false (answers.Refused errors.WrongKind) some is failed listed = not_done (answers.Refused errors.WrongKind) (λ e. cc) is
   state_by false (answers.Refused errors.LinkLoop) some is failed listed = not_done (answers.Refused errors.LinkLoop) (λ e. cc) is
@@ -206,18 +242,52 @@ module _ (s : State) (ask : DiskAsk) where
   state_by false (answers.Refused errors.Failed) some is failed listed = absurd (cc (failed refl))
   state_by false (answers.Refused errors.NoMemory) some is failed listed = absurd (some refl)
 
-module _ (disk new : Volume) (ask : DiskAsk) (answer : DiskAnswer) (state : new.state ≡ state_after disk.state ask answer) (streams : new.streams ≡ disk.streams) (counted : new.calls ≡ (after_call disk).calls) where
-  pub volume_after_ask : answer ≢ answers.Refused errors.NoMemory → AnswersAsk answer (answer_of (tree_of disk.state) ask) → (answer ≡ answers.Refused errors.Failed → next_fails disk ≡ true) → (next_fails disk ≡ true → answer ≡ answers.Refused errors.Failed) → new ≡ after_ask disk ask
+  streams_by : (fails : Bool) (answer : DiskAnswer) → answer ≢ answers.Refused errors.NoMemory → AnswersAsk answer (answer_in (tree_of s) streams ask) → (answer ≡ answers.Refused errors.Failed → fails ≡ true) → (fails ≡ true → answer ≡ answers.Refused errors.Failed)
+      → streams_left (tree_of s) streams ask answer ≡ cond fails streams (streams_after (tree_of s) streams ask)
+  streams_by true answer some is failed listed = ap (streams_left (tree_of s) streams ask) (listed refl)
+  streams_by false answers.Done some is failed listed = refl
+  streams_by false (answers.Meta found) some is failed listed = refl
+  streams_by false (answers.File bytes time) some is failed listed = refl
+  streams_by false (answers.Dir dir) some is failed listed = refl
+  streams_by false (answers.Entry entry) some is failed listed = refl
+  streams_by false answers.End some is failed listed = refl
+  streams_by false (answers.Refused errors.Absent) some is failed listed = unmoved (tree_of s) streams ask errors.Absent is
+  streams_by false (answers.Refused errors.WrongKind) some is failed listed = unmoved (tree_of s) streams ask errors.WrongKind is
+  streams_by false (answers.Refused errors.LinkLoop) some is failed listed = unmoved (tree_of s) streams ask errors.LinkLoop is
+  streams_by false (answers.Refused errors.Exists) some is failed listed = unmoved (tree_of s) streams ask errors.Exists is
+  streams_by false (answers.Refused errors.NotEmpty) some is failed listed = unmoved (tree_of s) streams ask errors.NotEmpty is
+  streams_by false (answers.Refused errors.Failed) some is failed listed = absurd (cc (failed refl))
+  streams_by false (answers.Refused errors.NoMemory) some is failed listed = absurd (some refl)
+
+-- counting a call changes neither the tree nor a stream
+after_count-state : (disk : Volume) (ask : DiskAsk) → (after_count disk ask).state ≡ disk.state
+after_count-state disk ask = by (is_counted ask)
+  where
+    by : (counted : Bool) → (cond counted (after_call disk) disk).state ≡ disk.state
+    by true = after_call-state disk
+    by false = refl
+
+after_count-streams : (disk : Volume) (ask : DiskAsk) → (after_count disk ask).streams ≡ disk.streams
+after_count-streams disk ask = by (is_counted ask)
+  where
+    by : (counted : Bool) → (cond counted (after_call disk) disk).streams ≡ disk.streams
+    by true = after_call-streams disk
+    by false = refl
+
+module _ (disk new : Volume) (ask : DiskAsk) (answer : DiskAnswer) (state : new.state ≡ state_after disk.state ask answer) (streams : new.streams ≡ streams_left (tree_of disk.state) disk.streams ask answer)
+    (counted : new.calls ≡ (after_count disk ask).calls) where
+  pub volume_after_ask : answer ≢ answers.Refused errors.NoMemory → AnswersAsk answer (answer_in (tree_of disk.state) disk.streams ask) → (answer ≡ answers.Refused errors.Failed → fails_now disk ask ≡ true)
+      → (fails_now disk ask ≡ true → answer ≡ answers.Refused errors.Failed) → new ≡ after_ask disk ask
   unfolding after_ask
   volume_after_ask some is failed listed =
-      let after = state ∙ state_by disk.state ask (next_fails disk) answer some is failed listed in
-      let kept = streams ∙ sym (after_call-streams disk) in
-      λ i. record { state = after i; streams = kept i; calls = counted i }
+      let after = state ∙ state_by disk.state disk.streams ask (fails_now disk ask) answer some is failed listed in
+      let left = streams ∙ streams_by disk.state disk.streams ask (fails_now disk ask) answer some is failed listed in
+      λ i. record { state = after i; streams = left i; calls = counted i }
 
-  pub volume_kept : answer ≡ answers.Refused errors.NoMemory → new ≡ after_call disk
+  pub volume_kept : answer ≡ answers.Refused errors.NoMemory → new ≡ after_count disk ask
   volume_kept is =
-      let same = state ∙ ap (state_after disk.state ask) is ∙ sym (after_call-state disk) in
-      let kept = streams ∙ sym (after_call-streams disk) in
+      let same = state ∙ ap (state_after disk.state ask) is ∙ sym (after_count-state disk ask) in
+      let kept = streams ∙ ap (streams_left (tree_of disk.state) disk.streams ask) is ∙ sym (after_count-streams disk ask) in
       λ i. record { state = same i; streams = kept i; calls = counted i }
 
 pub has_memory : (answer : DiskAnswer) → ran_out answer ≡ false → answer ≢ answers.Refused errors.NoMemory
@@ -226,6 +296,9 @@ has_memory answer some is = let both : false ≡ true = sym some ∙ ap ran_out 
 pub no_memory : (answer : DiskAnswer) → ran_out answer ≡ true → answer ≡ answers.Refused errors.NoMemory
 no_memory (answers.Meta found) is = absurd (cc)
 no_memory (answers.File bytes time) is = absurd (cc)
+no_memory (answers.Dir dir) is = absurd (cc)
+no_memory (answers.Entry entry) is = absurd (cc)
+no_memory answers.End is = absurd (cc)
 no_memory answers.Done is = absurd (cc)
 no_memory (answers.Refused errors.Absent) is = absurd (cc)
 no_memory (answers.Refused errors.WrongKind) is = absurd (cc)

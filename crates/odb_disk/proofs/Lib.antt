@@ -18,9 +18,12 @@ pub mod OwnWayLaws
 pub mod CrossesLaws
 pub mod RefusalLaws
 mod AskLemmas
+mod StreamAsksLemmas
+pub mod StillAskLaws
 mod NodeMapLemmas
 mod CallsLemmas
-mod StreamsLemmas
+pub mod StreamsLemmas
+pub mod CallsMadeLaws
 pub mod SourceLemmas
 mod FollowExamples
 mod WayExamples

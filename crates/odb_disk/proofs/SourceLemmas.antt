@@ -1,9 +1,9 @@
 -- What was read of a source so far, and what was written to a sink so far.
-use Rattle.std.proofs.Common.{◌≡◌, ℕ, ◌<◌, List, [], ◌++◌, length, take, drop, append-nil, append_assoc, Option, Some, None, Result, Ok, Err, refl, sym, ap, ◌∙◌, subst, arith, take-append-drop}
+use Rattle.std.proofs.Common.{◌≡◌, ℕ, ◌+◌, ◌<◌, ◌≤◌, List, [], ◌++◌, length, take, drop, append-nil, append_assoc, Option, Some, None, Result, Ok, Err, refl, sym, ap, ◌∙◌, subst, arith, take-append-drop}
 use Rattle.std.proofs.Math.Seq.{take-append_seam}
 use Rattle.std.specs.Result.{OnErr}
 use Rattle.odb_disk.specs.declared.source.Failed.{Failed}
-use Rattle.odb_disk.specs.Source.{Reads, Takes, Writes, Adds, ReadsFile}
+use Rattle.odb_disk.specs.Source.{Reads, Takes, Writes, Adds, ReadsFile, piece_length}
 
 -- what was left is what was read so far, and what is left now
 abbrev pub ReadsSoFar : Option (List ℕ) → Option (List ℕ) → List ℕ → Type 0
@@ -27,20 +27,20 @@ ReadsSoFar-more (Some left) now next text buffer n so_far reads =
     (taken.0, so_far.1 ∙ ap (λ r. text ++ r) (sym (take-append-drop n so_far.0) ∙ ap (λ f. f ++ drop n so_far.0) (sym t.front) ∙ ap (λ r. take n buffer ++ r) (sym t.rest_is)) ∙ sym (append_assoc text (take n buffer) taken.0), taken.1)
 
 -- a read of nothing is the end
-pub ReadsFile-at_end : (limit : ℕ) (left now next : Option (List ℕ)) (text buffer : List ℕ) → 0 < length buffer → ReadsSoFar left now text → Reads now next buffer (Ok 0) → ReadsFile limit left next text
-ReadsFile-at_end limit None now next text buffer some so_far reads = tt
-ReadsFile-at_end limit (Some left) now next text buffer some so_far reads =
+pub ReadsFile-at_end : (limit : ℕ) (left now next : Option (List ℕ)) (text buffer : List ℕ) → 0 < length buffer → length text ≤ limit → ReadsSoFar left now text → Reads now next buffer (Ok 0) → ReadsFile limit left next text
+ReadsFile-at_end limit None now next text buffer some fits so_far reads = omega arith
+ReadsFile-at_end limit (Some left) now next text buffer some fits so_far reads =
     let P : Option (List ℕ) → Type 0 = λ o. Reads o next buffer (Ok 0) in
     let taken = takes-of so_far.0 next buffer 0 (subst P so_far.2 reads) in
     let t = taken.2 in
     let none : so_far.0 ≡ [] = t.at_end refl some in
     let rest_none : taken.0 ≡ [] = t.rest_is ∙ ap (drop 0) none in
-    (taken.0, so_far.1 ∙ ap (λ r. text ++ r) (none ∙ sym rest_none), taken.1, λ short. rest_none)
+    (taken.0, so_far.1 ∙ ap (λ r. text ++ r) (none ∙ sym rest_none), taken.1, λ short. rest_none, omega arith)
 
 -- more was read than the limit
-pub ReadsFile-too_long : (limit : ℕ) (left now : Option (List ℕ)) (text : List ℕ) → limit < length text → ReadsSoFar left now text → ReadsFile limit left now text
-ReadsFile-too_long limit None now text long so_far = tt
-ReadsFile-too_long limit (Some left) now text long so_far = (so_far.0, so_far.1, so_far.2, λ short. absurd (omega arith))
+pub ReadsFile-too_long : (limit : ℕ) (left now : Option (List ℕ)) (text : List ℕ) → limit < length text → length text ≤ limit + piece_length → ReadsSoFar left now text → ReadsFile limit left now text
+ReadsFile-too_long limit None now text long bound so_far = bound
+ReadsFile-too_long limit (Some left) now text long bound so_far = (so_far.0, so_far.1, so_far.2, λ short. absurd (omega arith), bound)
 
 -- ---- what was written
 

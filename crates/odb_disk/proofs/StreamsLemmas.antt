@@ -1,5 +1,5 @@
 -- Laws of open streams: a map of the code as a finite map.
-use Rattle.std.proofs.Common.{◌≡◌, ℕ, ◌+◌, ◌<◌, ◌≤◌, Bool, true, false, not, nat_eq, ne_eqb, eqb-true, List, [], ◌∷◌, map, length, Option, Some, None, Ok, Err, IfSome, is_some, cond, refl, sym, ap, ◌∙◌, subst, add-one, arith}
+use Rattle.std.proofs.Common.{◌≡◌, ℕ, ◌+◌, ◌<◌, ◌≤◌, Bool, true, false, not, nat_eq, ne_eqb, eqb-true, eq-eqb, ◌||◌, ◌++◌, List, [], ◌∷◌, map, length, Option, Some, None, Ok, Err, IfSome, is_some, cond, refl, sym, ap, ◌∙◌, subst, add-one, arith}
 use borrow.Author.Count.{below_more}
 use Rattle.std.specs.Option.{IfNone, option_or}
 use Rattle.std.specs.List.{AllByRecursion, filter}
@@ -12,9 +12,10 @@ use Rattle.std.specs.declared.cmp.Ordering.TheVariants.{Less, Equal, Greater}
 use Rattle.std.specs.Cmp.{eq_by_cmp_equiv, nat_cmp_total}
 use Rattle.std.specs.Map.{lookup}
 use Rattle.std.specs.BTreeMap.{is_at}
+use Rattle.std.proofs.lemmas.Bool.{or_right}
+use Rattle.std.proofs.lemmas.List.Folds.{list_any-append}
 use Rattle.std.proofs.lemmas.Map.Views.{any-filter_same}
 use Rattle.odb_base.specs.Path.{is_name}
-use Rattle.odb_disk.specs.HostDisk.{owes_failure, OthersOwe}
 use Rattle.odb_disk.specs.StreamNumbers.{AreOpenBelow}
 use Rattle.odb_disk.specs.Streams.{Gives, IsAtEnd, IsClosed, IsLeastClosed, GivesFirst, TakesNext, lists_only, still_gives, with_opened, Streams}
 use Rattle.odb_disk.specs.declared.disk.Entry.{Entry}
@@ -51,18 +52,6 @@ TakesNext-peak es fs peak dir None is = record { closed = is.closed; same = ap (
 TakesNext-peak es fs peak dir (Some None) is = record { ended = is.ended; same = ap (λ (s : Streams). record s { peak = peak }) is.same }
 TakesNext-peak es fs peak dir (Some (Some entry)) is =
     record { rest = is.rest; first = is.first; left = ap (λ (s : Streams). record s { peak = peak }) is.left; named = is.named }
-
--- ---- streams that owe a failure
-
--- a stream that is forgotten owes none
-pub forgets : (owing left : List ℕ) (dir : ℕ) → left ≡ filter (λ n. not (nat_eq n dir)) owing → owes_failure left dir ≡ false
-forgets owing left dir kept = ap (λ xs. owes_failure xs dir) kept ∙ any-filter_same (λ n. nat_eq n dir) (λ n. not (nat_eq n dir)) false (λ n is. ap not is) owing
-
--- and the others owe what they did
-pub others_owe : (owing left : List ℕ) (dir : ℕ) → left ≡ filter (λ n. not (nat_eq n dir)) owing → OthersOwe dir owing left
-others_owe owing left dir kept = λ number other.
-    ap (λ xs. owes_failure xs number) kept
-    ∙ any-filter_same (λ n. nat_eq n number) (λ n. not (nat_eq n dir)) true (λ n is. ap not (ne_eqb n dir (λ same. other (sym (eqb-true n number is) ∙ same)))) owing
 
 -- ---- an entry that is taken
 

@@ -130,6 +130,9 @@ pub asked_possible : (t : Tree) → IsTree t → (ask : DiskAsk) (change : Chang
 unfolding change_of_ask
 asked_possible t is_tree (asks.Look path follow) change is = absurd (cc)
 asked_possible t is_tree (asks.Read path) change is = absurd (cc)
+asked_possible t is_tree (asks.OpenDir path) change is = absurd (cc)
+asked_possible t is_tree (asks.NextEntry dir) change is = absurd (cc)
+asked_possible t is_tree (asks.CloseDir dir) change is = absurd (cc)
 asked_possible t is_tree (asks.MakeDir path) change is = make_dir_possible t is_tree path change (from_ok (change_of_make_dir t path) change is)
 asked_possible t is_tree (asks.NewFile path) change is = new_file_possible t is_tree path change (from_ok (change_of_new_file t path) change is)
 asked_possible t is_tree (asks.Append path bytes) change is = append_possible t is_tree path change bytes (from_ok (change_of_append t path bytes) change is)

@@ -1,5 +1,5 @@
 -- The calls of a disk as values, and what a tree answers to them.
-use Rattle.std.specs.Prelude.{◌≡◌, ℕ, Bool, true, false, List, Option, Some, None, Result, Ok, Err, if◌then◌else◌}
+use Rattle.std.specs.Prelude.{◌≡◌, ℕ, Bool, true, false, ◌&&◌, List, [], ◌∷◌, Option, Some, None, Result, Ok, Err, if◌then◌else◌}
 use Rattle.std.specs.Result.{result_ok}
 use Rattle.odb_base.specs.Path.{Path}
 use Rattle.odb_disk.specs.Tree.{Tree, State, tree_of}
@@ -7,8 +7,11 @@ use Rattle.odb_disk.specs.Tree.Write as writing
 use Rattle.odb_disk.specs.Tree.Write.{change_of_make_dir, change_of_new_file, change_of_append, change_of_rename, change_of_remove, written}
 use Rattle.odb_disk.specs.MemDisk.{Volume, next_fails, after_call}
 use Rattle.odb_disk.specs.Tree.Follow.{Refusal, Absent, WrongKind, LinkLoop, looked, read_of}
+use Rattle.odb_disk.specs.Streams.{Streams, opened, still_gives}
+use Rattle.odb_disk.specs.StreamAsks.{least_closed, streams_after}
 use Rattle.odb_disk.specs.declared.change.Change.{Change}
 use Rattle.odb_disk.specs.declared.disk.Meta.{Meta}
+use Rattle.odb_disk.specs.declared.disk.Entry.{Entry}
 use Rattle.odb_disk.specs.declared.disk.DiskError.{DiskError}
 use Rattle.odb_disk.specs.declared.disk.DiskError.TheVariants as errors
 use Rattle.odb_disk.specs.declared.ask.DiskAsk.{DiskAsk}
@@ -43,57 +46,73 @@ abbrev pub write_answer : {A : Type 0} → Result A writing.Refusal → DiskAnsw
 write_answer (Ok x) = answers.Done
 write_answer (Err refusal) = answers.Refused (error_of_write refusal)
 
--- what a disk answered, as a value
-abbrev pub told_look : Result Meta DiskError → DiskAnswer
-told_look (Ok found) = answers.Meta found
-told_look (Err error) = answers.Refused error
+-- what an opening is answered that would give this number, and what a stream gives that has these entries left
+abbrev pub dir_answer : ℕ → Result (List Entry) Refusal → DiskAnswer
+dir_answer dir (Ok entries) = answers.Dir dir
+dir_answer dir (Err refusal) = answers.Refused (error_of refusal)
 
-abbrev pub told_read : Result (List ℕ × ℕ) DiskError → DiskAnswer
-told_read (Ok file) = answers.File file.0 file.1
-told_read (Err error) = answers.Refused error
+abbrev pub entry_answer : Option (List Entry) → DiskAnswer
+entry_answer (Some (entry ∷ rest)) = answers.Entry entry
+entry_answer (Some []) = answers.End
+entry_answer None = answers.Refused errors.Absent
 
-abbrev pub told_write : Result (Unit {0}) DiskError → DiskAnswer
-told_write (Ok x) = answers.Done
-told_write (Err error) = answers.Refused error
-
--- what a tree answers to a call
+-- What a tree answers to a call where no stream is open. A call that isn't of streams is answered so whatever streams
+-- are open.
 unfoldable pub answer_of : Tree → DiskAsk → DiskAnswer
 answer_of tree (asks.Look path follow) = meta_answer (looked tree path follow)
 answer_of tree (asks.Read path) = file_answer (read_of tree path)
+answer_of tree (asks.OpenDir path) = dir_answer 0 (opened tree path)
+answer_of tree (asks.NextEntry dir) = answers.Refused errors.Absent
+answer_of tree (asks.CloseDir dir) = answers.Done
 answer_of tree (asks.MakeDir path) = write_answer (change_of_make_dir tree path)
 answer_of tree (asks.NewFile path) = write_answer (change_of_new_file tree path)
 answer_of tree (asks.Append path bytes) = write_answer (change_of_append tree path bytes)
 answer_of tree (asks.Rename from to) = write_answer (change_of_rename tree from to)
 answer_of tree (asks.Remove path) = write_answer (change_of_remove tree path)
 
--- the change that a call makes in a tree: a look and a read make none, and a refused call makes none
+-- what a disk with a tree and streams answers to a call, where it gives a new stream the least number
+abbrev pub answer_in : Tree → Streams → DiskAsk → DiskAnswer
+answer_in tree streams (asks.OpenDir path) = dir_answer (least_closed streams) (opened tree path)
+answer_in tree streams (asks.NextEntry dir) = entry_answer (still_gives streams dir)
+answer_in tree streams ask = answer_of tree ask
+
+-- the change that a call makes in a tree: one that only reads makes none, and a refused call makes none
 unfoldable pub change_of_ask : Tree → DiskAsk → Option Change
 change_of_ask tree (asks.Look path follow) = None
 change_of_ask tree (asks.Read path) = None
+change_of_ask tree (asks.OpenDir path) = None
+change_of_ask tree (asks.NextEntry dir) = None
+change_of_ask tree (asks.CloseDir dir) = None
 change_of_ask tree (asks.MakeDir path) = result_ok (change_of_make_dir tree path)
 change_of_ask tree (asks.NewFile path) = result_ok (change_of_new_file tree path)
 change_of_ask tree (asks.Append path bytes) = result_ok (change_of_append tree path bytes)
 change_of_ask tree (asks.Rename from to) = result_ok (change_of_rename tree from to)
 change_of_ask tree (asks.Remove path) = result_ok (change_of_remove tree path)
 
--- the name of a call, and its path: that of the source, where there are two
+-- The name of a call, and its path: that of the source, where there are two. A call on an open stream names none.
 abbrev pub op_of : DiskAsk → Op
 op_of (asks.Look path follow) = ops.Look
 op_of (asks.Read path) = ops.Read
+op_of (asks.OpenDir path) = ops.OpenDir
+op_of (asks.NextEntry dir) = ops.NextEntry
+op_of (asks.CloseDir dir) = ops.CloseDir
 op_of (asks.MakeDir path) = ops.MakeDir
 op_of (asks.NewFile path) = ops.NewFile
 op_of (asks.Append path bytes) = ops.Append
 op_of (asks.Rename from to) = ops.Rename
 op_of (asks.Remove path) = ops.Remove
 
-abbrev pub path_asked : DiskAsk → Path
-path_asked (asks.Look path follow) = path
-path_asked (asks.Read path) = path
-path_asked (asks.MakeDir path) = path
-path_asked (asks.NewFile path) = path
-path_asked (asks.Append path bytes) = path
-path_asked (asks.Rename from to) = from
-path_asked (asks.Remove path) = path
+abbrev pub path_asked : DiskAsk → Option Path
+path_asked (asks.Look path follow) = Some path
+path_asked (asks.Read path) = Some path
+path_asked (asks.OpenDir path) = Some path
+path_asked (asks.NextEntry dir) = None
+path_asked (asks.CloseDir dir) = None
+path_asked (asks.MakeDir path) = Some path
+path_asked (asks.NewFile path) = Some path
+path_asked (asks.Append path bytes) = Some path
+path_asked (asks.Rename from to) = Some from
+path_asked (asks.Remove path) = Some path
 
 -- the answer is the tree's, unless the call failed or memory ran out
 abbrev pub AnswersAsk : DiskAnswer → DiskAnswer → Type 0
@@ -106,9 +125,18 @@ abbrev pub ran_out : DiskAnswer → Bool
 ran_out (answers.Refused errors.NoMemory) = true
 ran_out answer = false
 
--- what a disk in memory answers now: its tree's answer, unless the call's number is listed
+-- whether a call has a number: a close has none, and never fails
+abbrev pub is_counted : DiskAsk → Bool
+is_counted (asks.CloseDir dir) = false
+is_counted ask = true
+
+-- whether a call of a disk in memory fails now
+abbrev pub fails_now : Volume → DiskAsk → Bool
+fails_now disk ask = is_counted ask && next_fails disk
+
+-- what a disk in memory answers now: what its tree and its streams answer, unless the call fails
 abbrev pub answer_now : Volume → DiskAsk → DiskAnswer
-answer_now disk ask = if next_fails disk then answers.Refused errors.Failed else answer_of (tree_of disk.state) ask
+answer_now disk ask = if fails_now disk ask then answers.Refused errors.Failed else answer_in (tree_of disk.state) disk.streams ask
 
 -- what is left of a state by a call with this answer: its change, where it was done
 abbrev pub state_after : State → DiskAsk → DiskAnswer → State
@@ -120,6 +148,18 @@ abbrev pub state_told_after : Option State → DiskAsk → DiskAnswer → Option
 state_told_after None ask answer = None
 state_told_after (Some state) ask answer = Some (state_after state ask answer)
 
--- a disk in memory after a call: the call is counted, and its change is made unless its number is listed
+-- what is left of the streams by a call with this answer: a refused one changes none
+abbrev pub streams_left : Tree → Streams → DiskAsk → DiskAnswer → Streams
+streams_left tree streams ask (answers.Refused error) = streams
+streams_left tree streams ask answer = streams_after tree streams ask
+
+-- a disk in memory after a call was counted
+abbrev pub after_count : Volume → DiskAsk → Volume
+after_count disk ask = if is_counted ask then after_call disk else disk
+
+-- a disk in memory after a call: the call is counted, and changes the tree and the streams unless it fails
 unfoldable pub after_ask : Volume → DiskAsk → Volume
-after_ask disk ask = record (after_call disk) { state = if next_fails disk then disk.state else written disk.state (change_of_ask (tree_of disk.state) ask) }
+after_ask disk ask = record (after_count disk ask) {
+  state = if fails_now disk ask then disk.state else written disk.state (change_of_ask (tree_of disk.state) ask);
+  streams = if fails_now disk ask then disk.streams else streams_after (tree_of disk.state) disk.streams ask;
+}

@@ -5,11 +5,13 @@ pub mod Disk
 pub mod Streams
 pub mod StreamNumbers
 pub mod MemDisk
+pub mod Told
+pub mod StreamAsks
 pub mod Ask
+pub mod CallsMade
 pub mod Source
 pub mod MemStream
 pub mod Calls
-pub mod HostDisk
 pub mod OwnFile
 pub mod TreeNumbers
 pub mod TreeCalls

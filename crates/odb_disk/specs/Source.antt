@@ -1,5 +1,5 @@
 -- Sources and sinks: which bytes a read takes, and what a write adds. What one has left, or holds, it may not tell.
-use Rattle.std.specs.Prelude.{◌≡◌, ℕ, ◌<◌, ◌≤◌, List, [], ◌++◌, length, take, drop, Option, Some, None, Result, Ok, Err}
+use Rattle.std.specs.Prelude.{◌≡◌, ℕ, ◌+◌, ◌<◌, ◌≤◌, List, [], ◌++◌, length, take, drop, Option, Some, None, Result, Ok, Err}
 use Rattle.odb_disk.specs.declared.source.Failed.{Failed}
 
 -- a read took n bytes of `left`, put them at the front of the buffer, and left `rest`. It took none only at the end, or for an empty buffer
@@ -28,7 +28,12 @@ abbrev pub Adds : Option (List ℕ) → Option (List ℕ) → List ℕ → Type 
 Adds None now bytes = Unit {0}
 Adds (Some held) now bytes = now ≡ Some (held ++ bytes)
 
--- Bytes were read of a source: all that were left, or a front of them that is longer than the limit.
+-- how many bytes of a file are asked for at a time
+abbrev pub piece_length : ℕ
+piece_length = 65_536
+
+-- Bytes were read of a source: all that were left, or a front of them that is longer than the limit by a piece at the
+-- most.
 abbrev pub ReadsFile : ℕ → Option (List ℕ) → Option (List ℕ) → List ℕ → Type 0
-ReadsFile limit None now bytes = Unit {0}
-ReadsFile limit (Some left) now bytes = (rest : List ℕ) × (left ≡ bytes ++ rest) × (now ≡ Some rest) × (length bytes ≤ limit → rest ≡ [])
+ReadsFile limit None now bytes = length bytes ≤ limit + piece_length
+ReadsFile limit (Some left) now bytes = (rest : List ℕ) × (left ≡ bytes ++ rest) × (now ≡ Some rest) × (length bytes ≤ limit → rest ≡ []) × (length bytes ≤ limit + piece_length)

@@ -1,10 +1,12 @@
-ghost use Rattle.std.specs.Prelude.{◌≡◌, ◌≤◌, ◌↔◌, true, IfSome};
+ghost use Rattle.std.specs.Prelude.{◌≡◌, ◌≤◌, ◌↔◌, true, false, IfSome};
+ghost use Rattle.std.specs.Option.{option_map};
 ghost use Rattle.odb_base.specs.Faults.{Rose};
 ghost use Rattle.odb_disk.specs.Tree.{IsTree, tree_of};
-ghost use Rattle.odb_disk.specs.Ask.{answer_of, op_of, path_asked, state_told_after, AnswersAsk, told_look, told_read, told_write, ran_out};
-ghost use Rattle.odb_disk.specs.MemDisk.{after_call, next_fails};
+ghost use Rattle.odb_disk.specs.Ask.{answer_of, op_of, path_asked, state_told_after, AnswersAsk, ran_out};
+ghost use Rattle.odb_disk.specs.Told.{told_look, told_read, told_open, told_next, told_write};
+ghost use Rattle.odb_disk.specs.StreamAsks.{is_of_streams, AnswersStreams};
 
-use crate::{ByteList, Disk, DiskError, MemDisk, Meta, NoMemory, PathText};
+use crate::{ByteList, DirId, Disk, DiskError, Entry, MemDisk, Meta, NoMemory, PathText};
 use std::alloc::Global;
 
 /// A call of a disk as a value.
@@ -12,6 +14,9 @@ use std::alloc::Global;
 pub enum DiskAsk {
     Look { path: PathText, follow: bool },
     Read { path: PathText },
+    OpenDir { path: PathText },
+    NextEntry { dir: DirId },
+    CloseDir { dir: DirId },
     MakeDir { path: PathText },
     NewFile { path: PathText },
     Append { path: PathText, bytes: ByteList },
@@ -24,7 +29,13 @@ pub enum DiskAsk {
 pub enum DiskAnswer {
     Meta(Meta),
     File { bytes: ByteList, time: u64 },
-    /// A call that writes is done.
+    /// A stream that was opened.
+    Dir(DirId),
+    /// The next entry of a stream.
+    Entry(Entry),
+    /// A stream has no more entries.
+    End,
+    /// A call that writes is done, or a stream is closed.
     Done,
     Refused(DiskError),
 }
@@ -34,6 +45,9 @@ pub enum DiskAnswer {
 pub enum Op {
     Look,
     Read,
+    OpenDir,
+    NextEntry,
+    CloseDir,
     MakeDir,
     NewFile,
     Append,
@@ -49,6 +63,9 @@ impl DiskAsk {
         match self {
             DiskAsk::Look { .. } => Op::Look,
             DiskAsk::Read { .. } => Op::Read,
+            DiskAsk::OpenDir { .. } => Op::OpenDir,
+            DiskAsk::NextEntry { .. } => Op::NextEntry,
+            DiskAsk::CloseDir { .. } => Op::CloseDir,
             DiskAsk::MakeDir { .. } => Op::MakeDir,
             DiskAsk::NewFile { .. } => Op::NewFile,
             DiskAsk::Append { .. } => Op::Append,
@@ -57,26 +74,32 @@ impl DiskAsk {
         }
     }
 
-    /// The path that it asks about: of a rename, its source.
-    pub fn path(&self) -> &PathText
-        ensures { result.now ≡ path_asked self.now }
+    /// The path that it names: of a rename, its source. A call on an open stream names none: whoever opened the
+    /// stream knows the path.
+    pub fn path(&self) -> Option<&PathText>
+        ensures { option_map (λ path. path.now) result ≡ path_asked self.now }
     {
         match self {
-            DiskAsk::Look { path, .. } => path,
-            DiskAsk::Read { path } => path,
-            DiskAsk::MakeDir { path } => path,
-            DiskAsk::NewFile { path } => path,
-            DiskAsk::Append { path, .. } => path,
-            DiskAsk::Rename { from, .. } => from,
-            DiskAsk::Remove { path } => path,
+            DiskAsk::Look { path, .. } => Some(path),
+            DiskAsk::Read { path } => Some(path),
+            DiskAsk::OpenDir { path } => Some(path),
+            DiskAsk::NextEntry { .. } => None,
+            DiskAsk::CloseDir { .. } => None,
+            DiskAsk::MakeDir { path } => Some(path),
+            DiskAsk::NewFile { path } => Some(path),
+            DiskAsk::Append { path, .. } => Some(path),
+            DiskAsk::Rename { from, .. } => Some(from),
+            DiskAsk::Remove { path } => Some(path),
         }
     }
 
     /// Makes the call on a disk.
     pub fn carry_out<D: Disk>(&self, alloc: Global, disk: &mut D) -> DiskAnswer
-        ensures answer { IfSome (D.state disk.old) (λ s. AnswersAsk result (answer_of (tree_of s) self.now)) }
+        ensures answer { is_of_streams self.now ≡ false → IfSome (D.state disk.old) (λ s. AnswersAsk result (answer_of (tree_of s) self.now)) }
+        ensures of_streams { AnswersStreams (D.state disk.old) (D.streams disk.old) (D.streams disk.new) self.now result }
+        ensures streams { is_of_streams self.now ≡ false → D.streams disk.new ≡ D.streams disk.old }
         ensures state { D.state disk.new ≡ state_told_after (D.state disk.old) self.now result }
-        ensures streams { D.streams disk.new ≡ D.streams disk.old }
+        ensures answered { D.answered disk.old self.now result disk.new }
         ensures tree { IfSome (D.state disk.old) (λ s. IsTree (tree_of s)) }
         ensures later { D.faults disk.old ≤ D.faults disk.new }
         ensures cause { result ≡ DiskAnswer.Refused DiskError.Failed → Rose (D.faults disk.old) (D.faults disk.new) }
@@ -84,6 +107,12 @@ impl DiskAsk {
         match self {
             DiskAsk::Look { path, follow } => look_answer(disk.look(alloc, path, *follow)),
             DiskAsk::Read { path } => read_answer(disk.read(alloc, path)),
+            DiskAsk::OpenDir { path } => dir_answer(disk.open_dir(alloc, path)),
+            DiskAsk::NextEntry { dir } => entry_answer(disk.next_entry(alloc, dir)),
+            DiskAsk::CloseDir { dir } => {
+                disk.close_dir(*dir);
+                DiskAnswer::Done
+            }
             DiskAsk::MakeDir { path } => write_answer(disk.make_dir(alloc, path)),
             DiskAsk::NewFile { path } => write_answer(disk.new_file(alloc, path)),
             DiskAsk::Append { path, bytes } => {
@@ -97,13 +126,13 @@ impl DiskAsk {
 
 impl MemDisk {
     ghost use Rattle.std.specs.Prelude.{IfOk, OnOk, OnErr};
-    ghost use Rattle.odb_disk.specs.Ask.{answer_now, after_ask, state_after};
+    ghost use Rattle.odb_disk.specs.Ask.{answer_in, answer_now, after_ask, after_count, fails_now, state_after, streams_left};
 
     /// Makes a call that is given as a value. Want of memory is an error, and no answer.
     pub fn carry_out(&mut self, alloc: Global, ask: &DiskAsk) -> Result<DiskAnswer, NoMemory>
         ensures answered { IfOk result (λ answer. answer ≡ answer_now self.old ask.now) }
         ensures made { OnOk result (self.new ≡ after_ask self.old ask.now) }
-        ensures kept { OnErr result (self.new ≡ after_call self.old) }
+        ensures kept { OnErr result (self.new ≡ after_count self.old ask.now) }
     {
         let answer = self.answer_to(alloc, ask);
         if ran_out(&answer) {
@@ -113,15 +142,21 @@ impl MemDisk {
     }
 
     fn answer_to(&mut self, alloc: Global, ask: &DiskAsk) -> DiskAnswer
-        ensures answer { AnswersAsk result (answer_of (tree_of self.old.state) ask.now) }
+        ensures answer { AnswersAsk result (answer_in (tree_of self.old.state) self.old.streams ask.now) }
         ensures state { self.new.state ≡ state_after self.old.state ask.now result }
-        ensures streams { self.new.streams ≡ self.old.streams }
-        ensures counted { self.new.calls ≡ (after_call self.old).calls }
-        ensures failed { (result ≡ DiskAnswer.Refused DiskError.Failed) ↔ (next_fails self.old ≡ true) }
+        ensures streams { self.new.streams ≡ streams_left (tree_of self.old.state) self.old.streams ask.now result }
+        ensures counted { self.new.calls ≡ (after_count self.old ask.now).calls }
+        ensures failed { (result ≡ DiskAnswer.Refused DiskError.Failed) ↔ (fails_now self.old ask.now ≡ true) }
     {
         match ask {
             DiskAsk::Look { path, follow } => look_answer(self.look(alloc, path, *follow)),
             DiskAsk::Read { path } => read_answer(self.read(alloc, path)),
+            DiskAsk::OpenDir { path } => dir_answer(self.open_dir(alloc, path)),
+            DiskAsk::NextEntry { dir } => entry_answer(self.next_entry(alloc, dir)),
+            DiskAsk::CloseDir { dir } => {
+                self.close_dir(*dir);
+                DiskAnswer::Done
+            }
             DiskAsk::MakeDir { path } => write_answer(self.make_dir(alloc, path)),
             DiskAsk::NewFile { path } => write_answer(self.new_file(alloc, path)),
             DiskAsk::Append { path, bytes } => {
@@ -149,6 +184,27 @@ fn read_answer(found: Result<(ByteList, u64), DiskError>) -> DiskAnswer
 {
     match found {
         Ok((bytes, time)) => DiskAnswer::File { bytes, time },
+        Err(error) => DiskAnswer::Refused(error),
+    }
+}
+
+/// The answer to an opening of a directory.
+fn dir_answer(opened: Result<DirId, DiskError>) -> DiskAnswer
+    ensures { result ≡ told_open opened }
+{
+    match opened {
+        Ok(dir) => DiskAnswer::Dir(dir),
+        Err(error) => DiskAnswer::Refused(error),
+    }
+}
+
+/// The answer to a call for the next entry of a stream.
+fn entry_answer(given: Result<Option<Entry>, DiskError>) -> DiskAnswer
+    ensures { result ≡ told_next given }
+{
+    match given {
+        Ok(Some(entry)) => DiskAnswer::Entry(entry),
+        Ok(None) => DiskAnswer::End,
         Err(error) => DiskAnswer::Refused(error),
     }
 }

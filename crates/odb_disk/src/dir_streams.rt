@@ -13,7 +13,7 @@ use std::marker::Model;
 
 /// Entries in the order in which they are given.
 #[derive(Debug, Drop)]
-pub(crate) struct EntryQueue {
+pub struct EntryQueue {
     entries: VecDeque<Entry>,
 }
 
@@ -36,7 +36,7 @@ impl Model for EntryQueue {
 
 impl EntryQueue {
     /// No entries, which takes no memory.
-    pub(crate) fn new(alloc: Global) -> EntryQueue
+    pub fn new(alloc: Global) -> EntryQueue
         ensures { result ≡ [] }
     {
         EntryQueue {
@@ -45,7 +45,7 @@ impl EntryQueue {
     }
 
     /// Adds an entry at the end. A refused call changes nothing.
-    pub(crate) fn push(&mut self, entry: Entry) -> Result<(), NoMemory>
+    pub fn push(&mut self, entry: Entry) -> Result<(), NoMemory>
         requires { is_name entry.name ≡ true }
         ensures ok { OnOk result (self.new ≡ self.old ++ entry ∷ []) }
         ensures err { OnErr result (self.new ≡ self.old) }
@@ -55,7 +55,7 @@ impl EntryQueue {
     }
 
     /// Takes the first entry.
-    fn pop(&mut self) -> Option<Entry>
+    pub fn pop(&mut self) -> Option<Entry>
         ensures first { IfSome result (λ entry. self.old ≡ entry ∷ self.new) }
         ensures none { IfNone result (self.old ≡ []) }
         ensures kept { IfNone result (self.new ≡ self.old) }
@@ -65,14 +65,14 @@ impl EntryQueue {
     }
 
     /// How many entries there are.
-    pub(crate) fn len(&self) -> usize
+    pub fn len(&self) -> usize
         ensures { result ≡ length self.now }
     {
         self.entries.len()
     }
 
     /// A copy of the entries.
-    fn try_clone(&self, alloc: Global) -> Result<EntryQueue, NoMemory>
+    pub fn try_clone(&self, alloc: Global) -> Result<EntryQueue, NoMemory>
         ensures { IfOk result (λ copy. copy ≡ self.now) }
     {
         let mut copy = EntryQueue::new(alloc);
@@ -85,7 +85,7 @@ impl EntryQueue {
 
 /// The streams that are open, and the most that were open at one time so far.
 #[derive(Debug, Drop)]
-pub(crate) struct DirStreams {
+pub struct DirStreams {
     lists: BTreeMap<u64, EntryQueue>,
     peak: u64,
     /// Each number below this one is that of an open stream.
@@ -109,7 +109,7 @@ impl Model for DirStreams {
 
 impl DirStreams {
     /// No stream is open, and none was.
-    pub(crate) fn new(alloc: Global) -> DirStreams
+    pub fn new(alloc: Global) -> DirStreams
         ensures { result ≡ no_streams }
     {
         DirStreams {
@@ -120,7 +120,7 @@ impl DirStreams {
     }
 
     /// Opens a stream of these entries, under the least number that no open one has. A refused call changes nothing.
-    pub(crate) fn open(&mut self, entries: EntryQueue) -> Result<DirId, NoMemory>
+    pub fn open(&mut self, entries: EntryQueue) -> Result<DirId, NoMemory>
         ensures opened { IfOk result (λ dir. self.new ≡ with_opened self.old dir entries) }
         ensures least { IfOk result (λ dir. IsLeastClosed self.old.open_dirs dir) }
         ensures few { OnOk result (length entries < 2 ^ 64) }
@@ -134,14 +134,14 @@ impl DirStreams {
     }
 
     /// Takes the next entry of a stream. There is none at its end, and no answer where it isn't open.
-    pub(crate) fn next(&mut self, dir: &DirId) -> Option<Option<Entry>>
+    pub fn next(&mut self, dir: &DirId) -> Option<Option<Entry>>
         ensures { TakesNext self.old self.new dir.now result }
     {
         take_entry(&mut self.lists, dir.number())
     }
 
     /// Closes a stream, if it is open.
-    pub(crate) fn close(&mut self, dir: &DirId)
+    pub fn close(&mut self, dir: &DirId)
         ensures { self.new ≡ with_closed self.old dir.now }
     {
         let number = dir.number();
@@ -150,7 +150,7 @@ impl DirStreams {
     }
 
     /// A copy of the streams.
-    pub(crate) fn try_clone(&self, alloc: Global) -> Result<DirStreams, NoMemory>
+    pub fn try_clone(&self, alloc: Global) -> Result<DirStreams, NoMemory>
         ensures { IfOk result (λ copy. copy ≡ self.now) }
     {
         Ok(DirStreams {

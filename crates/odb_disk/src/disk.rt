@@ -5,6 +5,11 @@ ghost use Rattle.odb_disk.specs.Tree.Follow.{looked, read_of};
 ghost use Rattle.odb_disk.specs.Tree.Write.{change_of_make_dir, change_of_new_file, change_of_append, change_of_rename, change_of_remove, done, written_as};
 ghost use Rattle.odb_disk.specs.Disk.{Answers, AnswersWrite, FailsOnlyByFault};
 ghost use Rattle.odb_disk.specs.Streams.{Streams, AnswersOpen, Opens, Gives, opened, with_closed};
+ghost use Rattle.odb_disk.specs.Told.{told_look, told_read, told_open, told_next, told_write};
+ghost use Rattle.odb_disk.specs.declared.ask.DiskAsk.{DiskAsk as ask_value};
+ghost use Rattle.odb_disk.specs.declared.ask.DiskAsk.TheVariants as asks;
+ghost use Rattle.odb_disk.specs.declared.ask.DiskAnswer.{DiskAnswer as answer_value};
+ghost use Rattle.odb_disk.specs.declared.ask.DiskAnswer.TheVariants as answers;
 
 use crate::{ByteList, NoMemory, PathName, PathText};
 use std::alloc::{AllocError, AllocFailed, Global};
@@ -64,6 +69,8 @@ pub struct DirId {
 }
 
 impl Model for DirId {
+    ghost use Rattle.std.specs.Prelude.{ℕ};
+
     ghost Value = { ℕ };
 
     ghost view = { λ dir. dir.number };
@@ -151,13 +158,18 @@ pub trait Disk {
     /// How often a call has failed: a count that never falls.
     ghost faults: { Self → ℕ };
 
+    /// A disk is asked, gives an answer, and is another disk afterwards. Each call keeps to it, so what a caller
+    /// promises by it alone holds on every disk, also on one that tells no state.
+    ghost answered: { Self → ask_value → answer_value → Self → Type 0 } = { λ _ _ _ _. Unit {0} };
+
     /// Looks at a path. A link in the last place is followed where `follow` is set.
     fn look(&mut self, alloc: Global, path: &PathText, follow: bool) -> Result<Meta, DiskError>
         ensures answer { IfSome (state self.old) (λ s. Answers result (looked (tree_of s) path.now follow)) }
         ensures tree { IfSome (state self.old) (λ s. IsTree (tree_of s)) }
         ensures kept { state self.new ≡ state self.old }
         ensures streams { streams self.new ≡ streams self.old }
-        ensures cause { FailsOnlyByFault (faults self.old) (faults self.new) result };
+        ensures cause { FailsOnlyByFault (faults self.old) (faults self.new) result }
+        ensures answered { answered self.old (asks.Look path.now follow) (told_look result) self.new };
 
     /// Reads the bytes and the time of a file, links followed.
     fn read(&mut self, alloc: Global, path: &PathText) -> Result<(ByteList, u64), DiskError>
@@ -165,7 +177,8 @@ pub trait Disk {
         ensures tree { IfSome (state self.old) (λ s. IsTree (tree_of s)) }
         ensures kept { state self.new ≡ state self.old }
         ensures streams { streams self.new ≡ streams self.old }
-        ensures cause { FailsOnlyByFault (faults self.old) (faults self.new) result };
+        ensures cause { FailsOnlyByFault (faults self.old) (faults self.new) result }
+        ensures answered { answered self.old (asks.Read path.now) (told_read result) self.new };
 
     /// Opens a directory, links followed. What its stream gives is fixed then.
     fn open_dir(&mut self, alloc: Global, path: &PathText) -> Result<DirId, DiskError>
@@ -174,19 +187,24 @@ pub trait Disk {
         ensures refused { OnErr result (streams self.new ≡ streams self.old) }
         ensures tree { IfSome (state self.old) (λ s. IsTree (tree_of s)) }
         ensures kept { state self.new ≡ state self.old }
-        ensures cause { FailsOnlyByFault (faults self.old) (faults self.new) result };
+        ensures cause { FailsOnlyByFault (faults self.old) (faults self.new) result }
+        ensures answered { answered self.old (asks.OpenDir path.now) (told_open result) self.new };
 
     /// Takes the next entry of a stream, if one is left. A stream that isn't open is absent.
     fn next_entry(&mut self, alloc: Global, dir: &DirId) -> Result<Option<Entry>, DiskError>
         ensures gives { Gives (streams self.old) (streams self.new) dir.now result }
+        ensures tree { IfSome (state self.old) (λ s. IsTree (tree_of s)) }
         ensures kept { state self.new ≡ state self.old }
-        ensures cause { FailsOnlyByFault (faults self.old) (faults self.new) result };
+        ensures cause { FailsOnlyByFault (faults self.old) (faults self.new) result }
+        ensures answered { answered self.old (asks.NextEntry dir.now) (told_next result) self.new };
 
     /// Closes a stream, and does nothing where it isn't open. It takes no memory, and is never refused.
     fn close_dir(&mut self, dir: DirId)
         ensures closed { streams self.new ≡ with_closed (streams self.old) dir }
+        ensures tree { IfSome (state self.old) (λ s. IsTree (tree_of s)) }
         ensures kept { state self.new ≡ state self.old }
-        ensures faults { faults self.new ≡ faults self.old };
+        ensures faults { faults self.new ≡ faults self.old }
+        ensures answered { answered self.old (asks.CloseDir dir) answers.Done self.new };
 
     /// Makes a directory where nothing stands. A link in the last place isn't followed.
     fn make_dir(&mut self, alloc: Global, path: &PathText) -> Result<(), DiskError>
@@ -195,7 +213,8 @@ pub trait Disk {
         ensures made { OnOk result (state self.new ≡ written_as (λ t. change_of_make_dir t path.now) (state self.old)) }
         ensures kept { OnErr result (state self.new ≡ state self.old) }
         ensures streams { streams self.new ≡ streams self.old }
-        ensures cause { FailsOnlyByFault (faults self.old) (faults self.new) result };
+        ensures cause { FailsOnlyByFault (faults self.old) (faults self.new) result }
+        ensures answered { answered self.old (asks.MakeDir path.now) (told_write result) self.new };
 
     /// Makes an empty file where nothing stands. A link in the last place isn't followed.
     fn new_file(&mut self, alloc: Global, path: &PathText) -> Result<(), DiskError>
@@ -204,7 +223,8 @@ pub trait Disk {
         ensures made { OnOk result (state self.new ≡ written_as (λ t. change_of_new_file t path.now) (state self.old)) }
         ensures kept { OnErr result (state self.new ≡ state self.old) }
         ensures streams { streams self.new ≡ streams self.old }
-        ensures cause { FailsOnlyByFault (faults self.old) (faults self.new) result };
+        ensures cause { FailsOnlyByFault (faults self.old) (faults self.new) result }
+        ensures answered { answered self.old (asks.NewFile path.now) (told_write result) self.new };
 
     /// Adds bytes at the end of a file, links followed. Its time stays as it was where the tree is told.
     fn append(&mut self, alloc: Global, path: &PathText, bytes: &[u8]) -> Result<(), DiskError>
@@ -213,7 +233,8 @@ pub trait Disk {
         ensures made { OnOk result (state self.new ≡ written_as (λ t. change_of_append t path.now bytes.now) (state self.old)) }
         ensures kept { OnErr result (state self.new ≡ state self.old) }
         ensures streams { streams self.new ≡ streams self.old }
-        ensures cause { FailsOnlyByFault (faults self.old) (faults self.new) result };
+        ensures cause { FailsOnlyByFault (faults self.old) (faults self.new) result }
+        ensures answered { answered self.old (asks.Append path.now bytes.now) (told_write result) self.new };
 
     /// Moves a file or a link over nothing, a file or a link. A link in the last place isn't followed.
     fn rename(&mut self, alloc: Global, from: &PathText, to: &PathText) -> Result<(), DiskError>
@@ -222,7 +243,8 @@ pub trait Disk {
         ensures made { OnOk result (state self.new ≡ written_as (λ t. change_of_rename t from.now to.now) (state self.old)) }
         ensures kept { OnErr result (state self.new ≡ state self.old) }
         ensures streams { streams self.new ≡ streams self.old }
-        ensures cause { FailsOnlyByFault (faults self.old) (faults self.new) result };
+        ensures cause { FailsOnlyByFault (faults self.old) (faults self.new) result }
+        ensures answered { answered self.old (asks.Rename from.now to.now) (told_write result) self.new };
 
     /// Removes a file, a link or an empty directory. A link in the last place isn't followed.
     fn remove(&mut self, alloc: Global, path: &PathText) -> Result<(), DiskError>
@@ -231,5 +253,6 @@ pub trait Disk {
         ensures made { OnOk result (state self.new ≡ written_as (λ t. change_of_remove t path.now) (state self.old)) }
         ensures kept { OnErr result (state self.new ≡ state self.old) }
         ensures streams { streams self.new ≡ streams self.old }
-        ensures cause { FailsOnlyByFault (faults self.old) (faults self.new) result };
+        ensures cause { FailsOnlyByFault (faults self.old) (faults self.new) result }
+        ensures answered { answered self.old (asks.Remove path.now) (told_write result) self.new };
 }

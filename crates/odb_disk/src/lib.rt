@@ -1,4 +1,4 @@
-//! The tree of a disk, the trait of a disk, a disk in memory and a real one, sources and sinks.
+//! The tree of a disk, the trait of a disk, a disk in memory, sources and sinks.
 //!
 //! Each call of a disk answers by its tree, where the disk tells it, and fails only where the disk's count
 //! of faults rose. Read `disk` first, then `mem_disk`; `specs/Tree.antt` says what a tree is.
@@ -14,7 +14,6 @@ mod calls;
 mod change;
 mod dir_streams;
 mod disk;
-mod host_disk;
 mod mem_disk;
 mod node;
 mod node_map;
@@ -25,8 +24,8 @@ mod tree;
 
 pub use ask::{DiskAnswer, DiskAsk, Op};
 pub use change::{Change, Impossible};
+pub use dir_streams::{DirStreams, EntryQueue};
 pub use disk::{DirId, Disk, DiskError, Entry, Kind, Meta};
-pub use host_disk::HostDisk;
 pub use mem_disk::MemDisk;
 pub use odb_base::{BadPath, ByteList, NoMemory, PathName, PathText};
 pub use source::{Failed, MemSink, MemSource, ReadError, Sink, Source, read_file, write_all};

@@ -202,6 +202,7 @@ impl Disk for MemDisk {
 
     fn next_entry(&mut self, _alloc: Global, dir: &DirId) -> Result<Option<Entry>, DiskError>
         ensures gives { Gives self.old.streams self.new.streams dir.now result }
+        ensures tree { IsTree (tree_of self.old.state) }
         ensures kept { Some self.new.state ≡ Some self.old.state }
         ensures cause { FailsOnlyByFault self.old.calls.faults self.new.calls.faults result }
         ensures counted { self.new.calls ≡ (after_call self.old).calls }
@@ -218,6 +219,7 @@ impl Disk for MemDisk {
 
     fn close_dir(&mut self, dir: DirId)
         ensures closed { self.new.streams ≡ with_closed self.old.streams dir }
+        ensures tree { IsTree (tree_of self.old.state) }
         ensures kept { Some self.new.state ≡ Some self.old.state }
         ensures faults { self.new.calls.faults ≡ self.old.calls.faults }
         ensures counted { self.new.calls ≡ self.old.calls }

@@ -1,4 +1,6 @@
-ghost use Rattle.std.specs.Prelude.{◌≡◌, None};
+ghost use Rattle.std.specs.Prelude.{◌≡◌, ◌≤◌, length, None, IfOk, OnOk};
+ghost use Rattle.std.specs.Io.KnownBytes.{ReadConsumes};
+ghost use Rattle.odb_base.specs.Faults.{HasCause};
 
 use crate::{Failed, Sink, Source};
 use std::io::{ErrorKind, Read, Write};
@@ -6,7 +8,8 @@ use std::io::{ErrorKind, Read, Write};
 /// How often a read or a write is tried that is interrupted each time.
 const TRIES: u32 = 1_000_000;
 
-/// A source over a reader of std. It doesn't tell its bytes.
+/// A source over a reader of std. It doesn't tell its bytes; where the reader does, a read gives them in order, and
+/// nothing only at their end.
 #[derive(Debug, Drop)]
 pub struct StdSource<R> {
     inner: R,
@@ -42,7 +45,12 @@ impl<R: Read> Source for StdSource<R> {
 
     ghost faults = { λ s. s.faults };
 
-    fn read(&mut self, out: &mut [u8]) -> Result<usize, Failed> {
+    fn read(&mut self, out: &mut [u8]) -> Result<usize, Failed>
+        ensures count { IfOk result (λ n. n ≤ length out.old) }
+        ensures known { ReadConsumes (R.remaining self.old.inner) (R.remaining self.new.inner) result out.new }
+        ensures cause { HasCause self.old.faults self.new.faults result }
+        ensures same { OnOk result (self.new.faults ≡ self.old.faults) }
+    {
         for _ in 0..TRIES {
             match self.inner.read(out) {
                 Ok(count) => return Ok(count),

@@ -9,7 +9,7 @@ use Rattle.odb_disk.proofs.TreeLemmas.{is_taken-node_at}
 
 -- ---- the least free number
 
-find_in_range : (test : ℕ → Bool) (len start f : ℕ) → start ≤ f → f < start + len → test f ≡ true → ((n : ℕ) → start ≤ n → n < f → test n ≡ false) → find test (range_with_len start len) ≡ Some f
+pub find_in_range : (test : ℕ → Bool) (len start f : ℕ) → start ≤ f → f < start + len → test f ≡ true → ((n : ℕ) → start ≤ n → n < f → test n ≡ false) → find test (range_with_len start len) ≡ Some f
 find_in_range test zero start f low high is before = absurd (omega arith)
 find_in_range test (suc len) start f low high is before =
     elim (cases_eq start f) [
@@ -19,7 +19,7 @@ find_in_range test (suc len) start f low high is before =
           ∙ find_in_range test len (start + 1) f (omega arith) (omega arith) is (λ n from_start below. before n (omega arith) below)
     ]
 
-none_in_range : (test : ℕ → Bool) (len start : ℕ) → ((n : ℕ) → start ≤ n → n < start + len → test n ≡ false) → find test (range_with_len start len) ≡ None
+pub none_in_range : (test : ℕ → Bool) (len start : ℕ) → ((n : ℕ) → start ≤ n → n < start + len → test n ≡ false) → find test (range_with_len start len) ≡ None
 none_in_range test zero start none = refl
 none_in_range test (suc len) start none =
     ap (λ b. cond b (Some start) (find test (range_with_len (start + 1) len))) (none start (omega arith) (omega arith))
@@ -29,7 +29,7 @@ fold_max-from : (a : ℕ) (ns : List ℕ) → a ≤ fold max a ns
 fold_max-from a [] = omega arith
 fold_max-from a (n ∷ ns) = let h = fold_max-from (max a n) ns in omega arith
 
-fold_max-le : (a : ℕ) (ns : List ℕ) (k : ℕ) → list_any (λ n. n == k) ns ≡ true → k ≤ fold max a ns
+pub fold_max-le : (a : ℕ) (ns : List ℕ) (k : ℕ) → list_any (λ n. n == k) ns ≡ true → k ≤ fold max a ns
 fold_max-le a [] k any = absurd (false≢true any)
 fold_max-le a (n ∷ ns) k any =
     let later : list_any (λ m. m == k) ns ≡ true → k ≤ fold max (max a n) ns = fold_max-le (max a n) ns k in

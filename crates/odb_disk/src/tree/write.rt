@@ -100,6 +100,9 @@ impl Tree {
     {
         match ask {
             DiskAsk::Look { .. } | DiskAsk::Read { .. } => Ok(None),
+            DiskAsk::OpenDir { .. } | DiskAsk::NextEntry { .. } | DiskAsk::CloseDir { .. } => Ok(
+                None,
+            ),
             DiskAsk::MakeDir { path } => told_change(self.change_of_make_dir(alloc, path)),
             DiskAsk::NewFile { path } => told_change(self.change_of_new_file(alloc, path)),
             DiskAsk::Append { path, bytes } => {

@@ -1,8 +1,7 @@
-use Rattle.std.proofs.Common.{◌≡◌, ◌∙◌, ap, false, Option, Some, None, is_some, refl, arith}
-use Rattle.std.proofs.lemmas.Grind.{common_steps}
+use Rattle.std.proofs.Common.{◌≡◌, ◌∙◌, ap, false, Option, Some, None, is_some, refl}
 use Rattle.odb_disk.specs.Streams.{Streams, still_gives, with_opened}
 use Rattle.odb_disk.proofs.StreamsLemmas.{gives_opened}
-use Rattle.odb_disk.proofs.host_disk.HostDisk.open.Goals as goal
+use Rattle.odb_host.proofs.host_disk.HostDisk.open.Goals as goal
 
 -- a number that no open stream has gives nothing
 nothing : {A : Type 0} (o : Option A) → is_some o ≡ false → o ≡ None
@@ -11,7 +10,7 @@ nothing (Some x) free = cc
 
 pub returns-clause-opened : goal.returns-clause-opened
 returns-clause-opened g c = λ path.
-    let streams : c.if-listing.self.streams ≡ with_opened c.args.self.now.streams c.in_ok-dir.dir c.args.listing.entries = grind (arith, common_steps) in
+    let streams : c.set_owing.new.self.streams ≡ with_opened c.args.self.now.streams c.in_ok-dir.dir c.args.listing.entries = c.set_owing.ensures.same.0 ∙ c.in_ok-dir.ensures.opened in
     record {
       entries = c.args.listing.entries;
       was_free = nothing _ c.in_ok-dir.ensures.least.free;
@@ -22,5 +21,5 @@ returns-clause-opened g c = λ path.
 
 pub returns-clause-given : goal.returns-clause-given
 returns-clause-given g c =
-    let streams : c.if-listing.self.streams ≡ with_opened c.args.self.now.streams c.in_ok-dir.dir c.args.listing.entries = grind (arith, common_steps) in
+    let streams : c.set_owing.new.self.streams ≡ with_opened c.args.self.now.streams c.in_ok-dir.dir c.args.listing.entries = c.set_owing.ensures.same.0 ∙ c.in_ok-dir.ensures.opened in
     ap (λ (s : Streams). still_gives s c.in_ok-dir.dir) streams ∙ gives_opened c.args.self.now.streams c.in_ok-dir.dir c.args.listing.entries

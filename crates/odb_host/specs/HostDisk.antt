@@ -1,9 +1,11 @@
 -- What a real disk makes of the system's answers.
-use Rattle.std.specs.Prelude.{◌≡◌, ◌≢◌, ℕ, ◌+◌, ◌-◌, ◌*◌, ◌^◌, ◌==◌, ◌++◌, ◌||◌, Bool, true, false, not, nat_eq, List, min, ℤ, pos, [], Option, Some, None, Result, Ok, Err, if◌then◌else◌}
-use Rattle.std.specs.List.{cons_option, list_any}
+use Rattle.std.specs.Prelude.{◌≡◌, ◌≢◌, ℕ, ◌+◌, ◌-◌, ◌*◌, ◌^◌, ◌==◌, Bool, true, false, not, nat_eq, List, min, ℤ, pos, Option, Some, None, Result, Ok, Err, if◌then◌else◌}
+use Rattle.std.specs.List.{list_any}
 use Rattle.std.specs.declared.io.ErrorKind.{ErrorKind}
 use Rattle.std.specs.declared.io.ErrorKind.TheVariants.{NotFound, NotADirectory, IsADirectory, FilesystemLoop, AlreadyExists, DirectoryNotEmpty}
 use Rattle.std.specs.declared.fs.FileType.{FileType}
+use Rattle.std.specs.declared.fs.Metadata.{Metadata}
+use Rattle.std.specs.Fs.{file_type, metadata_len}
 use Rattle.odb_base.specs.Path.{Name, is_name}
 use Rattle.odb_disk.specs.declared.disk.Entry.{Entry}
 use Rattle.odb_disk.specs.declared.disk.Kind.{Kind}
@@ -11,7 +13,8 @@ use Rattle.odb_disk.specs.declared.disk.Kind.TheVariants.{File, Dir, Link}
 use Rattle.odb_disk.specs.declared.disk.Meta.{Meta}
 use Rattle.odb_disk.specs.declared.disk.DiskError.{DiskError}
 use Rattle.odb_disk.specs.declared.disk.DiskError.TheVariants as errors
-use Rattle.odb_disk.specs.declared.host_disk.Listing.{Listing}
+use Rattle.odb_disk.specs.declared.source.ReadError.{ReadError}
+use Rattle.odb_disk.specs.declared.source.ReadError.TheVariants as read_errors
 
 -- the refusal that an error of the system is. The disk failed where it is another error than these
 abbrev pub refusal_of : ErrorKind → DiskError
@@ -27,6 +30,31 @@ refusal_of kind = errors.Failed
 abbrev pub kind_of : FileType → Option Kind
 kind_of t =
     if t.bits == 0o100000 then Some File else (if t.bits == 0o040000 then Some Dir else (if t.bits == 0o120000 then Some Link else None))
+
+-- What a look tells of a node of a kind, with these numbers, this length and this time. A directory and a link have no
+-- length and no time, and what is no file, directory or link is a fault.
+abbrev pub meta_from : Option Kind → (dev ino len time : ℕ) → Result Meta DiskError
+meta_from None dev ino len time = Err errors.Failed
+meta_from (Some File) dev ino len time = Ok (record { kind = File; dev = dev; ino = ino; len = len; time = time })
+meta_from (Some kind) dev ino len time = Ok (record { kind = kind; dev = dev; ino = ino; len = 0; time = 0 })
+
+-- what a look tells of what the system told: its kind and a file's length are the system's
+pub record MetaOf (metadata : Metadata) (told : Result Meta DiskError) : Type 0 where
+  pub dev : ℕ
+  pub ino : ℕ
+  pub time : ℕ
+  pub is : told ≡ meta_from (kind_of (file_type metadata)) dev ino (metadata_len metadata) time
+
+-- whether a call that needs a file goes on, by what its path leads to
+abbrev pub only_file : Kind → Result (Unit {0}) DiskError
+only_file File = Ok tt
+only_file Dir = Err errors.WrongKind
+only_file Link = Err errors.Failed
+
+-- the refusal that a read is which didn't come to its end
+abbrev pub read_refusal : ReadError → DiskError
+read_refusal read_errors.Failed = errors.Failed
+read_refusal read_errors.NoMemory = errors.NoMemory
 
 -- nanoseconds since 1970, from seconds and the nanoseconds of the last one. An earlier time is 0, and one that
 -- doesn't fit 64 bits is the greatest that does
@@ -57,9 +85,3 @@ owes_failure odd dir = list_any (λ number. nat_eq number dir) odd
 -- each other stream owes a failure where it did before
 abbrev pub OthersOwe : ℕ → List ℕ → List ℕ → Type 0
 OthersOwe dir old new = (number : ℕ) → number ≢ dir → owes_failure new number ≡ owes_failure old number
-
--- A name was read in a directory: a look at it told something, and by that its entry is added, or it is passed over.
-pub record Finds (name : Name) (old new : Listing) : Type 0 where
-  pub seen : Result Meta DiskError
-  pub entries : new.entries ≡ old.entries ++ cons_option (found_entry name seen) []
-  pub passed_over : new.passed_over ≡ (old.passed_over || is_odd name seen)

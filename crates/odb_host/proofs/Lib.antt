@@ -1,0 +1,2 @@
+mod OwingLemmas
+mod HostListingLemmas

@@ -1,0 +1,2 @@
+pub mod HostDisk
+pub mod HostListing

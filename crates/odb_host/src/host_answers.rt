@@ -1,0 +1,143 @@
+//! What a real disk makes of the system's answers.
+ghost use Rattle.std.specs.Prelude.{◌≡◌, length, nat_le, Ok, Err, IfOk, IfErr, if◌then◌else◌};
+ghost use Rattle.std.specs.Result.{result_map_both};
+ghost use Rattle.std.specs.IoError.{error_kind};
+ghost use Rattle.odb_host.specs.HostDisk.{MetaOf, refusal_of, read_refusal, only_file, kind_of, meta_from, time_of};
+
+use odb_disk::{ByteList, DiskError, Kind, Meta, ReadError};
+use std::fs::{FileType, Metadata};
+use std::io::{self, ErrorKind};
+use std::os::unix::fs::MetadataExt;
+
+/// What a look tells, by what the system did.
+pub(crate) fn told_of(found: io::Result<Metadata>) -> Result<Meta, DiskError>
+    ensures ok { IfOk found (λ metadata. MetaOf metadata result) }
+    ensures err { IfErr found (λ e. result ≡ Err (refusal_of (error_kind e))) }
+{
+    match found {
+        Ok(metadata) => meta_of(&metadata),
+        Err(e) => Err(refusal_of(e.kind())),
+    }
+}
+
+/// What a call of the system answers that tells nothing but its error.
+pub(crate) fn answered(made: io::Result<()>) -> Result<(), DiskError>
+    ensures { result ≡ result_map_both (λ u. u) (λ e. refusal_of (error_kind e)) made }
+{
+    match made {
+        Ok(()) => Ok(()),
+        Err(e) => Err(refusal_of(e.kind())),
+    }
+}
+
+/// What a call that needs a file makes of what the path leads to. A link is followed, unless something else has just
+/// put it there.
+pub(crate) fn only_file(meta: Meta) -> Result<(), DiskError>
+    ensures { result ≡ only_file meta.kind }
+{
+    match meta.kind {
+        Kind::File => Ok(()),
+        Kind::Dir => Err(DiskError::WrongKind),
+        Kind::Link => Err(DiskError::Failed),
+    }
+}
+
+/// What was read of a file of at most `longest` bytes.
+pub(crate) fn within(
+    read: Result<Vec<u8>, ReadError>,
+    longest: usize,
+) -> Result<ByteList, DiskError>
+    ensures ok { IfOk read (λ bytes. result ≡ (if nat_le (length bytes.items) longest then Ok bytes.items else Err DiskError.Failed)) }
+    ensures err { IfErr read (λ e. result ≡ Err (read_refusal e)) }
+{
+    match read {
+        Ok(bytes) if bytes.len() <= longest => Ok(ByteList::from_vec(bytes)),
+        Ok(_) | Err(ReadError::Failed) => Err(DiskError::Failed),
+        Err(ReadError::NoMemory) => Err(DiskError::NoMemory),
+    }
+}
+
+/// What a look tells of a node of the system. One that is no file, directory or link is a fault.
+fn meta_of(metadata: &Metadata) -> Result<Meta, DiskError>
+    ensures { MetaOf metadata.now result }
+{
+    let time = time_of(metadata.mtime(), metadata.mtime_nsec());
+    let node = Node {
+        dev: metadata.dev(),
+        ino: metadata.ino(),
+        len: metadata.len(),
+        time,
+    };
+    meta_from(kind_of(metadata.file_type()), node)
+}
+
+/// What the system tells of a node, but for its kind.
+#[derive(Clone, Copy)]
+struct Node {
+    dev: u64,
+    ino: u64,
+    len: u64,
+    time: u64,
+}
+
+/// What a look tells of a node of this kind. A directory and a link have no length and no time.
+fn meta_from(kind: Option<Kind>, node: Node) -> Result<Meta, DiskError>
+    ensures { result ≡ meta_from kind node.dev node.ino node.len node.time }
+{
+    let Some(kind) = kind else {
+        return Err(DiskError::Failed);
+    };
+    let (len, time) = match kind {
+        Kind::File => (node.len, node.time),
+        Kind::Dir | Kind::Link => (0, 0),
+    };
+    Ok(Meta {
+        kind,
+        dev: node.dev,
+        ino: node.ino,
+        len,
+        time,
+    })
+}
+
+/// The kind of a node of the system, if it is one of the three.
+fn kind_of(kind: FileType) -> Option<Kind>
+    ensures { result ≡ kind_of kind }
+{
+    if kind.is_file() {
+        Some(Kind::File)
+    } else if kind.is_dir() {
+        Some(Kind::Dir)
+    } else if kind.is_symlink() {
+        Some(Kind::Link)
+    } else {
+        None
+    }
+}
+
+/// Nanoseconds since 1970, from seconds and the nanoseconds of the last one. An earlier time is 0.
+fn time_of(seconds: i64, nanoseconds: i64) -> u64
+    ensures { result ≡ time_of seconds nanoseconds }
+{
+    match (u64::try_from(seconds), u64::try_from(nanoseconds)) {
+        (Ok(seconds), Ok(nanoseconds)) => seconds
+            .saturating_mul(1_000_000_000)
+            .saturating_add(nanoseconds),
+        _ => 0,
+    }
+}
+
+/// The refusal that an error of the system is. The system fails where it is another error than these.
+pub(crate) fn refusal_of(kind: ErrorKind) -> DiskError
+    ensures { result ≡ refusal_of kind }
+{
+    match kind {
+        ErrorKind::NotFound => DiskError::Absent,
+        ErrorKind::NotADirectory => DiskError::WrongKind,
+        ErrorKind::IsADirectory => DiskError::WrongKind,
+        ErrorKind::FilesystemLoop => DiskError::LinkLoop,
+        ErrorKind::AlreadyExists => DiskError::Exists,
+        ErrorKind::DirectoryNotEmpty => DiskError::NotEmpty,
+        _ => DiskError::Failed,
+    }
+}
