@@ -1,5 +1,5 @@
 -- Names in Unicode's form NFC.
-use Rattle.std.specs.Prelude.{List, map, chars, encode_utf8_all, if◌then◌else◌}
+use Rattle.std.specs.Prelude.{map, chars, encode_utf8_all, if◌then◌else◌}
 use Rattle.unicode_normalization.specs.Forms.{nfc}
 use Rattle.odb_base.specs.Path.{Path, Name, is_name}
 

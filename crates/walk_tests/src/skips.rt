@@ -55,6 +55,15 @@ const AFTER_FAULTS: &str = "\
     fail 9 /t; open 1; next next next next next skip|/t /t/a /t/a/b /t/a/b/x [Failed 2] /t/d /t/d/e /t/f\n\
     fail 11 /t; open 1; next next next next skip|/t /t/a /t/a/b [IO error for operation on /t/a/b: Failed 2] /t/a/c /t/d /t/d/e /t/f";
 
+// A look at a directory, or its opening, fails where both are made.
+const AFTER_LOOKS: &str = "\
+    fail 5 /t; follow; next next skip|/t [IO error for operation on /t/a: Failed 1]\n\
+    fail 6 /t; follow; next next next skip|/t /t/a [IO error for operation on /t/a: Failed 1] /t/d /t/d/e /t/f\n\
+    fail 6 /t; follow; next next next skip skip|/t /t/a [IO error for operation on /t/a: Failed 1]\n\
+    fail 6 /t; same; next next skip|/t [IO error for operation on /t/a: Failed 1]\n\
+    fail 7 /t; same; next next next skip|/t /t/a [IO error for operation on /t/a: Failed 1] /t/d /t/d/e /t/f\n\
+    fail 7 /t; same; next next next skip skip|/t /t/a [IO error for operation on /t/a: Failed 1]";
+
 const LOOPED: &str = "\
     dir /t, link /t/a /t, dir /t/b, file /t/b/x, link /t/b/y /t, file /t/b/z, link /t/c /none, file /t/d";
 
@@ -71,6 +80,7 @@ const AFTER_LINKS: &str = "\
 #[test]
 fn skips_after_errors(rt: HostRuntime) -> Result<(), Fail> {
     check(rt.alloc(), &Led, TREE, AFTER_FAULTS)?;
+    check(rt.alloc(), &Led, TREE, AFTER_LOOKS)?;
     check(rt.alloc(), &Led, LOOPED, AFTER_LINKS)
 }
 

@@ -5,6 +5,8 @@ use Rattle.std.specs.Iterator.{Yields}
 use Rattle.std.specs.Option.{option_to_list}
 use Rattle.std.specs.Prelude.{MatchBool}
 use denote.Ref.{Bor}
+use Rattle.odb_disk.specs.declared.ask.DiskAsk.{DiskAsk}
+use Rattle.odb_disk.specs.declared.ask.DiskAnswer.{DiskAnswer}
 use Rattle.odb_disk.specs.Streams.{Streams}
 use Rattle.odb_disk.specs.Tree.{State, tree_of}
 use Rattle.walkdir.proofs.FilteredWalkLemmas.{StillLeaves, gives_begun, innermost_dir, innermost_head, left_alone, left_below, skip_above, skip_is_of, unbegun_gives, unbegun_keeps, unbegun_of}
@@ -27,33 +29,33 @@ use Rattle.walkdir.specs.declared.list.DirList.{DirList}
 
 -- ---- a filtered walk on a disk that tells its tree
 
-module _ {D W : Type 0} (state : D → Option State) (streams : D → Streams) (faults : D → ℕ) (progress : W → Streams → Progress) where
+module _ {D W : Type 0} (state : D → Option State) (streams : D → Streams) (faults : D → ℕ) (answered : D → DiskAsk → DiskAnswer → D → Type 0) (progress : W → Streams → Progress) where
   -- what one call of a filtered walk leaves: where the rest is left of what is still to come, so is the item and the rest
   pub record Leads (walk : Walking) (accepts : DirEntry → Bool) (told : State) (before : Streams) (s : OnDisk D W) (item : Option Item) (t : OnDisk D W) : Type 0 where
     pub tells : state t.disk.now ≡ Some told
-    pub of : IsOf walk (at_walk state streams faults progress t)
-    pub keeps : Keeps before (at_walk state streams faults progress t)
-    pub over : item ≡ None → StillGives walk (at_walk state streams faults progress t) []
-    pub above : AreEntered walk (ancestors (at_walk state streams faults progress t).stack)
-    pub back : (last given : List Item) → StillLeaves walk accepts (at_walk state streams faults progress t) last given
-        → StillLeaves walk accepts (at_walk state streams faults progress s) last (option_to_list item ++ given)
+    pub of : IsOf walk (at_walk state streams faults answered progress t)
+    pub keeps : Keeps before (at_walk state streams faults answered progress t)
+    pub over : item ≡ None → StillGives walk (at_walk state streams faults answered progress t) []
+    pub above : AreEntered walk (ancestors (at_walk state streams faults answered progress t).stack)
+    pub back : (last given : List Item) → StillLeaves walk accepts (at_walk state streams faults answered progress t) last given
+        → StillLeaves walk accepts (at_walk state streams faults answered progress s) last (option_to_list item ++ given)
 
   -- what a step gives there
   pub record StepTold (walk : Walking) (told : State) (before : Streams) (s : OnDisk D W) (item : Option Item) (t : OnDisk D W) : Type 0 where
     pub tells : state t.disk.now ≡ Some told
-    pub of : IsOf walk (at_walk state streams faults progress t)
-    pub keeps : Keeps before (at_walk state streams faults progress t)
-    pub over : item ≡ None → StillGives walk (at_walk state streams faults progress t) []
-    pub back : (rest : List Item) → StillGives walk (at_walk state streams faults progress t) rest → StillGives walk (at_walk state streams faults progress s) (option_to_list item ++ rest)
-    pub directory : TellsEntered walk item (at_walk state streams faults progress t)
-    pub above : AreEntered walk (ancestors (at_walk state streams faults progress t).stack)
+    pub of : IsOf walk (at_walk state streams faults answered progress t)
+    pub keeps : Keeps before (at_walk state streams faults answered progress t)
+    pub over : item ≡ None → StillGives walk (at_walk state streams faults answered progress t) []
+    pub back : (rest : List Item) → StillGives walk (at_walk state streams faults answered progress t) rest → StillGives walk (at_walk state streams faults answered progress s) (option_to_list item ++ rest)
+    pub directory : TellsEntered walk item (at_walk state streams faults answered progress t)
+    pub above : AreEntered walk (ancestors (at_walk state streams faults answered progress t).stack)
 
-  step_told : (walk : Walking) (told : State) (before : Streams) (s : OnDisk D W) (item : Option Item) (t : OnDisk D W) → NextOn state streams faults progress s item t
-      → state s.disk.now ≡ Some told → walk.tree ≡ tree_of told → IsOf walk (at_walk state streams faults progress s) → Keeps before (at_walk state streams faults progress s) → is_lost item ≡ false
-      → AreEntered walk (ancestors (at_walk state streams faults progress s).stack) → StepTold walk told before s item t
+  step_told : (walk : Walking) (told : State) (before : Streams) (s : OnDisk D W) (item : Option Item) (t : OnDisk D W) → NextOn state streams faults answered progress s item t
+      → state s.disk.now ≡ Some told → walk.tree ≡ tree_of told → IsOf walk (at_walk state streams faults answered progress s) → Keeps before (at_walk state streams faults answered progress s) → is_lost item ≡ false
+      → AreEntered walk (ancestors (at_walk state streams faults answered progress s).stack) → StepTold walk told before s item t
   step_told walk told before s item t next tells tree of keeps lost above =
-      let old = at_walk state streams faults progress s in
-      let new = at_walk state streams faults progress t in
+      let old = at_walk state streams faults answered progress s in
+      let new = at_walk state streams faults answered progress t in
       let step = next.1 in
       let gives = subst (λ o. GivesNext o old item new) tells step.gives walk before tree of keeps lost in
       record {
@@ -70,39 +72,39 @@ module _ {D W : Type 0} (state : D → Option State) (streams : D → Streams) (
 
   -- a rejected entry is passed over, with what it contains where it was entered
   passed_over : (b : Bool) (walk : Walking) (accepts : DirEntry → Bool) (before : Streams) (s m n : OnDisk D W) (entry : DirEntry) (last given : List Item) → accepts entry ≡ false
-      → (b ≡ true → is_dir entry ≡ true) → MatchBool b (IsEntered walk entry (at_walk state streams faults progress m).start (at_walk state streams faults progress m).streams
-      (at_walk state streams faults progress m).stack) (StaysOut walk entry)
-      → MatchBool b (SkipsOn state streams faults progress m n) (n ≡ m) → (b ≡ true → IsHead entry.path entry.depth (at_walk state streams faults progress m).stack)
-      → AreEntered walk (ancestors (at_walk state streams faults progress m).stack) → Keeps before (at_walk state streams faults progress m)
-      → ((rest : List Item) → StillGives walk (at_walk state streams faults progress m) rest → StillGives walk (at_walk state streams faults progress s) (Ok entry ∷ rest))
-      → StillLeaves walk accepts (at_walk state streams faults progress n) last given → StillLeaves walk accepts (at_walk state streams faults progress s) last given
+      → (b ≡ true → is_dir entry ≡ true) → MatchBool b (IsEntered walk entry (at_walk state streams faults answered progress m).start (at_walk state streams faults answered progress m).streams
+      (at_walk state streams faults answered progress m).stack) (StaysOut walk entry)
+      → MatchBool b (SkipsOn state streams faults answered progress m n) (n ≡ m) → (b ≡ true → IsHead entry.path entry.depth (at_walk state streams faults answered progress m).stack)
+      → AreEntered walk (ancestors (at_walk state streams faults answered progress m).stack) → Keeps before (at_walk state streams faults answered progress m)
+      → ((rest : List Item) → StillGives walk (at_walk state streams faults answered progress m) rest → StillGives walk (at_walk state streams faults answered progress s) (Ok entry ∷ rest))
+      → StillLeaves walk accepts (at_walk state streams faults answered progress n) last given → StillLeaves walk accepts (at_walk state streams faults answered progress s) last given
   passed_over true walk accepts before s m n entry last given rejected dir entered skip head above keeps back left =
-      left_below walk accepts before (at_walk state streams faults progress s) (at_walk state streams faults progress m) (at_walk state streams faults progress n) entry last given rejected (dir refl) entered
+      left_below walk accepts before (at_walk state streams faults answered progress s) (at_walk state streams faults answered progress m) (at_walk state streams faults answered progress n) entry last given rejected (dir refl) entered
       (head refl) above keeps skip.0 back left
   passed_over false walk accepts before s m n entry last given rejected dir out is head above keeps back left =
-      left_alone walk accepts (at_walk state streams faults progress s) (at_walk state streams faults progress m) entry last given rejected out back
-      (subst (λ x. StillLeaves walk accepts (at_walk state streams faults progress x) last given) is left)
+      left_alone walk accepts (at_walk state streams faults answered progress s) (at_walk state streams faults answered progress m) entry last given rejected out back
+      (subst (λ x. StillLeaves walk accepts (at_walk state streams faults answered progress x) last given) is left)
 
   -- what stays after a rejected entry
   pub record Stays (walk : Walking) (told : State) (before : Streams) (t : OnDisk D W) : Type 0 where
     pub tells : state t.disk.now ≡ Some told
-    pub of : IsOf walk (at_walk state streams faults progress t)
-    pub keeps : Keeps before (at_walk state streams faults progress t)
-    pub above : AreEntered walk (ancestors (at_walk state streams faults progress t).stack)
+    pub of : IsOf walk (at_walk state streams faults answered progress t)
+    pub keeps : Keeps before (at_walk state streams faults answered progress t)
+    pub above : AreEntered walk (ancestors (at_walk state streams faults answered progress t).stack)
 
-  stays_after : (b : Bool) (walk : Walking) (told : State) (before : Streams) (m n : OnDisk D W) → MatchBool b (SkipsOn state streams faults progress m n) (n ≡ m) → Stays walk told before m
+  stays_after : (b : Bool) (walk : Walking) (told : State) (before : Streams) (m n : OnDisk D W) → MatchBool b (SkipsOn state streams faults answered progress m n) (n ≡ m) → Stays walk told before m
       → Stays walk told before n
   stays_after true walk told before m n skip stays = record {
     tells = skip.1 ∙ stays.tells;
-    of = skip_is_of walk (at_walk state streams faults progress m) (at_walk state streams faults progress n) skip.0 stays.of;
+    of = skip_is_of walk (at_walk state streams faults answered progress m) (at_walk state streams faults answered progress n) skip.0 stays.of;
     keeps = skip.0.keeps before stays.keeps;
-    above = skip_above walk (at_walk state streams faults progress m) (at_walk state streams faults progress n) skip.0 stays.above;
+    above = skip_above walk (at_walk state streams faults answered progress m) (at_walk state streams faults answered progress n) skip.0 stays.above;
   }
   stays_after false walk told before m n is stays = subst (Stays walk told before) (sym is) stays
 
   module _ {F : Type 0} (calls : Mut F (Bor DirEntry × Unit {0}) Bool) (accepts : DirEntry → Bool)
       (answers : (f g : F) (entry : DirEntry) (answer : Bool) → CalledAt calls f entry answer g → answer ≡ accepts entry) where
-    leads : (walk : Walking) (told : State) (before : Streams) {s t : OnDisk D W} {f h : F} {item : Option Item} → FiltersOn state streams faults progress calls s f item t h → walk.tree ≡ tree_of told
+    leads : (walk : Walking) (told : State) (before : Streams) {s t : OnDisk D W} {f h : F} {item : Option Item} → FiltersOn state streams faults answered progress calls s f item t h → walk.tree ≡ tree_of told
         → Stays walk told before s → is_lost item ≡ false → Leads walk accepts told before s item t
     leads walk told before {s} {t} (Ends step) tree stays lost =
         let at = step_told walk told before s None t step stays.tells tree stays.of stays.keeps lost stays.above in
@@ -140,7 +142,7 @@ module _ {D W : Type 0} (state : D → Option State) (streams : D → Streams) (
         }
     leads walk told before {s} {t} {f} {item = item} (Rejects m n g entry step called after rest) tree stays lost =
         let at = step_told walk told before s (Some (Ok entry)) m step stays.tells tree stays.of stays.keeps refl stays.above in
-        let mid = at_walk state streams faults progress m in
+        let mid = at_walk state streams faults answered progress m in
         let there : Stays walk told before m = record { tells = at.tells; of = at.of; keeps = at.keeps; above = at.above } in
         let more = leads walk told before rest tree (stays_after mid.entered walk told before m n after there) lost in
         record {
@@ -156,13 +158,13 @@ module _ {D W : Type 0} (state : D → Option State) (streams : D → Streams) (
 
     -- what was given so far, and what still comes
     leads_along : (walk : Walking) (told : State) (before : Streams) (s : FilterEntry (OnDisk D W) F) (items : List Item) (t : FilterEntry (OnDisk D W) F) → walk.tree ≡ tree_of told
-        → Stays walk told before s.walk → Yields (FilteredOn state streams faults progress calls) s items t → NoneLost items
-        → Stays walk told before t.walk × ((last given : List Item) → StillLeaves walk accepts (at_walk state streams faults progress t.walk) last given
-        → StillLeaves walk accepts (at_walk state streams faults progress s.walk) last (items ++ given))
+        → Stays walk told before s.walk → Yields (FilteredOn state streams faults answered progress calls) s items t → NoneLost items
+        → Stays walk told before t.walk × ((last given : List Item) → StillLeaves walk accepts (at_walk state streams faults answered progress t.walk) last given
+        → StillLeaves walk accepts (at_walk state streams faults answered progress s.walk) last (items ++ given))
     leads_along walk told before s [] t tree stays is lost =
         let same : t.walk ≡ s.walk = ap (λ (x : FilterEntry (OnDisk D W) F). x.walk) (sym is) in (
           subst (Stays walk told before) (sym same) stays,
-          λ last given left. subst (λ x. StillLeaves walk accepts (at_walk state streams faults progress x) last given) same left,
+          λ last given left. subst (λ x. StillLeaves walk accepts (at_walk state streams faults answered progress x) last given) same left,
         )
     leads_along walk told before s (item ∷ items) t tree stays along lost =
         let at = leads walk told before along.1 tree stays lost.0 in
@@ -171,46 +173,46 @@ module _ {D W : Type 0} (state : D → Option State) (streams : D → Streams) (
 
     -- ---- from a walk that hasn't begun
 
-    stays_begun : (walk : Walking) (told : State) (s : OnDisk D W) → state s.disk.now ≡ Some told → HasNotBegun walk (at_walk state streams faults progress s)
-        → Stays walk told (at_walk state streams faults progress s).streams s
+    stays_begun : (walk : Walking) (told : State) (s : OnDisk D W) → state s.disk.now ≡ Some told → HasNotBegun walk (at_walk state streams faults answered progress s)
+        → Stays walk told (at_walk state streams faults answered progress s).streams s
     stays_begun walk told s tells at = record {
       tells = tells;
-      of = unbegun_of walk (at_walk state streams faults progress s) at;
-      keeps = unbegun_keeps walk (at_walk state streams faults progress s) at;
+      of = unbegun_of walk (at_walk state streams faults answered progress s) at;
+      keeps = unbegun_keeps walk (at_walk state streams faults answered progress s) at;
       above = subst (λ (l : List DirList). AreEntered walk (ancestors l)) (sym at.stack) tt;
     }
 
     filtered_begins : (walk : Walking) (told : State) (s : FilterEntry (OnDisk D W) F) (items : List Item) (t : FilterEntry (OnDisk D W) F) → walk.tree ≡ tree_of told
-        → state s.walk.disk.now ≡ Some told → HasNotBegun walk (at_walk state streams faults progress s.walk) → Yields (FilteredOn state streams faults progress calls) s items t → NoneLost items
+        → state s.walk.disk.now ≡ Some told → HasNotBegun walk (at_walk state streams faults answered progress s.walk) → Yields (FilteredOn state streams faults answered progress calls) s items t → NoneLost items
         → BeginsFiltered walk accepts items
     filtered_begins walk told s items t tree tells at along lost =
-        let before = (at_walk state streams faults progress s.walk).streams in
+        let before = (at_walk state streams faults answered progress s.walk).streams in
         let led = leads_along walk told before s items t tree (stays_begun walk told s.walk tells at) along lost in
-        let some = something_left walk before (at_walk state streams faults progress t.walk) led.0.keeps in
+        let some = something_left walk before (at_walk state streams faults answered progress t.walk) led.0.keeps in
         let left = led.1 some.0 [] (record { items = []; gives = some.1; leaves = LeavesOut.Ended }) in
         record {
           items = left.items;
           rest = some.0;
-          is = unbegun_gives walk (at_walk state streams faults progress s.walk) (left.items ++ some.0) at left.gives;
+          is = unbegun_gives walk (at_walk state streams faults answered progress s.walk) (left.items ++ some.0) at left.gives;
           leaves = subst (LeavesOut walk accepts left.items) (append-nil items) left.leaves;
         }
 
     filtered_whole : (walk : Walking) (told : State) (s : FilterEntry (OnDisk D W) F) (items : List Item) (t u : FilterEntry (OnDisk D W) F) → walk.tree ≡ tree_of told
-        → state s.walk.disk.now ≡ Some told → HasNotBegun walk (at_walk state streams faults progress s.walk) → Yields (FilteredOn state streams faults progress calls) s items t
-        → FilteredOn state streams faults progress calls t None u → NoneLost items → IsFilteredWalk walk accepts items
+        → state s.walk.disk.now ≡ Some told → HasNotBegun walk (at_walk state streams faults answered progress s.walk) → Yields (FilteredOn state streams faults answered progress calls) s items t
+        → FilteredOn state streams faults answered progress calls t None u → NoneLost items → IsFilteredWalk walk accepts items
     filtered_whole walk told s items t u tree tells at along last lost =
-        let before = (at_walk state streams faults progress s.walk).streams in
+        let before = (at_walk state streams faults answered progress s.walk).streams in
         let led = leads_along walk told before s items t tree (stays_begun walk told s.walk tells at) along lost in
         let end = leads walk told before last tree led.0 refl in
         let left = led.1 [] [] (end.back [] [] (record { items = []; gives = end.over refl; leaves = LeavesOut.Ended })) in
         record {
           items = left.items;
-          is = subst (IsWalk walk) (append-nil left.items) (unbegun_gives walk (at_walk state streams faults progress s.walk) (left.items ++ []) at left.gives);
+          is = subst (IsWalk walk) (append-nil left.items) (unbegun_gives walk (at_walk state streams faults answered progress s.walk) (left.items ++ []) at left.gives);
           leaves = subst (LeavesOut walk accepts left.items) (append-nil items) left.leaves;
         }
 
     -- the law for any predicate
-    pub gives_filtered : (s : FilterEntry (OnDisk D W) F) → GivesFiltered state streams faults progress calls accepts s
+    pub gives_filtered : (s : FilterEntry (OnDisk D W) F) → GivesFiltered state streams faults answered progress calls accepts s
     gives_filtered s = record {
       begins = λ walk told items t tree tells at along lost. filtered_begins walk told s items t tree tells at along lost;
       whole = λ walk told items t u tree tells at along last lost. filtered_whole walk told s items t u tree tells at along last lost;

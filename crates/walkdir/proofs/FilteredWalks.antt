@@ -6,9 +6,15 @@ use Rattle.std.specs.List.{All}
 use Rattle.std.specs.Prelude.{MatchBool}
 use Rattle.std.proofs.lemmas.List.Elements.{All-cons, All-nil}
 use denote.Ref.{Bor}
+use Rattle.odb_disk.specs.declared.ask.DiskAsk.{DiskAsk}
+use Rattle.odb_disk.specs.declared.ask.DiskAnswer.{DiskAnswer}
 use Rattle.odb_disk.specs.Streams.{Streams}
 use Rattle.odb_disk.specs.Tree.{State}
+use Rattle.odb_disk.specs.CallsMade.{Leads}
+use Rattle.walkdir.proofs.AnsweredLemmas.{item_later, leads_still, leads_then, tells_still, tells_then}
 use Rattle.walkdir.proofs.WholeWalks.{begun_keeps}
+use Rattle.walkdir.specs.Answered.{AreTold, IsStackTold, TellsOn}
+use Rattle.walkdir.specs.FilteredWalk.{FilteredOn}
 use Rattle.walkdir.specs.Filter.{Filters, Accepts, Ends, Errs, Rejects}
 use Rattle.walkdir.specs.OnDisk.{NextOn, SkipsOn, at_walk}
 use Rattle.walkdir.specs.Options.{Built}
@@ -20,13 +26,13 @@ use Rattle.walkdir.specs.declared.dent.DirEntry.{DirEntry}
 use Rattle.walkdir.specs.declared.filter.FilterEntry.{FilterEntry}
 use Rattle.walkdir.specs.declared.iter.OnDisk.{OnDisk}
 
-module _ {D W : Type 0} (state : D → Option State) (streams : D → Streams) (faults : D → ℕ) (progress : W → Streams → Progress) where
+module _ {D W : Type 0} (state : D → Option State) (streams : D → Streams) (faults : D → ℕ) (answered : D → DiskAsk → DiskAnswer → D → Type 0) (progress : W → Streams → Progress) where
   -- what stays as it was
   pub record Kept (s t : OnDisk D W) : Type 0 where
     pub tells : state t.disk.now ≡ state s.disk.now
     pub disk : t.disk.ghost_name ≡ s.disk.ghost_name
-    pub options : (at_walk state streams faults progress t).options ≡ (at_walk state streams faults progress s).options
-    pub keeps : (before : Streams) → Keeps before (at_walk state streams faults progress s) → Keeps before (at_walk state streams faults progress t)
+    pub options : (at_walk state streams faults answered progress t).options ≡ (at_walk state streams faults answered progress s).options
+    pub keeps : (before : Streams) → Keeps before (at_walk state streams faults answered progress s) → Keeps before (at_walk state streams faults answered progress t)
 
   pub kept_first : (s : OnDisk D W) → Kept s s
   kept_first s = record { tells = refl; disk = refl; options = refl; keeps = λ before keeps. keeps }
@@ -39,16 +45,16 @@ module _ {D W : Type 0} (state : D → Option State) (streams : D → Streams) (
     keeps = λ before keeps. second.keeps before (first.keeps before keeps);
   }
 
-  kept_step : (s : OnDisk D W) (item : Option Item) (t : OnDisk D W) → NextOn state streams faults progress s item t → Kept s t
+  kept_step : (s : OnDisk D W) (item : Option Item) (t : OnDisk D W) → NextOn state streams faults answered progress s item t → Kept s t
   kept_step s item t step = record { tells = step.3; disk = step.4; options = step.1.options; keeps = step.1.keeps }
 
-  kept_after : (entered : Bool) (s t : OnDisk D W) → MatchBool entered (SkipsOn state streams faults progress s t) (t ≡ s) → Kept s t
+  kept_after : (entered : Bool) (s t : OnDisk D W) → MatchBool entered (SkipsOn state streams faults answered progress s t) (t ≡ s) → Kept s t
   kept_after true s t skip = record { tells = skip.1; disk = skip.3; options = skip.0.options; keeps = skip.0.keeps }
   kept_after false s t is = subst (Kept s) (sym is) (kept_first s)
 
   -- what a filtered walk leaves that is dropped
-  pub filtered_back : {T : Type 0} (order : T → Order) (built : Built T) (before now : Streams) (s u : OnDisk D W) → at_walk state streams faults progress s ≡ begun order built before → Kept s u
-      → ((other : Streams) → Keeps other (at_walk state streams faults progress u) → AreBack other (at_walk state streams faults progress u).options.max_open now)
+  pub filtered_back : {T : Type 0} (order : T → Order) (built : Built T) (before now : Streams) (s u : OnDisk D W) → at_walk state streams faults answered progress s ≡ begun order built before → Kept s u
+      → ((other : Streams) → Keeps other (at_walk state streams faults answered progress u) → AreBack other (at_walk state streams faults answered progress u).options.max_open now)
       → AreBack before built.options.max_open now
   filtered_back order built before now s u is kept dropped =
       let keeps = subst (Keeps before) (sym is) (begun_keeps order built before) in
@@ -56,7 +62,7 @@ module _ {D W : Type 0} (state : D → Option State) (streams : D → Streams) (
 
   -- what a filtered walk gives there, part by part
   abbrev pub FiltersOn : {F : Type 0} → Mut F (Bor DirEntry × Unit {0}) Bool → OnDisk D W → F → Option Item → OnDisk D W → F → Type 0
-  FiltersOn accepts s f item t h = Filters (NextOn state streams faults progress) (SkipsOn state streams faults progress) (λ x. (at_walk state streams faults progress x).entered) accepts s f item t h
+  FiltersOn accepts s f item t h = Filters (NextOn state streams faults answered progress) (SkipsOn state streams faults answered progress) (λ x. (at_walk state streams faults answered progress x).entered) accepts s f item t h
 
   module _ {F : Type 0} {accepts : Mut F (Bor DirEntry × Unit {0}) Bool} where
     pub kept_filters : {s t : OnDisk D W} {f h : F} {item : Option Item} → FiltersOn accepts s f item t h → Kept s t
@@ -64,7 +70,7 @@ module _ {D W : Type 0} (state : D → Option State) (streams : D → Streams) (
     kept_filters {s} {t} {item = item} (Errs step) = kept_step s item t step
     kept_filters {s} {t} {item = item} (Accepts step called) = kept_step s item t step
     kept_filters {s} {t} (Rejects m n g entry step called after rest) =
-        kept_then s m t (kept_step s (Some (Ok entry)) m step) (kept_then m n t (kept_after (at_walk state streams faults progress m).entered m n after) (kept_filters rest))
+        kept_then s m t (kept_step s (Some (Ok entry)) m step) (kept_then m n t (kept_after (at_walk state streams faults answered progress m).entered m n after) (kept_filters rest))
 
     -- an entry that is given was accepted
     pub accepted : {s t : OnDisk D W} {f h : F} {item : Option Item} (entry : DirEntry) → item ≡ Some (Ok entry) → FiltersOn accepts s f item t h → (g : F) × (k : F) × CalledAt accepts g entry true k
@@ -82,6 +88,46 @@ module _ {D W : Type 0} (state : D → Option State) (streams : D → Streams) (
     all_accepted Holds each (entry ∷ entries) s t along =
         let passed = accepted entry refl along.1 in
         All-cons Holds entry entries (each passed.0 passed.1 entry passed.2) (all_accepted Holds each entries along.0 t along.2)
+
+  -- ---- what calls of the walk told
+
+  tells_after : (entered : Bool) (m n : OnDisk D W) → MatchBool entered (SkipsOn state streams faults answered progress m n) (n ≡ m)
+      → TellsOn answered m.disk.now (at_walk state streams faults answered progress m).stack None n.disk.now (at_walk state streams faults answered progress n).stack
+  tells_after true m n skip = skip.4
+  tells_after false m n is =
+      subst (λ (x : OnDisk D W). TellsOn answered m.disk.now (at_walk state streams faults answered progress m).stack None x.disk.now (at_walk state streams faults answered progress x).stack) (sym is)
+      (tells_still answered m.disk.now (at_walk state streams faults answered progress m).stack (at_walk state streams faults answered progress m).stack refl)
+
+  module _ {F : Type 0} {accepts : Mut F (Bor DirEntry × Unit {0}) Bool} where
+    pub tells_filters : {s t : OnDisk D W} {f h : F} {item : Option Item} → FiltersOn accepts s f item t h
+        → TellsOn answered s.disk.now (at_walk state streams faults answered progress s).stack item t.disk.now (at_walk state streams faults answered progress t).stack
+    tells_filters (Ends step) = step.5
+    tells_filters (Errs step) = step.5
+    tells_filters (Accepts step called) = step.5
+    tells_filters {s} {t} {item = item} (Rejects m n g entry step called after rest) =
+        let at = λ (x : OnDisk D W). (at_walk state streams faults answered progress x).stack in
+        tells_then answered s.disk.now m.disk.now t.disk.now (at s) (at m) (at t) (Some (Ok entry)) item step.5
+        (tells_then answered m.disk.now n.disk.now t.disk.now (at m) (at n) (at t) None item (tells_after (at_walk state streams faults answered progress m).entered m n after) (tells_filters rest))
+
+  pub tells_along : {F : Type 0} (accepts : Mut F (Bor DirEntry × Unit {0}) Bool) (s : FilterEntry (OnDisk D W) F) (items : List Item) (t : FilterEntry (OnDisk D W) F)
+      → Yields (FilteredOn state streams faults answered progress accepts) s items t
+      → Leads answered s.walk.disk.now t.walk.disk.now × ((first : D) → IsStackTold answered first s.walk.disk.now (at_walk state streams faults answered progress s.walk).stack
+      → IsStackTold answered first t.walk.disk.now (at_walk state streams faults answered progress t.walk).stack × AreTold answered first t.walk.disk.now items)
+  tells_along accepts s [] t is =
+      subst (λ (x : FilterEntry (OnDisk D W) _). Leads answered s.walk.disk.now x.walk.disk.now
+      × ((first : D) → IsStackTold answered first s.walk.disk.now (at_walk state streams faults answered progress s.walk).stack
+      → IsStackTold answered first x.walk.disk.now (at_walk state streams faults answered progress x.walk).stack × Unit {0})) is
+      (leads_still answered s.walk.disk.now, λ first told. (told, tt))
+  tells_along accepts s (item ∷ items) t along =
+      let m = along.0 in
+      let one = tells_filters along.1 in
+      let more = tells_along accepts m items t along.2 in (
+        leads_then answered s.walk.disk.now m.walk.disk.now t.walk.disk.now one.leads more.0,
+        λ first told.
+            let here = one.told first told in
+            let there = more.1 first here.0 in
+            (there.0, (item_later answered first m.walk.disk.now t.walk.disk.now (Some item) more.0 here.1, there.1)),
+      )
 
   -- the same after many items
   pub kept_along : {F : Type 0} (accepts : Mut F (Bor DirEntry × Unit {0}) Bool) (s : FilterEntry (OnDisk D W) F) (items : List Item) (t : FilterEntry (OnDisk D W) F)

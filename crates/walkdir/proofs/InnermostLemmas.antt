@@ -50,7 +50,7 @@ on_entry path depth error is = on_entry_in path depth error.depth error.inner is
 
 -- ---- an error in place of an entry
 
-beside_as : (path at : Path) (depth own : ℕ) (stack : List DirList) → at ≡ path → own ≡ depth → IsBeside path depth stack → IsBeside at own stack
+pub beside_as : (path at : Path) (depth own : ℕ) (stack : List DirList) → at ≡ path → own ≡ depth → IsBeside path depth stack → IsBeside at own stack
 beside_as path at depth own stack same_path same_depth beside =
     subst (λ n. IsBeside at n stack) (sym same_depth) (subst (λ (p : Path). IsBeside p depth stack) (sym same_path) beside)
 

@@ -20,6 +20,8 @@ mod ContainsLemmas
 mod HandlesLemmas
 mod RootLemmas
 mod AboveLemmas
+mod AnsweredLemmas
+mod RefusedLemmas
 mod EnteredLemmas
 mod SortedLemmas
 mod WalkLaws
@@ -31,6 +33,7 @@ mod FilterLemmas
 mod StillGivesLemmas
 pub mod WholeWalks
 pub mod SameWalks
+pub mod AnsweredLaws
 pub mod FilteredWalks
 pub mod SkipLaws
 mod FilteredWalkLemmas

@@ -7,6 +7,8 @@ use Rattle.std.specs.Option.{option_map}
 use Rattle.std.specs.Prelude.{IfSome}
 use Rattle.std.specs.Result.{result_ok}
 use Rattle.odb_base.specs.Faults.{Rose}
+use Rattle.odb_disk.specs.declared.ask.DiskAsk.{DiskAsk}
+use Rattle.odb_disk.specs.declared.ask.DiskAnswer.{DiskAnswer}
 use Rattle.odb_disk.specs.Streams.{Streams}
 use Rattle.odb_disk.specs.Tree.{State, Tree, tree_of}
 use Rattle.walkdir.proofs.OneListLaws.{walk_is_one}
@@ -51,24 +53,24 @@ only_entries order total tree built entries first most others second =
     walk_is_one walk (total_where_sorted order total built.sorter) most most (map Ok others) (map Ok entries) second (same_walk walk most (map Ok entries) first) (entries_sound others) (entries_sound entries) in
     sym (entries_all others) ∙ ap entries_among same ∙ entries_all entries
 
-module _ {D W : Type 0} (state : D → Option State) (streams : D → Streams) (faults : D → ℕ) (progress : W → Streams → Progress) where
+module _ {D W : Type 0} (state : D → Option State) (streams : D → Streams) (faults : D → ℕ) (answered : D → DiskAsk → DiskAnswer → D → Type 0) (progress : W → Streams → Progress) where
   -- a walk that was run to its end gave these items, none of them want of memory
   pub record Gave {T : Type 0} (order : T → Order) (built : Built T) (told : State) (items : List Item) : Type 0 where
     pub before : Streams
     pub first : OnDisk D W
     pub last : OnDisk D W
     pub over : OnDisk D W
-    pub begins : at_walk state streams faults progress first ≡ begun order built before
+    pub begins : at_walk state streams faults answered progress first ≡ begun order built before
     pub tells : state first.disk.now ≡ Some told
-    pub along : Yields (NextOn state streams faults progress) first items last
-    pub ends : NextOn state streams faults progress last None over
+    pub along : Yields (NextOn state streams faults answered progress) first items last
+    pub ends : NextOn state streams faults answered progress last None over
     pub kept : NoneLost items
 
   gave_walk : {T : Type 0} (order : T → Order) (built : Built T) (most : ℕ) (told : State) (items : List Item) → Gave order (opening built most) told items
       → IsWalk (with_most (walking order (tree_of told) built) most) items
   unfolding with_most
   gave_walk order built most told items gave =
-      whole_on_disk state streams faults progress order (opening built most) gave.before told gave.first items gave.last gave.over gave.begins gave.tells gave.along gave.ends gave.kept
+      whole_on_disk state streams faults answered progress order (opening built most) gave.before told gave.first items gave.last gave.over gave.begins gave.tells gave.along gave.ends gave.kept
 
   -- Two such runs gave the same items, where none of these is a failure of the disk.
   pub same_items : {T : Type 0} (order : T → Order) → ((sorter : T) → IsTotalOrder (order sorter)) → (built : Built T) (most other : ℕ) (told : State) (items others : List Item)
@@ -85,7 +87,7 @@ module _ {D W : Type 0} (state : D → Option State) (streams : D → Streams) (
       → failures_among items ≡ 0
   gave_no_failure order built told items gave still =
       none_without_fault (failures_among items) (faults gave.first.disk.now) (faults gave.over.disk.now)
-      (failures_on_disk state streams faults progress order built gave.before gave.first items gave.last gave.over gave.begins gave.along gave.ends) still
+      (failures_on_disk state streams faults answered progress order built gave.before gave.first items gave.last gave.over gave.begins gave.along gave.ends) still
 
   -- Two such runs gave the same items, where the disk had no fault in either.
   pub same_without_faults : {T : Type 0} (order : T → Order) → ((sorter : T) → IsTotalOrder (order sorter)) → (built : Built T) (most other : ℕ) (told : State) (items others : List Item)

@@ -3,6 +3,8 @@ use Rattle.std.proofs.Common.{◌≡◌, ℕ, ◌+◌, ◌≤◌, zero, suc, tru
 use Rattle.std.specs.Prelude.{IfSome}
 use Rattle.std.specs.Iterator.{Yields}
 use Rattle.odb_base.specs.Faults.{Rose}
+use Rattle.odb_disk.specs.declared.ask.DiskAsk.{DiskAsk}
+use Rattle.odb_disk.specs.declared.ask.DiskAnswer.{DiskAnswer}
 use Rattle.odb_disk.specs.Streams.{Streams}
 use Rattle.odb_disk.specs.Tree.{State, Tree, tree_of}
 use Rattle.walkdir.proofs.ProgressLemmas.{has_streams}
@@ -128,12 +130,12 @@ module _ {S : Type 0} (at : S → Progress) (state : S → Option State) (steps 
       (left.0, subst (λ x. StillGives walk x (items ++ item ∷ left.0)) is (more.1 (item ∷ left.0) (end.1 left.0 left.1)))
 
 -- A walk on a disk, by the meaning of the disk and of what the walk keeps beside it.
-module _ {D W : Type 0} (state : D → Option State) (streams : D → Streams) (faults : D → ℕ) (progress : W → Streams → Progress) where
+module _ {D W : Type 0} (state : D → Option State) (streams : D → Streams) (faults : D → ℕ) (answered : D → DiskAsk → DiskAnswer → D → Type 0) (progress : W → Streams → Progress) where
   abbrev at_walk : OnDisk D W → Progress
-  at_walk s = OnDisks.at_walk state streams faults progress s
+  at_walk s = OnDisks.at_walk state streams faults answered progress s
 
   abbrev NextOn : OnDisk D W → Option Item → OnDisk D W → Type 0
-  NextOn s item t = OnDisks.NextOn state streams faults progress s item t
+  NextOn s item t = OnDisks.NextOn state streams faults answered progress s item t
 
   -- The failures that calls of `next` give, and those still to be given, are no more than the count of faults rose by.
   pub failures_along : (s : OnDisk D W) (items : List Item) (t : OnDisk D W) → Yields NextOn s items t

@@ -4,9 +4,12 @@ use Rattle.std.specs.Prelude.{◌≡◌, ℕ, Bool, true, false, List, [], ◌�
 use Rattle.std.specs.Fn.{Mut, CalledAt}
 use Rattle.std.specs.Iterator.{Yields}
 use denote.Ref.{Bor}
+use Rattle.odb_disk.specs.declared.ask.DiskAsk.{DiskAsk}
+use Rattle.odb_disk.specs.declared.ask.DiskAnswer.{DiskAnswer}
 use Rattle.odb_disk.specs.Streams.{Streams}
 use Rattle.odb_disk.specs.Tree.{State, tree_of}
 use Rattle.walkdir.specs.Above.{AreAbove}
+use Rattle.walkdir.specs.Answered.{AreTold, IsStackTold}
 use Rattle.walkdir.specs.Entered.{StaysOut}
 use Rattle.walkdir.specs.Entry.{is_dir}
 use Rattle.walkdir.specs.Filter.{Filters}
@@ -65,16 +68,22 @@ pub record HasNotBegun (walk : Walking) (at : Progress) : Type 0 where
 abbrev pub AnswersBy : {F : Type 0} → Mut F (Bor DirEntry × Unit {0}) Bool → (DirEntry → Bool) → Type 0
 AnswersBy {F} calls accepts = (f g : F) (entry : DirEntry) (answer : Bool) → CalledAt calls f entry answer g → answer ≡ accepts entry
 
-module _ {D W F : Type 0} (state : D → Option State) (streams : D → Streams) (faults : D → ℕ) (progress : W → Streams → Progress) (calls : Mut F (Bor DirEntry × Unit {0}) Bool) where
+module _ {D W F : Type 0} (state : D → Option State) (streams : D → Streams) (faults : D → ℕ) (answered : D → DiskAsk → DiskAnswer → D → Type 0) (progress : W → Streams → Progress) (calls : Mut F (Bor DirEntry × Unit {0}) Bool) where
   -- what `next` of a filtered walk gives
   abbrev pub FilteredOn : FilterEntry (OnDisk D W) F → Option Item → FilterEntry (OnDisk D W) F → Type 0
   FilteredOn s item t =
-      Filters (NextOn state streams faults progress) (SkipsOn state streams faults progress) (λ x. (at_walk state streams faults progress x).entered) calls s.walk s.predicate item t.walk t.predicate
+      Filters (NextOn state streams faults answered progress) (SkipsOn state streams faults answered progress) (λ x. (at_walk state streams faults answered progress x).entered) calls s.walk s.predicate item t.walk t.predicate
+
+  -- on any disk: whatever is given, calls of the walk told it
+  abbrev pub TellsFiltered : FilterEntry (OnDisk D W) F → Type 0
+  TellsFiltered s =
+      (items : List Item) (t : FilterEntry (OnDisk D W) F) (first : D) → Yields FilteredOn s items t → IsStackTold answered first s.walk.disk.now (at_walk state streams faults answered progress s.walk).stack
+      → IsStackTold answered first t.walk.disk.now (at_walk state streams faults answered progress t.walk).stack × AreTold answered first t.walk.disk.now items
 
   -- From a walk that hasn't begun, on a disk that tells its tree: whatever is given first, without want of memory, is what
   -- the filter leaves of the first items of the walk; and at the end, of all.
   pub record GivesFiltered (accepts : DirEntry → Bool) (s : FilterEntry (OnDisk D W) F) : Type 0 where
     pub begins : (walk : Walking) (told : State) (items : List Item) (t : FilterEntry (OnDisk D W) F) → walk.tree ≡ tree_of told → state s.walk.disk.now ≡ Some told
-        → HasNotBegun walk (at_walk state streams faults progress s.walk) → Yields FilteredOn s items t → NoneLost items → BeginsFiltered walk accepts items
+        → HasNotBegun walk (at_walk state streams faults answered progress s.walk) → Yields FilteredOn s items t → NoneLost items → BeginsFiltered walk accepts items
     pub whole : (walk : Walking) (told : State) (items : List Item) (t u : FilterEntry (OnDisk D W) F) → walk.tree ≡ tree_of told → state s.walk.disk.now ≡ Some told
-        → HasNotBegun walk (at_walk state streams faults progress s.walk) → Yields FilteredOn s items t → FilteredOn t None u → NoneLost items → IsFilteredWalk walk accepts items
+        → HasNotBegun walk (at_walk state streams faults answered progress s.walk) → Yields FilteredOn s items t → FilteredOn t None u → NoneLost items → IsFilteredWalk walk accepts items

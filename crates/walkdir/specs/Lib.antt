@@ -10,6 +10,7 @@ pub mod WalkLaws
 pub mod OwnStreams
 pub mod Stack
 pub mod Innermost
+pub mod Answered
 pub mod Entered
 pub mod Progress
 pub mod OnDisk
@@ -17,6 +18,7 @@ pub mod SkipLaws
 pub mod StackProgress
 pub mod Turns
 pub mod EnteredTurns
+pub mod AnsweredTurns
 pub mod Filter
 pub mod FilteredWalk
 pub mod BuiltWalk

@@ -20,6 +20,7 @@ impl DirEntry {
     ghost use Rattle.std.specs.Prelude.{IfOk, IfSome};
     ghost use Rattle.odb_disk.specs.Tree.{tree_of};
     ghost use Rattle.odb_disk.specs.Tree.Follow.{looked};
+    ghost use Rattle.walkdir.specs.Answered.{LooksBy};
     ghost use Rattle.walkdir.specs.Entry.{file_name_of, is_behind_link, is_dir, is_link, entry_at};
     ghost use Rattle.walkdir.specs.Failures.{Costs, failures_of};
     ghost use Rattle.walkdir.specs.Walk.{Tells, told_at};
@@ -90,6 +91,7 @@ impl DirEntry {
     /// What a look at the path tells now. A link is followed exactly where the walk followed it.
     pub fn metadata<D: Disk>(&self, alloc: Global, disk: &mut D) -> Result<Meta>
         ensures told { IfSome (D.state disk.old) (λ s. Tells self.now.depth self.now.path result (told_at self.now.depth self.now.path (looked (tree_of s) self.now.path self.now.followed))) }
+        ensures answered { LooksBy D.answered self.now.depth self.now.path self.now.followed disk.old result disk.new }
         ensures kept { D.state disk.new ≡ D.state disk.old }
         ensures streams { D.streams disk.new ≡ D.streams disk.old }
         ensures cause { Costs (failures_of result) (D.faults disk.old) (D.faults disk.new) }

@@ -1,9 +1,11 @@
 //! Walks on a disk.
 ghost use Rattle.std.specs.Prelude.{◌≡◌, Bool, true, false, [], None};
 ghost use Rattle.odb_disk.specs.Streams.{Streams};
+ghost use Rattle.odb_disk.specs.CallsMade.{Leads};
+ghost use Rattle.walkdir.specs.Answered.{TellsOn};
 ghost use Rattle.walkdir.specs.Filter.{LeavesNoMore};
 ghost use Rattle.walkdir.specs.Failures.{failures_given};
-ghost use Rattle.walkdir.specs.FilteredWalk.{AnswersBy, GivesFiltered};
+ghost use Rattle.walkdir.specs.FilteredWalk.{AnswersBy, GivesFiltered, TellsFiltered};
 ghost use Rattle.walkdir.specs.OnDisk.{NextOn, SkipsOn};
 ghost use Rattle.walkdir.specs.SkipLaws.{SkipDrops, SkipLeaves};
 ghost use Rattle.walkdir.specs.Walk.{Walking};
@@ -45,12 +47,14 @@ pub trait Steps: Drop {
         ensures own { has_its_streams (progress self.new (D.streams disk.new)) ≡ true }
         ensures steps { StepsTo (D.state disk.old) (progress self.old (D.streams disk.old)) result (progress self.new (D.streams disk.new)) }
         ensures faults { FailsByFault (progress self.old (D.streams disk.old)) (D.faults disk.old) (failures_given result) (progress self.new (D.streams disk.new)) (D.faults disk.new) }
+        ensures answered { TellsOn D.answered disk.old (progress self.old (D.streams disk.old)).stack result disk.new (progress self.new (D.streams disk.new)).stack }
         ensures state { D.state disk.new ≡ D.state disk.old };
 
     /// Drops the rest of the innermost directory.
     fn skip<D: Disk>(&mut self, disk: &mut D)
         ensures own { has_its_streams (progress self.old (D.streams disk.old)) ≡ true → has_its_streams (progress self.new (D.streams disk.new)) ≡ true }
         ensures skips { Skips (progress self.old (D.streams disk.old)) (progress self.new (D.streams disk.new)) }
+        ensures answered { TellsOn D.answered disk.old (progress self.old (D.streams disk.old)).stack None disk.new (progress self.new (D.streams disk.new)).stack }
         ensures state { D.state disk.new ≡ D.state disk.old }
         ensures faults { D.faults disk.new ≡ D.faults disk.old };
 
@@ -64,6 +68,7 @@ pub trait Steps: Drop {
         ensures over { (streams : Streams) → ((progress self.new streams).stack ≡ []) × ((progress self.new streams).start ≡ None) }
         ensures options { (streams : Streams) → (progress self.new streams).options ≡ (progress self.old streams).options }
         ensures entered { (streams : Streams) → (progress self.new streams).entered ≡ false }
+        ensures answered { Leads D.answered disk.old disk.new }
         ensures state { D.state disk.new ≡ D.state disk.old }
         ensures faults { D.faults disk.new ≡ D.faults disk.old };
 }
@@ -93,6 +98,7 @@ impl<'d, D: Disk, W: Steps> OnDisk<'d, D, W> {
         ensures drops { (walk : Walking) (before : Streams) → Keeps before (W.progress self.old.walk (D.streams self.old.disk.now)) → SkipDrops walk (W.progress self.old.walk (D.streams self.old.disk.now)) (W.progress self.new.walk (D.streams self.new.disk.now)) }
         ensures leaves { (walk : Walking) (before : Streams) → Keeps before (W.progress self.old.walk (D.streams self.old.disk.now)) → SkipLeaves walk (W.progress self.old.walk (D.streams self.old.disk.now)) (W.progress self.new.walk (D.streams self.new.disk.now)) }
         ensures own { has_its_streams (W.progress self.old.walk (D.streams self.old.disk.now)) ≡ true → has_its_streams (W.progress self.new.walk (D.streams self.new.disk.now)) ≡ true }
+        ensures answered { TellsOn D.answered self.old.disk.now (W.progress self.old.walk (D.streams self.old.disk.now)).stack None self.new.disk.now (W.progress self.new.walk (D.streams self.new.disk.now)).stack }
         ensures disk { self.new.disk.ghost_name ≡ self.old.disk.ghost_name }
         ensures state { D.state self.new.disk.now ≡ D.state self.old.disk.now }
         ensures faults { D.faults self.new.disk.now ≡ D.faults self.old.disk.now }
@@ -105,7 +111,8 @@ impl<'d, D: Disk, W: Steps> OnDisk<'d, D, W> {
     pub fn filter_entry<P: FnMut(&DirEntry) -> bool>(self, predicate: P) -> FilterEntry<Self, P>
         ensures walk { result.walk ≡ self.entry }
         ensures predicate { result.predicate ≡ predicate }
-        ensures gives { (accepts : DirEntry → Bool) → AnswersBy P.FnMut accepts → GivesFiltered D.state D.streams D.faults W.progress P.FnMut accepts result }
+        ensures gives { (accepts : DirEntry → Bool) → AnswersBy P.FnMut accepts → GivesFiltered D.state D.streams D.faults D.answered W.progress P.FnMut accepts result }
+        ensures answered { TellsFiltered D.state D.streams D.faults D.answered W.progress P.FnMut result }
     {
         FilterEntry::new(self, predicate)
     }
@@ -118,7 +125,7 @@ impl<'d, D: Disk, W: Steps> Iterator for OnDisk<'d, D, W> {
 
     ghost can_next = { λ s. has_its_streams (W.progress s.walk (D.streams s.disk.now)) ≡ true };
 
-    ghost next_gives = { λ s item t. NextOn D.state D.streams D.faults W.progress s item t };
+    ghost next_gives = { λ s item t. NextOn D.state D.streams D.faults D.answered W.progress s item t };
 
     ghost remaining = { λ s. at_most (work_left (W.progress s.walk (D.streams s.disk.now))) };
 
@@ -129,7 +136,7 @@ impl<'d, D: Disk, W: Steps> Iterator for OnDisk<'d, D, W> {
 }
 
 impl<'d, D: Disk, W: Steps> Walk for OnDisk<'d, D, W> {
-    ghost skips = { λ s t. SkipsOn D.state D.streams D.faults W.progress s t };
+    ghost skips = { λ s t. SkipsOn D.state D.streams D.faults D.answered W.progress s t };
 
     ghost entered = { λ s. (W.progress s.walk (D.streams s.disk.now)).entered };
 
@@ -148,6 +155,7 @@ impl<'d, D: Disk, W: Steps> Drop for OnDisk<'d, D, W> {
         ensures back { (before : Streams) → Keeps before (W.progress self.entry.walk (D.streams self.entry.disk.now)) → AreBack before (W.progress self.entry.walk (D.streams self.entry.disk.now)).options.max_open (D.streams self.exit.0.now) }
         ensures state { D.state self.exit.0.now ≡ D.state self.entry.disk.now }
         ensures faults { D.faults self.exit.0.now ≡ D.faults self.entry.disk.now }
+        ensures answered { Leads D.answered self.entry.disk.now self.exit.0.now }
     {
         let OnDisk { disk, mut walk } = self;
         walk.end(disk);

@@ -1,21 +1,23 @@
 //! The directories that a walk is in.
 ghost use Rattle.std.specs.Prelude.{◌≡◌, None};
+ghost use Rattle.odb_disk.specs.CallsMade.{Leads};
+ghost use Rattle.walkdir.specs.Error.{no_memory};
 ghost use Rattle.walkdir.specs.Stack.{stream_in, is_skipped, without_stream, TakesHeld};
 ghost use Rattle.walkdir.specs.Walk.{same_place};
 
-use crate::{DirEntry, Result};
+use crate::{DirEntry, Error, Result};
 use odb_disk::{DirId, Disk, PathText};
 use std::collections::VecDeque;
 
 /// The device and the inode number of a directory.
-#[derive(Clone, Copy, Debug, PartialEq, Eq)]
+#[derive(Clone, Copy)]
 pub struct Place {
     pub(crate) dev: u64,
     pub(crate) ino: u64,
 }
 
 /// Whether a directory is entered.
-#[derive(Clone, Copy, Debug, PartialEq, Eq)]
+#[derive(Clone, Copy)]
 pub enum Entering {
     Stays,
     /// It is, and stands here, if the walk has to know it.
@@ -23,7 +25,7 @@ pub enum Entering {
 }
 
 /// What a directory still has.
-#[derive(Debug, Drop)]
+#[derive(Drop)]
 pub enum Items {
     /// What its open stream gives.
     Opened(DirId),
@@ -34,7 +36,7 @@ pub enum Items {
 }
 
 /// A directory that a walk is in.
-#[derive(Debug, Drop)]
+#[derive(Drop)]
 pub struct DirList {
     pub(crate) path: PathText,
     /// Where it stands, which is asked where links are followed.
@@ -90,9 +92,22 @@ impl DirList {
         ensures streams { D.streams disk.new ≡ without_stream (stream_in self.now.items) (D.streams disk.old) }
         ensures kept { D.state disk.new ≡ D.state disk.old }
         ensures faults { D.faults disk.new ≡ D.faults disk.old }
+        ensures answered { Leads D.answered disk.old disk.new }
     {
         if let Some(dir) = self.stream() {
             disk.close_dir(dir);
         }
+    }
+
+    /// Closes the stream of a directory for which there is no memory.
+    pub(crate) fn unplaced<D: Disk>(self, disk: &mut D) -> Error
+        ensures error { result ≡ no_memory }
+        ensures streams { D.streams disk.new ≡ without_stream (stream_in self.items) (D.streams disk.old) }
+        ensures kept { D.state disk.new ≡ D.state disk.old }
+        ensures faults { D.faults disk.new ≡ D.faults disk.old }
+        ensures answered { Leads D.answered disk.old disk.new }
+    {
+        self.close(disk);
+        Error::out_of_memory()
     }
 }

@@ -1,16 +1,21 @@
 //! What the calls of a disk give to a walk.
-ghost use Rattle.std.specs.Prelude.{◌≡◌, ◌≢◌, ◌+◌, ◌-◌, ◌^◌, ◌<◌, ◌≤◌, true, false, None, length, IfOk, IfErr, IfSome};
+ghost use Rattle.std.specs.Prelude.{◌≡◌, ◌≢◌, ◌+◌, ◌-◌, ◌^◌, ◌<◌, ◌≤◌, ◌++◌, true, false, [], None, Ok, length, map, IfOk, IfErr, IfSome, OnOk};
+ghost use Rattle.std.specs.List.{filter_map};
+ghost use Rattle.std.specs.Result.{result_ok};
 ghost use Rattle.std.specs.Option.{option_map};
 ghost use Rattle.std.specs.FinMap as finite;
 ghost use Rattle.odb_disk.specs.declared.disk.DiskError.TheVariants.{NoMemory as out_of_memory};
 ghost use Rattle.odb_disk.specs.Tree.{tree_of};
 ghost use Rattle.odb_disk.specs.Tree.Follow.{looked};
 ghost use Rattle.odb_base.specs.Path.{is_name};
+ghost use Rattle.odb_disk.specs.CallsMade.{Leads};
+ghost use Rattle.walkdir.specs.Answered.{AreHeld, LooksBy};
+ghost use Rattle.walkdir.specs.AnsweredTurns.{TellsContents, TellsItem};
 ghost use Rattle.walkdir.specs.Error.{no_memory, is_no_memory, IsOnPath};
 ghost use Rattle.walkdir.specs.Failures.{Costs, failures_among, failures_by, failures_given, failures_left, failures_of};
 ghost use Rattle.walkdir.specs.Stack.{AreAt, IsAt, held, is_skipped, left_in};
 ghost use Rattle.walkdir.specs.Turns.{Draws, IsDrawn, OnlyFailure, OpensAtMost, OpensContents, ReadInOrder, StreamsAll, left_of, stream_of};
-ghost use Rattle.walkdir.specs.Walk.{Tells, told_at, child_of, entry_by, place_of, IsInOrder};
+ghost use Rattle.walkdir.specs.Walk.{Tells, told_at, child_of, entry_by, error_in, place_of, IsInOrder};
 
 use crate::list::{Items, Place};
 use crate::sort::Sorter;
@@ -28,6 +33,7 @@ pub(crate) fn look<D: Disk>(
     follow: bool,
 ) -> Result<Meta>
     ensures call { IfErr result (λ e. IsOnPath path.now depth e) }
+    ensures answered { LooksBy D.answered depth path.now follow disk.old result disk.new }
     ensures told { IfSome (D.state disk.old) (λ s. Tells depth path.now result (told_at depth path.now (looked (tree_of s) path.now follow))) }
     ensures kept { D.state disk.new ≡ D.state disk.old }
     ensures streams { D.streams disk.new ≡ D.streams disk.old }
@@ -49,6 +55,7 @@ pub(crate) fn next_of<D: Disk>(
 ) -> Option<Result<DirEntry>>
     ensures draws { Draws depth parent.now (D.streams disk.old) dir result (D.streams disk.new) }
     ensures at { IfSome result (λ item. IsAt parent.now depth item) }
+    ensures answered { TellsItem D.answered disk.old result disk.new }
     ensures kept { D.state disk.new ≡ D.state disk.old }
     ensures cause { Costs (failures_given result) (D.faults disk.old) (D.faults disk.new) }
 {
@@ -71,6 +78,8 @@ pub(crate) fn rest_of<D: Disk>(
     ensures streamed { IfOk result (λ items. StreamsAll depth parent.now (D.streams disk.old) dir items.items) }
     ensures few { IfOk result (λ items. length items.items ≤ left_of (D.streams disk.old) dir + 1) }
     ensures children { IfOk result (λ items. AreAt parent.now depth items.items) }
+    ensures leads { Leads D.answered disk.old disk.new }
+    ensures answered { IfOk result (λ items. AreHeld D.answered disk.old disk.new items.items) }
     ensures lost { IfErr result (λ e. is_no_memory e ≡ true) }
     ensures kept { D.state disk.new ≡ D.state disk.old }
     ensures cause { Costs (failures_by (λ items. failures_among items.items) result) (D.faults disk.old) (D.faults disk.new) }
@@ -106,6 +115,7 @@ pub(crate) fn open<D: Disk, S: Sorter>(
     ensures contents { OpensContents (D.state disk.old) (option_map S.order sorter.now) path.now depth result (D.streams disk.new) }
     ensures whole { IfOk result (λ items. is_skipped items ≡ false) }
     ensures lost { IfErr result (λ e. is_no_memory e ≡ true) }
+    ensures answered { TellsContents D.answered disk.old result disk.new }
     ensures kept { D.state disk.new ≡ D.state disk.old }
     ensures cause { Costs (failures_by failures_left result) (D.faults disk.old) (D.faults disk.new) }
 {
@@ -152,6 +162,7 @@ fn sorted<D: Disk, S: Sorter>(
     ensures children { IfOk result (λ items. AreAt parent.now depth (held items)) }
     ensures order { IfOk result (λ items. ReadInOrder (S.order sorter.now) depth parent.now (D.streams disk.old) dir items) }
     ensures lost { IfErr result (λ e. is_no_memory e ≡ true) }
+    ensures answered { TellsContents D.answered disk.old result disk.new }
     ensures kept { D.state disk.new ≡ D.state disk.old }
     ensures cause { Costs (failures_by failures_left result) (D.faults disk.old) (D.faults disk.new) }
 {
@@ -171,17 +182,42 @@ fn in_order<S: Sorter>(
 {
     let mut entries = Vec::new(alloc);
     let mut ordered = VecDeque::new(alloc);
+    tell_apart(children, &mut entries, &mut ordered)?;
+    entries.sort_by(|a, b| sorter.compare(a, b))?;
+    put_behind(entries, &mut ordered)?;
+    Ok(ordered)
+}
+
+/// Tells the entries and the errors among children apart, each as they follow one another.
+fn tell_apart(
+    children: VecDeque<Result<DirEntry>>,
+    entries: &mut Vec<DirEntry>,
+    errors: &mut VecDeque<Result<DirEntry>>,
+) -> Result<()>
+    requires no_entry { entries.old.items ≡ [] }
+    requires no_error { errors.old.items ≡ [] }
+    ensures entries { OnOk result (entries.new.items ≡ filter_map result_ok children.items) }
+    ensures errors { OnOk result (errors.new.items ≡ filter_map error_in children.items) }
+    ensures lost { IfErr result (λ e. e ≡ no_memory) }
+{
     for child in children {
         match child {
             Ok(entry) => entries.push(entry)?,
-            Err(error) => ordered.push_back(Err(error))?,
+            Err(error) => errors.push_back(Err(error))?,
         }
     }
-    entries.sort_by(|a, b| sorter.compare(a, b))?;
+    Ok(())
+}
+
+/// Puts entries behind what is there.
+fn put_behind(entries: Vec<DirEntry>, ordered: &mut VecDeque<Result<DirEntry>>) -> Result<()>
+    ensures behind { OnOk result (ordered.new.items ≡ ordered.old.items ++ map Ok entries.items) }
+    ensures lost { IfErr result (λ e. e ≡ no_memory) }
+{
     for entry in entries {
         ordered.push_back(Ok(entry))?;
     }
-    Ok(ordered)
+    Ok(())
 }
 
 pub(crate) fn place_in(meta: &Meta) -> Place

@@ -59,6 +59,8 @@ pub struct Found {
 impl<S: Sorter + Drop> Stack<S> {
     ghost use Rattle.walkdir.specs.Progress.{begun, has_its_streams, is_innermost, FailsByFault, GivesDirectory, GivesEntered, GivesNext, IsCausedAmong, Keeps};
     ghost use Rattle.walkdir.specs.StackProgress.{progress, KeepsStack};
+    ghost use Rattle.walkdir.specs.Answered.{TellsOn};
+    ghost use Rattle.walkdir.specs.AnsweredTurns.{TellsContents, TellsEntering, TellsFound, TellsPlace, TellsPushed};
     ghost use Rattle.walkdir.specs.Innermost.{is_head_skipped, IsAfter, IsFromHead, IsHead};
     ghost use Rattle.walkdir.specs.Turns.{AreOf, OnlyEnters, fresh, given_if, handed, item_of, BeginsWalk, DrawsChild, GoesOn, HandlesEntry, IsUnskipped, LeavesIt, LeavesLess, OpensAtMost, OwnsAt, Puts, StandsAsBefore, TakesWork, Turns, stream_of};
     ghost use Rattle.walkdir.specs.Turns.{may_enter, standing_at, ChecksLoop, EntersBy, EntersDirectory, FindsPlace, Follows, HasContents, PushesDirectory};
@@ -97,6 +99,7 @@ impl<S: Sorter + Drop> Stack<S> {
         ensures gives { GivesNext (D.state disk.old) (progress S.order self.old (D.streams disk.old)) (item_of result) (progress S.order self.new (D.streams disk.new)) }
         ensures turns { Turns (progress S.order self.old (D.streams disk.old)) result (progress S.order self.new (D.streams disk.new)) }
         ensures faults { FailsByFault (progress S.order self.old (D.streams disk.old)) (D.faults disk.old) (failures_given (item_of result)) (progress S.order self.new (D.streams disk.new)) (D.faults disk.new) }
+        ensures answered { TellsOn D.answered disk.old (reverse self.old.lists.items) (item_of result) disk.new (reverse self.new.lists.items) }
         ensures directory { self.old.entered ≡ false → GivesDirectory (D.state disk.old) (progress S.order self.old (D.streams disk.old)) (item_of result) (progress S.order self.new (D.streams disk.new)) }
         ensures above { GivesEntered (D.state disk.old) (progress S.order self.old (D.streams disk.old)) (item_of result) (progress S.order self.new (D.streams disk.new)) }
         ensures state { D.state disk.new ≡ D.state disk.old }
@@ -122,6 +125,7 @@ impl<S: Sorter + Drop> Stack<S> {
         ensures causes { IfErr result (λ e. IsCausedAmong self.new.options (ancestors (reverse self.new.lists.items)) e) }
         ensures sorter { self.new.sorter ≡ self.old.sorter }
         ensures entered { self.old.entered ≡ false → self.new.entered ≡ is_innermost (reverse self.new.lists.items) (handed result) }
+        ensures answered { TellsOn D.answered disk.old (reverse self.old.lists.items) (handed result) disk.new (reverse self.new.lists.items) }
         ensures state { D.state disk.new ≡ D.state disk.old }
         ensures innermost { IsAfter self.new.options (handed result) (reverse self.new.lists.items) }
         ensures begins { BeginsWalk (D.state disk.old) (progress S.order self.old (D.streams disk.old)) root (handed result) (progress S.order self.new (D.streams disk.new)) }
@@ -145,6 +149,7 @@ impl<S: Sorter + Drop> Stack<S> {
         ensures causes { IfErr result (λ e. IsCausedAmong self.new.options (ancestors (reverse self.new.lists.items)) e) }
         ensures sorter { self.new.sorter ≡ self.old.sorter }
         ensures entered { self.old.entered ≡ false → self.new.entered ≡ is_innermost (reverse self.new.lists.items) (handed result) }
+        ensures answered { TellsOn D.answered disk.old (reverse self.old.lists.items) (handed result) disk.new (reverse self.new.lists.items) }
         ensures state { D.state disk.new ≡ D.state disk.old }
         ensures device { self.new.root_device ≡ self.old.root_device }
         ensures innermost { IsAfter self.new.options (handed result) (reverse self.new.lists.items) }
@@ -167,6 +172,7 @@ impl<S: Sorter + Drop> Stack<S> {
         ensures looks { IfErr result (λ _. (self.now.options.follow_links && is_link entry) ≡ true) }
         ensures causes { IfErr result (λ e. IsCausedAmong self.now.options (ancestors (reverse self.now.lists.items)) e) }
         ensures streams { D.streams disk.new ≡ D.streams disk.old }
+        ensures answered { TellsFound D.answered disk.old (reverse self.now.lists.items) result disk.new }
         ensures state { D.state disk.new ≡ D.state disk.old }
         ensures cause { Costs (failures_of result) (D.faults disk.old) (D.faults disk.new) }
     {
@@ -176,12 +182,14 @@ impl<S: Sorter + Drop> Stack<S> {
         let depth = entry.depth();
         let path = entry.into_path();
         let meta = look(self.alloc, disk, depth, &path, true)?;
+        let place = place_in(&meta);
         if meta.kind == Kind::Dir {
-            self.check_loop(depth, &path, place_in(&meta))?;
+            self.check_loop(depth, &path, place)?;
         }
-        let place = Some(place_in(&meta));
-        let entry = entry_by(path, &meta, true, depth);
-        Ok(Found { entry, place })
+        Ok(Found {
+            entry: entry_by(path, &meta, true, depth),
+            place: Some(place),
+        })
     }
 
     /// Refuses a place where a directory stands that the walk is in. The nearest such directory is named.
@@ -202,6 +210,7 @@ impl<S: Sorter + Drop> Stack<S> {
         ensures kind { OnlyEnters found.now.entry result }
         ensures call { IfErr result (λ e. IsOnPath found.now.entry.path found.now.entry.depth e) }
         ensures streams { D.streams disk.new ≡ D.streams disk.old }
+        ensures answered { TellsEntering D.answered disk.old found.now result disk.new }
         ensures state { D.state disk.new ≡ D.state disk.old }
         ensures cause { Costs (failures_of result) (D.faults disk.old) (D.faults disk.new) }
     {
@@ -226,6 +235,7 @@ impl<S: Sorter + Drop> Stack<S> {
         ensures looks { IfErr result (λ _. (self.now.options.follow_links || self.now.options.same_file_system) ≡ true) }
         ensures call { IfErr result (λ e. IsOnPath found.now.entry.path found.now.entry.depth e) }
         ensures streams { D.streams disk.new ≡ D.streams disk.old }
+        ensures answered { TellsEntering D.answered disk.old found.now result disk.new }
         ensures state { D.state disk.new ≡ D.state disk.old }
         ensures cause { Costs (failures_of result) (D.faults disk.old) (D.faults disk.new) }
     {
@@ -243,6 +253,7 @@ impl<S: Sorter + Drop> Stack<S> {
         ensures looks { IfErr result (λ _. (self.now.options.follow_links || self.now.options.same_file_system) ≡ true) }
         ensures call { IfErr result (λ e. IsOnPath found.now.entry.path found.now.entry.depth e) }
         ensures streams { D.streams disk.new ≡ D.streams disk.old }
+        ensures answered { TellsPlace D.answered disk.old found.now result disk.new }
         ensures state { D.state disk.new ≡ D.state disk.old }
         ensures cause { Costs (failures_of result) (D.faults disk.old) (D.faults disk.new) }
     {
@@ -284,6 +295,7 @@ impl<S: Sorter + Drop> Stack<S> {
         ensures lost { IfErr result (λ e. is_no_memory e ≡ true) }
         ensures sorter { self.new.sorter ≡ self.old.sorter }
         ensures entered { self.old.entered ≡ false → self.new.entered ≡ is_innermost (reverse self.new.lists.items) (handed result) }
+        ensures answered { TellsPushed D.answered disk.old (reverse self.old.lists.items) entry.path place disk.new (reverse self.new.lists.items) }
         ensures state { D.state disk.new ≡ D.state disk.old }
         ensures device { self.new.root_device ≡ self.old.root_device }
         ensures innermost { (is_dir entry || is_root_link entry) ≡ true → IsAfter self.new.options (handed result) (reverse self.new.lists.items) }
@@ -323,6 +335,7 @@ impl<S: Sorter + Drop> Stack<S> {
         ensures count { OnOk result (length self.new.lists.items ≡ length self.old.lists.items + 1) }
         ensures sorter { self.new.sorter ≡ self.old.sorter }
         ensures entered { self.new.entered ≡ self.old.entered }
+        ensures answered { TellsPushed D.answered disk.old (reverse self.old.lists.items) path place disk.new (reverse self.new.lists.items) }
         ensures state { D.state disk.new ≡ D.state disk.old }
         ensures device { self.new.root_device ≡ self.old.root_device }
         ensures head { OnOk result (IsHead path depth (reverse self.new.lists.items) × (is_head_skipped (reverse self.new.lists.items) ≡ false)) }
@@ -340,10 +353,7 @@ impl<S: Sorter + Drop> Stack<S> {
         };
         match self.lists.push(list) {
             Ok(()) => Ok(()),
-            Err(failed) => {
-                failed.value.close(disk);
-                Err(Error::out_of_memory())
-            }
+            Err(failed) => Err(failed.value.unplaced(disk)),
         }
     }
 
@@ -356,6 +366,7 @@ impl<S: Sorter + Drop> Stack<S> {
         ensures contents { HasContents (D.state disk.old) (option_map S.order self.now.sorter) self.now.options path.now depth result (D.streams disk.new) }
         ensures whole { IfOk result (λ items. is_skipped items ≡ false) }
         ensures lost { IfErr result (λ e. is_no_memory e ≡ true) }
+        ensures answered { TellsContents D.answered disk.old result disk.new }
         ensures state { D.state disk.new ≡ D.state disk.old }
         ensures cause { Costs (failures_by failures_left result) (D.faults disk.old) (D.faults disk.new) }
     {
@@ -372,6 +383,7 @@ impl<S: Sorter + Drop> Stack<S> {
         ensures kept { KeepsStack self.old self.new }
         ensures room { OnOk result (length self.new.lists.items < self.new.first_open + self.new.options.max_open) }
         ensures lost { IfErr result (λ e. is_no_memory e ≡ true) }
+        ensures answered { TellsOn D.answered disk.old (reverse self.old.lists.items) None disk.new (reverse self.new.lists.items) }
         ensures state { D.state disk.new ≡ D.state disk.old }
         ensures stands { OnOk result (StandsAsBefore (progress S.order self.old (D.streams disk.old)) (progress S.order self.new (D.streams disk.new))) }
     {
@@ -391,6 +403,7 @@ impl<S: Sorter + Drop> Stack<S> {
         ensures first_open { self.new.first_open ≡ self.old.first_open }
         ensures closed { OnOk result (own_streams (take index self.old.lists.items) ≡ [] → own_streams (take (index + 1) self.new.lists.items) ≡ []) }
         ensures lost { IfErr result (λ e. is_no_memory e ≡ true) }
+        ensures answered { TellsOn D.answered disk.old (reverse self.old.lists.items) None disk.new (reverse self.new.lists.items) }
         ensures state { D.state disk.new ≡ D.state disk.old }
         ensures stands { OnOk result (StandsAsBefore (progress S.order self.old (D.streams disk.old)) (progress S.order self.new (D.streams disk.new))) }
     {
@@ -424,6 +437,7 @@ impl<S: Sorter + Drop> Stack<S> {
         ensures kept { KeepsStack self.old self.new }
         ensures from { IfSome result (λ item. IsFromHead (reverse self.new.lists.items) item) }
         ensures less { IfSome result (λ _. (index < self.old.options.max_depth) × ((before : Streams) → Keeps before (progress S.order self.old (D.streams disk.old)) → TakesWork (progress S.order self.old (D.streams disk.old)) (progress S.order self.new (D.streams disk.new)) index)) }
+        ensures answered { TellsOn D.answered disk.old (reverse self.old.lists.items) result disk.new (reverse self.new.lists.items) }
         ensures state { D.state disk.new ≡ D.state disk.old }
         ensures draws { DrawsChild (progress S.order self.old (D.streams disk.old)) result (progress S.order self.new (D.streams disk.new)) }
     {
@@ -447,6 +461,7 @@ impl<S: Sorter + Drop> Stack<S> {
         ensures kept { KeepsStack self.old self.new }
         ensures from { IfSome result (λ item. IsFromHead (reverse self.new.lists.items) item) }
         ensures less { IfSome result (λ _. (index < self.old.options.max_depth) × ((before : Streams) → Keeps before (progress S.order self.old (D.streams disk.old)) → TakesWork (progress S.order self.old (D.streams disk.old)) (progress S.order self.new (D.streams disk.new)) index)) }
+        ensures answered { TellsOn D.answered disk.old (reverse self.old.lists.items) result disk.new (reverse self.new.lists.items) }
         ensures state { D.state disk.new ≡ D.state disk.old }
         ensures draws { DrawsChild (progress S.order self.old (D.streams disk.old)) result (progress S.order self.new (D.streams disk.new)) }
     {
@@ -473,6 +488,7 @@ impl<S: Sorter + Drop> Stack<S> {
         ensures count { length self.new.lists.items + 1 ≡ length self.old.lists.items }
         ensures faults { D.faults disk.new ≡ D.faults disk.old }
         ensures less { (before : Streams) → Keeps before (progress S.order self.old (D.streams disk.old)) → LeavesLess (progress S.order self.old (D.streams disk.old)) (progress S.order self.new (D.streams disk.new)) }
+        ensures answered { TellsOn D.answered disk.old (reverse self.old.lists.items) None disk.new (reverse self.new.lists.items) }
         ensures state { D.state disk.new ≡ D.state disk.old }
         ensures device { self.new.root_device ≡ self.old.root_device }
         ensures above { (list : DirList) × (reverse self.old.lists.items ≡ list ∷ reverse self.new.lists.items) }

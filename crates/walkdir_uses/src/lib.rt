@@ -7,6 +7,7 @@ ghost use Rattle.std.specs.Prelude.{◌≡◌, ◌⊎◌, IfOk, IfErr, IfSome, m
 ghost use Rattle.std.specs.Iterator.{IsFinite, Yields, YieldsThen};
 ghost use Rattle.odb_disk.specs.Streams.{Streams};
 ghost use Rattle.odb_disk.specs.Tree.{tree_of};
+ghost use Rattle.walkdir.specs.Answered.{IsToldIn};
 ghost use Rattle.walkdir.specs.BuiltWalk.{walking};
 ghost use Rattle.walkdir.specs.Error.{is_no_memory};
 ghost use Rattle.walkdir.specs.Failures.{Costs, failures_of};
@@ -31,6 +32,7 @@ pub fn entries_of<S: Sorter + Drop, D: Disk>(
     ensures entries { IfSome (D.state disk.old) (λ s. IfOk result (λ entries. IsWalk (walking S.order (tree_of s) walk) (map Ok entries.items))) }
     ensures only { IfSome (D.state disk.old) (λ s. IfOk result (λ entries. AreOnly (walking S.order (tree_of s) walk) entries.items)) }
     ensures first { IfSome (D.state disk.old) (λ s. IfErr result (IsStoppedBy (walking S.order (tree_of s) walk))) }
+    ensures told { IfErr result (λ error. IsToldIn D.answered disk.old disk.new error.inner) }
     ensures cost { Costs (failures_of result) (D.faults disk.old) (D.faults disk.new) }
     ensures state { D.state disk.new ≡ D.state disk.old }
     ensures back { AreBack (D.streams disk.old) walk.options.max_open (D.streams disk.new) }
@@ -46,6 +48,7 @@ pub fn entries_of<S: Sorter + Drop, D: Disk>(
 pub fn files_below<D: Disk>(alloc: Global, disk: &mut D, folder: &PathText) -> Result<Vec<PathText>>
     ensures paths { IfSome (D.state disk.old) (λ s. IfOk result (λ paths. FoundIn (below (tree_of s) folder.now) (λ entries. paths.items ≡ paths_of_files entries))) }
     ensures first { IfSome (D.state disk.old) (λ s. IfErr result (IsStoppedBy (below (tree_of s) folder.now))) }
+    ensures told { IfErr result (λ error. IsToldIn D.answered disk.old disk.new error.inner) }
     ensures cost { Costs (failures_of result) (D.faults disk.old) (D.faults disk.new) }
     ensures state { D.state disk.new ≡ D.state disk.old }
     ensures back { AreBack (D.streams disk.old) default_options.max_open (D.streams disk.new) }
@@ -104,6 +107,7 @@ pub fn visible_names_in<D: Disk>(
 ) -> Result<Vec<String>>
     ensures names { IfSome (D.state disk.old) (λ s. IfOk result (λ names. FoundIn (inside (tree_of s) folder.now) (λ entries. map (λ name. name.bytes.items) names.items ≡ visible_names entries))) }
     ensures first { IfSome (D.state disk.old) (λ s. IfErr result (IsStoppedBy (inside (tree_of s) folder.now))) }
+    ensures told { IfErr result (λ error. IsToldIn D.answered disk.old disk.new error.inner) }
     ensures cost { Costs (failures_of result) (D.faults disk.old) (D.faults disk.new) }
     ensures state { D.state disk.new ≡ D.state disk.old }
     ensures back { AreBack (D.streams disk.old) default_options.max_open (D.streams disk.new) }

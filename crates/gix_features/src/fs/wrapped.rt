@@ -139,7 +139,7 @@ impl<'d, D: Disk, W: Steps> Iterator for WalkDirIter<'d, D, W> {
 
     ghost can_next = { λ s. has_its_streams (W.progress s.walk (D.streams s.disk.now)) ≡ true };
 
-    ghost next_gives = { λ s item t. (inner : Option (Result EntryValue ErrorValue)) × NextOn D.state D.streams D.faults W.progress (record { disk = s.disk; walk = s.walk }) inner (record { disk = t.disk; walk = t.walk }) × (item ≡ wrapped_item s.precompose_unicode inner) × (t.precompose_unicode ≡ s.precompose_unicode) };
+    ghost next_gives = { λ s item t. (inner : Option (Result EntryValue ErrorValue)) × NextOn D.state D.streams D.faults D.answered W.progress (record { disk = s.disk; walk = s.walk }) inner (record { disk = t.disk; walk = t.walk }) × (item ≡ wrapped_item s.precompose_unicode inner) × (t.precompose_unicode ≡ s.precompose_unicode) };
 
     ghost remaining = { λ s. at_most (work_left (W.progress s.walk (D.streams s.disk.now))) };
 
@@ -154,6 +154,7 @@ impl<'d, D: Disk, W: Steps> Iterator for WalkDirIter<'d, D, W> {
 }
 
 impl<'d, D: Disk, W: Steps> Drop for WalkDirIter<'d, D, W> {
+    ghost use Rattle.odb_disk.specs.CallsMade.{Leads};
     ghost use Rattle.odb_disk.specs.Streams.{Streams};
     ghost use Rattle.walkdir.specs.Progress.{AreBack, Keeps};
 
@@ -161,6 +162,7 @@ impl<'d, D: Disk, W: Steps> Drop for WalkDirIter<'d, D, W> {
         ensures back { (before : Streams) → Keeps before (W.progress self.entry.walk (D.streams self.entry.disk.now)) → AreBack before (W.progress self.entry.walk (D.streams self.entry.disk.now)).options.max_open (D.streams self.exit.0.now) }
         ensures state { D.state self.exit.0.now ≡ D.state self.entry.disk.now }
         ensures faults { D.faults self.exit.0.now ≡ D.faults self.entry.disk.now }
+        ensures answered { Leads D.answered self.entry.disk.now self.exit.0.now }
     {
         let WalkDirIter {
             disk,

@@ -1,4 +1,4 @@
-use Rattle.std.proofs.Common.{◌≡◌, map, Ok, Err, inr, ap, subst, ◌∙◌}
+use Rattle.std.proofs.Common.{◌≡◌, map, Ok, inr, subst, ◌∙◌}
 use Rattle.std.specs.Prelude.{IfErr, IfOk, IfSome}
 use Rattle.odb_disk.specs.Tree.{tree_of}
 use Rattle.walkdir.specs.BuiltWalk.{walking}
@@ -7,7 +7,7 @@ use Rattle.walkdir.specs.Walk.{IsWalk}
 use Rattle.walkdir.proofs.WholeWalks.{if_told}
 use Rattle.walkdir_uses.proofs.CostLemmas.{costs_earlier}
 use Rattle.walkdir_uses.proofs.FoundLemmas.{if_err_then, if_ok_then, walks_below}
-use Rattle.walkdir_uses.specs.Found.{IsRefusedAmong, as_given, below, total_size}
+use Rattle.walkdir_uses.specs.Found.{IsRefusedAmong, as_given, total_size}
 use Rattle.walkdir_uses.proofs.size_below.Goals as goal
 
 pub returns-clause-size : goal.returns-clause-size

@@ -20,7 +20,7 @@ returns g c =
     let walk = c.in_ok-walk.walk in
     let seen = c.visible_of-walk.result in
     let built = c.in_ok-new.field-0 in
-    let kept : Kept g.D.Disk.state g.D.Disk.streams g.D.Disk.faults (λ walk streams. progress as_given walk streams) walk seen = record {
+    let kept : Kept g.D.Disk.state g.D.Disk.streams g.D.Disk.faults g.D.Disk.answered (λ walk streams. progress as_given walk streams) walk seen = record {
       tells = c.visible_of-walk.ensures.state;
       disk = c.visible_of-walk.ensures.disk;
       options = c.visible_of-walk.ensures.options;
@@ -28,7 +28,7 @@ returns g c =
     } in
     let state = c.drop.ensures.state ∙ c.visible_of-walk.ensures.state ∙ ap g.D.Disk.state c.in_ok-walk.ensures.same in
     let back = back_default (g.D.Disk.streams c.args.disk.now) (g.D.Disk.streams c.drop.new.self.0) built.options c.in_ok-new.ensures.options
-    (filtered_back g.D.Disk.state g.D.Disk.streams g.D.Disk.faults (λ walk streams. progress as_given walk streams) as_given built (g.D.Disk.streams c.args.disk.now) (g.D.Disk.streams c.drop.new.self.0)
+    (filtered_back g.D.Disk.state g.D.Disk.streams g.D.Disk.faults g.D.Disk.answered (λ walk streams. progress as_given walk streams) as_given built (g.D.Disk.streams c.args.disk.now) (g.D.Disk.streams c.drop.new.self.0)
     walk seen c.in_ok-walk.ensures.begun kept c.drop.ensures.back) in
     let cost = costs_as (failures_of c.visible_of-walk.new.found) (g.D.Disk.faults walk.disk.now) (g.D.Disk.faults seen.disk.now) (g.D.Disk.faults c.args.disk.now) (g.D.Disk.faults c.drop.new.self.0)
     (ap g.D.Disk.faults c.in_ok-walk.ensures.same) c.drop.ensures.faults

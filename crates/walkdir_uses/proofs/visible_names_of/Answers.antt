@@ -1,15 +1,10 @@
-use Rattle.std.proofs.Common.{rules, arith, ◌≡◌, ◌++◌, ◌∷◌, ◌==◌, [], map, Ok, Global, append-nil, sym, ap, subst, ◌∙◌}
+use Rattle.std.proofs.Common.{rules, arith, ◌≡◌, ◌++◌, ◌∷◌, ◌==◌, [], map, Global, append-nil, sym, ap, ◌∙◌}
 use Rattle.std.specs.List.{slice_index}
-use Rattle.std.specs.Prelude.{IfSome}
 use Rattle.std.specs.declared.vec.IntoIter.{IntoIter}
 use Rattle.walkdir.specs.declared.dent.DirEntry.{DirEntry}
 use Rattle.std.proofs.lemmas.List.{map-append}
-use Rattle.odb_disk.specs.Tree.{tree_of}
-use Rattle.walkdir.specs.BuiltWalk.{walking}
-use Rattle.walkdir.specs.Walk.{IsWalk}
-use Rattle.walkdir.proofs.WholeWalks.{if_told}
-use Rattle.walkdir_uses.proofs.FoundLemmas.{all_taken, by_names, name_hidden, name_shown, none_left, walks_inside}
-use Rattle.walkdir_uses.specs.Found.{inside, visible_names}
+use Rattle.walkdir_uses.proofs.FoundLemmas.{all_taken, name_hidden, name_shown, none_left}
+use Rattle.walkdir_uses.specs.Found.{visible_names}
 use Rattle.walkdir_uses.proofs.visible_names_of.Goals as goal
 use Rattle.walkdir_uses.proofs.visible_names_of.Goals.{then-not-starts_with+in_ok-from_str+in_ok-push, else-not-starts_with}
 

@@ -17,3 +17,9 @@ returns-in-Err-clause-cause g c = costs_refused c.args.depth c.args.path.now c.i
 
 pub returns-in-Err-clause-call : goal.returns-in-Err-clause-call
 returns-in-Err-clause-call g c = refused_on c.args.depth c.args.path.now c.in-Err.error c.from_path.result c.from_path.ensures
+
+pub returns-in-Ok-clause-answered : goal.returns-in-Ok-clause-answered
+returns-in-Ok-clause-answered g c = c.in-Ok.ensures.answered
+
+pub returns-in-Err-clause-answered : goal.returns-in-Err-clause-answered
+returns-in-Err-clause-answered g c = (c.in-Err.error, c.in-Err.ensures.answered, c.from_path.ensures)

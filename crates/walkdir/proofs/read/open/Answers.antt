@@ -3,6 +3,7 @@ use Rattle.std.specs.Option.{option_map}
 use Rattle.walkdir.specs.Turns.{OpensAtMost, OpensContents}
 use Rattle.walkdir.proofs.ContainsLemmas.{opens_refused, opens_sorted, opens_stream}
 use Rattle.walkdir.proofs.ReadLemmas.{opens_bounded, opens_closed, opens_one}
+use Rattle.walkdir.proofs.AnsweredLemmas.{contents_after, contents_unopened, leads_by}
 use Rattle.walkdir.proofs.read.open.Goals as goal
 
 pub returns-in-None-clause-streams : goal.returns-in-None-clause-streams
@@ -33,3 +34,15 @@ pub returns-in-Err-clause-contents : goal.returns-in-Err-clause-contents
 returns-in-Err-clause-contents g c =
     opens_refused (g.D.Disk.state c.args.disk.now) (option_map g.S.Sorter.order c.args.sorter.now) c.args.path.now c.args.depth (g.D.Disk.streams c.open_dir.new.self)
     c.in-Err.error c.unopened.result c.in-Err.ensures.answer c.unopened.ensures.held c.unopened.ensures.refused
+
+pub returns-in-None-clause-answered : goal.returns-in-None-clause-answered
+returns-in-None-clause-answered g c = record { leads = leads_by g.D.Disk.answered c.args.disk.now c.open_dir.new.self c.in-Ok.ensures.answered; told = tt }
+
+pub returns-in-Some-clause-answered : goal.returns-in-Some-clause-answered
+returns-in-Some-clause-answered g c =
+    contents_after g.D.Disk.answered c.args.disk.now c.open_dir.new.self c.sorted.new.disk c.sorted.result
+    (leads_by g.D.Disk.answered c.args.disk.now c.open_dir.new.self c.in-Ok.ensures.answered) c.sorted.ensures.answered
+
+pub returns-in-Err-clause-answered : goal.returns-in-Err-clause-answered
+returns-in-Err-clause-answered g c =
+    contents_unopened g.D.Disk.answered c.args.disk.now c.open_dir.new.self c.args.depth c.args.path.now c.in-Err.error c.unopened.result c.unopened.ensures.held c.in-Err.ensures.answered

@@ -4,6 +4,9 @@ use Rattle.walkdir.specs.Error.{failures}
 use Rattle.walkdir.specs.Failures.{Costs, failures_among, failures_of}
 use Rattle.walkdir.specs.Stack.{AreAt, IsAt}
 use Rattle.walkdir.specs.Turns.{Draws}
+use Rattle.walkdir.specs.Answered.{AreHeld}
+use Rattle.walkdir.specs.AnsweredTurns.{IsItemHeld}
+use Rattle.walkdir.proofs.AnsweredLemmas.{are_later, item_since, leads_still, leads_then, none_told, told_push}
 use Rattle.walkdir.proofs.DrawsLemmas.{streams_all, streams_broken, streams_more, streams_none}
 use Rattle.walkdir.proofs.FailuresLemmas.{costs_none, costs_then}
 use Rattle.walkdir.proofs.ReadLemmas.{at-push, child_at, drawn_on, draws_drawn, entry_left, failures-push}
@@ -19,6 +22,8 @@ loop-items-init g c =
       few = omega arith;
       children = subst (AreAt c.args.parent.now c.args.depth) (sym none) tt;
       no_failure = ap failures_among none;
+      leads = leads_still g.D.Disk.answered c.args.disk.now;
+      told = none_told g.D.Disk.answered c.args.disk.now c.args.disk.now c.new-items.result.items none;
       kept = refl;
       later = omega arith;
     }
@@ -48,6 +53,10 @@ loop-items-preserved g c =
       children = subst (AreAt c.args.parent.now c.args.depth) (sym items)
           (at-push c.args.parent.now c.args.depth c.loop-items.items.items (Ok c.in-Some-Ok.entry) before.children (child_at c.args.depth c.args.parent.now mid c.args.dir c.in-Some-Ok.entry new draws));
       no_failure = (let none = before.no_failure in omega arith);
+      leads = leads_then g.D.Disk.answered c.args.disk.now c.loop-items.disk c.next_of.new.disk before.leads c.in-Some-Ok.ensures.answered.leads;
+      told = subst (AreHeld g.D.Disk.answered c.args.disk.now c.next_of.new.disk) (sym items)
+          (told_push g.D.Disk.answered c.args.disk.now c.next_of.new.disk c.loop-items.items.items (Ok c.in-Some-Ok.entry)
+          (are_later g.D.Disk.answered c.args.disk.now c.loop-items.disk c.next_of.new.disk c.loop-items.items.items c.in-Some-Ok.ensures.answered.leads before.told) tt);
       kept = c.in-Some-Ok.ensures.kept ∙ before.kept;
       later = (let first = before.later in let then_later = c.in-Some-Ok.ensures.cause.later in omega arith);
     }
@@ -96,3 +105,37 @@ returns-in-Some-Err-clause-streamed g c =
     let draws = (subst (λ item. Draws c.args.depth c.args.parent.now (g.D.Disk.streams c.loop-items.disk) c.args.dir (Some item) (g.D.Disk.streams c.next_of.new.disk)) c.in-Some-Err.field-0-is c.in-Some-Err.ensures.draws) in
     streams_broken c.args.depth c.args.parent.now (g.D.Disk.streams c.args.disk.now) c.args.dir c.loop-items.items.items (g.D.Disk.streams c.loop-items.disk) c.in-Some-Err.error
     c.push_back-in-Some-Err.new.self.items c.loop-items.invariant.streams draws.0 (sym c.is_out_of_memory.ensures ∙ c.if-is_out_of_memory.false) c.in_ok-push_back-in-Some-Err.ensures.items
+
+pub returns-in-None-clause-leads : goal.returns-in-None-clause-leads
+returns-in-None-clause-leads g c =
+    leads_then g.D.Disk.answered c.args.disk.now c.loop-items.disk c.next_of.new.disk c.loop-items.invariant.leads c.in-None.ensures.answered.leads
+
+pub returns-in-Some-Err-clause-leads : goal.returns-in-Some-Err-clause-leads
+returns-in-Some-Err-clause-leads g c =
+    leads_then g.D.Disk.answered c.args.disk.now c.loop-items.disk c.next_of.new.disk c.loop-items.invariant.leads c.in-Some-Err.ensures.answered.leads
+
+pub returns-in_err-push_back-in-Some-Err-clause-leads : goal.returns-in_err-push_back-in-Some-Err-clause-leads
+returns-in_err-push_back-in-Some-Err-clause-leads g c =
+    leads_then g.D.Disk.answered c.args.disk.now c.loop-items.disk c.next_of.new.disk c.loop-items.invariant.leads c.in-Some-Err.ensures.answered.leads
+
+pub returns-in_err-push_back-in-Some-Ok-clause-leads : goal.returns-in_err-push_back-in-Some-Ok-clause-leads
+returns-in_err-push_back-in-Some-Ok-clause-leads g c =
+    leads_then g.D.Disk.answered c.args.disk.now c.loop-items.disk c.next_of.new.disk c.loop-items.invariant.leads c.in-Some-Ok.ensures.answered.leads
+
+pub returns-then-is_out_of_memory-clause-leads : goal.returns-then-is_out_of_memory-clause-leads
+returns-then-is_out_of_memory-clause-leads g c =
+    leads_then g.D.Disk.answered c.args.disk.now c.loop-items.disk c.next_of.new.disk c.loop-items.invariant.leads c.in-Some-Err.ensures.answered.leads
+
+pub returns-in-None-clause-answered : goal.returns-in-None-clause-answered
+returns-in-None-clause-answered g c =
+    are_later g.D.Disk.answered c.args.disk.now c.loop-items.disk c.next_of.new.disk c.loop-items.items.items c.in-None.ensures.answered.leads c.loop-items.invariant.told
+
+pub returns-in-Some-Err-clause-answered : goal.returns-in-Some-Err-clause-answered
+returns-in-Some-Err-clause-answered g c =
+    let before = c.loop-items.invariant in
+    let told = c.in-Some-Err.ensures.answered in
+    subst (AreHeld g.D.Disk.answered c.args.disk.now c.next_of.new.disk) (sym c.in_ok-push_back-in-Some-Err.ensures.items)
+    (told_push g.D.Disk.answered c.args.disk.now c.next_of.new.disk c.loop-items.items.items (Err c.in-Some-Err.error)
+    (are_later g.D.Disk.answered c.args.disk.now c.loop-items.disk c.next_of.new.disk c.loop-items.items.items told.leads before.told)
+    (item_since g.D.Disk.answered c.args.disk.now c.loop-items.disk c.next_of.new.disk (Some (Err c.in-Some-Err.error)) before.leads
+    (subst (λ item. IsItemHeld g.D.Disk.answered c.loop-items.disk c.next_of.new.disk (Some item)) c.in-Some-Err.field-0-is told.told)))

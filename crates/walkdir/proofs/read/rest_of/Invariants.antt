@@ -1,4 +1,6 @@
 use Rattle.std.proofs.Common.{◌≡◌, ◌+◌, ◌≤◌, length}
+use Rattle.odb_disk.specs.CallsMade.{Leads}
+use Rattle.walkdir.specs.Answered.{AreHeld}
 use Rattle.walkdir.specs.Failures.{failures_among}
 use Rattle.walkdir.specs.Stack.{AreAt}
 use Rattle.walkdir.specs.Turns.{IsDrawn, left_of}
@@ -13,6 +15,8 @@ invariant-loop-items g l = record {
   few : length l.items.items + left_of (g.D.Disk.streams l.disk) l.dir ≤ left_of (g.D.Disk.streams l.fn.disk) l.dir;
   children : AreAt l.parent l.depth l.items.items;
   no_failure : failures_among l.items.items ≡ 0;
+  leads : Leads g.D.Disk.answered l.fn.disk l.disk;
+  told : AreHeld g.D.Disk.answered l.fn.disk l.disk l.items.items;
   kept : g.D.Disk.state l.disk ≡ g.D.Disk.state l.fn.disk;
   later : g.D.Disk.faults l.fn.disk ≤ g.D.Disk.faults l.disk;
 }

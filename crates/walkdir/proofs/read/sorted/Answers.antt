@@ -1,8 +1,10 @@
 use Rattle.std.proofs.Common.{ap, subst, sym, ◌∙◌}
 use Rattle.odb_disk.specs.Streams.{Streams}
 use Rattle.walkdir.specs.Failures.{Costs, failures_among}
+use Rattle.walkdir.proofs.HandlesLemmas.{err_is}
 use Rattle.walkdir.proofs.ReadLemmas.{drawn_removed}
 use Rattle.walkdir.proofs.SortedLemmas.{ordered_at, ordered_failures}
+use Rattle.walkdir.proofs.AnsweredLemmas.{are_later, contents_lost, leads_by, leads_then, ordered_told}
 use Rattle.walkdir.proofs.read.sorted.Goals as goal
 
 pub returns-in_err-read-clause-drawn : goal.returns-in_err-read-clause-drawn
@@ -32,3 +34,27 @@ returns-clause-cause g c =
 
 pub returns-clause-order : goal.returns-clause-order
 returns-clause-order g c = record { given = c.in_ok-read.field-0.items; streamed = c.in_ok-read.ensures.streamed; sorted = c.in_ok-in_order.ensures.order }
+
+pub returns-in_err-read-clause-answered : goal.returns-in_err-read-clause-answered
+returns-in_err-read-clause-answered g c =
+    contents_lost g.D.Disk.answered c.args.disk.now c.close_dir.new.self c.from_residual.result c.in_err-read.field-0.0
+    (err_is c.from_residual.result c.in_err-read.field-0.0 c.from_residual.ensures.1)
+    (leads_then g.D.Disk.answered c.args.disk.now c.rest_of-read.new.disk c.close_dir.new.self c.rest_of-read.ensures.leads
+    (leads_by g.D.Disk.answered c.rest_of-read.new.disk c.close_dir.new.self c.close_dir.ensures.answered))
+
+pub returns-in_err-in_order-clause-answered : goal.returns-in_err-in_order-clause-answered
+returns-in_err-in_order-clause-answered g c =
+    contents_lost g.D.Disk.answered c.args.disk.now c.close_dir.new.self c.from_residual-in_err-in_order.result c.in_err-in_order.field-0.0
+    (err_is c.from_residual-in_err-in_order.result c.in_err-in_order.field-0.0 c.from_residual-in_err-in_order.ensures.1)
+    (leads_then g.D.Disk.answered c.args.disk.now c.rest_of-read.new.disk c.close_dir.new.self c.rest_of-read.ensures.leads
+    (leads_by g.D.Disk.answered c.rest_of-read.new.disk c.close_dir.new.self c.close_dir.ensures.answered))
+
+pub returns-clause-answered : goal.returns-clause-answered
+returns-clause-answered g c =
+    let closed = leads_by g.D.Disk.answered c.rest_of-read.new.disk c.close_dir.new.self c.close_dir.ensures.answered in
+    record {
+      leads = leads_then g.D.Disk.answered c.args.disk.now c.rest_of-read.new.disk c.close_dir.new.self c.rest_of-read.ensures.leads closed;
+      told = ordered_told g.D.Disk.answered c.args.disk.now c.close_dir.new.self (g.S.Sorter.order c.args.sorter.now) c.in_ok-read.field-0.items c.in_ok-in_order.field-0.items
+          c.in_ok-in_order.ensures.order
+          (are_later g.D.Disk.answered c.args.disk.now c.rest_of-read.new.disk c.close_dir.new.self c.in_ok-read.field-0.items closed c.in_ok-read.ensures.answered);
+    }

@@ -12,6 +12,7 @@ use Rattle.walkdir.proofs.SoundLemmas.{sound_of}
 use Rattle.walkdir.proofs.StackLemmas.{closed_past, closed_put, cut_at, cut_length, no_deep_stream, one_at, reversed_at}
 use Rattle.walkdir.proofs.StepLemmas.{goes_drawn, keeps_drawn}
 use Rattle.walkdir.proofs.WorkLemmas.{less_drawn}
+use Rattle.walkdir.proofs.AnsweredLemmas.{leads_by, leads_then, stack_later, stack_put, are_wider, tells_called, tells_still}
 use Rattle.walkdir.proofs.stack.Stack.close.Goals as goal
 
 pub returns-in_default-clause-closed : goal.returns-in_default-clause-closed
@@ -78,3 +79,29 @@ returns-clause-stands g c =
     let new = progress g.S.Sorter.order c.put.new.self (g.D.Disk.streams c.close_dir.new.self) in
     close_stands old new c.args.self.now.lists.items c.put.new.self.lists.items c.args.index (Closed c.in_ok-items.items) c.index-list.result.now refl refl c.put.ensures.lists c.index-list.ensures
     c.in-Some.dir (g.D.Disk.streams c.rest_of.new.disk) (sym c.in-Some.ensures) refl c.in_ok-items.ensures.drawn c.close_dir.ensures.closed c.in_ok-items.ensures.streamed
+
+pub returns-in_default-clause-answered : goal.returns-in_default-clause-answered
+returns-in_default-clause-answered g c =
+    tells_still g.D.Disk.answered c.args.disk.now (reverse c.args.self.now.lists.items) (reverse c.args.self.now.lists.items) refl
+
+pub returns-in_err-items-clause-answered : goal.returns-in_err-items-clause-answered
+returns-in_err-items-clause-answered g c =
+    tells_called g.D.Disk.answered c.args.disk.now c.rest_of.new.disk (reverse c.args.self.now.lists.items) c.in_err-items.ensures.leads
+
+pub returns-clause-answered : goal.returns-clause-answered
+returns-clause-answered g c =
+    let old = c.args.self.now.lists.items in
+    let new = c.put.new.self.lists.items in
+    let read = c.in_ok-items.ensures.leads in
+    let closed = leads_by g.D.Disk.answered c.rest_of.new.disk c.close_dir.new.self c.close_dir.ensures.answered in
+    let leads = leads_then g.D.Disk.answered c.args.disk.now c.rest_of.new.disk c.close_dir.new.self read closed in
+    record {
+      leads = leads;
+      told = λ first told. (
+        stack_put g.D.Disk.answered first c.close_dir.new.self old new c.args.index (Closed c.in_ok-items.items) c.put.ensures.lists
+            (stack_later g.D.Disk.answered first c.args.disk.now c.close_dir.new.self (reverse old) told leads)
+            (are_wider g.D.Disk.answered first c.args.disk.now c.rest_of.new.disk c.close_dir.new.self c.in_ok-items.items.items told.leads c.in_ok-items.ensures.answered closed),
+        tt,
+      );
+      refused = λ first told. tt;
+    }

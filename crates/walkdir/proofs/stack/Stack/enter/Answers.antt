@@ -11,6 +11,8 @@ use Rattle.walkdir.specs.declared.builder.Options.{Options}
 use Rattle.walkdir.proofs.ContainsLemmas.{entered_first, entered_now}
 use Rattle.walkdir.proofs.InnermostLemmas.{after_entered}
 use Rattle.walkdir.proofs.EnteredLemmas.{enters_nothing, enters_telling}
+use Rattle.walkdir.specs.AnsweredTurns.{TellsPushed}
+use Rattle.walkdir.proofs.AnsweredLemmas.{leads_still}
 use Rattle.walkdir.proofs.stack.Stack.enter.Goals as goal
 use Rattle.walkdir.proofs.stack.Stack.enter.Goals.{else-is_dir-2, else-self-via-then-self+else-is_dir, else-self-via-else-self, then-is_dir-2}
 
@@ -82,3 +84,26 @@ pub returns-clause-above : goal.returns-clause-above
 returns-clause-above g c =
     c.in_ok-push-2.ensures.above
     ∙ ap (λ (p : Path). (record { path = p; place = c.args.place }) ∷ ancestors (reverse c.args.self.now.lists.items)) (c.in_ok-path.ensures ∙ c.path.ensures)
+
+pub returns-in_err-path-clause-answered : goal.returns-in_err-path-clause-answered
+returns-in_err-path-clause-answered g c = record { leads = leads_still g.D.Disk.answered c.args.disk.now; told = λ first told known. told }
+
+pub returns-in_err-push-clause-answered : goal.returns-in_err-push-clause-answered
+returns-in_err-push-clause-answered g c =
+    subst (λ (p : Path). TellsPushed g.D.Disk.answered c.args.disk.now (reverse c.args.self.now.lists.items) p c.args.place c.push.new.disk (reverse c.push.new.self.lists.items))
+    (c.in_ok-path.ensures ∙ c.path.ensures) c.in_err-push.ensures.answered
+
+pub returns-in_err-push-2-clause-answered : goal.returns-in_err-push-2-clause-answered
+returns-in_err-push-2-clause-answered g c =
+    subst (λ (p : Path). TellsPushed g.D.Disk.answered c.args.disk.now (reverse c.args.self.now.lists.items) p c.args.place c.push-2.new.disk (reverse c.push-2.new.self.lists.items))
+    (c.in_ok-path.ensures ∙ c.path.ensures) c.in_err-push-2.ensures.answered
+
+pub returns-then-is_dir-clause-answered : goal.returns-then-is_dir-clause-answered
+returns-then-is_dir-clause-answered g c =
+    subst (λ (p : Path). TellsPushed g.D.Disk.answered c.args.disk.now (reverse c.args.self.now.lists.items) p c.args.place c.push.new.disk (reverse c.push.new.self.lists.items))
+    (c.in_ok-path.ensures ∙ c.path.ensures) c.in_ok-push.ensures.answered
+
+pub returns-clause-answered : goal.returns-clause-answered
+returns-clause-answered g c =
+    subst (λ (p : Path). TellsPushed g.D.Disk.answered c.args.disk.now (reverse c.args.self.now.lists.items) p c.args.place c.push-2.new.disk (reverse c.push-2.new.self.lists.items))
+    (c.in_ok-path.ensures ∙ c.path.ensures) c.in_ok-push-2.ensures.answered

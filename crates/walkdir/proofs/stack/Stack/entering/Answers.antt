@@ -1,4 +1,4 @@
-use Rattle.std.proofs.Common.{◌≡◌, ◌&&◌, true, false, cond, Some, ap, subst, sym, ◌∙◌, arith}
+use Rattle.std.proofs.Common.{◌≡◌, ◌&&◌, true, false, cond, Some, ap, subst, sym, ◌∙◌, arith, Ok, Err}
 use Rattle.std.proofs.lemmas.Bool.Decides.{nat_tests}
 use Rattle.walkdir.specs.Entry.{is_dir_kind}
 use Rattle.walkdir.specs.Turns.{EntersBy}
@@ -7,6 +7,8 @@ use Rattle.walkdir.specs.declared.list.Entering.{Entering}
 use Rattle.walkdir.specs.declared.list.Entering.TheVariants.{Stays, Enters}
 use Rattle.walkdir.proofs.HandlesLemmas.{enters_dir, enters_link, enters_other, enters_refused, err_is, kind_tested}
 use Rattle.walkdir.proofs.InnermostLemmas.{only_dir}
+use Rattle.walkdir.specs.AnsweredTurns.{IsEnteringTold}
+use Rattle.walkdir.proofs.AnsweredLemmas.{leads_still, look_known, look_leads, look_refused}
 use Rattle.walkdir.proofs.stack.Stack.entering.Goals as goal
 use Rattle.walkdir.proofs.stack.Stack.entering.Goals.{then-not-is_link-via-then-not-is_link, then-not-is_link-via-else-not-is_link+then-depth-ne0, then-not-is_link-via-else-not-is_link+else-depth-ne0+then-not-self}
 
@@ -58,3 +60,33 @@ returns-else-eq-clause-enters g c =
 
 pub returns-then-is_dir-clause-kind : goal.returns-then-is_dir-clause-kind
 returns-then-is_dir-clause-kind g c = only_dir c.args.found.now.entry c.entering_directory.result (sym c.is_dir.ensures ∙ c.if-is_dir.true)
+
+pub returns-then-not-is_link-clause-answered : goal.returns-then-not-is_link-clause-answered
+returns-then-not-is_link-clause-answered g c = record { leads = leads_still g.D.Disk.answered c.args.disk.now; told = λ first earlier known. tt }
+
+pub returns-in_err-meta-clause-answered : goal.returns-in_err-meta-clause-answered
+returns-in_err-meta-clause-answered g c =
+    let by = c.in_err-meta.ensures.answered in
+    let error = c.in_err-meta.field-0.0 in
+    record {
+      leads = look_leads g.D.Disk.answered 0 c.path.result.now true c.args.disk.now c.look.new.disk (Err error) by;
+      told = λ first earlier known.
+          subst (λ r. IsEnteringTold g.D.Disk.answered first c.look.new.disk c.args.found.now.entry.path r) (sym (err_is c.from_residual.result error c.from_residual.ensures.1))
+          (look_refused g.D.Disk.answered first 0 c.path.result.now true c.args.disk.now c.look.new.disk error earlier by);
+    }
+
+pub returns-then-eq-clause-answered : goal.returns-then-eq-clause-answered
+returns-then-eq-clause-answered g c =
+    let by = c.in_ok-meta.ensures.answered in
+    record {
+      leads = look_leads g.D.Disk.answered 0 c.path.result.now true c.args.disk.now c.look.new.disk (Ok c.in_ok-meta.meta) by;
+      told = λ first earlier known.
+          look_known g.D.Disk.answered first 0 c.path.result.now c.args.found.now.entry.path c.args.disk.now c.look.new.disk c.in_ok-meta.meta c.place_in.result earlier by
+          c.path.ensures c.place_in.ensures;
+    }
+
+pub returns-else-eq-clause-answered : goal.returns-else-eq-clause-answered
+returns-else-eq-clause-answered g c = record {
+  leads = look_leads g.D.Disk.answered 0 c.path.result.now true c.args.disk.now c.look.new.disk (Ok c.in_ok-meta.meta) c.in_ok-meta.ensures.answered;
+  told = λ first earlier known. tt;
+}

@@ -7,6 +7,9 @@ use Rattle.walkdir.specs.Stack.{ancestors}
 use Rattle.walkdir.specs.Walk.{entry_by, loop_at}
 use Rattle.walkdir.proofs.HandlesLemmas.{err_is, kind_tested, follows_found, follows_loop, follows_none, follows_refused, loop_nowhere, loop_where}
 use Rattle.walkdir.proofs.CausesLemmas.{caused_by_loop}
+use Rattle.walkdir.specs.AnsweredTurns.{IsFoundTold}
+use Rattle.walkdir.specs.declared.dent.DirEntry.{DirEntry}
+use Rattle.walkdir.proofs.AnsweredLemmas.{leads_still, look_known, look_leads, look_refused, loop_told, stack_later}
 use Rattle.walkdir.proofs.stack.Stack.followed.Goals as goal
 use Rattle.walkdir.proofs.stack.Stack.followed.Goals.{then-eq+in_ok-check_loop, else-eq, then-not-self-via-then-not-self, then-not-self-via-else-not-self+then-not-is_link}
 
@@ -41,7 +44,7 @@ returns-in_err-check_loop-clause-follows g c =
     (sym (err_is c.from_residual-in_err-check_loop.result error c.from_residual-in_err-check_loop.ensures.1))
     (follows_loop state walk.options above c.args.entry c.depth-depth.result c.into_path-path.result meta error c.if-not-self.false link c.depth-depth.ensures
     c.into_path-path.ensures c.in_ok-meta.ensures.told dir
-    (subst (λ p. ChecksLoop c.depth-depth.result c.into_path-path.result (standing_at above p) (Err error)) c.place_in.ensures c.in_err-check_loop.ensures.checks))
+    (subst (λ p. ChecksLoop c.depth-depth.result c.into_path-path.result (standing_at above p) (Err error)) c.place_in-place.ensures c.in_err-check_loop.ensures.checks))
 
 pub returns-in_err-check_loop-clause-causes : goal.returns-in_err-check_loop-clause-causes
 returns-in_err-check_loop-clause-causes g c =
@@ -49,7 +52,7 @@ returns-in_err-check_loop-clause-causes g c =
     let above = ancestors (reverse walk.lists.items) in
     let error = c.in_err-check_loop.field-0.0 in
     subst (λ r. IfErr r (λ e. IsCausedAmong walk.options above e)) (sym (err_is c.from_residual-in_err-check_loop.result error c.from_residual-in_err-check_loop.ensures.1))
-    (caused_by_loop walk.options above c.place_in.result c.depth-depth.result c.into_path-path.result error c.if-not-self.false c.in_err-check_loop.ensures.checks)
+    (caused_by_loop walk.options above c.place_in-place.result c.depth-depth.result c.into_path-path.result error c.if-not-self.false c.in_err-check_loop.ensures.checks)
 
 pub returns-clause-follows : goal.returns-clause-follows
 returns-clause-follows g c =
@@ -61,10 +64,51 @@ returns-clause-follows g c =
     let path = c.into_path-path.result in
     let link : is_link c.args.entry ≡ true = sym c.is_link.ensures ∙ c.if-not-is_link.false in
     let free : loop_at above meta ≡ None = elim c.if-eq.branch [
-      | then-eq+in_ok-check_loop w ↦ loop_where above meta (sym (c.eq.ensures ∙ kind_tested meta.kind) ∙ w.if-eq.true) ∙ ap (standing_at above) (sym w.place_in.ensures)
+      | then-eq+in_ok-check_loop w ↦ loop_where above meta (sym (c.eq.ensures ∙ kind_tested meta.kind) ∙ w.if-eq.true) ∙ ap (standing_at above) (sym c.place_in-place.ensures)
           ∙ w.in_ok-check_loop.ensures.checks
       | else-eq w ↦ loop_nowhere above meta (sym (c.eq.ensures ∙ kind_tested meta.kind) ∙ w.if-eq.false)
     ] in
-    subst (λ e. Follows state walk.options above c.args.entry (Ok (record { entry = e; place = Some c.place_in-2.result }))) (sym c.entry_by-entry.ensures)
-    (subst (λ p. Follows state walk.options above c.args.entry (Ok (record { entry = entry_by path true depth meta; place = Some p }))) (sym c.place_in-2.ensures)
+    subst (λ e. Follows state walk.options above c.args.entry (Ok (record { entry = e; place = Some c.place_in-place.result }))) (sym c.entry_by.ensures)
+    (subst (λ p. Follows state walk.options above c.args.entry (Ok (record { entry = entry_by path true depth meta; place = Some p }))) (sym c.place_in-place.ensures)
     (follows_found state walk.options above c.args.entry depth path meta c.if-not-self.false link c.depth-depth.ensures c.into_path-path.ensures c.in_ok-meta.ensures.told free))
+
+pub returns-then-not-self-clause-answered : goal.returns-then-not-self-clause-answered
+returns-then-not-self-clause-answered g c = record { leads = leads_still g.D.Disk.answered c.args.disk.now; told = λ first told. tt }
+
+pub returns-in_err-meta-clause-answered : goal.returns-in_err-meta-clause-answered
+returns-in_err-meta-clause-answered g c =
+    let by = c.in_err-meta.ensures.answered in
+    let error = c.in_err-meta.field-0.0 in
+    record {
+      leads = look_leads g.D.Disk.answered c.depth-depth.result c.into_path-path.result true c.args.disk.now c.look.new.disk (Err error) by;
+      told = λ first told.
+          subst (λ r. IsFoundTold g.D.Disk.answered first c.look.new.disk r) (sym (err_is c.from_residual.result error c.from_residual.ensures.1))
+          (look_refused g.D.Disk.answered first c.depth-depth.result c.into_path-path.result true c.args.disk.now c.look.new.disk error told.leads by);
+    }
+
+pub returns-in_err-check_loop-clause-answered : goal.returns-in_err-check_loop-clause-answered
+returns-in_err-check_loop-clause-answered g c =
+    let stack = reverse c.args.self.now.lists.items in
+    let by = c.in_ok-meta.ensures.answered in
+    let meta = c.in_ok-meta.meta in
+    let error = c.in_err-check_loop.field-0.0 in
+    let leads = look_leads g.D.Disk.answered c.depth-depth.result c.into_path-path.result true c.args.disk.now c.look.new.disk (Ok meta) by in
+    let dir : is_dir_kind meta.kind ≡ true = sym (c.eq.ensures ∙ kind_tested meta.kind) ∙ c.if-eq.true in
+    record {
+      leads = leads;
+      told = λ first told.
+          subst (λ r. IsFoundTold g.D.Disk.answered first c.look.new.disk r) (sym (err_is c.from_residual-in_err-check_loop.result error c.from_residual-in_err-check_loop.ensures.1))
+          (loop_told g.D.Disk.answered first c.args.disk.now c.look.new.disk stack c.depth-depth.result c.into_path-path.result meta error
+          (stack_later g.D.Disk.answered first c.args.disk.now c.look.new.disk stack told leads) told.leads by dir
+          (subst (λ p. ChecksLoop c.depth-depth.result c.into_path-path.result (standing_at (ancestors stack) p) (Err error)) c.place_in-place.ensures c.in_err-check_loop.ensures.checks));
+    }
+
+pub returns-clause-answered : goal.returns-clause-answered
+returns-clause-answered g c =
+    let by = c.in_ok-meta.ensures.answered in
+    record {
+      leads = look_leads g.D.Disk.answered c.depth-depth.result c.into_path-path.result true c.args.disk.now c.look.new.disk (Ok c.in_ok-meta.meta) by;
+      told = λ first told.
+          look_known g.D.Disk.answered first c.depth-depth.result c.into_path-path.result c.entry_by.result.path c.args.disk.now c.look.new.disk c.in_ok-meta.meta c.place_in-place.result told.leads by
+          (sym (ap (λ (e : DirEntry). e.path) c.entry_by.ensures)) c.place_in-place.ensures;
+    }

@@ -14,6 +14,10 @@ use Rattle.walkdir.proofs.AboveLemmas.{above_entering, above_same, unless_lost}
 use Rattle.walkdir.proofs.EnteredLemmas.{handles_entering, handles_error, handles_staying}
 use Rattle.walkdir.proofs.HandlesLemmas.{err_is, handles_alone, handles_closed, handles_entered, handles_wrong}
 use Rattle.walkdir.proofs.InnermostLemmas.{after_entry_error, after_shown, link_looked, looked_at, on_entry}
+use Rattle.walkdir.specs.Answered.{IsItemTold, IsRefusedAt}
+use Rattle.walkdir.specs.AnsweredTurns.{IsEnteringTold}
+use Rattle.walkdir.proofs.AnsweredLemmas.{entry_told, error_seen, leads_then, lost_item_told, stack_later}
+use Rattle.walkdir.proofs.RefusedLemmas.{given_at, looked_beside, lost_item_at}
 use Rattle.walkdir.proofs.stack.Stack.handle.Goals as goal
 
 pub returns-in_err-found-clause-walks : goal.returns-in_err-found-clause-walks
@@ -175,3 +179,76 @@ returns-in-Enters-clause-above g c =
     (subst (λ e. EntersBy entering (g.D.Disk.state c.followed.new.disk) walk.options walk.root_device found (Ok e)) c.in-Enters.is c.in_ok-entering.ensures.enters))
     (same.0 ∙ c.requires.depth ∙ sym (length-reverse walk.lists.items)) same.1 c.requires.parent
     (unless_lost c.enter.result (ancestors new.stack ≡ enter found.entry place (ancestors old.stack)) c.enter.ensures.above c.enter.ensures.lost)
+
+pub returns-in_err-found-clause-answered : goal.returns-in_err-found-clause-answered
+returns-in_err-found-clause-answered g c =
+    let error = c.in_err-found.field-0.0 in
+    let follows = c.in_err-found.ensures.answered in
+    record {
+      leads = follows.leads;
+      told = λ first told. (
+        stack_later g.D.Disk.answered first c.args.disk.now c.followed.new.disk (reverse c.args.self.now.lists.items) told follows.leads,
+        subst (λ r. IsItemTold g.D.Disk.answered first c.followed.new.disk (handed r)) (sym (err_is c.from_residual.result error c.from_residual.ensures.1))
+            (error_seen g.D.Disk.answered first c.followed.new.disk error (follows.told first told)),
+      );
+      refused = λ first told.
+          subst (λ r. IsRefusedAt g.D.Disk.answered first c.followed.new.disk (handed r) (reverse c.args.self.now.lists.items))
+          (sym (err_is c.from_residual.result error c.from_residual.ensures.1))
+          (looked_beside g.D.Disk.answered first c.followed.new.disk c.args.entry.path c.args.entry.depth error (reverse c.args.self.now.lists.items) c.in_err-found.ensures.place
+          (c.requires.depth ∙ sym (length-reverse c.args.self.now.lists.items)) c.requires.parent (follows.told first told));
+    }
+
+pub returns-in_err-entering-clause-answered : goal.returns-in_err-entering-clause-answered
+returns-in_err-entering-clause-answered g c =
+    let error = c.in_err-entering.field-0.0 in
+    let stack = reverse c.args.self.now.lists.items in
+    let found = c.in_ok-found.found in
+    let same = c.in_ok-found.ensures.same in
+    let follows = c.in_ok-found.ensures.answered in
+    let enters = c.in_err-entering.ensures.answered in
+    let leads = leads_then g.D.Disk.answered c.args.disk.now c.followed.new.disk c.entering.new.disk follows.leads enters.leads in
+    record {
+      leads = leads;
+      told = λ first told. (
+        stack_later g.D.Disk.answered first c.args.disk.now c.entering.new.disk (reverse c.args.self.now.lists.items) told leads,
+        subst (λ r. IsItemTold g.D.Disk.answered first c.entering.new.disk (handed r)) (sym (err_is c.from_residual-in_err-entering.result error c.from_residual-in_err-entering.ensures.1))
+            (error_seen g.D.Disk.answered first c.entering.new.disk error
+            (enters.told first (leads_then g.D.Disk.answered first c.args.disk.now c.followed.new.disk told.leads follows.leads) (follows.told first told))),
+      );
+      refused = λ first told.
+          subst (λ r. IsRefusedAt g.D.Disk.answered first c.entering.new.disk (handed r) stack) (sym (err_is c.from_residual-in_err-entering.result error c.from_residual-in_err-entering.ensures.1))
+          (looked_beside g.D.Disk.answered first c.entering.new.disk found.entry.path found.entry.depth error stack
+          (on_entry found.entry.path found.entry.depth error c.in_err-entering.ensures.call) (same.0 ∙ c.requires.depth ∙ sym (length-reverse c.args.self.now.lists.items))
+          (subst (λ (p : Path). LiesIn p stack) (sym same.1) c.requires.parent)
+          (enters.told first (leads_then g.D.Disk.answered first c.args.disk.now c.followed.new.disk told.leads follows.leads) (follows.told first told)));
+    }
+
+pub returns-in-Stays-clause-answered : goal.returns-in-Stays-clause-answered
+returns-in-Stays-clause-answered g c =
+    let leads = leads_then g.D.Disk.answered c.args.disk.now c.followed.new.disk c.entering.new.disk c.in_ok-found.ensures.answered.leads c.in_ok-entering.ensures.answered.leads in
+    record {
+      leads = leads;
+      told = λ first told. (
+        stack_later g.D.Disk.answered first c.args.disk.now c.entering.new.disk (reverse c.args.self.now.lists.items) told leads,
+        entry_told g.D.Disk.answered first c.entering.new.disk c.shown.result,
+      );
+      refused = λ first told. given_at g.D.Disk.answered first c.entering.new.disk c.shown.result (reverse c.args.self.now.lists.items);
+    }
+
+pub returns-in-Enters-clause-answered : goal.returns-in-Enters-clause-answered
+returns-in-Enters-clause-answered g c =
+    let found = c.in_ok-found.found in
+    let follows = c.in_ok-found.ensures.answered in
+    let enters = c.in_ok-entering.ensures.answered in
+    let goes = c.enter.ensures.answered in
+    let leads = leads_then g.D.Disk.answered c.args.disk.now c.followed.new.disk c.entering.new.disk follows.leads enters.leads in
+    record {
+      leads = leads_then g.D.Disk.answered c.args.disk.now c.entering.new.disk c.enter.new.disk leads goes.leads;
+      told = λ first told. (
+        goes.told first (stack_later g.D.Disk.answered first c.args.disk.now c.entering.new.disk (reverse c.args.self.now.lists.items) told leads)
+            (subst (λ e. IsEnteringTold g.D.Disk.answered first c.entering.new.disk found.entry.path (Ok e)) c.in-Enters.is
+            (enters.told first (leads_then g.D.Disk.answered first c.args.disk.now c.followed.new.disk told.leads follows.leads) (follows.told first told))),
+        lost_item_told g.D.Disk.answered first c.enter.new.disk c.enter.result c.enter.ensures.lost,
+      );
+      refused = λ first told. lost_item_at g.D.Disk.answered first c.enter.new.disk c.enter.result (reverse c.enter.new.self.lists.items) c.enter.ensures.lost;
+    }

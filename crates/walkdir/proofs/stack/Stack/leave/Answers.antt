@@ -11,6 +11,7 @@ use Rattle.walkdir.proofs.DrawsLemmas.{leaves_it, own_given, own_none}
 use Rattle.walkdir.proofs.SoundLemmas.{is_sound_of, sound_of}
 use Rattle.walkdir.proofs.StackLemmas.{left_depth, left_first, left_own, reversed_last, sound_pop}
 use Rattle.walkdir.proofs.StepLemmas.{goes_popped, pops_less}
+use Rattle.walkdir.proofs.AnsweredLemmas.{stack_later, stack_pop}
 use Rattle.walkdir.proofs.stack.Stack.leave.Goals as goal
 
 pub invariant_of-self-2-clause-sound : goal.invariant_of-self-2-clause-sound
@@ -103,3 +104,35 @@ returns-in_err-list-2-clause-above g c = (c.in_ok-list.list, ap reverse c.in_ok-
 
 pub returns-clause-above : goal.returns-clause-above
 returns-clause-above g c = (c.in_ok-list.list, ap reverse c.in_ok-list.ensures.items ∙ reversed_last c.pop.new.self.items c.in_ok-list.list)
+
+pub returns-in_err-list-2-clause-answered : goal.returns-in_err-list-2-clause-answered
+returns-in_err-list-2-clause-answered g c =
+    let old = reverse c.args.self.now.lists.items in
+    let new = reverse c.pop.new.self.items in
+    let list = c.in_ok-list.list in
+    let leads = c.close.ensures.answered in
+    record {
+      leads = leads;
+      told = λ first told. (
+        stack_later g.D.Disk.answered first c.args.disk.now c.close.new.disk new
+            (stack_pop g.D.Disk.answered first c.args.disk.now list old new (ap reverse c.in_ok-list.ensures.items ∙ reversed_last c.pop.new.self.items list) told) leads,
+        tt,
+      );
+      refused = λ first told. tt;
+    }
+
+pub returns-clause-answered : goal.returns-clause-answered
+returns-clause-answered g c =
+    let old = reverse c.args.self.now.lists.items in
+    let new = reverse c.pop.new.self.items in
+    let list = c.in_ok-list.list in
+    let leads = c.close.ensures.answered in
+    record {
+      leads = leads;
+      told = λ first told. (
+        stack_later g.D.Disk.answered first c.args.disk.now c.close.new.disk new
+            (stack_pop g.D.Disk.answered first c.args.disk.now list old new (ap reverse c.in_ok-list.ensures.items ∙ reversed_last c.pop.new.self.items list) told) leads,
+        tt,
+      );
+      refused = λ first told. tt;
+    }

@@ -1,7 +1,8 @@
-use Rattle.std.proofs.Common.{◌≡◌, ◌+◌, ◌<◌, [], length, refl, subst, sym, take, arith}
+use Rattle.std.proofs.Common.{◌≡◌, ◌+◌, ◌<◌, [], length, refl, subst, sym, take, arith, reverse}
 use Rattle.walkdir.specs.Stack.{own_streams}
 use Rattle.walkdir.proofs.SoundLemmas.{is_sound_of, sound_of}
 use Rattle.walkdir.proofs.StackLemmas.{sound_closed}
+use Rattle.walkdir.proofs.AnsweredLemmas.{tells_still}
 use Rattle.walkdir.proofs.stack.Stack.make_room.Goals as goal
 
 pub invariant_of-self-clause-sound : goal.invariant_of-self-clause-sound
@@ -17,3 +18,13 @@ invariant_of-self-clause-sound g c =
     (sound_closed walk.options walk.start walk.lists.items walk.first_open (walk.first_open + 1)
     (sound_of walk.options walk.start walk.lists.items walk.first_open walk.some_open walk.in_range walk.few walk.sound) refl within
     (subst (λ n. own_streams (take (n + 1) walk.lists.items) ≡ []) (sym same) (c.in_ok-close.ensures.closed sound.closed)))
+
+pub returns-then-len-self-clause-answered : goal.returns-then-len-self-clause-answered
+returns-then-len-self-clause-answered g c =
+    tells_still g.D.Disk.answered c.args.disk.now (reverse c.args.self.now.lists.items) (reverse c.args.self.now.lists.items) refl
+
+pub returns-in_err-close-clause-answered : goal.returns-in_err-close-clause-answered
+returns-in_err-close-clause-answered g c = c.in_err-close.ensures.answered
+
+pub returns-clause-answered : goal.returns-clause-answered
+returns-clause-answered g c = c.in_ok-close.ensures.answered

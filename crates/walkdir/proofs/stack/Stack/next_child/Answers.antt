@@ -13,6 +13,8 @@ use Rattle.walkdir.proofs.SoundLemmas.{is_sound_of, sound_of}
 use Rattle.walkdir.proofs.StackLemmas.{fit_at, held_at, one_at, puts_above, puts_set, shallow_held, sound_put}
 use Rattle.walkdir.proofs.WorkLemmas.{less_same}
 use Rattle.walkdir.specs.declared.list.DirList.{DirList}
+use Rattle.walkdir.proofs.AnsweredLemmas.{item_held, leads_still, stack_put, taken_told, top_told}
+use Rattle.walkdir.proofs.RefusedLemmas.{drawn_at}
 use Rattle.walkdir.proofs.stack.Stack.next_child.Goals as goal
 
 pub invariant_of-self-clause-sound : goal.invariant_of-self-clause-sound
@@ -134,4 +136,35 @@ returns-clause-kept g c =
       entered = refl;
       count = length-set lists c.args.index (record list { items = items });
       above = puts_above lists (set lists c.args.index (record list { items = items })) c.args.index items puts;
+    }
+
+pub returns-clause-answered : goal.returns-clause-answered
+returns-clause-answered g c =
+    let walk = c.args.self.now in
+    let lists = walk.lists.items in
+    let list = c.index_mut-list.result.now in
+    let items = c.take_first.new.self in
+    let within : c.args.index < length lists = omega (arith, c.requires) in
+    let at = c.index_mut-list.ensures.value in
+    let old = progress g.S.Sorter.order walk (g.D.Disk.streams c.args.disk.now) in
+    let after_lists = set lists c.args.index (record list { items = items }) in
+    let new : Progress = record old { stack = reverse after_lists } in
+    let puts = puts_set lists c.args.index list items within at in
+    let sound = sound_of walk.options walk.start lists walk.first_open walk.some_open walk.in_range walk.few walk.sound in
+    record {
+      leads = leads_still g.D.Disk.answered c.args.disk.now;
+      told = λ first told.
+          let taken = taken_told g.D.Disk.answered first c.args.disk.now list.items c.take_first.result items c.take_first.ensures
+          (top_told g.D.Disk.answered first c.args.disk.now list (reverse lists) (reverse puts.outer) (was_top old new lists after_lists c.args.index items list refl refl puts at c.requires) told) in (
+            stack_put g.D.Disk.answered first c.args.disk.now lists after_lists c.args.index items puts told taken.0,
+            item_held g.D.Disk.answered first c.args.disk.now c.take_first.result taken.1,
+          );
+      refused = λ first told.
+          let taken = taken_told g.D.Disk.answered first c.args.disk.now list.items c.take_first.result items c.take_first.ensures
+          (top_told g.D.Disk.answered first c.args.disk.now list (reverse lists) (reverse puts.outer) (was_top old new lists after_lists c.args.index items list refl refl puts at c.requires) told) in
+          drawn_at g.D.Disk.answered first c.args.disk.now c.take_first.result (reverse after_lists)
+          (from_top (reverse after_lists) (record list { items = items }) (reverse puts.outer) c.args.index c.take_first.result
+          (is_top old new lists after_lists c.args.index items list refl refl puts at c.requires) (top_depth old new lists after_lists c.args.index items list refl refl puts at)
+          (held_item_at list.path (c.args.index + 1) list.items c.take_first.result items c.take_first.ensures (held_at walk.options walk.start lists walk.first_open c.args.index list sound within at)))
+          taken.1;
     }

@@ -3,10 +3,11 @@ use Rattle.std.specs.Option.{option_map}
 use lib.ListN.{length-reverse}
 use Rattle.walkdir.specs.Error.{failures}
 use Rattle.walkdir.specs.Failures.{Costs, failures_among, failures_of}
-use Rattle.std.specs.Prelude.{Ok, Err}
+use Rattle.std.specs.Prelude.{Ok, Err, Option}
 use Rattle.walkdir.specs.Stack.{IsAt, left_in}
 use Rattle.walkdir.specs.StackProgress.{progress}
 use Rattle.walkdir.specs.Turns.{BreaksOff, Draws, DrawsEntry, left_of}
+use Rattle.walkdir.specs.Walk.{Item}
 use Rattle.walkdir.specs.declared.list.DirList.{DirList}
 use Rattle.walkdir.specs.declared.list.Items.TheVariants.{Closed}
 use Rattle.walkdir.proofs.DrawsLemmas.{draws_broken_off, draws_next, draws_over, is_top, top_depth, was_top}
@@ -18,6 +19,9 @@ use Rattle.walkdir.proofs.SoundLemmas.{sound_of}
 use Rattle.walkdir.proofs.StackLemmas.{cut_at, cut_length, one_at, reversed_at, shallow_stream, top_cut}
 use Rattle.walkdir.proofs.StepLemmas.{goes_drawn, keeps_drawn}
 use Rattle.walkdir.proofs.WorkLemmas.{LeftLess, less_closed, less_drawn}
+use Rattle.walkdir.specs.AnsweredTurns.{IsItemHeld}
+use Rattle.walkdir.proofs.AnsweredLemmas.{drawn_wider, item_held, leads_by, leads_then, none_told, stack_later, stack_put}
+use Rattle.walkdir.proofs.RefusedLemmas.{drawn_at}
 use Rattle.walkdir.proofs.stack.Stack.next_open.Goals as goal
 
 pub returns-in-Some-Ok-clause-goes : goal.returns-in-Some-Ok-clause-goes
@@ -174,3 +178,57 @@ returns-in-Some-Err-clause-from g c =
       subst (λ (l : DirList). IsAt l.path (c.args.index + 1) (Err c.in-Some-Err.error)) same
           (subst (λ item. IsAt c.index.result.now.path (c.args.index + 1) item) c.in-Some-Err.field-0-is c.in-Some-Err.ensures.at),
     )
+
+pub returns-in-None-clause-answered : goal.returns-in-None-clause-answered
+returns-in-None-clause-answered g c =
+    let leads = c.in-None.ensures.answered.leads in
+    record {
+      leads = leads;
+      told = λ first told. (stack_later g.D.Disk.answered first c.args.disk.now c.next_of.new.disk (reverse c.args.self.now.lists.items) told leads, tt);
+      refused = λ first told. tt;
+    }
+
+pub returns-in-Some-Ok-clause-answered : goal.returns-in-Some-Ok-clause-answered
+returns-in-Some-Ok-clause-answered g c =
+    let leads = c.in-Some-Ok.ensures.answered.leads in
+    record {
+      leads = leads;
+      told = λ first told. (stack_later g.D.Disk.answered first c.args.disk.now c.next_of.new.disk (reverse c.args.self.now.lists.items) told leads, tt);
+      refused = λ first told. tt;
+    }
+
+pub returns-in-Some-Err-clause-answered : goal.returns-in-Some-Err-clause-answered
+returns-in-Some-Err-clause-answered g c =
+    let old = c.args.self.now.lists.items in
+    let new = c.put.new.self.lists.items in
+    let drawn = c.in-Some-Err.ensures.answered in
+    let item : Option Item = Some (Err c.in-Some-Err.error) in
+    let given : IsItemHeld g.D.Disk.answered c.args.disk.now c.next_of.new.disk item =
+    subst (λ i. IsItemHeld g.D.Disk.answered c.args.disk.now c.next_of.new.disk (Some i)) c.in-Some-Err.field-0-is drawn.told in
+    let list = c.requires.dir.list in
+    let within : c.args.index < length old = omega (arith, c.requires.index) in
+    let same = one_at old c.args.index c.index.result.now list within c.index.ensures c.requires.dir.at in
+    let before = progress g.S.Sorter.order c.args.self.now (g.D.Disk.streams c.args.disk.now) in
+    let after = progress g.S.Sorter.order c.put.new.self (g.D.Disk.streams c.close_dir.new.self) in
+    let items = Closed c.new.result in
+    let puts = c.put.ensures.lists in
+    let closed = leads_by g.D.Disk.answered c.next_of.new.disk c.close_dir.new.self c.close_dir.ensures.answered in
+    let leads = leads_then g.D.Disk.answered c.args.disk.now c.next_of.new.disk c.close_dir.new.self drawn.leads closed in
+    record {
+      leads = leads;
+      told = λ first told. (
+        stack_put g.D.Disk.answered first c.close_dir.new.self old new c.args.index (Closed c.new.result) c.put.ensures.lists
+            (stack_later g.D.Disk.answered first c.args.disk.now c.close_dir.new.self (reverse old) told leads)
+            (none_told g.D.Disk.answered first c.close_dir.new.self c.new.result.items c.new.ensures.items),
+        item_held g.D.Disk.answered first c.close_dir.new.self item (drawn_wider g.D.Disk.answered first c.args.disk.now c.next_of.new.disk c.close_dir.new.self item told.leads given closed),
+      );
+      refused = λ first told.
+          drawn_at g.D.Disk.answered first c.close_dir.new.self item (reverse new)
+          (from_top (reverse new) (record list { items = items }) (reverse puts.outer) c.args.index item
+          (is_top before after old new c.args.index items list refl refl puts c.requires.dir.at c.requires.index) (top_depth before after old new c.args.index items list refl refl puts c.requires.dir.at) (
+            refl,
+            subst (λ (l : DirList). IsAt l.path (c.args.index + 1) (Err c.in-Some-Err.error)) same
+                (subst (λ i. IsAt c.index.result.now.path (c.args.index + 1) i) c.in-Some-Err.field-0-is c.in-Some-Err.ensures.at),
+          ))
+          (drawn_wider g.D.Disk.answered first c.args.disk.now c.next_of.new.disk c.close_dir.new.self item told.leads given closed);
+    }

@@ -1,6 +1,9 @@
-use Rattle.std.proofs.Common.{◌≡◌, ◌||◌, true, subst, sym, arith}
+use Rattle.std.proofs.Common.{◌≡◌, ◌||◌, true, subst, sym, arith, Option, Ok, Err}
 use Rattle.walkdir.specs.Turns.{FindsPlace}
+use Rattle.walkdir.specs.declared.list.Place.{Place}
 use Rattle.walkdir.proofs.HandlesLemmas.{err_is, place_refused}
+use Rattle.walkdir.specs.AnsweredTurns.{IsWhereTold}
+use Rattle.walkdir.proofs.AnsweredLemmas.{leads_still, look_known, look_leads, look_refused}
 use Rattle.walkdir.proofs.stack.Stack.place_of.Goals as goal
 use Rattle.walkdir.proofs.stack.Stack.place_of.Goals.{else-not-self-via-then-not-self+else-not-self-2, else-not-self-via-else-not-self}
 
@@ -15,3 +18,33 @@ returns-in_err-meta-clause-place g c =
     ] in
     subst (λ r. FindsPlace state options found r) (sym (err_is c.from_residual.result c.in_err-meta.field-0.0 c.from_residual.ensures.1))
     (place_refused state options found c.depth.result c.path.result.now c.in_err-meta.field-0.0 wanted c.depth.ensures c.path.ensures c.in_err-meta.ensures.told)
+
+pub returns-in-Some-clause-answered : goal.returns-in-Some-clause-answered
+returns-in-Some-clause-answered g c = record {
+  leads = leads_still g.D.Disk.answered c.args.disk.now;
+  told = λ first earlier known. subst (λ (p : Option Place). IsWhereTold g.D.Disk.answered first c.args.disk.now c.args.found.now.entry.path (Ok p)) c.in-Some.is known;
+}
+
+pub returns-then-not-self-2-clause-answered : goal.returns-then-not-self-2-clause-answered
+returns-then-not-self-2-clause-answered g c = record { leads = leads_still g.D.Disk.answered c.args.disk.now; told = λ first earlier known. tt }
+
+pub returns-in_err-meta-clause-answered : goal.returns-in_err-meta-clause-answered
+returns-in_err-meta-clause-answered g c =
+    let by = c.in_err-meta.ensures.answered in
+    let error = c.in_err-meta.field-0.0 in
+    record {
+      leads = look_leads g.D.Disk.answered c.depth.result c.path.result.now true c.args.disk.now c.look.new.disk (Err error) by;
+      told = λ first earlier known.
+          subst (λ r. IsWhereTold g.D.Disk.answered first c.look.new.disk c.args.found.now.entry.path r) (sym (err_is c.from_residual.result error c.from_residual.ensures.1))
+          (look_refused g.D.Disk.answered first c.depth.result c.path.result.now true c.args.disk.now c.look.new.disk error earlier by);
+    }
+
+pub returns-clause-answered : goal.returns-clause-answered
+returns-clause-answered g c =
+    let by = c.in_ok-meta.ensures.answered in
+    record {
+      leads = look_leads g.D.Disk.answered c.depth.result c.path.result.now true c.args.disk.now c.look.new.disk (Ok c.in_ok-meta.meta) by;
+      told = λ first earlier known.
+          look_known g.D.Disk.answered first c.depth.result c.path.result.now c.args.found.now.entry.path c.args.disk.now c.look.new.disk c.in_ok-meta.meta c.place_in.result earlier by
+          c.path.ensures c.place_in.ensures;
+    }

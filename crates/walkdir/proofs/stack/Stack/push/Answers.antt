@@ -7,7 +7,7 @@ use Rattle.walkdir.specs.Entry.{is_dir}
 use Rattle.walkdir.specs.Failures.{Costs, failures_left}
 use Rattle.walkdir.specs.Progress.{Progress}
 use Rattle.walkdir.specs.Walk.{Ancestor}
-use Rattle.walkdir.specs.Stack.{FitsAt, ancestors, IsSound, stream_in, without_stream}
+use Rattle.walkdir.specs.Stack.{FitsAt, ancestors, held, IsSound, stream_in, without_stream}
 use Rattle.walkdir.specs.StackProgress.{progress}
 use Rattle.walkdir.specs.declared.builder.Options.{Options}
 use Rattle.walkdir.specs.declared.list.DirList.{DirList}
@@ -21,6 +21,7 @@ use Rattle.walkdir.proofs.SoundLemmas.{is_sound_of, sound_of}
 use Rattle.walkdir.proofs.StackLemmas.{own_within, reversed_last, sound_pushed}
 use Rattle.walkdir.proofs.WithinLemmas.{lies_alike, own_lies}
 use Rattle.walkdir.proofs.StepLemmas.{goes_back, goes_failed, goes_in, goes_pushed, peak_without, reopened}
+use Rattle.walkdir.proofs.AnsweredLemmas.{are_since, known_later, leads_then, stack_as, stack_later, stack_push}
 use Rattle.walkdir.proofs.stack.Stack.push.Goals as goal
 
 pub returns-in_err-items-clause-goes : goal.returns-in_err-items-clause-goes
@@ -72,18 +73,18 @@ returns-in-Err-clause-goes g c =
     let within = own_within mid.options mid.start mid.lists.items mid.first_open (sound_of mid.options mid.start mid.lists.items mid.first_open mid.some_open mid.in_range mid.few mid.sound) in
     let old = progress g.S.Sorter.order c.args.self.now (g.D.Disk.streams c.args.disk.now) in
     let there = progress g.S.Sorter.order mid (g.D.Disk.streams c.make_room.new.disk) in
-    let new : Progress = record there { stack = reverse c.push.new.self.items; streams = g.D.Disk.streams c.close.new.disk } in
+    let new : Progress = record there { stack = reverse c.push.new.self.items; streams = g.D.Disk.streams c.unplaced.new.disk } in
     let opens = c.in_ok-items.ensures.streams in
     let dir = stream_in c.in_ok-items.items in
-    let closed : g.D.Disk.streams c.close.new.disk ≡ without_stream dir (g.D.Disk.streams c.contents.new.disk) =
-    c.close.ensures.streams ∙ ap (λ (l : DirList). without_stream (stream_in l.items) (g.D.Disk.streams c.contents.new.disk)) c.in-Err.ensures.value_returned in
-    let peak : (g.D.Disk.streams c.close.new.disk).peak ≡ (g.D.Disk.streams c.contents.new.disk).peak =
+    let closed : g.D.Disk.streams c.unplaced.new.disk ≡ without_stream dir (g.D.Disk.streams c.contents.new.disk) =
+    c.unplaced.ensures.streams ∙ ap (λ (l : DirList). without_stream (stream_in l.items) (g.D.Disk.streams c.contents.new.disk)) c.in-Err.ensures.value_returned in
+    let peak : (g.D.Disk.streams c.unplaced.new.disk).peak ≡ (g.D.Disk.streams c.contents.new.disk).peak =
     ap (λ (s : Streams). s.peak) closed ∙ peak_without dir (g.D.Disk.streams c.contents.new.disk) in
-    goes_back old there new (g.D.Disk.faults c.args.disk.now) (g.D.Disk.faults c.make_room.new.disk) (g.D.Disk.faults c.close.new.disk) _ c.in_ok-make_room.ensures.goes
-    (goes_failed there new 0 (g.D.Disk.faults c.make_room.new.disk) (g.D.Disk.faults c.close.new.disk) (record { options = refl; order = refl; start = refl })
+    goes_back old there new (g.D.Disk.faults c.args.disk.now) (g.D.Disk.faults c.make_room.new.disk) (g.D.Disk.faults c.unplaced.new.disk) _ c.in_ok-make_room.ensures.goes
+    (goes_failed there new 0 (g.D.Disk.faults c.make_room.new.disk) (g.D.Disk.faults c.unplaced.new.disk) (record { options = refl; order = refl; start = refl })
     (ap reverse c.in-Err.ensures.items) (ap (λ (s : Streams). s.open_dirs) closed ∙ reopened (g.D.Disk.streams c.make_room.new.disk) dir (g.D.Disk.streams c.contents.new.disk) opens)
     (subst (λ n. n ≤ max (g.D.Disk.streams c.make_room.new.disk).peak (open_count (g.D.Disk.streams c.make_room.new.disk) + 1)) (sym peak) opens.peak) (omega arith)
-    (subst (λ n. Costs 0 (g.D.Disk.faults c.make_room.new.disk) n) (sym c.close.ensures.faults) (costs_zero (failures_left c.in_ok-items.items) _ _ c.in_ok-items.ensures.cause)))
+    (subst (λ n. Costs 0 (g.D.Disk.faults c.make_room.new.disk) n) (sym c.unplaced.ensures.faults) (costs_zero (failures_left c.in_ok-items.items) _ _ c.in_ok-items.ensures.cause)))
 
 pub returns-in-Ok-clause-pushes : goal.returns-in-Ok-clause-pushes
 returns-in-Ok-clause-pushes g c =
@@ -125,3 +126,46 @@ returns-in-Ok-clause-above g c =
     let list : DirList = record { path = c.args.path; place = c.args.place; items = c.in_ok-items.items; after = c.args.after } in
     ap (λ (l : List DirList). ancestors (reverse l)) c.in-Ok.ensures.items ∙ ap ancestors (reversed_last mid.lists.items list)
     ∙ ap (λ (a : List Ancestor). (record { path = c.args.path; place = c.args.place }) ∷ a) c.in_ok-make_room.ensures.kept.above
+
+pub returns-in_err-make_room-clause-answered : goal.returns-in_err-make_room-clause-answered
+returns-in_err-make_room-clause-answered g c =
+    let room = c.in_err-make_room.ensures.answered in
+    record { leads = room.leads; told = λ first told known. (room.told first told).0 }
+
+pub returns-in_err-items-clause-answered : goal.returns-in_err-items-clause-answered
+returns-in_err-items-clause-answered g c =
+    let room = c.in_ok-make_room.ensures.answered in
+    let more = c.in_err-items.ensures.answered.leads in
+    record {
+      leads = leads_then g.D.Disk.answered c.args.disk.now c.make_room.new.disk c.contents.new.disk room.leads more;
+      told = λ first told known. stack_later g.D.Disk.answered first c.make_room.new.disk c.contents.new.disk (reverse c.make_room.new.self.lists.items) (room.told first told).0 more;
+    }
+
+pub returns-in-Ok-clause-answered : goal.returns-in-Ok-clause-answered
+returns-in-Ok-clause-answered g c =
+    let mid = c.make_room.new.self in
+    let list : DirList = record { path = c.args.path; place = c.args.place; items = c.in_ok-items.items; after = c.args.after } in
+    let room = c.in_ok-make_room.ensures.answered in
+    let more = c.in_ok-items.ensures.answered in
+    let leads = leads_then g.D.Disk.answered c.args.disk.now c.make_room.new.disk c.contents.new.disk room.leads more.leads in
+    record {
+      leads = leads;
+      told = λ first told known.
+          let there = (room.told first told).0 in
+          stack_push g.D.Disk.answered first c.contents.new.disk list (reverse mid.lists.items) (reverse c.push.new.self.items) (ap reverse c.in-Ok.ensures.items ∙ reversed_last mid.lists.items list)
+          (stack_later g.D.Disk.answered first c.make_room.new.disk c.contents.new.disk (reverse mid.lists.items) there more.leads)
+          (are_since g.D.Disk.answered first c.make_room.new.disk c.contents.new.disk (held c.in_ok-items.items) there.leads more.told)
+          (known_later g.D.Disk.answered first c.args.disk.now c.contents.new.disk c.args.path c.args.place leads known);
+    }
+
+pub returns-in-Err-clause-answered : goal.returns-in-Err-clause-answered
+returns-in-Err-clause-answered g c =
+    let mid = c.make_room.new.self in
+    let room = c.in_ok-make_room.ensures.answered in
+    let more = leads_then g.D.Disk.answered c.make_room.new.disk c.contents.new.disk c.unplaced.new.disk c.in_ok-items.ensures.answered.leads c.unplaced.ensures.answered in
+    record {
+      leads = leads_then g.D.Disk.answered c.args.disk.now c.make_room.new.disk c.unplaced.new.disk room.leads more;
+      told = λ first told known.
+          stack_as g.D.Disk.answered first c.unplaced.new.disk (reverse mid.lists.items) (reverse c.push.new.self.items) (ap reverse c.in-Err.ensures.items)
+          (stack_later g.D.Disk.answered first c.make_room.new.disk c.unplaced.new.disk (reverse mid.lists.items) (room.told first told).0 more);
+    }

@@ -1,4 +1,4 @@
-use Rattle.std.proofs.Common.{◌≡◌, false, Ok, Err, ap, reverse, subst, sym, ◌∙◌}
+use Rattle.std.proofs.Common.{true, ◌≡◌, false, Ok, Err, [], ap, length, reverse, subst, sym, ◌∙◌}
 use Rattle.std.specs.Option.{option_map}
 use Rattle.std.specs.Prelude.{IfSome}
 use Rattle.odb_disk.specs.Tree.{tree_of}
@@ -14,7 +14,11 @@ use Rattle.walkdir.proofs.AboveLemmas.{begins_above, begins_above_none}
 use Rattle.walkdir.proofs.EnteredLemmas.{begins_error, begins_handling}
 use Rattle.walkdir.proofs.HandlesLemmas.{err_is, keeps_alike}
 use Rattle.walkdir.proofs.RootLemmas.{FoundDevice, begins_lost, begins_nowhere, begins_root, device_unwanted, device_wanted}
-use Rattle.walkdir.proofs.InnermostLemmas.{after_root_error, lies_nowhere, open_nowhere}
+use Rattle.walkdir.proofs.InnermostLemmas.{after_root_error, lies_nowhere, on_entry, open_nowhere}
+use Rattle.walkdir.proofs.RefusedLemmas.{looked_beside}
+use Rattle.odb_disk.specs.CallsMade.{Leads}
+use Rattle.walkdir.specs.Answered.{IsItemTold, IsRefusedAt}
+use Rattle.walkdir.proofs.AnsweredLemmas.{error_seen, leads_still, leads_then, look_leads, look_refused, stack_as, stack_later}
 use Rattle.walkdir.proofs.stack.Stack.start_at.Goals as goal
 use Rattle.walkdir.proofs.stack.Stack.start_at.Goals.{then-self+in_ok-self, else-self}
 
@@ -230,3 +234,84 @@ returns-in_err-meta-clause-above g c =
     ] in
     begins_above_none (g.D.Disk.state c.args.disk.now) (progress g.S.Sorter.order walk (g.D.Disk.streams c.args.disk.now))
     (progress g.S.Sorter.order c.if-self.self (g.D.Disk.streams c.look-2.new.disk)) c.args.root (handed c.from_residual-in_err-meta.result) (ap reverse (lists ∙ c.requires.stack))
+
+pub returns-in_err-self-clause-answered : goal.returns-in_err-self-clause-answered
+returns-in_err-self-clause-answered g c =
+    let by = c.in_err-self.ensures.answered in
+    let error = c.in_err-self.field-0.0 in
+    let stack = reverse c.args.self.now.lists.items in
+    let empty : stack ≡ [] = ap reverse c.requires.stack in
+    let leads = look_leads g.D.Disk.answered 0 c.args.root true c.args.disk.now c.look.new.disk (Err error) by in
+    record {
+      leads = leads;
+      told = λ first told. (
+        stack_later g.D.Disk.answered first c.args.disk.now c.look.new.disk (reverse c.args.self.now.lists.items) told leads,
+        subst (λ r. IsItemTold g.D.Disk.answered first c.look.new.disk (handed r)) (sym (err_is c.from_residual.result error c.from_residual.ensures.1))
+            (error_seen g.D.Disk.answered first c.look.new.disk error (look_refused g.D.Disk.answered first 0 c.args.root true c.args.disk.now c.look.new.disk error told.leads by)),
+      );
+      refused = λ first told.
+          subst (λ r. IsRefusedAt g.D.Disk.answered first c.look.new.disk (handed r) stack) (sym (err_is c.from_residual.result error c.from_residual.ensures.1))
+          (looked_beside g.D.Disk.answered first c.look.new.disk c.args.root 0 error stack (on_entry c.args.root 0 error c.in_err-self.ensures.call) (sym (ap length empty))
+          (lies_nowhere c.args.root stack empty) (look_refused g.D.Disk.answered first 0 c.args.root true c.args.disk.now c.look.new.disk error told.leads by));
+    }
+
+pub returns-in_err-meta-clause-answered : goal.returns-in_err-meta-clause-answered
+returns-in_err-meta-clause-answered g c =
+    let walk = c.args.self.now in
+    let by = c.in_err-meta.ensures.answered in
+    let error = c.in_err-meta.field-0.0 in
+    let lists : c.if-self.self.lists.items ≡ walk.lists.items = elim c.if-self.branch [
+      | then-self+in_ok-self w ↦ ap (λ (s : Stack g.row.S.Denot). s.lists.items) w.self-is
+      | else-self w ↦ ap (λ (s : Stack g.row.S.Denot). s.lists.items) w.self-is
+    ] in
+    let device : Leads g.D.Disk.answered c.args.disk.now c.if-self.disk = elim c.if-self.branch [
+      | then-self+in_ok-self w ↦ subst (λ d. Leads g.D.Disk.answered c.args.disk.now d) (sym w.disk-is)
+          (look_leads g.D.Disk.answered 0 c.args.root true c.args.disk.now _ (Ok w.in_ok-self.field-0) w.in_ok-self.ensures.answered)
+      | else-self w ↦ subst (λ d. Leads g.D.Disk.answered c.args.disk.now d) (sym w.disk-is) (leads_still g.D.Disk.answered c.args.disk.now)
+    ] in
+    let leads = leads_then g.D.Disk.answered c.args.disk.now c.if-self.disk c.look-2.new.disk device
+    (look_leads g.D.Disk.answered 0 c.args.root false c.if-self.disk c.look-2.new.disk (Err error) by) in
+    let stack = reverse c.if-self.self.lists.items in
+    let empty : stack ≡ [] = ap reverse (lists ∙ c.requires.stack) in
+    record {
+      leads = leads;
+      told = λ first told. (
+        stack_as g.D.Disk.answered first c.look-2.new.disk (reverse walk.lists.items) (reverse c.if-self.self.lists.items) (ap reverse lists)
+            (stack_later g.D.Disk.answered first c.args.disk.now c.look-2.new.disk (reverse walk.lists.items) told leads),
+        subst (λ r. IsItemTold g.D.Disk.answered first c.look-2.new.disk (handed r)) (sym (err_is c.from_residual-in_err-meta.result error c.from_residual-in_err-meta.ensures.1))
+            (error_seen g.D.Disk.answered first c.look-2.new.disk error
+            (look_refused g.D.Disk.answered first 0 c.args.root false c.if-self.disk c.look-2.new.disk error
+            (leads_then g.D.Disk.answered first c.args.disk.now c.if-self.disk told.leads device) by)),
+      );
+      refused = λ first told.
+          subst (λ r. IsRefusedAt g.D.Disk.answered first c.look-2.new.disk (handed r) stack) (sym (err_is c.from_residual-in_err-meta.result error c.from_residual-in_err-meta.ensures.1))
+          (looked_beside g.D.Disk.answered first c.look-2.new.disk c.args.root 0 error stack (on_entry c.args.root 0 error c.in_err-meta.ensures.call) (sym (ap length empty))
+          (lies_nowhere c.args.root stack empty)
+          (look_refused g.D.Disk.answered first 0 c.args.root false c.if-self.disk c.look-2.new.disk error
+          (leads_then g.D.Disk.answered first c.args.disk.now c.if-self.disk told.leads device) by));
+    }
+
+pub returns-clause-answered : goal.returns-clause-answered
+returns-clause-answered g c =
+    let walk = c.args.self.now in
+    let lists : c.if-self.self.lists.items ≡ walk.lists.items = elim c.if-self.branch [
+      | then-self+in_ok-self w ↦ ap (λ (s : Stack g.row.S.Denot). s.lists.items) w.self-is
+      | else-self w ↦ ap (λ (s : Stack g.row.S.Denot). s.lists.items) w.self-is
+    ] in
+    let device : Leads g.D.Disk.answered c.args.disk.now c.if-self.disk = elim c.if-self.branch [
+      | then-self+in_ok-self w ↦ subst (λ d. Leads g.D.Disk.answered c.args.disk.now d) (sym w.disk-is)
+          (look_leads g.D.Disk.answered 0 c.args.root true c.args.disk.now _ (Ok w.in_ok-self.field-0) w.in_ok-self.ensures.answered)
+      | else-self w ↦ subst (λ d. Leads g.D.Disk.answered c.args.disk.now d) (sym w.disk-is) (leads_still g.D.Disk.answered c.args.disk.now)
+    ] in
+    let leads = leads_then g.D.Disk.answered c.args.disk.now c.if-self.disk c.look-2.new.disk device
+    (look_leads g.D.Disk.answered 0 c.args.root false c.if-self.disk c.look-2.new.disk (Ok c.in_ok-meta.meta) c.in_ok-meta.ensures.answered) in
+    let handles = c.handle.ensures.answered in
+    record {
+      leads = leads_then g.D.Disk.answered c.args.disk.now c.look-2.new.disk c.handle.new.disk leads handles.leads;
+      told = λ first told.
+          handles.told first (stack_as g.D.Disk.answered first c.look-2.new.disk (reverse walk.lists.items) (reverse c.if-self.self.lists.items) (ap reverse lists)
+          (stack_later g.D.Disk.answered first c.args.disk.now c.look-2.new.disk (reverse walk.lists.items) told leads));
+      refused = λ first told.
+          handles.refused first (stack_as g.D.Disk.answered first c.look-2.new.disk (reverse walk.lists.items) (reverse c.if-self.self.lists.items) (ap reverse lists)
+          (stack_later g.D.Disk.answered first c.args.disk.now c.look-2.new.disk (reverse walk.lists.items) told leads));
+    }

@@ -16,6 +16,8 @@ use Rattle.walkdir.proofs.InnermostLemmas.{after_head_error, after_left, after_t
 use Rattle.walkdir.proofs.ProgressLemmas.{begun_less, begun_with, ends_less, handled_less, item_turn, left_less, not_innermost, taken_less}
 use Rattle.walkdir.proofs.SoundLemmas.{is_sound_begun, nothing_before}
 use Rattle.walkdir.proofs.TurnsLemmas.{Runs, turn_begins, turn_fails, turn_handles, turn_leaves}
+use Rattle.walkdir.specs.Answered.{TellsOn}
+use Rattle.walkdir.proofs.AnsweredLemmas.{tells_given, tells_still, tells_then, tells_turn}
 use Rattle.walkdir.proofs.stack.Stack.turn.Goals as goal
 
 pub invariant_of-self-clause-sound : goal.invariant_of-self-clause-sound
@@ -301,3 +303,37 @@ returns-in-None-clause-above g c =
     let mid = progress g.S.Sorter.order c.next_child.new.self (g.D.Disk.streams c.next_child.new.disk) in
     let new = progress g.S.Sorter.order c.leave.new.self (g.D.Disk.streams c.leave.new.disk) in
     turn_above_left state old mid new c.leave.ensures.above.0 (item_of c.given.result) c.in-None.ensures.kept.above c.leave.ensures.above.1
+
+pub returns-in_default-checked_sub-clause-answered : goal.returns-in_default-checked_sub-clause-answered
+returns-in_default-checked_sub-clause-answered g c =
+    tells_still g.D.Disk.answered c.args.disk.now (reverse c.args.self.now.lists.items) (reverse c.args.self.now.lists.items) refl
+
+pub returns-in-Some-clause-answered : goal.returns-in-Some-clause-answered
+returns-in-Some-clause-answered g c =
+    let old = reverse c.args.self.now.lists.items in
+    let new = reverse c.start_at.new.self.lists.items in
+    subst (λ t. TellsOn g.D.Disk.answered c.args.disk.now old (item_of t) c.start_at.new.disk new) (sym c.turn_of.ensures)
+    (tells_turn g.D.Disk.answered c.args.disk.now c.start_at.new.disk old new c.start_at.result c.start_at.ensures.answered)
+
+pub returns-in-Some-Err-clause-answered : goal.returns-in-Some-Err-clause-answered
+returns-in-Some-Err-clause-answered g c =
+    subst (λ i. TellsOn g.D.Disk.answered c.args.disk.now (reverse c.args.self.now.lists.items) (Some i) c.next_child.new.disk (reverse c.next_child.new.self.lists.items)) c.in-Some-Err.field-0-is
+    c.in-Some-Err.ensures.answered
+
+pub returns-in-Some-Ok-clause-answered : goal.returns-in-Some-Ok-clause-answered
+returns-in-Some-Ok-clause-answered g c =
+    let old = reverse c.args.self.now.lists.items in
+    let mid = reverse c.next_child.new.self.lists.items in
+    let new = reverse c.handle.new.self.lists.items in
+    subst (λ t. TellsOn g.D.Disk.answered c.args.disk.now old (item_of t) c.handle.new.disk new) (sym c.turn_of-in-Some-Ok.ensures)
+    (tells_turn g.D.Disk.answered c.args.disk.now c.handle.new.disk old new c.handle.result
+    (tells_then g.D.Disk.answered c.args.disk.now c.next_child.new.disk c.handle.new.disk old mid new _ (handed c.handle.result) c.in-Some-Ok.ensures.answered c.handle.ensures.answered))
+
+pub returns-in-None-clause-answered : goal.returns-in-None-clause-answered
+returns-in-None-clause-answered g c =
+    let old = reverse c.args.self.now.lists.items in
+    let mid = reverse c.next_child.new.self.lists.items in
+    let new = reverse c.leave.new.self.lists.items in
+    subst (λ t. TellsOn g.D.Disk.answered c.args.disk.now old (item_of t) c.leave.new.disk new) (sym c.given.ensures)
+    (tells_given g.D.Disk.answered c.args.disk.now c.leave.new.disk old new c.leave.result
+    (tells_then g.D.Disk.answered c.args.disk.now c.next_child.new.disk c.leave.new.disk old mid new None None c.in-None.ensures.answered c.leave.ensures.answered))

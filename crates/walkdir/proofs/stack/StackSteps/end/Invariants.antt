@@ -1,4 +1,5 @@
 use Rattle.std.proofs.Common.{◌≡◌, None, false, length}
+use Rattle.odb_disk.specs.CallsMade.{Leads}
 use Rattle.odb_disk.specs.Streams.{Streams}
 use Rattle.walkdir.specs.Progress.{Keeps}
 use Rattle.walkdir.specs.StackProgress.{progress}
@@ -13,6 +14,7 @@ invariant-loop-self g l = record {
   entered : l.self.entered ≡ false;
   state : g.D.Disk.state l.disk ≡ g.D.Disk.state l.fn.disk;
   faults : g.D.Disk.faults l.disk ≡ g.D.Disk.faults l.fn.disk;
+  leads : Leads g.D.Disk.answered l.fn.disk l.disk;
 }
 
 abbrev pub decreases-loop-self : goal.decreases-loop-self

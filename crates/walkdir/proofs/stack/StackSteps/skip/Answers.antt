@@ -1,9 +1,11 @@
-use Rattle.std.proofs.Common.{false, ap, refl}
+use Rattle.std.proofs.Common.{false, ap, refl, reverse}
 use Rattle.std.specs.Option.{option_map}
 use Rattle.walkdir.specs.Progress.{Progress, Skips}
 use Rattle.walkdir.specs.StackProgress.{progress}
 use Rattle.walkdir.proofs.ProgressLemmas.{still_has_streams}
 use Rattle.walkdir.proofs.SkipLemmas.{skips_none, skips_one}
+use Rattle.walkdir.specs.declared.list.Items.TheVariants.{Skipped}
+use Rattle.walkdir.proofs.AnsweredLemmas.{tells_put, tells_still}
 use Rattle.walkdir.proofs.stack.StackSteps.skip.Goals as goal
 
 pub returns-in-Some-clause-skips : goal.returns-in-Some-clause-skips
@@ -33,3 +35,11 @@ returns-in_default-clause-own g c own =
     let old = progress g.S.Sorter.order c.args.self.now (g.D.Disk.streams c.args.disk.now) in
     let new : Progress = record old { entered = false } in
     still_has_streams old new own (λ before keeps. keeps)
+
+pub returns-in-Some-clause-answered : goal.returns-in-Some-clause-answered
+returns-in-Some-clause-answered g c =
+    tells_put g.D.Disk.answered c.args.disk.now c.close.new.disk c.args.self.now.lists.items c.put.new.self.lists.items c.in-Some.index Skipped c.put.ensures.lists c.close.ensures.answered refl
+
+pub returns-in_default-clause-answered : goal.returns-in_default-clause-answered
+returns-in_default-clause-answered g c =
+    tells_still g.D.Disk.answered c.args.disk.now (reverse c.args.self.now.lists.items) (reverse c.args.self.now.lists.items) refl

@@ -1,4 +1,4 @@
-use Rattle.std.proofs.Common.{false, Some, None, refl, subst, sym, ◌∙◌}
+use Rattle.std.proofs.Common.{Option, reverse, false, Some, None, refl, subst, sym, ◌∙◌}
 use Rattle.std.specs.Prelude.{Ok, Err}
 use Rattle.walkdir.specs.Failures.{failures_given}
 use Rattle.walkdir.specs.Progress.{FailsByFault, GivesDirectory, GivesEntered, GivesNext}
@@ -8,6 +8,9 @@ use Rattle.walkdir.specs.declared.stack.Turn.TheVariants as turns
 use Rattle.walkdir.proofs.EnteredLemmas.{directory_then, gives_error, gives_nothing_entered}
 use Rattle.walkdir.proofs.ProgressLemmas.{still_has_streams}
 use Rattle.walkdir.proofs.TurnsLemmas.{ended_keeps, entered_then, fails_over, fails_same, fails_then, passes_none, passes_on, steps_ended, steps_given, steps_lost}
+use Rattle.walkdir.specs.Answered.{TellsOn}
+use Rattle.walkdir.specs.Walk.{Item}
+use Rattle.walkdir.proofs.AnsweredLemmas.{tells_over, tells_still, tells_then}
 use Rattle.walkdir.proofs.stack.StackSteps.step.Goals as goal
 use Rattle.walkdir.proofs.stack.StackSteps.step.Goals.{then-is_out_of_memory, else-is_out_of_memory}
 
@@ -18,6 +21,7 @@ loop-entry-init g c =
       passes = passes_none (g.D.Disk.state c.args.disk.now) old;
       faults = fails_same old (record old { entered = false }) (g.D.Disk.faults c.args.disk.now) refl;
       state = refl;
+      answered = tells_still g.D.Disk.answered c.args.disk.now (reverse c.args.self.now.lists.items) (reverse c.args.self.now.lists.items) refl;
     }
 
 pub turn-requires : goal.turn-requires
@@ -37,6 +41,8 @@ loop-entry-preserved g c =
           (subst (λ s. GivesEntered s mid None new) so_far.state c.in-Passed.ensures.above);
       faults = fails_then old mid new (g.D.Disk.faults c.args.disk.now) (g.D.Disk.faults c.loop-entry.disk) (g.D.Disk.faults c.turn.new.disk) 0 so_far.faults c.in-Passed.ensures.faults;
       state = c.in-Passed.ensures.state ∙ so_far.state;
+      answered = tells_then g.D.Disk.answered c.args.disk.now c.loop-entry.disk c.turn.new.disk (reverse c.args.self.now.lists.items) (reverse c.loop-entry.self.lists.items)
+          (reverse c.turn.new.self.lists.items) None None so_far.answered c.in-Passed.ensures.answered;
     }
 
 pub loop-entry-smaller : goal.loop-entry-smaller
@@ -159,4 +165,34 @@ returns-in-Item-Err-clause-faults g c =
           rw (w.self-is, w.disk-is)
           (subst (FailsByFault old was given new) (sym w.end.ensures.faults) (fails_over old there new was now given fails (w.end.ensures.over streams).0))
       | else-is_out_of_memory w ↦ rw (w.self-is, w.disk-is) fails
+    ]
+
+pub returns-in-Ended-clause-answered : goal.returns-in-Ended-clause-answered
+returns-in-Ended-clause-answered g c =
+    tells_then g.D.Disk.answered c.args.disk.now c.loop-entry.disk c.turn.new.disk (reverse c.args.self.now.lists.items) (reverse c.loop-entry.self.lists.items) (reverse c.turn.new.self.lists.items)
+    None None c.loop-entry.invariant.answered c.in-Ended.ensures.answered
+
+pub returns-in-Item-Ok-clause-answered : goal.returns-in-Item-Ok-clause-answered
+returns-in-Item-Ok-clause-answered g c =
+    let mid = reverse c.loop-entry.self.lists.items in
+    let new = reverse c.turn.new.self.lists.items in
+    tells_then g.D.Disk.answered c.args.disk.now c.loop-entry.disk c.turn.new.disk (reverse c.args.self.now.lists.items) mid new
+    None (Some (Ok c.in-Item-Ok.entry)) c.loop-entry.invariant.answered
+    (subst (λ i. TellsOn g.D.Disk.answered c.loop-entry.disk mid (Some i) c.turn.new.disk new) c.in-Item-Ok.field-0-is c.in-Item-Ok.ensures.answered)
+
+pub returns-in-Item-Err-clause-answered : goal.returns-in-Item-Err-clause-answered
+returns-in-Item-Err-clause-answered g c =
+    let old = reverse c.args.self.now.lists.items in
+    let mid = reverse c.loop-entry.self.lists.items in
+    let there = reverse c.turn.new.self.lists.items in
+    let item : Option Item = Some (Err c.in-Item-Err.error) in
+    let tells = tells_then g.D.Disk.answered c.args.disk.now c.loop-entry.disk c.turn.new.disk old mid there None item c.loop-entry.invariant.answered
+    (subst (λ i. TellsOn g.D.Disk.answered c.loop-entry.disk mid (Some i) c.turn.new.disk there) c.in-Item-Err.field-0-is c.in-Item-Err.ensures.answered) in
+    elim c.if-is_out_of_memory.branch [
+      | then-is_out_of_memory w ↦
+          rw (w.self-is, w.disk-is)
+          (tells_over g.D.Disk.answered c.args.disk.now c.turn.new.disk w.end.new.disk old there (reverse w.end.new.self.lists.items) c.in-Item-Err.error
+          (sym c.is_out_of_memory.ensures ∙ w.if-is_out_of_memory.true) tells w.end.ensures.answered
+          (w.end.ensures.over (g.D.Disk.streams w.end.new.disk)).0)
+      | else-is_out_of_memory w ↦ rw (w.self-is, w.disk-is) tells
     ]
