@@ -14,7 +14,8 @@ mod status;
 mod words;
 
 use crate::status::Status;
-use odb_disk::{HostDisk, StdSink};
+use odb_disk::StdSink;
+use odb_host::HostDisk;
 use std::alloc::Global;
 use std::process::ExitCode;
 use std::rt::Env;
