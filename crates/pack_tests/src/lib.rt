@@ -9,6 +9,10 @@ mod encoders;
 #[cfg(test)]
 mod finds;
 #[cfg(test)]
+mod git_multi_indices;
+#[cfg(test)]
+mod git_packs;
+#[cfg(test)]
 mod indices;
 #[cfg(test)]
 mod multi_indices;
