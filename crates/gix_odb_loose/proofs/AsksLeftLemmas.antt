@@ -81,6 +81,9 @@ module _ (job : WriteJob) where
   made_left : (number : ℕ) (given : DiskAnswer) → onward_left n (made_by number given) < 6 + pieces_of n + (16 - number)
   made_left number answers.Done = omega arith
   made_left number (answers.Meta meta) = omega arith
+  made_left number (answers.Dir dir) = omega arith
+  made_left number (answers.Entry entry) = omega arith
+  made_left number answers.End = omega arith
   made_left number (answers.File bytes time) = omega arith
   made_left number (answers.Refused disk_errors.Exists) = tries number (nat_lt (number + 1) 16) refl
   made_left number (answers.Refused disk_errors.Absent) = omega arith
@@ -93,12 +96,18 @@ module _ (job : WriteJob) where
   headed_left : (number : ℕ) (given : DiskAnswer) → onward_left n (headed_by number given) < 5 + pieces_of n
   headed_left number answers.Done = rw nothing_off (omega arith)
   headed_left number (answers.Meta meta) = omega arith
+  headed_left number (answers.Dir dir) = omega arith
+  headed_left number (answers.Entry entry) = omega arith
+  headed_left number answers.End = omega arith
   headed_left number (answers.File bytes time) = omega arith
   headed_left number (answers.Refused error) = omega arith
 
   foldered_left : (number : ℕ) (id : ObjectId) (given : DiskAnswer) → onward_left n (foldered_by number id given) < 3
   foldered_left number id answers.Done = omega arith
   foldered_left number id (answers.Meta meta) = omega arith
+  foldered_left number id (answers.Dir dir) = omega arith
+  foldered_left number id (answers.Entry entry) = omega arith
+  foldered_left number id answers.End = omega arith
   foldered_left number id (answers.File bytes time) = omega arith
   foldered_left number id (answers.Refused disk_errors.Exists) = omega arith
   foldered_left number id (answers.Refused disk_errors.Absent) = omega arith
@@ -111,6 +120,9 @@ module _ (job : WriteJob) where
   moved_left : (number : ℕ) (id : ObjectId) (given : DiskAnswer) → onward_left n (moved_by number id given) < 2
   moved_left number id answers.Done = omega arith
   moved_left number id (answers.Meta meta) = omega arith
+  moved_left number id (answers.Dir dir) = omega arith
+  moved_left number id (answers.Entry entry) = omega arith
+  moved_left number id answers.End = omega arith
   moved_left number id (answers.File bytes time) = omega arith
   moved_left number id (answers.Refused error) = omega arith
 
@@ -147,6 +159,9 @@ module _ (job : WriteJob) where
   filled_left : (number written : ℕ) (given : DiskAnswer) → onward_left n (supplied job (filled_by number written job.head.size (piece written) given)) < 4 + pieces_of (n - written)
   filled_left number written answers.Done = fits_left number written (nat_le (written + piece written) job.head.size) refl
   filled_left number written (answers.Meta meta) = omega arith
+  filled_left number written (answers.Dir dir) = omega arith
+  filled_left number written (answers.Entry entry) = omega arith
+  filled_left number written answers.End = omega arith
   filled_left number written (answers.File bytes time) = omega arith
   filled_left number written (answers.Refused error) = omega arith
 

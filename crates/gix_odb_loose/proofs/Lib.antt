@@ -2,6 +2,7 @@ mod LooseExamples
 mod DrawLemmas
 mod RoomLemmas
 pub mod AskLaws
+pub mod StillAskLaws
 mod StreamAskLemmas
 mod StreamLemmas
 mod TurnsLeftLemmas

@@ -126,6 +126,9 @@ holds_there path folder bytes left (answers.Refused disk_errors.NotEmpty) there 
 holds_there path folder bytes left (answers.Refused disk_errors.Failed) there h given = absurd there
 holds_there path folder bytes left (answers.Refused disk_errors.NoMemory) there h given = absurd there
 holds_there path folder bytes left (answers.Meta meta) there h given = absurd there
+holds_there path folder bytes left (answers.Dir dir) there h given = absurd there
+holds_there path folder bytes left (answers.Entry entry) there h given = absurd there
+holds_there path folder bytes left answers.End there h given = absurd there
 holds_there path folder bytes left (answers.File found time) there h given = absurd there
 
 -- ---- the exchanges of a write

@@ -89,6 +89,9 @@ module _ (w : Begun) (rest : Option (List ℕ)) (job fed : StreamJob) (removal :
       kept_made : (answer : DiskAnswer) → Kept appended all (made_by number answer)
       kept_made answers.Done = ((unread, ended ∙ open', still), stays)
       kept_made (answers.Meta meta) = tt
+      kept_made (answers.Dir dir) = tt
+      kept_made (answers.Entry entry) = tt
+      kept_made answers.End = tt
       kept_made (answers.File bytes time) = tt
       kept_made (answers.Refused disk_errors.Exists) = kept_name (nat_lt (number + 1) 16)
       kept_made (answers.Refused disk_errors.Absent) = tt
@@ -105,6 +108,9 @@ module _ (w : Begun) (rest : Option (List ℕ)) (job fed : StreamJob) (removal :
       kept_headed : (answer : DiskAnswer) → Kept appended all (headed_by number answer)
       kept_headed answers.Done = ((begins, λ e. (0, omega arith)), stays)
       kept_headed (answers.Meta meta) = (tt, stays)
+      kept_headed (answers.Dir dir) = (tt, stays)
+      kept_headed (answers.Entry entry) = (tt, stays)
+      kept_headed answers.End = (tt, stays)
       kept_headed (answers.File found time) = (tt, stays)
       kept_headed (answers.Refused error) = (tt, stays)
 
@@ -138,6 +144,9 @@ module _ (w : Begun) (rest : Option (List ℕ)) (job fed : StreamJob) (removal :
       kept_filled : (answer : DiskAnswer) → Kept (data_after (stages.Filling number written) piece answer appended) all (filled_by number written w.head.size (length piece) answer)
       kept_filled answers.Done = kept_fits (nat_le (written + length piece) w.head.size) refl
       kept_filled (answers.Meta meta) = (tt, stays)
+      kept_filled (answers.Dir dir) = (tt, stays)
+      kept_filled (answers.Entry entry) = (tt, stays)
+      kept_filled answers.End = (tt, stays)
       kept_filled (answers.File found time) = (tt, stays)
       kept_filled (answers.Refused error) = (tt, stays)
 
@@ -145,6 +154,9 @@ module _ (w : Begun) (rest : Option (List ℕ)) (job fed : StreamJob) (removal :
       kept_foldered : (answer : DiskAnswer) → Kept appended all (foldered_by number id answer)
       kept_foldered answers.Done = (named, stays)
       kept_foldered (answers.Meta meta) = (tt, stays)
+      kept_foldered (answers.Dir dir) = (tt, stays)
+      kept_foldered (answers.Entry entry) = (tt, stays)
+      kept_foldered answers.End = (tt, stays)
       kept_foldered (answers.File found time) = (tt, stays)
       kept_foldered (answers.Refused disk_errors.Exists) = (named, stays)
       kept_foldered (answers.Refused disk_errors.Absent) = (tt, stays)
@@ -157,6 +169,9 @@ module _ (w : Begun) (rest : Option (List ℕ)) (job fed : StreamJob) (removal :
       kept_moved : (answer : DiskAnswer) → Kept appended all (moved_by number id answer)
       kept_moved answers.Done = named
       kept_moved (answers.Meta meta) = (tt, stays)
+      kept_moved (answers.Dir dir) = (tt, stays)
+      kept_moved (answers.Entry entry) = (tt, stays)
+      kept_moved answers.End = (tt, stays)
       kept_moved (answers.File found time) = (tt, stays)
       kept_moved (answers.Refused error) = (tt, stays)
 

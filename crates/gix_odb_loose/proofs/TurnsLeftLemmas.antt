@@ -27,6 +27,9 @@ module _ (size : ℕ) where
   made_left : (number : ℕ) (answer : DiskAnswer) → onward_left size (made_by number answer) < 6 + size + (16 - number)
   made_left number answers.Done = omega arith
   made_left number (answers.Meta meta) = omega arith
+  made_left number (answers.Dir dir) = omega arith
+  made_left number (answers.Entry entry) = omega arith
+  made_left number answers.End = omega arith
   made_left number (answers.File bytes time) = omega arith
   made_left number (answers.Refused disk_errors.Exists) = tries_left number (nat_lt (number + 1) 16) refl
   made_left number (answers.Refused disk_errors.Absent) = omega arith
@@ -39,6 +42,9 @@ module _ (size : ℕ) where
   headed_left : (number : ℕ) (answer : DiskAnswer) → onward_left size (headed_by number answer) < 5 + size
   headed_left number answers.Done = omega arith
   headed_left number (answers.Meta meta) = omega arith
+  headed_left number (answers.Dir dir) = omega arith
+  headed_left number (answers.Entry entry) = omega arith
+  headed_left number answers.End = omega arith
   headed_left number (answers.File bytes time) = omega arith
   headed_left number (answers.Refused error) = omega arith
 
@@ -50,12 +56,18 @@ module _ (size : ℕ) where
   filled_left : (number written len : ℕ) (answer : DiskAnswer) → 1 ≤ len → onward_left size (filled_by number written size len answer) < 4 + (size - written)
   filled_left number written len answers.Done some = fits_left number written len (nat_le (written + len) size) refl some
   filled_left number written len (answers.Meta meta) some = omega arith
+  filled_left number written len (answers.Dir dir) some = omega arith
+  filled_left number written len (answers.Entry entry) some = omega arith
+  filled_left number written len answers.End some = omega arith
   filled_left number written len (answers.File bytes time) some = omega arith
   filled_left number written len (answers.Refused error) some = omega arith
 
   foldered_left : (number : ℕ) (id : ObjectId) (answer : DiskAnswer) → onward_left size (foldered_by number id answer) < 3
   foldered_left number id answers.Done = omega arith
   foldered_left number id (answers.Meta meta) = omega arith
+  foldered_left number id (answers.Dir dir) = omega arith
+  foldered_left number id (answers.Entry entry) = omega arith
+  foldered_left number id answers.End = omega arith
   foldered_left number id (answers.File bytes time) = omega arith
   foldered_left number id (answers.Refused disk_errors.Exists) = omega arith
   foldered_left number id (answers.Refused disk_errors.Absent) = omega arith
@@ -68,6 +80,9 @@ module _ (size : ℕ) where
   moved_left : (number : ℕ) (id : ObjectId) (answer : DiskAnswer) → onward_left size (moved_by number id answer) < 2
   moved_left number id answers.Done = omega arith
   moved_left number id (answers.Meta meta) = omega arith
+  moved_left number id (answers.Dir dir) = omega arith
+  moved_left number id (answers.Entry entry) = omega arith
+  moved_left number id answers.End = omega arith
   moved_left number id (answers.File bytes time) = omega arith
   moved_left number id (answers.Refused error) = omega arith
 

@@ -83,6 +83,9 @@ module _ (head : WriteHead) (number : ℕ) where
       by_answer (answers.Refused disk_errors.Failed) there is = absurd there
       by_answer (answers.Refused disk_errors.NoMemory) there is = absurd there
       by_answer (answers.Meta meta) there is = absurd there
+      by_answer (answers.Dir dir) there is = absurd there
+      by_answer (answers.Entry entry) there is = absurd there
+      by_answer answers.End there is = absurd there
       by_answer (answers.File bytes time) there is = absurd there
 
 module _ (head : WriteHead) (Named : ObjectId → Type 0) (SourceFailed : Type 0) (Counted : ℕ → Type 0) where

@@ -94,6 +94,9 @@ module _ (head : WriteHead) (Named : ObjectId → Type 0) (SourceFailed : Type 0
       refused_any : IsRefusedByExists ask → (answer : DiskAnswer) → (answer ≡ answers.Done → ⊥) → Ends (refused_by refusal answer) (after answer)
       refused_any exists answers.Done undone = absurd (undone refl)
       refused_any exists (answers.Meta meta) undone = refused_as (answers.Meta meta) tt refl
+      refused_any exists (answers.Dir dir) undone = refused_as (answers.Dir dir) tt refl
+      refused_any exists (answers.Entry entry) undone = refused_as (answers.Entry entry) tt refl
+      refused_any exists answers.End undone = refused_as answers.End tt refl
       refused_any exists (answers.File bytes time) undone = refused_as (answers.File bytes time) tt refl
       refused_any exists (answers.Refused disk_errors.Exists) undone = refused_as (answers.Refused disk_errors.Exists) exists refl
       refused_any exists (answers.Refused disk_errors.Absent) undone = refused_as (answers.Refused disk_errors.Absent) tt refl
@@ -137,6 +140,9 @@ module _ (head : WriteHead) (Named : ObjectId → Type 0) (SourceFailed : Type 0
       made_next : (answer : DiskAnswer) → Onwards [] (made_by number answer) (tries answer)
       made_next answers.Done = (refl, ap (λ (xs : List Exchange). xs ++ exchanged (asks.NewFile temporary) answers.Done ∷ []) is, below)
       made_next (answers.Meta meta) = unmade (answers.Meta meta) tt refl
+      made_next (answers.Dir dir) = unmade (answers.Dir dir) tt refl
+      made_next (answers.Entry entry) = unmade (answers.Entry entry) tt refl
+      made_next answers.End = unmade answers.End tt refl
       made_next (answers.File bytes time) = unmade (answers.File bytes time) tt refl
       made_next (answers.Refused disk_errors.Exists) = next_name (nat_lt (number + 1) 16) refl
       made_next (answers.Refused disk_errors.Absent) = unmade (answers.Refused disk_errors.Absent) tt refl
@@ -168,6 +174,9 @@ module _ (head : WriteHead) (Named : ObjectId → Type 0) (SourceFailed : Type 0
         },
       )
       headed_next (answers.Meta meta) = unheaded (answers.Meta meta) (λ e. cc e)
+      headed_next (answers.Dir dir) = unheaded (answers.Dir dir) (λ e. cc e)
+      headed_next (answers.Entry entry) = unheaded (answers.Entry entry) (λ e. cc e)
+      headed_next answers.End = unheaded answers.End (λ e. cc e)
       headed_next (answers.File bytes time) = unheaded (answers.File bytes time) (λ e. cc e)
       headed_next (answers.Refused error) = unheaded (answers.Refused error) (λ e. cc e)
 
@@ -206,6 +215,9 @@ module _ (head : WriteHead) (Named : ObjectId → Type 0) (SourceFailed : Type 0
       filled_next : (answer : DiskAnswer) → Onwards (data_after (stages.Filling number written) piece answer appended) (filled_by number written head.size (length piece) answer) (past ++ exchanged append answer ∷ [])
       filled_next answers.Done = fits_next (nat_le (written + length piece) head.size) refl
       filled_next (answers.Meta meta) = unfilled (answers.Meta meta) (λ e. cc e)
+      filled_next (answers.Dir dir) = unfilled (answers.Dir dir) (λ e. cc e)
+      filled_next (answers.Entry entry) = unfilled (answers.Entry entry) (λ e. cc e)
+      filled_next answers.End = unfilled answers.End (λ e. cc e)
       filled_next (answers.File bytes time) = unfilled (answers.File bytes time) (λ e. cc e)
       filled_next (answers.Refused error) = unfilled (answers.Refused error) (λ e. cc e)
 
@@ -225,6 +237,9 @@ module _ (head : WriteHead) (Named : ObjectId → Type 0) (SourceFailed : Type 0
         foldered_next : (answer : DiskAnswer) → Onwards appended (foldered_by number id answer) (past ++ exchanged folder answer ∷ [])
         foldered_next answers.Done = (whole, named, there answers.Done tt)
         foldered_next (answers.Meta meta) = unfoldered (answers.Meta meta) tt refl
+        foldered_next (answers.Dir dir) = unfoldered (answers.Dir dir) tt refl
+        foldered_next (answers.Entry entry) = unfoldered (answers.Entry entry) tt refl
+        foldered_next answers.End = unfoldered answers.End tt refl
         foldered_next (answers.File bytes time) = unfoldered (answers.File bytes time) tt refl
         foldered_next (answers.Refused disk_errors.Exists) = (whole, named, there (answers.Refused disk_errors.Exists) tt)
         foldered_next (answers.Refused disk_errors.Absent) = unfoldered (answers.Refused disk_errors.Absent) tt refl
@@ -247,6 +262,9 @@ module _ (head : WriteHead) (Named : ObjectId → Type 0) (SourceFailed : Type 0
         moved_next : (answer : DiskAnswer) → Onwards appended (moved_by number id answer) (past ++ exchanged rename answer ∷ [])
         moved_next answers.Done = (whole, named, (number, record { before = past; foldered = is; is = refl }))
         moved_next (answers.Meta meta) = unmoved (answers.Meta meta) (λ e. cc e)
+        moved_next (answers.Dir dir) = unmoved (answers.Dir dir) (λ e. cc e)
+        moved_next (answers.Entry entry) = unmoved (answers.Entry entry) (λ e. cc e)
+        moved_next answers.End = unmoved answers.End (λ e. cc e)
         moved_next (answers.File bytes time) = unmoved (answers.File bytes time) (λ e. cc e)
         moved_next (answers.Refused error) = unmoved (answers.Refused error) (λ e. cc e)
 

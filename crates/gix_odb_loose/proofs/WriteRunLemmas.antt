@@ -63,7 +63,13 @@ told (Err refusal) error e = inr (refusal, refl, e)
 by_tree : (ask : DiskAsk) (made : Result Change writing.Refusal) (answer : DiskAnswer) → AnswersAsk answer (write_answer made) → IsRefused ask answer → ByTree made answer
 by_tree ask made answers.Done a r = absurd r
 by_tree ask (Ok change) (answers.Meta meta) a r = absurd (cc a)
+by_tree ask (Ok change) (answers.Dir dir) a r = absurd (cc a)
+by_tree ask (Ok change) (answers.Entry entry) a r = absurd (cc a)
+by_tree ask (Ok change) answers.End a r = absurd (cc a)
 by_tree ask (Err refusal) (answers.Meta meta) a r = absurd (cc a)
+by_tree ask (Err refusal) (answers.Dir dir) a r = absurd (cc a)
+by_tree ask (Err refusal) (answers.Entry entry) a r = absurd (cc a)
+by_tree ask (Err refusal) answers.End a r = absurd (cc a)
 by_tree ask (Ok change) (answers.File bytes time) a r = absurd (cc a)
 by_tree ask (Err refusal) (answers.File bytes time) a r = absurd (cc a)
 by_tree ask made (answers.Refused disk_errors.Failed) a r = inl refl
@@ -99,6 +105,9 @@ making_refused tree (asks.Rename from to) making answer a r =
     (by_tree (asks.Rename from to) (change_of_rename tree from to) answer a r)
 making_refused tree (asks.Look path follow) making answer a r = absurd making
 making_refused tree (asks.Read path) making answer a r = absurd making
+making_refused tree (asks.OpenDir path) making answer a r = absurd making
+making_refused tree (asks.NextEntry dir) making answer a r = absurd making
+making_refused tree (asks.CloseDir dir) making answer a r = absurd making
 making_refused tree (asks.Remove path) making answer a r = absurd making
 
 -- ---- of a list of exchanges

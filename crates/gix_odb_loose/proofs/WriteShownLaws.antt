@@ -30,6 +30,9 @@ use Rattle.gix_odb_loose.specs.declared.write_call.WriteStage.TheVariants as sta
 undone : (ask : DiskAsk) (answer : DiskAnswer) → IsRefused ask answer → is_done answer ≡ false
 undone ask answers.Done h = absurd h
 undone ask (answers.Meta meta) h = refl
+undone ask (answers.Dir dir) h = refl
+undone ask (answers.Entry entry) h = refl
+undone ask answers.End h = refl
 undone ask (answers.File bytes time) h = refl
 undone ask (answers.Refused error) h = refl
 
@@ -132,6 +135,9 @@ module _ (head : WriteHead) (Named : ObjectId → Type 0) where
   not_made : (path : Option Path) (to : Path) (answer : DiskAnswer) → is_done answer ≡ false → Made path (exchanged (asks.NewFile to) answer)
   not_made path to answers.Done isnt_done = absurd (cc isnt_done)
   not_made path to (answers.Meta meta) isnt_done = inl refl
+  not_made path to (answers.Dir dir) isnt_done = inl refl
+  not_made path to (answers.Entry entry) isnt_done = inl refl
+  not_made path to answers.End isnt_done = inl refl
   not_made path to (answers.File bytes time) isnt_done = inl refl
   not_made path to (answers.Refused error) isnt_done = inl refl
 
@@ -259,6 +265,9 @@ undone_left state (x ∷ xs) all =
     same None ask answer isnt_done = refl
     same (Some s) ask answers.Done isnt_done = absurd (cc isnt_done)
     same (Some s) ask (answers.Meta meta) isnt_done = refl
+    same (Some s) ask (answers.Dir dir) isnt_done = refl
+    same (Some s) ask (answers.Entry entry) isnt_done = refl
+    same (Some s) ask answers.End isnt_done = refl
     same (Some s) ask (answers.File bytes time) isnt_done = refl
     same (Some s) ask (answers.Refused error) isnt_done = refl
 

@@ -35,6 +35,9 @@ IsOwn head Named number (asks.Rename from to) = (from ≡ temp_path head.objects
 IsOwn head Named number (asks.Remove path) = path ≡ temp_path head.objects number
 IsOwn head Named number (asks.Look path follow) = ⊥
 IsOwn head Named number (asks.Read path) = ⊥
+IsOwn head Named number (asks.OpenDir path) = ⊥
+IsOwn head Named number (asks.NextEntry dir) = ⊥
+IsOwn head Named number (asks.CloseDir dir) = ⊥
 
 -- each call that was made is one of the write's own
 pub record AreOwn (head : WriteHead) (Named : ObjectId → Type 0) (past : List Exchange) : Type 0 where

@@ -171,7 +171,10 @@ impl LooseCall {
     {
         match self.stage {
             Stage::Done(reply) => Some(reply),
-            _ => None,
+            other => {
+                drop(other);
+                None
+            }
         }
     }
 }
@@ -182,60 +185,57 @@ impl LooseReply {
         ensures { IfOk result (λ copy. copy ≡ self.now) }
     {
         match self {
-            LooseReply::Contains(answer) => Ok(LooseReply::Contains(presence_copy(alloc, answer)?)),
-            LooseReply::Found(answer) => Ok(LooseReply::Found(object_copy(alloc, answer)?)),
-            LooseReply::Header(answer) => Ok(LooseReply::Header(header_copy(alloc, answer)?)),
-            LooseReply::Wrote(answer) => Ok(LooseReply::Wrote(id_copy(alloc, answer)?)),
+            LooseReply::Contains(answer) => presence_copy(alloc, answer),
+            LooseReply::Found(answer) => object_copy(alloc, answer),
+            LooseReply::Header(answer) => header_copy(alloc, answer),
+            LooseReply::Wrote(answer) => id_copy(alloc, answer),
         }
     }
 }
 
-fn presence_copy(
-    alloc: Global,
-    answer: &Result<bool, find::Error>,
-) -> Result<Result<bool, find::Error>, NoMemory>
-    ensures { IfOk result (λ copy. copy ≡ answer.now) }
+fn presence_copy(alloc: Global, answer: &Result<bool, find::Error>) -> Result<LooseReply, NoMemory>
+    ensures { IfOk result (λ copy. copy ≡ LooseReply.Contains answer.now) }
 {
     match answer {
-        Ok(there) => Ok(Ok(*there)),
-        Err(error) => Ok(Err(error.try_clone(alloc)?)),
+        Ok(there) => Ok(LooseReply::Contains(Ok(*there))),
+        Err(error) => Ok(LooseReply::Contains(Err(error.try_clone(alloc)?))),
     }
 }
 
 fn object_copy(
     alloc: Global,
     answer: &Result<Option<(Kind, ByteList)>, find::Error>,
-) -> Result<Result<Option<(Kind, ByteList)>, find::Error>, NoMemory>
-    ensures { IfOk result (λ copy. copy ≡ answer.now) }
+) -> Result<LooseReply, NoMemory>
+    ensures { IfOk result (λ copy. copy ≡ LooseReply.Found answer.now) }
 {
     match answer {
-        Ok(None) => Ok(Ok(None)),
-        Ok(Some((kind, bytes))) => Ok(Ok(Some((*kind, bytes.try_clone(alloc)?)))),
-        Err(error) => Ok(Err(error.try_clone(alloc)?)),
+        Ok(None) => Ok(LooseReply::Found(Ok(None))),
+        Ok(Some((kind, bytes))) => Ok(LooseReply::Found(Ok(Some((
+            *kind,
+            bytes.try_clone(alloc)?,
+        ))))),
+        Err(error) => Ok(LooseReply::Found(Err(error.try_clone(alloc)?))),
     }
 }
 
 fn header_copy(
     alloc: Global,
     answer: &Result<Option<(u64, Kind)>, find::Error>,
-) -> Result<Result<Option<(u64, Kind)>, find::Error>, NoMemory>
-    ensures { IfOk result (λ copy. copy ≡ answer.now) }
+) -> Result<LooseReply, NoMemory>
+    ensures { IfOk result (λ copy. copy ≡ LooseReply.Header answer.now) }
 {
     match answer {
-        Ok(found) => Ok(Ok(*found)),
-        Err(error) => Ok(Err(error.try_clone(alloc)?)),
+        Ok(found) => Ok(LooseReply::Header(Ok(*found))),
+        Err(error) => Ok(LooseReply::Header(Err(error.try_clone(alloc)?))),
     }
 }
 
-fn id_copy(
-    alloc: Global,
-    answer: &Result<ObjectId, write::Error>,
-) -> Result<Result<ObjectId, write::Error>, NoMemory>
-    ensures { IfOk result (λ copy. copy ≡ answer.now) }
+fn id_copy(alloc: Global, answer: &Result<ObjectId, write::Error>) -> Result<LooseReply, NoMemory>
+    ensures { IfOk result (λ copy. copy ≡ LooseReply.Wrote answer.now) }
 {
     match answer {
-        Ok(id) => Ok(Ok(*id)),
-        Err(error) => Ok(Err(error.try_clone(alloc)?)),
+        Ok(id) => Ok(LooseReply::Wrote(Ok(*id))),
+        Err(error) => Ok(LooseReply::Wrote(Err(error.try_clone(alloc)?))),
     }
 }
 
@@ -257,7 +257,7 @@ impl Stage {
     {
         let meanwhile = Stage::Done(LooseReply::Contains(Ok(false)));
         let stage = mem::replace(self, meanwhile);
-        *self = led_on(stage, answer, led);
+        drop(mem::replace(self, led_on(stage, answer, led)));
     }
 }
 
@@ -278,12 +278,23 @@ fn find_led_on(stage: Stage, answer: DiskAnswer) -> Stage
     ensures { result ≡ next_stage stage answer }
 {
     match stage {
-        Stage::Testing { path } => Stage::Done(LooseReply::Contains(reply::tested(path, &answer))),
+        Stage::Testing { path } => {
+            let there = reply::tested(path, &answer);
+            drop(answer);
+            Stage::Done(LooseReply::Contains(there))
+        }
         Stage::Finding { path, limit } => {
             Stage::Done(LooseReply::Found(reply::found(path, limit, answer)))
         }
-        Stage::Heading { path } => Stage::Done(LooseReply::Header(reply::headed(path, &answer))),
-        other => other,
+        Stage::Heading { path } => {
+            let header = reply::headed(path, &answer);
+            drop(answer);
+            Stage::Done(LooseReply::Header(header))
+        }
+        other => {
+            drop(answer);
+            other
+        }
     }
 }
 

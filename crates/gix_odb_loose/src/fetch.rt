@@ -10,7 +10,7 @@ use std::alloc::Global;
 const CHUNK: usize = 8_192;
 
 /// What a source gave.
-#[derive(Debug, Drop, PartialEq, Eq)]
+#[derive(Drop)]
 pub enum Fetched {
     Piece(ByteList),
     Failed,

@@ -4,8 +4,7 @@ ghost use Rattle.gix_odb_loose.specs.declared.find.Error.TheVariants.{NoMemory a
 
 use odb_base::{NoMemory, PathText};
 use std::alloc::Global;
-use std::fmt;
-use thiserror::Error;
+use std::{error, fmt};
 
 /// What was to be done with a file.
 #[derive(Clone, Copy, Debug, PartialEq, Eq, Hash)]
@@ -25,33 +24,60 @@ impl fmt::Display for Action {
 }
 
 /// Why a find, a look for a header or a test of presence was refused.
-#[derive(Debug, Drop, PartialEq, Eq, Error)]
+#[derive(Debug, Drop, PartialEq, Eq)]
 pub enum Error {
     /// The data are longer or shorter than the header says. Lengths in bytes.
-    #[error("{path} has {actual} bytes of data, and {expected} by its header")]
     SizeMismatch {
         actual: u64,
         expected: u64,
         path: PathText,
     },
     /// The file begins with no header.
-    #[error("the loose object has no header")]
     Decode,
     /// The header says more bytes of data than the limit of the store allows.
-    #[error("an object of {size} bytes is above the limit")]
     OutOfMemory {
         size: u64,
     },
     /// A call of the disk failed; or, in a find or a look for a header, the path or a part of its way is of the
     /// wrong kind or a link loop, or the file is empty.
-    #[error("could not {action} {path}")]
     Io {
         action: Action,
         path: PathText,
     },
-    #[error("out of memory")]
     NoMemory,
 }
+
+impl fmt::Display for Error {
+    fn fmt<W: fmt::Write>(&self, f: &mut fmt::Formatter<W>) -> fmt::Result {
+        match self {
+            Error::SizeMismatch {
+                actual,
+                expected,
+                path,
+            } => write_lengths(f, *actual, *expected, path),
+            Error::Decode => write!(f, "the loose object has no header"),
+            Error::OutOfMemory { size } => {
+                write!(f, "an object of {size} bytes is above the limit")
+            }
+            Error::Io { action, path } => write!(f, "could not {action} {path}"),
+            Error::NoMemory => write!(f, "out of memory"),
+        }
+    }
+}
+
+fn write_lengths<W: fmt::Write>(
+    f: &mut fmt::Formatter<W>,
+    actual: u64,
+    expected: u64,
+    path: &PathText,
+) -> fmt::Result {
+    write!(
+        f,
+        "{path} has {actual} bytes of data, and {expected} by its header"
+    )
+}
+
+impl error::Error for Error {}
 
 impl From<NoMemory> for Error {
     ghost from_gives = { λ _ e. e ≡ out_of_memory };

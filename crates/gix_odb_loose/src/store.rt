@@ -6,7 +6,7 @@ ghost use Rattle.gix_object.specs.Data.{found_of};
 ghost use Rattle.gix_odb_loose.specs.Store.{store_path, store_hash, store_limit};
 ghost use Rattle.gix_odb_loose.specs.LooseFile.{id_asked, IsFinding, LeadsToFile};
 ghost use Rattle.gix_odb_loose.specs.Answers.{path_in, put_in, Finds, TellsHeader, FindRefused, HeaderRefused, TestRefused};
-ghost use Rattle.gix_odb_loose.specs.LooseOrder.{started, asks_left, disk_ask_of};
+ghost use Rattle.gix_odb_loose.specs.LooseOrder.{started, asks_left, disk_ask_of, reply_of};
 ghost use Rattle.gix_odb_loose.specs.Runs.{ComesToReply, HasReplied, Turns, Broke};
 ghost use Rattle.gix_odb_loose.specs.declared.call.LooseJob.{LooseJob as job_of};
 ghost use Rattle.gix_odb_loose.specs.declared.store.Store.{Store as store_of};
@@ -240,11 +240,24 @@ impl Store {
         ensures streams { D.streams disk.new ≡ D.streams disk.old }
     {
         let mut call = LooseCall::start(alloc, self, job)?;
-        turn_through(alloc, disk, &mut call)?;
-        match call.into_reply() {
-            Some(reply) => Ok(reply),
-            None => unreachable!("a call without an ask has its reply"),
+        match turn_through(alloc, disk, &mut call) {
+            Ok(()) => Ok(reply_in(call)),
+            Err(NoMemory) => {
+                drop(call);
+                Err(NoMemory)
+            }
         }
+    }
+}
+
+// The reply of a call that asks nothing more.
+fn reply_in(call: LooseCall) -> LooseReply
+    requires { disk_ask_of call ≡ None }
+    ensures { reply_of call ≡ Some result }
+{
+    match call.into_reply() {
+        Some(reply) => reply,
+        None => unreachable!("a call without an ask has its reply"),
     }
 }
 
@@ -271,12 +284,17 @@ fn turn<D: Disk>(alloc: Global, disk: &mut D, call: &mut LooseCall) -> Result<bo
     ensures streams { D.streams disk.new ≡ D.streams disk.old }
 {
     match call.disk_ask(alloc)? {
-        Some(ask) => ask_once(alloc, disk, call, &ask),
+        Some(ask) => {
+            let more = ask_once(alloc, disk, call, &ask);
+            drop(ask);
+            more
+        }
         None => Ok(false),
     }
 }
 
 // This call of the disk, which is the next of the call, and its answer.
+#[tactic(auto, using(crate::proofs::StillAskLaws::call_asks_still))]
 fn ask_once<D: Disk>(
     alloc: Global,
     disk: &mut D,

@@ -1,5 +1,6 @@
 //! A write whose data come from a source, a piece at a time.
 ghost use Rattle.std.specs.Prelude.{◌≡◌, ◌<◌, ◌≤◌, ◌++◌, ℕ, List, [], length, nat_lt, false, Option, IfOk, OnOk, Some, None};
+ghost use Rattle.odb_disk.specs.StreamAsks.{is_of_streams};
 ghost use Rattle.odb_disk.specs.Tree.{State};
 ghost use Rattle.gix_odb_loose.specs.WriteOrder.{write_ask, written_in};
 ghost use Rattle.gix_odb_loose.specs.WriteOrder.{temp_path as temp_path_of};
@@ -124,7 +125,9 @@ impl StreamJob {
             IsBroken w (D.state disk.old) (D.faults disk.old) rest source_now self.now →
             IsBrokenOff w (D.state disk.new) (D.faults disk.new) rest source_now }
         ensures later { D.faults disk.old ≤ D.faults disk.new }
-        ensures streams { D.streams disk.new ≡ D.streams disk.old }
+        ensures streams { (w : Begun) (rest : Option (List ℕ)) (source_now : ℕ) →
+            IsBroken w (D.state disk.old) (D.faults disk.old) rest source_now self.now →
+            D.streams disk.new ≡ D.streams disk.old }
     {
         if self.stage.number_made().is_some() {
             let _ = self.removal.carry_out(alloc, disk);
@@ -146,12 +149,17 @@ impl StreamJob {
         let len = self.piece.len() as u64;
         let ask = self.ask(alloc)?;
         let answer = ask.carry_out(alloc, disk);
-        Ok(self.stage.next(self.head.size, len, &answer))
+        drop(ask);
+        let onward = self.stage.next(self.head.size, len, &answer);
+        drop(answer);
+        Ok(onward)
     }
 
     // The next call of the disk, which takes the piece that it appends.
+    #[tactic(auto, using(crate::proofs::StillAskLaws::write_asked_still))]
     fn ask(&mut self, alloc: Global) -> Result<DiskAsk, NoMemory>
         ensures ask { IfOk result (λ ask. ask ≡ write_ask self.old.head self.old.piece self.old.stage) }
+        ensures still { IfOk result (λ ask. is_of_streams ask ≡ false) }
         ensures same { self.new ≡ record self.old { piece = [] } }
     {
         let piece = mem::replace(&mut self.piece, ByteList::new(alloc));
@@ -174,7 +182,8 @@ impl StreamJob {
         self.stage = stage;
         match stage {
             WriteStage::Making { number } => {
-                self.removal = removal_of(alloc, &self.head.objects, number)?;
+                let removal = removal_of(alloc, &self.head.objects, number)?;
+                drop(mem::replace(&mut self.removal, removal));
                 Ok(())
             }
             WriteStage::Filling { written, .. } => self.read_on(alloc, from, written),
@@ -228,7 +237,7 @@ impl StreamJob {
     {
         self.has_ended = piece.len() < most;
         self.naming.update(piece.as_slice());
-        self.piece = piece;
+        drop(mem::replace(&mut self.piece, piece));
     }
 
     // Tells the end of the data.

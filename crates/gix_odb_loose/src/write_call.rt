@@ -49,7 +49,7 @@ pub enum WriteStage {
 }
 
 /// What an answer of the disk leads to.
-#[derive(Clone, Copy, Debug, PartialEq, Eq)]
+#[derive(Clone, Copy)]
 pub enum Onward {
     /// The write goes on.
     Stage(WriteStage),

@@ -24,7 +24,7 @@ pub struct WriteJob {
 }
 
 /// What an answer leads a write to.
-#[derive(Debug, Drop, PartialEq, Eq)]
+#[derive(Drop)]
 pub enum Led {
     On(WriteStage),
     Wrote(Result<ObjectId, write::Error>),

@@ -5,7 +5,7 @@ ghost use Rattle.gix_hash.specs.ObjectId.{kind_of};
 ghost use Rattle.gix_object.specs.Id.{object_id};
 ghost use Rattle.gix_object.specs.Stream.{stream_of, IsDrawn, IsWhole};
 ghost use Rattle.gix_odb_loose.specs.Store.{store_hash};
-ghost use Rattle.gix_odb_loose.specs.StreamJobs.{IsNew, IsToldBy};
+ghost use Rattle.gix_odb_loose.specs.StreamJobs.{Begun, IsNew, IsSomeUnderway, IsToldBy, IsUnderway};
 ghost use Rattle.gix_odb_loose.specs.WriteRuns.{WriteRuns, write_head};
 ghost use Rattle.gix_odb_loose.specs.WriteStreams.{IsAtEnd, TakesFrom};
 
@@ -63,7 +63,7 @@ impl Store {
     /// Writes an object whose data are the bytes of a source, which are to be `size`, and answers its id.
     ///
     /// The data are read in pieces of 65,536 bytes between the calls of the disk, and one byte above the size at most.
-    /// Fewer or more are `SizeMismatch`, and a source that fails is `Io`: nothing is read or appended after a failure.
+    /// Fewer or more are `SizeMismatch`, and a source that fails is `Io`: nothing is appended after a failure.
     pub fn write_stream<D: Disk, S: Source>(
         &self,
         alloc: Global,
@@ -145,8 +145,9 @@ impl Store {
         ensures streams { D.streams disk.new ≡ D.streams disk.old }
     {
         let mut job = self.new_write(alloc, kind, size, known)?;
-        let end = job.run(alloc, disk, from)?;
-        told(alloc, &job.head, end)
+        let answer = answered(alloc, disk, from, &mut job);
+        drop(job);
+        answer
     }
 
     // A write into the store that has asked nothing and read nothing.
@@ -166,6 +167,28 @@ impl Store {
         };
         StreamJob::start(alloc, self.object_hash(), head, known)
     }
+}
+
+// All turns of a write that is underway, and what it answers.
+fn answered<D: Disk, S: Source>(
+    alloc: Global,
+    disk: &mut D,
+    from: &mut S,
+    job: &mut StreamJob,
+) -> Result<ObjectId, write::Error>
+    requires { IsSomeUnderway (D.state disk.old) (D.faults disk.old) (S.left from.old) (S.faults from.old) job.old }
+    ensures run { (w : Begun) →
+        IsUnderway w (D.state disk.old) (D.faults disk.old) (S.left from.old) (S.faults from.old) job.old →
+        WriteRuns w.head w.hash w.known w.left (Rose w.source_faults (S.faults from.new)) (S.faults from.new ≡ w.source_faults) w.state (D.state disk.new) w.faults (D.faults disk.new) result }
+    ensures taken { (w : Begun) →
+        IsUnderway w (D.state disk.old) (D.faults disk.old) (S.left from.old) (S.faults from.old) job.old →
+        TakesFrom w.head.size w.left (S.left from.new) w.source_faults (S.faults from.new) }
+    ensures ended { IfOk result (λ _. IsAtEnd (S.left from.new)) }
+    ensures later { D.faults disk.old ≤ D.faults disk.new }
+    ensures streams { D.streams disk.new ≡ D.streams disk.old }
+{
+    let end = job.run(alloc, disk, from)?;
+    told(alloc, &job.head, end)
 }
 
 // What a write answers that ended so.

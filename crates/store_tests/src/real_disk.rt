@@ -3,7 +3,7 @@ use crate::calls::{called, store_at};
 use crate::words::{compare, cut, halves};
 use gix_hash::Kind::Sha1;
 use gix_odb_loose::Store;
-use odb_disk::HostDisk;
+use odb_host::HostDisk;
 use std::os::fd::{AsRawFd, RawFd};
 use std::os::unix::fs::symlink;
 use std::test::Fail;

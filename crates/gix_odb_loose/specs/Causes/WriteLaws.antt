@@ -19,6 +19,9 @@ IsMaking (asks.MakeDir path) = Unit {0}
 IsMaking (asks.Rename from to) = Unit {0}
 IsMaking (asks.Look path follow) = ⊥
 IsMaking (asks.Read path) = ⊥
+IsMaking (asks.OpenDir path) = ⊥
+IsMaking (asks.NextEntry dir) = ⊥
+IsMaking (asks.CloseDir dir) = ⊥
 IsMaking (asks.Remove path) = ⊥
 
 module _ (head : WriteHead) (Refuses Refuses' Exists Exists' Done Done' : DiskAsk → Type 0) (refuses : (ask : DiskAsk) → IsMaking ask → Refuses ask → Refuses' ask) (exists : (ask : DiskAsk) → Exists ask → Exists' ask)

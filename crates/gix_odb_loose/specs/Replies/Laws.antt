@@ -4,6 +4,8 @@ use Rattle.std.proofs.Common.{sym, ap, ◌∙◌, subst}
 use Rattle.odb_base.specs.Path.{Path}
 use Rattle.odb_disk.specs.Ask.{AnswersAsk, answer_of, answer_now, meta_answer, file_answer, write_answer}
 use Rattle.odb_disk.specs.MemDisk.{Volume, next_fails}
+use Rattle.odb_disk.specs.StreamAsks.{is_of_streams}
+use Rattle.odb_disk.proofs.StillAskLaws.{answer_now-still}
 use Rattle.odb_disk.specs.Tree.{Tree, tree_of}
 use Rattle.odb_disk.specs.Tree.Follow.{Refusal, Absent, WrongKind, LinkLoop, looked, read_of}
 use Rattle.odb_disk.specs.Tree.Write as writing
@@ -165,6 +167,9 @@ Says-fed store (jobs.Write kind size bytes id) tree ask given reply is asked Fai
 
 own_answer : (given : DiskAnswer) → AnswersAsk given given
 own_answer (answers.Meta meta) = refl
+own_answer (answers.Dir dir) = refl
+own_answer (answers.Entry entry) = refl
+own_answer answers.End = refl
 own_answer (answers.File bytes time) = refl
 own_answer (answers.Refused disk_errors.Failed) = tt
 own_answer (answers.Refused disk_errors.NoMemory) = tt
@@ -208,11 +213,19 @@ tree_told store (jobs.Write kind size bytes id) tree ask error is e =
     let path = temp_path (store_path store) 0 in
     let same : ask ≡ asks.NewFile path = cc is in write_told (change_of_new_file tree path) error (ap (answer_of tree) (sym same) ∙ e)
 
+-- none is a call of streams
+asks_still : (store : Store) (job : LooseJob) (ask : DiskAsk) → disk_ask_of (started store job) ≡ Some ask → is_of_streams ask ≡ false
+asks_still store (jobs.Contains id) ask is = let same : asks.Look (loose_path (store_path store) id) true ≡ ask = cc is in ap is_of_streams (sym same)
+asks_still store (jobs.Find id) ask is = let same : asks.Read (loose_path (store_path store) id) ≡ ask = cc is in ap is_of_streams (sym same)
+asks_still store (jobs.Header id) ask is = let same : asks.Read (loose_path (store_path store) id) ≡ ask = cc is in ap is_of_streams (sym same)
+asks_still store (jobs.Write kind size bytes id) ask is = let same : asks.NewFile (temp_path (store_path store) 0) ≡ ask = cc is in ap is_of_streams (sym same)
+
 -- The reply to what a disk in memory answers now says what its tree shows; an error by a failed call has a listed number,
 -- and none is for want of memory.
 pub Says-now : (store : Store) (job : LooseJob) (disk : Volume) (ask : DiskAsk) (reply : LooseReply) → disk_ask_of (started store job) ≡ Some ask → reply_of (fed (started store job) (answer_now disk ask)) ≡ Some reply
     → Says (loose_path (store_path store) (id_asked (store_hash store) job)) (store_limit store) job (tree_of disk.state) (next_fails disk ≡ true) ⊥ reply
-Says-now store job disk ask reply is r = by_failing (next_fails disk) refl r
+Says-now store job disk ask reply is r =
+    by_failing (next_fails disk) refl (subst (λ (a : DiskAnswer). reply_of (fed (started store job) a) ≡ Some reply) (answer_now-still disk ask (asks_still store job ask is)) r)
   where
     by_failing : (fails : Bool) → next_fails disk ≡ fails → reply_of (fed (started store job) (if fails then answers.Refused disk_errors.Failed else answer_of (tree_of disk.state) ask)) ≡ Some reply
         → Says (loose_path (store_path store) (id_asked (store_hash store) job)) (store_limit store) job (tree_of disk.state) (next_fails disk ≡ true) ⊥ reply

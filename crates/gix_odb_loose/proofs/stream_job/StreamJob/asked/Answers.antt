@@ -8,11 +8,11 @@ returns-in_err-ask-clause-led g c = λ w rest source_now at. leads_broken w _ _ 
 pub returns-clause-led : goal.returns-clause-led
 returns-clause-led g c =
     λ w rest source_now at.
-    turn_led w _ (g.D.Disk.state c.carry_out-answer.new.disk) _ (g.D.Disk.faults c.carry_out-answer.new.disk) _ _ c.args.self.now c.ask.new.self c.in_ok-ask.ask c.carry_out-answer.result c.len-len.result c.next.result at c.len-len.ensures c.in_ok-ask.ensures.ask
-    c.ask.ensures.same c.next.ensures c.carry_out-answer.ensures.answer c.carry_out-answer.ensures.state c.carry_out-answer.ensures.later c.carry_out-answer.ensures.cause c.carry_out-answer.ensures.tree
+    turn_led w _ (g.D.Disk.state c.carry_out-answer.new.disk) _ (g.D.Disk.faults c.carry_out-answer.new.disk) _ _ c.args.self.now c.ask.new.self c.in_ok-ask.ask c.carry_out-answer.result c.len-len.result c.next-onward.result at c.len-len.ensures c.in_ok-ask.ensures.ask
+    c.ask.ensures.same c.next-onward.ensures (c.carry_out-answer.ensures.answer c.in_ok-ask.ensures.still) c.carry_out-answer.ensures.state c.carry_out-answer.ensures.later c.carry_out-answer.ensures.cause c.carry_out-answer.ensures.tree
 
 pub returns-clause-fewer : goal.returns-clause-fewer
 returns-clause-fewer g c =
     λ w rest source_now at stage is.
-    turn_fewer w _ (g.D.Disk.state c.carry_out-answer.new.disk) _ (g.D.Disk.faults c.carry_out-answer.new.disk) _ _ c.args.self.now c.ask.new.self c.in_ok-ask.ask c.carry_out-answer.result c.len-len.result c.next.result at c.len-len.ensures c.in_ok-ask.ensures.ask
-    c.ask.ensures.same c.next.ensures stage is
+    turn_fewer w _ (g.D.Disk.state c.carry_out-answer.new.disk) _ (g.D.Disk.faults c.carry_out-answer.new.disk) _ _ c.args.self.now c.ask.new.self c.in_ok-ask.ask c.carry_out-answer.result c.len-len.result c.next-onward.result at c.len-len.ensures c.in_ok-ask.ensures.ask
+    c.ask.ensures.same c.next-onward.ensures stage is

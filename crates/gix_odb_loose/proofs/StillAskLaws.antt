@@ -1,0 +1,46 @@
+-- No call of a store opens a stream of the disk, takes from one or closes one. For callers.
+use Rattle.std.specs.Prelude.{◌≡◌, true, false, List, Some, is_some, refl}
+use Rattle.std.proofs.Common.{◌∙◌, ℕ, sym, ap}
+use Rattle.odb_disk.specs.StreamAsks.{is_of_streams}
+use Rattle.odb_disk.specs.declared.ask.DiskAsk.{DiskAsk}
+use Rattle.odb_disk.specs.declared.ask.DiskAsk.TheVariants as asks
+use Rattle.gix_odb_loose.specs.LooseOrder.{disk_ask_of, stage_ask}
+use Rattle.gix_odb_loose.specs.StreamJobs.{Begun, IsReady}
+use Rattle.gix_odb_loose.specs.WriteOrder.{number_made, write_ask}
+use Rattle.gix_odb_loose.specs.WriteJobs.{ask_in, piece_in}
+use Rattle.gix_odb_loose.specs.declared.call.LooseCall.{LooseCall}
+use Rattle.gix_odb_loose.specs.declared.call.Stage.{Stage}
+use Rattle.gix_odb_loose.specs.declared.call.Stage.TheVariants as calls
+use Rattle.gix_odb_loose.specs.declared.write_call.WriteHead.{WriteHead}
+use Rattle.gix_odb_loose.specs.declared.write_call.WriteStage.{WriteStage}
+use Rattle.gix_odb_loose.specs.declared.write_call.WriteStage.TheVariants as stages
+
+pub write_asks_still : (head : WriteHead) (piece : List ℕ) (stage : WriteStage) → is_of_streams (write_ask head piece stage) ≡ false
+write_asks_still head piece (stages.Making number) = refl
+write_asks_still head piece (stages.Heading number) = refl
+write_asks_still head piece (stages.Filling number written) = refl
+write_asks_still head piece (stages.Foldering number id) = refl
+write_asks_still head piece (stages.Moving number id) = refl
+write_asks_still head piece (stages.Removing number refusal) = refl
+
+pub write_asked_still : (head : WriteHead) (piece : List ℕ) (stage : WriteStage) (ask : DiskAsk) → ask ≡ write_ask head piece stage → is_of_streams ask ≡ false
+write_asked_still head piece stage ask is = ap is_of_streams is ∙ write_asks_still head piece stage
+
+stage_ask-still : (stage : Stage) (ask : DiskAsk) → stage_ask stage ≡ Some ask → is_of_streams ask ≡ false
+stage_ask-still (calls.Testing path) ask is = let same : asks.Look path true ≡ ask = cc is in ap is_of_streams (sym same)
+stage_ask-still (calls.Finding path limit) ask is = let same : asks.Read path ≡ ask = cc is in ap is_of_streams (sym same)
+stage_ask-still (calls.Heading path) ask is = let same : asks.Read path ≡ ask = cc is in ap is_of_streams (sym same)
+stage_ask-still (calls.Writing job) ask is = let same : ask_in job ≡ ask = cc is in ap is_of_streams (sym same) ∙ write_asks_still job.head (piece_in job) job.stage
+stage_ask-still (calls.Done reply) ask is = absurd (cc is)
+
+pub call_asks_still : (call : LooseCall) (ask : DiskAsk) → disk_ask_of call ≡ Some ask → is_of_streams ask ≡ false
+call_asks_still call ask is = stage_ask-still call.stage ask is
+
+-- the removal of a temporary file that was made
+pub removal_still : (w : Begun) (removal : DiskAsk) (stage : WriteStage) → is_some (number_made stage) ≡ true → IsReady w removal stage → is_of_streams removal ≡ false
+removal_still w removal (stages.Making number) made ready = absurd (cc made)
+removal_still w removal (stages.Heading number) made ready = ap is_of_streams ready
+removal_still w removal (stages.Filling number written) made ready = ap is_of_streams ready
+removal_still w removal (stages.Foldering number id) made ready = ap is_of_streams ready
+removal_still w removal (stages.Moving number id) made ready = ap is_of_streams ready
+removal_still w removal (stages.Removing number refusal) made ready = ap is_of_streams ready
