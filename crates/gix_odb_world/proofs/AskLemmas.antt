@@ -15,7 +15,6 @@ use Rattle.gix_odb_loose.specs.declared.call.LooseCall.{LooseCall}
 use Rattle.gix_odb_loose.specs.declared.write_call.WriteStage.{WriteStage}
 use Rattle.gix_odb_loose.specs.declared.write_call.WriteStage.TheVariants as stages
 use Rattle.gix_odb_world.specs.declared.look_state.LookState.{LookState}
-use Rattle.gix_odb_world.specs.declared.look_state.Stage.TheVariants as look_stages
 use Rattle.gix_odb_world.specs.declared.open_state.OpenState.{OpenState}
 use Rattle.gix_odb_world.specs.declared.open_state.OpenState.TheVariants as opens
 use Rattle.gix_odb_world.specs.declared.query.Query.{Query}
@@ -26,7 +25,7 @@ use Rattle.gix_odb_world.specs.Event.{Event, Store}
 use Rattle.gix_odb_world.specs.LookOrder.{ask_at, asking}
 use Rattle.gix_odb_world.specs.OpenOrder as openings
 use Rattle.gix_odb_world.specs.Run.{FailedSince, MakeCall, OpenStore, tree_at}
-use Rattle.gix_odb_world.specs.Running.{HadTurns, IsWaiting, IsWriting, Seeks, StandsAt, call_of}
+use Rattle.gix_odb_world.specs.Running.{IsWaiting, IsWriting, Seeks, StandsAt, call_of}
 use Rattle.gix_odb_world.specs.Writing.{ToWrite, call_to_write, head_to_write, name_to_write, to_write}
 use Rattle.gix_odb_world.proofs.WriteFive.{below, made_before}
 use Rattle.gix_odb_world.proofs.WriteGoes.{ask_at_stage}

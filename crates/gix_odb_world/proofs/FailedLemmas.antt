@@ -1,17 +1,21 @@
 -- A call of a disk in memory fails where its number is listed, and nowhere else.
-use Rattle.std.proofs.Common.{◌≡◌, ℕ, Bool, true, false, List, Ok, Err, Result, refl}
+use Rattle.std.proofs.Common.{◌≡◌, ℕ, Bool, true, false, List, Ok, Err, Result, refl, ap, ◌∙◌}
 use Rattle.std.specs.Prelude.{if◌then◌else◌}
 use Rattle.odb_disk.specs.Tree.{Tree, tree_of}
 use Rattle.odb_disk.specs.Tree.Follow.{Refusal, Absent, WrongKind, LinkLoop, looked, read_of}
 use Rattle.odb_disk.specs.Tree.Write as writing
 use Rattle.odb_disk.specs.Tree.Write.{change_of_make_dir, change_of_new_file, change_of_append, change_of_rename, change_of_remove}
 use Rattle.odb_disk.specs.MemDisk.{Volume, next_fails, after_call}
-use Rattle.odb_disk.specs.Ask.{answer_of, answer_now, meta_answer, file_answer, write_answer, error_of, error_of_write}
+use Rattle.odb_disk.specs.StreamAsks.{is_of_streams}
+use Rattle.odb_disk.specs.Streams.{opened}
+use Rattle.odb_disk.proofs.StillAskLaws.{answer_now-still}
+use Rattle.odb_disk.specs.Ask.{answer_of, answer_now, dir_answer, meta_answer, file_answer, write_answer, error_of, error_of_write}
 use Rattle.odb_disk.specs.declared.change.Change.{Change}
+use Rattle.odb_disk.specs.declared.disk.Entry.{Entry}
 use Rattle.odb_disk.specs.declared.disk.Meta.{Meta}
 use Rattle.odb_disk.specs.declared.disk.DiskError.TheVariants as disk_errors
 use Rattle.odb_disk.specs.declared.ask.DiskAsk.{DiskAsk}
-use Rattle.odb_disk.specs.declared.ask.DiskAsk.TheVariants.{Look, Read, MakeDir, NewFile, Append, Rename, Remove}
+use Rattle.odb_disk.specs.declared.ask.DiskAsk.TheVariants.{Look, Read, OpenDir, NextEntry, CloseDir, MakeDir, NewFile, Append, Rename, Remove}
 use Rattle.odb_disk.specs.declared.ask.DiskAnswer.{DiskAnswer}
 use Rattle.odb_disk.specs.declared.ask.DiskAnswer.TheVariants as answers
 use Rattle.gix_odb_world.specs.Run.{has_failed}
@@ -29,6 +33,10 @@ has_failed-file : (told : Result (List ℕ × ℕ) Refusal) → has_failed (file
 has_failed-file (Ok file) = refl
 has_failed-file (Err refusal) = has_failed-error refusal
 
+has_failed-dir : (told : Result (List Entry) Refusal) → has_failed (dir_answer 0 told) ≡ false
+has_failed-dir (Ok entries) = refl
+has_failed-dir (Err refusal) = has_failed-error refusal
+
 has_failed-error_write : (refusal : writing.Refusal) → has_failed (answers.Refused (error_of_write refusal)) ≡ false
 has_failed-error_write writing.Absent = refl
 has_failed-error_write writing.WrongKind = refl
@@ -44,6 +52,9 @@ has_failed-told : (tree : Tree) (ask : DiskAsk) → has_failed (answer_of tree a
 unfolding answer_of
 has_failed-told tree (Look path follow) = has_failed-meta (looked tree path follow)
 has_failed-told tree (Read path) = has_failed-file (read_of tree path)
+has_failed-told tree (OpenDir path) = has_failed-dir (opened tree path)
+has_failed-told tree (NextEntry dir) = refl
+has_failed-told tree (CloseDir dir) = refl
 has_failed-told tree (MakeDir path) = has_failed-write (change_of_make_dir tree path)
 has_failed-told tree (NewFile path) = has_failed-write (change_of_new_file tree path)
 has_failed-told tree (Append path bytes) = has_failed-write (change_of_append tree path bytes)
@@ -54,8 +65,8 @@ has_failed-either : (fails : Bool) (answer : DiskAnswer) → has_failed answer �
 has_failed-either true answer told = refl
 has_failed-either false answer told = told
 
-pub has_failed-now : (disk : Volume) (ask : DiskAsk) → has_failed (answer_now disk ask) ≡ next_fails disk
-has_failed-now disk ask = has_failed-either (next_fails disk) (answer_of (tree_of disk.state) ask) (has_failed-told (tree_of disk.state) ask)
+pub has_failed-now : (disk : Volume) (ask : DiskAsk) → is_of_streams ask ≡ false → has_failed (answer_now disk ask) ≡ next_fails disk
+has_failed-now disk ask still = ap has_failed (answer_now-still disk ask still) ∙ has_failed-either (next_fails disk) (answer_of (tree_of disk.state) ask) (has_failed-told (tree_of disk.state) ask)
 
 -- a call changes no tree
 pub state-after_call : (disk : Volume) → (after_call disk).state ≡ disk.state

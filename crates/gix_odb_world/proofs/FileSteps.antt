@@ -4,7 +4,7 @@ use Rattle.std.specs.Prelude.{if◌then◌else◌, ◌==◌}
 use Rattle.std.specs.Result.{result_ok}
 use Rattle.std.proofs.lemmas.Bool.{eqb-true}
 use Rattle.odb_base.specs.Path.{Path}
-use Rattle.odb_disk.specs.Ask.{change_of_ask, op_of, path_asked}
+use Rattle.odb_disk.specs.Ask.{change_of_ask, op_of}
 use Rattle.odb_disk.specs.MemDisk.{Volume, next_fails}
 use Rattle.odb_disk.specs.Tree.{IsTree, Tree, tree_of}
 use Rattle.odb_disk.specs.Tree.Change.{changed}
@@ -27,6 +27,7 @@ use Rattle.gix_odb_loose.specs.declared.call.LooseCall.{LooseCall}
 use Rattle.gix_odb_loose.specs.declared.write_call.WriteStage.{WriteStage}
 use Rattle.gix_odb_loose.specs.declared.write_call.WriteStage.TheVariants as stages
 use Rattle.gix_odb_loose.proofs.NameLaws.{IsTemporary, object_spot, prefix_path-is, temp_path-is}
+use Rattle.gix_odb_world.specs.Recorded.{path_recorded}
 use Rattle.gix_odb_world.specs.declared.call.Call.{Call}
 use Rattle.gix_odb_world.specs.declared.call.CallError.TheVariants as call_errors
 use Rattle.gix_odb_world.specs.declared.call.Reply.{Reply}
@@ -135,9 +136,12 @@ module _ (t : Tree) (is_tree : IsTree t) (objects : Path) (c : Change) where
 
 -- ---- the making of a temporary file
 
-new_file_ask : (ask : DiskAsk) (path : Path) → op_of ask ≡ ops.NewFile → path_asked ask ≡ path → ask ≡ asks.NewFile path
+new_file_ask : (ask : DiskAsk) (path : Path) → op_of ask ≡ ops.NewFile → path_recorded ask ≡ path → ask ≡ asks.NewFile path
 new_file_ask (asks.Look p follow) path op is = absurd (cc)
 new_file_ask (asks.Read p) path op is = absurd (cc)
+new_file_ask (asks.OpenDir p) path op is = absurd (cc)
+new_file_ask (asks.NextEntry dir) path op is = absurd (cc)
+new_file_ask (asks.CloseDir dir) path op is = absurd (cc)
 new_file_ask (asks.MakeDir p) path op is = absurd (cc)
 new_file_ask (asks.NewFile p) path op is = ap asks.NewFile is
 new_file_ask (asks.Append p bytes) path op is = absurd (cc)
@@ -159,7 +163,7 @@ module _ (first : Volume) (events : List Event) (start : IsTree (tree_of first.s
     | Turned t ↦
         let disk = disk_after first (take made events) in
         let before = tree_at first events made in
-        let both : Disk (op_of t.works.ask) (path_asked t.works.ask) (next_fails disk) ≡ Disk ops.NewFile path (next_fails disk) = sym t.works.asked ∙ a.did in
+        let both : Disk (op_of t.works.ask) (path_recorded t.works.ask) (next_fails disk) ≡ Disk ops.NewFile path (next_fails disk) = sym t.works.asked ∙ a.did in
         let ask = new_file_ask t.works.ask path (cc both) (cc both) in
         let m = done_made disk (asks.NewFile path) (change_of_new_file before path) (told_new_file before path) a.given in
         let makes : a.event.entry.change ≡ Some m.change = t.works.changed ∙ (ap (change_by disk) ask ∙ m.made) in

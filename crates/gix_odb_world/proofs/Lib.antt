@@ -1,6 +1,7 @@
 mod BoundLemmas
 mod CallLemmas
 mod FailedLemmas
+mod FedLemmas
 mod FolderLemmas
 mod OpenLemmas
 mod OpeningLemmas

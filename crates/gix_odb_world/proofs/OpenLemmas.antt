@@ -61,7 +61,7 @@ runs_opening first events e handle path folders replacements options opens =
     } in (
       omega (arith, whole),
       (opened, (refl, refl, none_failed_yet (events ++ e ∷ []) handle (length events + 1) (omega (arith, whole)))),
-      record { opener = handle; opened = opened },
+      opened,
     )
 
 -- each pair's first id is replaced by its second, where no id is replaced twice
@@ -123,7 +123,7 @@ matches_ignoring (Working store ignoring begun turns work) (Some handle) idle ma
 runs_ignoring : (number : ℕ) (first : Volume) (events : List Event) (e : Event) (status : Status) → ((other : ℕ) → ¬ IsTurnOf other e.step)
     → Runs first events number status → Runs first (events ++ e ∷ []) number (ignoring_from status)
 runs_ignoring number first events e Free no_turn runs = tt
-runs_ignoring number first events e (Resting store ignoring) no_turn runs = open_store_kept events e store runs
+runs_ignoring number first events e (Resting store ignoring) no_turn runs = open_store_kept events e number store runs
 runs_ignoring number first events e (Working store ignoring begun turns work) no_turn runs = runs-push first events e number (Working store ignoring begun turns work) (no_turn number) runs
 
 pub ignored : (old mid new : World) (number : ℕ) → why_not_now old (steps.Ignore number) ≡ None

@@ -13,6 +13,7 @@ use Rattle.odb_disk.specs.declared.ask.DiskAsk.TheVariants as asks
 use Rattle.odb_disk.specs.declared.change.Change.{Change}
 use Rattle.odb_disk.specs.declared.disk.DiskError.{DiskError}
 use Rattle.odb_disk.specs.declared.disk.DiskError.TheVariants as disk_errors
+use Rattle.odb_disk.proofs.StillAskLaws.{answer_now-still}
 use Rattle.odb_disk.proofs.RefusalLaws.{append-never, full, make_dir-never, new_file-never, rename-never, there}
 use Rattle.gix_odb_loose.specs.Causes.WriteLaws.{IsMaking}
 use Rattle.gix_odb_loose.specs.WriteHistory.{IsRefused}
@@ -54,7 +55,7 @@ module _ (first : Volume) (events : List Event) (handle begun : ℕ) (ask : Disk
     by_failing false fails e = by_told told refl (e ∙ tells.answer)
 
     pub refused_so : RefusedSince first events handle begun ask
-    refused_so = by_failing (next_fails disk) refl asked.at.given
+    refused_so = by_failing (next_fails disk) refl (asked.at.given ∙ answer_now-still disk ask tells.still)
 
 pub refused_on_way : (first : Volume) (events : List Event) (handle begun : ℕ) (ask : DiskAsk) → IsMaking ask → (answer : DiskAnswer) → AskedSince first events handle begun ask answer → IsRefused ask answer → RefusedSince first events handle begun ask
 refused_on_way first events handle begun (asks.NewFile path) making answer asked refused =
@@ -71,4 +72,7 @@ refused_on_way first events handle begun (asks.Rename from to) making answer ask
     refused_so first events handle begun (asks.Rename from to) answer asked refused (change_of_rename t from to) (told_rename t from to) (rename-never writing.NotEmpty full t from to) (λ is r. rename-never writing.Exists there t from to is)
 refused_on_way first events handle begun (asks.Look path follow) making answer asked refused = absurd making
 refused_on_way first events handle begun (asks.Read path) making answer asked refused = absurd making
+refused_on_way first events handle begun (asks.OpenDir path) making answer asked refused = absurd making
+refused_on_way first events handle begun (asks.NextEntry dir) making answer asked refused = absurd making
+refused_on_way first events handle begun (asks.CloseDir dir) making answer asked refused = absurd making
 refused_on_way first events handle begun (asks.Remove path) making answer asked refused = absurd making

@@ -8,7 +8,7 @@ use Rattle.odb_disk.specs.Tree.{tree_of}
 use Rattle.odb_disk.specs.MemDisk.{Volume}
 use Rattle.std.proofs.lemmas.Option.{slice_get_within}
 use Rattle.gix_odb_world.specs.Event.{Event, Status, Free, status_of, status_after, statuses_from}
-use Rattle.gix_odb_world.specs.Run.{disk_after, disk_after_record, tree_at, IsTurnOf, Fails, FailedSince}
+use Rattle.gix_odb_world.specs.Run.{disk_after, disk_after_event, tree_at, IsTurnOf, Fails, FailedSince}
 use Rattle.gix_odb_world.specs.Headline.{Law, IsLawful}
 
 -- ---- lists with one more at their end
@@ -46,12 +46,12 @@ status_of-push events e =
     let later : 1 + length events ≡ length events + 1 = omega arith in
     statuses_from-push 1 (λ handle. Free) events e ∙ ap (λ m. status_after m e.step e.outcome e.turn (status_of events)) later
 
-pub disk_after-push : (first : Volume) (events : List Event) (e : Event) → disk_after first (events ++ e ∷ []) ≡ disk_after_record (disk_after first events) e.entry
+pub disk_after-push : (first : Volume) (events : List Event) (e : Event) → disk_after first (events ++ e ∷ []) ≡ disk_after_event (disk_after first events) e
 unfolding disk_after
-disk_after-push first events e = fold_push (λ disk e. disk_after_record disk e.entry) first events e
+disk_after-push first events e = fold_push disk_after_event first events e
 
 -- the tree after the last event
-pub tree_at-now : (first : Volume) (events : List Event) (e : Event) → tree_at first (events ++ e ∷ []) (length events + 1) ≡ tree_of (disk_after_record (disk_after first events) e.entry).state
+pub tree_at-now : (first : Volume) (events : List Event) (e : Event) → tree_at first (events ++ e ∷ []) (length events + 1) ≡ tree_of (disk_after_event (disk_after first events) e).state
 tree_at-now first events e =
     ap (λ es. tree_of (disk_after first es).state) (take-push events e) ∙ ap (λ d. tree_of d.state) (disk_after-push first events e)
 

@@ -6,11 +6,11 @@ use Rattle.odb_disk.specs.MemDisk.{Volume, after_outside_change, next_fails}
 use Rattle.odb_disk.specs.Tree.{IsTree, Tree, tree_of}
 use Rattle.odb_disk.specs.Tree.Change.{changed, is_possible}
 use Rattle.odb_disk.specs.Tree.Write.{written}
+use Rattle.odb_disk.specs.declared.ask.DiskAnswer.{DiskAnswer}
 use Rattle.odb_disk.specs.declared.ask.DiskAsk.{DiskAsk}
 use Rattle.odb_disk.specs.declared.change.Change.{Change}
 use Rattle.odb_disk.proofs.TreeLemmas.Changed.{IsTree-changed, after_change-tree, is_possible-tree_of}
 use Rattle.odb_disk.proofs.WriteLaws.{IsTree-asked, tree_of-written}
-use Rattle.gix_odb_world.specs.declared.record.Did.{Did}
 use Rattle.gix_odb_world.specs.declared.record.Did.TheVariants.{Nothing}
 use Rattle.gix_odb_world.specs.declared.step.Outcome.{Outcome}
 use Rattle.gix_odb_world.specs.declared.step.Outcome.TheVariants as outcomes
@@ -20,7 +20,7 @@ use Rattle.gix_odb_world.specs.declared.step.Why.{Why}
 use Rattle.gix_odb_world.specs.declared.work.Work.{Work}
 use Rattle.gix_odb_world.specs.Event.{Event, Free, Resting, Status, Store, Working, status_after, status_of}
 use Rattle.gix_odb_world.specs.Headline.{ChangesAs, IsLawful, Law, Suits, Turns, Works}
-use Rattle.gix_odb_world.specs.Run.{change_by, disk_after, disk_after_did, disk_after_record, tree_at}
+use Rattle.gix_odb_world.specs.Run.{change_by, did_of_turn, disk_after, disk_after_event, disk_after_turn, tree_at}
 use Rattle.gix_odb_world.specs.Undisturbed.{IsOutside}
 use Rattle.gix_odb_world.specs.Valid.{misuse_of, phase_of, why_not_after, why_not_running}
 use Rattle.gix_odb_world.proofs.RunLemmas.{disk_after-push, status_of-push}
@@ -101,12 +101,14 @@ pub record IsMade (first : Volume) (past : List Event) (e : Event) : Type 0 wher
   pub outside : IsOutside e
   pub makes : e.entry.change ≡ Some change
   pub did : e.entry.did ≡ Nothing
+  pub turn : e.turn ≡ None
   pub possible : is_possible (disk_after first past).state change ≡ true
 
 -- nothing changed
 pub record IsQuiet (e : Event) : Type 0 where
   pub none : e.entry.change ≡ None
   pub did : e.entry.did ≡ Nothing
+  pub turn : e.turn ≡ None
 
 pub data Kind (first : Volume) (past : List Event) (e : Event) : Type 0 where
   Turned : IsTurned first past e → Kind first past e
@@ -130,6 +132,10 @@ possible_by : (b : Bool) (why : Why) → None ≡ (if b then None else Some why)
 possible_by true why valid = refl
 possible_by false why valid = absurd (cc)
 
+none_asked : (turn : Option (DiskAsk × DiskAnswer)) → Nothing ≡ did_of_turn turn → turn ≡ None
+none_asked None is = refl
+none_asked (Some asked) is = absurd (cc is)
+
 module _ (first : Volume) (past : List Event) (e : Event) (law : Law first past e) where
   turned : (handle : ℕ) → e.step ≡ steps.Turn handle → None ≡ why_not_after first past (steps.Turn handle) → Kind first past e
   turned handle step valid =
@@ -141,27 +147,27 @@ module _ (first : Volume) (past : List Event) (e : Event) (law : Law first past 
   kind_by (steps.Turn handle) outcomes.Applied s o suits made valid = absurd suits
   kind_by (steps.Turn handle) outcomes.Pending s o suits made valid = turned handle s valid
   kind_by (steps.Turn handle) (outcomes.Reply reply) s o suits made valid = turned handle s valid
-  kind_by (steps.Turn handle) (outcomes.Misuse why) s o suits made valid = Quiet (record { none = made; did = suits })
-  kind_by (steps.Disk change) outcomes.Applied s o suits made valid = Made (record { change = change; outside = (change, s, o); makes = made; did = suits; possible = possible_by _ _ valid })
+  kind_by (steps.Turn handle) (outcomes.Misuse why) s o suits made valid = Quiet (record { none = made; did = suits; turn = none_asked e.turn (sym suits ∙ law.did) })
+  kind_by (steps.Disk change) outcomes.Applied s o suits made valid = Made (record { change = change; outside = (change, s, o); makes = made; did = suits; turn = none_asked e.turn (sym suits ∙ law.did); possible = possible_by _ _ valid })
   kind_by (steps.Disk change) outcomes.Pending s o suits made valid = absurd suits
   kind_by (steps.Disk change) (outcomes.Reply reply) s o suits made valid = absurd suits
-  kind_by (steps.Disk change) (outcomes.Misuse why) s o suits made valid = Quiet (record { none = made; did = suits })
-  kind_by (steps.Open handle path folders replacements options) outcomes.Applied s o suits made valid = Quiet (record { none = made; did = suits })
+  kind_by (steps.Disk change) (outcomes.Misuse why) s o suits made valid = Quiet (record { none = made; did = suits; turn = none_asked e.turn (sym suits ∙ law.did) })
+  kind_by (steps.Open handle path folders replacements options) outcomes.Applied s o suits made valid = Quiet (record { none = made; did = suits; turn = none_asked e.turn (sym suits ∙ law.did) })
   kind_by (steps.Open handle path folders replacements options) outcomes.Pending s o suits made valid = absurd suits
   kind_by (steps.Open handle path folders replacements options) (outcomes.Reply reply) s o suits made valid = absurd suits
-  kind_by (steps.Open handle path folders replacements options) (outcomes.Misuse why) s o suits made valid = Quiet (record { none = made; did = suits })
-  kind_by (steps.Close handle) outcomes.Applied s o suits made valid = Quiet (record { none = made; did = suits })
+  kind_by (steps.Open handle path folders replacements options) (outcomes.Misuse why) s o suits made valid = Quiet (record { none = made; did = suits; turn = none_asked e.turn (sym suits ∙ law.did) })
+  kind_by (steps.Close handle) outcomes.Applied s o suits made valid = Quiet (record { none = made; did = suits; turn = none_asked e.turn (sym suits ∙ law.did) })
   kind_by (steps.Close handle) outcomes.Pending s o suits made valid = absurd suits
   kind_by (steps.Close handle) (outcomes.Reply reply) s o suits made valid = absurd suits
-  kind_by (steps.Close handle) (outcomes.Misuse why) s o suits made valid = Quiet (record { none = made; did = suits })
-  kind_by (steps.Ignore handle) outcomes.Applied s o suits made valid = Quiet (record { none = made; did = suits })
+  kind_by (steps.Close handle) (outcomes.Misuse why) s o suits made valid = Quiet (record { none = made; did = suits; turn = none_asked e.turn (sym suits ∙ law.did) })
+  kind_by (steps.Ignore handle) outcomes.Applied s o suits made valid = Quiet (record { none = made; did = suits; turn = none_asked e.turn (sym suits ∙ law.did) })
   kind_by (steps.Ignore handle) outcomes.Pending s o suits made valid = absurd suits
   kind_by (steps.Ignore handle) (outcomes.Reply reply) s o suits made valid = absurd suits
-  kind_by (steps.Ignore handle) (outcomes.Misuse why) s o suits made valid = Quiet (record { none = made; did = suits })
-  kind_by (steps.Start handle call) outcomes.Applied s o suits made valid = Quiet (record { none = made; did = suits })
+  kind_by (steps.Ignore handle) (outcomes.Misuse why) s o suits made valid = Quiet (record { none = made; did = suits; turn = none_asked e.turn (sym suits ∙ law.did) })
+  kind_by (steps.Start handle call) outcomes.Applied s o suits made valid = Quiet (record { none = made; did = suits; turn = none_asked e.turn (sym suits ∙ law.did) })
   kind_by (steps.Start handle call) outcomes.Pending s o suits made valid = absurd suits
   kind_by (steps.Start handle call) (outcomes.Reply reply) s o suits made valid = absurd suits
-  kind_by (steps.Start handle call) (outcomes.Misuse why) s o suits made valid = Quiet (record { none = made; did = suits })
+  kind_by (steps.Start handle call) (outcomes.Misuse why) s o suits made valid = Quiet (record { none = made; did = suits; turn = none_asked e.turn (sym suits ∙ law.did) })
 
   pub kind_of : Kind first past e
   kind_of = kind_by e.step e.outcome refl refl law.suits law.change law.valid
@@ -178,24 +184,24 @@ module _ (first : Volume) (past : List Event) (e : Event) where
   disk = disk_after first past
 
   abbrev pub after : Tree
-  after = tree_of (disk_after_record disk e.entry).state
+  after = tree_of (disk_after_event disk e).state
 
-  after_by : (did : Did) (change : Option Change) → e.entry.did ≡ did → e.entry.change ≡ change → after ≡ tree_of (disk_after_did disk did change).state
-  after_by did change did_is change_is = ap (λ d. tree_of (disk_after_did disk d e.entry.change).state) did_is ∙ ap (λ c. tree_of (disk_after_did disk did c).state) change_is
+  after_by : (turn : Option (DiskAsk × DiskAnswer)) (change : Option Change) → e.turn ≡ turn → e.entry.change ≡ change → after ≡ tree_of (disk_after_turn disk turn change).state
+  after_by turn change turn_is change_is = ap (λ t. tree_of (disk_after_turn disk t e.entry.change).state) turn_is ∙ ap (λ c. tree_of (disk_after_turn disk turn c).state) change_is
 
   quietly : IsQuiet e → after ≡ tree_of disk.state
-  quietly q = after_by Nothing None q.did q.none
+  quietly q = after_by None None q.turn q.none
 
   made_outside : (m : IsMade first past e) → after ≡ changed (tree_of disk.state) m.change
   unfolding after_outside_change
-  made_outside m = after_by Nothing (Some m.change) m.did m.makes ∙ after_change-tree disk.state m.change
+  made_outside m = after_by None (Some m.change) m.turn m.makes ∙ after_change-tree disk.state m.change
 
   left_by_turn : (change : Option Change) → after ≡ tree_of (written disk.state change) → IsLeft (tree_of disk.state) after change
   left_by_turn None is = is
   left_by_turn (Some change) is = is ∙ tree_of-written disk.state change
 
   pub turned_left : (t : IsTurned first past e) → IsLeft (tree_of disk.state) after e.entry.change
-  turned_left t = left_by_turn e.entry.change (ap (λ d. tree_of (disk_after_did disk d e.entry.change).state) t.works.asked)
+  turned_left t = left_by_turn e.entry.change (ap (λ turn. tree_of (disk_after_turn disk turn e.entry.change).state) t.works.told)
 
   pub left : Kind first past e → IsLeft (tree_of disk.state) after e.entry.change
   left (Turned t) = turned_left t

@@ -91,12 +91,12 @@ knows_push first events e handle store ignoring begun turns (Calling (Written re
 -- a handle at work goes on as it is over an event that isn't its turn
 pub runs-push : (first : Volume) (events : List Event) (e : Event) (handle : ℕ) (status : Status) → ¬ IsTurnOf handle e.step → Runs first events handle status → Runs first (events ++ e ∷ []) handle status
 runs-push first events e handle Free other runs = tt
-runs-push first events e handle (Resting store ignoring) other runs = open_store_kept events e store runs
+runs-push first events e handle (Resting store ignoring) other runs = open_store_kept events e handle store runs
 runs-push first events e handle (Working store ignoring begun turns work) other runs =
     let longer : length events ≤ length (events ++ e ∷ []) = omega (arith, length-append events (e ∷ [])) in (
       omega (arith, longer, runs.0),
       knows_push first events e handle store ignoring begun turns work other runs.1,
-      open_store_kept events e store runs.2,
+      open_store_kept events e handle store runs.2,
     )
 
 runs_either : (first : Volume) (events : List Event) (e : Event) (number : ℕ) (status : Status) (other : ℕ) (before : Status) (b : Bool) → (other == number) ≡ b

@@ -111,11 +111,11 @@ knows_calling first events e handle store ignoring (call_kinds.Header id) sized 
 knows_calling first events e handle store ignoring (call_kinds.Test id) sized starts = (begun_here events e handle (call_kinds.Test id) starts, seen_querying first events e handle store ignoring (Test id))
 knows_calling first events e handle store ignoring (call_kinds.Write kind size bytes id) sized starts = writing_begun first events e handle store.parts.objects kind size bytes id sized starts
 
-runs_calling : (first : Volume) (events : List Event) (e : Event) (handle : ℕ) (store : Store) (ignoring : Bool) (call : Call) → IsOpenStore events store → HasSize call → e.step ≡ steps.Start handle call
+runs_calling : (first : Volume) (events : List Event) (e : Event) (handle : ℕ) (store : Store) (ignoring : Bool) (call : Call) → IsOpenStore events handle store → HasSize call → e.step ≡ steps.Start handle call
     → Runs first (events ++ e ∷ []) handle (Working store ignoring (length events + 1) 0 (call_started store ignoring call))
 runs_calling first events e handle store ignoring call of_step sized starts =
     let whole : length (events ++ e ∷ []) ≡ length events + 1 = length-append events (e ∷ []) in
-    (omega (arith, whole), knows_calling first events e handle store ignoring call sized starts, open_store_kept events e store of_step)
+    (omega (arith, whole), knows_calling first events e handle store ignoring call sized starts, open_store_kept events e handle store of_step)
 
 runs_started : (number : ℕ) (call : Call) → HasSize call → (first : Volume) (events : List Event) (e : Event) (status : Status) → e.step ≡ steps.Start number call → ((other : ℕ) → ¬ IsTurnOf other e.step)
     → Runs first events number status → Runs first (events ++ e ∷ []) number (started (length events + 1) call status)

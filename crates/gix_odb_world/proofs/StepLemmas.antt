@@ -16,7 +16,7 @@ use Rattle.gix_odb_world.specs.declared.record.Did.TheVariants.{Nothing}
 use Rattle.gix_odb_world.specs.declared.handle.Handle.{Handle}
 use Rattle.gix_odb_world.specs.declared.world.World.{World}
 use Rattle.gix_odb_world.specs.Event.{Event, Status, Free, Resting, Working, status_of, status_after, with_status}
-use Rattle.gix_odb_world.specs.Run.{disk_after, disk_after_record, disk_after_change, IsTurnOf}
+use Rattle.gix_odb_world.specs.Run.{disk_after, disk_after_event, disk_after_change, IsTurnOf}
 use Rattle.gix_odb_world.specs.Running.{Runs}
 use Rattle.gix_odb_world.specs.Valid.{phase_of, why_not, why_not_after, why_not_open, why_not_idle, why_not_running, misuse_of, is_openable}
 use Rattle.gix_odb_world.specs.Headline.{Law, Suits, ChangesAs}
@@ -50,7 +50,7 @@ why_not-same first events world (steps.Disk change) explains =
 -- ---- one event more
 
 pub goes_on : (first : Volume) (events : List Event) (old new : World) (e : Event) → Explains first events old → Law first events e
-    → new.outcomes ≡ old.outcomes ++ e.outcome ∷ [] → new.records ≡ old.records ++ e.entry ∷ [] → new.disk ≡ disk_after_record old.disk e.entry
+    → new.outcomes ≡ old.outcomes ++ e.outcome ∷ [] → new.records ≡ old.records ++ e.entry ∷ [] → new.disk ≡ disk_after_event old.disk e
     → ((handle : ℕ) → Matches (status_after (length events + 1) e.step e.outcome e.turn (status_of events) handle) (handle_at new handle))
     → ((handle : ℕ) → Runs first (events ++ e ∷ []) handle (status_after (length events + 1) e.step e.outcome e.turn (status_of events) handle))
     → GoesOn first events e.step e.outcome new
@@ -63,7 +63,7 @@ goes_on first events old new e explains law outcomes records disk handles runnin
       explains = record {
         outcomes = map-append (λ (x : Event). x.outcome) events (e ∷ []) ∙ ap (λ os. os ++ e.outcome ∷ []) explains.outcomes ∙ sym outcomes;
         records = map-append (λ (x : Event). x.entry) events (e ∷ []) ∙ ap (λ rs. rs ++ e.entry ∷ []) explains.records ∙ sym records;
-        disk = disk ∙ ap (λ d. disk_after_record d e.entry) explains.disk ∙ sym (disk_after-push first events e);
+        disk = disk ∙ ap (λ d. disk_after_event d e) explains.disk ∙ sym (disk_after-push first events e);
         handles = λ handle. subst (λ (table : ℕ → Status). Matches (table handle) (handle_at new handle)) (sym (status_of-push events e)) (handles handle);
         running = λ handle. subst (λ (table : ℕ → Status). Runs first (events ++ e ∷ []) handle (table handle)) (sym (status_of-push events e)) (running handle);
         lawful = IsLawful-push first events e explains.lawful law;
@@ -134,7 +134,7 @@ status_after-misused number (steps.Disk change) why table = refl
 runs_misused : (first : Volume) (events : List Event) (e : Event) (why : Why) (handle : ℕ) (status : Status) → e.outcome ≡ outcomes.Misuse why
     → (IsTurnOf handle e.step → why_not_running (phase_of status) ≡ Some why) → Runs first events handle status → Runs first (events ++ e ∷ []) handle status
 runs_misused first events e why handle Free is reason runs = tt
-runs_misused first events e why handle (Resting store ignoring) is reason runs = open_store_kept events e store runs
+runs_misused first events e why handle (Resting store ignoring) is reason runs = open_store_kept events e handle store runs
 runs_misused first events e why handle (Working store ignoring begun turns work) is reason runs =
     runs-push first events e handle (Working store ignoring begun turns work) (λ turn. absurd (cc (reason turn))) runs
 

@@ -6,10 +6,11 @@ use Rattle.odb_disk.specs.Tree.{IsTree, tree_of}
 use Rattle.odb_disk.specs.Tree.Write.{written}
 use Rattle.odb_disk.specs.declared.change.Change.{Change}
 use Rattle.gix_odb_loose.specs.LooseOrder.{disk_ask_of}
-use Rattle.odb_disk.specs.MemDisk.{Volume, next_fails, after_call}
-use Rattle.odb_disk.specs.Ask.{answer_now, change_of_ask, op_of, path_asked}
+use Rattle.odb_disk.specs.MemDisk.{Volume, next_fails}
+use Rattle.odb_disk.specs.Ask.{after_ask, answer_now, change_of_ask, op_of}
 use Rattle.odb_disk.specs.declared.ask.DiskAsk.{DiskAsk}
 use Rattle.odb_disk.specs.declared.ask.DiskAnswer.{DiskAnswer}
+use Rattle.gix_odb_world.specs.Recorded.{path_recorded}
 use Rattle.gix_odb_world.specs.declared.step.Step.TheVariants as steps
 use Rattle.gix_odb_world.specs.declared.step.Outcome.TheVariants as outcomes
 use Rattle.gix_odb_world.specs.declared.call.CallError.TheVariants as call_errors
@@ -36,7 +37,7 @@ use Rattle.gix_odb_world.specs.Contents.{folder_list}
 use Rattle.gix_odb_world.specs.Event.{Event, Store, Status, Free, Resting, Working, status_of, replied, turned, fed_in}
 use Rattle.gix_odb_world.specs.Event as statuses
 use Rattle.gix_odb_world.specs.Handle.{IsHandleOf}
-use Rattle.gix_odb_world.specs.Run.{BegunAs, BegunBy, Fails, FailedSince, IsOpenStore, MakeCall, OpenStore, Task, change_by, did_of, disk_after, disk_after_did, has_failed, tree_at}
+use Rattle.gix_odb_world.specs.Run.{BegunAs, BegunBy, Fails, FailedSince, IsOpenStore, MakeCall, OpenStore, Task, change_by, did_of, disk_after, disk_after_turn, has_failed, tree_at}
 use Rattle.gix_odb_world.specs.Running.{Knows, Runs, Seen, call_of}
 use Rattle.gix_odb_world.specs.Valid.{phase_of, why_not_running, misuse_of}
 use Rattle.gix_odb_world.specs.Headline.{ChangesAs, ChangesInTask, Law, Turns, Works, Suits, outcome_of}
@@ -46,7 +47,7 @@ use Rattle.gix_odb_world.specs.World.{Explains, Matches}
 use Rattle.gix_odb_world.specs.Table.{after_reply, after_turn}
 use Rattle.gix_odb_world.specs.Writing.{call_to_write}
 use Rattle.gix_odb_world.proofs.RunLemmas.{disk_after-push, tree_at-now, tree_at-before, failed-kept, failed_last, failed_before}
-use Rattle.gix_odb_world.proofs.WorkLemmas.{Acts, LookPromise, LooksOnly, SameQuery, WorkComes, acts, comes}
+use Rattle.gix_odb_world.proofs.WorkLemmas.{Acts, LookPromise, LooksOnly, SameQuery, WorkComes, acts, comes, ask_in-still}
 use Rattle.gix_odb_world.proofs.AskLemmas.{in_order_opening, in_order_query, in_order_write}
 use Rattle.gix_odb_world.proofs.WriteAsk.{change_by-quiet}
 use Rattle.gix_odb_world.proofs.WriteFive.{five_written}
@@ -200,7 +201,7 @@ module _ (first : Volume) (events : List Event) (e : Event) (handle : ℕ) (stor
     shown_of : change_by disk_of ask ≡ None → tree_at first whole_of (length events + 1) ≡ tree_of disk_of.state
     shown_of none =
         tree_at-now first events e
-        ∙ (ap (λ did. tree_of (disk_after_did disk_of did e.entry.change).state) is.did ∙ ap (λ change. tree_of (written disk_of.state change)) (is.change ∙ none))
+        ∙ (ap (λ turn. tree_of (disk_after_turn disk_of turn e.entry.change).state) is.asked ∙ ap (λ change. tree_of (written disk_of.state change)) (is.change ∙ none))
 
     abbrev LookComes : Work → Result Reply Work → (none : change_by disk_of ask ≡ None) → Type 0
     LookComes work result none = WorkComes (tree_at first events) (tree_at first whole_of) (FailedSince events handle begun) (FailedSince whole_of handle begun) store ignoring begun (length events) since (tree_at-before first events e)
@@ -281,7 +282,7 @@ module _ (first : Volume) (events : List Event) (old : World) (number : ℕ) (st
   abbrev pub after : Work
   after = fed_in store work given
 
-  module _ (tree : IsTree (tree_of old.disk.state)) (faults : ℕ) (counted : faults ≡ (after_call old.disk).calls.faults) where
+  module _ (tree : IsTree (tree_of old.disk.state)) (faults : ℕ) (counted : faults ≡ (after_ask old.disk act.ask).calls.faults) where
     abbrev pub event : Event
     event = record { step = steps.Turn number; outcome = outcome_of (result_in after); entry = record { did = did_of act.ask given; change = change_by old.disk act.ask; faults = faults }; turn = Some (act.ask, given) }
 
@@ -289,13 +290,13 @@ module _ (first : Volume) (events : List Event) (old : World) (number : ℕ) (st
     whole = events ++ event ∷ []
 
     listed : has_failed given ≡ next_fails old.disk
-    listed = has_failed-now old.disk act.ask
+    listed = has_failed-now old.disk act.ask (ask_in-still store.parts.objects work act.ask act.asks)
 
     turn_is : IsTurnWith first events event number act.ask
     turn_is =
         record {
           turn = refl;
-          did = ap (Disk (op_of act.ask) (path_asked act.ask)) (listed ∙ ap next_fails explains.disk);
+          did = ap (Disk (op_of act.ask) (path_recorded act.ask)) (listed ∙ ap next_fails explains.disk);
           asked = ap (λ d. Some (act.ask, answer_now d act.ask)) explains.disk;
           change = ap (λ d. change_by d act.ask) explains.disk;
           tree = subst (λ (d : Volume). IsTree (tree_of d.state)) explains.disk tree;
@@ -353,7 +354,7 @@ module _ (first : Volume) (events : List Event) (old : World) (number : ℕ) (st
           suits = suits_turn number (result_in after) act.ask given;
           change = changes_turn number (result_in after) event.entry.change;
           failed = listed ∙ ap next_fails explains.disk;
-          faults = counted ∙ (ap (λ d. (after_call d).calls.faults) explains.disk ∙ ap (λ (d : Volume). d.calls.faults) (sym (disk_after-push first events event)));
+          faults = counted ∙ (ap (λ d. (after_ask d act.ask).calls.faults) explains.disk ∙ ap (λ (d : Volume). d.calls.faults) (sym (disk_after-push first events event)));
           did = refl;
           worked = of_turn (λ h s i b t w. Works first events h s i b t w event) works;
           promise = λ handle other mode since taken own task reply turns_it began is.
@@ -385,8 +386,8 @@ module _ (first : Volume) (events : List Event) (old : World) (number : ℕ) (st
     matches_next state own (Ok reply) is = matches_rest state own reply
     matches_next state own (Err left) is = (own, ap Some (left_of after left is))
 
-    open_still : IsOpenStore whole store
-    open_still = open_store_kept events event store runs.2
+    open_still : IsOpenStore whole number store
+    open_still = open_store_kept events event number store runs.2
 
     runs_rest : (reply : Reply) → Runs first whole number (statuses.after_reply store ignoring reply)
     runs_rest (replies.Refused (call_errors.Open error)) = tt

@@ -1,7 +1,7 @@
 -- A turn takes the history of its world one event on.
 use Rattle.std.proofs.Common.{◌≡◌, ℕ, ◌+◌, Bool, true, false, List, [], ◌∷◌, ◌++◌, length, Some, None, Ok, Err, Option, Result, refl, sym, ◌∙◌, ap, subst}
 use Rattle.std.specs.Prelude.{if◌then◌else◌, ◌==◌}
-use Rattle.odb_disk.specs.MemDisk.{Volume, after_call}
+use Rattle.odb_disk.specs.MemDisk.{Volume}
 use Rattle.odb_disk.specs.Ask.{answer_now, after_ask, change_of_ask}
 use Rattle.odb_disk.specs.Tree.{IsTree, tree_of}
 use Rattle.odb_disk.specs.Tree.Write.{written}
@@ -28,7 +28,7 @@ use Rattle.gix_odb_world.proofs.RunningLemmas.{runs_set}
 use Rattle.gix_odb_world.proofs.StepLemmas.{goes_on, table_noted}
 use Rattle.gix_odb_world.specs.Run.{change_by, did_of}
 use Rattle.gix_odb_world.proofs.FailedLemmas.{has_failed-now}
-use Rattle.gix_odb_world.proofs.WorkLemmas.{Acts}
+use Rattle.gix_odb_world.proofs.WorkLemmas.{Acts, ask_in-still}
 use Rattle.gix_odb_world.proofs.WriteAsk.{after_ask-change}
 use Rattle.gix_odb_world.proofs.WorldLemmas.{matches_set}
 use Rattle.gix_odb_world.proofs.TurnLaw.{act, come, event, law, matches_next, runs_next}
@@ -82,15 +82,15 @@ module _ (old took mid new : World) (disk : Volume) (number : ℕ) (state : Hand
       took_it.after_is ∙ (ap (work_now took.disk state work) asked ∙ (ap (λ d. work_now d state work (Some does.ask)) same_disk
       ∙ (ap (λ slots. fed slots state.folders state.alloc_limit_bytes work answer) own.slots
       ∙ (ap (λ folders. fed store.slots folders state.alloc_limit_bytes work answer) own.folders ∙ ap (λ limit. fed store.slots store.parts.folders limit work answer) own.limit)))) in
-      let disk_is : disk ≡ record (after_call old.disk) { state = written old.disk.state (change_by old.disk does.ask) } =
-      took_it.disk_is ∙ (ap (disk_now took.disk) asked ∙ (ap (λ d. after_ask d does.ask) same_disk ∙ after_ask-change old.disk does.ask)) in
+      let called : disk ≡ after_ask old.disk does.ask = took_it.disk_is ∙ (ap (disk_now took.disk) asked ∙ ap (λ d. after_ask d does.ask) same_disk) in
+      let disk_is : disk ≡ record (after_ask old.disk does.ask) { state = written old.disk.state (change_by old.disk does.ask) } = called ∙ after_ask-change old.disk does.ask in
       let change_is : change ≡ change_by old.disk does.ask =
-      took_it.change_is ∙ (ap (change_now took.disk) asked ∙ (ap (λ d. change_now d (Some does.ask)) same_disk ∙ ap (λ b. if b then None else change_of_ask (tree_of old.disk.state) does.ask) (has_failed-now old.disk does.ask))) in
+      took_it.change_is ∙ (ap (change_now took.disk) asked ∙ (ap (λ d. change_now d (Some does.ask)) same_disk ∙ ap (λ b. if b then None else change_of_ask (tree_of old.disk.state) does.ask) (has_failed-now old.disk does.ask (ask_in-still store.parts.objects work does.ask does.asks)))) in
       let tree : IsTree (tree_of old.disk.state) = subst (λ (d : Volume). IsTree (tree_of d.state)) same_disk took_it.tree in
       let result : Result Reply Work = result_in going in
       let outcome_is : outcome ≡ outcome_of result = took_it.outcome_is ∙ ap (λ w. outcome_of (result_in w)) left_is in
       let handle_is : handle ≡ after_turn state result = took_it.handle_is ∙ ap (λ w. after_turn state (result_in w)) left_is in
-      let counted : mid.disk.calls.faults ≡ (after_call old.disk).calls.faults = ap (λ (d : Volume). d.calls.faults) (took_it.sets.disk ∙ disk_is) in
+      let counted : mid.disk.calls.faults ≡ (after_ask old.disk does.ask).calls.faults = ap (λ (d : Volume). d.calls.faults) (took_it.sets.disk ∙ called) in
       let e : Event = event first events old number store ignoring begun turns work explains status tree mid.disk.calls.faults counted in
       let table : ℕ → Status = status_of events in
       let told : DiskAsk × DiskAnswer = (does.ask, answer) in

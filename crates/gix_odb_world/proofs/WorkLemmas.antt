@@ -5,6 +5,7 @@ use Rattle.odb_disk.specs.Tree.{Tree, tree_of}
 use Rattle.odb_disk.specs.Tree.Follow.{Refusal, Absent, WrongKind, LinkLoop, looked}
 use Rattle.odb_disk.specs.MemDisk.{Volume, next_fails}
 use Rattle.odb_disk.specs.Ask.{answer_now, answer_of, change_of_ask, meta_answer}
+use Rattle.odb_disk.specs.StreamAsks.{is_of_streams}
 use Rattle.odb_disk.specs.declared.ask.DiskAsk.{DiskAsk}
 use Rattle.odb_disk.specs.declared.ask.DiskAsk.TheVariants as asks
 use Rattle.odb_disk.specs.declared.ask.DiskAnswer.TheVariants as answers
@@ -13,6 +14,7 @@ use Rattle.odb_disk.specs.declared.disk.Kind.{Kind}
 use Rattle.odb_disk.specs.declared.disk.Kind.TheVariants as kinds
 use Rattle.odb_disk.specs.declared.disk.DiskError.TheVariants as disk_errors
 use Rattle.gix_odb_loose.specs.declared.find.Error as loose
+use Rattle.gix_odb_loose.proofs.StillAskLaws.{call_asks_still}
 use Rattle.gix_odb_world.specs.declared.call.Reply.{Reply}
 use Rattle.gix_odb_world.specs.declared.call.Reply.TheVariants as replies
 use Rattle.gix_odb_world.specs.declared.look_state.LookState.{LookState}
@@ -52,6 +54,18 @@ pub record Acts (objects : Path) (work : Work) : Type 0 where
   pub ask : DiskAsk
   pub asks : ask_in objects work ≡ Some ask
   pub quiet : LooksOnly work → (tree : Tree) → change_of_ask tree ask ≡ None
+
+-- no work names a call of streams
+pub ask_in-still : (objects : Path) (work : Work) (ask : DiskAsk) → ask_in objects work ≡ Some ask → is_of_streams ask ≡ false
+ask_in-still objects (Opening opens.Looking) ask is = let same : asks.Look objects true ≡ ask = cc is in ap is_of_streams (sym same)
+ask_in-still objects (Opening (opens.Done reply)) ask is = absurd (cc is)
+ask_in-still objects (Calling (Looking state)) ask is = at_stage state.stage is
+  where
+    at_stage : (stage : Stage) → ask_at stage ≡ Some ask → is_of_streams ask ≡ false
+    at_stage (stages.Loose next noted folder) is = call_asks_still folder ask is
+    at_stage (stages.Done reply) is = absurd (cc is)
+ask_in-still objects (Calling (Writing folder)) ask is = call_asks_still folder ask is
+ask_in-still objects (Calling (Written reply)) ask is = absurd (cc is)
 
 acts_calling : (objects : Path) (limit : Option ℕ) (head : Head) (stage : Stage) (turns : ℕ) (noted : Option loose.Error) (folder : Path) → stage ≡ stages.Loose turns noted (asking limit head.query head.id folder)
     → Acts objects (Calling (Looking (record { head = head; stage = stage })))

@@ -1,10 +1,13 @@
 -- What a call of the disk that writes was answered, and the change that it made.
-use Rattle.std.proofs.Common.{◌≡◌, ◌≢◌, ℕ, Bool, true, false, List, Option, Some, None, Result, Ok, Err, refl, sym, ap, ◌∙◌, subst}
-use Rattle.std.specs.Prelude.{if◌then◌else◌}
+use Rattle.std.proofs.Common.{◌≡◌, ◌≢◌, ℕ, Bool, true, false, List, [], ◌∷◌, Option, Some, None, Result, Ok, Err, refl, sym, ap, ◌∙◌, subst}
+use Rattle.std.specs.Prelude.{if◌then◌else◌, ◌&&◌}
 use Rattle.std.specs.Result.{result_ok}
 use Rattle.odb_base.specs.Path.{Path}
-use Rattle.odb_disk.specs.Ask.{answer_now, answer_of, change_of_ask, after_ask, error_of, file_answer, meta_answer, ran_out, write_answer}
-use Rattle.odb_disk.specs.MemDisk.{Volume, next_fails, after_call}
+use Rattle.odb_disk.specs.Ask.{answer_in, answer_now, answer_of, change_of_ask, after_ask, dir_answer, entry_answer, error_of, fails_now, file_answer, is_counted, meta_answer, ran_out, write_answer}
+use Rattle.odb_disk.specs.StreamAsks.{is_of_streams, least_closed}
+use Rattle.odb_disk.specs.Streams.{Streams, opened, still_gives}
+use Rattle.odb_disk.proofs.StillAskLaws.{answer_now-still}
+use Rattle.odb_disk.specs.MemDisk.{Volume, next_fails}
 use Rattle.odb_disk.specs.Tree.{Tree, State, tree_of}
 use Rattle.odb_disk.specs.Tree.Follow.{Refusal, Absent, WrongKind, LinkLoop, looked, read_of}
 use Rattle.odb_disk.specs.Tree.Write as writing
@@ -15,6 +18,7 @@ use Rattle.odb_disk.specs.declared.ask.DiskAsk.{DiskAsk}
 use Rattle.odb_disk.specs.declared.ask.DiskAsk.TheVariants as asks
 use Rattle.odb_disk.specs.declared.change.Change.{Change}
 use Rattle.odb_disk.specs.declared.disk.DiskError.TheVariants as disk_errors
+use Rattle.odb_disk.specs.declared.disk.Entry.{Entry}
 use Rattle.odb_disk.specs.declared.disk.Meta.{Meta}
 use Rattle.gix_odb_world.specs.Run.{change_by}
 
@@ -41,15 +45,39 @@ ran_out-write (Err writing.LinkLoop) = refl
 ran_out-write (Err writing.Exists) = refl
 ran_out-write (Err writing.NotEmpty) = refl
 
+ran_out-dir : (dir : ℕ) (told : Result (List Entry) Refusal) → ran_out (dir_answer dir told) ≡ false
+ran_out-dir dir (Ok entries) = refl
+ran_out-dir dir (Err refusal) = ran_out-error refusal
+
+ran_out-entry : (left : Option (List Entry)) → ran_out (entry_answer left) ≡ false
+ran_out-entry (Some (entry ∷ rest)) = refl
+ran_out-entry (Some []) = refl
+ran_out-entry None = refl
+
 ran_out-told : (tree : Tree) (ask : DiskAsk) → ran_out (answer_of tree ask) ≡ false
 unfolding answer_of
 ran_out-told tree (asks.Look path follow) = ran_out-meta (looked tree path follow)
 ran_out-told tree (asks.Read path) = ran_out-file (read_of tree path)
+ran_out-told tree (asks.OpenDir path) = ran_out-dir 0 (opened tree path)
+ran_out-told tree (asks.NextEntry dir) = refl
+ran_out-told tree (asks.CloseDir dir) = refl
 ran_out-told tree (asks.MakeDir path) = ran_out-write (change_of_make_dir tree path)
 ran_out-told tree (asks.NewFile path) = ran_out-write (change_of_new_file tree path)
 ran_out-told tree (asks.Append path bytes) = ran_out-write (change_of_append tree path bytes)
 ran_out-told tree (asks.Rename from to) = ran_out-write (change_of_rename tree from to)
 ran_out-told tree (asks.Remove path) = ran_out-write (change_of_remove tree path)
+
+ran_out-in : (tree : Tree) (streams : Streams) (ask : DiskAsk) → ran_out (answer_in tree streams ask) ≡ false
+ran_out-in tree streams (asks.Look path follow) = ran_out-told tree (asks.Look path follow)
+ran_out-in tree streams (asks.Read path) = ran_out-told tree (asks.Read path)
+ran_out-in tree streams (asks.OpenDir path) = ran_out-dir (least_closed streams) (opened tree path)
+ran_out-in tree streams (asks.NextEntry dir) = ran_out-entry (still_gives streams dir)
+ran_out-in tree streams (asks.CloseDir dir) = ran_out-told tree (asks.CloseDir dir)
+ran_out-in tree streams (asks.MakeDir path) = ran_out-told tree (asks.MakeDir path)
+ran_out-in tree streams (asks.NewFile path) = ran_out-told tree (asks.NewFile path)
+ran_out-in tree streams (asks.Append path bytes) = ran_out-told tree (asks.Append path bytes)
+ran_out-in tree streams (asks.Rename from to) = ran_out-told tree (asks.Rename from to)
+ran_out-in tree streams (asks.Remove path) = ran_out-told tree (asks.Remove path)
 
 ran_out-either : (fails : Bool) (answer : DiskAnswer) → ran_out answer ≡ false → ran_out (if fails then answers.Refused disk_errors.Failed else answer) ≡ false
 ran_out-either true answer told = refl
@@ -57,7 +85,7 @@ ran_out-either false answer told = told
 
 pub never_wants : (disk : Volume) (ask : DiskAsk) → answers.Refused disk_errors.NoMemory ≢ answer_now disk ask
 never_wants disk ask e =
-    let none : ran_out (answer_now disk ask) ≡ false = ran_out-either (next_fails disk) (answer_of (tree_of disk.state) ask) (ran_out-told (tree_of disk.state) ask) in
+    let none : ran_out (answer_now disk ask) ≡ false = ran_out-either (fails_now disk ask) (answer_in (tree_of disk.state) disk.streams ask) (ran_out-in (tree_of disk.state) disk.streams ask) in
     let some : true ≡ ran_out (answer_now disk ask) = ap ran_out e in
     cc (none, some)
 
@@ -67,11 +95,6 @@ after_either : (disk : Volume) (change : Option Change) (fails : Bool) → writt
 after_either disk change true = refl
 after_either disk change false = refl
 
--- the record of a call takes the disk on as the call did
-pub after_ask-change : (disk : Volume) (ask : DiskAsk) → after_ask disk ask ≡ record (after_call disk) { state = written disk.state (change_by disk ask) }
-unfolding after_ask
-after_ask-change disk ask = ap (λ (s : State). record (after_call disk) { state = s }) (sym (after_either disk (change_of_ask (tree_of disk.state) ask) (next_fails disk)))
-
 -- a call that makes no change in the tree
 pub change_by-quiet : (disk : Volume) (ask : DiskAsk) → change_of_ask (tree_of disk.state) ask ≡ None → change_by disk ask ≡ None
 change_by-quiet disk ask quiet = by_failing (next_fails disk)
@@ -80,32 +103,63 @@ change_by-quiet disk ask quiet = by_failing (next_fails disk)
     by_failing true = refl
     by_failing false = quiet
 
+-- a close of a stream, which isn't counted and never fails, has no change to make
+uncounted_quiet : (tree : Tree) (ask : DiskAsk) → is_counted ask ≡ false → change_of_ask tree ask ≡ None
+unfolding change_of_ask
+uncounted_quiet tree (asks.Look path follow) is = absurd (cc)
+uncounted_quiet tree (asks.Read path) is = absurd (cc)
+uncounted_quiet tree (asks.OpenDir path) is = absurd (cc)
+uncounted_quiet tree (asks.NextEntry dir) is = absurd (cc)
+uncounted_quiet tree (asks.CloseDir dir) is = refl
+uncounted_quiet tree (asks.MakeDir path) is = absurd (cc)
+uncounted_quiet tree (asks.NewFile path) is = absurd (cc)
+uncounted_quiet tree (asks.Append path bytes) is = absurd (cc)
+uncounted_quiet tree (asks.Rename from to) is = absurd (cc)
+uncounted_quiet tree (asks.Remove path) is = absurd (cc)
+
+-- a call that fails makes no change
+module _ (disk : Volume) (ask : DiskAsk) where
+  state_by_counted : (counted : Bool) → is_counted ask ≡ counted → (if counted && next_fails disk then disk.state else written disk.state (change_of_ask (tree_of disk.state) ask)) ≡ written disk.state (change_by disk ask)
+  state_by_counted true is = sym (after_either disk (change_of_ask (tree_of disk.state) ask) (next_fails disk))
+  state_by_counted false is =
+      let quiet = uncounted_quiet (tree_of disk.state) ask is in
+      ap (λ (change : Option Change). written disk.state change) (quiet ∙ sym (change_by-quiet disk ask quiet))
+
+  state_by : (if fails_now disk ask then disk.state else written disk.state (change_of_ask (tree_of disk.state) ask)) ≡ written disk.state (change_by disk ask)
+  state_by = state_by_counted (is_counted ask) refl
+
+-- the record of a call takes the disk on as the call did
+pub after_ask-change : (disk : Volume) (ask : DiskAsk) → after_ask disk ask ≡ record (after_ask disk ask) { state = written disk.state (change_by disk ask) }
+unfolding after_ask
+after_ask-change disk ask = ap (λ (s : State). record (after_ask disk ask) { state = s }) (state_by disk ask)
+
 -- ---- a call that writes
 
 -- the answer to a call and its change are what the tree makes of it
 pub record Told (tree : Tree) (ask : DiskAsk) (told : Result Change writing.Refusal) : Type 0 where
+  pub still : is_of_streams ask ≡ false
   pub answer : answer_of tree ask ≡ write_answer told
   pub change : change_of_ask tree ask ≡ result_ok told
 
 pub told_new_file : (tree : Tree) (path : Path) → Told tree (asks.NewFile path) (change_of_new_file tree path)
 unfolding answer_of change_of_ask
-told_new_file tree path = record { answer = refl; change = refl }
+told_new_file tree path = record { still = refl; answer = refl; change = refl }
 
 pub told_append : (tree : Tree) (path : Path) (bytes : List ℕ) → Told tree (asks.Append path bytes) (change_of_append tree path bytes)
 unfolding answer_of change_of_ask
-told_append tree path bytes = record { answer = refl; change = refl }
+told_append tree path bytes = record { still = refl; answer = refl; change = refl }
 
 pub told_make_dir : (tree : Tree) (path : Path) → Told tree (asks.MakeDir path) (change_of_make_dir tree path)
 unfolding answer_of change_of_ask
-told_make_dir tree path = record { answer = refl; change = refl }
+told_make_dir tree path = record { still = refl; answer = refl; change = refl }
 
 pub told_rename : (tree : Tree) (from to : Path) → Told tree (asks.Rename from to) (change_of_rename tree from to)
 unfolding answer_of change_of_ask
-told_rename tree from to = record { answer = refl; change = refl }
+told_rename tree from to = record { still = refl; answer = refl; change = refl }
 
 pub told_remove : (tree : Tree) (path : Path) → Told tree (asks.Remove path) (change_of_remove tree path)
 unfolding answer_of change_of_ask
-told_remove tree path = record { answer = refl; change = refl }
+told_remove tree path = record { still = refl; answer = refl; change = refl }
 
 -- the call made the change that the tree makes of it
 pub record Made (disk : Volume) (ask : DiskAsk) (told : Result Change writing.Refusal) : Type 0 where
@@ -126,7 +180,7 @@ module _ (disk : Volume) (ask : DiskAsk) (told : Result Change writing.Refusal) 
 
   -- a call that was done made it
   pub done_made : answers.Done ≡ answer_now disk ask → Made disk ask told
-  done_made given = by_failing (next_fails disk) refl given
+  done_made given = by_failing (next_fails disk) refl (given ∙ answer_now-still disk ask tells.still)
     where
       by_failing : (fails : Bool) → next_fails disk ≡ fails → answers.Done ≡ answered fails → Made disk ask told
       by_failing true fails e = absurd (cc e)
@@ -136,7 +190,7 @@ module _ (disk : Volume) (ask : DiskAsk) (told : Result Change writing.Refusal) 
 
   -- one that wasn't made none
   pub undone_made : answers.Done ≢ answer_now disk ask → change_by disk ask ≡ None
-  undone_made other = by_failing (next_fails disk) refl other
+  undone_made other = by_failing (next_fails disk) refl (λ e. other (e ∙ sym (answer_now-still disk ask tells.still)))
     where
       by_told : (told' : Result Change writing.Refusal) → answers.Done ≢ write_answer told' → result_ok told' ≡ None
       by_told (Ok change) undone = absurd (undone refl)
@@ -168,15 +222,35 @@ changed_done : (tree : Tree) (ask : DiskAsk) (change : Change) → change_of_ask
 unfolding answer_of change_of_ask
 changed_done tree (asks.Look path follow) change is = absurd (cc)
 changed_done tree (asks.Read path) change is = absurd (cc)
+changed_done tree (asks.OpenDir path) change is = absurd (cc)
+changed_done tree (asks.NextEntry dir) change is = absurd (cc)
+changed_done tree (asks.CloseDir dir) change is = absurd (cc)
 changed_done tree (asks.MakeDir path) change is = told_done (change_of_make_dir tree path) change is
 changed_done tree (asks.NewFile path) change is = told_done (change_of_new_file tree path) change is
 changed_done tree (asks.Append path bytes) change is = told_done (change_of_append tree path bytes) change is
 changed_done tree (asks.Rename from to) change is = told_done (change_of_rename tree from to) change is
 changed_done tree (asks.Remove path) change is = told_done (change_of_remove tree path) change is
 
+changed_still : (tree : Tree) (ask : DiskAsk) (change : Change) → change_of_ask tree ask ≡ Some change → is_of_streams ask ≡ false
+unfolding change_of_ask
+changed_still tree (asks.OpenDir path) change is = absurd (cc)
+changed_still tree (asks.NextEntry dir) change is = absurd (cc)
+changed_still tree (asks.CloseDir dir) change is = absurd (cc)
+changed_still tree (asks.Look path follow) change is = refl
+changed_still tree (asks.Read path) change is = refl
+changed_still tree (asks.MakeDir path) change is = refl
+changed_still tree (asks.NewFile path) change is = refl
+changed_still tree (asks.Append path bytes) change is = refl
+changed_still tree (asks.Rename from to) change is = refl
+changed_still tree (asks.Remove path) change is = refl
+
 pub made_done : (disk : Volume) (ask : DiskAsk) (change : Change) → change_by disk ask ≡ Some change → answer_now disk ask ≡ answers.Done
-made_done disk ask change is = by_failing (next_fails disk) is
+made_done disk ask change is = answer_now-still disk ask (changed_still (tree_of disk.state) ask change (told_change (next_fails disk) is)) ∙ by_failing (next_fails disk) is
   where
+    told_change : (fails : Bool) → (if fails then None else change_of_ask (tree_of disk.state) ask) ≡ Some change → change_of_ask (tree_of disk.state) ask ≡ Some change
+    told_change true e = absurd (cc e)
+    told_change false e = e
+
     by_failing : (fails : Bool) → (if fails then None else change_of_ask (tree_of disk.state) ask) ≡ Some change → (if fails then answers.Refused disk_errors.Failed else answer_of (tree_of disk.state) ask) ≡ answers.Done
     by_failing true e = absurd (cc e)
     by_failing false e = changed_done (tree_of disk.state) ask change e

@@ -5,7 +5,7 @@ use Rattle.std.proofs.lemmas.List.{length-append, take-append-le}
 use Rattle.std.proofs.lemmas.Option.{slice_get_within}
 use Rattle.std.proofs.Math.Seq.{take-append_seam}
 use Rattle.odb_base.specs.Path.{Path}
-use Rattle.odb_disk.specs.Ask.{op_of, path_asked, answer_now}
+use Rattle.odb_disk.specs.Ask.{op_of, answer_now}
 use Rattle.odb_disk.specs.MemDisk.{Volume, next_fails}
 use Rattle.odb_disk.specs.Tree.{Tree}
 use Rattle.odb_disk.specs.Tree.Way.{SameOnWay}
@@ -21,6 +21,7 @@ use Rattle.gix_object.specs.declared.kind.Kind.{Kind}
 use Rattle.gix_odb_loose.specs.WriteHistory.{tried}
 use Rattle.gix_odb_loose.specs.declared.write_call.WriteHead.{WriteHead}
 use Rattle.gix_odb_loose.specs.declared.write_call.WriteStage.TheVariants as write_stages
+use Rattle.gix_odb_world.specs.Recorded.{path_recorded}
 use Rattle.gix_odb_world.specs.CallOrder.{writing}
 use Rattle.gix_odb_world.specs.declared.call.Call.{Call}
 use Rattle.gix_odb_world.specs.declared.call.Call.TheVariants.{Write}
@@ -53,8 +54,8 @@ opened_kept events e handle begun store o =
       parts = o.parts;
     }
 
-pub open_store_kept : (events : List Event) (e : Event) (store : Store) → IsOpenStore events store → IsOpenStore (events ++ e ∷ []) store
-open_store_kept events e store is = record { opener = is.opener; opened = opened_kept events e is.opener store.opened store is.opened }
+pub open_store_kept : (events : List Event) (e : Event) (handle : ℕ) (store : Store) → IsOpenStore events handle store → IsOpenStore (events ++ e ∷ []) handle store
+open_store_kept events e handle store is = opened_kept events e handle store.opened store is
 
 module _ (first : Volume) (events : List Event) (e : Event) where
   abbrev whole : List Event
@@ -71,7 +72,7 @@ module _ (first : Volume) (events : List Event) (e : Event) where
         event = a.event;
         there = slice_get-kept events e place a.event a.there;
         turn = a.turn;
-        did = a.did ∙ ap (λ es. Disk (op_of ask) (path_asked ask) (next_fails (disk_after first es))) (sym same);
+        did = a.did ∙ ap (λ es. Disk (op_of ask) (path_recorded ask) (next_fails (disk_after first es))) (sym same);
         asked = a.asked;
         given = a.given ∙ ap (λ es. answer_now (disk_after first es) ask) (sym same);
       }
@@ -80,7 +81,7 @@ module _ (first : Volume) (events : List Event) (e : Event) where
   asked_kept handle begun ask answer a = record { place = a.place; later = a.later; at = asked_at_kept handle a.place ask answer a.at }
 
   -- the last event's own call
-  pub asked_now : (handle : ℕ) (ask : DiskAsk) (answer : DiskAnswer) → IsTurnOf handle e.step → e.entry.did ≡ Disk (op_of ask) (path_asked ask) (next_fails (disk_after first events))
+  pub asked_now : (handle : ℕ) (ask : DiskAsk) (answer : DiskAnswer) → IsTurnOf handle e.step → e.entry.did ≡ Disk (op_of ask) (path_recorded ask) (next_fails (disk_after first events))
       → e.turn ≡ Some (ask, answer) → answer ≡ answer_now (disk_after first events) ask → AskedAt first whole handle (length events) ask answer
   asked_now handle ask answer turn did asked given =
       let same : take (length events) whole ≡ events = take-append_seam events (e ∷ []) in
@@ -88,7 +89,7 @@ module _ (first : Volume) (events : List Event) (e : Event) where
         event = e;
         there = slice_get-last events e;
         turn = turn;
-        did = did ∙ ap (λ es. Disk (op_of ask) (path_asked ask) (next_fails (disk_after first es))) (sym same);
+        did = did ∙ ap (λ es. Disk (op_of ask) (path_recorded ask) (next_fails (disk_after first es))) (sym same);
         asked = asked;
         given = given ∙ ap (λ es. answer_now (disk_after first es) ask) (sym same);
       }

@@ -6,7 +6,7 @@ use Rattle.std.proofs.lemmas.List.{length-take, take-append-drop}
 use Rattle.std.proofs.lemmas.List.Elements.{Contains-append_cases}
 use Rattle.std.proofs.Math.Seq.{take-length, drop-append_seam}
 use Rattle.odb_base.specs.Path.{Path}
-use Rattle.odb_disk.specs.Ask.{answer_now, op_of, path_asked}
+use Rattle.odb_disk.specs.Ask.{answer_now, op_of}
 use Rattle.odb_disk.specs.MemDisk.{Volume, next_fails}
 use Rattle.odb_disk.specs.Tree.{IsTree, Tree, tree_of}
 use Rattle.odb_disk.specs.Tree.Change.{changed}
@@ -45,9 +45,10 @@ use Rattle.gix_odb_loose.specs.declared.write_call.Refusal.TheVariants as refusa
 use Rattle.gix_odb_loose.specs.declared.write_call.WriteHead.{WriteHead}
 use Rattle.gix_odb_loose.specs.declared.write_call.WriteStage.{WriteStage}
 use Rattle.gix_odb_loose.specs.declared.write_call.WriteStage.TheVariants as stages
+use Rattle.gix_odb_world.specs.Recorded.{path_recorded}
 use Rattle.gix_odb_world.specs.declared.record.Did.TheVariants.{Disk}
 use Rattle.gix_odb_world.specs.Event.{Event}
-use Rattle.gix_odb_world.specs.Run.{IsTurnOf, change_by, disk_after, disk_after_did, tree_at}
+use Rattle.gix_odb_world.specs.Run.{IsTurnOf, change_by, disk_after, disk_after_turn, tree_at}
 use Rattle.gix_odb_world.specs.Running.{HadTurns, Holds, HoldsFile, IsFront, IsUntouched, IsWaiting, StandsAt, content_at, turns_left}
 use Rattle.gix_odb_world.specs.Writing.{AskedAt, AskedSince, CauseOfWrite, ChangedNothing, DoneSince, IsNewFile, IsRename, MadeOnly, RefusedSince, RenamedNothing, TakenSince, ToWrite, head_to_write, name_to_write}
 use Rattle.gix_odb_world.specs.Written.{HasWritten, WasRefused}
@@ -75,7 +76,7 @@ piece_had number piece pieces some few had = omega (arith, pieces.1, some, few, 
 -- the last event is a turn of the handle that made this call of the disk
 pub record IsTurnWith (first : Volume) (events : List Event) (e : Event) (handle : ℕ) (ask : DiskAsk) : Type 0 where
   pub turn : IsTurnOf handle e.step
-  pub did : e.entry.did ≡ Disk (op_of ask) (path_asked ask) (next_fails (disk_after first events))
+  pub did : e.entry.did ≡ Disk (op_of ask) (path_recorded ask) (next_fails (disk_after first events))
   pub asked : e.turn ≡ Some (ask, answer_now (disk_after first events) ask)
   pub change : e.entry.change ≡ change_by (disk_after first events) ask
   pub tree : IsTree (tree_of (disk_after first events).state)
@@ -114,7 +115,7 @@ module _ (first : Volume) (events : List Event) (e : Event) (handle begun turns 
     now_is : now ≡ tree_of (written disk.state (change_by disk ask))
     now_is =
         tree_at-now first events e
-        ∙ (ap (λ did. tree_of (disk_after_did disk did e.entry.change).state) is.did ∙ ap (λ change. tree_of (written disk.state change)) is.change)
+        ∙ (ap (λ turn. tree_of (disk_after_turn disk turn e.entry.change).state) is.asked ∙ ap (λ change. tree_of (written disk.state change)) is.change)
 
     now_changed : (change : Change) → change_by disk ask ≡ Some change → now ≡ changed before change
     now_changed change made = now_is ∙ (ap (λ c. tree_of (written disk.state c)) made ∙ (tree_of-written disk.state change ∙ ap (λ t. changed t change) before_is))
@@ -299,6 +300,9 @@ module _ (first : Volume) (events : List Event) (e : Event) (handle begun turns 
           )
       making (answers.Refused disk_errors.Exists) given = next_name given (nat_lt (number + 1) 16) refl
       making (answers.Meta meta) given = unmade (answers.Meta meta) given (refusals.Io messages.CreateTempFile) (λ d. cc d)
+      making (answers.Dir dir) given = unmade (answers.Dir dir) given (refusals.Io messages.CreateTempFile) (λ d. cc d)
+      making (answers.Entry entry) given = unmade (answers.Entry entry) given (refusals.Io messages.CreateTempFile) (λ d. cc d)
+      making answers.End given = unmade answers.End given (refusals.Io messages.CreateTempFile) (λ d. cc d)
       making (answers.File bytes time) given = unmade (answers.File bytes time) given (refusals.Io messages.CreateTempFile) (λ d. cc d)
       making (answers.Refused disk_errors.Absent) given = unmade (answers.Refused disk_errors.Absent) given (refusals.Io messages.CreateTempFile) (λ d. cc d)
       making (answers.Refused disk_errors.WrongKind) given = unmade (answers.Refused disk_errors.WrongKind) given (refusals.Io messages.CreateTempFile) (λ d. cc d)
@@ -340,6 +344,9 @@ module _ (first : Volume) (events : List Event) (e : Event) (handle begun turns 
             omega (arith, s.had),
           )
       heading (answers.Meta meta) given = unappended (header_of w.kind w.size) is (answers.Meta meta) given s.past s.asked s.appended (refusals.Io messages.WriteHeader) (λ d. cc d) s.made (omega (arith, s.time))
+      heading (answers.Dir dir) given = unappended (header_of w.kind w.size) is (answers.Dir dir) given s.past s.asked s.appended (refusals.Io messages.WriteHeader) (λ d. cc d) s.made (omega (arith, s.time))
+      heading (answers.Entry entry) given = unappended (header_of w.kind w.size) is (answers.Entry entry) given s.past s.asked s.appended (refusals.Io messages.WriteHeader) (λ d. cc d) s.made (omega (arith, s.time))
+      heading answers.End given = unappended (header_of w.kind w.size) is answers.End given s.past s.asked s.appended (refusals.Io messages.WriteHeader) (λ d. cc d) s.made (omega (arith, s.time))
       heading (answers.File bytes time) given = unappended (header_of w.kind w.size) is (answers.File bytes time) given s.past s.asked s.appended (refusals.Io messages.WriteHeader) (λ d. cc d) s.made (omega (arith, s.time))
       heading (answers.Refused error) given = unappended (header_of w.kind w.size) is (answers.Refused error) given s.past s.asked s.appended (refused_by (refusals.Io messages.WriteHeader) (answers.Refused error)) (λ d. cc d) s.made (omega (arith, s.time))
 
@@ -446,6 +453,9 @@ module _ (first : Volume) (events : List Event) (e : Event) (handle begun turns 
               omega (arith, s.had),
             )
         foldering (answers.Meta meta) given = unfoldered (answers.Meta meta) given refusals.IoRaw (λ d. cc d)
+        foldering (answers.Dir dir) given = unfoldered (answers.Dir dir) given refusals.IoRaw (λ d. cc d)
+        foldering (answers.Entry entry) given = unfoldered (answers.Entry entry) given refusals.IoRaw (λ d. cc d)
+        foldering answers.End given = unfoldered answers.End given refusals.IoRaw (λ d. cc d)
         foldering (answers.File bytes time) given = unfoldered (answers.File bytes time) given refusals.IoRaw (λ d. cc d)
         foldering (answers.Refused disk_errors.Absent) given = unfoldered (answers.Refused disk_errors.Absent) given refusals.IoRaw (λ d. cc d)
         foldering (answers.Refused disk_errors.WrongKind) given = unfoldered (answers.Refused disk_errors.WrongKind) given refusals.IoRaw (λ d. cc d)
@@ -506,6 +516,9 @@ module _ (first : Volume) (events : List Event) (e : Event) (handle begun turns 
         moving : (answer : DiskAnswer) (given : answer ≡ answer_now disk (asks.Rename path name_path)) → MovingParts answer given (next_write head.size 0 (stages.Moving number id) answer)
         moving answers.Done given = moved given
         moving (answers.Meta meta) given = unmoved (answers.Meta meta) given (refusals.Persist id) (λ d. cc d)
+        moving (answers.Dir dir) given = unmoved (answers.Dir dir) given (refusals.Persist id) (λ d. cc d)
+        moving (answers.Entry entry) given = unmoved (answers.Entry entry) given (refusals.Persist id) (λ d. cc d)
+        moving answers.End given = unmoved answers.End given (refusals.Persist id) (λ d. cc d)
         moving (answers.File bytes time) given = unmoved (answers.File bytes time) given (refusals.Persist id) (λ d. cc d)
         moving (answers.Refused error) given = unmoved (answers.Refused error) given (refused_by (refusals.Persist id) (answers.Refused error)) (λ d. cc d)
 
@@ -543,6 +556,15 @@ module _ (first : Volume) (events : List Event) (e : Event) (handle begun turns 
   stage_goes (stages.Filling number written) s more is (answers.Meta meta) given =
       goes _ is (answers.Meta meta) given s.past s.asked s.unnamed s.appended (next_write head.size (length (piece number written s more)) (stages.Filling number written) (answers.Meta meta))
       (IsHistory-next head Named ⊥ Counted (stages.Filling number written) s.appended (piece number written s more) s.past (answers.Meta meta) (counts number written s more is) (next_piece number written s more) s.history) (unfilled number written s more is (answers.Meta meta) given (refusals.Io messages.StreamData) (λ d. cc d))
+  stage_goes (stages.Filling number written) s more is (answers.Dir dir) given =
+      goes _ is (answers.Dir dir) given s.past s.asked s.unnamed s.appended (next_write head.size (length (piece number written s more)) (stages.Filling number written) (answers.Dir dir))
+      (IsHistory-next head Named ⊥ Counted (stages.Filling number written) s.appended (piece number written s more) s.past (answers.Dir dir) (counts number written s more is) (next_piece number written s more) s.history) (unfilled number written s more is (answers.Dir dir) given (refusals.Io messages.StreamData) (λ d. cc d))
+  stage_goes (stages.Filling number written) s more is (answers.Entry entry) given =
+      goes _ is (answers.Entry entry) given s.past s.asked s.unnamed s.appended (next_write head.size (length (piece number written s more)) (stages.Filling number written) (answers.Entry entry))
+      (IsHistory-next head Named ⊥ Counted (stages.Filling number written) s.appended (piece number written s more) s.past (answers.Entry entry) (counts number written s more is) (next_piece number written s more) s.history) (unfilled number written s more is (answers.Entry entry) given (refusals.Io messages.StreamData) (λ d. cc d))
+  stage_goes (stages.Filling number written) s more is answers.End given =
+      goes _ is answers.End given s.past s.asked s.unnamed s.appended (next_write head.size (length (piece number written s more)) (stages.Filling number written) answers.End)
+      (IsHistory-next head Named ⊥ Counted (stages.Filling number written) s.appended (piece number written s more) s.past answers.End (counts number written s more is) (next_piece number written s more) s.history) (unfilled number written s more is answers.End given (refusals.Io messages.StreamData) (λ d. cc d))
   stage_goes (stages.Filling number written) s more is (answers.File bytes time) given =
       goes _ is (answers.File bytes time) given s.past s.asked s.unnamed s.appended (next_write head.size (length (piece number written s more)) (stages.Filling number written) (answers.File bytes time))
       (IsHistory-next head Named ⊥ Counted (stages.Filling number written) s.appended (piece number written s more) s.past (answers.File bytes time) (counts number written s more is) (next_piece number written s more) s.history) (unfilled number written s more is (answers.File bytes time) given (refusals.Io messages.StreamData) (λ d. cc d))

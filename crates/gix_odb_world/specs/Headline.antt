@@ -4,7 +4,7 @@
 -- error has its cause.
 use Rattle.std.specs.Prelude.{◌≡◌, ◌⊎◌, ℕ, ◌+◌, ◌<◌, ◌≤◌, Bool, List, [], ◌∷◌, ◌++◌, map, length, take, slice_get, Option, Some, None, Result, Ok, Err}
 use Rattle.odb_disk.specs.MemDisk.{Volume, next_fails}
-use Rattle.odb_disk.specs.Ask.{op_of, path_asked, answer_now}
+use Rattle.odb_disk.specs.Ask.{op_of, answer_now}
 use Rattle.odb_disk.specs.declared.ask.DiskAsk.{DiskAsk}
 use Rattle.odb_disk.specs.declared.ask.DiskAsk.TheVariants as asks
 use Rattle.odb_base.specs.Path.{Path}
@@ -15,6 +15,7 @@ use Rattle.odb_disk.specs.declared.change.Change.TheVariants.{PutFile, MakeDir, 
 use Rattle.gix_hash.specs.declared.object_id.ObjectId.{ObjectId}
 use Rattle.gix_odb_loose.specs.LooseFile.{loose_path}
 use Rattle.gix_odb_loose.specs.WriteOrder.{temp_path, prefix_path}
+use Rattle.gix_odb_world.specs.Recorded.{path_recorded}
 use Rattle.gix_odb_world.specs.declared.call.Call.TheVariants.{Write}
 use Rattle.gix_odb_world.specs.declared.call.Reply.{Reply}
 use Rattle.gix_odb_world.specs.declared.step.Step.{Step}
@@ -103,16 +104,16 @@ outcome_of (Err work) = outcomes.Pending
 -- A turn makes the one call of the disk that its work names at its stage. Its outcome is the reply where the work is
 -- done after the disk's answer, and else that the work goes on.
 pub record Works (first : Volume) (past : List Event) (handle : ℕ) (store : Store) (ignoring : Bool) (begun turns : ℕ) (work : Work) (e : Event) : Type 0 where
-  -- the step that began the work set its task, in the store of an open step
+  -- the step that began the work set its task, in the store of an open step of its handle
   pub task : Task
   pub begins : BegunAs past handle begun store task
-  pub opened : IsOpenStore past store
+  pub opened : IsOpenStore past handle store
   -- the call of the disk, which the event tells with its answer
   pub ask : DiskAsk
   pub asks : ask_in store.parts.objects work ≡ Some ask
   -- which is the one of this turn of the task: of turn t of a find, the read of the loose path in the t-th folder
   pub in_order : AsksInOrder first past handle store ignoring begun turns task ask
-  pub asked : e.entry.did ≡ Disk (op_of ask) (path_asked ask) (next_fails (disk_after first past))
+  pub asked : e.entry.did ≡ Disk (op_of ask) (path_recorded ask) (next_fails (disk_after first past))
   pub told : e.turn ≡ Some (ask, answer_now (disk_after first past) ask)
   pub goes : e.outcome ≡ outcome_of (result_in (fed_in store work (answer_now (disk_after first past) ask)))
   -- the change of the record is that of the call

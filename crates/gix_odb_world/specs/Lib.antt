@@ -5,6 +5,7 @@ pub mod CallOrder
 pub mod OpenOrder
 pub mod WorkOrder
 pub mod Event
+pub mod Recorded
 pub mod Run
 pub mod Valid
 pub mod Causes

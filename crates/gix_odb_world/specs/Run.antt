@@ -1,22 +1,22 @@
--- The disk and its states over a run: state 0 is the handed-in one, and each record takes the disk one step on.
+-- The disk and its states over a run: state 0 is the handed-in one, and each event takes the disk one step on.
 use Rattle.std.specs.Prelude.{◌≡◌, ℕ, ◌+◌, ◌≤◌, Bool, true, false, List, fold, take, slice_get, Option, Some, None, if◌then◌else◌}
 use Rattle.odb_base.specs.Path.{Path}
 use Rattle.odb_disk.specs.Tree.{Tree, tree_of}
 use Rattle.odb_disk.specs.Tree.Write.{written}
-use Rattle.odb_disk.specs.Ask.{change_of_ask, op_of, path_asked}
-use Rattle.odb_disk.specs.MemDisk.{Volume, next_fails, after_call, after_outside_change}
+use Rattle.odb_disk.specs.Ask.{after_ask, change_of_ask, op_of}
+use Rattle.odb_disk.specs.MemDisk.{Volume, next_fails, after_outside_change}
 use Rattle.odb_disk.specs.declared.ask.DiskAnswer.{DiskAnswer}
 use Rattle.odb_disk.specs.declared.ask.DiskAnswer.TheVariants as answers
 use Rattle.odb_disk.specs.declared.ask.DiskAsk.{DiskAsk}
 use Rattle.odb_disk.specs.declared.change.Change.{Change}
 use Rattle.odb_disk.specs.declared.disk.DiskError.TheVariants as disk_errors
 use Rattle.gix_hash.specs.declared.object_id.ObjectId.{ObjectId}
+use Rattle.gix_odb_world.specs.Recorded.{path_recorded}
 use Rattle.gix_odb_world.specs.declared.call.Call.{Call}
 use Rattle.gix_odb_world.specs.declared.init.Options.{Options}
 use Rattle.gix_odb_world.specs.declared.init.Slots.TheVariants.{Given}
 use Rattle.gix_odb_world.specs.declared.record.Did.{Did}
 use Rattle.gix_odb_world.specs.declared.record.Did.TheVariants.{Nothing, Disk}
-use Rattle.gix_odb_world.specs.declared.record.Record.{Record}
 use Rattle.gix_odb_world.specs.declared.step.Step.{Step}
 use Rattle.gix_odb_world.specs.declared.step.Step.TheVariants as steps
 use Rattle.gix_odb_world.specs.Event.{Event, Store}
@@ -25,14 +25,14 @@ abbrev pub disk_after_change : Volume → Option Change → Volume
 disk_after_change disk None = disk
 disk_after_change disk (Some change) = after_outside_change disk change
 
--- A call of the disk is counted, and makes its change. A change without a call is another program's.
-abbrev pub disk_after_did : Volume → Did → Option Change → Volume
-disk_after_did disk Nothing change = disk_after_change disk change
-disk_after_did disk (Disk op path failed) change = record (after_call disk) { state = written disk.state change }
+-- A turn's call of the disk leaves it as the call does, with the change. A change without a call is another program's.
+abbrev pub disk_after_turn : Volume → Option (DiskAsk × DiskAnswer) → Option Change → Volume
+disk_after_turn disk None change = disk_after_change disk change
+disk_after_turn disk (Some asked) change = record (after_ask disk asked.0) { state = written disk.state change }
 
--- the disk after the step that has a record
-abbrev pub disk_after_record : Volume → Record → Volume
-disk_after_record disk entry = disk_after_did disk entry.did entry.change
+-- the disk after an event: after its turn's call, with the change of its record
+abbrev pub disk_after_event : Volume → Event → Volume
+disk_after_event disk e = disk_after_turn disk e.turn e.entry.change
 
 -- the change that a call of the disk makes: none where it fails or is refused
 abbrev pub change_by : Volume → DiskAsk → Option Change
@@ -45,7 +45,7 @@ has_failed answer = false
 
 -- the record of a call of the disk
 abbrev pub did_of : DiskAsk → DiskAnswer → Did
-did_of ask answer = Disk (op_of ask) (path_asked ask) (has_failed answer)
+did_of ask answer = Disk (op_of ask) (path_recorded ask) (has_failed answer)
 
 -- the record of a turn that asked so; a step that asked nothing did nothing
 abbrev pub did_of_turn : Option (DiskAsk × DiskAnswer) → Did
@@ -54,7 +54,7 @@ did_of_turn (Some asked) = did_of asked.0 asked.1
 
 -- the disk after all events
 unfoldable pub disk_after : Volume → List Event → Volume
-disk_after first events = fold (λ disk e. disk_after_record disk e.entry) first events
+disk_after first events = fold disk_after_event first events
 
 -- the tree after the first so many events
 abbrev pub tree_at : Volume → List Event → ℕ → Tree
@@ -86,10 +86,9 @@ pub record OpenedBy (events : List Event) (handle begun : ℕ) (store : Store) :
   pub slots : options.slots ≡ Given store.slots
   pub parts : store.parts ≡ record { objects = path; folders = folders; replacements = replacements; limit = options.alloc_limit_bytes }
 
--- a store is that of one of the open steps
-pub record IsOpenStore (events : List Event) (store : Store) : Type 0 where
-  pub opener : ℕ
-  pub opened : OpenedBy events opener store.opened store
+-- a store is that of an open step of this handle
+abbrev pub IsOpenStore : List Event → ℕ → Store → Type 0
+IsOpenStore events handle store = OpenedBy events handle store.opened store
 
 -- what a handle at work is to do: to open its store, or to make a call
 pub data Task : Type 0 where

@@ -178,9 +178,9 @@ Knows first events handle store ignoring begun turns (Opening state) =
 -- A handle at work began in one of the events, and has seen what its stage says. Its store is that of an open step.
 abbrev pub Runs : Volume → List Event → ℕ → Status → Type 0
 Runs first events handle Free = Unit {0}
-Runs first events handle (Resting store ignoring) = IsOpenStore events store
+Runs first events handle (Resting store ignoring) = IsOpenStore events handle store
 Runs first events handle (Working store ignoring begun turns work) =
-    (begun ≤ length events) × Knows first events handle store ignoring begun turns work × IsOpenStore events store
+    (begun ≤ length events) × Knows first events handle store ignoring begun turns work × IsOpenStore events handle store
 
 -- after each of the events each handle had seen what its status says
 abbrev pub RunsThroughout : Volume → List Event → Type 0

@@ -69,6 +69,12 @@ pub record Notes (old new : World) (outcome : Outcome) (did : Did) (change : Opt
   pub disk : new.disk ≡ old.disk
   pub handles : new.handles ≡ old.handles
 
+-- a turn is settled: its handle is put back, and its outcome and its record are added
+pub record Settles (old new : World) (number : ℕ) (handle : Option Handle) (outcome : Outcome) (did : Did) (change : Option Change) : Type 0 where
+  pub mid : World
+  pub sets : SetsHandle old mid number handle
+  pub notes : Notes mid new outcome did change
+
 -- the world has one outcome more than another
 abbrev pub HasOneMore : World → World → Type 0
 HasOneMore old new = (outcome : Outcome) × (new.outcomes ≡ old.outcomes ++ outcome ∷ [])

@@ -1,7 +1,7 @@
 -- A write on a handle: what it is to write, and what it asked of the disk and changed since it began.
 use Rattle.std.specs.Prelude.{◌≡◌, ◌⊎◌, ℕ, ◌+◌, ◌<◌, ◌≤◌, Bool, true, List, take, slice_get, Option, Some, None}
 use Rattle.odb_base.specs.Path.{Path}
-use Rattle.odb_disk.specs.Ask.{op_of, path_asked, answer_now}
+use Rattle.odb_disk.specs.Ask.{op_of, answer_now}
 use Rattle.odb_disk.specs.MemDisk.{Volume, next_fails}
 use Rattle.odb_disk.specs.Tree.Way.{SameOnWay}
 use Rattle.odb_disk.specs.declared.ask.DiskAnswer.{DiskAnswer}
@@ -21,6 +21,7 @@ use Rattle.gix_odb_loose.specs.WriteRuns.{IsOnWay}
 use Rattle.gix_odb_loose.specs.WriteStreams.{OtherLength}
 use Rattle.gix_odb_loose.specs.declared.write.Error as loose_write
 use Rattle.gix_odb_loose.specs.declared.write_call.WriteHead.{WriteHead}
+use Rattle.gix_odb_world.specs.Recorded.{path_recorded}
 use Rattle.gix_odb_world.specs.CallOrder.{hash_to_write}
 use Rattle.gix_odb_world.specs.Event.{Event}
 use Rattle.gix_odb_world.specs.Run.{Fails, IsTurnOf, disk_after, tree_at}
@@ -60,7 +61,7 @@ pub record AskedAt (first : Volume) (events : List Event) (handle place : ℕ) (
   pub event : Event
   pub there : slice_get events place ≡ Some event
   pub turn : IsTurnOf handle event.step
-  pub did : event.entry.did ≡ Disk (op_of ask) (path_asked ask) (next_fails (disk_after first (take place events)))
+  pub did : event.entry.did ≡ Disk (op_of ask) (path_recorded ask) (next_fails (disk_after first (take place events)))
   pub asked : event.turn ≡ Some (ask, answer)
   pub given : answer ≡ answer_now (disk_after first (take place events)) ask
 

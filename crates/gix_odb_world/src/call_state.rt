@@ -10,7 +10,7 @@ use crate::call::{Call, CallError, Reply};
 use crate::handle::HandleState;
 use crate::look_state::LookState;
 use crate::query::Query;
-use crate::write;
+use crate::{folder, write};
 use gix_hash::ObjectId;
 use gix_object::Kind;
 use gix_odb_loose::{LooseCall, LooseJob, LooseReply};
@@ -64,9 +64,7 @@ impl WriteState {
         ensures { IfOk result (λ state. state ≡ after_write (loose_order.fed self answer)) }
     {
         let WriteState { folder } = self;
-        let mut folder = folder;
-        folder.feed(alloc, answer)?;
-        Ok(after(folder))
+        Ok(after(folder::fed(folder, alloc, answer)?))
     }
 }
 

@@ -6,9 +6,9 @@ ghost use Rattle.gix_odb_world.specs.LookOrder.{ask_of, asking, at_next, started
 ghost use Rattle.gix_odb_world.specs.LookOrder.{fed as fed_with, first_of, job_of as loose_job, led as led_to, led_by as leads_to, next_stage as stage_after};
 
 use crate::call::{CallError, Reply};
-use crate::find;
 use crate::handle::HandleState;
 use crate::query::Query;
+use crate::{find, folder};
 use gix_hash::ObjectId;
 use gix_odb_loose::{LooseCall, LooseJob, LooseReply};
 use odb_base::{NoMemory, PathText};
@@ -173,14 +173,26 @@ impl Head {
                 next,
                 noted,
                 folder,
-            } => {
-                let FolderLook { call } = folder;
-                let mut call = call;
-                call.feed(alloc, answer)?;
-                self.after_folder(alloc, handle, next, noted, call)
-            }
+            } => self.fed(alloc, handle, next, noted, folder, answer),
             Stage::Done(reply) => Ok(Stage::Done(reply)),
         }
+    }
+
+    // The stage after a folder is fed an answer.
+    fn fed(
+        self,
+        alloc: Global,
+        handle: &HandleState,
+        next: usize,
+        noted: Option<gix_odb_loose::find::Error>,
+        folder: FolderLook,
+        answer: DiskAnswer,
+    ) -> Result<Stage, NoMemory>
+        ensures { IfOk result (λ stage. stage ≡ Rattle.gix_odb_world.specs.LookOrder.after_folder handle.now.folders handle.now.alloc_limit_bytes self next noted (loose_order.fed folder answer)) }
+    {
+        let FolderLook { call } = folder;
+        let call = folder::fed(call, alloc, answer)?;
+        self.after_folder(alloc, handle, next, noted, call)
     }
 
     // The stage after a folder was fed an answer.

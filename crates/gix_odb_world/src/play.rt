@@ -1,4 +1,4 @@
-ghost use Rattle.std.specs.Prelude.{◌≡◌, IfOk, OnOk};
+ghost use Rattle.std.specs.Prelude.{◌≡◌, ◌-◌, [], ◌∷◌, ◌++◌, length, IfOk, OnOk};
 ghost use Rattle.gix_odb_world.specs.Headline.{Headline};
 ghost use Rattle.gix_odb_world.specs.Play.{Plays, StandsFor, made_of};
 ghost use Rattle.gix_odb_world.specs.Played.{MakesOne, PlaysLine, PlaysTurns};
@@ -37,12 +37,27 @@ impl World {
         let mut steps = Sequence::new(alloc);
         let mut last = Sequence::new(alloc);
         for line in lines {
-            play_line(alloc, &mut world, &mut steps, line)?;
-            last.push(steps.len() - 1)?;
+            play_next(alloc, &mut world, &mut steps, &mut last, line)?;
         }
         let run = world.finish();
         Ok(Play { run, steps, last })
     }
+}
+
+/// Makes the steps that a line stands for, and adds the place of the last one.
+fn play_next(
+    alloc: Global,
+    world: &mut World,
+    steps: &mut Sequence<Step>,
+    last: &mut Sequence<usize>,
+    line: &Line,
+) -> Result<(), NoMemory>
+    ensures plays { OnOk result (PlaysLine world.old world.new steps.old steps.new line.now) }
+    ensures placed { OnOk result (last.new ≡ last.old ++ (length steps.new - 1) ∷ []) }
+{
+    play_line(alloc, world, steps, line)?;
+    last.push(steps.len() - 1)?;
+    Ok(())
 }
 
 /// Makes the steps that a line stands for.
@@ -89,7 +104,7 @@ fn make(
 ) -> Result<(), NoMemory>
     ensures makes { OnOk result (MakesOne world.old world.new steps.old steps.new step) }
 {
-    world.advance(alloc, &step)?;
     steps.push(step)?;
-    Ok(())
+    let made = steps.as_slice();
+    world.advance(alloc, &made[made.len() - 1])
 }

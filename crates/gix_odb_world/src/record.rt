@@ -1,4 +1,5 @@
 ghost use Rattle.std.specs.Prelude.{◌≡◌, IfOk};
+ghost use Rattle.gix_odb_world.specs.Recorded.{path_recorded};
 ghost use Rattle.gix_odb_world.specs.Run.{did_of};
 
 use crate::step::Outcome;
@@ -25,9 +26,19 @@ impl Did {
     {
         Ok(Did::Disk {
             op: ask.op(),
-            path: ask.path().try_clone(alloc)?,
+            path: path_recorded(alloc, ask)?,
             failed: matches!(answer, DiskAnswer::Refused(DiskError::Failed)),
         })
+    }
+}
+
+/// The path that the record of a call has. A call on an open stream names none, and no handle makes one.
+fn path_recorded(alloc: Global, ask: &DiskAsk) -> Result<PathText, NoMemory>
+    ensures { IfOk result (λ path. path ≡ path_recorded ask.now) }
+{
+    match ask.path() {
+        Some(path) => path.try_clone(alloc),
+        None => Ok(PathText::root(alloc)),
     }
 }
 

@@ -54,13 +54,7 @@ impl Step {
                 folders,
                 replacements,
                 options,
-            } => Ok(Step::Open {
-                handle: *handle,
-                path: path.try_clone(alloc)?,
-                folders: lists::copy_of_paths(alloc, folders)?,
-                replacements: lists::copy_of_pairs(alloc, replacements)?,
-                options: *options,
-            }),
+            } => opening_copy(alloc, *handle, path, folders, replacements, *options),
             Step::Close { handle } => Ok(Step::Close { handle: *handle }),
             Step::Ignore { handle } => Ok(Step::Ignore { handle: *handle }),
             Step::Start { handle, call } => Ok(Step::Start {
@@ -71,6 +65,25 @@ impl Step {
             Step::Disk(change) => Ok(Step::Disk(change.try_clone(alloc)?)),
         }
     }
+}
+
+fn opening_copy(
+    alloc: Global,
+    handle: u32,
+    path: &PathText,
+    folders: &PathList,
+    replacements: &IdPairs,
+    options: Options,
+) -> Result<Step, NoMemory>
+    ensures { IfOk result (λ copy. copy ≡ Step.Open handle path.now folders.now replacements.now options) }
+{
+    Ok(Step::Open {
+        handle,
+        path: path.try_clone(alloc)?,
+        folders: lists::copy_of_paths(alloc, folders)?,
+        replacements: lists::copy_of_pairs(alloc, replacements)?,
+        options,
+    })
 }
 
 /// What a step comes to.

@@ -1,17 +1,15 @@
-ghost use Rattle.std.specs.Prelude.{if◌then◌else◌, ◌≡◌, ◌≢◌, ◌<◌, ◌^◌, ◌↔◌, IsTrue, ◌++◌, ◌∷◌, [], List, IfOk, OnOk, length, map, true, None};
+ghost use Rattle.std.specs.Prelude.{◌≡◌, ◌≢◌, ◌<◌, ◌^◌, ◌↔◌, IsTrue, ◌++◌, ◌∷◌, [], List, IfOk, OnOk, length, true, None, Some};
 ghost use Rattle.odb_disk.specs.MemDisk.{Volume};
 ghost use Rattle.odb_disk.specs.Tree.{IsTree, tree_of};
 ghost use Rattle.gix_odb_world.specs.Event.{Event};
-ghost use Rattle.gix_odb_world.specs.Run.{has_failed};
 ghost use Rattle.gix_odb_world.specs.Valid as reasons;
 ghost use Rattle.gix_odb_world.specs.Valid.{why_not_after, is_openable};
 ghost use Rattle.gix_odb_world.specs.Headline.{Headline, IsRun, outcome_of};
-ghost use Rattle.gix_odb_world.specs.WorkOrder.{ask_in, result_in};
+ghost use Rattle.gix_odb_world.specs.WorkOrder.{result_in};
 ghost use Rattle.gix_odb_world.specs.World.{Explains, GoesOn, Continues, handle_at};
-ghost use Rattle.gix_odb_world.specs.Table as tables;
-ghost use Rattle.gix_odb_world.specs.Table.{HasOneMore, Notes, SetsHandle, after_turn, change_now, did_now, disk_now, phase_of_handle, with_ignoring, with_work, work_now, why_not_now};
+ghost use Rattle.gix_odb_world.specs.Table.{HasOneMore, Notes, SetsHandle, Settles, after_turn, phase_of_handle, with_ignoring, with_work, why_not_now};
 
-use crate::call::{Call, CallError, Reply};
+use crate::call::Call;
 use crate::call_state::CallState;
 use crate::handle::{Handle, HandleState};
 use crate::init::Options;
@@ -20,11 +18,13 @@ use crate::open_state::OpenState;
 use crate::opening;
 use crate::record::{Did, OutcomeList, Record, RecordList, Run};
 use crate::step::{Outcome, Step, Why};
+use crate::turn::{carried_out, settled};
 use crate::work::Work;
 use odb_base::NoMemory;
-use odb_disk::{Change, DiskAnswer, DiskError, Impossible, MemDisk, PathText};
+use odb_disk::{Change, Impossible, MemDisk, PathText};
 use std::alloc::Global;
 use std::collections::BTreeMap;
+use std::mem::replace;
 
 /// A disk, the handles on it, and what has come of the steps so far.
 #[derive(Debug, Drop)]
@@ -222,16 +222,54 @@ impl World {
         if let Some(why) = self.why_not_running(number) {
             return self.misuse(why);
         }
+        let (state, work) = self.take_work(number);
+        match carried_out(alloc, &mut self.disk, &state, work) {
+            Ok((did, change, work)) => self.settle(number, state, work, did, change),
+            Err(error) => {
+                drop(state);
+                Err(error)
+            }
+        }
+    }
+
+    /// Takes a handle that runs a call out of the table.
+    fn take_work(&mut self, number: u32) -> (HandleState, Work)
+        requires { reasons.why_not_running (phase_of_handle (handle_at self.old number)) ≡ None }
+        ensures taken { handle_at self.old number ≡ Some (record { state = result.0; work = Some result.1 }) }
+        ensures sets { SetsHandle self.old self.new number None }
+        ensures is_tree { IsTree (tree_of self.new.disk.state) }
+    {
+        // A disk shows a tree: each node lies in a directory.
+        let _ = self.disk.tree();
         let Some(Handle { state, work }) = self.take(number) else {
             unreachable!("a handle that runs a call is there");
         };
         let Some(work) = work else {
             unreachable!("a handle that runs a call is at work");
         };
-        let (did, change, work) = carried_out(alloc, &mut self.disk, &state, work)?;
+        (state, work)
+    }
+
+    /// Puts a handle back after its turn, and adds the outcome and the record of the turn.
+    fn settle(
+        &mut self,
+        number: u32,
+        state: HandleState,
+        work: Work,
+        did: Did,
+        change: Option<Change>,
+    ) -> Result<(), NoMemory>
+        requires { handle_at self.old number ≡ None }
+        ensures { OnOk result (Settles self.old self.new number (after_turn state (result_in work)) (outcome_of (result_in work)) did change) }
+    {
         let (outcome, handle) = settled(state, work);
-        self.set(number, handle)?;
-        self.note(outcome, did, change)
+        match self.set(number, handle) {
+            Ok(()) => self.note(outcome, did, change),
+            Err(error) => {
+                drop((outcome, did, change));
+                Err(error)
+            }
+        }
     }
 
     /// Makes a change that another program makes.
@@ -253,14 +291,16 @@ impl World {
     fn put(&mut self, number: u32, handle: Handle) -> Result<(), NoMemory>
         ensures sets { OnOk result (SetsHandle self.old self.new number (Some handle)) }
     {
-        self.handles.insert(number, handle)?;
+        let old = self.handles.insert(number, handle)?;
+        drop(old);
         Ok(())
     }
 
     fn remove(&mut self, number: u32)
         ensures sets { SetsHandle self.old self.new number None }
     {
-        self.handles.remove(&number);
+        let old = self.handles.remove(&number);
+        drop(old);
     }
 
     /// Takes the handle that has a number out of the table.
@@ -286,8 +326,9 @@ impl World {
     fn set_work(&mut self, number: u32, work: Option<Work>)
         ensures sets { SetsHandle self.old self.new number (with_work work (handle_at self.old number)) }
     {
-        if let Some(handle) = self.handles.get_mut(&number) {
-            handle.work = work;
+        match self.handles.get_mut(&number) {
+            Some(handle) => drop(replace(&mut handle.work, work)),
+            None => drop(work),
         }
     }
 
@@ -374,69 +415,5 @@ impl World {
         })?;
         self.outcomes.push(outcome)?;
         Ok(())
-    }
-}
-
-/// Carries out the one call of the disk that a piece of work names: what it did, the change that it made, and the work
-/// after the answer.
-fn carried_out(
-    alloc: Global,
-    disk: &mut MemDisk,
-    state: &HandleState,
-    work: Work,
-) -> Result<(Did, Option<Change>, Work), NoMemory>
-    ensures did { IfOk result (λ done. done.0 ≡ did_now disk.old (ask_in state.now.objects work)) }
-    ensures change { IfOk result (λ done. done.1 ≡ change_now disk.old (ask_in state.now.objects work)) }
-    ensures work { IfOk result (λ done. done.2 ≡ work_now disk.old state.now work (ask_in state.now.objects work)) }
-    ensures left { OnOk result (disk.new ≡ disk_now disk.old (ask_in state.now.objects work)) }
-    ensures is_tree { IsTree (tree_of disk.old.state) }
-{
-    // A disk shows a tree: each node lies in a directory.
-    let _ = disk.tree();
-    let Some(ask) = work.disk_ask(alloc, state)? else {
-        return Ok((Did::Nothing, None, work));
-    };
-    let change = disk.change_of(alloc, &ask)?;
-    let answer = disk.carry_out(alloc, &ask)?;
-    let change = change_unless_failed(change, &answer);
-    let did = Did::of(alloc, &ask, &answer)?;
-    let work = work.feed(alloc, state, answer)?;
-    Ok((did, change, work))
-}
-
-/// The change that a call of the disk makes where it doesn't fail, or none where it failed.
-fn change_unless_failed(change: Option<Change>, answer: &DiskAnswer) -> Option<Change>
-    ensures { result ≡ (if has_failed answer.now then None else change) }
-{
-    match answer {
-        DiskAnswer::Refused(DiskError::Failed) => None,
-        _ => change,
-    }
-}
-
-/// What a turn came to that left its work so, and the handle after it.
-fn settled(state: HandleState, work: Work) -> (Outcome, Option<Handle>)
-    ensures outcome { result.0 ≡ outcome_of (result_in work) }
-    ensures handle { result.1 ≡ after_turn state (result_in work) }
-{
-    match work.into_reply() {
-        Ok(reply) => {
-            let handle = at_rest(state, &reply);
-            (Outcome::Reply(reply), handle)
-        }
-        Err(work) => {
-            let work = Some(work);
-            (Outcome::Pending, Some(Handle { state, work }))
-        }
-    }
-}
-
-/// A handle after the reply to its work: none after a refused opening, else at rest.
-fn at_rest(state: HandleState, reply: &Reply) -> Option<Handle>
-    ensures { result ≡ tables.after_reply state reply.now }
-{
-    match reply {
-        Reply::Refused(CallError::Open(_)) => None,
-        _ => Some(Handle { state, work: None }),
     }
 }

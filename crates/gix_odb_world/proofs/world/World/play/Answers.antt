@@ -7,6 +7,6 @@ loop-line-init c = has_played_none c.args.disk c.new-world.result c.new-steps.re
 
 pub loop-line-preserved : goal.loop-line-preserved
 loop-line-preserved c =
-    rw c.in_ok-push.ensures.ok
-    (has_played_more c.args.disk c.loop-line.world c.play_line.new.world c.loop-line.steps c.play_line.new.steps c.line-item.result c.args.lines.now c.loop-line.line-index c.loop-line.last _
-    c.loop-line-test.true c.line-item.is (rw c.len.ensures refl) c.in_ok-play_line.ensures.plays c.loop-line.invariant)
+    rw c.in_ok-play_next.ensures.placed
+    (has_played_more c.args.disk c.loop-line.world c.play_next.new.world c.loop-line.steps c.play_next.new.steps c.line-item.result c.args.lines.now c.loop-line.line-index c.loop-line.last _
+    c.loop-line-test.true c.line-item.is refl c.in_ok-play_next.ensures.plays c.loop-line.invariant)

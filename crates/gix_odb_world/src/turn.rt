@@ -1,0 +1,145 @@
+//! A turn of a handle: the one call of the disk that its work names, and what the turn comes to.
+ghost use Rattle.std.specs.Prelude.{if◌then◌else◌, ◌≡◌, IfOk, OnOk, None, Some};
+ghost use Rattle.odb_disk.specs.Ask.{answer_now};
+ghost use Rattle.gix_odb_world.specs.Run.{has_failed};
+ghost use Rattle.gix_odb_world.specs.Headline.{outcome_of};
+ghost use Rattle.gix_odb_world.specs.WorkOrder.{ask_in, result_in};
+ghost use Rattle.gix_odb_world.specs.WorkOrder.{fed as fed_with};
+ghost use Rattle.gix_odb_world.specs.Table as tables;
+ghost use Rattle.gix_odb_world.specs.Table.{after_turn, change_now, did_now, disk_now, work_now};
+
+use crate::call::{CallError, Reply};
+use crate::handle::{Handle, HandleState};
+use crate::record::Did;
+use crate::step::Outcome;
+use crate::work::Work;
+use odb_base::NoMemory;
+use odb_disk::{Change, DiskAnswer, DiskAsk, DiskError, MemDisk};
+use std::alloc::Global;
+
+/// Carries out the one call of the disk that a piece of work names: what it did, the change that it made, and the work
+/// after the answer.
+pub fn carried_out(
+    alloc: Global,
+    disk: &mut MemDisk,
+    state: &HandleState,
+    work: Work,
+) -> Result<(Did, Option<Change>, Work), NoMemory>
+    ensures did { IfOk result (λ done. done.0 ≡ did_now disk.old (ask_in state.now.objects work)) }
+    ensures change { IfOk result (λ done. done.1 ≡ change_now disk.old (ask_in state.now.objects work)) }
+    ensures work { IfOk result (λ done. done.2 ≡ work_now disk.old state.now work (ask_in state.now.objects work)) }
+    ensures left { OnOk result (disk.new ≡ disk_now disk.old (ask_in state.now.objects work)) }
+{
+    match work.disk_ask(alloc, state) {
+        Ok(Some(ask)) => asked(alloc, disk, state, work, &ask),
+        Ok(None) => Ok((Did::Nothing, None, work)),
+        Err(error) => {
+            drop(work);
+            Err(error)
+        }
+    }
+}
+
+/// Carries out the call of the disk that a piece of work asked for.
+fn asked(
+    alloc: Global,
+    disk: &mut MemDisk,
+    state: &HandleState,
+    work: Work,
+    ask: &DiskAsk,
+) -> Result<(Did, Option<Change>, Work), NoMemory>
+    ensures did { IfOk result (λ done. done.0 ≡ did_now disk.old (Some ask.now)) }
+    ensures change { IfOk result (λ done. done.1 ≡ change_now disk.old (Some ask.now)) }
+    ensures work { IfOk result (λ done. done.2 ≡ work_now disk.old state.now work (Some ask.now)) }
+    ensures left { OnOk result (disk.new ≡ disk_now disk.old (Some ask.now)) }
+{
+    match called(alloc, disk, ask) {
+        Ok((did, change, answer)) => fed(alloc, state, work, did, change, answer),
+        Err(error) => {
+            drop(work);
+            Err(error)
+        }
+    }
+}
+
+/// The work after the answer, beside what the call did and the change that it made.
+fn fed(
+    alloc: Global,
+    state: &HandleState,
+    work: Work,
+    did: Did,
+    change: Option<Change>,
+    answer: DiskAnswer,
+) -> Result<(Did, Option<Change>, Work), NoMemory>
+    ensures did { IfOk result (λ done. done.0 ≡ did) }
+    ensures change { IfOk result (λ done. done.1 ≡ change) }
+    ensures work { IfOk result (λ done. done.2 ≡ fed_with state.now.slots state.now.folders state.now.alloc_limit_bytes work answer) }
+{
+    let work = work.feed(alloc, state, answer)?;
+    Ok((did, change, work))
+}
+
+/// Makes a call of the disk: what it did, the change that it made, and the answer.
+fn called(
+    alloc: Global,
+    disk: &mut MemDisk,
+    ask: &DiskAsk,
+) -> Result<(Did, Option<Change>, DiskAnswer), NoMemory>
+    ensures did { IfOk result (λ called. called.0 ≡ did_now disk.old (Some ask.now)) }
+    ensures change { IfOk result (λ called. called.1 ≡ change_now disk.old (Some ask.now)) }
+    ensures answer { IfOk result (λ called. called.2 ≡ answer_now disk.old ask.now) }
+    ensures left { OnOk result (disk.new ≡ disk_now disk.old (Some ask.now)) }
+{
+    let change = disk.change_of(alloc, ask)?;
+    let (did, answer) = answered(alloc, disk, ask)?;
+    let change = change_unless_failed(change, &answer);
+    Ok((did, change, answer))
+}
+
+/// Makes a call of the disk: what it did, and the answer.
+fn answered(alloc: Global, disk: &mut MemDisk, ask: &DiskAsk) -> Result<(Did, DiskAnswer), NoMemory>
+    ensures did { IfOk result (λ answered. answered.0 ≡ did_now disk.old (Some ask.now)) }
+    ensures answer { IfOk result (λ answered. answered.1 ≡ answer_now disk.old ask.now) }
+    ensures left { OnOk result (disk.new ≡ disk_now disk.old (Some ask.now)) }
+{
+    let answer = disk.carry_out(alloc, ask)?;
+    let did = Did::of(alloc, ask, &answer)?;
+    Ok((did, answer))
+}
+
+/// The change that a call of the disk makes where it doesn't fail, or none where it failed.
+fn change_unless_failed(change: Option<Change>, answer: &DiskAnswer) -> Option<Change>
+    ensures { result ≡ (if has_failed answer.now then None else change) }
+{
+    match answer {
+        DiskAnswer::Refused(DiskError::Failed) => None,
+        _ => change,
+    }
+}
+
+/// What a turn came to that left its work so, and the handle after it.
+pub fn settled(state: HandleState, work: Work) -> (Outcome, Option<Handle>)
+    ensures outcome { result.0 ≡ outcome_of (result_in work) }
+    ensures handle { result.1 ≡ after_turn state (result_in work) }
+{
+    match work.into_reply() {
+        Ok(reply) => {
+            let handle = at_rest(state, &reply);
+            (Outcome::Reply(reply), handle)
+        }
+        Err(work) => {
+            let work = Some(work);
+            (Outcome::Pending, Some(Handle { state, work }))
+        }
+    }
+}
+
+/// A handle after the reply to its work: none after a refused opening, else at rest.
+fn at_rest(state: HandleState, reply: &Reply) -> Option<Handle>
+    ensures { result ≡ tables.after_reply state reply.now }
+{
+    match reply {
+        Reply::Refused(CallError::Open(_)) => None,
+        _ => Some(Handle { state, work: None }),
+    }
+}
