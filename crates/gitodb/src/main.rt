@@ -19,7 +19,8 @@ mod tests;
 mod world_command;
 
 use crate::status::Status;
-use odb_disk::{HostDisk, StdSink, StdSource};
+use odb_disk::{StdSink, StdSource};
+use odb_host::HostDisk;
 use std::alloc::Global;
 use std::process::ExitCode;
 use std::rt::Env;

@@ -3,6 +3,8 @@ ghost use Rattle.std.specs.Prelude.{◌≡◌, ◌++◌, ◌∷◌, [], OnOk, le
 ghost use Rattle.std.specs.Fmt.{decimal};
 ghost use Rattle.gitodb.specs.Print.{printed, reply_text, error_text, opening_text, find_text, loose_text, sizes_text, write_text, loose_write_text, header_text, yes_or_no, why_text, data_text};
 
+use gix_hash::ObjectId;
+use gix_object::Kind;
 use gix_odb_loose as loose;
 use gix_odb_world::{CallError, Outcome, Reply, Why, find, init, write};
 use odb_base::NoMemory;
@@ -16,47 +18,72 @@ pub fn print_outcome(alloc: Global, out: &mut Vec<u8>, outcome: &Outcome) -> Res
         Outcome::Applied => text(out, b"applied"),
         Outcome::Pending => text(out, b"pending"),
         Outcome::Reply(reply) => print_reply(alloc, out, reply),
-        Outcome::Misuse(why) => {
-            text(out, b"misuse ")?;
-            text(out, word_of(*why))
-        }
+        Outcome::Misuse(why) => print_misuse(out, *why),
     }
+}
+
+fn print_misuse(out: &mut Vec<u8>, why: Why) -> Result<(), NoMemory>
+    ensures ok { OnOk result (out.new.items ≡ out.old.items ++ printed (Outcome.Misuse why)) }
+{
+    text(out, b"misuse ")?;
+    text(out, word_of(why))
 }
 
 fn print_reply(alloc: Global, out: &mut Vec<u8>, reply: &Reply) -> Result<(), NoMemory>
     ensures ok { OnOk result (out.new.items ≡ out.old.items ++ reply_text reply.now) }
 {
     match reply {
-        Reply::Opened { slots } => {
-            text(out, b"opened ")?;
-            number(alloc, out, u64::from(*slots))
-        }
-        Reply::Found { kind, bytes } => {
-            text(out, b"found ")?;
-            text(out, kind.as_bytes())?;
-            text(out, b" ")?;
-            number(alloc, out, bytes.len() as u64)?;
-            text(out, b" ")?;
-            data(alloc, out, bytes.as_slice())
-        }
-        Reply::Header(header) => {
-            text(out, b"header ")?;
-            print_header(alloc, out, *header)
-        }
-        Reply::Tested(there) => {
-            text(out, b"test ")?;
-            text(out, yes_or_no(*there))
-        }
-        Reply::Wrote(id) => {
-            text(out, b"wrote ")?;
-            text(out, id.to_hex(alloc)?.as_bytes())
-        }
+        Reply::Opened { slots } => labelled(alloc, out, b"opened ", u64::from(*slots)),
+        Reply::Found { kind, bytes } => print_found(alloc, out, *kind, bytes.as_slice()),
+        Reply::Header(header) => print_found_header(alloc, out, *header),
+        Reply::Tested(there) => print_test(out, *there),
+        Reply::Wrote(id) => print_wrote(alloc, out, *id),
         Reply::NotFound => text(out, b"not-found"),
-        Reply::Refused(error) => {
-            text(out, b"error ")?;
-            print_error(alloc, out, error)
-        }
+        Reply::Refused(error) => print_refusal(alloc, out, error),
     }
+}
+
+fn print_found(alloc: Global, out: &mut Vec<u8>, kind: Kind, bytes: &[u8]) -> Result<(), NoMemory>
+    ensures ok { OnOk result (out.new.items ≡ out.old.items ++ reply_text (Reply.Found kind bytes.now)) }
+{
+    text(out, b"found ")?;
+    text(out, kind.as_bytes())?;
+    text(out, b" ")?;
+    number(alloc, out, bytes.len() as u64)?;
+    text(out, b" ")?;
+    data(alloc, out, bytes)
+}
+
+fn print_found_header(
+    alloc: Global,
+    out: &mut Vec<u8>,
+    header: find::Header,
+) -> Result<(), NoMemory>
+    ensures ok { OnOk result (out.new.items ≡ out.old.items ++ reply_text (Reply.Header header)) }
+{
+    text(out, b"header ")?;
+    print_header(alloc, out, header)
+}
+
+fn print_test(out: &mut Vec<u8>, is_there: bool) -> Result<(), NoMemory>
+    ensures ok { OnOk result (out.new.items ≡ out.old.items ++ reply_text (Reply.Tested is_there)) }
+{
+    text(out, b"test ")?;
+    text(out, yes_or_no(is_there))
+}
+
+fn print_wrote(alloc: Global, out: &mut Vec<u8>, id: ObjectId) -> Result<(), NoMemory>
+    ensures ok { OnOk result (out.new.items ≡ out.old.items ++ reply_text (Reply.Wrote id)) }
+{
+    text(out, b"wrote ")?;
+    text(out, id.to_hex(alloc)?.as_bytes())
+}
+
+fn print_refusal(alloc: Global, out: &mut Vec<u8>, error: &CallError) -> Result<(), NoMemory>
+    ensures ok { OnOk result (out.new.items ≡ out.old.items ++ reply_text (Reply.Refused error.now)) }
+{
+    text(out, b"error ")?;
+    print_error(alloc, out, error)
 }
 
 fn print_header(alloc: Global, out: &mut Vec<u8>, header: find::Header) -> Result<(), NoMemory>

@@ -2,7 +2,7 @@ ghost use Rattle.std.specs.Prelude.{◌≡◌};
 ghost use Rattle.gitodb.specs.Status.{code_of};
 
 /// How the program ends.
-#[derive(Clone, Copy, Debug, PartialEq, Eq, Hash)]
+#[derive(Clone, Copy, PartialEq, Eq)]
 pub enum Status {
     /// Done: the source was read to its end where the command reads it.
     Done = 0,

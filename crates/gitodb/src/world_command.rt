@@ -1,10 +1,11 @@
 //! `world`: a script in, a line for each of its step lines out.
-ghost use Rattle.std.specs.Prelude.{◌≡◌, ◌++◌, ℕ, IfOk, OnOk};
+ghost use Rattle.std.specs.Prelude.{◌≡◌, ◌++◌, ℕ, List, IfOk, OnOk};
 ghost use Rattle.std.specs.Option.{option_copied};
 ghost use Rattle.gix_odb_world.specs.Headline.{Headline};
 ghost use Rattle.gix_odb_world.specs.Play.{Plays, made_of};
 ghost use Rattle.gitodb.specs.Print.{printed_at, ending_text, line_of};
-ghost use Rattle.gitodb.specs.Session.{AnswersWith, status_of_ending};
+ghost use Rattle.gitodb.specs.Script.{reading_of, disk_of, lines_of};
+ghost use Rattle.gitodb.specs.Session.{Answers, AnswersWith, status_of_ending};
 
 use crate::print::{labelled, print_outcome, text};
 use crate::script::{Ending, read};
@@ -19,9 +20,21 @@ pub fn answer_script(alloc: Global, script: &[u8]) -> Result<(Vec<u8>, Status), 
     ensures { IfOk result (λ answer. AnswersWith script.now answer.0.items answer.1) }
 {
     let (disk, lines, ending) = read(alloc, script)?.into_parts(alloc)?;
-    let play = played(alloc, disk, lines)?;
-    let out = printed(alloc, &play, ending)?;
+    let out = answer_lines(alloc, disk, lines, ending)?;
     Ok((out, status_of(ending)))
+}
+
+/// What is written for a script that makes this disk, plays these lines on it, and ends so.
+fn answer_lines(
+    alloc: Global,
+    disk: MemDisk,
+    lines: Sequence<Line>,
+    ending: Ending,
+) -> Result<Vec<u8>, NoMemory>
+    ensures { (script : List ℕ) → disk ≡ disk_of (reading_of script).script → lines ≡ lines_of (reading_of script).script → ending ≡ (reading_of script).ending → IfOk result (λ out. Answers script out.items ending) }
+{
+    let play = played(alloc, disk, lines)?;
+    printed(alloc, &play, ending)
 }
 
 /// The play of lines on a disk.

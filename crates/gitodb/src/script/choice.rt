@@ -15,7 +15,7 @@ use odb_disk::PathText;
 use std::alloc::Global;
 
 /// What one option chooses.
-#[derive(Debug, Drop)]
+#[derive(Drop)]
 pub enum Choice {
     /// A folder beside the objects directory.
     Folder(PathText),
@@ -27,7 +27,7 @@ pub enum Choice {
 }
 
 /// What options choose together.
-#[derive(Debug, Drop)]
+#[derive(Drop)]
 pub struct Chosen {
     /// In the order of the options, as the replacements are.
     pub folders: PathList,

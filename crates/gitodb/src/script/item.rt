@@ -15,7 +15,7 @@ use odb_disk::Change;
 use std::alloc::{AllocError, Global};
 
 /// What a line of a script says.
-#[derive(Debug, Drop, PartialEq, Eq)]
+#[derive(Drop)]
 pub enum Item {
     /// Nothing: an empty line, or one that begins with `#`.
     Blank,

@@ -14,7 +14,7 @@ use std::alloc::Global;
 pub const SCRIPT_LIMIT: usize = 67_108_864;
 
 /// How far a script is read: the calls that are to fail come first, then the setup of the disk, then the lines to play.
-#[derive(Debug, Drop)]
+#[derive(Drop)]
 pub enum Script {
     Faults(Sequence<u64>),
     Setup(MemDisk),
@@ -25,7 +25,7 @@ pub enum Script {
 }
 
 /// What a line does to a script.
-#[derive(Debug, Drop)]
+#[derive(Drop)]
 pub enum Taken {
     GoesOn(Script),
     RefusedHere(Script),
@@ -33,7 +33,7 @@ pub enum Taken {
 }
 
 /// Where a script ends: behind its last line, or at the line that has a number, counted from 1.
-#[derive(Clone, Copy, Debug, PartialEq, Eq)]
+#[derive(Clone, Copy)]
 pub enum Ending {
     Whole,
     RefusedAt(u64),
@@ -41,7 +41,7 @@ pub enum Ending {
 }
 
 /// A script as far as it is read, and where it ends.
-#[derive(Debug, Drop)]
+#[derive(Drop)]
 pub struct Reading {
     pub script: Script,
     pub ending: Ending,
@@ -59,7 +59,7 @@ impl Script {
             Item::NotBuilt => Ok(Taken::NotBuiltHere(self)),
             Item::Refused => Ok(Taken::RefusedHere(self)),
             Item::Fail(number) => with_fault(self, number),
-            Item::Setup(change) => set_up(self, alloc, change),
+            Item::Setup(change) => set_up(self, alloc, &change),
             Item::Steps => begun(self, alloc),
             Item::Play(line) => with_line(self, line),
         }
@@ -115,12 +115,12 @@ fn begun(script: Script, alloc: Global) -> Result<Taken, NoMemory>
 }
 
 #[tactic(auto, unfolding(crate::specs::Script::taken))]
-fn set_up(script: Script, alloc: Global, change: Change) -> Result<Taken, NoMemory>
-    ensures { IfOk result (λ t. t ≡ taken script (Item.Setup change)) }
+fn set_up(script: Script, alloc: Global, change: &Change) -> Result<Taken, NoMemory>
+    ensures { IfOk result (λ t. t ≡ taken script (Item.Setup change.now)) }
 {
     match script {
-        Script::Faults(numbers) => first_change(numbers, alloc, &change),
-        Script::Setup(disk) => next_change(disk, alloc, &change),
+        Script::Faults(numbers) => first_change(numbers, alloc, change),
+        Script::Setup(disk) => next_change(disk, alloc, change),
         script => Ok(Taken::RefusedHere(script)),
     }
 }

@@ -2,7 +2,7 @@ ghost use Rattle.std.specs.Prelude.{◌≡◌, Some, None, if◌then◌else◌};
 ghost use Rattle.gitodb.specs.Word.{word_of, step_word_of, change_word_of, unbuilt_words, is_one_of};
 
 /// A question about the object of an id.
-#[derive(Clone, Copy, Debug, PartialEq, Eq)]
+#[derive(Clone, Copy, PartialEq, Eq)]
 pub enum Question {
     Find,
     Header,
@@ -10,7 +10,7 @@ pub enum Question {
 }
 
 /// A word that says what a line is about.
-#[derive(Clone, Copy, Debug, PartialEq, Eq)]
+#[derive(Clone, Copy, PartialEq, Eq)]
 pub enum Word {
     Fail,
     Mkdir,

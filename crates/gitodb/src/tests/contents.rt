@@ -9,7 +9,11 @@ use std::test::Fail;
 /// What a file holds that a line puts.
 fn content_shown(alloc: Global, content: &str) -> Result<String, Fail> {
     let line = format!(in alloc; "put /a 1 {content}")?;
-    let item = item_of(alloc, line.as_bytes())?;
+    line_shown(alloc, line.as_bytes())
+}
+
+fn line_shown(alloc: Global, line: &[u8]) -> Result<String, Fail> {
+    let item = item_of(alloc, line)?;
     Ok(put_shown(alloc, &item)?)
 }
 

@@ -14,9 +14,18 @@ fn status_of(
 ) -> Result<Option<Status>, Fail> {
     let words = vec![in alloc; word.to_string(alloc)?]?;
     let mut source = script_of(alloc, reads)?;
+    status_over(alloc, &words, &mut source, writes)
+}
+
+fn status_over(
+    alloc: Global,
+    words: &[String],
+    source: &mut MemSource,
+    writes: &[u64],
+) -> Result<Option<Status>, Fail> {
     let mut sink = MemSink::with_faults(alloc, writes)?;
     let mut disk = MemDisk::new(alloc)?;
-    let status = run(&(), alloc, &words, &mut source, &mut sink, &mut disk);
+    let status = run(&(), alloc, words, source, &mut sink, &mut disk);
     Ok(sink.bytes().is_empty().then_some(status))
 }
 

@@ -1,5 +1,5 @@
--- The outcomes are those of the play, and the ending is that of the reading.
-use Rattle.std.proofs.Common.{sym, ap, ◌∙◌}
+-- The disk, the lines and the ending are those of the reading.
+use Rattle.std.proofs.Common.{ap, ◌∙◌}
 use Rattle.gitodb.specs.declared.script.reader.Reading.{Reading}
 use Rattle.gitodb.specs.Script.{disk_of, lines_of}
 use Rattle.gitodb.proofs.world_command.answer_script.Goals as goal
@@ -12,12 +12,6 @@ returns c =
     let ends = c.in_ok-disk.ensures.ending ∙ ap (λ (r : Reading). r.ending) reads in
     record {
       ending = c.in_ok-disk.ending;
-      answers = record {
-        ends = sym ends;
-        play = c.in_ok-play.play;
-        headline = rw disk at c.in_ok-play.ensures.headline;
-        plays = rw lines at c.in_ok-play.ensures.plays;
-        written_is = c.in_ok-out.ensures;
-      };
+      answers = c.in_ok-out.ensures _ disk lines ends;
       status_is = c.status_of.ensures;
     }
