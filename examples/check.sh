@@ -97,4 +97,5 @@ if [ "$found" != 'status 5' ]; then
     wrong=1
 fi
 ./check_list_walk.sh || wrong=1
+./check_probe_index.sh || wrong=1
 exit "$wrong"
