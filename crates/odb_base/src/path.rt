@@ -14,7 +14,7 @@ use std::marker::Model;
 use thiserror::Error;
 
 /// Why a text is no path.
-#[derive(Clone, Copy, Debug, PartialEq, Eq, Error)]
+#[derive(Clone, Copy, Debug, Error)]
 pub enum BadPath {
     /// The text doesn't begin with `/`, or a name is empty, `.`, `..`, or holds NUL or `/`.
     #[error("bad path")]

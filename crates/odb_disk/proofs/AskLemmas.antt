@@ -3,21 +3,22 @@ use Rattle.std.specs.Prelude.{if◌then◌else◌}
 use Rattle.std.specs.Result.{result_ok}
 use Rattle.std.proofs.Common.{◌≡◌, ◌≢◌, true, false, ℕ, Bool, List, [], ◌∷◌, Option, Some, None, Result, Ok, Err, IfSome, OnOk, OnErr, refl, sym, ap, ◌∙◌, subst, cond}
 use Rattle.odb_base.specs.Path.{Path}
-use Rattle.odb_disk.specs.Tree.{Tree, State, tree_of}
-use Rattle.odb_disk.specs.Tree.Follow.{Refusal, looked, read_of}
-use Rattle.odb_disk.specs.Tree.Write as writing
-use Rattle.odb_disk.specs.Tree.Write.{change_of_make_dir, change_of_new_file, change_of_append, change_of_rename, change_of_remove, done, written, written_as}
-use Rattle.odb_disk.specs.Disk.{Answers, AnswersWrite}
-use Rattle.odb_disk.specs.MemDisk.{Volume, after_call, next_fails}
-use Rattle.odb_disk.specs.Streams.{Streams, still_gives, opened}
+use Rattle.odb_tree.specs.Tree.{Tree, State, tree_of}
+use Rattle.odb_tree.specs.Tree.Follow.{Refusal, looked, read_of}
+use Rattle.odb_tree.specs.Tree.Write as writing
+use Rattle.odb_tree.specs.Tree.Write.{change_of_make_dir, change_of_new_file, change_of_append, change_of_rename, change_of_remove, done, written, written_as}
+use Rattle.odb_tree.specs.Answers.{Answers, AnswersWrite}
+use Rattle.odb_disk.specs.MemDisk.{Volume, after_call}
+use Rattle.odb_disk.specs.Streams.{Streams, still_gives}
+use Rattle.odb_tree.specs.Entries.{opened}
 use Rattle.odb_disk.specs.Told.{told_look, told_read, told_write}
 use Rattle.odb_disk.specs.StreamAsks.{streams_after, after_opening, after_taking, least_closed}
 use Rattle.odb_disk.specs.Ask.{meta_answer, file_answer, dir_answer, entry_answer, write_answer, answer_of, answer_in, change_of_ask, state_after, state_told_after, streams_left, is_counted, fails_now, after_count, after_ask, AnswersAsk, ran_out}
-use Rattle.odb_disk.specs.declared.change.Change.{Change}
-use Rattle.odb_disk.specs.declared.disk.Meta.{Meta}
-use Rattle.odb_disk.specs.declared.disk.Entry.{Entry}
-use Rattle.odb_disk.specs.declared.disk.DiskError.{DiskError}
-use Rattle.odb_disk.specs.declared.disk.DiskError.TheVariants as errors
+use Rattle.odb_tree.specs.declared.change.Change.{Change}
+use Rattle.odb_tree.specs.declared.meta.Meta.{Meta}
+use Rattle.odb_tree.specs.declared.entry.Entry.{Entry}
+use Rattle.odb_tree.specs.declared.disk_error.DiskError.{DiskError}
+use Rattle.odb_tree.specs.declared.disk_error.DiskError.TheVariants as errors
 use Rattle.odb_disk.specs.declared.ask.DiskAsk.{DiskAsk}
 use Rattle.odb_disk.specs.declared.ask.DiskAsk.TheVariants as asks
 use Rattle.odb_disk.specs.declared.ask.DiskAnswer.{DiskAnswer}

@@ -1,5 +1,5 @@
 -- Laws of calls that were made one after another: none, one, and two runs joined.
-use Rattle.std.proofs.Common.{◌≡◌, List, [], ◌∷◌, ◌++◌, refl, sym, subst}
+use Rattle.std.proofs.Common.{List, [], ◌∷◌, ◌++◌, refl, sym, subst}
 use Rattle.odb_disk.specs.CallsMade.{Makes, Leads, IsAnsweredBetween}
 
 module _ {State Ask Answer : Type 0} (Answered : State → Ask → Answer → State → Type 0) where

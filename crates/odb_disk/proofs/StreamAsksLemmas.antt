@@ -1,27 +1,28 @@
 -- The calls of streams as values: the least number that is free, and what a call answers and leaves.
-use Rattle.std.proofs.Common.{◌≡◌, ◌⊎◌, ℕ, ◌+◌, ◌<◌, ◌≤◌, ◌==◌, ◌||◌, max, fold, unwrap_or, Bool, true, false, not, List, [], ◌∷◌, map, Option, Some, None, Result, Ok, Err, IfOk, IfSome, OnErr, refl, sym, ap, ◌∙◌, subst, inl, inr, arith}
+use Rattle.std.proofs.Common.{◌≡◌, ◌⊎◌, ℕ, ◌+◌, ◌<◌, ◌≤◌, ◌==◌, ◌||◌, unwrap_or, true, false, not, List, [], ◌∷◌, Option, Some, None, Result, Ok, Err, IfOk, IfSome, OnErr, refl, sym, ap, ◌∙◌, subst, inl, inr, arith}
 use Rattle.std.proofs.lemmas.Bool.{cases_eq, cases_lt}
 use Rattle.std.specs.Cmp.{eq_by_cmp_equiv, nat_cmp_total, unsigned_tied}
 use Rattle.std.specs.FinMap as finite
 use Rattle.std.specs.FinMap.{contains_key-keys}
-use Rattle.std.specs.List.{list_any, find, range_with_len}
+use Rattle.std.specs.List.{list_any}
 use Rattle.std.specs.Ordering.{eq_by_cmp, nat_cmp}
 use Rattle.odb_base.specs.Path.{Path}
-use Rattle.odb_disk.specs.Tree.{Tree, State, tree_of}
-use Rattle.odb_disk.specs.Tree.Follow.{Refusal}
-use Rattle.odb_disk.specs.Tree.Write.{written}
-use Rattle.odb_disk.specs.Streams.{Streams, IsLeastClosed, AnswersOpen, Opens, Gives, GivesFirst, IsAtEnd, opened, still_gives, is_open, with_closed, with_opened}
+use Rattle.odb_tree.specs.Tree.{Tree, State, tree_of}
+use Rattle.odb_tree.specs.Tree.Follow.{Refusal}
+use Rattle.odb_tree.specs.Tree.Write.{written}
+use Rattle.odb_disk.specs.Streams.{Streams, IsLeastClosed, AnswersOpen, Opens, Gives, still_gives, is_open, with_opened}
+use Rattle.odb_tree.specs.Entries.{opened}
 use Rattle.odb_disk.specs.Told.{told_open, told_next}
-use Rattle.odb_disk.specs.Ask.{AnswersAsk, answer_of, answer_in, dir_answer, entry_answer, streams_left, state_after, state_told_after, change_of_ask}
-use Rattle.odb_disk.specs.StreamAsks.{is_of_streams, AnswersStreams, OpensAs, GivesAs, ClosesAs, greatest_open, least_closed, after_opening, after_taking, streams_after}
-use Rattle.odb_disk.specs.declared.disk.Entry.{Entry}
-use Rattle.odb_disk.specs.declared.disk.DiskError.{DiskError}
-use Rattle.odb_disk.specs.declared.disk.DiskError.TheVariants as errors
+use Rattle.odb_disk.specs.Ask.{AnswersAsk, answer_of, answer_in, dir_answer, entry_answer, streams_left, state_told_after, change_of_ask}
+use Rattle.odb_disk.specs.StreamAsks.{is_of_streams, AnswersStreams, OpensAs, GivesAs, greatest_open, least_closed, after_opening, after_taking, streams_after}
+use Rattle.odb_tree.specs.declared.entry.Entry.{Entry}
+use Rattle.odb_tree.specs.declared.disk_error.DiskError.{DiskError}
+use Rattle.odb_tree.specs.declared.disk_error.DiskError.TheVariants as errors
 use Rattle.odb_disk.specs.declared.ask.DiskAsk.{DiskAsk}
 use Rattle.odb_disk.specs.declared.ask.DiskAsk.TheVariants as asks
 use Rattle.odb_disk.specs.declared.ask.DiskAnswer.{DiskAnswer}
 use Rattle.odb_disk.specs.declared.ask.DiskAnswer.TheVariants as answers
-use Rattle.odb_disk.proofs.TreeLemmas.Numbers.{find_in_range, none_in_range, fold_max-le}
+use Rattle.odb_tree.proofs.TreeLemmas.Numbers.{find_in_range, none_in_range, fold_max-le}
 
 -- ---- the least number that no open stream has
 

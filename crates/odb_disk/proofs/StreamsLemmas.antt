@@ -1,8 +1,8 @@
 -- Laws of open streams: a map of the code as a finite map.
-use Rattle.std.proofs.Common.{◌≡◌, ℕ, ◌+◌, ◌<◌, ◌≤◌, Bool, true, false, not, nat_eq, ne_eqb, eqb-true, eq-eqb, ◌||◌, ◌++◌, List, [], ◌∷◌, map, length, Option, Some, None, Ok, Err, IfSome, is_some, cond, refl, sym, ap, ◌∙◌, subst, add-one, arith}
+use Rattle.std.proofs.Common.{◌≡◌, ℕ, ◌+◌, ◌<◌, ◌≤◌, Bool, true, false, List, [], ◌∷◌, map, length, Option, Some, None, Ok, Err, IfSome, is_some, cond, refl, sym, ap, ◌∙◌, subst, add-one, arith}
 use borrow.Author.Count.{below_more}
 use Rattle.std.specs.Option.{IfNone, option_or}
-use Rattle.std.specs.List.{AllByRecursion, filter}
+use Rattle.std.specs.List.{AllByRecursion}
 use Rattle.std.specs.List.Sorted.{IsStrictlySortedBy}
 use Rattle.std.specs.FinMap as finite
 use Rattle.std.specs.FinMap.{find, get-from_entries, get-insert, get-remove, len-empty, len-insert, same_map, nat_cmp-IsAntisymmetric}
@@ -12,14 +12,11 @@ use Rattle.std.specs.declared.cmp.Ordering.TheVariants.{Less, Equal, Greater}
 use Rattle.std.specs.Cmp.{eq_by_cmp_equiv, nat_cmp_total}
 use Rattle.std.specs.Map.{lookup}
 use Rattle.std.specs.BTreeMap.{is_at}
-use Rattle.std.proofs.lemmas.Bool.{or_right}
-use Rattle.std.proofs.lemmas.List.Folds.{list_any-append}
-use Rattle.std.proofs.lemmas.Map.Views.{any-filter_same}
 use Rattle.odb_base.specs.Path.{is_name}
 use Rattle.odb_disk.specs.StreamNumbers.{AreOpenBelow}
 use Rattle.odb_disk.specs.Streams.{Gives, IsAtEnd, IsClosed, IsLeastClosed, GivesFirst, TakesNext, lists_only, still_gives, with_opened, Streams}
-use Rattle.odb_disk.specs.declared.disk.Entry.{Entry}
-use Rattle.odb_disk.specs.declared.disk.DiskError.TheVariants as errors
+use Rattle.odb_tree.specs.declared.entry.Entry.{Entry}
+use Rattle.odb_tree.specs.declared.disk_error.DiskError.TheVariants as errors
 
 abbrev Lists : Type 0
 Lists = List (ℕ × List Entry)

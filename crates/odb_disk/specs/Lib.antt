@@ -1,6 +1,4 @@
 pub use Rattle.odb_base.specs.Faults
-pub mod Node
-pub mod Tree
 pub mod Disk
 pub mod Streams
 pub mod StreamNumbers
@@ -12,8 +10,3 @@ pub mod CallsMade
 pub mod Source
 pub mod MemStream
 pub mod Calls
-pub mod OwnFile
-pub mod TreeNumbers
-pub mod TreeCalls
-pub mod TreeMoves
-pub mod Listing

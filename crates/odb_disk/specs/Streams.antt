@@ -1,56 +1,17 @@
 -- The streams of a disk: which directories are open, and what each of them still gives.
-use Rattle.std.specs.Prelude.{◌≡◌, ◌⊎◌, ℕ, ◌^◌, ◌<◌, Bool, true, false, max, List, [], ◌∷◌, length, Option, Some, None, Result, Ok, Err, IsOk, IfSome, is_some, refl}
+use Rattle.std.specs.Prelude.{◌≡◌, ℕ, ◌^◌, ◌<◌, Bool, true, false, max, List, [], ◌∷◌, length, Option, Some, None, Result, Ok, Err, IsOk, IfSome, is_some, refl}
 use Rattle.std.specs.Option.{option_map}
 use Rattle.std.specs.Ordering.{nat_cmp}
-use Rattle.std.specs.List.{filter_map, list_all}
 use Rattle.std.specs.FinMap as finite
-use Rattle.std.specs.Coded.{Coded, code_by, coded×, coded⊎, coded_ℕ, coded_list}
-use Rattle.std.proofs.Common.{inl, inr}
-use base.Stored.{coded_unit}
-use Rattle.odb_base.specs.Path.{Path, Name, is_name}
-use Rattle.odb_disk.specs.Tree.{Tree, State, tree_of, name_in}
-use Rattle.odb_disk.specs.Tree.Nodes.{entries_of}
-use Rattle.odb_disk.specs.Tree.Follow.{Place, Refusal, WrongKind, followed}
-use Rattle.odb_disk.specs.Disk.{Answers}
-use Rattle.odb_disk.specs.declared.node.Node.{Node}
-use Rattle.odb_disk.specs.declared.node.Content.{Content}
-use Rattle.odb_disk.specs.declared.node.Content.TheVariants as contents
-use Rattle.odb_disk.specs.declared.disk.Entry.{Entry}
-use Rattle.odb_disk.specs.declared.disk.Kind.{Kind}
-use Rattle.odb_disk.specs.declared.disk.Kind.TheVariants.{File, Dir, Link}
-use Rattle.odb_disk.specs.declared.disk.DiskError.{DiskError}
-use Rattle.odb_disk.specs.declared.disk.DiskError.TheVariants as errors
-
--- ---- what a directory has
-
-abbrev pub kind_of : Content → Kind
-kind_of (contents.File bytes time) = File
-kind_of contents.Dir = Dir
-kind_of (contents.Link target) = Link
-
-abbrev pub entry_of : Node → Name → Entry
-entry_of node name = record { name = name; kind = kind_of node.content; ino = node.ino }
-
--- the entry of a node, if it lies right in a directory
-abbrev pub entry_in : Path → Path × Node → Option Entry
-entry_in directory at = option_map (entry_of at.1) (name_in directory at.0)
-
--- the entries of a directory, in the order of the bytes of their names
-unfoldable pub entries_in : Tree → Path → List Entry
-entries_in tree directory = filter_map (entry_in directory) (entries_of tree)
-
-abbrev pub entries_at : Tree → Path → Content → Result (List Entry) Refusal
-entries_at tree path contents.Dir = Ok (entries_in tree path)
-entries_at tree path (contents.File bytes time) = Err WrongKind
-entries_at tree path (contents.Link target) = Err WrongKind
-
-abbrev pub entries_at_place : Tree → Result Place Refusal → Result (List Entry) Refusal
-entries_at_place tree (Ok place) = entries_at tree place.path place.node.content
-entries_at_place tree (Err refusal) = Err refusal
-
--- the entries of the directory that a path leads to, links followed; anything else is of the wrong kind
-unfoldable pub opened : Tree → Path → Result (List Entry) Refusal
-opened tree path = entries_at_place tree (followed tree true path)
+use Rattle.std.specs.Coded.{Coded, code_by, coded×, coded_ℕ, coded_list}
+use Rattle.odb_base.specs.Path.{Path, is_name}
+use Rattle.odb_tree.specs.Tree.{State, tree_of}
+use Rattle.odb_tree.specs.Tree.Follow.{Refusal}
+use Rattle.odb_tree.specs.Answers.{Answers}
+use Rattle.odb_tree.specs.Entries.{opened, coded_entry}
+use Rattle.odb_tree.specs.declared.entry.Entry.{Entry}
+use Rattle.odb_tree.specs.declared.disk_error.DiskError.{DiskError}
+use Rattle.odb_tree.specs.declared.disk_error.DiskError.TheVariants as errors
 
 -- ---- the streams of a disk
 
@@ -132,10 +93,6 @@ pub record IsClosed (old new : Streams) (dir : ℕ) : Type 0 where
   pub closed : still_gives old dir ≡ None
   pub same : new ≡ old
 
--- whether each entry's name is a name
-abbrev pub AreNamed : List Entry → Type 0
-AreNamed entries = list_all (λ entry. is_name entry.name) entries ≡ true
-
 -- what taking the next entry from a stream does
 abbrev pub TakesNext : Streams → Streams → ℕ → Option (Option Entry) → Type 0
 TakesNext old new dir None = IsClosed old new dir
@@ -155,30 +112,7 @@ Gives old new dir (Err errors.NotEmpty) = ⊥
 Gives old new dir (Err errors.Failed) = new ≡ old
 Gives old new dir (Err errors.NoMemory) = new ≡ old
 
--- ---- how streams are told apart, for models that hold them
-
-abbrev pub kind_parts : Kind → Unit {0} ⊎ (Unit {0} ⊎ Unit {0})
-kind_parts File = inl tt
-kind_parts Dir = inr (inl tt)
-kind_parts Link = inr (inr tt)
-
-abbrev pub kind_from : Unit {0} ⊎ (Unit {0} ⊎ Unit {0}) → Kind
-kind_from (inl u) = File
-kind_from (inr (inl u)) = Dir
-kind_from (inr (inr u)) = Link
-
-pub kind_from-parts : (kind : Kind) → kind_from (kind_parts kind) ≡ kind
-kind_from-parts File = refl
-kind_from-parts Dir = refl
-kind_from-parts Link = refl
-
-abbrev pub coded_kind : Coded Kind
-coded_kind = code_by (Unit {0} ⊎ (Unit {0} ⊎ Unit {0})) (coded⊎ coded_unit (coded⊎ coded_unit coded_unit)) kind_parts kind_from kind_from-parts
-
-abbrev pub coded_entry : Coded Entry
-coded_entry =
-    code_by (Name × (Kind × ℕ)) (coded× (coded_list coded_ℕ) (coded× coded_kind coded_ℕ)) (λ e. (e.name, (e.kind, e.ino))) (λ p. record { name = p.0; kind = p.1.0; ino = p.1.1 }) (λ _. refl)
-
+-- how streams are told apart, for models that hold them
 abbrev pub coded_streams : Coded Streams
 coded_streams =
     code_by (finite.FinMap nat_cmp (List Entry) × ℕ) (coded× (finite.code coded_ℕ (coded_list coded_entry)) coded_ℕ) (λ s. (s.open_dirs, s.peak)) (λ p. record { open_dirs = p.0; peak = p.1 }) (λ _. refl)

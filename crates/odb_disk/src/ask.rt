@@ -1,16 +1,22 @@
-ghost use Rattle.std.specs.Prelude.{◌≡◌, ◌≤◌, ◌↔◌, true, false, IfSome};
+ghost use Rattle.std.specs.Prelude.{◌≡◌, ◌≤◌, ◌↔◌, true, false, Result, IfOk, IfSome};
 ghost use Rattle.std.specs.Option.{option_map};
+ghost use Rattle.std.specs.Result.{result_ok};
 ghost use Rattle.odb_base.specs.Faults.{Rose};
-ghost use Rattle.odb_disk.specs.Tree.{IsTree, tree_of};
-ghost use Rattle.odb_disk.specs.Ask.{answer_of, op_of, path_asked, state_told_after, AnswersAsk, ran_out};
+ghost use Rattle.odb_tree.specs.Tree.{IsTree, tree_of};
+ghost use Rattle.odb_tree.specs.Tree.Write.{Refusal};
+ghost use Rattle.odb_tree.specs.Answers.{Tells};
+ghost use Rattle.odb_tree.specs.declared.change.Change.{Change as ChangeValue};
+ghost use Rattle.odb_disk.specs.Ask.{answer_of, change_of_ask, op_of, path_asked, state_told_after, AnswersAsk, ran_out};
 ghost use Rattle.odb_disk.specs.Told.{told_look, told_read, told_open, told_next, told_write};
 ghost use Rattle.odb_disk.specs.StreamAsks.{is_of_streams, AnswersStreams};
 
-use crate::{ByteList, DirId, Disk, DiskError, Entry, MemDisk, Meta, NoMemory, PathText};
+use crate::{
+    ByteList, Change, DirId, Disk, DiskError, Entry, MemDisk, Meta, NoMemory, PathText, Tree,
+};
 use std::alloc::Global;
 
 /// A call of a disk as a value.
-#[derive(Debug, Drop, PartialEq, Eq)]
+#[derive(Drop)]
 pub enum DiskAsk {
     Look { path: PathText, follow: bool },
     Read { path: PathText },
@@ -25,7 +31,7 @@ pub enum DiskAsk {
 }
 
 /// What a disk answered to a call.
-#[derive(Debug, Drop, PartialEq, Eq)]
+#[derive(Drop)]
 pub enum DiskAnswer {
     Meta(Meta),
     File { bytes: ByteList, time: u64 },
@@ -41,7 +47,7 @@ pub enum DiskAnswer {
 }
 
 /// The name of a call of a disk.
-#[derive(Clone, Copy, Debug, PartialEq, Eq, Hash)]
+#[derive(Clone, Copy, Debug)]
 pub enum Op {
     Look,
     Read,
@@ -125,7 +131,7 @@ impl DiskAsk {
 }
 
 impl MemDisk {
-    ghost use Rattle.std.specs.Prelude.{IfOk, OnOk, OnErr};
+    ghost use Rattle.std.specs.Prelude.{OnOk, OnErr};
     ghost use Rattle.odb_disk.specs.Ask.{answer_in, answer_now, after_ask, after_count, fails_now, state_after, streams_left};
 
     /// Makes a call that is given as a value. Want of memory is an error, and no answer.
@@ -165,6 +171,37 @@ impl MemDisk {
             DiskAsk::Rename { from, to } => write_answer(self.rename(alloc, from, to)),
             DiskAsk::Remove { path } => write_answer(self.remove(alloc, path)),
         }
+    }
+}
+
+/// The change that a call would make in a tree, if it would make one.
+#[tactic(auto, unfolding(crate::specs::Ask::change_of_ask))]
+pub(crate) fn change_of(
+    alloc: Global,
+    tree: &Tree,
+    ask: &DiskAsk,
+) -> Result<Option<Change>, NoMemory>
+    ensures { IfOk result (λ change. change ≡ change_of_ask tree.now ask.now) }
+{
+    match ask {
+        DiskAsk::Look { .. } | DiskAsk::Read { .. } => Ok(None),
+        DiskAsk::OpenDir { .. } | DiskAsk::NextEntry { .. } | DiskAsk::CloseDir { .. } => Ok(None),
+        DiskAsk::MakeDir { path } => told_change(tree.change_of_make_dir(alloc, path)),
+        DiskAsk::NewFile { path } => told_change(tree.change_of_new_file(alloc, path)),
+        DiskAsk::Append { path, bytes } => told_change(tree.change_of_append(alloc, path, bytes)),
+        DiskAsk::Rename { from, to } => told_change(tree.change_of_rename(alloc, from, to)),
+        DiskAsk::Remove { path } => told_change(tree.change_of_remove(alloc, path)),
+    }
+}
+
+/// The change that a call would make, by what the tree says of it.
+fn told_change(told: Result<Change, DiskError>) -> Result<Option<Change>, NoMemory>
+    ensures { (told_by_tree : Result ChangeValue Refusal) → Tells told told_by_tree → IfOk result (λ change. change ≡ result_ok told_by_tree) }
+{
+    match told {
+        Ok(change) => Ok(Some(change)),
+        Err(DiskError::NoMemory) => Err(NoMemory),
+        Err(_) => Ok(None),
     }
 }
 

@@ -1,11 +1,10 @@
 use crate::NoMemory;
-use crate::node_map::copied_numbers;
 use std::alloc::Global;
 use std::collections::BTreeSet;
 use std::marker::Model;
 
 /// The calls of something in memory that is made to fail at some of them.
-#[derive(Debug, Drop)]
+#[derive(Drop)]
 pub(crate) struct Calls {
     made: u64,
     listed: BTreeSet<u64>,
@@ -96,7 +95,7 @@ impl Calls {
     {
         Ok(Calls {
             made: self.made,
-            listed: copied_numbers(&self.listed)?,
+            listed: self.listed.clone()?,
             faults: self.faults,
         })
     }

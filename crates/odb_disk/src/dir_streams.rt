@@ -1,90 +1,17 @@
 //! The open streams of a disk, by their numbers.
 ghost use Rattle.std.specs.Prelude.{◌≡◌, ◌+◌, ◌<◌, ◌^◌, ◌∷◌, ◌++◌, [], true, length, IfOk, OnOk, OnErr, IfSome, IfNone};
 ghost use Rattle.std.specs.FinMap as maps;
-ghost use Rattle.odb_base.specs.Path.{is_name};
 ghost use Rattle.odb_disk.specs.StreamNumbers.{AreOpenBelow};
 ghost use Rattle.odb_disk.specs.Streams.{IsLeastClosed, TakesNext, lists_only, no_streams, with_opened, with_closed};
 
-use crate::NoMemory;
-use crate::disk::{DirId, Entry};
+use crate::disk::DirId;
+use crate::{Entry, EntryQueue, NoMemory};
 use std::alloc::Global;
-use std::collections::{BTreeMap, VecDeque};
+use std::collections::BTreeMap;
 use std::marker::Model;
 
-/// Entries in the order in which they are given.
-#[derive(Debug, Drop)]
-pub struct EntryQueue {
-    entries: VecDeque<Entry>,
-}
-
-impl Model for EntryQueue {
-    ghost use Rattle.std.specs.Prelude.{List, length, ◌<◌, ◌^◌};
-    ghost use Rattle.std.specs.Coded.{coded_list};
-    ghost use Rattle.odb_disk.specs.Streams.{coded_entry};
-    ghost use Rattle.odb_disk.specs.declared.disk.Entry.{Entry as EntryValue};
-
-    ghost Value = { List EntryValue };
-
-    ghost coded = { coded_list coded_entry };
-
-    ghost view = { λ queue. queue.entries.items };
-
-    ghost use Rattle.odb_disk.specs.Streams.{AreNamed};
-
-    ghost invariant = { λ queue. AreNamed queue.entries.items × (length queue.entries.items < 2 ^ 64) };
-}
-
-impl EntryQueue {
-    /// No entries, which takes no memory.
-    pub fn new(alloc: Global) -> EntryQueue
-        ensures { result ≡ [] }
-    {
-        EntryQueue {
-            entries: VecDeque::new(alloc),
-        }
-    }
-
-    /// Adds an entry at the end. A refused call changes nothing.
-    pub fn push(&mut self, entry: Entry) -> Result<(), NoMemory>
-        requires { is_name entry.name ≡ true }
-        ensures ok { OnOk result (self.new ≡ self.old ++ entry ∷ []) }
-        ensures err { OnErr result (self.new ≡ self.old) }
-    {
-        self.entries.push_back(entry)?;
-        Ok(())
-    }
-
-    /// Takes the first entry.
-    pub fn pop(&mut self) -> Option<Entry>
-        ensures first { IfSome result (λ entry. self.old ≡ entry ∷ self.new) }
-        ensures none { IfNone result (self.old ≡ []) }
-        ensures kept { IfNone result (self.new ≡ self.old) }
-        ensures named { IfSome result (λ entry. is_name entry.name ≡ true) }
-    {
-        self.entries.pop_front()
-    }
-
-    /// How many entries there are.
-    pub fn len(&self) -> usize
-        ensures { result ≡ length self.now }
-    {
-        self.entries.len()
-    }
-
-    /// A copy of the entries.
-    pub fn try_clone(&self, alloc: Global) -> Result<EntryQueue, NoMemory>
-        ensures { IfOk result (λ copy. copy ≡ self.now) }
-    {
-        let mut copy = EntryQueue::new(alloc);
-        for entry in &self.entries {
-            copy.push(entry.try_clone(alloc)?)?;
-        }
-        Ok(copy)
-    }
-}
-
 /// The streams that are open, and the most that were open at one time so far.
-#[derive(Debug, Drop)]
+#[derive(Drop)]
 pub struct DirStreams {
     lists: BTreeMap<u64, EntryQueue>,
     peak: u64,

@@ -1,69 +1,23 @@
 ghost use Rattle.std.specs.Prelude.{◌≡◌, ℕ, Option, IfOk, IfSome, OnOk, OnErr};
-ghost use Rattle.odb_disk.specs.declared.disk.DiskError.TheVariants.{NoMemory as out_of_memory};
-ghost use Rattle.odb_disk.specs.Tree.{IsTree, State, tree_of};
-ghost use Rattle.odb_disk.specs.Tree.Follow.{looked, read_of};
-ghost use Rattle.odb_disk.specs.Tree.Write.{change_of_make_dir, change_of_new_file, change_of_append, change_of_rename, change_of_remove, done, written_as};
-ghost use Rattle.odb_disk.specs.Disk.{Answers, AnswersWrite, FailsOnlyByFault};
-ghost use Rattle.odb_disk.specs.Streams.{Streams, AnswersOpen, Opens, Gives, opened, with_closed};
+ghost use Rattle.odb_tree.specs.Tree.{IsTree, State, tree_of};
+ghost use Rattle.odb_tree.specs.Tree.Follow.{looked, read_of};
+ghost use Rattle.odb_tree.specs.Tree.Write.{change_of_make_dir, change_of_new_file, change_of_append, change_of_rename, change_of_remove, done, written_as};
+ghost use Rattle.odb_disk.specs.Disk.{FailsOnlyByFault};
+ghost use Rattle.odb_tree.specs.Answers.{Answers, AnswersWrite};
+ghost use Rattle.odb_disk.specs.Streams.{Streams, AnswersOpen, Opens, Gives, with_closed};
+ghost use Rattle.odb_tree.specs.Entries.{opened};
 ghost use Rattle.odb_disk.specs.Told.{told_look, told_read, told_open, told_next, told_write};
 ghost use Rattle.odb_disk.specs.declared.ask.DiskAsk.{DiskAsk as ask_value};
 ghost use Rattle.odb_disk.specs.declared.ask.DiskAsk.TheVariants as asks;
 ghost use Rattle.odb_disk.specs.declared.ask.DiskAnswer.{DiskAnswer as answer_value};
 ghost use Rattle.odb_disk.specs.declared.ask.DiskAnswer.TheVariants as answers;
 
-use crate::{ByteList, NoMemory, PathName, PathText};
-use std::alloc::{AllocError, AllocFailed, Global};
+use crate::{ByteList, DiskError, Entry, Meta, PathText};
+use std::alloc::Global;
 use std::marker::Model;
-use thiserror::Error;
-
-/// What stands at a path.
-#[derive(Clone, Copy, Debug, PartialEq, Eq, PartialOrd, Ord, Hash)]
-pub enum Kind {
-    File,
-    Dir,
-    Link,
-}
-
-/// What a look at a path tells.
-#[derive(Clone, Copy, Debug, PartialEq, Eq, Hash)]
-pub struct Meta {
-    pub kind: Kind,
-    /// The number of the device.
-    pub dev: u64,
-    /// The inode number.
-    pub ino: u64,
-    /// The length of a file in bytes, else 0.
-    pub len: u64,
-    /// The time of a file, else 0. On a real disk, nanoseconds since 1970.
-    pub time: u64,
-}
-
-/// What a stream of a directory gives.
-#[derive(Debug, Drop, PartialEq, Eq)]
-pub struct Entry {
-    /// The name in the directory.
-    pub name: PathName,
-    /// What stands there. A link isn't followed.
-    pub kind: Kind,
-    /// The inode number.
-    pub ino: u64,
-}
-
-impl Entry {
-    /// A copy of the entry.
-    pub fn try_clone(&self, alloc: Global) -> Result<Entry, NoMemory>
-        ensures { IfOk result (λ copy. copy ≡ self.now) }
-    {
-        Ok(Entry {
-            name: self.name.try_clone(alloc)?,
-            kind: self.kind,
-            ino: self.ino,
-        })
-    }
-}
 
 /// The number of an open stream of a directory.
-#[derive(Clone, Copy, Debug, PartialEq, Eq, Hash)]
+#[derive(Clone, Copy, Debug)]
 pub struct DirId {
     number: u64,
 }
@@ -94,60 +48,11 @@ impl DirId {
     }
 }
 
-/// Why a call of a disk was refused.
-#[derive(Clone, Copy, Debug, PartialEq, Eq, Hash, Error)]
-pub enum DiskError {
-    /// Nothing is there, or nothing is at a part of the way.
-    #[error("Absent")]
-    Absent,
-    /// A part of the way is no directory, or what is there is of another kind than the call needs.
-    #[error("WrongKind")]
-    WrongKind,
-    /// More than 40 links on the way.
-    #[error("LinkLoop")]
-    LinkLoop,
-    /// Something is there already.
-    #[error("Exists")]
-    Exists,
-    /// A directory that is to be removed has entries.
-    #[error("NotEmpty")]
-    NotEmpty,
-    /// The disk itself failed: its count of faults rose.
-    #[error("Failed")]
-    Failed,
-    #[error("NoMemory")]
-    NoMemory,
-}
-
-impl From<NoMemory> for DiskError {
-    ghost from_gives = { λ _ e. e ≡ out_of_memory };
-
-    fn from(_: NoMemory) -> Self {
-        DiskError::NoMemory
-    }
-}
-
-impl From<AllocError> for DiskError {
-    ghost from_gives = { λ _ e. e ≡ out_of_memory };
-
-    fn from(_: AllocError) -> Self {
-        DiskError::NoMemory
-    }
-}
-
-impl<T: Drop> From<AllocFailed<T>> for DiskError {
-    ghost from_gives = { λ _ e. e ≡ out_of_memory };
-
-    fn from(_: AllocFailed<T>) -> Self {
-        DiskError::NoMemory
-    }
-}
-
 /// A disk: a tree of directories, files and links that other programs change too.
 ///
 /// A state that is told shows a tree. A refused call leaves it as it was, and a call that writes makes the change
-/// that its word in `specs/Tree/Write.antt` gives. Each disk tells its open streams: `open_dir`, `next_entry` and
-/// `close_dir` change them as `specs/Streams.antt` says, and no other call does.
+/// that its word in `specs/Tree/Write.antt` of `odb_tree` gives. Each disk tells its open streams: `open_dir`,
+/// `next_entry` and `close_dir` change them as `specs/Streams.antt` says, and no other call does.
 pub trait Disk {
     /// The state of the disk, where it tells it.
     ghost state: { Self → Option State };

@@ -1,17 +1,16 @@
-use crate::ask::DiskAsk;
+use crate::ask::{DiskAsk, change_of};
 use crate::calls::Calls;
-use crate::change::{Change, Impossible};
-use crate::dir_streams::DirStreams;
-use crate::disk::{DirId, Disk, DiskError, Entry, Meta};
-use crate::tree::Tree;
-use crate::{ByteList, NoMemory, PathText};
+use crate::{
+    ByteList, Change, DirId, DirStreams, Disk, DiskError, Entry, Impossible, Meta, NoMemory,
+    PathText, Tree,
+};
 use std::alloc::Global;
 use std::marker::Model;
 
 /// A disk in memory.
 ///
 /// It numbers its calls from 1. A call whose number is listed fails and changes nothing.
-#[derive(Debug, Drop)]
+#[derive(Drop)]
 pub struct MemDisk {
     tree: Tree,
     streams: DirStreams,
@@ -25,7 +24,7 @@ impl Model for MemDisk {
 
     ghost coded = { coded_volume };
 
-    ghost use Rattle.odb_disk.specs.Tree.{IsTree, state_of};
+    ghost use Rattle.odb_tree.specs.Tree.{IsTree, state_of};
 
     ghost view = { λ d. record { state = state_of d.tree; streams = d.streams; calls = d.calls } };
 
@@ -36,8 +35,8 @@ impl MemDisk {
     ghost use Rattle.std.specs.Prelude.{◌≡◌, ◌≤◌, true, false, IsTrue, IfOk, OnOk, OnErr, IsErrOf};
     ghost use Rattle.odb_base.specs.Faults.{Rose};
     ghost use Rattle.std.specs.FinSet as set;
-    ghost use Rattle.odb_disk.specs.Tree.{IsTree, tree_of};
-    ghost use Rattle.odb_disk.specs.Tree.Change.{is_possible};
+    ghost use Rattle.odb_tree.specs.Tree.{IsTree, tree_of};
+    ghost use Rattle.odb_tree.specs.Tree.Change.{is_possible};
     ghost use Rattle.odb_disk.specs.Ask.{change_of_ask};
     ghost use Rattle.odb_disk.specs.MemDisk.{new_volume, after_outside_change, after_call, next_fails};
 
@@ -80,7 +79,7 @@ impl MemDisk {
     pub fn change_of(&self, alloc: Global, ask: &DiskAsk) -> Result<Option<Change>, NoMemory>
         ensures { IfOk result (λ change. change ≡ change_of_ask (tree_of self.now.state) ask.now) }
     {
-        self.tree.change_of(alloc, ask)
+        change_of(alloc, &self.tree, ask)
     }
 
     /// The tree that the disk shows now.
@@ -135,12 +134,14 @@ impl MemDisk {
 impl Disk for MemDisk {
     ghost use Rattle.std.specs.Prelude.{◌≡◌, ◌↔◌, true, Some, Err, IfOk, IfSome, OnOk, OnErr};
     ghost use Rattle.std.specs.Result.{result_ok};
-    ghost use Rattle.odb_disk.specs.Tree.{IsTree, State, tree_of};
-    ghost use Rattle.odb_disk.specs.Tree.Follow.{looked, read_of};
-    ghost use Rattle.odb_disk.specs.Tree.Write.{change_of_make_dir, change_of_new_file, change_of_append, change_of_rename, change_of_remove, done, written};
-    ghost use Rattle.odb_disk.specs.Disk.{Answers, AnswersWrite, FailsOnlyByFault};
+    ghost use Rattle.odb_tree.specs.Tree.{IsTree, State, tree_of};
+    ghost use Rattle.odb_tree.specs.Tree.Follow.{looked, read_of};
+    ghost use Rattle.odb_tree.specs.Tree.Write.{change_of_make_dir, change_of_new_file, change_of_append, change_of_rename, change_of_remove, done, written};
+    ghost use Rattle.odb_disk.specs.Disk.{FailsOnlyByFault};
+    ghost use Rattle.odb_tree.specs.Answers.{Answers, AnswersWrite};
     ghost use Rattle.odb_disk.specs.MemDisk.{after_call, next_fails};
-    ghost use Rattle.odb_disk.specs.Streams.{IsLeastClosed, AnswersOpen, Opens, Gives, opened, with_closed};
+    ghost use Rattle.odb_disk.specs.Streams.{IsLeastClosed, AnswersOpen, Opens, Gives, with_closed};
+    ghost use Rattle.odb_tree.specs.Entries.{opened};
 
     ghost state = { λ disk. Some disk.state };
 

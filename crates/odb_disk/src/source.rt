@@ -9,12 +9,12 @@ use std::marker::Model;
 use thiserror::Error;
 
 /// A source or a sink failed: its count of faults rose.
-#[derive(Clone, Copy, Debug, PartialEq, Eq, Error)]
+#[derive(Clone, Copy, Debug, Error)]
 #[error("failed")]
 pub struct Failed;
 
 /// Why a source wasn't read to its end.
-#[derive(Clone, Copy, Debug, PartialEq, Eq, Error)]
+#[derive(Clone, Copy, Debug, Error)]
 pub enum ReadError {
     #[error("failed")]
     Failed,
@@ -103,7 +103,7 @@ pub fn write_all<K: Sink>(sink: &mut K, bytes: &[u8]) -> Result<(), Failed>
 ///
 /// It numbers its reads from 1. A read whose number is listed fails and takes nothing; each other one takes
 /// as many bytes as there are and as fit.
-#[derive(Debug, Drop)]
+#[derive(Drop)]
 pub struct MemSource {
     bytes: Vec<u8>,
     /// How many of the bytes are read. The rest are left.
@@ -202,7 +202,7 @@ impl Source for MemSource {
 ///
 /// It numbers its writes from 1. A write whose number is listed fails and adds nothing; each other one adds
 /// its whole piece, and fails only where there is no memory to grow.
-#[derive(Debug, Drop)]
+#[derive(Drop)]
 pub struct MemSink {
     bytes: Vec<u8>,
     calls: Calls,

@@ -10,7 +10,7 @@ const TRIES: u32 = 1_000_000;
 
 /// A source over a reader of std. It doesn't tell its bytes; where the reader does, a read gives them in order, and
 /// nothing only at their end.
-#[derive(Debug, Drop)]
+#[derive(Drop)]
 pub struct StdSource<R> {
     inner: R,
     faults: u64,
@@ -64,7 +64,7 @@ impl<R: Read> Source for StdSource<R> {
 }
 
 /// A sink over a writer of std. It doesn't tell its bytes.
-#[derive(Debug, Drop)]
+#[derive(Drop)]
 pub struct StdSink<W> {
     inner: W,
     faults: u64,

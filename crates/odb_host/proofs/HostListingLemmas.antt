@@ -8,7 +8,7 @@ use Rattle.std.specs.declared.io.Error.{Error}
 use Rattle.std.proofs.iter.Next.{Yields-more}
 use Rattle.std.proofs.lemmas.List.Elements.{All-nil, All-push}
 use Rattle.std.proofs.lemmas.Slice.Zip.{all_zipped_more}
-use Rattle.odb_disk.specs.declared.disk.DiskError.{DiskError}
+use Rattle.odb_tree.specs.declared.disk_error.DiskError.{DiskError}
 use Rattle.odb_host.specs.HostListing.{IsFoundIn, IsListing, IsUnlisted, ListsNone, Takes, bare_listing, listed, with_found}
 use Rattle.odb_host.specs.declared.host_listing.Found.{Found}
 use Rattle.odb_host.specs.declared.host_listing.Unnamed.{Unnamed}

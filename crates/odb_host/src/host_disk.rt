@@ -29,7 +29,7 @@ const MOST_ENTRIES: usize = 16_777_216;
 ///
 /// `open_dir` reads the whole directory. Names in it that aren't UTF-8, and nodes that are no file, directory or link,
 /// are passed over: after the other entries one call of `next_entry` fails for them.
-#[derive(Debug, Drop)]
+#[derive(Drop)]
 pub struct HostDisk<R> {
     rt: R,
     streams: DirStreams,

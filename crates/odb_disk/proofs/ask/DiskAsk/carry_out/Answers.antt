@@ -1,4 +1,4 @@
-use Rattle.odb_disk.specs.Tree.Write.{change_of_make_dir, change_of_new_file, change_of_append, change_of_rename, change_of_remove}
+use Rattle.odb_tree.specs.Tree.Write.{change_of_make_dir, change_of_new_file, change_of_append, change_of_rename, change_of_remove}
 use Rattle.odb_disk.proofs.AskLemmas.{carried_look_told, carried_read_told, looked_state, read_state, carried_write_told, carried_state_told, asks_make_dir, asks_new_file, asks_append, asks_rename, asks_remove}
 use Rattle.odb_disk.proofs.StreamAsksLemmas.{carried_open, carried_next, opened_state, taken_state, closed_state}
 use Rattle.odb_disk.proofs.ask.DiskAsk.carry_out.Goals as goal

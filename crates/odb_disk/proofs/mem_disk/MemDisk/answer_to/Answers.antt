@@ -1,4 +1,4 @@
-use Rattle.odb_disk.specs.Tree.{tree_of}
+use Rattle.odb_tree.specs.Tree.{tree_of}
 use Rattle.std.proofs.Common.{refl, ap}
 use Rattle.odb_disk.proofs.AskLemmas.{carried_look, carried_read, carried_write, carried_state, asks_make_dir, asks_new_file, asks_append, asks_rename, asks_remove}
 use Rattle.odb_disk.specs.StreamAsks.{is_of_streams}

@@ -1,5 +1,5 @@
 use Rattle.std.proofs.Common.{◌∙◌, sym}
-use Rattle.odb_disk.specs.Tree.{tree_of}
+use Rattle.odb_tree.specs.Tree.{tree_of}
 use Rattle.odb_disk.specs.Ask.{answer_in, fails_now}
 use Rattle.odb_disk.proofs.AskLemmas.{answered_by, volume_after_ask, volume_kept, has_memory, no_memory}
 use Rattle.odb_disk.proofs.mem_disk.MemDisk.carry_out.Goals as goal

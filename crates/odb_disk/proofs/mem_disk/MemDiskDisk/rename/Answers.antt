@@ -1,6 +1,6 @@
 use Rattle.std.proofs.Common.{◌∙◌, ap}
-use Rattle.odb_disk.specs.Tree.Write.{change_of_rename}
-use Rattle.odb_disk.proofs.TreeLemmas.Write.{rename_possible}
+use Rattle.odb_tree.specs.Tree.Write.{change_of_rename}
+use Rattle.odb_tree.proofs.TreeLemmas.Write.{rename_possible}
 use Rattle.odb_disk.proofs.MemDiskLemmas.{write_answers, write_made, write_kept, IsTree-written}
 use Rattle.odb_disk.proofs.mem_disk.MemDiskDisk.rename.Goals as goal
 

@@ -1,5 +1,0 @@
-use Rattle.odb_disk.proofs.TreeLemmas.{tree_take}
-use Rattle.odb_disk.proofs.node_map.take.Goals as goal
-
-pub returns : goal.returns
-returns c = tree_take c.args.nodes.now.entries c.remove.new.self.entries c.args.path.now c.remove.ensures.updates.0

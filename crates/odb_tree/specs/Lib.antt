@@ -1,0 +1,9 @@
+pub mod Node
+pub mod Tree
+pub mod Entries
+pub mod Answers
+pub mod OwnFile
+pub mod TreeNumbers
+pub mod TreeCalls
+pub mod TreeMoves
+pub mod Listing

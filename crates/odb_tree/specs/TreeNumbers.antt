@@ -1,0 +1,32 @@
+-- What holds of the fields of a tree in memory, and how its free inode numbers are kept. No public clause cites this.
+use Rattle.std.specs.Prelude.{◌≡◌, ◌⊎◌, ℕ, ◌-◌, ◌^◌, ◌<◌, ◌==◌, Bool, true, false, not, List, Option, Some, None}
+use Rattle.std.specs.Ordering.{eq_by_cmp, nat_cmp}
+use Rattle.std.specs.List.{list_any}
+use Rattle.odb_tree.specs.Tree.{Tree, IsTree, tree_of_entries}
+use Rattle.odb_tree.specs.Tree.Change.{is_taken}
+use Rattle.odb_tree.specs.declared.node.Node.{Node}
+use Rattle.odb_tree.specs.declared.tree.Tree.TheInside.{Inside}
+
+-- whether a number is in a set
+abbrev pub is_listed : List ℕ → ℕ → Bool
+is_listed numbers n = list_any (eq_by_cmp nat_cmp n) numbers
+
+-- whether a number is that of a node, if there is one
+abbrev pub has_number : Option Node → ℕ → Bool
+has_number None n = false
+has_number (Some node) n = node.ino == n
+
+-- Each inode number from 1 below `next` is a node's or free, and not both. No other number is either.
+pub record AreNumbers (tree : Tree) (next : ℕ) (free : List ℕ) : Type 0 where
+  pub split : (n : ℕ) → 0 < n → n < next → is_taken tree n ≡ not (is_listed free n)
+  pub above : (n : ℕ) → is_taken tree n ≡ true → (0 < n) × (n < next)
+  pub free_above : (n : ℕ) → is_listed free n ≡ true → (0 < n) × (n < next)
+
+pub record IsWellKept (t : Inside) : Type 0 where
+  pub is_tree : IsTree (tree_of_entries t.nodes.entries)
+  pub numbers : AreNumbers (tree_of_entries t.nodes.entries) t.next_ino t.free_inos.keys
+
+-- the least number that is free: one that is listed, else the next, which can be counted on
+pub record IsLeastFree (free : List ℕ) (next n : ℕ) : Type 0 where
+  pub is_free : (is_listed free n ≡ true) ⊎ ((n ≡ next) × (next < 2 ^ 64 - 1))
+  pub least : (m : ℕ) → m < n → is_listed free m ≡ false

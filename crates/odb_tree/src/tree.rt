@@ -1,0 +1,189 @@
+use crate::node::{Content, Node};
+use crate::node_map::{
+    append, copied, copied_numbers, free_number, least_number, put, put_content, put_time,
+    use_number,
+};
+use crate::{NoMemory, PathText};
+use std::alloc::Global;
+use std::collections::{BTreeMap, BTreeSet};
+use std::marker::Model;
+
+mod changes;
+mod follow;
+mod list;
+mod write;
+
+/// The tree of a disk in memory: what stands at each path.
+///
+/// Nodes are kept by their paths, so a look-up is a search in a map. The least inode number that no node has
+/// is the least of `free_inos`, else `next_ino`: each number from 1 below `next_ino` is a node's or free.
+#[derive(Debug, Drop)]
+pub struct Tree {
+    nodes: BTreeMap<PathText, Node>,
+    next_ino: u64,
+    free_inos: BTreeSet<u64>,
+}
+
+impl Model for Tree {
+    ghost use Rattle.odb_tree.specs.Tree.{Tree as TreeValue, coded_tree, tree_of_entries};
+
+    ghost Value = { TreeValue };
+
+    ghost coded = { coded_tree };
+
+    ghost use Rattle.odb_tree.specs.TreeNumbers.{IsWellKept};
+
+    ghost view = { λ t. tree_of_entries t.nodes.entries };
+
+    ghost invariant = { IsWellKept };
+}
+
+/// Links that a path is followed through.
+const MAX_LINKS: u8 = 40;
+
+impl Tree {
+    ghost use Rattle.std.specs.Prelude.{◌≡◌, true, false, IfOk, OnOk, OnErr, IsSome, IfSome, Some, None};
+    ghost use Rattle.std.specs.Option.{option_copied};
+    ghost use Rattle.odb_tree.specs.Tree.{IsTree, node_at, with_node, bare_tree, is_directory};
+    ghost use Rattle.odb_tree.specs.Tree.Change.{is_file, is_file_content, with_time, longer, parent_node, lies_in_directory, least_free};
+    ghost use Rattle.odb_tree.specs.Tree.Way.{is_link};
+    ghost use Rattle.odb_tree.specs.declared.node.Node.{Node as NodeValue};
+    ghost use Rattle.odb_tree.specs.TreeCalls.{device_in};
+
+    /// The root alone, on device 0, with inode number 1.
+    pub fn bare(alloc: Global) -> Result<Tree, NoMemory>
+        ensures { IfOk result (λ tree. tree ≡ bare_tree) }
+    {
+        let root = Node {
+            dev: 0,
+            ino: 1,
+            content: Content::Dir,
+        };
+        let mut nodes = BTreeMap::new(alloc);
+        nodes.insert(PathText::root(alloc), root)?;
+        Ok(Tree {
+            nodes,
+            next_ino: 2,
+            free_inos: BTreeSet::new(alloc),
+        })
+    }
+
+    /// The node that stands at a path, by its names alone.
+    fn node(&self, path: &PathText) -> Option<&Node>
+        ensures value { option_copied result ≡ node_at self.now path.now }
+        ensures is_tree { IsTree self.now }
+    {
+        self.nodes.get(path)
+    }
+
+    /// A copy of the tree.
+    pub fn try_clone(&self, alloc: Global) -> Result<Tree, NoMemory>
+        ensures { IfOk result (λ tree. tree ≡ self.now) }
+    {
+        Ok(Tree {
+            nodes: copied(alloc, &self.nodes)?,
+            next_ino: self.next_ino,
+            free_inos: copied_numbers(&self.free_inos)?,
+        })
+    }
+
+    fn lies_in_directory(&self, alloc: Global, path: &PathText) -> Result<bool, NoMemory>
+        ensures { IfOk result (λ lies. lies ≡ lies_in_directory self.now path.now) }
+    {
+        let Some(parent) = path.parent(alloc)? else {
+            return Ok(false);
+        };
+        Ok(self.stands_directory(&parent))
+    }
+
+    fn stands_directory(&self, path: &PathText) -> bool
+        ensures { result ≡ is_directory (node_at self.now path.now) }
+    {
+        match self.node(path) {
+            None => false,
+            Some(node) => node.is_dir(),
+        }
+    }
+
+    /// Whether a link stands at a path, by its names alone.
+    fn stands_link(&self, path: &PathText) -> bool
+        ensures { result ≡ is_link (node_at self.now path.now) }
+    {
+        match self.node(path) {
+            None => false,
+            Some(node) => node.is_link(),
+        }
+    }
+
+    /// Whether a file stands at a path, by its names alone.
+    fn stands_file(&self, path: &PathText) -> bool
+        ensures { result ≡ is_file (node_at self.now path.now) }
+    {
+        match self.node(path) {
+            None => false,
+            Some(node) => node.is_file(),
+        }
+    }
+
+    /// The device of the directory that a path lies in, where it lies in one.
+    fn directory_device(&self, alloc: Global, path: &PathText) -> Result<Option<u64>, NoMemory>
+        ensures { IfOk result (λ dev. dev ≡ device_in (parent_node self.now path.now)) }
+    {
+        let Some(parent) = path.parent(alloc)? else {
+            return Ok(None);
+        };
+        match self.node(&parent) {
+            Some(node) if node.is_dir() => Ok(Some(node.dev)),
+            _ => Ok(None),
+        }
+    }
+
+    /// Puts a new node at a path, with the least inode number that is free. A refused call changes nothing.
+    fn put_new(
+        &mut self,
+        alloc: Global,
+        path: &PathText,
+        dev: u64,
+        content: Content,
+    ) -> Result<(), NoMemory>
+        requires lies { lies_in_directory self.old path.now ≡ true }
+        requires no_directory { is_directory (node_at self.old path.now) ≡ false }
+        ensures made { OnOk result (self.new ≡ with_node self.old path.now (record { dev = dev; ino = least_free self.old; content = content })) }
+        ensures kept { OnErr result (self.new ≡ self.old) }
+    {
+        let key = path.try_clone(alloc)?;
+        let ino = least_number(&self.free_inos, self.next_ino)?;
+        free_number(&self.nodes, path, &mut self.free_inos)?;
+        put(&mut self.nodes, key, Node { dev, ino, content })?;
+        use_number(ino, &mut self.free_inos, &mut self.next_ino);
+        Ok(())
+    }
+
+    /// Puts other contents into the node at a path.
+    fn put_content(&mut self, path: &PathText, content: Content)
+        requires lies { lies_in_directory self.old path.now ≡ true }
+        requires no_directory { is_directory (node_at self.old path.now) ≡ false }
+        requires stands { IsSome (node_at self.old path.now) }
+        ensures { (node : NodeValue) → node_at self.old path.now ≡ Some node → self.new ≡ with_node self.old path.now (record node { content = content }) }
+    {
+        put_content(&mut self.nodes, path, content);
+    }
+
+    /// Sets the time of the file at a path.
+    fn put_time(&mut self, path: &PathText, time: u64)
+        requires { is_file (node_at self.old path.now) ≡ true }
+        ensures { self.new ≡ with_time self.old path.now time (node_at self.old path.now) }
+    {
+        put_time(&mut self.nodes, path, time);
+    }
+
+    /// Adds bytes at the end of the file at a path. A refused call changes nothing.
+    fn append_at(&mut self, path: &PathText, more: &[u8]) -> Result<(), NoMemory>
+        requires stands { IsSome (node_at self.old path.now) }
+        requires file { IfSome (node_at self.old path.now) (λ node. is_file_content node.content ≡ true) }
+        ensures made { OnOk result ((node : NodeValue) → node_at self.old path.now ≡ Some node → self.new ≡ with_node self.old path.now (record node { content = longer node.content more.now })) }
+        ensures kept { OnErr result (self.new ≡ self.old) }
+    {
+        append(&mut self.nodes, path, more)
+    }
+}

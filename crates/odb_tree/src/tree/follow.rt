@@ -1,0 +1,122 @@
+//! Where a path leads in a tree, links followed.
+use super::{MAX_LINKS, Tree};
+use crate::disk_error::DiskError;
+use crate::meta::Meta;
+use crate::node::{Content, Node};
+use crate::node_map::path_before;
+use crate::{ByteList, PathText};
+use std::alloc::Global;
+
+/// Where one pass along the names of a path comes.
+#[derive(Drop)]
+pub(super) enum Way<'a> {
+    Reached(&'a Node),
+    Onward(PathText),
+}
+
+impl Tree {
+    ghost use Rattle.std.specs.Prelude.{◌≡◌, ◌≢◌, Bool, [], ◌++◌, true, Some, None, Err};
+    ghost use Rattle.std.specs.List.{starts_with};
+    ghost use Rattle.odb_base.specs.Path.{Path, same_name};
+    ghost use Rattle.odb_tree.specs.Tree.{IsTree, node_at};
+    ghost use Rattle.odb_tree.specs.Tree.Follow.{Missing, looked, read_of, pass, past, followed, followed_within};
+    ghost use Rattle.odb_tree.specs.Answers.{Answers};
+    ghost use Rattle.odb_tree.specs.TreeCalls.{Comes, LedOn, Leads};
+
+    /// What a look at a path gives. A link in the last place is followed where `follow` is set.
+    pub fn look(&self, alloc: Global, path: &PathText, follow: bool) -> Result<Meta, DiskError>
+        ensures answer { Answers result (looked self.now path.now follow) }
+        ensures never_fails { result ≢ Err DiskError.Failed }
+    {
+        let node = self.follow(alloc, path, follow, MAX_LINKS)?;
+        Ok(node.meta())
+    }
+
+    /// The bytes and the time of a file, links followed.
+    pub fn read(&self, alloc: Global, path: &PathText) -> Result<(ByteList, u64), DiskError>
+        ensures answer { Answers result (read_of self.now path.now) }
+        ensures never_fails { result ≢ Err DiskError.Failed }
+    {
+        let node = self.follow(alloc, path, true, MAX_LINKS)?;
+        match &node.content {
+            Content::File { bytes, time } => Ok((bytes.try_clone(alloc)?, *time)),
+            Content::Dir | Content::Link(_) => Err(DiskError::WrongKind),
+        }
+    }
+
+    /// The node that a path leads to, with so many links left to follow.
+    fn follow<'a>(
+        &'a self,
+        alloc: Global,
+        path: &PathText,
+        follow: bool,
+        links: u8,
+    ) -> Result<&'a Node, DiskError>
+        ensures { Leads result (followed_within links self.now follow path.now) }
+    {
+        match self.pass(alloc, path, follow)? {
+            Way::Reached(node) => Ok(node),
+            Way::Onward(onward) => {
+                if links == 0 {
+                    return Err(DiskError::LinkLoop);
+                }
+                self.follow(alloc, &onward, follow, links - 1)
+            }
+        }
+    }
+
+    /// Where one pass along the names of a path comes: to its node, or to the first link that has to be followed.
+    pub(super) fn pass<'a>(
+        &'a self,
+        alloc: Global,
+        path: &PathText,
+        follow: bool,
+    ) -> Result<Way<'a>, DiskError>
+        ensures { Comes path.now result (pass self.now follow [] path.now) }
+    {
+        let Some(node) = self.node(path) else {
+            return Ok(Way::Onward(self.led_on(alloc, path)?));
+        };
+        match &node.content {
+            Content::Link(target) if follow => Ok(Way::Onward(target.try_clone(alloc)?)),
+            _ => Ok(Way::Reached(node)),
+        }
+    }
+
+    /// Where the first link on the way of a path leads at which nothing stands. Each node lies in directories,
+    /// so only the last node on the way can be a file or a link. What comes just before the path begins with it.
+    fn led_on(&self, alloc: Global, path: &PathText) -> Result<PathText, DiskError>
+        requires absent { node_at self.now path.now ≡ None }
+        requires tree { IsTree self.now }
+        ensures { (follow : Bool) → LedOn result (pass self.now follow [] path.now) }
+    {
+        let Some(before) = path_before(&self.nodes, path) else {
+            return Err(DiskError::Absent);
+        };
+        let last = path.common_front(alloc, before)?;
+        let Some(node) = self.node(&last) else {
+            return Err(DiskError::Absent);
+        };
+        Tree::led_past(alloc, path, &last, &node.content)
+    }
+
+    /// Where a path leads that goes beyond the last node on its way.
+    fn led_past(
+        alloc: Global,
+        path: &PathText,
+        last: &PathText,
+        content: &Content,
+    ) -> Result<PathText, DiskError>
+        requires { starts_with same_name path.now last.now ≡ true }
+        ensures { (rest : Path) → path.now ≡ last.now ++ rest → LedOn result (past content.now rest Missing) }
+    {
+        match content {
+            Content::File { .. } => Err(DiskError::WrongKind),
+            Content::Dir => Err(DiskError::Absent),
+            Content::Link(target) => match path.strip_prefix(alloc, last)? {
+                Some(rest) => Ok(target.followed_by(alloc, &rest)?),
+                None => unreachable!("the path begins with the last node on its way"),
+            },
+        }
+    }
+}

@@ -1,0 +1,266 @@
+//! The calls of a disk that write, on its tree.
+ghost use Rattle.std.specs.Prelude.{◌≡◌, IfOk};
+ghost use Rattle.std.specs.Result.{result_ok};
+ghost use Rattle.odb_tree.specs.Answers.{Tells};
+
+use super::follow::Way;
+use super::{MAX_LINKS, Tree};
+use crate::change::Change;
+use crate::disk_error::DiskError;
+use crate::node::Content;
+use crate::node_map::has_names;
+use crate::node_moves::moved_path;
+use crate::{ByteList, NoMemory, PathText};
+use std::alloc::Global;
+
+impl Tree {
+    ghost use Rattle.std.specs.Prelude.{true, None, OnOk, OnErr};
+    ghost use Rattle.odb_tree.specs.Tree.{IsTree, node_at, with_node};
+    ghost use Rattle.odb_tree.specs.Tree.Follow.{followed_within};
+    ghost use Rattle.odb_tree.specs.Tree.Change.{lies_in_directory, parent_node, device_of, new_node};
+    ghost use Rattle.odb_tree.specs.Tree.Write.{from_followed, spot, vacant, movable, replaceable, removable, file_spot, change_of_make_dir, change_of_new_file, change_of_append, change_of_rename, change_of_remove, done, changed_by};
+    ghost use Rattle.odb_tree.specs.TreeCalls.{path_of_place};
+
+    /// Makes a directory where nothing stands. A refused call changes nothing.
+    pub fn make_dir(&mut self, alloc: Global, path: &PathText) -> Result<(), DiskError>
+        ensures told { Tells result (done (change_of_make_dir self.old path.now)) }
+        ensures made { OnOk result (self.new ≡ changed_by self.old (result_ok (change_of_make_dir self.old path.now))) }
+        ensures kept { OnErr result (self.new ≡ self.old) }
+    {
+        let place = self.vacant(alloc, path)?;
+        self.put_vacant(alloc, &place, Content::Dir)?;
+        Ok(())
+    }
+
+    /// Makes an empty file with time 0 where nothing stands. A refused call changes nothing.
+    pub fn new_file(&mut self, alloc: Global, path: &PathText) -> Result<(), DiskError>
+        ensures told { Tells result (done (change_of_new_file self.old path.now)) }
+        ensures made { OnOk result (self.new ≡ changed_by self.old (result_ok (change_of_new_file self.old path.now))) }
+        ensures kept { OnErr result (self.new ≡ self.old) }
+    {
+        let place = self.vacant(alloc, path)?;
+        let bytes = ByteList::new(alloc);
+        self.put_vacant(alloc, &place, Content::File { bytes, time: 0 })?;
+        Ok(())
+    }
+
+    /// Adds bytes at the end of a file, links followed. A refused call changes nothing.
+    pub fn append(&mut self, alloc: Global, path: &PathText, bytes: &[u8]) -> Result<(), DiskError>
+        ensures told { Tells result (done (change_of_append self.old path.now bytes.now)) }
+        ensures made { OnOk result (self.new ≡ changed_by self.old (result_ok (change_of_append self.old path.now bytes.now))) }
+        ensures is_tree { OnOk result (IsTree self.old) }
+        ensures kept { OnErr result (self.new ≡ self.old) }
+    {
+        let place = self.file_spot(alloc, path)?;
+        self.append_at(&place, bytes)?;
+        Ok(())
+    }
+
+    /// Moves a file or a link over nothing, a file or a link. A refused call changes nothing.
+    pub fn rename(&mut self, alloc: Global, from: &PathText, to: &PathText) -> Result<(), DiskError>
+        ensures told { Tells result (done (change_of_rename self.old from.now to.now)) }
+        ensures made { OnOk result (self.new ≡ changed_by self.old (result_ok (change_of_rename self.old from.now to.now))) }
+        ensures kept { OnErr result (self.new ≡ self.old) }
+    {
+        let source = self.movable(alloc, from)?;
+        let target = self.replaceable(alloc, to)?;
+        self.rename_to(alloc, &source, &target)?;
+        Ok(())
+    }
+
+    /// Removes a file, a link or an empty directory. A refused call changes nothing.
+    pub fn remove(&mut self, alloc: Global, path: &PathText) -> Result<(), DiskError>
+        ensures told { Tells result (done (change_of_remove self.old path.now)) }
+        ensures made { OnOk result (self.new ≡ changed_by self.old (result_ok (change_of_remove self.old path.now))) }
+        ensures kept { OnErr result (self.new ≡ self.old) }
+    {
+        let place = self.removable(alloc, path)?;
+        self.take(&place)?;
+        Ok(())
+    }
+
+    /// The change that `make_dir` would make, or why it would be refused.
+    pub fn change_of_make_dir(&self, alloc: Global, path: &PathText) -> Result<Change, DiskError>
+        ensures { Tells result (change_of_make_dir self.now path.now) }
+    {
+        let path = self.vacant(alloc, path)?;
+        let dev = self.device_above(alloc, &path)?;
+        Ok(Change::MakeDir { path, dev })
+    }
+
+    /// The change that `new_file` would make, or why it would be refused.
+    pub fn change_of_new_file(&self, alloc: Global, path: &PathText) -> Result<Change, DiskError>
+        ensures { Tells result (change_of_new_file self.now path.now) }
+    {
+        let path = self.vacant(alloc, path)?;
+        let bytes = ByteList::new(alloc);
+        Ok(Change::PutFile {
+            path,
+            time: 0,
+            bytes,
+        })
+    }
+
+    /// The change that `append` would make, or why it would be refused.
+    pub fn change_of_append(
+        &self,
+        alloc: Global,
+        path: &PathText,
+        bytes: &ByteList,
+    ) -> Result<Change, DiskError>
+        ensures { Tells result (change_of_append self.now path.now bytes.now) }
+    {
+        let path = self.file_spot(alloc, path)?;
+        let bytes = bytes.try_clone(alloc)?;
+        Ok(Change::Append { path, bytes })
+    }
+
+    /// The change that `rename` would make, or why it would be refused.
+    pub fn change_of_rename(
+        &self,
+        alloc: Global,
+        from: &PathText,
+        to: &PathText,
+    ) -> Result<Change, DiskError>
+        ensures { Tells result (change_of_rename self.now from.now to.now) }
+    {
+        let from = self.movable(alloc, from)?;
+        let to = self.replaceable(alloc, to)?;
+        Ok(Change::Rename { from, to })
+    }
+
+    /// The change that `remove` would make, or why it would be refused.
+    pub fn change_of_remove(&self, alloc: Global, path: &PathText) -> Result<Change, DiskError>
+        ensures { Tells result (change_of_remove self.now path.now) }
+    {
+        let path = self.removable(alloc, path)?;
+        Ok(Change::Remove { path })
+    }
+
+    /// Where the last name of a path stands, links on its way followed.
+    fn spot(&self, alloc: Global, path: &PathText) -> Result<PathText, DiskError>
+        ensures { Tells result (spot self.now path.now) }
+    {
+        let Some(front) = path.parent(alloc)? else {
+            return Ok(PathText::root(alloc));
+        };
+        let place = self.place(alloc, &front, MAX_LINKS)?;
+        if !self.stands_directory(&place) {
+            return Err(DiskError::WrongKind);
+        }
+        Ok(moved_path(alloc, path, &front, &place)?)
+    }
+
+    /// The spot of a path where nothing stands.
+    fn vacant(&self, alloc: Global, path: &PathText) -> Result<PathText, DiskError>
+        ensures told { Tells result (vacant self.now path.now) }
+        ensures is_tree { OnOk result (IsTree self.now) }
+    {
+        let place = self.spot(alloc, path)?;
+        match self.node(&place) {
+            None => Ok(place),
+            Some(_) => Err(DiskError::Exists),
+        }
+    }
+
+    /// The spot of a file or a link.
+    fn movable(&self, alloc: Global, path: &PathText) -> Result<PathText, DiskError>
+        ensures { Tells result (movable self.now path.now) }
+    {
+        let place = self.spot(alloc, path)?;
+        match self.node(&place) {
+            None => Err(DiskError::Absent),
+            Some(node) if node.is_dir() => Err(DiskError::WrongKind),
+            Some(_) => Ok(place),
+        }
+    }
+
+    /// The spot of a path where no directory stands.
+    fn replaceable(&self, alloc: Global, path: &PathText) -> Result<PathText, DiskError>
+        ensures told { Tells result (replaceable self.now path.now) }
+        ensures is_tree { OnOk result (IsTree self.now) }
+    {
+        let place = self.spot(alloc, path)?;
+        match self.node(&place) {
+            Some(node) if node.is_dir() => Err(DiskError::WrongKind),
+            _ => Ok(place),
+        }
+    }
+
+    /// The spot of a file, a link or an empty directory.
+    fn removable(&self, alloc: Global, path: &PathText) -> Result<PathText, DiskError>
+        ensures told { Tells result (removable self.now path.now) }
+        ensures is_tree { OnOk result (IsTree self.now) }
+    {
+        let place = self.spot(alloc, path)?;
+        let Some(_) = self.node(&place) else {
+            return Err(DiskError::Absent);
+        };
+        if has_names(&self.nodes, &place) {
+            return Err(DiskError::NotEmpty);
+        }
+        if place.is_root() {
+            return Err(DiskError::WrongKind);
+        }
+        Ok(place)
+    }
+
+    /// Where the file is that a path leads to, links followed.
+    pub(super) fn file_spot(&self, alloc: Global, path: &PathText) -> Result<PathText, DiskError>
+        ensures told { Tells result (file_spot self.now path.now) }
+        ensures is_tree { OnOk result (IsTree self.now) }
+    {
+        let place = self.place(alloc, path, MAX_LINKS)?;
+        match self.node(&place) {
+            Some(node) if node.is_file() => Ok(place),
+            _ => Err(DiskError::WrongKind),
+        }
+    }
+
+    /// The path of the node that a path leads to, links followed, with so many links left to follow.
+    pub(super) fn place(
+        &self,
+        alloc: Global,
+        path: &PathText,
+        links: u8,
+    ) -> Result<PathText, DiskError>
+        ensures { Tells result (from_followed (path_of_place (followed_within links self.now true path.now))) }
+    {
+        match self.pass(alloc, path, true)? {
+            Way::Reached(_) => Ok(path.try_clone(alloc)?),
+            Way::Onward(onward) => {
+                if links == 0 {
+                    return Err(DiskError::LinkLoop);
+                }
+                self.place(alloc, &onward, links - 1)
+            }
+        }
+    }
+
+    /// The device of the directory that a path lies in.
+    fn device_above(&self, alloc: Global, path: &PathText) -> Result<u64, NoMemory>
+        requires { lies_in_directory self.now path.now ≡ true }
+        ensures { IfOk result (λ dev. dev ≡ device_of (parent_node self.now path.now)) }
+    {
+        match self.directory_device(alloc, path)? {
+            Some(dev) => Ok(dev),
+            None => unreachable!("it lies in a directory"),
+        }
+    }
+
+    /// Puts a new node where nothing stands, on the device of its directory. A refused call changes nothing.
+    fn put_vacant(
+        &mut self,
+        alloc: Global,
+        path: &PathText,
+        content: Content,
+    ) -> Result<(), NoMemory>
+        requires lies { lies_in_directory self.old path.now ≡ true }
+        requires absent { node_at self.old path.now ≡ None }
+        ensures made { OnOk result (self.new ≡ with_node self.old path.now (new_node self.old path.now content)) }
+        ensures kept { OnErr result (self.new ≡ self.old) }
+    {
+        let dev = self.device_above(alloc, path)?;
+        self.put_new(alloc, path, dev, content)
+    }
+}
