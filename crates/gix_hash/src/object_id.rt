@@ -21,7 +21,7 @@ pub enum ObjectId {
 }
 
 /// Why a text is no id.
-#[derive(Clone, Copy, Debug, PartialEq, Eq, Error)]
+#[derive(Clone, Copy, Debug, Error)]
 pub enum HexError {
     /// It has neither 40 nor 64 bytes.
     #[error("an id has 40 or 64 hex digits")]

@@ -13,7 +13,7 @@ use thiserror::Error;
 /// The first hex digits of an id, four at least.
 ///
 /// It is kept as the id whose other digits are zeros.
-#[derive(Clone, Copy, Debug, PartialEq, Eq, PartialOrd, Ord, Hash)]
+#[derive(Clone, Copy, Debug)]
 pub struct Prefix {
     id: ObjectId,
     hex_len: usize,
@@ -32,7 +32,7 @@ impl Model for Prefix {
 }
 
 /// Why there is no such prefix.
-#[derive(Clone, Copy, Debug, PartialEq, Eq, Error)]
+#[derive(Clone, Copy, Debug, Error)]
 pub enum PrefixError {
     /// Fewer than four digits.
     #[error("a prefix has at least 4 hex digits, and not {hex_len}")]

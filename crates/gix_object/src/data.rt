@@ -1,7 +1,7 @@
 use crate::Kind;
 
 /// An object that was found: its kind and its data, without the header.
-#[derive(Clone, Copy, Debug, PartialEq, Eq, PartialOrd, Ord, Hash)]
+#[derive(Clone, Copy)]
 pub struct Data<'a> {
     pub kind: Kind,
     /// The hash of the database that it was found in.
@@ -11,7 +11,7 @@ pub struct Data<'a> {
 }
 
 /// What the header of an object tells.
-#[derive(Clone, Copy, Debug, PartialEq, Eq, PartialOrd, Ord, Hash)]
+#[derive(Clone, Copy, Debug)]
 pub struct Header {
     pub kind: Kind,
     /// How many bytes of data there are.

@@ -6,7 +6,7 @@ use Rattle.std.proofs.lemmas.List.{length-take, length-drop}
 use Rattle.odb_disk.specs.declared.ask.DiskAsk.{DiskAsk}
 use Rattle.odb_disk.specs.declared.ask.DiskAnswer.{DiskAnswer}
 use Rattle.odb_disk.specs.declared.ask.DiskAnswer.TheVariants as answers
-use Rattle.odb_disk.specs.declared.disk.DiskError.TheVariants as disk_errors
+use Rattle.odb_tree.specs.declared.disk_error.DiskError.TheVariants as disk_errors
 use Rattle.gix_hash.specs.declared.object_id.ObjectId.{ObjectId}
 use Rattle.gix_odb_loose.specs.LooseOrder.{fed, disk_ask_of, stage_ask, next_stage, asks_left, written_to}
 use Rattle.gix_odb_loose.specs.WriteOrder.{made_by, headed_by, filled_by, foldered_by, moved_by, next_write, ended_with, written_in, room_behind, grown}

@@ -8,9 +8,9 @@ use Rattle.odb_disk.specs.declared.ask.DiskAsk.{DiskAsk}
 use Rattle.odb_disk.specs.declared.ask.DiskAsk.TheVariants as asks
 use Rattle.odb_disk.specs.declared.ask.DiskAnswer.{DiskAnswer}
 use Rattle.odb_disk.specs.declared.ask.DiskAnswer.TheVariants as answers
-use Rattle.odb_disk.specs.declared.disk.DiskError.TheVariants as disk_errors
-use Rattle.odb_disk.specs.declared.disk.Kind.{Kind as NodeKind}
-use Rattle.odb_disk.specs.declared.disk.Kind.TheVariants as nodes
+use Rattle.odb_tree.specs.declared.disk_error.DiskError.TheVariants as disk_errors
+use Rattle.odb_tree.specs.declared.meta.Kind.{Kind as NodeKind}
+use Rattle.odb_tree.specs.declared.meta.Kind.TheVariants as nodes
 use Rattle.gix_hash.specs.declared.object_id.ObjectId.{ObjectId}
 use Rattle.gix_object.specs.Loose.{LooseObject, loose_of}
 use Rattle.gix_object.specs.declared.kind.Kind.{Kind}

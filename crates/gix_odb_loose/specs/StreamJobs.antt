@@ -1,7 +1,7 @@
 -- A write from a source on its way, turn by turn. No public clause cites this.
 use Rattle.std.specs.Prelude.{◌≡◌, ◌≢◌, ◌⊎◌, ℕ, ◌+◌, ◌-◌, ◌<◌, ◌≤◌, true, false, List, [], ◌++◌, length, Option, Some, None, Result, Ok, Err, IfSome}
 use Rattle.odb_base.specs.Faults.{Rose}
-use Rattle.odb_disk.specs.Tree.{State, IsTree, tree_of}
+use Rattle.odb_tree.specs.Tree.{State, IsTree, tree_of}
 use Rattle.odb_disk.specs.declared.ask.DiskAsk.{DiskAsk}
 use Rattle.odb_disk.specs.declared.ask.DiskAsk.TheVariants as asks
 use Rattle.gix_hash.specs.declared.kind.Kind.{Kind as HashKind}

@@ -3,12 +3,12 @@ pub mod ReadBack
 use Rattle.std.specs.Prelude.{◌≡◌, ◌⊎◌, ⊤, ℕ, ◌<◌, List, length, Contains, Option, Some, Result, Ok, Err, IfSome}
 use Rattle.odb_base.specs.Faults.{Rose}
 use Rattle.odb_base.specs.Path.{Path}
-use Rattle.odb_disk.specs.Tree.{State}
+use Rattle.odb_tree.specs.Tree.{State}
 use Rattle.odb_disk.specs.declared.ask.DiskAsk.{DiskAsk}
 use Rattle.odb_disk.specs.declared.ask.DiskAnswer.{DiskAnswer}
 use Rattle.odb_disk.specs.declared.ask.DiskAnswer.TheVariants as answers
-use Rattle.odb_disk.specs.declared.disk.DiskError.{DiskError}
-use Rattle.odb_disk.specs.declared.disk.DiskError.TheVariants as disk_errors
+use Rattle.odb_tree.specs.declared.disk_error.DiskError.{DiskError}
+use Rattle.odb_tree.specs.declared.disk_error.DiskError.TheVariants as disk_errors
 use Rattle.gix_hash.specs.declared.kind.Kind.{Kind as HashKind}
 use Rattle.gix_hash.specs.declared.object_id.ObjectId.{ObjectId}
 use Rattle.gix_object.specs.declared.kind.Kind.{Kind}

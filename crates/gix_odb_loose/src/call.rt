@@ -18,7 +18,7 @@ use std::alloc::Global;
 use std::mem;
 
 /// What is to be done, and with which object.
-#[derive(Debug, Drop, PartialEq, Eq)]
+#[derive(Drop)]
 pub enum LooseJob {
     Contains(ObjectId),
     Find(ObjectId),
@@ -33,7 +33,7 @@ pub enum LooseJob {
 }
 
 /// What a call does next.
-#[derive(Debug, Drop, PartialEq, Eq)]
+#[derive(Drop)]
 pub enum LooseAsk {
     /// It waits for the answer to a call of the disk.
     Disk(DiskAsk),
@@ -41,7 +41,7 @@ pub enum LooseAsk {
 }
 
 /// What a call comes to.
-#[derive(Debug, Drop, PartialEq, Eq)]
+#[derive(Debug, Drop)]
 pub enum LooseReply {
     Contains(Result<bool, find::Error>),
     Found(Result<Option<(Kind, ByteList)>, find::Error>),
@@ -50,7 +50,7 @@ pub enum LooseReply {
 }
 
 /// Where a call stands.
-#[derive(Debug, Drop, PartialEq, Eq)]
+#[derive(Drop)]
 pub enum Stage {
     /// The path is to be looked at.
     Testing { path: PathText },
@@ -67,7 +67,7 @@ pub enum Stage {
 ///
 /// `ask` names the next call of the disk, `feed` takes its answer, and so on until the call is done. The path of
 /// the object is made at the start and moved along.
-#[derive(Debug, Drop, PartialEq, Eq)]
+#[derive(Drop)]
 pub struct LooseCall {
     stage: Stage,
 }

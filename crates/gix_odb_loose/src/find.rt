@@ -7,7 +7,7 @@ use std::alloc::Global;
 use std::{error, fmt};
 
 /// What was to be done with a file.
-#[derive(Clone, Copy, Debug, PartialEq, Eq, Hash)]
+#[derive(Clone, Copy, Debug)]
 pub enum Action {
     OpenOrMap,
 }
@@ -24,7 +24,7 @@ impl fmt::Display for Action {
 }
 
 /// Why a find, a look for a header or a test of presence was refused.
-#[derive(Debug, Drop, PartialEq, Eq)]
+#[derive(Debug, Drop)]
 pub enum Error {
     /// The data are longer or shorter than the header says. Lengths in bytes.
     SizeMismatch {

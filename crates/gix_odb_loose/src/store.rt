@@ -1,6 +1,6 @@
 ghost use Rattle.std.specs.Prelude.{◌≡◌, ◌<◌, ◌≤◌, ◌↔◌, [], Some, None, IfOk, IfErr, IfSome, OnOk, OnErr, IsTrue};
 ghost use Rattle.odb_base.specs.Faults.{Rose};
-ghost use Rattle.odb_disk.specs.Tree.{tree_of};
+ghost use Rattle.odb_tree.specs.Tree.{tree_of};
 ghost use Rattle.gix_hash.specs.ObjectId.{kind_of};
 ghost use Rattle.gix_object.specs.Data.{found_of};
 ghost use Rattle.gix_odb_loose.specs.Store.{store_path, store_hash, store_limit};
@@ -19,14 +19,14 @@ use odb_disk::{Disk, DiskAsk};
 use std::alloc::Global;
 
 /// The options of a store. The default has no limit.
-#[derive(Clone, Copy, Debug, Default, PartialEq, Eq, Hash)]
+#[derive(Clone, Copy, Default, PartialEq, Eq)]
 pub struct Options {
     /// The most bytes of data that an object may have to be found, if there is a limit.
     pub alloc_limit_bytes: Option<u64>,
 }
 
 /// A folder of loose objects. It keeps no file open and reads the folder anew at each call.
-#[derive(Debug, Drop, PartialEq, Eq)]
+#[derive(Drop, PartialEq, Eq)]
 pub struct Store {
     path: PathText,
     object_hash: gix_hash::Kind,

@@ -1,7 +1,7 @@
 //! A write whose data come from a source, a piece at a time.
 ghost use Rattle.std.specs.Prelude.{◌≡◌, ◌<◌, ◌≤◌, ◌++◌, ℕ, List, [], length, nat_lt, false, Option, IfOk, OnOk, Some, None};
 ghost use Rattle.odb_disk.specs.StreamAsks.{is_of_streams};
-ghost use Rattle.odb_disk.specs.Tree.{State};
+ghost use Rattle.odb_tree.specs.Tree.{State};
 ghost use Rattle.gix_odb_loose.specs.WriteOrder.{write_ask, written_in};
 ghost use Rattle.gix_odb_loose.specs.WriteOrder.{temp_path as temp_path_of};
 ghost use Rattle.gix_odb_loose.specs.declared.write_call.WriteHead.{WriteHead as head_of_write};

@@ -9,7 +9,7 @@ use std::fmt;
 use thiserror::Error;
 
 /// What was to be done in the objects directory.
-#[derive(Clone, Copy, Debug, PartialEq, Eq, Hash)]
+#[derive(Clone, Copy, Debug)]
 pub enum Message {
     CreateTempFile,
     WriteHeader,
@@ -30,7 +30,7 @@ impl fmt::Display for Message {
 }
 
 /// Why a write was refused. No name of an object was made then.
-#[derive(Debug, Drop, PartialEq, Eq, Error)]
+#[derive(Debug, Drop, Error)]
 pub enum Error {
     /// The temporary file couldn't be made or filled, or the source of the data failed. The path is that of the
     /// objects directory.

@@ -22,7 +22,7 @@ pub const PIECE: u64 = 65_536;
 const NAMES: u64 = 16;
 
 /// Why a write is refused, without the paths that its error tells.
-#[derive(Clone, Copy, Debug, PartialEq, Eq)]
+#[derive(Clone, Copy)]
 pub enum Refusal {
     Io(Message),
     IoRaw,
@@ -32,7 +32,7 @@ pub enum Refusal {
 }
 
 /// Where a write stands. The number is that of the temporary file.
-#[derive(Clone, Copy, Debug, PartialEq, Eq)]
+#[derive(Clone, Copy)]
 pub enum WriteStage {
     /// The temporary file is to be made.
     Making { number: u64 },
@@ -58,7 +58,7 @@ pub enum Onward {
 }
 
 /// What a write is about.
-#[derive(Debug, Drop, PartialEq, Eq)]
+#[derive(Drop)]
 pub struct WriteHead {
     /// The objects directory.
     pub objects: PathText,

@@ -13,7 +13,7 @@ use odb_disk::{DiskAnswer, DiskAsk};
 use std::alloc::Global;
 
 /// A write on its way, which hands its data to the machine.
-#[derive(Debug, Drop, PartialEq, Eq)]
+#[derive(Drop)]
 pub struct WriteJob {
     pub head: WriteHead,
     pub stage: WriteStage,

@@ -6,20 +6,20 @@ use Rattle.std.proofs.lemmas.Bool.{cases_lt, eqb-false, eqb-true}
 use Rattle.odb_base.specs.Path.{Name, Path}
 use Rattle.odb_base.specs.PathLaws.{parent_of-push}
 use Rattle.odb_disk.specs.MemDisk.{Volume}
-use Rattle.odb_disk.specs.Tree.{IsTree, Tree, is_directory_content, node_at, tree_of}
-use Rattle.odb_disk.specs.Tree.Change.{changed}
-use Rattle.odb_disk.specs.Tree.Follow.{followed}
-use Rattle.odb_disk.specs.Tree.Way.{SameOnWay}
-use Rattle.odb_disk.specs.Tree.Write.{WrongKind, and_then, from_followed, in_directory, spot, spot_below, vacant}
-use Rattle.odb_disk.specs.declared.node.Content.TheVariants.{Dir, Link}
-use Rattle.odb_disk.specs.declared.node.Node.{Node}
-use Rattle.odb_disk.specs.declared.change.Change.{Change}
-use Rattle.odb_disk.specs.declared.change.Change.TheVariants.{Rename}
-use Rattle.odb_disk.proofs.OwnWayLaws.{IsOwnChange, OwnSpot, Stops, own_after, own_stops, stop_below_root, stops_kept}
-use Rattle.odb_disk.proofs.TreeLemmas.Follow.{IsDir-from, followed_reached, pass_to_other}
-use Rattle.odb_disk.proofs.TreeLemmas.Moved.{begins-own, behind-append}
-use Rattle.odb_disk.proofs.TreeLemmas.Write.{vacant_at}
-use Rattle.odb_disk.proofs.WayLaws.{file_here, own_on_way}
+use Rattle.odb_tree.specs.Tree.{IsTree, Tree, is_directory_content, node_at, tree_of}
+use Rattle.odb_tree.specs.Tree.Change.{changed}
+use Rattle.odb_tree.specs.Tree.Follow.{followed}
+use Rattle.odb_tree.specs.Tree.Way.{SameOnWay}
+use Rattle.odb_tree.specs.Tree.Write.{WrongKind, and_then, from_followed, in_directory, spot, spot_below, vacant}
+use Rattle.odb_tree.specs.declared.node.Content.TheVariants.{Dir, Link}
+use Rattle.odb_tree.specs.declared.node.Node.{Node}
+use Rattle.odb_tree.specs.declared.change.Change.{Change}
+use Rattle.odb_tree.specs.declared.change.Change.TheVariants.{Rename}
+use Rattle.odb_tree.proofs.OwnWayLaws.{IsOwnChange, OwnSpot, Stops, own_after, own_stops, stop_below_root, stops_kept}
+use Rattle.odb_tree.proofs.TreeLemmas.Follow.{IsDir-from, followed_reached, pass_to_other}
+use Rattle.odb_tree.proofs.TreeLemmas.Moved.{begins-own, behind-append}
+use Rattle.odb_tree.proofs.TreeLemmas.Write.{vacant_at}
+use Rattle.odb_tree.proofs.WayLaws.{file_here, own_on_way}
 use Rattle.gix_odb_loose.specs.WriteOrder.{temp_name}
 use Rattle.gix_odb_loose.proofs.NameLaws.{IsTemporary}
 use Rattle.gix_odb_world.specs.Event.{Event}

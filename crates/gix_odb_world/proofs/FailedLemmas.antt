@@ -1,19 +1,19 @@
 -- A call of a disk in memory fails where its number is listed, and nowhere else.
 use Rattle.std.proofs.Common.{◌≡◌, ℕ, Bool, true, false, List, Ok, Err, Result, refl, ap, ◌∙◌}
 use Rattle.std.specs.Prelude.{if◌then◌else◌}
-use Rattle.odb_disk.specs.Tree.{Tree, tree_of}
-use Rattle.odb_disk.specs.Tree.Follow.{Refusal, Absent, WrongKind, LinkLoop, looked, read_of}
-use Rattle.odb_disk.specs.Tree.Write as writing
-use Rattle.odb_disk.specs.Tree.Write.{change_of_make_dir, change_of_new_file, change_of_append, change_of_rename, change_of_remove}
+use Rattle.odb_tree.specs.Tree.{Tree, tree_of}
+use Rattle.odb_tree.specs.Tree.Follow.{Refusal, Absent, WrongKind, LinkLoop, looked, read_of}
+use Rattle.odb_tree.specs.Tree.Write as writing
+use Rattle.odb_tree.specs.Tree.Write.{change_of_make_dir, change_of_new_file, change_of_append, change_of_rename, change_of_remove}
 use Rattle.odb_disk.specs.MemDisk.{Volume, next_fails, after_call}
 use Rattle.odb_disk.specs.StreamAsks.{is_of_streams}
-use Rattle.odb_disk.specs.Streams.{opened}
+use Rattle.odb_tree.specs.Entries.{opened}
 use Rattle.odb_disk.proofs.StillAskLaws.{answer_now-still}
 use Rattle.odb_disk.specs.Ask.{answer_of, answer_now, dir_answer, meta_answer, file_answer, write_answer, error_of, error_of_write}
-use Rattle.odb_disk.specs.declared.change.Change.{Change}
-use Rattle.odb_disk.specs.declared.disk.Entry.{Entry}
-use Rattle.odb_disk.specs.declared.disk.Meta.{Meta}
-use Rattle.odb_disk.specs.declared.disk.DiskError.TheVariants as disk_errors
+use Rattle.odb_tree.specs.declared.change.Change.{Change}
+use Rattle.odb_tree.specs.declared.entry.Entry.{Entry}
+use Rattle.odb_tree.specs.declared.meta.Meta.{Meta}
+use Rattle.odb_tree.specs.declared.disk_error.DiskError.TheVariants as disk_errors
 use Rattle.odb_disk.specs.declared.ask.DiskAsk.{DiskAsk}
 use Rattle.odb_disk.specs.declared.ask.DiskAsk.TheVariants.{Look, Read, OpenDir, NextEntry, CloseDir, MakeDir, NewFile, Append, Rename, Remove}
 use Rattle.odb_disk.specs.declared.ask.DiskAnswer.{DiskAnswer}

@@ -6,18 +6,18 @@ use Rattle.std.proofs.lemmas.List.{length-append}
 use Rattle.std.proofs.lemmas.Option.{slice_get_within}
 use Rattle.odb_base.specs.Path.{Path}
 use Rattle.odb_disk.specs.MemDisk.{Volume}
-use Rattle.odb_disk.specs.Tree.{IsTree, Tree, tree_of}
-use Rattle.odb_disk.specs.Tree.Change.{changed}
-use Rattle.odb_disk.specs.Tree.Follow.{read_of}
-use Rattle.odb_disk.specs.Tree.Way.{SameOnWay, crosses}
-use Rattle.odb_disk.specs.Tree.Write.{change_of_rename, file_spot, spot}
+use Rattle.odb_tree.specs.Tree.{IsTree, Tree, tree_of}
+use Rattle.odb_tree.specs.Tree.Change.{changed}
+use Rattle.odb_tree.specs.Tree.Follow.{read_of}
+use Rattle.odb_tree.specs.Tree.Way.{SameOnWay, crosses}
+use Rattle.odb_tree.specs.Tree.Write.{change_of_rename, file_spot, spot}
 use Rattle.odb_disk.specs.declared.ask.DiskAnswer.TheVariants as answers
 use Rattle.odb_disk.specs.declared.ask.DiskAsk.TheVariants as asks
-use Rattle.odb_disk.specs.declared.change.Change.TheVariants.{PutFile, Rename}
-use Rattle.odb_disk.proofs.OwnWayLaws.{OwnSpot, moved_onto, moved_onto_crosses, moved_onto_reads, own_kept, own_rename}
-use Rattle.odb_disk.proofs.TreeLemmas.Write.{replaceable_at}
-use Rattle.odb_disk.proofs.WayLaws.{read_kept}
-use Rattle.odb_disk.proofs.WayWriteLaws.{rename_file_spot, rename_spot}
+use Rattle.odb_tree.specs.declared.change.Change.TheVariants.{PutFile, Rename}
+use Rattle.odb_tree.proofs.OwnWayLaws.{OwnSpot, moved_onto, moved_onto_crosses, moved_onto_reads, own_kept, own_rename}
+use Rattle.odb_tree.proofs.TreeLemmas.Write.{replaceable_at}
+use Rattle.odb_tree.proofs.WayLaws.{read_kept}
+use Rattle.odb_tree.proofs.WayWriteLaws.{rename_file_spot, rename_spot}
 use Rattle.gix_hash.specs.declared.object_id.ObjectId.{ObjectId}
 use Rattle.gix_odb_loose.specs.WriteOrder.{temp_path}
 use Rattle.gix_odb_world.specs.declared.call.Reply.TheVariants as replies

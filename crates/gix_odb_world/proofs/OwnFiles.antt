@@ -7,19 +7,19 @@ use Rattle.odb_base.specs.Path.{Name, Path, parent_of}
 use Rattle.odb_base.specs.PathLaws.{parent_of-push, parent_of-some}
 use Rattle.odb_disk.specs.Ask.{answer_now, change_of_ask, op_of}
 use Rattle.odb_disk.specs.MemDisk.{Volume, next_fails}
-use Rattle.odb_disk.specs.Tree.{IsTree, Tree, tree_of}
-use Rattle.odb_disk.specs.Tree.Change.{changed}
-use Rattle.odb_disk.specs.Tree.Way.{SameOnWay, crosses}
-use Rattle.odb_disk.specs.Tree.Write.{change_of_append, file_spot, spot, vacant}
+use Rattle.odb_tree.specs.Tree.{IsTree, Tree, tree_of}
+use Rattle.odb_tree.specs.Tree.Change.{changed}
+use Rattle.odb_tree.specs.Tree.Way.{SameOnWay, crosses}
+use Rattle.odb_tree.specs.Tree.Write.{change_of_append, file_spot, spot, vacant}
 use Rattle.odb_disk.specs.declared.ask.DiskAnswer.{DiskAnswer}
 use Rattle.odb_disk.specs.declared.ask.DiskAnswer.TheVariants as answers
 use Rattle.odb_disk.specs.declared.ask.DiskAsk.{DiskAsk}
 use Rattle.odb_disk.specs.declared.ask.DiskAsk.TheVariants as asks
-use Rattle.odb_disk.specs.declared.change.Change.{Change}
-use Rattle.odb_disk.specs.declared.change.Change.TheVariants.{PutFile, MakeDir, Rename, Append, Remove}
-use Rattle.odb_disk.proofs.OwnWayLaws as ways
-use Rattle.odb_disk.proofs.OwnWayLaws.{Cut, OwnSpot, cut_after, cut_kept, cut_no_file, own_after, own_appended, own_foldered, own_kept, own_not_vacant, own_stops, stop_below_root}
-use Rattle.odb_disk.proofs.WayWriteLaws.{append_change, make_dir_change, new_file_change, remove_change, rename_change}
+use Rattle.odb_tree.specs.declared.change.Change.{Change}
+use Rattle.odb_tree.specs.declared.change.Change.TheVariants.{PutFile, MakeDir, Rename, Append, Remove}
+use Rattle.odb_tree.proofs.OwnWayLaws as ways
+use Rattle.odb_tree.proofs.OwnWayLaws.{Cut, OwnSpot, cut_after, cut_kept, cut_no_file, own_after, own_appended, own_foldered, own_kept, own_not_vacant, own_stops, stop_below_root}
+use Rattle.odb_tree.proofs.WayWriteLaws.{append_change, make_dir_change, new_file_change, remove_change, rename_change}
 use Rattle.gix_hash.specs.declared.object_id.ObjectId.{ObjectId}
 use Rattle.gix_odb_loose.specs.Exchanges.{exchanged}
 use Rattle.gix_odb_loose.specs.LooseFile.{loose_path}

@@ -3,14 +3,15 @@ use Rattle.std.proofs.Common.{◌≡◌, ◌⊎◌, inl, inr, ℕ, zero, suc, �
 use Rattle.std.specs.Prelude.{slice_get, if◌then◌else◌}
 use Rattle.odb_disk.specs.Ask.{change_of_ask}
 use Rattle.odb_disk.specs.MemDisk.{Volume, after_outside_change, next_fails}
-use Rattle.odb_disk.specs.Tree.{IsTree, Tree, tree_of}
-use Rattle.odb_disk.specs.Tree.Change.{changed, is_possible}
-use Rattle.odb_disk.specs.Tree.Write.{written}
+use Rattle.odb_tree.specs.Tree.{IsTree, Tree, tree_of}
+use Rattle.odb_tree.specs.Tree.Change.{changed, is_possible}
+use Rattle.odb_tree.specs.Tree.Write.{written}
 use Rattle.odb_disk.specs.declared.ask.DiskAnswer.{DiskAnswer}
 use Rattle.odb_disk.specs.declared.ask.DiskAsk.{DiskAsk}
-use Rattle.odb_disk.specs.declared.change.Change.{Change}
-use Rattle.odb_disk.proofs.TreeLemmas.Changed.{IsTree-changed, after_change-tree, is_possible-tree_of}
-use Rattle.odb_disk.proofs.WriteLaws.{IsTree-asked, tree_of-written}
+use Rattle.odb_tree.specs.declared.change.Change.{Change}
+use Rattle.odb_tree.proofs.TreeLemmas.Changed.{IsTree-changed, after_change-tree, is_possible-tree_of}
+use Rattle.odb_tree.proofs.WriteLaws.{tree_of-written}
+use Rattle.odb_disk.proofs.AskedLaws.{IsTree-asked}
 use Rattle.gix_odb_world.specs.declared.record.Did.TheVariants.{Nothing}
 use Rattle.gix_odb_world.specs.declared.step.Outcome.{Outcome}
 use Rattle.gix_odb_world.specs.declared.step.Outcome.TheVariants as outcomes

@@ -4,8 +4,8 @@ use Rattle.std.specs.Prelude.{if◌then◌else◌, ◌==◌}
 use Rattle.std.proofs.lemmas.Bool.{eqb-true, eqb-false}
 use Rattle.std.proofs.lemmas.List.{length-append}
 use Rattle.odb_base.specs.Path.{Path}
-use Rattle.odb_disk.specs.Tree.{Tree}
-use Rattle.odb_disk.specs.Tree.Follow.{read_of}
+use Rattle.odb_tree.specs.Tree.{Tree}
+use Rattle.odb_tree.specs.Tree.Follow.{read_of}
 use Rattle.odb_disk.specs.MemDisk.{Volume}
 use Rattle.gix_hash.specs.declared.object_id.ObjectId.{ObjectId}
 use Rattle.gix_odb_loose.specs.Causes.Laws.{Cause-wider}

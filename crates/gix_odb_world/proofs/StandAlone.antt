@@ -3,9 +3,9 @@ use Rattle.std.proofs.Common.{◌≡◌, ◌≢◌, ◌⊎◌, inl, inr, ℕ, �
 use Rattle.std.specs.Prelude.{slice_get, true}
 use Rattle.odb_base.specs.Path.{Path}
 use Rattle.odb_disk.specs.MemDisk.{Volume}
-use Rattle.odb_disk.specs.Tree.{IsTree, Tree, tree_of}
-use Rattle.odb_disk.specs.Tree.Way.{SameOnWay}
-use Rattle.odb_disk.specs.Tree.Write.{file_spot}
+use Rattle.odb_tree.specs.Tree.{IsTree, Tree, tree_of}
+use Rattle.odb_tree.specs.Tree.Way.{SameOnWay}
+use Rattle.odb_tree.specs.Tree.Write.{file_spot}
 use Rattle.gix_odb_world.specs.declared.step.Step.TheVariants as steps
 use Rattle.gix_odb_world.specs.Event.{Event}
 use Rattle.gix_odb_world.specs.Headline.{IsLawful}

@@ -3,8 +3,8 @@ use Rattle.std.proofs.Common.{◌≡◌, ◌≢◌, ℕ, ◌+◌, ◌<◌, true,
 use Rattle.std.specs.Prelude.{if◌then◌else◌, ◌==◌}
 use Rattle.std.proofs.lemmas.List.{map-append, take_more}
 use Rattle.odb_disk.specs.MemDisk.{Volume, after_outside_change}
-use Rattle.odb_disk.specs.Tree.Change.{is_possible}
-use Rattle.odb_disk.specs.declared.change.Change.{Change}
+use Rattle.odb_tree.specs.Tree.Change.{is_possible}
+use Rattle.odb_tree.specs.declared.change.Change.{Change}
 use Rattle.gix_odb_world.specs.declared.step.Step.{Step}
 use Rattle.gix_odb_world.specs.declared.step.Step.TheVariants as steps
 use Rattle.gix_odb_world.specs.declared.step.Outcome.{Outcome}

@@ -2,9 +2,9 @@
 use Rattle.std.proofs.Common.{◌≡◌, ℕ, ◌+◌, ◌*◌, ◌<◌, ◌≤◌, Bool, true, false, List, [], ◌∷◌, ◌++◌, length, Option, Some, None, Ok, Err, Result, refl, sym, ◌∙◌, ap, subst, arith}
 use Rattle.std.proofs.lemmas.List.{length-append}
 use Rattle.std.proofs.Math.Nat.{mul-le-mul}
-use Rattle.odb_disk.specs.Tree.{IsTree, tree_of}
-use Rattle.odb_disk.specs.Tree.Write.{written}
-use Rattle.odb_disk.specs.declared.change.Change.{Change}
+use Rattle.odb_tree.specs.Tree.{IsTree, tree_of}
+use Rattle.odb_tree.specs.Tree.Write.{written}
+use Rattle.odb_tree.specs.declared.change.Change.{Change}
 use Rattle.gix_odb_loose.specs.LooseOrder.{disk_ask_of}
 use Rattle.odb_disk.specs.MemDisk.{Volume, next_fails}
 use Rattle.odb_disk.specs.Ask.{after_ask, answer_now, change_of_ask, op_of}

@@ -3,9 +3,9 @@ use Rattle.std.proofs.Common.{◌≡◌, ℕ, ◌+◌, Bool, true, false, List, 
 use Rattle.std.specs.Prelude.{if◌then◌else◌, ◌==◌}
 use Rattle.odb_disk.specs.MemDisk.{Volume}
 use Rattle.odb_disk.specs.Ask.{answer_now, after_ask, change_of_ask}
-use Rattle.odb_disk.specs.Tree.{IsTree, tree_of}
-use Rattle.odb_disk.specs.Tree.Write.{written}
-use Rattle.odb_disk.specs.declared.change.Change.{Change}
+use Rattle.odb_tree.specs.Tree.{IsTree, tree_of}
+use Rattle.odb_tree.specs.Tree.Write.{written}
+use Rattle.odb_tree.specs.declared.change.Change.{Change}
 use Rattle.odb_disk.specs.declared.ask.DiskAnswer.{DiskAnswer}
 use Rattle.odb_disk.specs.declared.ask.DiskAsk.{DiskAsk}
 use Rattle.gix_odb_world.specs.declared.step.Step.TheVariants as steps

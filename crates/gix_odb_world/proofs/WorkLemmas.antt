@@ -1,18 +1,18 @@
 -- A turn of what a handle is at: its reply keeps its promise, or it goes on and knows as much.
 use Rattle.std.proofs.Common.{◌≡◌, ℕ, ◌+◌, ◌<◌, ◌≤◌, Bool, true, false, nat_le, cond, length, drop, Option, Some, None, Result, Ok, Err, refl, sym, ap, subst, ◌∙◌, arith}
 use Rattle.odb_base.specs.Path.{Path}
-use Rattle.odb_disk.specs.Tree.{Tree, tree_of}
-use Rattle.odb_disk.specs.Tree.Follow.{Refusal, Absent, WrongKind, LinkLoop, looked}
+use Rattle.odb_tree.specs.Tree.{Tree, tree_of}
+use Rattle.odb_tree.specs.Tree.Follow.{Refusal, Absent, WrongKind, LinkLoop, looked}
 use Rattle.odb_disk.specs.MemDisk.{Volume, next_fails}
 use Rattle.odb_disk.specs.Ask.{answer_now, answer_of, change_of_ask, meta_answer}
 use Rattle.odb_disk.specs.StreamAsks.{is_of_streams}
 use Rattle.odb_disk.specs.declared.ask.DiskAsk.{DiskAsk}
 use Rattle.odb_disk.specs.declared.ask.DiskAsk.TheVariants as asks
 use Rattle.odb_disk.specs.declared.ask.DiskAnswer.TheVariants as answers
-use Rattle.odb_disk.specs.declared.disk.Meta.{Meta}
-use Rattle.odb_disk.specs.declared.disk.Kind.{Kind}
-use Rattle.odb_disk.specs.declared.disk.Kind.TheVariants as kinds
-use Rattle.odb_disk.specs.declared.disk.DiskError.TheVariants as disk_errors
+use Rattle.odb_tree.specs.declared.meta.Meta.{Meta}
+use Rattle.odb_tree.specs.declared.meta.Kind.{Kind}
+use Rattle.odb_tree.specs.declared.meta.Kind.TheVariants as kinds
+use Rattle.odb_tree.specs.declared.disk_error.DiskError.TheVariants as disk_errors
 use Rattle.gix_odb_loose.specs.declared.find.Error as loose
 use Rattle.gix_odb_loose.proofs.StillAskLaws.{call_asks_still}
 use Rattle.gix_odb_world.specs.declared.call.Reply.{Reply}

@@ -7,12 +7,12 @@ use Rattle.std.proofs.Math.Seq.{take-append_seam}
 use Rattle.odb_base.specs.Path.{Path}
 use Rattle.odb_disk.specs.Ask.{op_of, answer_now}
 use Rattle.odb_disk.specs.MemDisk.{Volume, next_fails}
-use Rattle.odb_disk.specs.Tree.{Tree}
-use Rattle.odb_disk.specs.Tree.Way.{SameOnWay}
+use Rattle.odb_tree.specs.Tree.{Tree}
+use Rattle.odb_tree.specs.Tree.Way.{SameOnWay}
 use Rattle.odb_disk.specs.declared.ask.DiskAnswer.{DiskAnswer}
 use Rattle.odb_disk.specs.declared.ask.DiskAsk.{DiskAsk}
-use Rattle.odb_disk.specs.OwnFile.{HasFile}
-use Rattle.odb_disk.proofs.OwnFileLaws.{has_file_kept}
+use Rattle.odb_tree.specs.OwnFile.{HasFile}
+use Rattle.odb_tree.proofs.OwnFileLaws.{has_file_kept}
 use Rattle.gix_odb_loose.specs.Exchanges.{Exchange}
 use Rattle.gix_odb_loose.specs.WriteOrder.{temp_path, number_made}
 use Rattle.gix_odb_loose.specs.declared.call.LooseCall.{LooseCall}

@@ -8,22 +8,22 @@ use Rattle.std.proofs.Math.Seq.{take-length, drop-append_seam}
 use Rattle.odb_base.specs.Path.{Path}
 use Rattle.odb_disk.specs.Ask.{answer_now, op_of}
 use Rattle.odb_disk.specs.MemDisk.{Volume, next_fails}
-use Rattle.odb_disk.specs.Tree.{IsTree, Tree, tree_of}
-use Rattle.odb_disk.specs.Tree.Change.{changed}
-use Rattle.odb_disk.specs.Tree.Follow.{read_of}
-use Rattle.odb_disk.specs.Tree.Way.{crosses}
-use Rattle.odb_disk.specs.Tree.Write.{change_of_append, change_of_make_dir, change_of_new_file, change_of_remove, change_of_rename, written}
+use Rattle.odb_tree.specs.Tree.{IsTree, Tree, tree_of}
+use Rattle.odb_tree.specs.Tree.Change.{changed}
+use Rattle.odb_tree.specs.Tree.Follow.{read_of}
+use Rattle.odb_tree.specs.Tree.Way.{crosses}
+use Rattle.odb_tree.specs.Tree.Write.{change_of_append, change_of_make_dir, change_of_new_file, change_of_remove, change_of_rename, written}
 use Rattle.odb_disk.specs.declared.ask.DiskAnswer.{DiskAnswer}
 use Rattle.odb_disk.specs.declared.ask.DiskAnswer.TheVariants as answers
 use Rattle.odb_disk.specs.declared.ask.DiskAsk.{DiskAsk}
 use Rattle.odb_disk.specs.declared.ask.DiskAsk.TheVariants as asks
-use Rattle.odb_disk.specs.declared.change.Change.{Change}
-use Rattle.odb_disk.specs.declared.change.Change.TheVariants.{PutFile, MakeDir, Rename, Append, Remove}
-use Rattle.odb_disk.specs.declared.disk.DiskError.TheVariants as disk_errors
-use Rattle.odb_disk.specs.OwnFile.{HasFile}
-use Rattle.odb_disk.proofs.OwnFileLaws.{has_file_kept, has_more, has_new_file, kept_by_make_dir, moved_reads, moves_file}
-use Rattle.odb_disk.proofs.WayWriteLaws.{append_change, make_dir_change, new_file_change, remove_change, rename_change}
-use Rattle.odb_disk.proofs.WriteLaws.{tree_of-written}
+use Rattle.odb_tree.specs.declared.change.Change.{Change}
+use Rattle.odb_tree.specs.declared.change.Change.TheVariants.{PutFile, MakeDir, Rename, Append, Remove}
+use Rattle.odb_tree.specs.declared.disk_error.DiskError.TheVariants as disk_errors
+use Rattle.odb_tree.specs.OwnFile.{HasFile}
+use Rattle.odb_tree.proofs.OwnFileLaws.{has_file_kept, has_more, has_new_file, kept_by_make_dir, moved_reads, moves_file}
+use Rattle.odb_tree.proofs.WayWriteLaws.{append_change, make_dir_change, new_file_change, remove_change, rename_change}
+use Rattle.odb_tree.proofs.WriteLaws.{tree_of-written}
 use Rattle.gix_hash.specs.declared.object_id.ObjectId.{ObjectId}
 use Rattle.gix_object.specs.Loose.{header_of}
 use Rattle.gix_odb_loose.specs.Causes.WriteLaws.{WriteCause-wider}

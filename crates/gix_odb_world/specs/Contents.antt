@@ -4,8 +4,8 @@ use Rattle.std.specs.Map.{lookup}
 use Rattle.std.specs.Ordering.{eq_by_cmp}
 use Rattle.std.specs.declared.cmp.Ordering.{Ordering}
 use Rattle.odb_base.specs.Path.{Path}
-use Rattle.odb_disk.specs.Tree.{Tree}
-use Rattle.odb_disk.specs.Tree.Follow.{read_of}
+use Rattle.odb_tree.specs.Tree.{Tree}
+use Rattle.odb_tree.specs.Tree.Follow.{read_of}
 use Rattle.gix_hash.specs.contracts.object_id.ObjectIdOrd.TheImpl as id_order
 use Rattle.gix_hash.specs.declared.object_id.ObjectId.{ObjectId}
 use Rattle.gix_object.specs.declared.kind.Kind.{Kind}

@@ -1,7 +1,7 @@
 -- What a store held at some moment, and what lay still in it, over any family of trees numbered by moments.
 use Rattle.std.specs.Prelude.{ℕ, ◌≤◌, Contains}
 use Rattle.odb_base.specs.Path.{Path}
-use Rattle.odb_disk.specs.Tree.{Tree}
+use Rattle.odb_tree.specs.Tree.{Tree}
 use Rattle.gix_hash.specs.declared.object_id.ObjectId.{ObjectId}
 use Rattle.gix_odb_world.specs.declared.query.Query.{Query}
 use Rattle.gix_odb_world.specs.Contents.{StoreData, folder_list, Contents, Answer, Shows, Holds, IsSound}

@@ -5,9 +5,9 @@ use Rattle.odb_disk.specs.declared.ask.DiskAsk.{DiskAsk}
 use Rattle.odb_disk.specs.declared.ask.DiskAsk.TheVariants as asks
 use Rattle.odb_disk.specs.declared.ask.DiskAnswer.{DiskAnswer}
 use Rattle.odb_disk.specs.declared.ask.DiskAnswer.TheVariants as answers
-use Rattle.odb_disk.specs.declared.disk.DiskError.TheVariants as disk_errors
-use Rattle.odb_disk.specs.declared.disk.Kind.{Kind}
-use Rattle.odb_disk.specs.declared.disk.Kind.TheVariants as kinds
+use Rattle.odb_tree.specs.declared.disk_error.DiskError.TheVariants as disk_errors
+use Rattle.odb_tree.specs.declared.meta.Kind.{Kind}
+use Rattle.odb_tree.specs.declared.meta.Kind.TheVariants as kinds
 use Rattle.gix_odb_world.specs.declared.call.Reply.{Reply}
 use Rattle.gix_odb_world.specs.declared.call.Reply.TheVariants as replies
 use Rattle.gix_odb_world.specs.declared.call.CallError.TheVariants as call_errors

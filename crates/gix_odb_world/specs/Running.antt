@@ -1,12 +1,12 @@
 -- What a handle at work has seen since its call began. No public clause needs more of it than its name.
 use Rattle.std.specs.Prelude.{◌+◌, ◌-◌, ◌<◌, ◌^◌, [], ◌++◌, ◌≡◌, ◌⊎◌, ℕ, ◌≤◌, Bool, List, drop, take, slice_get, length, Contains, Option, Some, None}
 use Rattle.odb_base.specs.Path.{Path}
-use Rattle.odb_disk.specs.Tree.{Tree}
+use Rattle.odb_tree.specs.Tree.{Tree}
 use Rattle.odb_disk.specs.MemDisk.{Volume}
 use Rattle.gix_hash.specs.declared.object_id.ObjectId.{ObjectId}
 use Rattle.odb_disk.specs.declared.ask.DiskAnswer.TheVariants as answers
 use Rattle.odb_disk.specs.declared.ask.DiskAsk.TheVariants as asks
-use Rattle.odb_disk.specs.OwnFile.{HasFile}
+use Rattle.odb_tree.specs.OwnFile.{HasFile}
 use Rattle.gix_object.specs.Loose.{header_of}
 use Rattle.gix_odb_loose.specs.Exchanges.{Exchange}
 use Rattle.gix_odb_loose.specs.LooseFile.{LeadsToFile, loose_path}

@@ -1,10 +1,10 @@
 -- What the code of a world does with its table of handles and its lists. No public clause cites this.
 use Rattle.std.specs.Prelude.{◌≡◌, ℕ, ◌==◌, true, [], ◌∷◌, ◌++◌, Option, Some, None, Result, Ok, Err, if◌then◌else◌}
 use Rattle.odb_disk.specs.Ask.{answer_now, after_ask, change_of_ask}
-use Rattle.odb_disk.specs.Tree.{tree_of}
+use Rattle.odb_tree.specs.Tree.{tree_of}
 use Rattle.odb_disk.specs.MemDisk.{Volume}
 use Rattle.odb_disk.specs.declared.ask.DiskAsk.{DiskAsk}
-use Rattle.odb_disk.specs.declared.change.Change.{Change}
+use Rattle.odb_tree.specs.declared.change.Change.{Change}
 use Rattle.gix_odb_world.specs.declared.call.Reply.{Reply}
 use Rattle.gix_odb_world.specs.declared.call.Reply.TheVariants as replies
 use Rattle.gix_odb_world.specs.declared.call.CallError.TheVariants as call_errors

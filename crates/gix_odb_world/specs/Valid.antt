@@ -7,9 +7,9 @@ use Rattle.std.specs.declared.cmp.Ordering.{Ordering}
 use Rattle.odb_base.specs.Path.{Path, path_cmp}
 use Rattle.gix_hash.specs.declared.object_id.ObjectId.{ObjectId}
 use Rattle.gix_odb_world.specs.Contents.{id_cmp}
-use Rattle.odb_disk.specs.Tree.{State}
+use Rattle.odb_tree.specs.Tree.{State}
 use Rattle.odb_disk.specs.MemDisk.{Volume}
-use Rattle.odb_disk.specs.Tree.Change.{is_possible}
+use Rattle.odb_tree.specs.Tree.Change.{is_possible}
 use Rattle.gix_odb_world.specs.declared.step.Step.{Step}
 use Rattle.gix_odb_world.specs.declared.step.Step.TheVariants as steps
 use Rattle.gix_odb_world.specs.declared.step.Outcome.{Outcome}

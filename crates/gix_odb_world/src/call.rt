@@ -9,7 +9,7 @@ use std::alloc::Global;
 use thiserror::Error;
 
 /// A call on an open handle.
-#[derive(Debug, Drop, PartialEq, Eq)]
+#[derive(Drop)]
 pub enum Call {
     /// Finds an object by its id.
     Find(ObjectId),
@@ -51,7 +51,7 @@ impl Call {
 }
 
 /// What a call, or an opening, ends with.
-#[derive(Debug, Drop, PartialEq, Eq)]
+#[derive(Debug, Drop)]
 pub enum Reply {
     /// The store is open, and has so many slots.
     Opened { slots: u16 },
@@ -86,7 +86,7 @@ impl Reply {
 }
 
 /// Why a call was refused, by what it was to do.
-#[derive(Debug, Drop, PartialEq, Eq, Error)]
+#[derive(Debug, Drop, Error)]
 pub enum CallError {
     #[error("{0}")]
     Open(init::Error),

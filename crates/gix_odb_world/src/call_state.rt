@@ -22,7 +22,7 @@ use std::marker::Model;
 /// A call on a handle on its way.
 ///
 /// `disk_ask` names the next call of the disk, `feed` takes its answer, and so on until the call has its reply.
-#[derive(Debug, Drop, PartialEq, Eq)]
+#[derive(Drop)]
 pub enum CallState {
     /// An object is looked for in the folders of the store.
     Looking(LookState),
@@ -33,7 +33,7 @@ pub enum CallState {
 }
 
 /// A write on its way.
-#[derive(Debug, Drop, PartialEq, Eq)]
+#[derive(Drop)]
 pub struct WriteState {
     folder: LooseCall,
 }

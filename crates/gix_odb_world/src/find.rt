@@ -14,7 +14,7 @@ pub enum Header {
 }
 
 /// Why a find, a look for a header or a test of presence was refused.
-#[derive(Debug, Drop, PartialEq, Eq, Error)]
+#[derive(Debug, Drop, Error)]
 pub enum Error {
     /// By the loose objects of a folder.
     #[error("{0}")]

@@ -10,7 +10,7 @@ use odb_disk::PathText;
 use std::collections::BTreeMap;
 
 /// A handle without its work: the parts of its store, and its mode.
-#[derive(Debug, Drop)]
+#[derive(Drop)]
 pub struct HandleState {
     /// The objects directory, which is the first folder of the store.
     pub objects: PathText,
@@ -25,7 +25,7 @@ pub struct HandleState {
 }
 
 /// A handle: at rest, or at work.
-#[derive(Debug, Drop)]
+#[derive(Drop)]
 pub struct Handle {
     pub state: HandleState,
     pub work: Option<Work>,

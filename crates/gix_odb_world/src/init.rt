@@ -5,7 +5,7 @@ ghost use Rattle.gix_odb_world.specs.Event.{given_slots};
 use thiserror::Error;
 
 /// How many slots for indices a store has.
-#[derive(Clone, Copy, Debug, PartialEq, Eq, Hash)]
+#[derive(Clone, Copy)]
 pub enum Slots {
     Given(u16),
 }
@@ -22,7 +22,7 @@ impl Slots {
 }
 
 /// The options of a store.
-#[derive(Clone, Copy, Debug, PartialEq, Eq, Hash)]
+#[derive(Clone, Copy)]
 pub struct Options {
     pub slots: Slots,
     /// The most bytes of data that an object may have to be found, if there is a limit.
@@ -30,7 +30,7 @@ pub struct Options {
 }
 
 /// Why an opening was refused.
-#[derive(Clone, Copy, Debug, PartialEq, Eq, Hash, Error)]
+#[derive(Clone, Copy, Debug, Error)]
 pub enum Error {
     /// The objects directory is no directory, links followed.
     #[error("the objects directory is not a directory")]

@@ -19,14 +19,14 @@ use std::marker::Model;
 /// A query on a handle on its way.
 ///
 /// `disk_ask` names the next call of the disk, `feed` takes its answer, and so on until the call has its reply.
-#[derive(Debug, Drop, PartialEq, Eq)]
+#[derive(Drop)]
 pub struct LookState {
     head: Head,
     stage: Stage,
 }
 
 /// What stays the same in a query.
-#[derive(Clone, Copy, Debug, PartialEq, Eq)]
+#[derive(Clone, Copy)]
 pub struct Head {
     pub query: Query,
     /// The id that is sought.
@@ -34,7 +34,7 @@ pub struct Head {
 }
 
 /// Where a call stands.
-#[derive(Debug, Drop, PartialEq, Eq)]
+#[derive(Drop)]
 pub enum Stage {
     /// The loose objects of a folder are asked.
     Loose {
@@ -48,7 +48,7 @@ pub enum Stage {
 }
 
 /// A folder that is asked, on its way.
-#[derive(Debug, Drop, PartialEq, Eq)]
+#[derive(Drop)]
 pub struct FolderLook {
     call: LooseCall,
 }

@@ -14,7 +14,7 @@ use std::alloc::Global;
 const MAX_SLOTS: u16 = 32767;
 
 /// Where an opening stands.
-#[derive(Debug, Drop, PartialEq, Eq)]
+#[derive(Drop)]
 pub enum OpenState {
     /// The objects directory is to be looked at.
     Looking,

@@ -11,7 +11,7 @@ use odb_disk::MemDisk;
 use std::alloc::Global;
 
 /// A line of a script.
-#[derive(Debug, Drop, PartialEq, Eq)]
+#[derive(Drop)]
 pub enum Line {
     One(Step),
     /// All turns of a handle up to and including the first whose outcome isn't pending.
@@ -19,7 +19,7 @@ pub enum Line {
 }
 
 /// What lines came to: the run, the steps that were made, and for each line the place of its last step.
-#[derive(Debug, Drop)]
+#[derive(Drop)]
 pub struct Play {
     pub run: Run,
     pub steps: Sequence<Step>,

@@ -2,7 +2,7 @@
 use gix_hash::ObjectId;
 
 /// A call that only asks what is there.
-#[derive(Clone, Copy, Debug, PartialEq, Eq)]
+#[derive(Clone, Copy)]
 pub enum Query {
     Find(ObjectId),
     Header(ObjectId),

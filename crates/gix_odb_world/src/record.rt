@@ -8,7 +8,7 @@ use odb_disk::{Change, DiskAnswer, DiskAsk, DiskError, MemDisk, Op, PathText};
 use std::alloc::Global;
 
 /// What a step did beside its outcome.
-#[derive(Debug, Drop, PartialEq, Eq)]
+#[derive(Drop)]
 pub enum Did {
     Nothing,
     /// One call of the disk, at a path; it failed where its number was listed.
@@ -43,7 +43,7 @@ fn path_recorded(alloc: Global, ask: &DiskAsk) -> Result<PathText, NoMemory>
 }
 
 /// The record of a step.
-#[derive(Debug, Drop, PartialEq, Eq)]
+#[derive(Drop)]
 pub struct Record {
     pub did: Did,
     /// The change of the tree, if the step made one: another program's, or that of a turn's call of the disk.
@@ -59,7 +59,7 @@ pub type OutcomeList = Sequence<Outcome>;
 pub type RecordList = Sequence<Record>;
 
 /// A whole run: what each step came to, and the disk after the last one.
-#[derive(Debug, Drop)]
+#[derive(Drop)]
 pub struct Run {
     pub outcomes: OutcomeList,
     pub records: RecordList,

@@ -8,7 +8,7 @@ use odb_disk::{Change, PathText};
 use std::alloc::Global;
 
 /// A step of a world.
-#[derive(Debug, Drop, PartialEq, Eq)]
+#[derive(Drop)]
 pub enum Step {
     /// Begins the opening of a store under a free handle number.
     Open {
@@ -87,7 +87,7 @@ fn opening_copy(
 }
 
 /// What a step comes to.
-#[derive(Debug, Drop, PartialEq, Eq)]
+#[derive(Debug, Drop)]
 pub enum Outcome {
     Applied,
     /// The call goes on.
@@ -112,7 +112,7 @@ impl Outcome {
 }
 
 /// The first reason why a step isn't valid.
-#[derive(Clone, Copy, Debug, PartialEq, Eq, PartialOrd, Ord, Hash)]
+#[derive(Clone, Copy, Debug)]
 pub enum Why {
     /// The handle number isn't free.
     HandleTaken,

@@ -12,7 +12,7 @@ use odb_disk::{DiskAnswer, DiskAsk};
 use std::alloc::Global;
 
 /// What a handle is at work on.
-#[derive(Debug, Drop, PartialEq, Eq)]
+#[derive(Drop)]
 pub enum Work {
     Opening(OpenState),
     Calling(CallState),

@@ -1,6 +1,6 @@
 ghost use Rattle.std.specs.Prelude.{◌≡◌, ◌≢◌, ◌<◌, ◌^◌, ◌↔◌, IsTrue, ◌++◌, ◌∷◌, [], List, IfOk, OnOk, length, true, None, Some};
 ghost use Rattle.odb_disk.specs.MemDisk.{Volume};
-ghost use Rattle.odb_disk.specs.Tree.{IsTree, tree_of};
+ghost use Rattle.odb_tree.specs.Tree.{IsTree, tree_of};
 ghost use Rattle.gix_odb_world.specs.Event.{Event};
 ghost use Rattle.gix_odb_world.specs.Valid as reasons;
 ghost use Rattle.gix_odb_world.specs.Valid.{why_not_after, is_openable};
@@ -27,7 +27,7 @@ use std::collections::BTreeMap;
 use std::mem::replace;
 
 /// A disk, the handles on it, and what has come of the steps so far.
-#[derive(Debug, Drop)]
+#[derive(Drop)]
 pub struct World {
     disk: MemDisk,
     handles: BTreeMap<u32, Handle>,

@@ -6,7 +6,7 @@ use std::alloc::Global;
 use thiserror::Error;
 
 /// Why a write was refused. No name of an object was made then.
-#[derive(Debug, Drop, PartialEq, Eq, Error)]
+#[derive(Debug, Drop, Error)]
 pub enum Error {
     /// By the loose objects of the objects directory.
     #[error("{0}")]

@@ -58,7 +58,7 @@ pub trait Object {
 }
 
 /// The cache that keeps nothing.
-#[derive(Clone, Copy, Debug, PartialEq, Eq)]
+#[derive(Clone, Copy)]
 pub struct Never;
 
 impl DecodeEntry for Never {

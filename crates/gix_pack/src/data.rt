@@ -18,7 +18,7 @@ pub use writing::encode;
 pub(crate) use writing::{entry_len, front_of};
 
 /// Why a pack, or an entry in it, is refused.
-#[derive(Clone, Copy, Debug, PartialEq, Eq, Error)]
+#[derive(Clone, Copy, Debug, Error)]
 pub enum Error {
     /// The bytes don't begin with `PACK` and version 2 or 3, or are too short.
     #[error("the bytes are no pack of version 2 or 3")]
@@ -40,7 +40,7 @@ pub enum Error {
 /// A pack.
 ///
 /// It is seen as its bytes and the hash of its ids.
-#[derive(Debug, Drop)]
+#[derive(Drop)]
 pub struct File {
     kind: Kind,
     bytes: ByteList,

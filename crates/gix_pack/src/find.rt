@@ -17,7 +17,7 @@ use std::alloc::Global;
 use std::sync::Wait;
 
 /// The bytes of a pack's entry, its header in front, and the version of the pack.
-#[derive(Debug, Drop, PartialEq, Eq)]
+#[derive(Debug, Drop)]
 pub struct Entry {
     pub bytes: ByteList,
     pub version: u32,

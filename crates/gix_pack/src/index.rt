@@ -21,14 +21,14 @@ pub use writing::encode;
 const SIGNATURE: [u8; 8] = [255, 116, 79, 99, 0, 0, 0, 2];
 
 /// The bytes are no pack index of version 2.
-#[derive(Clone, Copy, Debug, PartialEq, Eq, Error)]
+#[derive(Clone, Copy, Debug, Error)]
 #[error("the bytes are no pack index of version 2")]
 pub struct BadIndex;
 
 /// A pack index.
 ///
 /// It is seen as its bytes and the hash of its ids.
-#[derive(Debug, Drop)]
+#[derive(Drop)]
 pub struct File {
     kind: Kind,
     bytes: ByteList,
@@ -46,7 +46,7 @@ impl Model for File {
 }
 
 /// A row of an index.
-#[derive(Clone, Copy, Debug, PartialEq, Eq)]
+#[derive(Clone, Copy, Debug)]
 pub struct Entry {
     pub oid: ObjectId,
     pub pack_offset: u64,

@@ -26,7 +26,7 @@ pub use walk::Iter;
 pub use writing::{can_be_written, encode};
 
 /// Why bytes are no multi-pack index.
-#[derive(Clone, Copy, Debug, PartialEq, Eq, Error)]
+#[derive(Clone, Copy, Debug, Error)]
 pub enum Error {
     /// The bytes are outside the format.
     #[error("the bytes are no multi-pack index of version 1")]
@@ -52,7 +52,7 @@ impl From<NoMemory> for Error {
 /// A multi-pack index.
 ///
 /// It is seen as its bytes, which tell the hash of its ids, the names of its packs, and its rows.
-#[derive(Debug, Drop)]
+#[derive(Drop)]
 pub struct File {
     kind: Kind,
     bytes: ByteList,
@@ -72,7 +72,7 @@ impl Model for File {
 }
 
 /// A row of a multi-pack index.
-#[derive(Clone, Copy, Debug, PartialEq, Eq)]
+#[derive(Clone, Copy, Debug)]
 pub struct Entry {
     pub oid: ObjectId,
     pub pack_offset: u64,

@@ -8,7 +8,7 @@ use Rattle.std.specs.Result.{IsErrOf}
 use Rattle.odb_base.specs.Faults.{Rose}
 use Rattle.odb_base.specs.Path.{Path}
 use Rattle.odb_disk.specs.Streams.{Streams}
-use Rattle.odb_disk.specs.Tree.{State, tree_of}
+use Rattle.odb_tree.specs.Tree.{State, tree_of}
 use Rattle.walkdir.proofs.WholeWalks.{NoneLost, if_told, whole_walk}
 use Rattle.walkdir.specs.BuiltWalk.{walking}
 use Rattle.walkdir.specs.Failures.{failures_among}

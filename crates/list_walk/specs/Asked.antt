@@ -4,7 +4,7 @@ use lib.Pointwise.{pointwise}
 use Rattle.odb_base.specs.Decimal.{number_of}
 use Rattle.odb_base.specs.Path.{Path, name_cmp, path_of}
 use Rattle.odb_disk.specs.Streams.{Streams}
-use Rattle.odb_disk.specs.Tree.{Tree}
+use Rattle.odb_tree.specs.Tree.{Tree}
 use Rattle.walkdir.specs.Entry.{file_name_of}
 use Rattle.walkdir.specs.Options.{default_options}
 use Rattle.walkdir.specs.Progress.{Progress}

@@ -5,7 +5,7 @@ use Rattle.std.specs.List.{flat_map, list_any}
 use Rattle.odb_base.specs.Path.{text_of}
 use Rattle.odb_disk.specs.Source.{Adds}
 use Rattle.odb_disk.specs.Streams.{Streams}
-use Rattle.odb_disk.specs.Tree.{State}
+use Rattle.odb_tree.specs.Tree.{State}
 use Rattle.walkdir.specs.Error.{text_of_error}
 use Rattle.walkdir.specs.Failures.{failures_among}
 use Rattle.walkdir.specs.Progress.{FailsByFault, Keeps, Progress, Steps, is_lost}

@@ -3,7 +3,7 @@ use Rattle.std.specs.Prelude.{◌≡◌, ◌⊎◌, ℕ, List, [], take, Option,
 use Rattle.odb_base.specs.Faults.{Rose}
 use Rattle.odb_disk.specs.Source.{Adds}
 use Rattle.odb_disk.specs.Streams.{Streams}
-use Rattle.odb_disk.specs.Tree.{State, tree_of}
+use Rattle.odb_tree.specs.Tree.{State, tree_of}
 use Rattle.walkdir.specs.Failures.{Costs, failures_among}
 use Rattle.walkdir.specs.OwnStreams.{AreBack}
 use Rattle.walkdir.specs.Walk.{IsWalk}

@@ -16,7 +16,7 @@ pub struct Lines {
 }
 
 /// Why a line wasn't written.
-#[derive(Clone, Copy, Debug, PartialEq, Eq)]
+#[derive(Clone, Copy)]
 pub enum LineError {
     Failed,
     NoMemory,

@@ -8,14 +8,14 @@ use odb_disk::{BadPath, PathText};
 use std::alloc::Global;
 
 /// What is asked for: a root, and how it is walked.
-#[derive(Debug, Drop)]
+#[derive(Drop)]
 pub struct Asked {
     pub root: PathText,
     pub choices: Choices,
 }
 
 /// How a root is walked.
-#[derive(Clone, Copy, Debug, PartialEq, Eq)]
+#[derive(Clone, Copy)]
 pub struct Choices {
     /// `--follow`: links are followed.
     pub follow: bool,

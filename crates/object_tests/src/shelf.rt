@@ -23,7 +23,7 @@ pub struct Stored {
     pub bytes: ByteList,
 }
 
-#[derive(Clone, Copy, Debug, PartialEq, Eq)]
+#[derive(Clone, Copy)]
 pub enum ShelfError {
     SizeMismatch,
     Source,

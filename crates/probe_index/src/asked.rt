@@ -9,7 +9,7 @@ use odb_base::{NoMemory, Sequence};
 use std::alloc::Global;
 
 /// What the words ask for: ids of one hash, in their order.
-#[derive(Debug, Drop)]
+#[derive(Drop)]
 pub struct Asked {
     pub kind: Kind,
     pub ids: Sequence<ObjectId>,

@@ -15,7 +15,7 @@ use std::alloc::Global;
 pub const FILE_LIMIT: usize = 1_073_741_824;
 
 /// What a file is.
-#[derive(Clone, Copy, Debug, PartialEq, Eq)]
+#[derive(Clone, Copy)]
 pub enum Format {
     /// A pack index, version 2.
     Index,
@@ -24,7 +24,7 @@ pub enum Format {
 }
 
 /// Why a file is refused.
-#[derive(Clone, Copy, Debug, PartialEq, Eq)]
+#[derive(Clone, Copy)]
 pub enum Refusal {
     TooLong,
     /// It begins like neither format.

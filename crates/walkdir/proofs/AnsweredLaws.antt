@@ -5,7 +5,7 @@ use Rattle.odb_disk.specs.CallsMade.{Leads}
 use Rattle.odb_disk.specs.declared.ask.DiskAsk.{DiskAsk}
 use Rattle.odb_disk.specs.declared.ask.DiskAnswer.{DiskAnswer}
 use Rattle.odb_disk.specs.Streams.{Streams}
-use Rattle.odb_disk.specs.Tree.{State}
+use Rattle.odb_tree.specs.Tree.{State}
 use Rattle.walkdir.proofs.AnsweredLemmas.{item_later, leads_still, leads_then}
 use Rattle.walkdir.specs.Answered.{AreTold, IsItemTold, IsRefusedAt, IsStackTold}
 use Rattle.walkdir.specs.OnDisk as OnDisks

@@ -10,9 +10,9 @@ use Rattle.odb_disk.specs.declared.ask.DiskAsk.{DiskAsk}
 use Rattle.odb_disk.specs.declared.ask.DiskAsk.TheVariants as asks
 use Rattle.odb_disk.specs.declared.ask.DiskAnswer.{DiskAnswer}
 use Rattle.odb_disk.specs.declared.ask.DiskAnswer.TheVariants as answers
-use Rattle.odb_disk.specs.declared.disk.DiskError.{DiskError}
-use Rattle.odb_disk.specs.declared.disk.DiskError.TheVariants as refusals
-use Rattle.odb_disk.specs.declared.disk.Meta.{Meta}
+use Rattle.odb_tree.specs.declared.disk_error.DiskError.{DiskError}
+use Rattle.odb_tree.specs.declared.disk_error.DiskError.TheVariants as refusals
+use Rattle.odb_tree.specs.declared.meta.Meta.{Meta}
 use Rattle.odb_disk.proofs.CallsMadeLaws.{answered_here, answered_wider, leads_by_one, leads_nowhere, leads_on}
 use Rattle.walkdir.specs.Answered.{AreHeld, AreListsTold, IsHeld, IsHeldIn, IsItemTold, IsListTold, IsLookRefused, IsPlaceTold, IsStackTold, IsTold, IsToldIn, LooksBy, TellsOn}
 use Rattle.walkdir.specs.AnsweredTurns.{IsItemHeld, IsKnown, IsSeenIn, TellsContents}

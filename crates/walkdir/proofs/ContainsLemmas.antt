@@ -4,15 +4,16 @@ use Rattle.std.specs.Option.{option_to_list}
 use Rattle.std.specs.FinMap as finite
 use Rattle.std.proofs.lemmas.Bool.Decides.{nat_tests}
 use Rattle.odb_base.specs.Path.{Path}
-use Rattle.odb_disk.specs.Disk.{Answers}
-use Rattle.odb_disk.specs.Streams.{Streams, AnswersOpen, Opens, opened, still_gives}
-use Rattle.odb_disk.specs.Tree.{State, tree_of}
-use Rattle.odb_disk.specs.Tree.Follow.{Refusal}
-use Rattle.odb_disk.specs.declared.disk.DiskError.{DiskError}
-use Rattle.odb_disk.specs.declared.disk.DiskError.TheVariants as refusals
-use Rattle.odb_disk.specs.declared.disk.Entry.{Entry}
-use Rattle.odb_disk.specs.declared.disk.Kind.{Kind}
-use Rattle.odb_disk.specs.declared.disk.Kind.TheVariants.{File, Dir, Link}
+use Rattle.odb_tree.specs.Answers.{Answers}
+use Rattle.odb_disk.specs.Streams.{Streams, AnswersOpen, Opens, still_gives}
+use Rattle.odb_tree.specs.Entries.{opened}
+use Rattle.odb_tree.specs.Tree.{State, tree_of}
+use Rattle.odb_tree.specs.Tree.Follow.{Refusal}
+use Rattle.odb_tree.specs.declared.disk_error.DiskError.{DiskError}
+use Rattle.odb_tree.specs.declared.disk_error.DiskError.TheVariants as refusals
+use Rattle.odb_tree.specs.declared.entry.Entry.{Entry}
+use Rattle.odb_tree.specs.declared.meta.Kind.{Kind}
+use Rattle.odb_tree.specs.declared.meta.Kind.TheVariants.{File, Dir, Link}
 use Rattle.walkdir.specs.Entry.{is_dir, is_dir_kind, is_link, is_link_kind}
 use Rattle.walkdir.specs.Error.{io_error}
 use Rattle.walkdir.specs.Options.{is_given}

@@ -8,8 +8,8 @@ use lib.Seq.{append_snoc, get_or-append_seam}
 use lib.ListN.{length-reverse}
 use Rattle.odb_base.specs.Path.{Path}
 use Rattle.odb_disk.specs.Streams.{Streams, still_gives, with_closed}
-use Rattle.odb_disk.specs.declared.disk.Entry.{Entry}
-use Rattle.odb_disk.specs.declared.disk.DiskError.TheVariants as refusals
+use Rattle.odb_tree.specs.declared.entry.Entry.{Entry}
+use Rattle.odb_tree.specs.declared.disk_error.DiskError.TheVariants as refusals
 use Rattle.walkdir.specs.Error.{is_no_memory, stream_error}
 use Rattle.walkdir.specs.Options.{is_given}
 use Rattle.walkdir.specs.OwnStreams.{OpenDirs, AreBeside}

@@ -3,7 +3,7 @@ use Rattle.std.proofs.Common.{◌≡◌, ℕ, Bool, true, false, ◌&&◌, List,
 use Rattle.std.specs.Prelude.{MatchBool}
 use Rattle.odb_base.specs.Path.{Path}
 use Rattle.odb_disk.specs.Streams.{Streams}
-use Rattle.odb_disk.specs.Tree.{State}
+use Rattle.odb_tree.specs.Tree.{State}
 use Rattle.walkdir.proofs.RootLemmas.{FoundDevice, knows_device}
 use Rattle.walkdir.proofs.ProgressLemmas.{item_turn}
 use Rattle.walkdir.proofs.TurnsLemmas.{Passes, Runs}

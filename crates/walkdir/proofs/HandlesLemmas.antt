@@ -8,13 +8,13 @@ use denote.Enum.Bare.{sameb}
 use Rattle.odb_base.specs.Path.{Path}
 use Rattle.odb_disk.specs.Ask.{error_of}
 use Rattle.odb_disk.specs.Streams.{Streams}
-use Rattle.odb_disk.specs.Tree.{State, tree_of}
-use Rattle.odb_disk.specs.Tree.Follow.{Refusal, looked}
-use Rattle.odb_disk.specs.declared.disk.Meta.{Meta}
-use Rattle.odb_disk.specs.contracts.disk.Kind.{the_type}
-use Rattle.odb_disk.specs.declared.disk.Kind.{Kind}
-use Rattle.odb_disk.specs.declared.disk.Kind.TheVariants.{File, Dir, Link}
-use Rattle.odb_disk.specs.declared.disk.DiskError.TheVariants as refusals
+use Rattle.odb_tree.specs.Tree.{State, tree_of}
+use Rattle.odb_tree.specs.Tree.Follow.{Refusal, looked}
+use Rattle.odb_tree.specs.declared.meta.Meta.{Meta}
+use Rattle.odb_tree.specs.contracts.meta.Kind.{the_type}
+use Rattle.odb_tree.specs.declared.meta.Kind.{Kind}
+use Rattle.odb_tree.specs.declared.meta.Kind.TheVariants.{File, Dir, Link}
+use Rattle.odb_tree.specs.declared.disk_error.DiskError.TheVariants as refusals
 use Rattle.walkdir.specs.Entry.{is_dir, is_dir_kind, is_link}
 use Rattle.walkdir.specs.Error.{IsFromLoop, io_error, is_no_memory, loop_error, no_memory}
 use Rattle.walkdir.specs.Options.{is_given}

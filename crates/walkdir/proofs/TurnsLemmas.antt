@@ -4,7 +4,7 @@ use Rattle.std.specs.Prelude.{◌≢◌, IfSome}
 use Rattle.std.specs.Option.{option_to_list}
 use Rattle.odb_base.specs.Path.{Path}
 use Rattle.odb_disk.specs.Streams.{Streams}
-use Rattle.odb_disk.specs.Tree.{State}
+use Rattle.odb_tree.specs.Tree.{State}
 use Rattle.walkdir.specs.Error.{is_no_memory}
 use Rattle.walkdir.specs.Failures.{RoseBy, waiting}
 use Rattle.walkdir.specs.Innermost.{SkipsNone}

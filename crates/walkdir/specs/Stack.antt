@@ -5,7 +5,7 @@ use Rattle.std.specs.List.{filter_map}
 use lib.Pointwise.{pointwise}
 use Rattle.odb_base.specs.Path.{Path, same_name}
 use Rattle.odb_disk.specs.Streams.{Streams, still_gives, left, with_closed}
-use Rattle.odb_disk.specs.declared.disk.Entry.{Entry}
+use Rattle.odb_tree.specs.declared.entry.Entry.{Entry}
 use Rattle.walkdir.specs.Entry.{is_dir}
 use Rattle.walkdir.specs.Error.{is_stream_refusal}
 use Rattle.walkdir.specs.Walk.{Walking, Item, Ancestor, WalksOf, IsStreamed, child_of, shown}

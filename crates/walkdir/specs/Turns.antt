@@ -4,13 +4,13 @@ use Rattle.std.specs.Option.{option_to_list}
 use Rattle.std.specs.FinMap as finite
 use Rattle.odb_base.specs.Path.{Path}
 use Rattle.odb_disk.specs.Streams.{Streams, left, still_gives, is_open, open_count, with_stream}
-use Rattle.odb_disk.specs.Tree.{State, tree_of}
-use Rattle.odb_disk.specs.Tree.Follow.{Refusal, looked}
+use Rattle.odb_tree.specs.Tree.{State, tree_of}
+use Rattle.odb_tree.specs.Tree.Follow.{Refusal, looked}
 use Rattle.odb_disk.specs.Ask.{error_of}
-use Rattle.odb_disk.specs.declared.disk.Entry.{Entry}
-use Rattle.odb_disk.specs.declared.disk.Meta.{Meta}
-use Rattle.odb_disk.specs.declared.disk.DiskError.{DiskError}
-use Rattle.odb_disk.specs.declared.disk.DiskError.TheVariants as refusals
+use Rattle.odb_tree.specs.declared.entry.Entry.{Entry}
+use Rattle.odb_tree.specs.declared.meta.Meta.{Meta}
+use Rattle.odb_tree.specs.declared.disk_error.DiskError.{DiskError}
+use Rattle.odb_tree.specs.declared.disk_error.DiskError.TheVariants as refusals
 use Rattle.walkdir.specs.Entry.{is_dir, is_link}
 use Rattle.walkdir.specs.Error.{failures, io_error, no_memory, stream_error, IsFromLoop}
 use Rattle.walkdir.specs.Failures.{failures_left}

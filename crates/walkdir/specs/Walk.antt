@@ -6,14 +6,14 @@ use Rattle.std.specs.List.{filter_map}
 use Rattle.std.specs.Result.{result_ok}
 use Rattle.std.specs.declared.cmp.Ordering.{Ordering}
 use Rattle.odb_base.specs.Path.{Path}
-use Rattle.odb_disk.specs.Tree.{Tree}
-use Rattle.odb_disk.specs.Tree.Follow.{Refusal, looked}
+use Rattle.odb_tree.specs.Tree.{Tree}
+use Rattle.odb_tree.specs.Tree.Follow.{Refusal, looked}
 use Rattle.odb_disk.specs.Ask.{error_of}
-use Rattle.odb_disk.specs.Streams.{opened}
-use Rattle.odb_disk.specs.declared.disk.Meta.{Meta}
-use Rattle.odb_disk.specs.declared.disk.Entry.{Entry}
-use Rattle.odb_disk.specs.declared.disk.DiskError.{DiskError}
-use Rattle.odb_disk.specs.declared.disk.DiskError.TheVariants as refusals
+use Rattle.odb_tree.specs.Entries.{opened}
+use Rattle.odb_tree.specs.declared.meta.Meta.{Meta}
+use Rattle.odb_tree.specs.declared.entry.Entry.{Entry}
+use Rattle.odb_tree.specs.declared.disk_error.DiskError.{DiskError}
+use Rattle.odb_tree.specs.declared.disk_error.DiskError.TheVariants as refusals
 use Rattle.walkdir.specs.Entry.{entry_at, is_dir, is_dir_kind, is_link}
 use Rattle.walkdir.specs.Error.{io_error, stream_error, loop_error, no_memory}
 use Rattle.walkdir.specs.Options.{is_given}

@@ -9,7 +9,7 @@ use std::alloc::Global;
 use std::marker::Model;
 
 /// How a walk is made.
-#[derive(Clone, Copy, Debug, PartialEq, Eq)]
+#[derive(Clone, Copy)]
 pub struct Options {
     pub(crate) follow_links: bool,
     pub(crate) follow_root_links: bool,
@@ -24,7 +24,7 @@ pub struct Options {
 ///
 /// Without other calls a walk gives a directory before its contents, in the order of the disk's streams, follows no
 /// link but the root, and keeps at most ten directories open.
-#[derive(Debug, Drop)]
+#[derive(Drop)]
 pub struct WalkDir<S> {
     root: PathText,
     options: Options,
@@ -78,7 +78,7 @@ impl WalkDir<NoSort> {
 
 impl<S: Drop> WalkDir<S> {
     ghost use Rattle.odb_disk.specs.Streams.{Streams};
-    ghost use Rattle.odb_disk.specs.Tree.{Tree};
+    ghost use Rattle.odb_tree.specs.Tree.{Tree};
     ghost use Rattle.walkdir.specs.BuiltWalk.{walking};
     ghost use Rattle.walkdir.specs.Progress.{begun, has_its_streams};
     ghost use Rattle.walkdir.specs.StackProgress.{progress};

@@ -6,7 +6,7 @@ use odb_disk::{Disk, Kind, Meta, NoMemory, PathText};
 use std::alloc::Global;
 
 /// What stands at one place of a walk.
-#[derive(Debug, Drop, PartialEq, Eq)]
+#[derive(Debug, Drop)]
 pub struct DirEntry {
     path: PathText,
     kind: Kind,
@@ -18,8 +18,8 @@ pub struct DirEntry {
 
 impl DirEntry {
     ghost use Rattle.std.specs.Prelude.{IfOk, IfSome};
-    ghost use Rattle.odb_disk.specs.Tree.{tree_of};
-    ghost use Rattle.odb_disk.specs.Tree.Follow.{looked};
+    ghost use Rattle.odb_tree.specs.Tree.{tree_of};
+    ghost use Rattle.odb_tree.specs.Tree.Follow.{looked};
     ghost use Rattle.walkdir.specs.Answered.{LooksBy};
     ghost use Rattle.walkdir.specs.Entry.{file_name_of, is_behind_link, is_dir, is_link, entry_at};
     ghost use Rattle.walkdir.specs.Failures.{Costs, failures_of};

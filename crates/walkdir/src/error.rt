@@ -10,13 +10,13 @@ use std::fmt;
 ///
 /// It prints as `IO error for operation on PATH: NAME`, as `NAME` alone where no path is known, or as
 /// `File system loop found: CHILD points to an ancestor ANCESTOR`. `NAME` is that of the disk's error.
-#[derive(Debug, Drop, PartialEq, Eq)]
+#[derive(Debug, Drop)]
 pub struct Error {
     depth: usize,
     inner: ErrorInner,
 }
 
-#[derive(Debug, Drop, PartialEq, Eq)]
+#[derive(Debug, Drop)]
 enum ErrorInner {
     /// A call of the disk was refused. An error in the middle of a directory has no path.
     Io {

@@ -36,7 +36,7 @@ pub trait KeyOf {
 }
 
 /// No order: entries stay as the stream gives them, and no directory is read before it is walked.
-#[derive(Clone, Copy, Debug, PartialEq, Eq)]
+#[derive(Clone, Copy)]
 pub struct NoSort;
 
 impl Sorter for NoSort {
@@ -50,7 +50,7 @@ impl Sorter for NoSort {
 }
 
 /// The order of the bytes of file names.
-#[derive(Clone, Copy, Debug, PartialEq, Eq)]
+#[derive(Clone, Copy)]
 pub struct ByName;
 
 impl Sorter for ByName {
@@ -64,7 +64,7 @@ impl Sorter for ByName {
 }
 
 /// The order of entries' keys.
-#[derive(Debug, Drop)]
+#[derive(Drop)]
 pub struct ByKey<K> {
     key: K,
 }

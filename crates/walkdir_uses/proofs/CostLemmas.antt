@@ -8,7 +8,7 @@ use denote.Ref.{Bor}
 use Rattle.odb_disk.specs.declared.ask.DiskAsk.{DiskAsk}
 use Rattle.odb_disk.specs.declared.ask.DiskAnswer.{DiskAnswer}
 use Rattle.odb_disk.specs.Streams.{Streams}
-use Rattle.odb_disk.specs.Tree.{State}
+use Rattle.odb_tree.specs.Tree.{State}
 use Rattle.walkdir.proofs.FilteredWalks.{FiltersOn, Kept, kept_along, kept_filters, kept_then}
 use Rattle.walkdir.proofs.WholeWalks.{failures_along}
 use Rattle.walkdir.specs.Error.{failures, failures_in, is_no_memory, is_no_memory_inner}

@@ -7,7 +7,7 @@ use std::cmp::Ordering;
 use walkdir::{DirEntry, Sorter};
 
 /// The order of name bytes in which a directory's name counts as if `/` stood behind it: Git's order of tree entries.
-#[derive(Clone, Copy, Debug, PartialEq, Eq)]
+#[derive(Clone, Copy)]
 pub struct GitOrder;
 
 impl Sorter for GitOrder {

@@ -7,7 +7,7 @@ use odb_disk::{BadPath, Entry, Kind, NoMemory, PathText};
 use std::alloc::Global;
 
 /// An entry that a stream gave, and the directory that it lies in.
-#[derive(Debug, Drop)]
+#[derive(Drop)]
 pub struct Item {
     pub dir: PathText,
     pub entry: Entry,

@@ -9,14 +9,14 @@ use std::alloc::Global;
 use walkdir::{Error, NoSort, Sorter, Stack, Steps};
 
 /// How many threads a walk is asked to use. It uses one in any case.
-#[derive(Clone, Copy, Debug, PartialEq, Eq)]
+#[derive(Clone, Copy)]
 pub enum Parallelism {
     Serial,
     ThreadPoolPerTraversal,
 }
 
 /// Builds a walk that gives wrapped entries.
-#[derive(Debug, Drop)]
+#[derive(Drop)]
 pub struct WalkDir<S> {
     inner: walkdir::WalkDir<S>,
     precompose_unicode: bool,

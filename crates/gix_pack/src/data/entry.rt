@@ -1,7 +1,7 @@
 use gix_object::Kind;
 
 /// What the header of an entry tells: kind, size, and its own length.
-#[derive(Clone, Copy, Debug, PartialEq, Eq)]
+#[derive(Clone, Copy, Debug)]
 pub struct Header {
     pub kind: Kind,
     pub size: u64,
@@ -9,7 +9,7 @@ pub struct Header {
 }
 
 /// An object in a pack.
-#[derive(Clone, Copy, Debug, PartialEq, Eq)]
+#[derive(Clone, Copy, Debug)]
 pub struct Entry<'a> {
     pub kind: Kind,
     pub size: u64,
@@ -18,7 +18,7 @@ pub struct Entry<'a> {
 }
 
 /// Where an object stands: the number of its pack, and the place and the length of its entry, header and data.
-#[derive(Clone, Copy, Debug, PartialEq, Eq, PartialOrd, Ord, Hash)]
+#[derive(Clone, Copy, Debug)]
 pub struct Location {
     pub pack_id: u32,
     pub pack_offset: u64,

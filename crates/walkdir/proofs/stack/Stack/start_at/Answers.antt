@@ -1,9 +1,9 @@
 use Rattle.std.proofs.Common.{true, ◌≡◌, false, Ok, Err, [], ap, length, reverse, subst, sym, ◌∙◌}
 use Rattle.std.specs.Option.{option_map}
 use Rattle.std.specs.Prelude.{IfSome}
-use Rattle.odb_disk.specs.Tree.{tree_of}
-use Rattle.odb_disk.specs.Tree.Follow.{looked}
-use Rattle.odb_disk.specs.declared.disk.Meta.{Meta}
+use Rattle.odb_tree.specs.Tree.{tree_of}
+use Rattle.odb_tree.specs.Tree.Follow.{looked}
+use Rattle.odb_tree.specs.declared.meta.Meta.{Meta}
 use Rattle.walkdir.specs.EnteredTurns.{BeginsTelling, HandlesAbove, HandlesTelling}
 use Rattle.walkdir.specs.Innermost.{IsAfter}
 use Rattle.walkdir.specs.StackProgress.{progress}
