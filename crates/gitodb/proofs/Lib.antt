@@ -1,11 +1,2 @@
-pub mod LineLemmas
-pub mod ChangeLemmas
-pub mod OptionLemmas
-pub mod ContentLemmas
-pub mod ScriptLemmas
-pub mod SplitLemmas
-mod TextLemmas
-mod PackLemmas
-mod OpeningLemmas
 mod PrintLemmas
 mod SessionLemmas

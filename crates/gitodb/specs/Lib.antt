@@ -1,9 +1,3 @@
-pub mod Word
-pub mod Content
-pub mod Change
-pub mod Opening
-pub mod Line
-pub mod Script
 pub mod Print
 pub mod Session
 pub mod Status

@@ -26,8 +26,8 @@ use Rattle.gix_odb_loose.specs.declared.write.Error as loose_write
 use Rattle.gix_odb_loose.specs.declared.write.Error.TheVariants as loose_write_errors
 use Rattle.gix_odb_loose.specs.declared.find.Error as loose
 use Rattle.gix_odb_loose.specs.declared.find.Error.TheVariants as loose_errors
-use Rattle.gitodb.specs.declared.script.reader.Ending.{Ending}
-use Rattle.gitodb.specs.declared.script.reader.Ending.TheVariants.{Whole, RefusedAt, NotBuiltAt}
+use Rattle.odb_script.specs.declared.reader.Ending.{Ending}
+use Rattle.odb_script.specs.declared.reader.Ending.TheVariants.{Whole, RefusedAt, NotBuiltAt}
 
 -- data as lower-case hex, or `-` for nothing
 abbrev pub data_text : List ℕ → List ℕ

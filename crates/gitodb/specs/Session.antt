@@ -10,9 +10,9 @@ use Rattle.gitodb.specs.declared.command.Command.{Command}
 use Rattle.gitodb.specs.declared.command.Command.TheVariants.{World, Help, Version, NotUnderstood}
 use Rattle.gitodb.specs.declared.status.Status.{Status}
 use Rattle.gitodb.specs.declared.status.Status.TheVariants as statuses
-use Rattle.gitodb.specs.declared.script.reader.Ending.{Ending}
-use Rattle.gitodb.specs.declared.script.reader.Ending.TheVariants.{Whole, RefusedAt, NotBuiltAt}
-use Rattle.gitodb.specs.Script.{reading_of, disk_of, lines_of}
+use Rattle.odb_script.specs.declared.reader.Ending.{Ending}
+use Rattle.odb_script.specs.declared.reader.Ending.TheVariants.{Whole, RefusedAt, NotBuiltAt}
+use Rattle.odb_script.specs.Script.{reading_of, disk_of, lines_of}
 use Rattle.gitodb.specs.Print.{printed_at, ending_text}
 
 -- the command that the words of the command line are

@@ -12,7 +12,6 @@ ghost use Rattle.gitodb.specs.Status.{code_of};
 mod command;
 mod print;
 mod run;
-mod script;
 mod status;
 #[cfg(test)]
 mod tests;

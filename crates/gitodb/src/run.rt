@@ -5,11 +5,11 @@ ghost use Rattle.gitodb.specs.Session.{Ends, Delivers, command_of};
 ghost use Rattle.gitodb.specs.declared.command.Command.TheVariants.{World as world_command};
 
 use crate::command::{Command, command_of};
-use crate::script::SCRIPT_LIMIT;
 use crate::status::Status;
 use crate::world_command::answer_script;
 use odb_base::NoMemory;
 use odb_disk::{Disk, Failed, ReadError, Sink, Source, read_file, write_all};
+use odb_script::SCRIPT_LIMIT;
 use std::alloc::Global;
 
 /// What `--help` writes.

@@ -4,15 +4,15 @@ ghost use Rattle.std.specs.Option.{option_copied};
 ghost use Rattle.gix_odb_world.specs.Headline.{Headline};
 ghost use Rattle.gix_odb_world.specs.Play.{Plays, made_of};
 ghost use Rattle.gitodb.specs.Print.{printed_at, ending_text, line_of};
-ghost use Rattle.gitodb.specs.Script.{reading_of, disk_of, lines_of};
+ghost use Rattle.odb_script.specs.Script.{reading_of, disk_of, lines_of};
 ghost use Rattle.gitodb.specs.Session.{Answers, AnswersWith, status_of_ending};
 
 use crate::print::{labelled, print_outcome, text};
-use crate::script::{Ending, read};
 use crate::status::Status;
 use gix_odb_world::{Line, Outcome, OutcomeList, Play, World};
 use odb_base::{NoMemory, Sequence};
 use odb_disk::MemDisk;
+use odb_script::{Ending, read};
 use std::alloc::Global;
 
 /// What is written for a script, and the status.

@@ -1,11 +1,14 @@
 //! What no clause of a world says: that steps succeed while there is memory, values from outside, printed texts.
 //!
 //! It has tests alone. Each is a table of steps in words and what they come to: `words` reads the steps, `played` makes
-//! them and tells what they come to, `tables` has the tests over the tables of the other modules.
+//! them and tells what they come to, `tables` has the tests over the tables of the other modules. `contents` has the
+//! files that scripts put.
 #![tactic(auto)]
 
 #[cfg(test)]
 mod bounds;
+#[cfg(test)]
+mod contents;
 #[cfg(test)]
 mod finds;
 #[cfg(test)]

@@ -1,6 +1,6 @@
 //! The text of `--help`, beside the words that scripts are read by.
 use crate::run::HELP;
-use crate::script::{Question, Word, change_word_of, word_of};
+use odb_script::{Question, Word, change_word_of, word_of};
 use std::test::Fail;
 
 /// Each word that is built, but for `do`, which stands before those of changes.

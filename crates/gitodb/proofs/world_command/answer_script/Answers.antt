@@ -1,7 +1,7 @@
 -- The disk, the lines and the ending are those of the reading.
 use Rattle.std.proofs.Common.{ap, ◌∙◌}
-use Rattle.gitodb.specs.declared.script.reader.Reading.{Reading}
-use Rattle.gitodb.specs.Script.{disk_of, lines_of}
+use Rattle.odb_script.specs.declared.reader.Reading.{Reading}
+use Rattle.odb_script.specs.Script.{disk_of, lines_of}
 use Rattle.gitodb.proofs.world_command.answer_script.Goals as goal
 
 pub returns : goal.returns

@@ -1,6 +1,0 @@
--- Both tests are true exactly where packs can be written.
-use Rattle.gitodb.proofs.PackLemmas.{can_be_written-same}
-use Rattle.gitodb.proofs.script.objects.can_be_written.Goals as goal
-
-pub returns-clause-exact : goal.returns-clause-exact
-returns-clause-exact c = can_be_written-same _ _ c.can_be_written.ensures

@@ -1,0 +1,10 @@
+pub mod LineLemmas
+pub mod ChangeLemmas
+pub mod OptionLemmas
+pub mod ContentLemmas
+pub mod ScriptLemmas
+pub mod LimitLemmas
+pub mod SplitLemmas
+mod TextLemmas
+mod PackLemmas
+mod OpeningLemmas

@@ -1,0 +1,121 @@
+-- Laws of openings: what options spell is chosen.
+use Rattle.std.proofs.Common.{◌≡◌, ℕ, ◌^◌, ◌<◌, ◌==◌, Bool, true, false, not, List, [], ◌∷◌, ◌++◌, map, codes, Some, refl, ap, ◌∙◌, arith}
+use Rattle.std.specs.Fmt.{decimal}
+use Rattle.std.specs.List.{list_all, list_any, AllByRecursion}
+use Rattle.std.proofs.lemmas.Bool.{and_parts}
+use Rattle.odb_base.specs.Path.{Path, is_name, text_of}
+use Rattle.odb_base.specs.PathLaws.{path_of-text_of}
+use Rattle.odb_base.proofs.DecimalLemmas.{number_of-decimal, number_below-is}
+use Rattle.gix_hash.specs.ObjectId.{IsId, hex_of, id_of, is_lower_text, is_lower_digit}
+use Rattle.gix_hash.specs.declared.object_id.ObjectId.{ObjectId}
+use Rattle.gix_hash.specs.declared.object_id.ObjectId.TheVariants as ids
+use Rattle.gix_hash.proofs.ObjectIdLemmas.{id_of-hex_of, is_lower_text-hex_of}
+use Rattle.odb_script.specs.declared.choice.Choice.{Choice}
+use Rattle.odb_script.specs.declared.choice.Choice.TheVariants.{Folder, Replacement, Slots, Limit}
+use Rattle.odb_script.specs.declared.choice.Chosen.{Chosen}
+use Rattle.odb_script.specs.Word.{word_of}
+use Rattle.odb_script.specs.Line.{line_item, item_of}
+use Rattle.odb_script.specs.Opening.{first_id, second_id, is_unbuilt_option, gives_slots, choice_of, with_choice, with_next, nothing_chosen, chosen_by, opening_at, open_of}
+use Rattle.odb_script.proofs.SplitLemmas.{after_first-followed, before_first-followed, lacks}
+use Rattle.odb_script.proofs.LineLemmas.{AreFields, line_of, item_of-line_of, IsField-word, IsField-decimal, handle_of-decimal}
+
+-- ---- pairs of ids
+
+digit : (b : ℕ) → is_lower_digit b ≡ true → not (b == 58) ≡ true
+digit b h = grind (arith, h)
+
+no_colon : (text : List ℕ) → is_lower_text text ≡ true → lacks 58 text ≡ true
+no_colon [] h = refl
+no_colon (b ∷ text) h =
+    let parts = and_parts (is_lower_digit b) (is_lower_text text) h in rw (digit b parts.0, no_colon text parts.1) refl
+
+module _ (id by : ObjectId) (is : IsId id) (other : IsId by) where
+  plain : lacks 58 (hex_of id) ≡ true
+  plain = no_colon (hex_of id) (is_lower_text-hex_of id is)
+
+  first_is : first_id (hex_of id ++ 58 ∷ hex_of by) ≡ Some id
+  first_is = ap id_of (before_first-followed 58 (hex_of id) (hex_of by) plain) ∙ id_of-hex_of id is
+
+  second_is : second_id (hex_of id ++ 58 ∷ hex_of by) ≡ Some by
+  second_is = ap id_of (after_first-followed 58 (hex_of id) (hex_of by) plain) ∙ id_of-hex_of by other
+
+-- ---- options
+
+-- how what an option chooses is spelled
+abbrev pub spelled : Choice → List ℕ
+spelled (Folder path) = codes "folder=" ++ text_of path
+spelled (Replacement id by) = codes "replace=" ++ hex_of id ++ 58 ∷ hex_of by
+spelled (Slots slots) = codes "slots=" ++ decimal slots
+spelled (Limit bytes) = codes "limit=" ++ decimal bytes
+
+-- an id of 40 digits
+abbrev pub IsShort : ObjectId → Type 0
+IsShort (ids.Sha1 bytes) = IsId (ids.Sha1 bytes)
+IsShort (ids.Sha256 bytes) = ⊥
+
+-- what an option can choose
+abbrev pub IsChoice : Choice → Type 0
+IsChoice (Folder path) = list_all is_name path ≡ true
+IsChoice (Replacement id by) = IsShort id × IsShort by
+IsChoice (Slots slots) = slots < 2 ^ 16
+IsChoice (Limit bytes) = bytes < 2 ^ 64
+
+abbrev pub AreChoices : List Choice → Type 0
+AreChoices choices = AllByRecursion IsChoice choices
+
+pub choice_of-spelled : (choice : Choice) → IsChoice choice → choice_of (spelled choice) ≡ Some choice
+choice_of-spelled (Folder path) is = rw (path_of-text_of path is) refl
+choice_of-spelled (Replacement (ids.Sha1 id) (ids.Sha1 by)) is =
+    rw (first_is (ids.Sha1 id) (ids.Sha1 by) is.0 is.1, second_is (ids.Sha1 id) (ids.Sha1 by) is.0 is.1) refl
+choice_of-spelled (Replacement (ids.Sha1 id) (ids.Sha256 by)) is = absurd is.1
+choice_of-spelled (Replacement (ids.Sha256 id) by) is = absurd is.0
+choice_of-spelled (Slots slots) is = rw (number_below-is (2 ^ 16) (decimal slots) slots (number_of-decimal slots (omega arith)) is) refl
+choice_of-spelled (Limit bytes) is = rw (number_of-decimal bytes is) refl
+
+built : (choice : Choice) → IsChoice choice → is_unbuilt_option (spelled choice) ≡ false
+built (Folder path) is = refl
+built (Replacement (ids.Sha1 id) (ids.Sha1 by)) is =
+    rw (first_is (ids.Sha1 id) (ids.Sha1 by) is.0 is.1, second_is (ids.Sha1 id) (ids.Sha1 by) is.0 is.1) refl
+built (Replacement (ids.Sha1 id) (ids.Sha256 by)) is = absurd is.1
+built (Replacement (ids.Sha256 id) by) is = absurd is.0
+built (Slots slots) is = refl
+built (Limit bytes) is = refl
+
+all_built : (choices : List Choice) → AreChoices choices → list_any is_unbuilt_option (map spelled choices) ≡ false
+all_built [] are = refl
+all_built (choice ∷ choices) are = rw (built choice are.0, all_built choices are.1) refl
+
+-- ---- what options choose together
+
+abbrev pub with_all : Chosen → List Choice → Chosen
+with_all chosen [] = chosen
+with_all chosen (choice ∷ choices) = with_all (with_choice chosen choice) choices
+
+-- options that are spelled are chosen one after the other
+pub chosen_by-spelled : (choices : List Choice) (chosen : Chosen) → AreChoices choices → chosen_by (map spelled choices) chosen ≡ Some (with_all chosen choices)
+unfolding chosen_by
+chosen_by-spelled [] chosen are = refl
+chosen_by-spelled (choice ∷ choices) chosen are =
+    ap (with_next (chosen_by (map spelled choices)) chosen) (choice_of-spelled choice are.0) ∙ chosen_by-spelled choices (with_choice chosen choice) are.1
+
+-- without an option that gives slots there are none
+kept_slots : (choices : List Choice) (chosen : Chosen) → list_any gives_slots (map spelled choices) ≡ false → (with_all chosen choices).slots ≡ chosen.slots
+kept_slots [] chosen none = refl
+kept_slots (Folder path ∷ choices) chosen none = kept_slots choices (with_choice chosen (Folder path)) none
+kept_slots (Replacement id by ∷ choices) chosen none = kept_slots choices (with_choice chosen (Replacement id by)) none
+kept_slots (Slots slots ∷ choices) chosen none = absurd (cc none)
+kept_slots (Limit bytes ∷ choices) chosen none = kept_slots choices (with_choice chosen (Limit bytes)) none
+
+given : (choices : List Choice) (slots : ℕ) → (with_all nothing_chosen choices).slots ≡ Some slots → list_any gives_slots (map spelled choices) ≡ true
+given choices slots e = by_test (list_any gives_slots (map spelled choices)) refl
+  where
+    by_test : (b : Bool) → list_any gives_slots (map spelled choices) ≡ b → b ≡ true
+    by_test true _ = refl
+    by_test false none = absurd (cc (kept_slots choices nothing_chosen none, e))
+
+-- an opening that is spelled is read with what its options choose
+pub item_of-open : (handle : ℕ) (path : Path) (choices : List Choice) (slots : ℕ) → handle < 2 ^ 32 → list_all is_name path ≡ true → AreChoices choices → (with_all nothing_chosen choices).slots ≡ Some slots → AreFields (text_of path ∷ map spelled choices) → item_of (line_of (codes "open" ∷ decimal handle ∷ text_of path ∷ map spelled choices)) ≡ opening_at handle path (with_all nothing_chosen choices) (Some slots)
+unfolding word_of line_item open_of
+item_of-open handle path choices slots small names are some fields =
+    item_of-line_of 111 (codes "pen") (decimal handle ∷ text_of path ∷ map spelled choices) refl (IsField-word (codes "open") refl refl, (IsField-decimal handle (omega arith), fields))
+    ∙ rw (all_built choices are, given choices slots some, handle_of-decimal handle small, path_of-text_of path names, chosen_by-spelled choices nothing_chosen are, some) refl

@@ -1,0 +1,127 @@
+-- The opening of a store as fields, of which the last are options.
+use Rattle.std.specs.Prelude.{ℕ, ◌^◌, ◌==◌, ◌&&◌, ◌||◌, Bool, true, false, not, List, [], ◌∷◌, ◌++◌, codes, Option, Some, None, if◌then◌else◌}
+use Rattle.std.specs.List.{list_any, before_first, after_first}
+use Rattle.std.specs.Option.{option_map}
+use Rattle.odb_base.specs.Decimal.{number_of, number_below}
+use Rattle.odb_base.specs.Path.{Path, path_of, same_name}
+use Rattle.gix_hash.specs.ObjectId.{id_of}
+use Rattle.gix_hash.specs.declared.object_id.ObjectId.{ObjectId}
+use Rattle.gix_hash.specs.declared.object_id.ObjectId.TheVariants as ids
+use Rattle.gix_odb_world.specs.declared.init.Slots.TheVariants.{Given}
+use Rattle.gix_odb_world.specs.declared.step.Step.TheVariants as steps
+use Rattle.gix_odb_world.specs.declared.play.Line.TheVariants.{One}
+use Rattle.odb_script.specs.declared.choice.Choice.{Choice}
+use Rattle.odb_script.specs.declared.choice.Choice.TheVariants as choices
+use Rattle.odb_script.specs.declared.choice.Chosen.{Chosen}
+use Rattle.odb_script.specs.declared.item.Item.{Item}
+use Rattle.odb_script.specs.declared.item.Item.TheVariants as items
+use Rattle.odb_script.specs.Word.{is_one_of}
+
+abbrev pub handle_of : List ℕ → Option ℕ
+handle_of text = number_below (2 ^ 32) text
+
+-- an option is a name, `=` and a value
+abbrev pub has_value : List ℕ → Bool
+has_value option = list_any (λ b. b == 61) option
+
+abbrev pub name_in : List ℕ → List ℕ
+name_in option = before_first (λ b. b == 61) option
+
+abbrev pub value_in : List ℕ → List ℕ
+value_in option = after_first (λ b. b == 61) option
+
+-- the two ids of a value, which `:` splits
+abbrev pub first_id : List ℕ → Option ObjectId
+first_id pair = id_of (before_first (λ b. b == 58) pair)
+
+abbrev pub second_id : List ℕ → Option ObjectId
+second_id pair = id_of (after_first (λ b. b == 58) pair)
+
+-- ---- what isn't built yet
+
+-- an id of 64 digits
+abbrev pub is_long : Option ObjectId → Bool
+is_long None = false
+is_long (Some (ids.Sha1 bytes)) = false
+is_long (Some (ids.Sha256 bytes)) = true
+
+-- names of options
+abbrev pub unbuilt_options : List (List ℕ)
+unbuilt_options = codes "changes" ∷ codes "midx" ∷ codes "hash" ∷ []
+
+-- such an option, or a replacement with an id of 64 digits
+abbrev pub is_unbuilt_choice : List ℕ → List ℕ → Bool
+is_unbuilt_choice name value =
+    is_one_of unbuilt_options name || (same_name name (codes "replace") && (is_long (first_id value) || is_long (second_id value)))
+
+abbrev pub is_unbuilt_option : List ℕ → Bool
+is_unbuilt_option option = has_value option && is_unbuilt_choice (name_in option) (value_in option)
+
+abbrev pub gives_slots : List ℕ → Bool
+gives_slots option = has_value option && same_name (name_in option) (codes "slots")
+
+-- nor is an opening built without slots
+abbrev pub is_unbuilt : List (List ℕ) → Bool
+is_unbuilt options = list_any is_unbuilt_option options || not (list_any gives_slots options)
+
+-- ---- what is chosen
+
+-- an id, and the one that is sought in its place
+abbrev pub replacement : Option ObjectId → Option ObjectId → Option Choice
+replacement None by = None
+replacement (Some id) None = None
+replacement (Some id) (Some by) = Some (choices.Replacement id by)
+
+-- what a name chooses with its value
+abbrev pub named_choice : List ℕ → List ℕ → Option Choice
+named_choice name value =
+    if same_name name (codes "folder") then option_map choices.Folder (path_of value)
+    else if same_name name (codes "replace") then replacement (first_id value) (second_id value)
+    else if same_name name (codes "slots") then option_map choices.Slots (number_below (2 ^ 16) value)
+    else if same_name name (codes "limit") then option_map choices.Limit (number_of value)
+    else None
+
+abbrev pub choice_of : List ℕ → Option Choice
+choice_of option = if has_value option then named_choice (name_in option) (value_in option) else None
+
+-- Each folder and each replacement adds one; of slots and of limits the last counts.
+abbrev pub with_choice : Chosen → Choice → Chosen
+with_choice chosen (choices.Folder path) = record chosen { folders = chosen.folders ++ path ∷ [] }
+with_choice chosen (choices.Replacement id by) = record chosen { replacements = chosen.replacements ++ (id, by) ∷ [] }
+with_choice chosen (choices.Slots slots) = record chosen { slots = Some slots }
+with_choice chosen (choices.Limit bytes) = record chosen { limit = Some bytes }
+
+-- what is chosen before the first option
+abbrev pub nothing_chosen : Chosen
+nothing_chosen = record { folders = []; replacements = []; slots = None; limit = None }
+
+-- what options choose that go on so, after one option
+abbrev pub with_next : (Chosen → Option Chosen) → Chosen → Option Choice → Option Chosen
+with_next further chosen None = None
+with_next further chosen (Some choice) = further (with_choice chosen choice)
+
+-- what options choose one after the other; nothing where one chooses nothing
+unfoldable pub chosen_by : List (List ℕ) → Chosen → Option Chosen
+chosen_by [] chosen = Some chosen
+chosen_by (option ∷ options) chosen = with_next (chosen_by options) chosen (choice_of option)
+
+-- ---- the line
+
+-- an opening by what is chosen; without slots it is refused
+abbrev pub opening_at : ℕ → Path → Chosen → Option ℕ → Item
+opening_at handle path chosen None = items.Refused
+opening_at handle path chosen (Some slots) =
+    items.Play (One (steps.Open handle path chosen.folders chosen.replacements (record { slots = Given slots; alloc_limit_bytes = chosen.limit })))
+
+abbrev pub open_with : Option ℕ → Option Path → Option Chosen → Item
+open_with None path chosen = items.Refused
+open_with (Some handle) None chosen = items.Refused
+open_with (Some handle) (Some path) None = items.Refused
+open_with (Some handle) (Some path) (Some chosen) = opening_at handle path chosen chosen.slots
+
+-- an opening; one that isn't built yet is judged by its options alone
+unfoldable pub open_of : List ℕ → List ℕ → List (List ℕ) → Item
+open_of handle path options =
+    if is_unbuilt options
+    then items.NotBuilt
+    else open_with (handle_of handle) (path_of path) (chosen_by options nothing_chosen)

@@ -1,0 +1,145 @@
+//! What the options of an opening choose.
+ghost use Rattle.std.specs.Prelude.{◌≡◌, ◌^◌, IfOk, IfSome, is_some};
+ghost use Rattle.std.specs.Option.{option_map};
+ghost use Rattle.odb_base.specs.Decimal.{number_of, number_below};
+ghost use Rattle.odb_script.specs.Line.{texts_of};
+ghost use Rattle.odb_script.specs.Opening.{has_value, name_in, value_in, replacement, first_id, second_id, named_choice, choice_of, with_choice, nothing_chosen, chosen_by};
+
+use crate::change::path_of;
+use crate::content::at_colon;
+use crate::item::id_of;
+use gix_hash::ObjectId;
+use gix_odb_world::{IdPairs, PathList};
+use odb_base::{NoMemory, parse_decimal};
+use odb_disk::PathText;
+use std::alloc::Global;
+
+/// What one option chooses.
+#[derive(Drop)]
+pub enum Choice {
+    /// A folder beside the objects directory.
+    Folder(PathText),
+    /// An id, and the one that is sought in its place.
+    Replacement(ObjectId, ObjectId),
+    Slots(u16),
+    /// The most bytes of an object.
+    Limit(u64),
+}
+
+/// What options choose together.
+#[derive(Drop)]
+pub struct Chosen {
+    /// In the order of the options, as the replacements are.
+    pub folders: PathList,
+    pub replacements: IdPairs,
+    pub slots: Option<u16>,
+    /// The most bytes of an object.
+    pub limit: Option<u64>,
+}
+
+/// What options choose, if each of them chooses something.
+#[tactic(auto, unfolding(crate::specs::Opening::chosen_by))]
+pub fn chosen_by(alloc: Global, options: &[&str]) -> Result<Option<Chosen>, NoMemory>
+    ensures { IfOk result (λ chosen. chosen ≡ chosen_by (texts_of options.now) nothing_chosen) }
+{
+    let mut chosen = nothing_chosen(alloc);
+    let mut rest = options;
+    while let [option, more @ ..] = rest {
+        match choice_of(alloc, option)? {
+            Some(choice) => chosen = with_choice(chosen, choice)?,
+            None => return Ok(None),
+        }
+        rest = more;
+    }
+    Ok(Some(chosen))
+}
+
+fn nothing_chosen(alloc: Global) -> Chosen
+    ensures { result ≡ nothing_chosen }
+{
+    Chosen {
+        folders: PathList::new(alloc),
+        replacements: IdPairs::new(alloc),
+        slots: None,
+        limit: None,
+    }
+}
+
+/// What is chosen with one option more: each folder and each replacement adds one; of slots and of limits the last
+/// counts.
+fn with_choice(mut chosen: Chosen, choice: Choice) -> Result<Chosen, NoMemory>
+    ensures { IfOk result (λ more. more ≡ with_choice chosen choice) }
+{
+    match choice {
+        Choice::Folder(path) => chosen.folders.push(path)?,
+        Choice::Replacement(id, by) => chosen.replacements.push((id, by))?,
+        Choice::Slots(slots) => chosen.slots = Some(slots),
+        Choice::Limit(bytes) => chosen.limit = Some(bytes),
+    }
+    Ok(chosen)
+}
+
+fn choice_of(alloc: Global, option: &str) -> Result<Option<Choice>, NoMemory>
+    ensures { IfOk result (λ choice. choice ≡ choice_of option.now) }
+{
+    match name_and_value(option) {
+        Some((name, value)) => named_choice(alloc, name, value),
+        None => Ok(None),
+    }
+}
+
+/// What a name chooses with its value.
+fn named_choice(alloc: Global, name: &str, value: &str) -> Result<Option<Choice>, NoMemory>
+    ensures { IfOk result (λ choice. choice ≡ named_choice name.now value.now) }
+{
+    match name {
+        "folder" => Ok(path_of(alloc, value)?.map(Choice::Folder)),
+        "replace" => {
+            let (id, by) = id_pair(value);
+            Ok(replacement(id, by))
+        }
+        "slots" => Ok(slots(value)),
+        "limit" => Ok(limit(value)),
+        _ => Ok(None),
+    }
+}
+
+fn replacement(id: Option<ObjectId>, by: Option<ObjectId>) -> Option<Choice>
+    ensures { result ≡ replacement id by }
+{
+    match (id, by) {
+        (Some(id), Some(by)) => Some(Choice::Replacement(id, by)),
+        _ => None,
+    }
+}
+
+#[tactic(auto, unfolding(odb_base::specs::Decimal::number_below))]
+fn slots(value: &str) -> Option<Choice>
+    ensures { result ≡ option_map Choice.Slots (number_below (2 ^ 16) value.now) }
+{
+    u16::try_from(parse_decimal(value)?).ok().map(Choice::Slots)
+}
+
+fn limit(value: &str) -> Option<Choice>
+    ensures { result ≡ option_map Choice.Limit (number_of value.now) }
+{
+    parse_decimal(value).map(Choice::Limit)
+}
+
+/// The two ids of a value, which `:` splits, as far as they are ids.
+pub fn id_pair(value: &str) -> (Option<ObjectId>, Option<ObjectId>)
+    ensures first { result.0 ≡ first_id value.now }
+    ensures second { result.1 ≡ second_id value.now }
+{
+    let (id, by) = at_colon(value);
+    (id_of(id), id_of(by))
+}
+
+/// The name of an option and its value, which `=` splits.
+pub fn name_and_value(option: &str) -> Option<(&str, &str)>
+    ensures found { is_some result ≡ has_value option.now }
+    ensures name { IfSome result (λ parts. parts.0.now ≡ name_in option.now) }
+    ensures value { IfSome result (λ parts. parts.1.now ≡ value_in option.now) }
+{
+    option.split_once('=')
+}

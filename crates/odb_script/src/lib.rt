@@ -1,0 +1,23 @@
+//! Scripts: what their lines say, and the disk and the lines to play that they come to.
+//!
+//! `read` reads a script up to the first line that is refused or isn't built, and `item_of` one line. For any bytes both
+//! give what `specs/{Script,Line}.antt` define; the language in words is `docs/SCRIPT.md`.
+//! ```rust
+//! let (disk, lines, ending) = read(alloc, script)?.into_parts(alloc)?;
+//! let play = World::play(alloc, disk, lines.as_slice())?;
+//! ```
+#![tactic(auto)]
+
+mod change;
+mod choice;
+mod content;
+mod item;
+mod objects;
+mod opening;
+mod reader;
+mod word;
+mod write;
+
+pub use item::{Item, item_of};
+pub use reader::{Ending, Reading, SCRIPT_LIMIT, Script, Taken, read};
+pub use word::{Question, Word, change_word_of, word_of};

@@ -1,0 +1,102 @@
+//! Objects and packs as fields of a line spell them.
+ghost use Rattle.std.specs.Prelude.{◌≡◌, ◌++◌, IfOk, IsTrue, codes, map};
+ghost use Rattle.gix_pack.specs.WrittenMultiIndex.{named_seen, CanBeWritten};
+ghost use Rattle.odb_script.specs.Content.{are_few, can_be_written, named_pack_of, object_by, object_of, objects_of, packs_of};
+
+use crate::content::{at_colon, at_equals, data_of, parts_of};
+use gix_object::Kind;
+use gix_pack::{NamedPack, Object, multi_index};
+use odb_base::{ByteList, NoMemory, PathName, Sequence};
+use std::alloc::Global;
+
+/// `KIND:DATA`, by the first colon.
+#[tactic(auto, unfolding(crate::specs::Content::object_of))]
+pub fn object_of(alloc: Global, text: &str) -> Result<Option<Object>, NoMemory>
+    ensures { IfOk result (λ object. object ≡ object_of text.now) }
+{
+    let (kind, bytes) = at_colon(text);
+    let kind = Kind::from_bytes(kind.as_bytes());
+    Ok(object_by(kind, data_of(alloc, bytes)?))
+}
+
+fn object_by(kind: Option<Kind>, bytes: Option<ByteList>) -> Option<Object>
+    ensures { result ≡ object_by kind bytes }
+{
+    match (kind, bytes) {
+        (Some(kind), Some(bytes)) => Some(Object { kind, bytes }),
+        _ => None,
+    }
+}
+
+/// `OBJ,OBJ..`: one object at least.
+#[tactic(auto, unfolding(crate::specs::Content::items_of))]
+pub fn objects_of(alloc: Global, text: &str) -> Result<Option<Sequence<Object>>, NoMemory>
+    ensures { IfOk result (λ objects. objects ≡ objects_of text.now) }
+{
+    let texts = parts_of(alloc, text, ',')?;
+    let mut objects = Sequence::new(alloc);
+    let mut rest = texts.as_slice();
+    while let [text, more @ ..] = rest {
+        match object_of(alloc, text)? {
+            Some(object) => objects.push(object)?,
+            None => return Ok(None),
+        }
+        rest = more;
+    }
+    Ok(Some(objects))
+}
+
+/// `STEM=OBJ,OBJ..`, by the first `=`: the pack whose index is `STEM.idx`.
+#[tactic(auto, unfolding(crate::specs::Content::named_pack_of))]
+fn named_pack_of(alloc: Global, text: &str) -> Result<Option<NamedPack>, NoMemory>
+    ensures { IfOk result (λ pack. pack ≡ named_pack_of text.now) }
+{
+    let (stem, objects) = at_equals(text);
+    match objects_of(alloc, objects)? {
+        Some(objects) => Ok(Some(NamedPack {
+            name: index_name(alloc, stem)?,
+            objects,
+        })),
+        None => Ok(None),
+    }
+}
+
+fn index_name(alloc: Global, stem: &str) -> Result<PathName, NoMemory>
+    ensures { IfOk result (λ name. name ≡ stem.now ++ codes ".idx") }
+{
+    let name = format!(in alloc; "{stem}.idx")?;
+    PathName::new(alloc, name.as_str())
+}
+
+/// `STEM=OBJ,OBJ..;STEM=..`: one pack at least.
+#[tactic(auto, unfolding(crate::specs::Content::items_of))]
+pub fn packs_of(alloc: Global, text: &str) -> Result<Option<Sequence<NamedPack>>, NoMemory>
+    ensures { IfOk result (λ packs. packs ≡ packs_of text.now) }
+{
+    let texts = parts_of(alloc, text, ';')?;
+    let mut packs = Sequence::new(alloc);
+    let mut rest = texts.as_slice();
+    while let [text, more @ ..] = rest {
+        match named_pack_of(alloc, text)? {
+            Some(pack) => packs.push(pack)?,
+            None => return Ok(None),
+        }
+        rest = more;
+    }
+    Ok(Some(packs))
+}
+
+/// Whether a pack can have so many objects.
+pub fn are_few(objects: &[Object]) -> bool
+    ensures { result ≡ are_few objects.now }
+{
+    objects.len() < 1 << 31
+}
+
+/// Whether packs can be in a multi-index.
+pub fn can_be_written(packs: &[NamedPack]) -> bool
+    ensures exact { result ≡ can_be_written (map named_seen packs.now) }
+    ensures allowed { IsTrue result → CanBeWritten (map named_seen packs.now) }
+{
+    multi_index::can_be_written(packs)
+}

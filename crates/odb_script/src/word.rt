@@ -1,0 +1,109 @@
+ghost use Rattle.std.specs.Prelude.{◌≡◌, Some, None, if◌then◌else◌};
+ghost use Rattle.odb_script.specs.Word.{word_of, step_word_of, change_word_of, unbuilt_words, is_one_of};
+
+/// A question about the object of an id.
+#[derive(Clone, Copy, PartialEq, Eq)]
+pub enum Question {
+    Find,
+    Header,
+    Test,
+}
+
+/// A word that says what a line is about.
+#[derive(Clone, Copy, PartialEq, Eq)]
+pub enum Word {
+    Fail,
+    Mkdir,
+    Put,
+    Link,
+    Rename,
+    Remove,
+    Time,
+    Steps,
+    Open,
+    Close,
+    Ignore,
+    /// A call that a question is.
+    Ask(Question),
+    Write,
+    Stream,
+    WriteAs,
+    Turn,
+    Finish,
+    Do,
+    /// A word that isn't built yet.
+    NotBuilt,
+}
+
+/// The word that a line may begin with.
+#[tactic(auto, unfolding(crate::specs::Word::word_of))]
+pub fn word_of(text: &str) -> Option<Word>
+    ensures { result ≡ word_of text.now }
+{
+    match text {
+        "fail" => Some(Word::Fail),
+        "mkdir" => Some(Word::Mkdir),
+        "put" => Some(Word::Put),
+        "link" => Some(Word::Link),
+        "steps" => Some(Word::Steps),
+        _ => step_word_of(text),
+    }
+}
+
+/// The word of a step, or one that isn't built yet, with which a line may begin.
+fn step_word_of(text: &str) -> Option<Word>
+    ensures { result ≡ step_word_of text.now }
+{
+    match text {
+        "open" => Some(Word::Open),
+        "close" => Some(Word::Close),
+        "ignore" => Some(Word::Ignore),
+        "find" => Some(Word::Ask(Question::Find)),
+        "header" => Some(Word::Ask(Question::Header)),
+        "test" => Some(Word::Ask(Question::Test)),
+        "write" => Some(Word::Write),
+        "stream" => Some(Word::Stream),
+        "writeas" => Some(Word::WriteAs),
+        "turn" => Some(Word::Turn),
+        "finish" => Some(Word::Finish),
+        "do" => Some(Word::Do),
+        _ => not_built(is_unbuilt_word(text)),
+    }
+}
+
+/// The word that may follow `do`.
+#[tactic(auto, unfolding(crate::specs::Word::change_word_of))]
+pub fn change_word_of(text: &str) -> Option<Word>
+    ensures { result ≡ change_word_of text.now }
+{
+    match text {
+        "mkdir" => Some(Word::Mkdir),
+        "put" => Some(Word::Put),
+        "link" => Some(Word::Link),
+        "rename" => Some(Word::Rename),
+        "remove" => Some(Word::Remove),
+        "time" => Some(Word::Time),
+        _ => None,
+    }
+}
+
+/// Whether a line may begin with a word that isn't built yet.
+fn is_unbuilt_word(text: &str) -> bool
+    ensures { result ≡ is_one_of unbuilt_words text.now }
+{
+    matches!(
+        text,
+        "ids" | "clone" | "upgrade" | "never" | "prefix" | "locate" | "entry"
+    )
+}
+
+/// The word for what isn't built yet, if a test found one.
+fn not_built(is_unbuilt: bool) -> Option<Word>
+    ensures { result ≡ (if is_unbuilt then Some Word.NotBuilt else None) }
+{
+    if is_unbuilt {
+        Some(Word::NotBuilt)
+    } else {
+        None
+    }
+}

@@ -1,0 +1,117 @@
+//! The writes that lines start.
+ghost use Rattle.std.specs.Prelude.{◌≡◌, Some, IfOk};
+ghost use Rattle.gix_object.specs.Kind.{kind_of_word};
+ghost use Rattle.odb_script.specs.Line.{texts_of, line_item, size_of, write_of, write_under};
+
+use crate::content::data_of;
+use crate::item::{Item, id_of, step_item};
+use crate::opening::handle_of;
+use crate::word::Word;
+use gix_hash::ObjectId;
+use gix_object::Kind;
+use gix_odb_world::{Call, Step};
+use odb_base::{ByteList, NoMemory, parse_decimal};
+use std::alloc::Global;
+
+/// A write of data by the handle, the kind and the data. The size is that of the data.
+#[tactic(auto, unfolding(crate::specs::Line::line_item))]
+pub fn write(alloc: Global, fields: &[&str]) -> Result<Item, NoMemory>
+    ensures { IfOk result (λ item. item ≡ line_item (Some Word.Write) (texts_of fields.now)) }
+{
+    match fields {
+        [handle, kind, data] => {
+            let data = data_of(alloc, data)?;
+            let size = size_of(&data);
+            Ok(write_of(handle_of(handle), kind_of(kind), size, data, None))
+        }
+        _ => Ok(Item::Refused),
+    }
+}
+
+/// A write of data with the size that the line says they have.
+#[tactic(auto, unfolding(crate::specs::Line::line_item))]
+pub fn stream(alloc: Global, fields: &[&str]) -> Result<Item, NoMemory>
+    ensures { IfOk result (λ item. item ≡ line_item (Some Word.Stream) (texts_of fields.now)) }
+{
+    match fields {
+        [handle, kind, size, data] => {
+            let data = data_of(alloc, data)?;
+            let size = parse_decimal(size);
+            Ok(write_of(handle_of(handle), kind_of(kind), size, data, None))
+        }
+        _ => Ok(Item::Refused),
+    }
+}
+
+/// A write of data under an id that the line says they have.
+#[tactic(auto, unfolding(crate::specs::Line::line_item))]
+pub fn writeas(alloc: Global, fields: &[&str]) -> Result<Item, NoMemory>
+    ensures { IfOk result (λ item. item ≡ line_item (Some Word.WriteAs) (texts_of fields.now)) }
+{
+    match fields {
+        [handle, kind, id, data] => {
+            let data = data_of(alloc, data)?;
+            Ok(write_under(handle_of(handle), kind_of(kind), id_of(id), data))
+        }
+        _ => Ok(Item::Refused),
+    }
+}
+
+fn kind_of(word: &str) -> Option<Kind>
+    ensures { result ≡ kind_of_word word.now }
+{
+    Kind::from_bytes(word.as_bytes())
+}
+
+/// How many bytes of data there are.
+fn size_of(bytes: &Option<ByteList>) -> Option<u64>
+    ensures { result ≡ size_of bytes.now }
+{
+    match bytes {
+        Some(bytes) => Some(bytes.len() as u64),
+        None => None,
+    }
+}
+
+/// The start of a write under an id that is known. Ids of 64 digits aren't built yet.
+fn write_under(
+    handle: Option<u32>,
+    kind: Option<Kind>,
+    id: Option<ObjectId>,
+    bytes: Option<ByteList>,
+) -> Item
+    ensures { result ≡ write_under handle kind id bytes }
+{
+    match id {
+        None => Item::Refused,
+        Some(ObjectId::Sha256(_)) => Item::NotBuilt,
+        Some(ObjectId::Sha1(_)) => {
+            let size = size_of(&bytes);
+            write_of(handle, kind, size, bytes, id)
+        }
+    }
+}
+
+/// The start of a write of data, of which a size is said.
+fn write_of(
+    handle: Option<u32>,
+    kind: Option<Kind>,
+    size: Option<u64>,
+    bytes: Option<ByteList>,
+    id: Option<ObjectId>,
+) -> Item
+    ensures { result ≡ write_of handle kind size bytes id }
+{
+    match (handle, kind, size, bytes) {
+        (Some(handle), Some(kind), Some(size), Some(bytes)) => step_item(Step::Start {
+            handle,
+            call: Call::Write {
+                kind,
+                size,
+                bytes,
+                id,
+            },
+        }),
+        _ => Item::Refused,
+    }
+}
