@@ -24,7 +24,7 @@ impl Model for ByteList {
 impl ByteList {
     /// An empty list, which takes no memory.
     pub fn new(alloc: Global) -> ByteList
-        ensures { result ≡ [] }
+        ensures empty { result ≡ [] }
     {
         ByteList {
             bytes: Vec::new(alloc),
@@ -33,14 +33,14 @@ impl ByteList {
 
     /// The bytes of a vector, which becomes the list.
     pub fn from_vec(bytes: Vec<u8>) -> ByteList
-        ensures { result ≡ bytes.items }
+        ensures bytes { result ≡ bytes.items }
     {
         ByteList { bytes }
     }
 
     /// A copy of the bytes of a slice.
     pub fn from_slice(alloc: Global, bytes: &[u8]) -> Result<ByteList, NoMemory>
-        ensures { IfOk result (λ list. list ≡ bytes.now) }
+        ensures bytes { IfOk result (λ list. list ≡ bytes.now) }
     {
         let bytes = bytes.to_vec(alloc)?;
         Ok(ByteList { bytes })
@@ -48,35 +48,35 @@ impl ByteList {
 
     /// The vector of the bytes.
     pub fn into_vec(self) -> Vec<u8>
-        ensures { result.items ≡ self }
+        ensures items { result.items ≡ self }
     {
         self.bytes
     }
 
     /// The bytes as a slice.
     pub fn as_slice(&self) -> &[u8]
-        ensures { result.now ≡ self.now }
+        ensures value { result.now ≡ self.now }
     {
         &self.bytes
     }
 
     /// How many bytes there are.
     pub fn len(&self) -> usize
-        ensures { result ≡ length self.now }
+        ensures len { result ≡ length self.now }
     {
         self.bytes.len()
     }
 
     /// Whether there is no byte.
     pub fn is_empty(&self) -> bool
-        ensures { IsTrue result ↔ (self.now ≡ []) }
+        ensures empty { IsTrue result ↔ (self.now ≡ []) }
     {
         self.bytes.is_empty()
     }
 
     /// The byte at an index, counted from 0, if there is one.
     pub fn get(&self, index: usize) -> Option<u8>
-        ensures { result ≡ slice_get self.now index }
+        ensures value { result ≡ slice_get self.now index }
     {
         self.bytes.get(index).copied()
     }
@@ -101,7 +101,7 @@ impl ByteList {
 
     /// A copy of the list.
     pub fn try_clone(&self, alloc: Global) -> Result<ByteList, NoMemory>
-        ensures { IfOk result (λ list. list ≡ self.now) }
+        ensures copy { IfOk result (λ list. list ≡ self.now) }
     {
         ByteList::from_slice(alloc, &self.bytes)
     }

@@ -17,7 +17,7 @@ pub fn parse_decimal(text: &str) -> Option<u64>
 
 // Whether a text has neither a plus nor a leading zero, which `parse` takes too.
 fn is_plain(text: &[u8]) -> bool
-    ensures { result ≡ (has_no_leading_zero text.now && not (slice_index text.now 0 == 43)) }
+    ensures plain { result ≡ (has_no_leading_zero text.now && not (slice_index text.now 0 == 43)) }
 {
     match text {
         [] => false,

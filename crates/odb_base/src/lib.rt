@@ -9,6 +9,7 @@
 //! ```
 #![tactic(auto)]
 
+mod bad_path;
 mod byte_list;
 mod decimal;
 mod no_memory;
@@ -16,9 +17,10 @@ mod path;
 mod path_name;
 mod sequence;
 
+pub use bad_path::BadPath;
 pub use byte_list::ByteList;
 pub use decimal::parse_decimal;
 pub use no_memory::NoMemory;
-pub use path::{BadPath, PathText};
+pub use path::PathText;
 pub use path_name::PathName;
 pub use sequence::Sequence;

@@ -1,51 +1,16 @@
-ghost use Rattle.std.specs.Prelude.{◌≡◌, ◌↔◌, ◌==◌, false, true, map, drop, [], ◌∷◌, ◌++◌, IfOk, OnOk, IfSome, IsTrue, IsErrOf, None, Some};
+ghost use Rattle.std.specs.Prelude.{◌≡◌, ◌↔◌, ◌==◌, false, map, drop, [], ◌∷◌, ◌++◌, IfOk, OnOk, IfSome, IsTrue, IsErrOf, None, Some};
 ghost use Rattle.std.specs.Option.{option_copied};
 ghost use Rattle.std.specs.List.{slice_split, list_all, starts_with};
 ghost use Rattle.std.specs.String.{string_bytes};
-ghost use Rattle.odb_base.specs.Path.{is_name, extension_of, HasSameFirst};
+ghost use Rattle.odb_base.specs.Path.{HasSameFirst};
 ghost use Rattle.odb_base.specs.JoinedPath.{joined, slashed, head_of};
-ghost use Rattle.odb_base.specs.declared.path.BadPath.TheVariants.{NoMemory as out_of_memory};
 
-use crate::NoMemory;
-use std::alloc::{AllocError, AllocFailed, Global};
+use crate::path_name::{extension_in, is_name};
+use crate::{BadPath, NoMemory};
+use std::alloc::{AllocError, Global};
 use std::cmp::Ordering;
 use std::fmt;
 use std::marker::Model;
-use thiserror::Error;
-
-/// Why a text is no path.
-#[derive(Clone, Copy, Debug, Error)]
-pub enum BadPath {
-    /// The text doesn't begin with `/`, or a name is empty, `.`, `..`, or holds NUL or `/`.
-    #[error("bad path")]
-    Malformed,
-    #[error("out of memory")]
-    NoMemory,
-}
-
-impl From<NoMemory> for BadPath {
-    ghost from_gives = { λ _ e. e ≡ out_of_memory };
-
-    fn from(_: NoMemory) -> Self {
-        BadPath::NoMemory
-    }
-}
-
-impl From<AllocError> for BadPath {
-    ghost from_gives = { λ _ e. e ≡ out_of_memory };
-
-    fn from(_: AllocError) -> Self {
-        BadPath::NoMemory
-    }
-}
-
-impl<T: Drop> From<AllocFailed<T>> for BadPath {
-    ghost from_gives = { λ _ e. e ≡ out_of_memory };
-
-    fn from(_: AllocFailed<T>) -> Self {
-        BadPath::NoMemory
-    }
-}
 
 /// An absolute path: a list of names, none of them empty, `.` or `..`, or with NUL or `/` in it.
 /// The empty list is the root, `/`.
@@ -81,8 +46,8 @@ impl PathText {
 
     /// The path of a text.
     fn of(joined: String) -> PathText
-        requires { IsJoined (string_bytes joined) }
-        ensures { result ≡ names_joined (string_bytes joined) }
+        requires joined { IsJoined (string_bytes joined) }
+        ensures names { result ≡ names_joined (string_bytes joined) }
     {
         let head = head_of(&joined);
         PathText { head, joined }
@@ -106,7 +71,7 @@ impl PathText {
 
     /// The root, which takes no memory.
     pub fn root(alloc: Global) -> PathText
-        ensures { result ≡ [] }
+        ensures empty { result ≡ [] }
     {
         PathText::of(String::new(alloc))
     }
@@ -149,7 +114,7 @@ impl PathText {
 
     /// The path with the names of another behind its own.
     pub fn followed_by(&self, alloc: Global, rest: &PathText) -> Result<PathText, NoMemory>
-        ensures { IfOk result (λ path. path ≡ self.now ++ rest.now) }
+        ensures path { IfOk result (λ path. path ≡ self.now ++ rest.now) }
     {
         let room = self.joined.len().saturating_add(rest.joined.len());
         let mut joined = String::with_capacity(alloc, room)?;
@@ -160,7 +125,7 @@ impl PathText {
 
     /// The directory that the path lies in: the path without its last name. The root lies in none.
     pub fn parent(&self, alloc: Global) -> Result<Option<PathText>, NoMemory>
-        ensures { IfOk result (λ parent. parent ≡ parent_of self.now) }
+        ensures parent { IfOk result (λ parent. parent ≡ parent_of self.now) }
     {
         match self.joined.rsplit_once('\0') {
             None => Ok(None),
@@ -170,7 +135,7 @@ impl PathText {
 
     /// The text of the path: a slash before each name, and `/` for the root.
     pub fn to_text(&self, alloc: Global) -> Result<String, NoMemory>
-        ensures { IfOk result (λ text. string_bytes text ≡ text_of self.now) }
+        ensures text { IfOk result (λ text. string_bytes text ≡ text_of self.now) }
     {
         Ok(format!(in alloc; "{self}")?)
     }
@@ -192,7 +157,7 @@ impl PathText {
         alloc: Global,
         other: &'a PathText,
     ) -> Result<PathText, NoMemory>
-        ensures { IfOk result (λ front. IsCommonFront self.now other.now front) }
+        ensures front { IfOk result (λ front. IsCommonFront self.now other.now front) }
     {
         let own = self.names(alloc)?;
         let its = other.names(alloc)?;
@@ -207,14 +172,14 @@ impl PathText {
 
     /// Whether the path is the root, which has no names.
     pub fn is_root(&self) -> bool
-        ensures { IsTrue result ↔ (self.now ≡ []) }
+        ensures root { IsTrue result ↔ (self.now ≡ []) }
     {
         self.joined.is_empty()
     }
 
     /// Whether the path is another one or lies below it.
     pub fn starts_with(&self, base: &PathText) -> bool
-        ensures { result ≡ starts_with same_name self.now base.now }
+        ensures starts { result ≡ starts_with same_name self.now base.now }
     {
         self.behind(base).is_some()
     }
@@ -232,7 +197,7 @@ impl PathText {
 
     /// What stands in the text behind that of another path.
     fn behind(&self, base: &PathText) -> Option<&str>
-        ensures { IsBehind self.now base.now (option_copied result) }
+        ensures behind { IsBehind self.now base.now (option_copied result) }
     {
         let rest = self.joined.strip_prefix(base.joined.as_str())?;
         if rest.is_empty() {
@@ -246,7 +211,7 @@ impl PathText {
 
     /// The last name; the root has none.
     pub fn file_name(&self) -> Option<&str>
-        ensures { option_copied result ≡ last_name self.now }
+        ensures name { option_copied result ≡ last_name self.now }
     {
         match self.joined.rsplit_once('\0') {
             None => None,
@@ -256,7 +221,7 @@ impl PathText {
 
     /// What follows the last dot of the last name. There is none where no dot is there, or the only one comes first.
     pub fn extension(&self) -> Option<&str>
-        ensures { option_copied result ≡ option_and_then extension_of (last_name self.now) }
+        ensures extension { option_copied result ≡ option_and_then extension_of (last_name self.now) }
     {
         let name = self.file_name()?;
         extension_in(name)
@@ -264,7 +229,7 @@ impl PathText {
 
     /// A copy of the path.
     pub fn try_clone(&self, alloc: Global) -> Result<PathText, NoMemory>
-        ensures { IfOk result (λ path. path ≡ self.now) }
+        ensures copy { IfOk result (λ path. path ≡ self.now) }
     {
         Ok(PathText::of(String::from_str(alloc, &self.joined)?))
     }
@@ -349,7 +314,7 @@ impl fmt::Display for PathText {
 
 /// The number that the first eight bytes of a text are, the first one the highest. Missing bytes count as zeros.
 fn head_of(text: &str) -> u64
-    ensures { result ≡ head_of text.now }
+    ensures head { result ≡ head_of text.now }
 {
     let bytes = text.as_bytes();
     match bytes.first_chunk::<8>() {
@@ -364,7 +329,7 @@ fn head_of(text: &str) -> u64
 
 /// Puts a name behind the text of a path.
 fn push_name(joined: &mut String, name: &str) -> Result<(), AllocError>
-    ensures { OnOk result (string_bytes joined.new ≡ string_bytes joined.old ++ 0 ∷ name.now) }
+    ensures pushed { OnOk result (string_bytes joined.new ≡ string_bytes joined.old ++ 0 ∷ name.now) }
 {
     joined.push('\0')?;
     joined.push_str(name)
@@ -372,21 +337,21 @@ fn push_name(joined: &mut String, name: &str) -> Result<(), AllocError>
 
 /// The parts of a text between slashes.
 fn parts_of<'a>(alloc: Global, text: &'a str) -> Result<Vec<&'a str>, AllocError>
-    ensures { IfOk result (λ parts. map (λ part. part.now) parts.items ≡ slice_split (λ b. b == 47) text.now) }
+    ensures parts { IfOk result (λ parts. map (λ part. part.now) parts.items ≡ slice_split (λ b. b == 47) text.now) }
 {
     text.split('/').collect(alloc)
 }
 
 /// The names of a text in which NULs stand between them.
 fn names_in<'a>(alloc: Global, text: &'a str) -> Result<Vec<&'a str>, AllocError>
-    ensures { IfOk result (λ names. map (λ name. name.now) names.items ≡ slice_split (λ b. b == 0) text.now) }
+    ensures names { IfOk result (λ names. map (λ name. name.now) names.items ≡ slice_split (λ b. b == 0) text.now) }
 {
     text.split('\0').collect(alloc)
 }
 
 /// The name at an index of both lists, if they have the same one there.
 fn same_at<'a>(own: &[&'a str], its: &[&'a str], index: usize) -> Option<&'a str>
-    ensures { HasSameFirst (drop index (map (λ name. name.now) own.now)) (drop index (map (λ name. name.now) its.now)) (option_copied result) }
+    ensures same { HasSameFirst (drop index (map (λ name. name.now) own.now)) (drop index (map (λ name. name.now) its.now)) (option_copied result) }
 {
     let Some(name) = own.get(index) else {
         return None;
@@ -395,26 +360,4 @@ fn same_at<'a>(own: &[&'a str], its: &[&'a str], index: usize) -> Option<&'a str
         return None;
     };
     if name == twin { Some(*name) } else { None }
-}
-
-/// Whether a text is a name.
-#[tactic(auto, unfolding(crate::specs::Path::is_name))]
-pub(crate) fn is_name(text: &str) -> bool
-    ensures { result ≡ is_name text.now }
-{
-    let bytes = text.as_bytes();
-    let reserved = text == "" || text == "." || text == "..";
-    !(reserved || bytes.contains(&0) || bytes.contains(&b'/'))
-}
-
-/// What follows the last dot of a name. There is none where no dot is there, or the only one comes first.
-fn extension_in(name: &str) -> Option<&str>
-    ensures { option_copied result ≡ extension_of name.now }
-{
-    let (before, extension) = name.rsplit_once('.')?;
-    if before.is_empty() {
-        None
-    } else {
-        Some(extension)
-    }
 }

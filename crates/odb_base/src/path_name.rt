@@ -1,7 +1,8 @@
 ghost use Rattle.std.specs.Prelude.{◌≡◌, IfOk};
+ghost use Rattle.std.specs.Option.{option_copied};
+ghost use Rattle.odb_base.specs.Path.{is_name, extension_of};
 
 use crate::NoMemory;
-use crate::path::is_name;
 use std::alloc::Global;
 use std::cmp::Ordering;
 use std::marker::Model;
@@ -22,11 +23,9 @@ impl Model for PathName {
 }
 
 impl PathName {
-    ghost use Rattle.odb_base.specs.Path.{is_name};
-
     /// The name with this text.
     pub fn new(alloc: Global, text: &str) -> Result<PathName, NoMemory>
-        ensures { IfOk result (λ name. name ≡ text.now) }
+        ensures name { IfOk result (λ name. name ≡ text.now) }
     {
         let text = String::from_str(alloc, text)?;
         Ok(PathName { text })
@@ -34,21 +33,21 @@ impl PathName {
 
     /// The text of the name.
     pub fn as_str(&self) -> &str
-        ensures { result.now ≡ self.now }
+        ensures value { result.now ≡ self.now }
     {
         self.text.as_str()
     }
 
     /// Whether it can stand in a path: not empty, not `.` or `..`, and without NUL and `/`.
     pub fn is_name(&self) -> bool
-        ensures { result ≡ is_name self.now }
+        ensures named { result ≡ is_name self.now }
     {
         is_name(self.as_str())
     }
 
     /// A copy of the name.
     pub fn try_clone(&self, alloc: Global) -> Result<PathName, NoMemory>
-        ensures { IfOk result (λ name. name ≡ self.now) }
+        ensures copy { IfOk result (λ name. name ≡ self.now) }
     {
         PathName::new(alloc, self.as_str())
     }
@@ -105,5 +104,27 @@ impl Ord for PathName {
 
     fn cmp(&self, other: &PathName) -> Ordering {
         self.text.as_bytes().cmp(other.text.as_bytes())
+    }
+}
+
+/// Whether a text is a name.
+#[tactic(auto, unfolding(crate::specs::Path::is_name))]
+pub(crate) fn is_name(text: &str) -> bool
+    ensures named { result ≡ is_name text.now }
+{
+    let bytes = text.as_bytes();
+    let reserved = text == "" || text == "." || text == "..";
+    !(reserved || bytes.contains(&0) || bytes.contains(&b'/'))
+}
+
+/// What follows the last dot of a name. There is none where no dot is there, or the only one comes first.
+pub(crate) fn extension_in(name: &str) -> Option<&str>
+    ensures extension { option_copied result ≡ extension_of name.now }
+{
+    let (before, extension) = name.rsplit_once('.')?;
+    if before.is_empty() {
+        None
+    } else {
+        Some(extension)
     }
 }

@@ -24,7 +24,7 @@ impl<T> Model for Sequence<T> {
 impl<T> Sequence<T> {
     /// An empty list, which takes no memory.
     pub fn new(alloc: Global) -> Sequence<T>
-        ensures { result ≡ [] }
+        ensures empty { result ≡ [] }
     {
         Sequence {
             items: Vec::new(alloc),
@@ -33,42 +33,42 @@ impl<T> Sequence<T> {
 
     /// The items of a vector, which becomes the list.
     pub fn from_vec(items: Vec<T>) -> Sequence<T>
-        ensures { result ≡ items.items }
+        ensures items { result ≡ items.items }
     {
         Sequence { items }
     }
 
     /// The vector of the items.
     pub fn into_vec(self) -> Vec<T>
-        ensures { result.items ≡ self }
+        ensures items { result.items ≡ self }
     {
         self.items
     }
 
     /// The items as a slice.
     pub fn as_slice(&self) -> &[T]
-        ensures { result.now ≡ self.now }
+        ensures value { result.now ≡ self.now }
     {
         &self.items
     }
 
     /// How many items there are.
     pub fn len(&self) -> usize
-        ensures { result ≡ length self.now }
+        ensures len { result ≡ length self.now }
     {
         self.items.len()
     }
 
     /// Whether there is no item.
     pub fn is_empty(&self) -> bool
-        ensures { IsTrue result ↔ (self.now ≡ []) }
+        ensures empty { IsTrue result ↔ (self.now ≡ []) }
     {
         self.items.is_empty()
     }
 
     /// The item at an index, counted from 0, if there is one.
     pub fn get(&self, index: usize) -> Option<&T>
-        ensures { option_copied result ≡ slice_get self.now index }
+        ensures value { option_copied result ≡ slice_get self.now index }
     {
         self.items.get(index)
     }

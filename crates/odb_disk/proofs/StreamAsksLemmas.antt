@@ -8,13 +8,11 @@ use Rattle.std.specs.List.{list_any}
 use Rattle.std.specs.Ordering.{eq_by_cmp, nat_cmp}
 use Rattle.odb_base.specs.Path.{Path}
 use Rattle.odb_tree.specs.Tree.{Tree, State, tree_of}
-use Rattle.odb_tree.specs.Tree.Follow.{Refusal}
-use Rattle.odb_tree.specs.Tree.Write.{written}
-use Rattle.odb_disk.specs.Streams.{Streams, IsLeastClosed, AnswersOpen, Opens, Gives, still_gives, is_open, with_opened}
+use Rattle.odb_disk.specs.Streams.{Streams, IsLeastClosed, AnswersOpen, Opens, Gives, still_gives, is_open, with_opened, with_closed}
 use Rattle.odb_tree.specs.Entries.{opened}
 use Rattle.odb_disk.specs.Told.{told_open, told_next}
-use Rattle.odb_disk.specs.Ask.{AnswersAsk, answer_of, answer_in, dir_answer, entry_answer, streams_left, state_told_after, change_of_ask}
-use Rattle.odb_disk.specs.StreamAsks.{is_of_streams, AnswersStreams, OpensAs, GivesAs, greatest_open, least_closed, after_opening, after_taking, streams_after}
+use Rattle.odb_disk.specs.Ask.{TakesLeast, AnswersAsk, answer_of, answer_in, dir_answer, entry_answer, streams_left, state_told_after, change_of_ask}
+use Rattle.odb_disk.specs.StreamAsks.{is_of_streams, AnswersStreams, ClosesAs, OpensAs, GivesAs, greatest_open, least_closed, after_opening, after_taking, streams_after}
 use Rattle.odb_tree.specs.declared.entry.Entry.{Entry}
 use Rattle.odb_tree.specs.declared.disk_error.DiskError.{DiskError}
 use Rattle.odb_tree.specs.declared.disk_error.DiskError.TheVariants as errors
@@ -138,71 +136,97 @@ module _ (t : Tree) (s : Streams) where
   pub streams_left-still : (ask : DiskAsk) (answer : DiskAnswer) → is_of_streams ask ≡ false → s ≡ streams_left t s ask answer
   streams_left-still ask answer still = streams_left-by ask answer (streams_after-still ask still)
 
-  pub told_still : (ask : DiskAsk) (answer : DiskAnswer) → is_of_streams ask ≡ false → AnswersAsk answer (answer_of t ask) → AnswersAsk answer (answer_in t s ask)
-  told_still ask answer still told = subst (AnswersAsk answer) (sym (answer_in-still ask still)) told
-
-module _ (t : Tree) (old new : Streams) (ask : DiskAsk) (answer : DiskAnswer) where
+module _ (s : State) (old new : Streams) where
   -- an opening
-  module _ (path : Path) (r : Result ℕ DiskError) (is : ask ≡ asks.OpenDir path) (told : answer ≡ told_open r) where
-    pub open_answered : AnswersOpen r (opened t path) → IfOk r (λ dir. IsLeastClosed old.open_dirs dir) → AnswersAsk answer (answer_in t old ask)
-    open_answered answered least = subst (λ a. AnswersAsk answer (answer_in t old a)) (sym is) (subst (λ a. AnswersAsk a (dir_answer (least_closed old) (opened t path))) (sym told) (by_result r (opened t path) answered least))
-      where
-        by_result : (q : Result ℕ DiskError) (entries : Result (List Entry) Refusal) → AnswersOpen q entries → IfOk q (λ dir. IsLeastClosed old.open_dirs dir) → AnswersAsk (told_open q) (dir_answer (least_closed old) entries)
-        by_result (Ok dir) (Ok entries) answered least = ap (λ n. answers.Dir n) (sym (least_closed_is old dir least))
-        by_result (Ok dir) (Err refusal) answered least = absurd (cc answered)
-        by_result (Err errors.Absent) entries answered least = ap (dir_answer (least_closed old)) (sym answered)
-        by_result (Err errors.WrongKind) entries answered least = ap (dir_answer (least_closed old)) (sym answered)
-        by_result (Err errors.LinkLoop) entries answered least = ap (dir_answer (least_closed old)) (sym answered)
-        by_result (Err errors.Exists) entries answered least = absurd answered
-        by_result (Err errors.NotEmpty) entries answered least = absurd answered
-        by_result (Err errors.Failed) entries answered least = tt
-        by_result (Err errors.NoMemory) entries answered least = tt
+  open_told : (path : Path) (answer : DiskAnswer) → OpensAs (Some s) path old new answer → TakesLeast old answer → AnswersAsk answer (dir_answer (least_closed old) (opened (tree_of s) path))
+  open_told path (answers.Dir dir) opens least = sym (ap (dir_answer (least_closed old)) opens.fixed ∙ ap (λ n. answers.Dir n) (least_closed_is old dir least))
+  open_told path (answers.Refused errors.Absent) refused least = ap (dir_answer (least_closed old)) (sym refused.1)
+  open_told path (answers.Refused errors.WrongKind) refused least = ap (dir_answer (least_closed old)) (sym refused.1)
+  open_told path (answers.Refused errors.LinkLoop) refused least = ap (dir_answer (least_closed old)) (sym refused.1)
+  open_told path (answers.Refused errors.Exists) refused least = absurd refused.1
+  open_told path (answers.Refused errors.NotEmpty) refused least = absurd refused.1
+  open_told path (answers.Refused errors.Failed) refused least = tt
+  open_told path (answers.Refused errors.NoMemory) refused least = tt
+  open_told path (answers.Meta found) opens least = absurd opens
+  open_told path (answers.File bytes time) opens least = absurd opens
+  open_told path (answers.Entry entry) opens least = absurd opens
+  open_told path answers.End opens least = absurd opens
+  open_told path answers.Done opens least = absurd opens
 
-    pub open_left : (s : State) → tree_of s ≡ t → IfOk r (λ dir. Opens (Some s) path old new dir) → IfOk r (λ dir. IsLeastClosed old.open_dirs dir) → OnErr r (new ≡ old) → new ≡ streams_left t old ask answer
-    open_left s same opens least kept = by_result r opens least kept ∙ ap (streams_left t old (asks.OpenDir path)) (sym told) ∙ ap (λ a. streams_left t old a answer) (sym is)
-      where
-        by_result : (q : Result ℕ DiskError) → IfOk q (λ dir. Opens (Some s) path old new dir) → IfOk q (λ dir. IsLeastClosed old.open_dirs dir) → OnErr q (new ≡ old) → new ≡ streams_left t old (asks.OpenDir path) (told_open q)
-        by_result (Ok dir) opens least kept =
-            opens.streams ∙ ap (λ n. with_opened old n opens.entries) (sym (least_closed_is old dir least))
-            ∙ ap (after_opening old) (sym opens.fixed ∙ ap (λ u. opened u path) same)
-        by_result (Err error) opens least kept = kept
+  open_left : (path : Path) (answer : DiskAnswer) → OpensAs (Some s) path old new answer → TakesLeast old answer → new ≡ streams_left (tree_of s) old (asks.OpenDir path) answer
+  open_left path (answers.Dir dir) opens least = opens.streams ∙ ap (λ n. with_opened old n opens.entries) (sym (least_closed_is old dir least)) ∙ ap (after_opening old) (sym opens.fixed)
+  open_left path (answers.Refused error) refused least = refused.0
+  open_left path (answers.Meta found) opens least = absurd opens
+  open_left path (answers.File bytes time) opens least = absurd opens
+  open_left path (answers.Entry entry) opens least = absurd opens
+  open_left path answers.End opens least = absurd opens
+  open_left path answers.Done opens least = absurd opens
 
   -- the next entry
-  module _ (dir : ℕ) (r : Result (Option Entry) DiskError) (is : ask ≡ asks.NextEntry dir) (told : answer ≡ told_next r) (gives : Gives old new dir r) where
-    pub next_answered : AnswersAsk answer (answer_in t old ask)
-    next_answered = subst (λ a. AnswersAsk answer (answer_in t old a)) (sym is) (subst (λ a. AnswersAsk a (entry_answer (still_gives old dir))) (sym told) (by_result r gives))
-      where
-        by_result : (q : Result (Option Entry) DiskError) → Gives old new dir q → AnswersAsk (told_next q) (entry_answer (still_gives old dir))
-        by_result (Ok (Some entry)) gives = ap entry_answer (sym gives.first)
-        by_result (Ok None) gives = ap entry_answer (sym gives.ended)
-        by_result (Err errors.Absent) gives = ap entry_answer (sym gives.closed)
-        by_result (Err errors.WrongKind) gives = absurd gives
-        by_result (Err errors.LinkLoop) gives = absurd gives
-        by_result (Err errors.Exists) gives = absurd gives
-        by_result (Err errors.NotEmpty) gives = absurd gives
-        by_result (Err errors.Failed) gives = tt
-        by_result (Err errors.NoMemory) gives = tt
+  next_told : (dir : ℕ) (answer : DiskAnswer) → GivesAs old new dir answer → AnswersAsk answer (entry_answer (still_gives old dir))
+  next_told dir (answers.Entry entry) gives = ap entry_answer (sym gives.first)
+  next_told dir answers.End gives = ap entry_answer (sym gives.ended)
+  next_told dir (answers.Refused errors.Absent) gives = ap entry_answer (sym gives.closed)
+  next_told dir (answers.Refused errors.WrongKind) gives = absurd gives
+  next_told dir (answers.Refused errors.LinkLoop) gives = absurd gives
+  next_told dir (answers.Refused errors.Exists) gives = absurd gives
+  next_told dir (answers.Refused errors.NotEmpty) gives = absurd gives
+  next_told dir (answers.Refused errors.Failed) gives = tt
+  next_told dir (answers.Refused errors.NoMemory) gives = tt
+  next_told dir (answers.Meta found) gives = absurd gives
+  next_told dir (answers.File bytes time) gives = absurd gives
+  next_told dir (answers.Dir opened) gives = absurd gives
+  next_told dir answers.Done gives = absurd gives
 
-    pub next_left : new ≡ streams_left t old ask answer
-    next_left = by_result r gives ∙ ap (streams_left t old (asks.NextEntry dir)) (sym told) ∙ ap (λ a. streams_left t old a answer) (sym is)
-      where
-        by_result : (q : Result (Option Entry) DiskError) → Gives old new dir q → new ≡ streams_left t old (asks.NextEntry dir) (told_next q)
-        by_result (Ok (Some entry)) gives = gives.left ∙ ap (after_taking old dir) (sym gives.first)
-        by_result (Ok None) gives = gives.same ∙ ap (after_taking old dir) (sym gives.ended)
-        by_result (Err errors.Absent) gives = gives.same
-        by_result (Err errors.WrongKind) gives = absurd gives
-        by_result (Err errors.LinkLoop) gives = absurd gives
-        by_result (Err errors.Exists) gives = absurd gives
-        by_result (Err errors.NotEmpty) gives = absurd gives
-        by_result (Err errors.Failed) gives = gives
-        by_result (Err errors.NoMemory) gives = gives
+  next_left : (dir : ℕ) (answer : DiskAnswer) → GivesAs old new dir answer → new ≡ streams_left (tree_of s) old (asks.NextEntry dir) answer
+  next_left dir (answers.Entry entry) gives = gives.left ∙ ap (after_taking old dir) (sym gives.first)
+  next_left dir answers.End gives = gives.same ∙ ap (after_taking old dir) (sym gives.ended)
+  next_left dir (answers.Refused errors.Absent) gives = gives.same
+  next_left dir (answers.Refused errors.WrongKind) gives = absurd gives
+  next_left dir (answers.Refused errors.LinkLoop) gives = absurd gives
+  next_left dir (answers.Refused errors.Exists) gives = absurd gives
+  next_left dir (answers.Refused errors.NotEmpty) gives = absurd gives
+  next_left dir (answers.Refused errors.Failed) gives = gives
+  next_left dir (answers.Refused errors.NoMemory) gives = gives
+  next_left dir (answers.Meta found) gives = absurd gives
+  next_left dir (answers.File bytes time) gives = absurd gives
+  next_left dir (answers.Dir opened) gives = absurd gives
+  next_left dir answers.Done gives = absurd gives
 
--- a close
-module _ (ask : DiskAsk) (dir : ℕ) (is : ask ≡ asks.CloseDir dir) where
-  pub closed_answered : (t : Tree) (s : Streams) → answers.Done ≡ answer_in t s ask
+  -- a close
+  closes : (dir : ℕ) (answer : DiskAnswer) → ClosesAs old new dir answer → (answer ≡ answers.Done) × (new ≡ with_closed old dir)
+  closes dir answers.Done closed = (refl, closed)
+  closes dir (answers.Meta found) closed = absurd closed
+  closes dir (answers.File bytes time) closed = absurd closed
+  closes dir (answers.Dir opened) closed = absurd closed
+  closes dir (answers.Entry entry) closed = absurd closed
+  closes dir answers.End closed = absurd closed
+  closes dir (answers.Refused error) closed = absurd closed
+
+  -- ---- every call
+
+  pub told_in : (ask : DiskAsk) (answer : DiskAnswer) → (is_of_streams ask ≡ false → AnswersAsk answer (answer_of (tree_of s) ask)) → AnswersStreams (Some s) old new ask answer → TakesLeast old answer
+      → AnswersAsk answer (answer_in (tree_of s) old ask)
   unfolding answer_of
-  closed_answered t s = ap (answer_in t s) (sym is)
+  told_in (asks.Look path follow) answer still moved least = still refl
+  told_in (asks.Read path) answer still moved least = still refl
+  told_in (asks.OpenDir path) answer still moved least = open_told path answer moved least
+  told_in (asks.NextEntry dir) answer still moved least = next_told dir answer moved
+  told_in (asks.CloseDir dir) answer still moved least = subst (λ a. AnswersAsk a answers.Done) (sym (closes dir answer moved).0) refl
+  told_in (asks.MakeDir path) answer still moved least = still refl
+  told_in (asks.NewFile path) answer still moved least = still refl
+  told_in (asks.Append path bytes) answer still moved least = still refl
+  told_in (asks.Rename from to) answer still moved least = still refl
+  told_in (asks.Remove path) answer still moved least = still refl
 
-  pub closed_written : (s new : State) → Some new ≡ Some s → new ≡ written s (change_of_ask (tree_of s) ask)
-  unfolding change_of_ask
-  closed_written s new kept = let same : new ≡ s = cc in same ∙ ap (λ a. written s (change_of_ask (tree_of s) a)) (sym is)
+  pub left_in : (ask : DiskAsk) (answer : DiskAnswer) → (is_of_streams ask ≡ false → new ≡ old) → AnswersStreams (Some s) old new ask answer → TakesLeast old answer → new ≡ streams_left (tree_of s) old ask answer
+  left_in (asks.Look path follow) answer still moved least = still refl ∙ streams_left-still (tree_of s) old (asks.Look path follow) answer refl
+  left_in (asks.Read path) answer still moved least = still refl ∙ streams_left-still (tree_of s) old (asks.Read path) answer refl
+  left_in (asks.OpenDir path) answer still moved least = open_left path answer moved least
+  left_in (asks.NextEntry dir) answer still moved least = next_left dir answer moved
+  left_in (asks.CloseDir dir) answer still moved least = let c = closes dir answer moved in c.1 ∙ ap (streams_left (tree_of s) old (asks.CloseDir dir)) (sym c.0)
+  left_in (asks.MakeDir path) answer still moved least = still refl ∙ streams_left-still (tree_of s) old (asks.MakeDir path) answer refl
+  left_in (asks.NewFile path) answer still moved least = still refl ∙ streams_left-still (tree_of s) old (asks.NewFile path) answer refl
+  left_in (asks.Append path bytes) answer still moved least = still refl ∙ streams_left-still (tree_of s) old (asks.Append path bytes) answer refl
+  left_in (asks.Rename from to) answer still moved least = still refl ∙ streams_left-still (tree_of s) old (asks.Rename from to) answer refl
+  left_in (asks.Remove path) answer still moved least = still refl ∙ streams_left-still (tree_of s) old (asks.Remove path) answer refl

@@ -1,4 +1,4 @@
-ghost use Rattle.std.specs.Prelude.{◌≡◌, ◌≤◌, ◌↔◌, true, false, Result, IfOk, IfSome};
+ghost use Rattle.std.specs.Prelude.{◌≡◌, ◌≤◌, false, Result, IfOk, IfSome};
 ghost use Rattle.std.specs.Option.{option_map};
 ghost use Rattle.std.specs.Result.{result_ok};
 ghost use Rattle.odb_base.specs.Faults.{Rose};
@@ -64,7 +64,7 @@ pub enum Op {
 impl DiskAsk {
     /// Which call it is.
     pub fn op(&self) -> Op
-        ensures { result ≡ op_of self.now }
+        ensures op { result ≡ op_of self.now }
     {
         match self {
             DiskAsk::Look { .. } => Op::Look,
@@ -83,7 +83,7 @@ impl DiskAsk {
     /// The path that it names: of a rename, its source. A call on an open stream names none: whoever opened the
     /// stream knows the path.
     pub fn path(&self) -> Option<&PathText>
-        ensures { option_map (λ path. path.now) result ≡ path_asked self.now }
+        ensures path { option_map (λ path. path.now) result ≡ path_asked self.now }
     {
         match self {
             DiskAsk::Look { path, .. } => Some(path),
@@ -132,7 +132,7 @@ impl DiskAsk {
 
 impl MemDisk {
     ghost use Rattle.std.specs.Prelude.{OnOk, OnErr};
-    ghost use Rattle.odb_disk.specs.Ask.{answer_in, answer_now, after_ask, after_count, fails_now, state_after, streams_left};
+    ghost use Rattle.odb_disk.specs.Ask.{answer_now, after_ask, after_count};
 
     /// Makes a call that is given as a value. Want of memory is an error, and no answer.
     pub fn carry_out(&mut self, alloc: Global, ask: &DiskAsk) -> Result<DiskAnswer, NoMemory>
@@ -140,37 +140,11 @@ impl MemDisk {
         ensures made { OnOk result (self.new ≡ after_ask self.old ask.now) }
         ensures kept { OnErr result (self.new ≡ after_count self.old ask.now) }
     {
-        let answer = self.answer_to(alloc, ask);
+        let answer = ask.carry_out(alloc, self);
         if ran_out(&answer) {
             return Err(NoMemory);
         }
         Ok(answer)
-    }
-
-    fn answer_to(&mut self, alloc: Global, ask: &DiskAsk) -> DiskAnswer
-        ensures answer { AnswersAsk result (answer_in (tree_of self.old.state) self.old.streams ask.now) }
-        ensures state { self.new.state ≡ state_after self.old.state ask.now result }
-        ensures streams { self.new.streams ≡ streams_left (tree_of self.old.state) self.old.streams ask.now result }
-        ensures counted { self.new.calls ≡ (after_count self.old ask.now).calls }
-        ensures failed { (result ≡ DiskAnswer.Refused DiskError.Failed) ↔ (fails_now self.old ask.now ≡ true) }
-    {
-        match ask {
-            DiskAsk::Look { path, follow } => look_answer(self.look(alloc, path, *follow)),
-            DiskAsk::Read { path } => read_answer(self.read(alloc, path)),
-            DiskAsk::OpenDir { path } => dir_answer(self.open_dir(alloc, path)),
-            DiskAsk::NextEntry { dir } => entry_answer(self.next_entry(alloc, dir)),
-            DiskAsk::CloseDir { dir } => {
-                self.close_dir(*dir);
-                DiskAnswer::Done
-            }
-            DiskAsk::MakeDir { path } => write_answer(self.make_dir(alloc, path)),
-            DiskAsk::NewFile { path } => write_answer(self.new_file(alloc, path)),
-            DiskAsk::Append { path, bytes } => {
-                write_answer(self.append(alloc, path, bytes.as_slice()))
-            }
-            DiskAsk::Rename { from, to } => write_answer(self.rename(alloc, from, to)),
-            DiskAsk::Remove { path } => write_answer(self.remove(alloc, path)),
-        }
     }
 }
 
@@ -181,7 +155,7 @@ pub(crate) fn change_of(
     tree: &Tree,
     ask: &DiskAsk,
 ) -> Result<Option<Change>, NoMemory>
-    ensures { IfOk result (λ change. change ≡ change_of_ask tree.now ask.now) }
+    ensures change { IfOk result (λ change. change ≡ change_of_ask tree.now ask.now) }
 {
     match ask {
         DiskAsk::Look { .. } | DiskAsk::Read { .. } => Ok(None),
@@ -196,7 +170,7 @@ pub(crate) fn change_of(
 
 /// The change that a call would make, by what the tree says of it.
 fn told_change(told: Result<Change, DiskError>) -> Result<Option<Change>, NoMemory>
-    ensures { (told_by_tree : Result ChangeValue Refusal) → Tells told told_by_tree → IfOk result (λ change. change ≡ result_ok told_by_tree) }
+    ensures change { (told_by_tree : Result ChangeValue Refusal) → Tells told told_by_tree → IfOk result (λ change. change ≡ result_ok told_by_tree) }
 {
     match told {
         Ok(change) => Ok(Some(change)),
@@ -207,7 +181,7 @@ fn told_change(told: Result<Change, DiskError>) -> Result<Option<Change>, NoMemo
 
 /// The answer to a look.
 fn look_answer(found: Result<Meta, DiskError>) -> DiskAnswer
-    ensures { result ≡ told_look found }
+    ensures told { result ≡ told_look found }
 {
     match found {
         Ok(meta) => DiskAnswer::Meta(meta),
@@ -217,7 +191,7 @@ fn look_answer(found: Result<Meta, DiskError>) -> DiskAnswer
 
 /// The answer to a read.
 fn read_answer(found: Result<(ByteList, u64), DiskError>) -> DiskAnswer
-    ensures { result ≡ told_read found }
+    ensures told { result ≡ told_read found }
 {
     match found {
         Ok((bytes, time)) => DiskAnswer::File { bytes, time },
@@ -227,7 +201,7 @@ fn read_answer(found: Result<(ByteList, u64), DiskError>) -> DiskAnswer
 
 /// The answer to an opening of a directory.
 fn dir_answer(opened: Result<DirId, DiskError>) -> DiskAnswer
-    ensures { result ≡ told_open opened }
+    ensures told { result ≡ told_open opened }
 {
     match opened {
         Ok(dir) => DiskAnswer::Dir(dir),
@@ -237,7 +211,7 @@ fn dir_answer(opened: Result<DirId, DiskError>) -> DiskAnswer
 
 /// The answer to a call for the next entry of a stream.
 fn entry_answer(given: Result<Option<Entry>, DiskError>) -> DiskAnswer
-    ensures { result ≡ told_next given }
+    ensures told { result ≡ told_next given }
 {
     match given {
         Ok(Some(entry)) => DiskAnswer::Entry(entry),
@@ -248,7 +222,7 @@ fn entry_answer(given: Result<Option<Entry>, DiskError>) -> DiskAnswer
 
 /// The answer to a call that writes.
 fn write_answer(made: Result<(), DiskError>) -> DiskAnswer
-    ensures { result ≡ told_write made }
+    ensures told { result ≡ told_write made }
 {
     match made {
         Ok(()) => DiskAnswer::Done,
@@ -258,7 +232,7 @@ fn write_answer(made: Result<(), DiskError>) -> DiskAnswer
 
 /// Whether memory ran out in a call.
 fn ran_out(answer: &DiskAnswer) -> bool
-    ensures { result ≡ ran_out answer.now }
+    ensures ran_out { result ≡ ran_out answer.now }
 {
     matches!(answer, DiskAnswer::Refused(DiskError::NoMemory))
 }

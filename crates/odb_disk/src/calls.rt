@@ -31,7 +31,7 @@ impl Calls {
 
     /// No calls yet, and none that is to fail.
     pub(crate) fn new(alloc: Global) -> Calls
-        ensures { result ≡ no_calls set.empty }
+        ensures empty { result ≡ no_calls set.empty }
     {
         Calls {
             made: 0,
@@ -42,7 +42,7 @@ impl Calls {
 
     /// No calls yet, of which those with these numbers, counted from 1, are to fail.
     pub(crate) fn with_faults(alloc: Global, calls: &[u64]) -> Result<Calls, NoMemory>
-        ensures { IfOk result (λ c. c ≡ no_calls (set.from_list calls.now)) }
+        ensures listed { IfOk result (λ c. c ≡ no_calls (set.from_list calls.now)) }
     {
         let mut listed = BTreeSet::new(alloc);
         for call in calls {
@@ -57,7 +57,7 @@ impl Calls {
 
     /// Whether the next call is to fail.
     pub(crate) fn next_fails(&self) -> bool
-        ensures { result ≡ next_fails self.now }
+        ensures fails { result ≡ next_fails self.now }
     {
         self.listed.contains(&self.made.saturating_add(1))
     }
@@ -77,21 +77,21 @@ impl Calls {
 
     /// How many calls there were, which stands still at its greatest value.
     pub(crate) fn made(&self) -> u64
-        ensures { result ≡ self.now.made }
+        ensures count { result ≡ self.now.made }
     {
         self.made
     }
 
     /// How many calls failed.
     pub(crate) fn faults(&self) -> u64
-        ensures { result ≡ self.now.faults }
+        ensures count { result ≡ self.now.faults }
     {
         self.faults
     }
 
     /// A copy.
     pub(crate) fn try_clone(&self) -> Result<Calls, NoMemory>
-        ensures { IfOk result (λ copy. copy ≡ self.now) }
+        ensures copy { IfOk result (λ copy. copy ≡ self.now) }
     {
         Ok(Calls {
             made: self.made,

@@ -37,7 +37,7 @@ impl Model for DirStreams {
 impl DirStreams {
     /// No stream is open, and none was.
     pub fn new(alloc: Global) -> DirStreams
-        ensures { result ≡ no_streams }
+        ensures empty { result ≡ no_streams }
     {
         DirStreams {
             lists: BTreeMap::new(alloc),
@@ -62,14 +62,14 @@ impl DirStreams {
 
     /// Takes the next entry of a stream. There is none at its end, and no answer where it isn't open.
     pub fn next(&mut self, dir: &DirId) -> Option<Option<Entry>>
-        ensures { TakesNext self.old self.new dir.now result }
+        ensures takes { TakesNext self.old self.new dir.now result }
     {
         take_entry(&mut self.lists, dir.number())
     }
 
     /// Closes a stream, if it is open.
     pub fn close(&mut self, dir: &DirId)
-        ensures { self.new ≡ with_closed self.old dir.now }
+        ensures closed { self.new ≡ with_closed self.old dir.now }
     {
         let number = dir.number();
         let _ = self.lists.remove(&number);
@@ -78,7 +78,7 @@ impl DirStreams {
 
     /// A copy of the streams.
     pub fn try_clone(&self, alloc: Global) -> Result<DirStreams, NoMemory>
-        ensures { IfOk result (λ copy. copy ≡ self.now) }
+        ensures copy { IfOk result (λ copy. copy ≡ self.now) }
     {
         Ok(DirStreams {
             lists: copied(alloc, &self.lists)?,
@@ -91,7 +91,7 @@ impl DirStreams {
 /// The least number that no open stream has, where each below `from` is that of one. There is none where all numbers
 /// of 64 bits are taken.
 fn least_closed(lists: &BTreeMap<u64, EntryQueue>, from: u64) -> Result<u64, NoMemory>
-    requires { AreOpenBelow (maps.from_entries lists.now.entries) from }
+    requires below { AreOpenBelow (maps.from_entries lists.now.entries) from }
     ensures least { IfOk result (IsLeastClosed (maps.from_entries lists.now.entries)) }
     ensures small { IfOk result (λ number. number + 1 < 2 ^ 64) }
 {
@@ -105,7 +105,7 @@ fn least_closed(lists: &BTreeMap<u64, EntryQueue>, from: u64) -> Result<u64, NoM
 
 /// Takes the next entry of a stream.
 fn take_entry(lists: &mut BTreeMap<u64, EntryQueue>, number: u64) -> Option<Option<Entry>>
-    ensures { TakesNext (lists_only lists.old.entries) (lists_only lists.new.entries) number result }
+    ensures takes { TakesNext (lists_only lists.old.entries) (lists_only lists.new.entries) number result }
 {
     match lists.get_mut(&number) {
         None => None,
@@ -118,7 +118,7 @@ fn copied(
     alloc: Global,
     lists: &BTreeMap<u64, EntryQueue>,
 ) -> Result<BTreeMap<u64, EntryQueue>, NoMemory>
-    ensures { IfOk result (λ copy. lists_only copy.entries ≡ lists_only lists.now.entries) }
+    ensures copy { IfOk result (λ copy. lists_only copy.entries ≡ lists_only lists.now.entries) }
 {
     let mut copy = BTreeMap::new(alloc);
     for (number, entries) in lists {

@@ -35,14 +35,14 @@ impl Model for DirId {
 impl DirId {
     /// The stream with this number.
     pub(crate) fn new(number: u64) -> DirId
-        ensures { result ≡ number }
+        ensures number { result ≡ number }
     {
         DirId { number }
     }
 
     /// The number of the stream.
     pub fn number(&self) -> u64
-        ensures { result ≡ self.now }
+        ensures number { result ≡ self.now }
     {
         self.number
     }

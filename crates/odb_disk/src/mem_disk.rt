@@ -42,14 +42,14 @@ impl MemDisk {
 
     /// The root alone, device 0, inode number 1, and no call that is to fail.
     pub fn new(alloc: Global) -> Result<MemDisk, NoMemory>
-        ensures { IfOk result (λ disk. disk ≡ new_volume set.empty) }
+        ensures bare { IfOk result (λ disk. disk ≡ new_volume set.empty) }
     {
         MemDisk::with_faults(alloc, &[])
     }
 
     /// A new disk whose calls with these numbers, counted from 1, fail.
     pub fn with_faults(alloc: Global, calls: &[u64]) -> Result<MemDisk, NoMemory>
-        ensures { IfOk result (λ disk. disk ≡ new_volume (set.from_list calls.now)) }
+        ensures bare { IfOk result (λ disk. disk ≡ new_volume (set.from_list calls.now)) }
     {
         Ok(MemDisk {
             tree: Tree::bare(alloc)?,
@@ -70,14 +70,14 @@ impl MemDisk {
 
     /// Whether a change is possible now.
     pub fn is_possible(&self, alloc: Global, change: &Change) -> Result<bool, NoMemory>
-        ensures { IfOk result (λ possible. possible ≡ is_possible self.now.state change.now) }
+        ensures possible { IfOk result (λ possible. possible ≡ is_possible self.now.state change.now) }
     {
         self.tree.is_possible(alloc, change)
     }
 
     /// The change that a call would make now, if it would make one and doesn't fail.
     pub fn change_of(&self, alloc: Global, ask: &DiskAsk) -> Result<Option<Change>, NoMemory>
-        ensures { IfOk result (λ change. change ≡ change_of_ask (tree_of self.now.state) ask.now) }
+        ensures change { IfOk result (λ change. change ≡ change_of_ask (tree_of self.now.state) ask.now) }
     {
         change_of(alloc, &self.tree, ask)
     }
@@ -92,21 +92,21 @@ impl MemDisk {
 
     /// The number of calls so far, which stands still at its greatest value.
     pub fn calls(&self) -> u64
-        ensures { result ≡ self.now.calls.made }
+        ensures count { result ≡ self.now.calls.made }
     {
         self.calls.made()
     }
 
     /// How many calls have failed so far.
     pub fn faults(&self) -> u64
-        ensures { result ≡ self.now.calls.faults }
+        ensures count { result ≡ self.now.calls.faults }
     {
         self.calls.faults()
     }
 
     /// A copy of the disk: its tree, its open streams, its counts and the calls that are to fail.
     pub fn try_clone(&self, alloc: Global) -> Result<MemDisk, NoMemory>
-        ensures { IfOk result (λ disk. disk ≡ self.now) }
+        ensures copy { IfOk result (λ disk. disk ≡ self.now) }
     {
         Ok(MemDisk {
             tree: self.tree.try_clone(alloc)?,
@@ -132,16 +132,8 @@ impl MemDisk {
 }
 
 impl Disk for MemDisk {
-    ghost use Rattle.std.specs.Prelude.{◌≡◌, ◌↔◌, true, Some, Err, IfOk, IfSome, OnOk, OnErr};
-    ghost use Rattle.std.specs.Result.{result_ok};
-    ghost use Rattle.odb_tree.specs.Tree.{IsTree, State, tree_of};
-    ghost use Rattle.odb_tree.specs.Tree.Follow.{looked, read_of};
-    ghost use Rattle.odb_tree.specs.Tree.Write.{change_of_make_dir, change_of_new_file, change_of_append, change_of_rename, change_of_remove, done, written};
-    ghost use Rattle.odb_disk.specs.Disk.{FailsOnlyByFault};
-    ghost use Rattle.odb_tree.specs.Answers.{Answers, AnswersWrite};
-    ghost use Rattle.odb_disk.specs.MemDisk.{after_call, next_fails};
-    ghost use Rattle.odb_disk.specs.Streams.{IsLeastClosed, AnswersOpen, Opens, Gives, with_closed};
-    ghost use Rattle.odb_tree.specs.Entries.{opened};
+    ghost use Rattle.std.specs.Prelude.{Some};
+    ghost use Rattle.odb_disk.specs.Ask.{IsCounted};
 
     ghost state = { λ disk. Some disk.state };
 
@@ -149,15 +141,9 @@ impl Disk for MemDisk {
 
     ghost faults = { λ disk. disk.calls.faults };
 
-    fn look(&mut self, alloc: Global, path: &PathText, follow: bool) -> Result<Meta, DiskError>
-        ensures answer { Answers result (looked (tree_of self.old.state) path.now follow) }
-        ensures tree { IsTree (tree_of self.old.state) }
-        ensures kept { Some self.new.state ≡ Some self.old.state }
-        ensures streams { self.new.streams ≡ self.old.streams }
-        ensures cause { FailsOnlyByFault self.old.calls.faults self.new.calls.faults result }
-        ensures counted { self.new ≡ after_call self.old }
-        ensures failed { (result ≡ Err DiskError.Failed) ↔ (next_fails self.old ≡ true) }
-    {
+    ghost answered = { IsCounted };
+
+    fn look(&mut self, alloc: Global, path: &PathText, follow: bool) -> Result<Meta, DiskError> {
         let failed = self.count();
         let tree = &self.tree;
         if failed {
@@ -166,15 +152,7 @@ impl Disk for MemDisk {
         tree.look(alloc, path, follow)
     }
 
-    fn read(&mut self, alloc: Global, path: &PathText) -> Result<(ByteList, u64), DiskError>
-        ensures answer { Answers result (read_of (tree_of self.old.state) path.now) }
-        ensures tree { IsTree (tree_of self.old.state) }
-        ensures kept { Some self.new.state ≡ Some self.old.state }
-        ensures streams { self.new.streams ≡ self.old.streams }
-        ensures cause { FailsOnlyByFault self.old.calls.faults self.new.calls.faults result }
-        ensures counted { self.new ≡ after_call self.old }
-        ensures failed { (result ≡ Err DiskError.Failed) ↔ (next_fails self.old ≡ true) }
-    {
+    fn read(&mut self, alloc: Global, path: &PathText) -> Result<(ByteList, u64), DiskError> {
         let failed = self.count();
         let tree = &self.tree;
         if failed {
@@ -183,17 +161,7 @@ impl Disk for MemDisk {
         tree.read(alloc, path)
     }
 
-    fn open_dir(&mut self, alloc: Global, path: &PathText) -> Result<DirId, DiskError>
-        ensures answer { AnswersOpen result (opened (tree_of self.old.state) path.now) }
-        ensures opened { IfOk result (λ dir. Opens (Some self.old.state) path.now self.old.streams self.new.streams dir) }
-        ensures refused { OnErr result (self.new.streams ≡ self.old.streams) }
-        ensures tree { IsTree (tree_of self.old.state) }
-        ensures kept { Some self.new.state ≡ Some self.old.state }
-        ensures cause { FailsOnlyByFault self.old.calls.faults self.new.calls.faults result }
-        ensures least { IfOk result (λ dir. IsLeastClosed self.old.streams.open_dirs dir) }
-        ensures counted { self.new.calls ≡ (after_call self.old).calls }
-        ensures failed { (result ≡ Err DiskError.Failed) ↔ (next_fails self.old ≡ true) }
-    {
+    fn open_dir(&mut self, alloc: Global, path: &PathText) -> Result<DirId, DiskError> {
         if self.count() {
             return Err(DiskError::Failed);
         }
@@ -201,14 +169,7 @@ impl Disk for MemDisk {
         Ok(self.streams.open(entries)?)
     }
 
-    fn next_entry(&mut self, _alloc: Global, dir: &DirId) -> Result<Option<Entry>, DiskError>
-        ensures gives { Gives self.old.streams self.new.streams dir.now result }
-        ensures tree { IsTree (tree_of self.old.state) }
-        ensures kept { Some self.new.state ≡ Some self.old.state }
-        ensures cause { FailsOnlyByFault self.old.calls.faults self.new.calls.faults result }
-        ensures counted { self.new.calls ≡ (after_call self.old).calls }
-        ensures failed { (result ≡ Err DiskError.Failed) ↔ (next_fails self.old ≡ true) }
-    {
+    fn next_entry(&mut self, _alloc: Global, dir: &DirId) -> Result<Option<Entry>, DiskError> {
         if self.count() {
             return Err(DiskError::Failed);
         }
@@ -218,90 +179,39 @@ impl Disk for MemDisk {
         Ok(next)
     }
 
-    fn close_dir(&mut self, dir: DirId)
-        ensures closed { self.new.streams ≡ with_closed self.old.streams dir }
-        ensures tree { IsTree (tree_of self.old.state) }
-        ensures kept { Some self.new.state ≡ Some self.old.state }
-        ensures faults { self.new.calls.faults ≡ self.old.calls.faults }
-        ensures counted { self.new.calls ≡ self.old.calls }
-    {
+    fn close_dir(&mut self, dir: DirId) {
         self.streams.close(&dir);
     }
 
-    fn make_dir(&mut self, alloc: Global, path: &PathText) -> Result<(), DiskError>
-        ensures answer { AnswersWrite result (done (change_of_make_dir (tree_of self.old.state) path.now)) }
-        ensures tree { IsTree (tree_of self.old.state) }
-        ensures made { OnOk result (Some self.new.state ≡ Some (written self.old.state (result_ok (change_of_make_dir (tree_of self.old.state) path.now)))) }
-        ensures kept { OnErr result (Some self.new.state ≡ Some self.old.state) }
-        ensures streams { self.new.streams ≡ self.old.streams }
-        ensures cause { FailsOnlyByFault self.old.calls.faults self.new.calls.faults result }
-        ensures counted { self.new.calls ≡ (after_call self.old).calls }
-        ensures failed { (result ≡ Err DiskError.Failed) ↔ (next_fails self.old ≡ true) }
-    {
+    fn make_dir(&mut self, alloc: Global, path: &PathText) -> Result<(), DiskError> {
         if self.count() {
             return Err(DiskError::Failed);
         }
         self.tree.make_dir(alloc, path)
     }
 
-    fn new_file(&mut self, alloc: Global, path: &PathText) -> Result<(), DiskError>
-        ensures answer { AnswersWrite result (done (change_of_new_file (tree_of self.old.state) path.now)) }
-        ensures tree { IsTree (tree_of self.old.state) }
-        ensures made { OnOk result (Some self.new.state ≡ Some (written self.old.state (result_ok (change_of_new_file (tree_of self.old.state) path.now)))) }
-        ensures kept { OnErr result (Some self.new.state ≡ Some self.old.state) }
-        ensures streams { self.new.streams ≡ self.old.streams }
-        ensures cause { FailsOnlyByFault self.old.calls.faults self.new.calls.faults result }
-        ensures counted { self.new.calls ≡ (after_call self.old).calls }
-        ensures failed { (result ≡ Err DiskError.Failed) ↔ (next_fails self.old ≡ true) }
-    {
+    fn new_file(&mut self, alloc: Global, path: &PathText) -> Result<(), DiskError> {
         if self.count() {
             return Err(DiskError::Failed);
         }
         self.tree.new_file(alloc, path)
     }
 
-    fn append(&mut self, alloc: Global, path: &PathText, bytes: &[u8]) -> Result<(), DiskError>
-        ensures answer { AnswersWrite result (done (change_of_append (tree_of self.old.state) path.now bytes.now)) }
-        ensures tree { IsTree (tree_of self.old.state) }
-        ensures made { OnOk result (Some self.new.state ≡ Some (written self.old.state (result_ok (change_of_append (tree_of self.old.state) path.now bytes.now)))) }
-        ensures kept { OnErr result (Some self.new.state ≡ Some self.old.state) }
-        ensures streams { self.new.streams ≡ self.old.streams }
-        ensures cause { FailsOnlyByFault self.old.calls.faults self.new.calls.faults result }
-        ensures counted { self.new.calls ≡ (after_call self.old).calls }
-        ensures failed { (result ≡ Err DiskError.Failed) ↔ (next_fails self.old ≡ true) }
-    {
+    fn append(&mut self, alloc: Global, path: &PathText, bytes: &[u8]) -> Result<(), DiskError> {
         if self.count() {
             return Err(DiskError::Failed);
         }
         self.tree.append(alloc, path, bytes)
     }
 
-    fn rename(&mut self, alloc: Global, from: &PathText, to: &PathText) -> Result<(), DiskError>
-        ensures answer { AnswersWrite result (done (change_of_rename (tree_of self.old.state) from.now to.now)) }
-        ensures tree { IsTree (tree_of self.old.state) }
-        ensures made { OnOk result (Some self.new.state ≡ Some (written self.old.state (result_ok (change_of_rename (tree_of self.old.state) from.now to.now)))) }
-        ensures kept { OnErr result (Some self.new.state ≡ Some self.old.state) }
-        ensures streams { self.new.streams ≡ self.old.streams }
-        ensures cause { FailsOnlyByFault self.old.calls.faults self.new.calls.faults result }
-        ensures counted { self.new.calls ≡ (after_call self.old).calls }
-        ensures failed { (result ≡ Err DiskError.Failed) ↔ (next_fails self.old ≡ true) }
-    {
+    fn rename(&mut self, alloc: Global, from: &PathText, to: &PathText) -> Result<(), DiskError> {
         if self.count() {
             return Err(DiskError::Failed);
         }
         self.tree.rename(alloc, from, to)
     }
 
-    fn remove(&mut self, alloc: Global, path: &PathText) -> Result<(), DiskError>
-        ensures answer { AnswersWrite result (done (change_of_remove (tree_of self.old.state) path.now)) }
-        ensures tree { IsTree (tree_of self.old.state) }
-        ensures made { OnOk result (Some self.new.state ≡ Some (written self.old.state (result_ok (change_of_remove (tree_of self.old.state) path.now)))) }
-        ensures kept { OnErr result (Some self.new.state ≡ Some self.old.state) }
-        ensures streams { self.new.streams ≡ self.old.streams }
-        ensures cause { FailsOnlyByFault self.old.calls.faults self.new.calls.faults result }
-        ensures counted { self.new.calls ≡ (after_call self.old).calls }
-        ensures failed { (result ≡ Err DiskError.Failed) ↔ (next_fails self.old ≡ true) }
-    {
+    fn remove(&mut self, alloc: Global, path: &PathText) -> Result<(), DiskError> {
         if self.count() {
             return Err(DiskError::Failed);
         }

@@ -131,7 +131,7 @@ impl MemSource {
 
     /// A source of these bytes, no read of which is to fail.
     pub fn new(bytes: Vec<u8>) -> MemSource
-        ensures { result ≡ record { left = bytes.items; calls = no_calls set.empty } }
+        ensures whole { result ≡ record { left = bytes.items; calls = no_calls set.empty } }
     {
         let calls = Calls::new(*bytes.allocator());
         MemSource {
@@ -143,7 +143,7 @@ impl MemSource {
 
     /// A source of these bytes whose reads with these numbers, counted from 1, fail.
     pub fn with_faults(alloc: Global, bytes: Vec<u8>, calls: &[u64]) -> Result<MemSource, NoMemory>
-        ensures { IfOk result (λ source. source ≡ record { left = bytes.items; calls = no_calls (set.from_list calls.now) }) }
+        ensures whole { IfOk result (λ source. source ≡ record { left = bytes.items; calls = no_calls (set.from_list calls.now) }) }
     {
         let calls = Calls::with_faults(alloc, calls)?;
         Ok(MemSource {
@@ -155,14 +155,14 @@ impl MemSource {
 
     /// The bytes that are left.
     pub fn left(&self) -> &[u8]
-        ensures { result.now ≡ self.now.left }
+        ensures value { result.now ≡ self.now.left }
     {
         &self.bytes[self.taken..]
     }
 
     /// How many reads have failed so far.
     pub fn faults(&self) -> u64
-        ensures { result ≡ self.now.calls.faults }
+        ensures count { result ≡ self.now.calls.faults }
     {
         self.calls.faults()
     }
@@ -250,21 +250,21 @@ impl MemSink {
 
     /// The bytes that were written.
     pub fn bytes(&self) -> &[u8]
-        ensures { result.now ≡ self.now.held }
+        ensures value { result.now ≡ self.now.held }
     {
         &self.bytes
     }
 
     /// The bytes that were written, as a vector.
     pub fn into_bytes(self) -> Vec<u8>
-        ensures { result.items ≡ self.held }
+        ensures items { result.items ≡ self.held }
     {
         self.bytes
     }
 
     /// How many writes have failed so far.
     pub fn faults(&self) -> u64
-        ensures { result ≡ self.now.calls.faults }
+        ensures count { result ≡ self.now.calls.faults }
     {
         self.calls.faults()
     }

@@ -27,14 +27,14 @@ impl<R: Read> StdSource<R> {
 
     /// The reader.
     pub fn into_inner(self) -> R
-        ensures { result ≡ self.inner }
+        ensures inner { result ≡ self.inner }
     {
         self.inner
     }
 
     /// How many reads have failed so far.
     pub fn faults(&self) -> u64
-        ensures { result ≡ self.now.faults }
+        ensures count { result ≡ self.now.faults }
     {
         self.faults
     }
@@ -81,14 +81,14 @@ impl<W: Write> StdSink<W> {
 
     /// The writer.
     pub fn into_inner(self) -> W
-        ensures { result ≡ self.inner }
+        ensures inner { result ≡ self.inner }
     {
         self.inner
     }
 
     /// How many writes have failed so far.
     pub fn faults(&self) -> u64
-        ensures { result ≡ self.now.faults }
+        ensures count { result ≡ self.now.faults }
     {
         self.faults
     }

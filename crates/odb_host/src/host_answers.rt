@@ -22,7 +22,7 @@ pub(crate) fn told_of(found: io::Result<Metadata>) -> Result<Meta, DiskError>
 
 /// What a call of the system answers that tells nothing but its error.
 pub(crate) fn answered(made: io::Result<()>) -> Result<(), DiskError>
-    ensures { result ≡ result_map_both (λ u. u) (λ e. refusal_of (error_kind e)) made }
+    ensures answered { result ≡ result_map_both (λ u. u) (λ e. refusal_of (error_kind e)) made }
 {
     match made {
         Ok(()) => Ok(()),
@@ -33,7 +33,7 @@ pub(crate) fn answered(made: io::Result<()>) -> Result<(), DiskError>
 /// What a call that needs a file makes of what the path leads to. A link is followed, unless something else has just
 /// put it there.
 pub(crate) fn only_file(meta: Meta) -> Result<(), DiskError>
-    ensures { result ≡ only_file meta.kind }
+    ensures only { result ≡ only_file meta.kind }
 {
     match meta.kind {
         Kind::File => Ok(()),
@@ -59,7 +59,7 @@ pub(crate) fn within(
 
 /// What a look tells of a node of the system. One that is no file, directory or link is a fault.
 fn meta_of(metadata: &Metadata) -> Result<Meta, DiskError>
-    ensures { MetaOf metadata.now result }
+    ensures meta { MetaOf metadata.now result }
 {
     let time = time_of(metadata.mtime(), metadata.mtime_nsec());
     let node = Node {
@@ -82,7 +82,7 @@ struct Node {
 
 /// What a look tells of a node of this kind. A directory and a link have no length and no time.
 fn meta_from(kind: Option<Kind>, node: Node) -> Result<Meta, DiskError>
-    ensures { result ≡ meta_from kind node.dev node.ino node.len node.time }
+    ensures meta { result ≡ meta_from kind node.dev node.ino node.len node.time }
 {
     let Some(kind) = kind else {
         return Err(DiskError::Failed);
@@ -102,7 +102,7 @@ fn meta_from(kind: Option<Kind>, node: Node) -> Result<Meta, DiskError>
 
 /// The kind of a node of the system, if it is one of the three.
 fn kind_of(kind: FileType) -> Option<Kind>
-    ensures { result ≡ kind_of kind }
+    ensures kind { result ≡ kind_of kind }
 {
     if kind.is_file() {
         Some(Kind::File)
@@ -117,7 +117,7 @@ fn kind_of(kind: FileType) -> Option<Kind>
 
 /// Nanoseconds since 1970, from seconds and the nanoseconds of the last one. An earlier time is 0.
 fn time_of(seconds: i64, nanoseconds: i64) -> u64
-    ensures { result ≡ time_of seconds nanoseconds }
+    ensures time { result ≡ time_of seconds nanoseconds }
 {
     match (u64::try_from(seconds), u64::try_from(nanoseconds)) {
         (Ok(seconds), Ok(nanoseconds)) => seconds
@@ -129,7 +129,7 @@ fn time_of(seconds: i64, nanoseconds: i64) -> u64
 
 /// The refusal that an error of the system is. The system fails where it is another error than these.
 pub(crate) fn refusal_of(kind: ErrorKind) -> DiskError
-    ensures { result ≡ refusal_of kind }
+    ensures refusal { result ≡ refusal_of kind }
 {
     match kind {
         ErrorKind::NotFound => DiskError::Absent,

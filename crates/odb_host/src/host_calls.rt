@@ -10,7 +10,7 @@ use std::rt::Files;
 
 /// Looks at a path. A link in the last place is followed where `follow` is set.
 pub(crate) fn look_at<R: Files>(rt: &R, path: &str, follow: bool) -> Result<Meta, DiskError>
-    ensures { IfOk result (λ meta. meta.kind ≢ Kind.File → (meta.len ≡ 0) × (meta.time ≡ 0)) }
+    ensures bare { IfOk result (λ meta. meta.kind ≢ Kind.File → (meta.len ≡ 0) × (meta.time ≡ 0)) }
 {
     told_of(if follow {
         fs::metadata(rt, path)
@@ -41,7 +41,7 @@ pub(crate) fn append_at<R: Files>(rt: &R, path: &str, bytes: &[u8]) -> Result<()
 
 /// Adds bytes at the end of an open file.
 fn append_to<W: Write + Drop>(file: W, bytes: &[u8]) -> Result<(), DiskError>
-    ensures { IfErr result (λ e. e ≡ DiskError.Failed) }
+    ensures failed { IfErr result (λ e. e ≡ DiskError.Failed) }
 {
     match write_all(&mut StdSink::new(file), bytes) {
         Ok(()) => Ok(()),
@@ -101,7 +101,7 @@ fn open_at<R: Files>(rt: &R, path: &str) -> Result<(R::File, u64), DiskError> {
 
 /// An open file and its time.
 fn with_time<F: OpenFile + Drop>(file: F) -> Result<(F, u64), DiskError>
-    ensures { IfOk result (λ opened. opened.0 ≡ file) }
+    ensures file { IfOk result (λ opened. opened.0 ≡ file) }
 {
     let time = told_of(file.metadata())?.time;
     Ok((file, time))

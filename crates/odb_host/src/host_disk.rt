@@ -55,14 +55,14 @@ impl<R: Files> HostDisk<R> {
 
     /// How many calls have failed so far.
     pub fn faults(&self) -> u64
-        ensures { result ≡ self.now.faults }
+        ensures count { result ≡ self.now.faults }
     {
         self.faults
     }
 
     /// The runtime.
     pub fn into_runtime(self) -> R
-        ensures { result ≡ self.rt }
+        ensures runtime { result ≡ self.rt }
     {
         self.rt
     }
@@ -85,7 +85,7 @@ impl<R: Files> HostDisk<R> {
 
     /// Says whether a stream owes a failure, whatever another one did that had its number.
     fn set_owing(&mut self, number: u64, owes: bool)
-        requires { vec_len self.old.odd + 1 ≤ vec_capacity self.old.odd }
+        requires room { vec_len self.old.odd + 1 ≤ vec_capacity self.old.odd }
         ensures same { (self.new.streams ≡ self.old.streams) × (self.new.faults ≡ self.old.faults) }
         ensures owes { owes_failure self.new.odd.items number ≡ owes }
         ensures others { OthersOwe number self.old.odd.items self.new.odd.items }

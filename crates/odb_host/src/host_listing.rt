@@ -38,7 +38,7 @@ pub(crate) struct Listing {
 impl Listing {
     /// Nothing.
     pub(crate) fn new(alloc: Global) -> Listing
-        ensures { result ≡ bare_listing }
+        ensures bare { result ≡ bare_listing }
     {
         Listing {
             entries: EntryQueue::new(alloc),
@@ -53,7 +53,7 @@ impl Listing {
         read: io::Result<DirEntry<R, A>>,
         most: usize,
     ) -> Result<(), DiskError>
-        ensures { Takes read most self.old self.new result }
+        ensures takes { Takes read most self.old self.new result }
     {
         self.add_found(found_of(alloc, read))?;
         if self.entries.len() > most {
@@ -148,7 +148,7 @@ fn found_of<R: Files + Drop, A: Allocator + Drop>(
     alloc: Global,
     read: io::Result<DirEntry<R, A>>,
 ) -> Result<Found, Unnamed>
-    ensures { IsFoundIn read result }
+    ensures found { IsFoundIn read result }
 {
     match read {
         Ok(entry) => match PathName::new(alloc, entry.file_name()) {

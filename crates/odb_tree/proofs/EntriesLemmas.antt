@@ -25,7 +25,7 @@ use Rattle.odb_tree.specs.declared.node.Content.{Content}
 use Rattle.odb_tree.specs.declared.node.Content.TheVariants.{File, Dir, Link}
 use Rattle.odb_tree.proofs.TreeLemmas.Change.{name_in-path}
 use Rattle.odb_tree.proofs.NamesLemmas.{before_names}
-use Rattle.odb_tree.proofs.WriteCallsLemmas.{led_to}
+use Rattle.odb_tree.proofs.WriteCallsLemmas.Spots.{led_to}
 
 abbrev pub Nodes : Type 0
 Nodes = List (Path × Node)

@@ -3,6 +3,8 @@ pub mod Numbers
 pub mod Follow
 pub mod Moved
 pub mod Change
+pub mod Possible
+pub mod Put
 pub mod MovedTree
 pub mod Changed
 pub mod Write

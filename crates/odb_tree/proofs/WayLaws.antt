@@ -19,7 +19,7 @@ use Rattle.odb_tree.proofs.TreeLemmas.Moved.{begins}
 use Rattle.odb_tree.proofs.TreeLemmas.Change.{root_lies_nowhere, nil_names}
 use Rattle.odb_tree.proofs.TreeLemmas.MovedTree.{file_no_directory, nothing_below}
 use Rattle.odb_tree.proofs.TreeLemmas.Write.{spot_lies, vacant_at, movable_at, file_at, leads_to_itself}
-use Rattle.odb_tree.proofs.WriteCallsLemmas.{other_nil}
+use Rattle.odb_tree.proofs.WriteCallsLemmas.Spots.{other_nil}
 use Rattle.odb_tree.proofs.WriteLaws.{at_place, touches, untouched}
 use Rattle.odb_tree.proofs.WayLemmas.Alike.{outline, same_place}
 use Rattle.odb_tree.proofs.WayLemmas.Trod.{followed_trod}

@@ -3,4 +3,5 @@ pub mod Alike
 pub mod Further
 pub mod Trod
 pub mod Spots
+pub mod Fronts
 pub mod Stops

@@ -21,7 +21,7 @@ use Rattle.odb_tree.proofs.TreeLemmas.Changed.{IsTree-changed, made-rename, made
 use Rattle.odb_tree.proofs.TreeLemmas.Moved.{moved_target}
 use Rattle.odb_tree.proofs.TreeLemmas.MovedTree.{file_lies, file_no_directory}
 use Rattle.odb_tree.proofs.TreeLemmas.Write.{found_by, spot_lies, vacant_at, replaceable_at, file_at, append_possible}
-use Rattle.odb_tree.proofs.WriteCallsLemmas.{change_of_append-is, change_of_remove-is}
+use Rattle.odb_tree.proofs.WriteCallsLemmas.Changes.{change_of_append-is, change_of_remove-is}
 use Rattle.odb_tree.proofs.WriteLaws.{read_at, read_at_spot, append_read}
 use Rattle.odb_tree.proofs.WayLemmas.Alike.{outline_content, outline}
 use Rattle.odb_tree.proofs.WayLemmas.Spots.{named_in, file_spot_alike, spot_alike, file_no_link}
@@ -180,7 +180,7 @@ module _ (t : Tree) (other : Path) (more : List ℕ) where
 -- a path that leads to the file reads the piece behind what it read before
 pub append_read_through : (t : Tree) → IsTree t → (path s : Path) → file_spot t path ≡ Ok s → (bytes more : List ℕ) (time : ℕ) → read_of t path ≡ Ok (bytes, time) → read_of (changed t (Append s more)) path ≡ Ok (bytes ++ more, time)
 append_read_through t is_tree path s is bytes more time old =
-    let possible = append_possible t is_tree path (Append s more) more (change_of_append-is t t path s more is) in
+    let possible = append_possible t is_tree path (Append s more) more (change_of_append-is t path s more is) in
     read_at_spot (changed t (Append s more)) (IsTree-changed t (Append s more) is_tree possible) path s (append_file_spot t s more path ∙ is)
     ∙ append_read t is_tree path s is bytes more time (sym (read_at_spot t is_tree path s is) ∙ old)
 
@@ -225,4 +225,4 @@ module _ (t : Tree) (is_tree : IsTree t) (path r : Path) (is : spot t path ≡ O
       (c.1, c.3, c.4 ∙ ap (λ s. Rename s c.1) same)
 
   pub file_removed : change_of_remove t path ≡ Ok (Remove r)
-  file_removed = change_of_remove-is t t path r (movable_removable t is_tree path r (file_movable t is_tree path r is file))
+  file_removed = change_of_remove-is t path r (movable_removable t is_tree path r (file_movable t is_tree path r is file))

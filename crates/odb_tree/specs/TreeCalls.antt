@@ -1,5 +1,5 @@
 -- What the steps of following a path answer. No public clause cites this.
-use Rattle.std.specs.Prelude.{◌≡◌, false, IsSome, ℕ, Result, Ok, Err, Option, Some, None}
+use Rattle.std.specs.Prelude.{◌≡◌, false, IsSome, Result, Ok, Err, Option, Some, None}
 use Rattle.std.specs.Borrow.{Bor}
 use Rattle.std.specs.Ordering.{is_lt}
 use Rattle.std.specs.declared.cmp.Ordering.TheVariants.{Less}
@@ -9,12 +9,8 @@ use Rattle.odb_tree.specs.Tree.Follow.{Pass, Reached, Onward, Missing, Blocked, 
 use Rattle.odb_tree.specs.declared.change.Impossible.{Impossible}
 use Rattle.odb_tree.specs.declared.change.Impossible.TheVariants as impossible
 use Rattle.odb_tree.specs.declared.node.Node.{Node}
-use Rattle.odb_tree.specs.declared.node.Content.{Content}
-use Rattle.odb_tree.specs.declared.node.Content.TheVariants.{File, Dir, Link}
 use Rattle.odb_tree.specs.declared.disk_error.DiskError.{DiskError}
 use Rattle.odb_tree.specs.declared.disk_error.DiskError.TheVariants as errors
-use Rattle.odb_tree.specs.declared.tree.changes.Standing.{Standing}
-use Rattle.odb_tree.specs.declared.tree.changes.Standing.TheVariants as standings
 use Rattle.odb_tree.specs.declared.tree.follow.Way.{Way}
 use Rattle.odb_tree.specs.declared.tree.follow.Way.TheVariants as ways
 
@@ -54,26 +50,6 @@ Leads (Err errors.NotEmpty) told = ⊥
 Leads (Err errors.Failed) told = ⊥
 Leads (Err errors.NoMemory) told = Unit {0}
 
--- the device of a directory, where there is one
-abbrev pub device_of_content : ℕ → Content → Option ℕ
-device_of_content dev (File bytes time) = None
-device_of_content dev Dir = Some dev
-device_of_content dev (Link target) = None
-
-abbrev pub device_in : Option Node → Option ℕ
-device_in None = None
-device_in (Some node) = device_of_content node.dev node.content
-
--- what stands where a file is put
-abbrev pub standing_content : Content → Standing
-standing_content (File bytes time) = standings.File
-standing_content Dir = standings.Dir
-standing_content (Link target) = standings.Other
-
-abbrev pub standing_of : Option Node → Standing
-standing_of None = standings.Other
-standing_of (Some node) = standing_content node.content
-
 -- the last path with a node that comes before another path, if there is one
 abbrev pub IsLastBefore : Tree → Path → Option Path → Type 0
 IsLastBefore tree path None = (q : Path) → path_cmp q path ≡ Less → node_at tree q ≡ None
@@ -85,7 +61,7 @@ abbrev pub path_of_place : Result Place Refusal → Result Path Refusal
 path_of_place (Ok place) = Ok place.path
 path_of_place (Err refusal) = Err refusal
 
--- why a change isn't made, by the error of the call that makes it
+-- why a change isn't made, by the error of a call that follows its path
 abbrev pub impossible_by : DiskError → Impossible
 impossible_by errors.NoMemory = impossible.NoMemory
 impossible_by error = impossible.Impossible

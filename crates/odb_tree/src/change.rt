@@ -52,7 +52,7 @@ impl Change {
 
     /// A copy of the change.
     pub fn try_clone(&self, alloc: Global) -> Result<Change, NoMemory>
-        ensures { IfOk result (λ copy. copy ≡ self.now) }
+        ensures copy { IfOk result (λ copy. copy ≡ self.now) }
     {
         match self {
             Change::PutFile { path, time, bytes } => put_file(alloc, path, *time, bytes),
@@ -75,7 +75,7 @@ impl Change {
 }
 
 fn put_file(alloc: Global, path: &PathText, time: u64, bytes: &ByteList) -> Result<Change, NoMemory>
-    ensures { IfOk result (λ copy. copy ≡ Change.PutFile path.now time bytes.now) }
+    ensures copy { IfOk result (λ copy. copy ≡ Change.PutFile path.now time bytes.now) }
 {
     let path = path.try_clone(alloc)?;
     let bytes = bytes.try_clone(alloc)?;
@@ -83,7 +83,7 @@ fn put_file(alloc: Global, path: &PathText, time: u64, bytes: &ByteList) -> Resu
 }
 
 fn put_link(alloc: Global, path: &PathText, target: &PathText) -> Result<Change, NoMemory>
-    ensures { IfOk result (λ copy. copy ≡ Change.PutLink path.now target.now) }
+    ensures copy { IfOk result (λ copy. copy ≡ Change.PutLink path.now target.now) }
 {
     let path = path.try_clone(alloc)?;
     let target = target.try_clone(alloc)?;
@@ -91,7 +91,7 @@ fn put_link(alloc: Global, path: &PathText, target: &PathText) -> Result<Change,
 }
 
 fn rename(alloc: Global, from: &PathText, to: &PathText) -> Result<Change, NoMemory>
-    ensures { IfOk result (λ copy. copy ≡ Change.Rename from.now to.now) }
+    ensures copy { IfOk result (λ copy. copy ≡ Change.Rename from.now to.now) }
 {
     let from = from.try_clone(alloc)?;
     let to = to.try_clone(alloc)?;
@@ -99,7 +99,7 @@ fn rename(alloc: Global, from: &PathText, to: &PathText) -> Result<Change, NoMem
 }
 
 fn append(alloc: Global, path: &PathText, bytes: &ByteList) -> Result<Change, NoMemory>
-    ensures { IfOk result (λ copy. copy ≡ Change.Append path.now bytes.now) }
+    ensures copy { IfOk result (λ copy. copy ≡ Change.Append path.now bytes.now) }
 {
     let path = path.try_clone(alloc)?;
     let bytes = bytes.try_clone(alloc)?;

@@ -22,7 +22,7 @@ pub struct Entry {
 impl Entry {
     /// A copy of the entry.
     pub fn try_clone(&self, alloc: Global) -> Result<Entry, NoMemory>
-        ensures { IfOk result (λ copy. copy ≡ self.now) }
+        ensures copy { IfOk result (λ copy. copy ≡ self.now) }
     {
         Ok(Entry {
             name: self.name.try_clone(alloc)?,
@@ -58,7 +58,7 @@ impl Model for EntryQueue {
 impl EntryQueue {
     /// No entries, which takes no memory.
     pub fn new(alloc: Global) -> EntryQueue
-        ensures { result ≡ [] }
+        ensures empty { result ≡ [] }
     {
         EntryQueue {
             entries: VecDeque::new(alloc),
@@ -67,7 +67,7 @@ impl EntryQueue {
 
     /// Adds an entry at the end. A refused call changes nothing.
     pub fn push(&mut self, entry: Entry) -> Result<(), NoMemory>
-        requires { is_name entry.name ≡ true }
+        requires named { is_name entry.name ≡ true }
         ensures ok { OnOk result (self.new ≡ self.old ++ entry ∷ []) }
         ensures err { OnErr result (self.new ≡ self.old) }
     {
@@ -87,14 +87,14 @@ impl EntryQueue {
 
     /// How many entries there are.
     pub fn len(&self) -> usize
-        ensures { result ≡ length self.now }
+        ensures len { result ≡ length self.now }
     {
         self.entries.len()
     }
 
     /// A copy of the entries.
     pub fn try_clone(&self, alloc: Global) -> Result<EntryQueue, NoMemory>
-        ensures { IfOk result (λ copy. copy ≡ self.now) }
+        ensures copy { IfOk result (λ copy. copy ≡ self.now) }
     {
         let mut copy = EntryQueue::new(alloc);
         for entry in &self.entries {

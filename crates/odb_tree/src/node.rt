@@ -23,7 +23,7 @@ impl Content {
 
     /// A copy of the contents.
     pub(crate) fn try_clone(&self, alloc: Global) -> Result<Content, NoMemory>
-        ensures { IfOk result (λ content. content ≡ self.now) }
+        ensures copy { IfOk result (λ content. content ≡ self.now) }
     {
         match self {
             Content::File { bytes, time } => Ok(Content::File {
@@ -46,7 +46,7 @@ impl Node {
 
     /// What a look at the node tells.
     pub fn meta(&self) -> Meta
-        ensures { result ≡ meta_of self.now }
+        ensures meta { result ≡ meta_of self.now }
     {
         let (kind, len, time) = match &self.content {
             Content::File { bytes, time } => (Kind::File, bytes.len() as u64, *time),
@@ -64,21 +64,21 @@ impl Node {
 
     /// Whether it is a directory.
     pub fn is_dir(&self) -> bool
-        ensures { result ≡ is_directory (Some self.now) }
+        ensures directory { result ≡ is_directory (Some self.now) }
     {
         matches!(&self.content, Content::Dir)
     }
 
     /// Whether it is a file.
     pub(crate) fn is_file(&self) -> bool
-        ensures { result ≡ is_file_content self.now.content }
+        ensures file { result ≡ is_file_content self.now.content }
     {
         matches!(&self.content, Content::File { .. })
     }
 
     /// Whether it is a link.
     pub(crate) fn is_link(&self) -> bool
-        ensures { result ≡ is_link_content self.now.content }
+        ensures link { result ≡ is_link_content self.now.content }
     {
         matches!(&self.content, Content::Link(_))
     }
@@ -96,7 +96,7 @@ impl Node {
 
     /// Sets the time of a file.
     pub(crate) fn set_time(&mut self, at: u64)
-        ensures { self.new ≡ record self.old { content = timed at self.old.content } }
+        ensures timed { self.new ≡ record self.old { content = timed at self.old.content } }
     {
         match &mut self.content {
             Content::File { time, .. } => *time = at,
@@ -106,7 +106,7 @@ impl Node {
 
     /// The kind of the node.
     pub(crate) fn kind(&self) -> Kind
-        ensures { result ≡ kind_of self.now.content }
+        ensures kind { result ≡ kind_of self.now.content }
     {
         match &self.content {
             Content::File { .. } => Kind::File,
@@ -117,7 +117,7 @@ impl Node {
 
     /// A copy of the node.
     pub(crate) fn try_clone(&self, alloc: Global) -> Result<Node, NoMemory>
-        ensures { IfOk result (λ node. node ≡ self.now) }
+        ensures copy { IfOk result (λ node. node ≡ self.now) }
     {
         Ok(Node {
             dev: self.dev,

@@ -30,7 +30,7 @@ pub(crate) fn put(
 
 /// Puts other contents into the node at a path.
 pub(crate) fn put_content(nodes: &mut BTreeMap<PathText, Node>, path: &PathText, content: Content)
-    ensures { (node : NodeValue) → node_at (tree_of_entries nodes.old.entries) path.now ≡ Some node
+    ensures made { (node : NodeValue) → node_at (tree_of_entries nodes.old.entries) path.now ≡ Some node
         → tree_of_entries nodes.new.entries ≡ with_node (tree_of_entries nodes.old.entries) path.now (record node { content = content }) }
 {
     if let Some(node) = nodes.get_mut(path) {
@@ -40,7 +40,7 @@ pub(crate) fn put_content(nodes: &mut BTreeMap<PathText, Node>, path: &PathText,
 
 /// Sets the time of the file at a path.
 pub(crate) fn put_time(nodes: &mut BTreeMap<PathText, Node>, path: &PathText, time: u64)
-    ensures { tree_of_entries nodes.new.entries ≡ with_time (tree_of_entries nodes.old.entries) path.now time (node_at (tree_of_entries nodes.old.entries) path.now) }
+    ensures made { tree_of_entries nodes.new.entries ≡ with_time (tree_of_entries nodes.old.entries) path.now time (node_at (tree_of_entries nodes.old.entries) path.now) }
 {
     if let Some(node) = nodes.get_mut(path) {
         node.set_time(time);
@@ -108,7 +108,7 @@ fn make_room(
 
 /// Puts a node over the one at a path.
 fn put_node(nodes: &mut BTreeMap<PathText, Node>, path: &PathText, node: Node)
-    ensures { IsSome (node_at (tree_of_entries nodes.old.entries) path.now)
+    ensures made { IsSome (node_at (tree_of_entries nodes.old.entries) path.now)
         → tree_of_entries nodes.new.entries ≡ with_node (tree_of_entries nodes.old.entries) path.now node }
 {
     if let Some(old) = nodes.get_mut(path) {
@@ -118,15 +118,15 @@ fn put_node(nodes: &mut BTreeMap<PathText, Node>, path: &PathText, node: Node)
 
 /// Takes the node at a path out.
 pub(crate) fn take(nodes: &mut BTreeMap<PathText, Node>, path: &PathText)
-    ensures { tree_of_entries nodes.new.entries ≡ without (tree_of_entries nodes.old.entries) path.now }
+    ensures taken { tree_of_entries nodes.new.entries ≡ without (tree_of_entries nodes.old.entries) path.now }
 {
     let _ = nodes.remove(path);
 }
 
 /// Whether a directory has names in it: the first path behind its own lies below it then.
 pub(crate) fn has_names(nodes: &BTreeMap<PathText, Node>, directory: &PathText) -> bool
-    requires { IsTree (tree_of_entries nodes.now.entries) }
-    ensures { result ≡ not (is_nil (names_in (tree_of_entries nodes.now.entries) directory.now)) }
+    requires is_tree { IsTree (tree_of_entries nodes.now.entries) }
+    ensures names { result ≡ not (is_nil (names_in (tree_of_entries nodes.now.entries) directory.now)) }
 {
     match nodes
         .range((Bound::Excluded(directory), Bound::Unbounded))
@@ -142,7 +142,7 @@ pub(crate) fn path_before<'a>(
     nodes: &'a BTreeMap<PathText, Node>,
     path: &PathText,
 ) -> Option<&'a PathText>
-    ensures { IsLastBefore (tree_of_entries nodes.now.entries) path.now (option_copied result) }
+    ensures last { IsLastBefore (tree_of_entries nodes.now.entries) path.now (option_copied result) }
 {
     match nodes
         .range((Bound::Unbounded, Bound::Excluded(path)))
@@ -155,7 +155,7 @@ pub(crate) fn path_before<'a>(
 
 /// The least number that is free: the least of `free`, else `next`, unless no number can come after it.
 pub(crate) fn least_number(free: &BTreeSet<u64>, next: u64) -> Result<u64, NoMemory>
-    ensures { IfOk result (IsLeastFree free.now.keys next) }
+    ensures least { IfOk result (IsLeastFree free.now.keys next) }
 {
     match free.first() {
         Some(number) => Ok(*number),
@@ -181,7 +181,7 @@ pub(crate) fn free_number(
 
 /// Takes a number that is free, so that it is a node's from now on.
 pub(crate) fn use_number(number: u64, free: &mut BTreeSet<u64>, next: &mut u64)
-    requires { number ≡ next.old → next.old < 2 ^ 64 - 1 }
+    requires room { number ≡ next.old → next.old < 2 ^ 64 - 1 }
     ensures next { next.new ≡ (if number == next.old then next.old + 1 else next.old) }
     ensures used { (n : ℕ) → is_listed free.new.keys n ≡ (if number == next.old then is_listed free.old.keys n else not (number == n) && is_listed free.old.keys n) }
 {
@@ -197,7 +197,7 @@ pub(crate) fn copied(
     alloc: Global,
     nodes: &BTreeMap<PathText, Node>,
 ) -> Result<BTreeMap<PathText, Node>, NoMemory>
-    ensures { IfOk result (λ copy. tree_of_entries copy.entries ≡ tree_of_entries nodes.now.entries) }
+    ensures copy { IfOk result (λ copy. tree_of_entries copy.entries ≡ tree_of_entries nodes.now.entries) }
 {
     let mut copy = BTreeMap::new(alloc);
     for (path, node) in nodes {
@@ -208,7 +208,7 @@ pub(crate) fn copied(
 
 /// A copy of a set of numbers.
 pub(crate) fn copied_numbers(numbers: &BTreeSet<u64>) -> Result<BTreeSet<u64>, NoMemory>
-    ensures { IfOk result (λ copy. copy.keys ≡ numbers.now.keys) }
+    ensures copy { IfOk result (λ copy. copy.keys ≡ numbers.now.keys) }
 {
     Ok(numbers.clone()?)
 }

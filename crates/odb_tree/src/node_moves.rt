@@ -49,7 +49,7 @@ fn paths_below(
     from: &PathText,
     to: &PathText,
 ) -> Result<(Vec<PathText>, Vec<PathText>), NoMemory>
-    requires { IsSome (node_at (tree_of_entries nodes.now.entries) from.now) }
+    requires stands { IsSome (node_at (tree_of_entries nodes.now.entries) from.now) }
     ensures sources { IfOk result (λ paths. ArePathsBelow (tree_of_entries nodes.now.entries) from.now paths.0.items) }
     ensures targets { IfOk result (λ paths. paths.1.items ≡ map (moved_path from.now to.now) paths.0.items) }
 {
@@ -73,7 +73,7 @@ fn add_move(
     from: &PathText,
     to: &PathText,
 ) -> Result<(), NoMemory>
-    requires { starts_with same_name path.now from.now ≡ true }
+    requires below { starts_with same_name path.now from.now ≡ true }
     ensures source { OnOk result (sources.new.items ≡ sources.old.items ++ path.now ∷ []) }
     ensures target { OnOk result (targets.new.items ≡ targets.old.items ++ moved_path from.now to.now path.now ∷ []) }
 {
@@ -88,7 +88,7 @@ pub(crate) fn next_below<'a>(
     base: &PathText,
     last: &PathText,
 ) -> Option<(&'a PathText, &'a Node)>
-    requires { starts_with same_name last.now base.now ≡ true }
+    requires below { starts_with same_name last.now base.now ≡ true }
     ensures next { IfSome result (λ next. IsNextBelow (tree_of_entries nodes.now.entries) base.now last.now next.0.now) }
     ensures node { IfSome result (λ next. node_at (tree_of_entries nodes.now.entries) next.0.now ≡ Some next.1.now) }
     ensures none { IfNone result (NoneBehind (tree_of_entries nodes.now.entries) base.now last.now) }
@@ -109,8 +109,8 @@ pub(crate) fn moved_path(
     from: &PathText,
     to: &PathText,
 ) -> Result<PathText, NoMemory>
-    requires { starts_with same_name path.now from.now ≡ true }
-    ensures { IfOk result (λ moved. moved ≡ moved_path from.now to.now path.now) }
+    requires below { starts_with same_name path.now from.now ≡ true }
+    ensures path { IfOk result (λ moved. moved ≡ moved_path from.now to.now path.now) }
 {
     match path.strip_prefix(alloc, from)? {
         Some(rest) => to.followed_by(alloc, &rest),
@@ -125,7 +125,7 @@ fn put_copies(
     sources: &[PathText],
     targets: &[PathText],
 ) -> Result<(), NoMemory>
-    requires { length targets.now ≡ length sources.now }
+    requires paired { length targets.now ≡ length sources.now }
     ensures made { OnOk result (tree_of_entries nodes.new.entries ≡ with_copies (tree_of_entries nodes.old.entries) sources.now targets.now) }
     ensures others { OnErr result ((q : Path) → is_among q targets.now ≡ false → node_at (tree_of_entries nodes.new.entries) q ≡ node_at (tree_of_entries nodes.old.entries) q) }
 {
@@ -154,7 +154,7 @@ fn put_copy(
 
 /// Takes out what stands at each of these paths.
 fn take_all(nodes: &mut BTreeMap<PathText, Node>, paths: &[PathText])
-    ensures { tree_of_entries nodes.new.entries ≡ without_all (tree_of_entries nodes.old.entries) paths.now }
+    ensures taken { tree_of_entries nodes.new.entries ≡ without_all (tree_of_entries nodes.old.entries) paths.now }
 {
     for path in paths {
         take(nodes, path);

@@ -1,16 +1,16 @@
 use crate::node::{Content, Node};
 use crate::node_map::{
-    append, copied, copied_numbers, free_number, least_number, put, put_content, put_time,
-    use_number,
+    append, copied, copied_numbers, free_number, least_number, put, put_content, use_number,
 };
 use crate::{NoMemory, PathText};
 use std::alloc::Global;
 use std::collections::{BTreeMap, BTreeSet};
 use std::marker::Model;
 
-mod changes;
+mod apply;
 mod follow;
 mod list;
+mod possible;
 mod write;
 
 /// The tree of a disk in memory: what stands at each path.
@@ -45,14 +45,13 @@ impl Tree {
     ghost use Rattle.std.specs.Prelude.{◌≡◌, true, false, IfOk, OnOk, OnErr, IsSome, IfSome, Some, None};
     ghost use Rattle.std.specs.Option.{option_copied};
     ghost use Rattle.odb_tree.specs.Tree.{IsTree, node_at, with_node, bare_tree, is_directory};
-    ghost use Rattle.odb_tree.specs.Tree.Change.{is_file, is_file_content, with_time, longer, parent_node, lies_in_directory, least_free};
+    ghost use Rattle.odb_tree.specs.Tree.Change.{is_file, is_file_content, longer, parent_node, device_of, lies_in_directory, least_free};
     ghost use Rattle.odb_tree.specs.Tree.Way.{is_link};
     ghost use Rattle.odb_tree.specs.declared.node.Node.{Node as NodeValue};
-    ghost use Rattle.odb_tree.specs.TreeCalls.{device_in};
 
     /// The root alone, on device 0, with inode number 1.
     pub fn bare(alloc: Global) -> Result<Tree, NoMemory>
-        ensures { IfOk result (λ tree. tree ≡ bare_tree) }
+        ensures bare { IfOk result (λ tree. tree ≡ bare_tree) }
     {
         let root = Node {
             dev: 0,
@@ -78,7 +77,7 @@ impl Tree {
 
     /// A copy of the tree.
     pub fn try_clone(&self, alloc: Global) -> Result<Tree, NoMemory>
-        ensures { IfOk result (λ tree. tree ≡ self.now) }
+        ensures copy { IfOk result (λ tree. tree ≡ self.now) }
     {
         Ok(Tree {
             nodes: copied(alloc, &self.nodes)?,
@@ -88,7 +87,7 @@ impl Tree {
     }
 
     fn lies_in_directory(&self, alloc: Global, path: &PathText) -> Result<bool, NoMemory>
-        ensures { IfOk result (λ lies. lies ≡ lies_in_directory self.now path.now) }
+        ensures lies { IfOk result (λ lies. lies ≡ lies_in_directory self.now path.now) }
     {
         let Some(parent) = path.parent(alloc)? else {
             return Ok(false);
@@ -97,7 +96,7 @@ impl Tree {
     }
 
     fn stands_directory(&self, path: &PathText) -> bool
-        ensures { result ≡ is_directory (node_at self.now path.now) }
+        ensures directory { result ≡ is_directory (node_at self.now path.now) }
     {
         match self.node(path) {
             None => false,
@@ -107,7 +106,7 @@ impl Tree {
 
     /// Whether a link stands at a path, by its names alone.
     fn stands_link(&self, path: &PathText) -> bool
-        ensures { result ≡ is_link (node_at self.now path.now) }
+        ensures link { result ≡ is_link (node_at self.now path.now) }
     {
         match self.node(path) {
             None => false,
@@ -117,7 +116,7 @@ impl Tree {
 
     /// Whether a file stands at a path, by its names alone.
     fn stands_file(&self, path: &PathText) -> bool
-        ensures { result ≡ is_file (node_at self.now path.now) }
+        ensures file { result ≡ is_file (node_at self.now path.now) }
     {
         match self.node(path) {
             None => false,
@@ -125,16 +124,17 @@ impl Tree {
         }
     }
 
-    /// The device of the directory that a path lies in, where it lies in one.
-    fn directory_device(&self, alloc: Global, path: &PathText) -> Result<Option<u64>, NoMemory>
-        ensures { IfOk result (λ dev. dev ≡ device_in (parent_node self.now path.now)) }
+    /// The device of the directory that a path lies in.
+    fn device_above(&self, alloc: Global, path: &PathText) -> Result<u64, NoMemory>
+        requires lies { lies_in_directory self.now path.now ≡ true }
+        ensures device { IfOk result (λ dev. dev ≡ device_of (parent_node self.now path.now)) }
     {
         let Some(parent) = path.parent(alloc)? else {
-            return Ok(None);
+            unreachable!("it lies in a directory");
         };
         match self.node(&parent) {
-            Some(node) if node.is_dir() => Ok(Some(node.dev)),
-            _ => Ok(None),
+            Some(node) => Ok(node.dev),
+            None => unreachable!("it lies in a directory"),
         }
     }
 
@@ -164,17 +164,9 @@ impl Tree {
         requires lies { lies_in_directory self.old path.now ≡ true }
         requires no_directory { is_directory (node_at self.old path.now) ≡ false }
         requires stands { IsSome (node_at self.old path.now) }
-        ensures { (node : NodeValue) → node_at self.old path.now ≡ Some node → self.new ≡ with_node self.old path.now (record node { content = content }) }
+        ensures made { (node : NodeValue) → node_at self.old path.now ≡ Some node → self.new ≡ with_node self.old path.now (record node { content = content }) }
     {
         put_content(&mut self.nodes, path, content);
-    }
-
-    /// Sets the time of the file at a path.
-    fn put_time(&mut self, path: &PathText, time: u64)
-        requires { is_file (node_at self.old path.now) ≡ true }
-        ensures { self.new ≡ with_time self.old path.now time (node_at self.old path.now) }
-    {
-        put_time(&mut self.nodes, path, time);
     }
 
     /// Adds bytes at the end of the file at a path. A refused call changes nothing.

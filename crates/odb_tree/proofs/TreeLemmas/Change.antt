@@ -1,17 +1,16 @@
 -- Laws of changes: what is at each path after one, and that a tree stays a tree.
-use Rattle.std.proofs.Common.{◌≡◌, ◌≢◌, ◌⊎◌, ℕ, true, false, ◌&&◌, List, [], ◌∷◌, ◌++◌, map, Option, Some, None, is_some, is_none, IsSome, refl, sym, ap, ◌∙◌, T, inl, inr, cond, option_and_then, lit<}
+use Rattle.std.proofs.Common.{◌≡◌, ◌≢◌, ◌⊎◌, ℕ, true, false, List, [], ◌∷◌, ◌++◌, map, Option, Some, None, IsSome, refl, sym, ap, ◌∙◌, T, inl, inr, cond, option_and_then, lit<}
 use Rattle.std.specs.FinMap.{find, is_sorted}
 use Rattle.std.specs.Ordering.{eq_by_cmp}
 use Rattle.std.specs.List.{filter_map, cons_option}
 use Rattle.std.specs.Cmp.Lexicographic.{nat_list_eq_equiv, same_text}
-use Rattle.std.proofs.lemmas.Bool.{false≢true, and_parts, and_left, and_right, and_from, not_from_true, not_from_false}
+use Rattle.std.proofs.lemmas.Bool.{false≢true}
 use Rattle.odb_base.specs.Path.{Name, Path, path_cmp, parent_of, same_name}
 use Rattle.odb_tree.specs.Tree.{Tree, IsTree, node_at, with_node, without, names_in, name_in, is_directory}
 use Rattle.odb_tree.specs.Tree.Nodes.{entries_of, entries_of-sorted, node_at-entries_of, names_in-entries_of}
-use Rattle.odb_tree.specs.Tree.Change.{lies_in_directory, is_nil, is_possible_in, changed, least_free, put_node, new_node, link_node, link_over, is_file, with_time}
-use Rattle.odb_tree.specs.Tree.Way.{is_link, is_link_content}
+use Rattle.odb_tree.specs.Tree.Change.{lies_in_directory, is_nil, changed, least_free, put_node, link_node, with_time}
 use Rattle.odb_tree.specs.declared.node.Node.{Node}
-use Rattle.odb_tree.specs.declared.node.Content.TheVariants.{File, Dir, Link}
+use Rattle.odb_tree.specs.declared.node.Content.TheVariants.{File, Dir}
 use Rattle.odb_tree.specs.declared.change.Change.TheVariants.{PutFile, MakeDir, PutLink, Remove, SetTime}
 use Rattle.odb_base.specs.PathLaws.{parent_of-push, parent_of-none}
 use Rattle.odb_tree.proofs.TreeLemmas.{cases_path, node_at-put, node_at-put_other, node_at-taken, node_at-taken_other, same_path, find_own, find_later, second}
@@ -151,7 +150,7 @@ nil_names t directory none =
       | Some name ↦ λ is. absurd (none name n (ap (node_at t) (sym (name_in-path directory p name is)) ∙ node_at-entries_of t p ∙ found))
     ] refl)
 
--- ---- which changes are possible
+-- ---- what a change makes
 
 -- a node that stands somewhere
 pub record Standing (o : Option Node) : Type 0 where
@@ -163,30 +162,6 @@ node_of None some = absurd (false≢true some)
 node_of (Some node) some = record { node = node; at = refl }
 
 module _ (t : Tree) (p : Path) where
-  pub nowhere-put_file : (time : ℕ) (bytes : List ℕ) → lies_in_directory t p ≡ false → is_possible_in t (PutFile p time bytes) ≡ false
-  unfolding is_possible_in
-  nowhere-put_file time bytes nowhere = and_left _ _ nowhere
-
-  pub over_directory-put_file : (time : ℕ) (bytes : List ℕ) → is_directory (node_at t p) ≡ true → is_possible_in t (PutFile p time bytes) ≡ false
-  unfolding is_possible_in
-  over_directory-put_file time bytes is = and_right _ _ (not_from_true _ is)
-
-  pub possible-put_file : (time : ℕ) (bytes : List ℕ) → lies_in_directory t p ≡ true → is_directory (node_at t p) ≡ false → is_possible_in t (PutFile p time bytes) ≡ true
-  unfolding is_possible_in
-  possible-put_file time bytes lies other = and_from _ _ lies (not_from_false _ other)
-
-  pub nowhere-make_dir : (dev : ℕ) → lies_in_directory t p ≡ false → is_possible_in t (MakeDir p dev) ≡ false
-  unfolding is_possible_in
-  nowhere-make_dir dev nowhere = and_left _ _ nowhere
-
-  pub over-make_dir : (dev : ℕ) → IsSome (node_at t p) → is_possible_in t (MakeDir p dev) ≡ false
-  unfolding is_possible_in
-  over-make_dir dev some = and_right _ _ (not_from_true _ some)
-
-  pub possible-make_dir : (dev : ℕ) → lies_in_directory t p ≡ true → node_at t p ≡ None → is_possible_in t (MakeDir p dev) ≡ true
-  unfolding is_possible_in
-  possible-make_dir dev lies none = and_from _ _ lies (ap is_none none)
-
   pub made-make_dir : (dev : ℕ) → changed t (MakeDir p dev) ≡ with_node t p (record { dev = dev; ino = least_free t; content = Dir })
   unfolding changed
   made-make_dir dev = refl
@@ -195,25 +170,9 @@ module _ (t : Tree) (p : Path) where
   unfolding changed
   made-put_file time bytes = refl
 
-  pub nowhere-put_link : (target : Path) → lies_in_directory t p ≡ false → is_possible_in t (PutLink p target) ≡ false
-  unfolding is_possible_in
-  nowhere-put_link target nowhere = and_left _ _ nowhere
-
-  pub over_directory-put_link : (target : Path) → is_directory (node_at t p) ≡ true → is_possible_in t (PutLink p target) ≡ false
-  unfolding is_possible_in
-  over_directory-put_link target is = and_right _ _ (not_from_true _ is)
-
-  pub possible-put_link : (target : Path) → lies_in_directory t p ≡ true → is_directory (node_at t p) ≡ false → is_possible_in t (PutLink p target) ≡ true
-  unfolding is_possible_in
-  possible-put_link target lies other = and_from _ _ lies (not_from_false _ other)
-
   pub made-put_link : (target : Path) → changed t (PutLink p target) ≡ with_node t p (link_node t p target (node_at t p))
   unfolding changed
   made-put_link target = refl
-
-  pub possible-set_time : (time : ℕ) → is_possible_in t (SetTime p time) ≡ is_file (node_at t p)
-  unfolding is_possible_in
-  possible-set_time time = refl
 
   pub made-set_time : (time : ℕ) → changed t (SetTime p time) ≡ with_time t p time (node_at t p)
   unfolding changed
@@ -223,58 +182,8 @@ module _ (t : Tree) (p : Path) where
   unfolding changed
   made-remove = refl
 
-  pub root-remove : p ≡ [] → is_possible_in t (Remove p) ≡ false
-  unfolding is_possible_in
-  root-remove root = and_left _ _ (and_left _ _ (root_lies_nowhere t p root))
-
-  pub absent-remove : node_at t p ≡ None → is_possible_in t (Remove p) ≡ false
-  unfolding is_possible_in
-  absent-remove none = and_left _ _ (and_right _ _ (ap is_some none))
-
-  pub standing-remove : lies_in_directory t p ≡ true → (n : Node) → node_at t p ≡ Some n → is_possible_in t (Remove p) ≡ is_nil (names_in t p)
-  unfolding is_possible_in
-  standing-remove lies n at = ap (λ b. (b && is_some (node_at t p)) && is_nil (names_in t p)) lies ∙ ap (λ o. is_some o && is_nil (names_in t p)) at
-
-  pub below_root-remove : is_possible_in t (Remove p) ≡ true → [] ≢ p
-  below_root-remove possible root = false≢true (sym (root-remove (sym root)) ∙ possible)
-
-  pub empty-remove : is_possible_in t (Remove p) ≡ true → is_nil (names_in t p) ≡ true
-  unfolding is_possible_in
-  empty-remove possible = (and_parts _ _ possible).1
-
 -- a node that isn't the root lies in a directory
 pub lies_in-node : (t : Tree) → IsTree t → (p : Path) (n : Node) → [] ≢ p → node_at t p ≡ Some n → lies_in_directory t p ≡ true
 lies_in-node t is_tree p n below_root at =
     let s = split_last p below_root in
     ap (lies_in_directory t) s.is ∙ lies_in-push t s.front s.name ∙ is_tree.ways s.front s.name n (ap (node_at t) (sym s.is) ∙ at)
-
--- ---- the node of a link that is put
-
--- a link at a path
-pub record IsLink (o : Option Node) : Type 0 where
-  pub node : Node
-  pub target : Path
-  pub at : o ≡ Some node
-  pub content : node.content ≡ Link target
-
-pub link_stands : (o : Option Node) → is_link o ≡ true → IsLink o
-link_stands None is = absurd (false≢true is)
-link_stands (Some node) is =
-    elim node.content as (λ c. node.content ≡ c → is_link_content c ≡ true → IsLink (Some node)) [
-      | File bytes time ↦ λ _ no. absurd (false≢true no)
-      | Dir ↦ λ _ no. absurd (false≢true no)
-      | Link target ↦ λ content _. record { node = node; target = target; at = refl; content = content }
-    ] refl is
-
-module _ (t : Tree) (p target : Path) where
-  pub link_node-link : (l : IsLink (node_at t p)) → link_node t p target (node_at t p) ≡ record l.node { content = Link target }
-  link_node-link l = ap (link_node t p target) l.at ∙ ap (link_over t p target l.node) l.content
-
-  pub link_node-other : (o : Option Node) → is_link o ≡ false → link_node t p target o ≡ new_node t p (Link target)
-  link_node-other None other = refl
-  link_node-other (Some node) other =
-      elim node.content as (λ c. is_link_content c ≡ false → link_over t p target node c ≡ new_node t p (Link target)) [
-        | File bytes time ↦ λ _. refl
-        | Dir ↦ λ _. refl
-        | Link old ↦ λ no. absurd (false≢true (sym no))
-      ] other

@@ -52,7 +52,7 @@ impl Tree {
         follow: bool,
         links: u8,
     ) -> Result<&'a Node, DiskError>
-        ensures { Leads result (followed_within links self.now follow path.now) }
+        ensures leads { Leads result (followed_within links self.now follow path.now) }
     {
         match self.pass(alloc, path, follow)? {
             Way::Reached(node) => Ok(node),
@@ -72,7 +72,7 @@ impl Tree {
         path: &PathText,
         follow: bool,
     ) -> Result<Way<'a>, DiskError>
-        ensures { Comes path.now result (pass self.now follow [] path.now) }
+        ensures comes { Comes path.now result (pass self.now follow [] path.now) }
     {
         let Some(node) = self.node(path) else {
             return Ok(Way::Onward(self.led_on(alloc, path)?));
@@ -88,7 +88,7 @@ impl Tree {
     fn led_on(&self, alloc: Global, path: &PathText) -> Result<PathText, DiskError>
         requires absent { node_at self.now path.now ≡ None }
         requires tree { IsTree self.now }
-        ensures { (follow : Bool) → LedOn result (pass self.now follow [] path.now) }
+        ensures led { (follow : Bool) → LedOn result (pass self.now follow [] path.now) }
     {
         let Some(before) = path_before(&self.nodes, path) else {
             return Err(DiskError::Absent);
@@ -107,8 +107,8 @@ impl Tree {
         last: &PathText,
         content: &Content,
     ) -> Result<PathText, DiskError>
-        requires { starts_with same_name path.now last.now ≡ true }
-        ensures { (rest : Path) → path.now ≡ last.now ++ rest → LedOn result (past content.now rest Missing) }
+        requires front { starts_with same_name path.now last.now ≡ true }
+        ensures led { (rest : Path) → path.now ≡ last.now ++ rest → LedOn result (past content.now rest Missing) }
     {
         match content {
             Content::File { .. } => Err(DiskError::WrongKind),

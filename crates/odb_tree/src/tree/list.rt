@@ -40,7 +40,7 @@ fn entries_below(
     nodes: &BTreeMap<PathText, Node>,
     directory: &PathText,
 ) -> Result<EntryQueue, NoMemory>
-    ensures { IfOk result (λ entries. entries ≡ entries_in (tree_of_entries nodes.now.entries) directory.now) }
+    ensures entries { IfOk result (λ entries. entries ≡ entries_in (tree_of_entries nodes.now.entries) directory.now) }
 {
     let mut entries = EntryQueue::new(alloc);
     let mut last = directory;
@@ -58,7 +58,7 @@ fn add_entries<'a>(
     directory: &PathText,
     last: &PathText,
 ) -> Result<Option<&'a PathText>, NoMemory>
-    requires { starts_with same_name last.now directory.now ≡ true }
+    requires below { starts_with same_name last.now directory.now ≡ true }
     ensures went { IfOk result (λ to. IfSome to (λ to. GoesTo (tree_of_entries nodes.now.entries) directory.now last.now to.now entries.old entries.new)) }
     ensures ended { IfOk result (λ to. IfNone to (entries.new ≡ entries.old ++ entries_after (tree_of_entries nodes.now.entries) directory.now last.now)) }
 {
@@ -79,7 +79,7 @@ fn add_entries<'a>(
 
 /// The path of a node, if others may lie below it.
 fn if_directory<'a>(path: &'a PathText, node: &Node) -> Option<&'a PathText>
-    ensures { IfSome (option_copied result) (λ directory. directory ≡ path.now) }
+    ensures directory { IfSome (option_copied result) (λ directory. directory ≡ path.now) }
 {
     if node.is_dir() { Some(path) } else { None }
 }
@@ -90,7 +90,7 @@ fn last_below<'a>(
     nodes: &'a BTreeMap<PathText, Node>,
     path: &'a PathText,
 ) -> Result<&'a PathText, NoMemory>
-    requires { IsSome (node_at (tree_of_entries nodes.now.entries) path.now) }
+    requires stands { IsSome (node_at (tree_of_entries nodes.now.entries) path.now) }
     ensures below { IfOk result (λ last. starts_with same_name last.now path.now ≡ true) }
     ensures stands { IfOk result (λ last. IsSome (node_at (tree_of_entries nodes.now.entries) last.now)) }
 {
@@ -106,7 +106,7 @@ fn last_below<'a>(
 /// A path that comes behind all that lies below another one: a name has no NUL, so none comes between a name and
 /// itself with the byte 1 behind it but those that begin so. The root has no such path.
 fn end_of(alloc: Global, path: &PathText) -> Result<Option<PathText>, NoMemory>
-    ensures { IfOk result (λ end. IfSome end (λ end. (rest : Path) → path_cmp (path.now ++ rest) end ≡ Less)) }
+    ensures end { IfOk result (λ end. IfSome end (λ end. (rest : Path) → path_cmp (path.now ++ rest) end ≡ Less)) }
 {
     let Some(directory) = path.parent(alloc)? else {
         return Ok(None);
@@ -124,7 +124,7 @@ fn end_of(alloc: Global, path: &PathText) -> Result<Option<PathText>, NoMemory>
 
 /// A name with the byte 1 behind it.
 fn name_behind(alloc: Global, name: &str) -> Result<String, NoMemory>
-    ensures { IfOk result (λ behind. string_bytes behind ≡ name.now ++ 1 ∷ []) }
+    ensures behind { IfOk result (λ behind. string_bytes behind ≡ name.now ++ 1 ∷ []) }
 {
     let mut behind = name.to_string(alloc)?;
     behind.push_str("\u{1}")?;
@@ -138,7 +138,7 @@ fn add_entry(
     below: &PathText,
     node: &Node,
 ) -> Result<(), NoMemory>
-    ensures { OnOk result (entries.new ≡ entries.old ++ filter_map (entry_in []) ((below.now, node.now) ∷ [])) }
+    ensures added { OnOk result (entries.new ≡ entries.old ++ filter_map (entry_in []) ((below.now, node.now) ∷ [])) }
 {
     let names = below.names(alloc)?;
     let [name] = names.as_slice() else {

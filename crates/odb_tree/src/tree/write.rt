@@ -1,5 +1,5 @@
 //! The calls of a disk that write, on its tree.
-ghost use Rattle.std.specs.Prelude.{◌≡◌, IfOk};
+ghost use Rattle.std.specs.Prelude.{◌≡◌, true, Result, IfOk, OnOk, OnErr};
 ghost use Rattle.std.specs.Result.{result_ok};
 ghost use Rattle.odb_tree.specs.Answers.{Tells};
 
@@ -7,19 +7,18 @@ use super::follow::Way;
 use super::{MAX_LINKS, Tree};
 use crate::change::Change;
 use crate::disk_error::DiskError;
-use crate::node::Content;
 use crate::node_map::has_names;
 use crate::node_moves::moved_path;
-use crate::{ByteList, NoMemory, PathText};
+use crate::{ByteList, PathText};
 use std::alloc::Global;
 
 impl Tree {
-    ghost use Rattle.std.specs.Prelude.{true, None, OnOk, OnErr};
-    ghost use Rattle.odb_tree.specs.Tree.{IsTree, node_at, with_node};
+    ghost use Rattle.odb_tree.specs.Tree.{IsTree};
     ghost use Rattle.odb_tree.specs.Tree.Follow.{followed_within};
-    ghost use Rattle.odb_tree.specs.Tree.Change.{lies_in_directory, parent_node, device_of, new_node};
-    ghost use Rattle.odb_tree.specs.Tree.Write.{from_followed, spot, vacant, movable, replaceable, removable, file_spot, change_of_make_dir, change_of_new_file, change_of_append, change_of_rename, change_of_remove, done, changed_by};
+    ghost use Rattle.odb_tree.specs.Tree.Change.{is_possible_in};
+    ghost use Rattle.odb_tree.specs.Tree.Write.{Refusal, from_followed, spot, vacant, movable, replaceable, removable, file_spot, change_of_make_dir, change_of_new_file, change_of_append, change_of_rename, change_of_remove, done, changed_by};
     ghost use Rattle.odb_tree.specs.TreeCalls.{path_of_place};
+    ghost use Rattle.odb_tree.specs.declared.change.Change.{Change as ChangeValue};
 
     /// Makes a directory where nothing stands. A refused call changes nothing.
     pub fn make_dir(&mut self, alloc: Global, path: &PathText) -> Result<(), DiskError>
@@ -27,9 +26,8 @@ impl Tree {
         ensures made { OnOk result (self.new ≡ changed_by self.old (result_ok (change_of_make_dir self.old path.now))) }
         ensures kept { OnErr result (self.new ≡ self.old) }
     {
-        let place = self.vacant(alloc, path)?;
-        self.put_vacant(alloc, &place, Content::Dir)?;
-        Ok(())
+        let told = self.change_of_make_dir(alloc, path);
+        self.apply_told(alloc, told)
     }
 
     /// Makes an empty file with time 0 where nothing stands. A refused call changes nothing.
@@ -38,10 +36,8 @@ impl Tree {
         ensures made { OnOk result (self.new ≡ changed_by self.old (result_ok (change_of_new_file self.old path.now))) }
         ensures kept { OnErr result (self.new ≡ self.old) }
     {
-        let place = self.vacant(alloc, path)?;
-        let bytes = ByteList::new(alloc);
-        self.put_vacant(alloc, &place, Content::File { bytes, time: 0 })?;
-        Ok(())
+        let told = self.change_of_new_file(alloc, path);
+        self.apply_told(alloc, told)
     }
 
     /// Adds bytes at the end of a file, links followed. A refused call changes nothing.
@@ -52,7 +48,7 @@ impl Tree {
         ensures kept { OnErr result (self.new ≡ self.old) }
     {
         let place = self.file_spot(alloc, path)?;
-        self.append_at(&place, bytes)?;
+        self.apply_append(alloc, &place, bytes)?;
         Ok(())
     }
 
@@ -62,10 +58,8 @@ impl Tree {
         ensures made { OnOk result (self.new ≡ changed_by self.old (result_ok (change_of_rename self.old from.now to.now))) }
         ensures kept { OnErr result (self.new ≡ self.old) }
     {
-        let source = self.movable(alloc, from)?;
-        let target = self.replaceable(alloc, to)?;
-        self.rename_to(alloc, &source, &target)?;
-        Ok(())
+        let told = self.change_of_rename(alloc, from, to);
+        self.apply_told(alloc, told)
     }
 
     /// Removes a file, a link or an empty directory. A refused call changes nothing.
@@ -74,14 +68,31 @@ impl Tree {
         ensures made { OnOk result (self.new ≡ changed_by self.old (result_ok (change_of_remove self.old path.now))) }
         ensures kept { OnErr result (self.new ≡ self.old) }
     {
-        let place = self.removable(alloc, path)?;
-        self.take(&place)?;
-        Ok(())
+        let told = self.change_of_remove(alloc, path);
+        self.apply_told(alloc, told)
+    }
+
+    /// Makes the change that a call is told, or refuses the call as it is told. A refused call changes nothing.
+    fn apply_told(
+        &mut self,
+        alloc: Global,
+        told: Result<Change, DiskError>,
+    ) -> Result<(), DiskError>
+        requires possible { IfOk told (λ change. is_possible_in self.old change ≡ true) }
+        ensures told { (word : Result ChangeValue Refusal) → Tells told word → Tells result (done word) }
+        ensures made { (word : Result ChangeValue Refusal) → Tells told word → OnOk result (self.new ≡ changed_by self.old (result_ok word)) }
+        ensures kept { OnErr result (self.new ≡ self.old) }
+    {
+        match told {
+            Ok(change) => Ok(self.apply(alloc, &change)?),
+            Err(error) => Err(error),
+        }
     }
 
     /// The change that `make_dir` would make, or why it would be refused.
     pub fn change_of_make_dir(&self, alloc: Global, path: &PathText) -> Result<Change, DiskError>
-        ensures { Tells result (change_of_make_dir self.now path.now) }
+        ensures told { Tells result (change_of_make_dir self.now path.now) }
+        ensures possible { IfOk result (λ change. is_possible_in self.now change ≡ true) }
     {
         let path = self.vacant(alloc, path)?;
         let dev = self.device_above(alloc, &path)?;
@@ -90,7 +101,8 @@ impl Tree {
 
     /// The change that `new_file` would make, or why it would be refused.
     pub fn change_of_new_file(&self, alloc: Global, path: &PathText) -> Result<Change, DiskError>
-        ensures { Tells result (change_of_new_file self.now path.now) }
+        ensures told { Tells result (change_of_new_file self.now path.now) }
+        ensures possible { IfOk result (λ change. is_possible_in self.now change ≡ true) }
     {
         let path = self.vacant(alloc, path)?;
         let bytes = ByteList::new(alloc);
@@ -108,7 +120,8 @@ impl Tree {
         path: &PathText,
         bytes: &ByteList,
     ) -> Result<Change, DiskError>
-        ensures { Tells result (change_of_append self.now path.now bytes.now) }
+        ensures told { Tells result (change_of_append self.now path.now bytes.now) }
+        ensures possible { IfOk result (λ change. is_possible_in self.now change ≡ true) }
     {
         let path = self.file_spot(alloc, path)?;
         let bytes = bytes.try_clone(alloc)?;
@@ -122,7 +135,8 @@ impl Tree {
         from: &PathText,
         to: &PathText,
     ) -> Result<Change, DiskError>
-        ensures { Tells result (change_of_rename self.now from.now to.now) }
+        ensures told { Tells result (change_of_rename self.now from.now to.now) }
+        ensures possible { IfOk result (λ change. is_possible_in self.now change ≡ true) }
     {
         let from = self.movable(alloc, from)?;
         let to = self.replaceable(alloc, to)?;
@@ -131,7 +145,8 @@ impl Tree {
 
     /// The change that `remove` would make, or why it would be refused.
     pub fn change_of_remove(&self, alloc: Global, path: &PathText) -> Result<Change, DiskError>
-        ensures { Tells result (change_of_remove self.now path.now) }
+        ensures told { Tells result (change_of_remove self.now path.now) }
+        ensures possible { IfOk result (λ change. is_possible_in self.now change ≡ true) }
     {
         let path = self.removable(alloc, path)?;
         Ok(Change::Remove { path })
@@ -139,7 +154,7 @@ impl Tree {
 
     /// Where the last name of a path stands, links on its way followed.
     fn spot(&self, alloc: Global, path: &PathText) -> Result<PathText, DiskError>
-        ensures { Tells result (spot self.now path.now) }
+        ensures told { Tells result (spot self.now path.now) }
     {
         let Some(front) = path.parent(alloc)? else {
             return Ok(PathText::root(alloc));
@@ -165,7 +180,7 @@ impl Tree {
 
     /// The spot of a file or a link.
     fn movable(&self, alloc: Global, path: &PathText) -> Result<PathText, DiskError>
-        ensures { Tells result (movable self.now path.now) }
+        ensures told { Tells result (movable self.now path.now) }
     {
         let place = self.spot(alloc, path)?;
         match self.node(&place) {
@@ -224,7 +239,7 @@ impl Tree {
         path: &PathText,
         links: u8,
     ) -> Result<PathText, DiskError>
-        ensures { Tells result (from_followed (path_of_place (followed_within links self.now true path.now))) }
+        ensures told { Tells result (from_followed (path_of_place (followed_within links self.now true path.now))) }
     {
         match self.pass(alloc, path, true)? {
             Way::Reached(_) => Ok(path.try_clone(alloc)?),
@@ -235,32 +250,5 @@ impl Tree {
                 self.place(alloc, &onward, links - 1)
             }
         }
-    }
-
-    /// The device of the directory that a path lies in.
-    fn device_above(&self, alloc: Global, path: &PathText) -> Result<u64, NoMemory>
-        requires { lies_in_directory self.now path.now ≡ true }
-        ensures { IfOk result (λ dev. dev ≡ device_of (parent_node self.now path.now)) }
-    {
-        match self.directory_device(alloc, path)? {
-            Some(dev) => Ok(dev),
-            None => unreachable!("it lies in a directory"),
-        }
-    }
-
-    /// Puts a new node where nothing stands, on the device of its directory. A refused call changes nothing.
-    fn put_vacant(
-        &mut self,
-        alloc: Global,
-        path: &PathText,
-        content: Content,
-    ) -> Result<(), NoMemory>
-        requires lies { lies_in_directory self.old path.now ≡ true }
-        requires absent { node_at self.old path.now ≡ None }
-        ensures made { OnOk result (self.new ≡ with_node self.old path.now (new_node self.old path.now content)) }
-        ensures kept { OnErr result (self.new ≡ self.old) }
-    {
-        let dev = self.device_above(alloc, path)?;
-        self.put_new(alloc, path, dev, content)
     }
 }

@@ -17,7 +17,7 @@ loop-number-preserved c =
     let turn = btree_map_turn deref_pair _ _ _ _ _ _ c.loop-number.yielded_by c.in-Some.is c.next.ensures.steps nat_cmp_total all gives.0 gives.5 in
     one_copied _ _ _ c.in-Some.number.now c.in-Some.entries.now c.loop-number.number-iterator c.next.new.self (get-lists all.entries _ ∙ turn.1) c.in-Some.ensures.steps
     (lists_put c.loop-number.copy.entries c.insert.new.self.entries c.in-Some.number.now c.in_ok-try_clone.field-0 c.in_ok-insert.ensures.updates.0
-    ∙ ap (finite.insert (finite.from_entries {R = nat_cmp} c.loop-number.copy.entries) c.in-Some.number.now) c.in_ok-try_clone.ensures)
+    ∙ ap (finite.insert (finite.from_entries {R = nat_cmp} c.loop-number.copy.entries) c.in-Some.number.now) c.in_ok-try_clone.ensures.copy)
     c.loop-number.invariant
 
 pub loop-number-preserved-in_ok-insert : goal.loop-number-preserved-in_ok-insert
@@ -27,8 +27,8 @@ loop-number-preserved-in_ok-insert c =
     let turn = btree_map_turn deref_pair _ _ _ _ _ _ c.loop-number.yielded_by c.in-Some.is c.next.ensures.steps nat_cmp_total all gives.0 gives.5 in
     one_copied _ _ _ c.in-Some.number.now c.in-Some.entries.now c.loop-number.number-iterator c.next.new.self (get-lists all.entries _ ∙ turn.1) c.in-Some.ensures.steps
     (lists_put c.loop-number.copy.entries c.insert.new.self.entries c.in-Some.number.now c.in_ok-try_clone.field-0 c.in_ok-insert.ensures.updates.0
-    ∙ ap (finite.insert (finite.from_entries {R = nat_cmp} c.loop-number.copy.entries) c.in-Some.number.now) c.in_ok-try_clone.ensures)
+    ∙ ap (finite.insert (finite.from_entries {R = nat_cmp} c.loop-number.copy.entries) c.in-Some.number.now) c.in_ok-try_clone.ensures.copy)
     c.loop-number.invariant
 
 pub returns : goal.returns
-returns c = ap (λ m. record { open_dirs = m; peak = 0 }) (all_copied _ _ c.loop-number.number-iterator c.in-None.ensures.steps.0 c.loop-number.invariant)
+returns c = record { copy = ap (λ m. record { open_dirs = m; peak = 0 }) (all_copied _ _ c.loop-number.number-iterator c.in-None.ensures.steps.0 c.loop-number.invariant) }

@@ -18,8 +18,8 @@ loop-path-preserved c =
     let t = tree_of_entries c.loop-path.copy.entries in
     one_copied (tree_of_entries all.entries) t (tree_of_entries c.put.new.nodes.entries) c.in-Some.path.now c.in-Some.node.now c.loop-path.path-iterator c.next.new.self
     (node_at-entries all.entries _ ∙ turn.1) c.in-Some.ensures.steps
-    (c.in_ok-put.ensures.made ∙ ap (λ path. with_node t path c.in_ok-try_clone-2.field-0) c.in_ok-try_clone.ensures ∙ ap (with_node t c.in-Some.path.now) c.in_ok-try_clone-2.ensures)
+    (c.in_ok-put.ensures.made ∙ ap (λ path. with_node t path c.in_ok-try_clone-2.field-0) c.in_ok-try_clone.ensures.copy ∙ ap (with_node t c.in-Some.path.now) c.in_ok-try_clone-2.ensures.copy)
     c.loop-path.invariant
 
 pub returns : goal.returns
-returns c = all_copied (tree_of_entries c.args.nodes.now.entries) (tree_of_entries c.loop-path.copy.entries) c.loop-path.path-iterator c.in-None.ensures.steps.0 c.loop-path.invariant
+returns c = record { copy = all_copied (tree_of_entries c.args.nodes.now.entries) (tree_of_entries c.loop-path.copy.entries) c.loop-path.path-iterator c.in-None.ensures.steps.0 c.loop-path.invariant }

@@ -2,4 +2,4 @@ use Rattle.odb_tree.proofs.TreeLemmas.{tree_take}
 use Rattle.odb_tree.proofs.node_map.take.Goals as goal
 
 pub returns : goal.returns
-returns c = tree_take c.args.nodes.now.entries c.remove.new.self.entries c.args.path.now c.remove.ensures.updates.0
+returns c = record { taken = tree_take c.args.nodes.now.entries c.remove.new.self.entries c.args.path.now c.remove.ensures.updates.0 }

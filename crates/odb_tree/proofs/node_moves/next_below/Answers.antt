@@ -12,7 +12,7 @@ returns-in-Some-clause-next c =
     let first = rw c.in-Some.ensures.steps at range.1 in
     let least = rw c.in-Some.ensures.steps at range.2 in
     record {
-      below = sym c.starts_with.ensures ∙ c.if-starts_with.true;
+      below = sym c.starts_with.ensures.starts ∙ c.if-starts_with.true;
       behind = first.0.0;
       stands = IsSome-from _ _ (sym (node_at-entries es _ ∙ first.1));
       least = λ q behind some. least q (behind, tt) (subst IsSome (node_at-entries es q) some);
@@ -32,6 +32,6 @@ returns-in_default-clause-none c =
       | in_default-via-in-Some+else-starts_with w ↦
           let first = rw w.in-Some.ensures.steps at range.1 in
           let least = rw w.in-Some.ensures.steps at range.2 in
-          none_behind (tree_of_entries es) c.args.base.now c.args.last.now w.in-Some.path.now c.requires first.0.0 (λ q behind some. least q (behind, tt) (subst IsSome (node_at-entries es q) some)) (sym w.starts_with.ensures ∙ w.if-starts_with.false)
+          none_behind (tree_of_entries es) c.args.base.now c.args.last.now w.in-Some.path.now c.requires.below first.0.0 (λ q behind some. least q (behind, tt) (subst IsSome (node_at-entries es q) some)) (sym w.starts_with.ensures.starts ∙ w.if-starts_with.false)
       | in_default-via-in_default w ↦ λ q below behind. node_at-entries es q ∙ range.5 w.in_default.ensures.steps.0 q (behind, tt)
     ]

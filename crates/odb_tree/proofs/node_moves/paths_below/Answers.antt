@@ -7,7 +7,7 @@ use Rattle.odb_tree.proofs.TreeMovesLemmas.{AreSoFar, so_far_first, so_far_next,
 use Rattle.odb_tree.proofs.node_moves.paths_below.Goals as goal
 
 pub add_move-requires : goal.add_move-requires
-add_move-requires c = begins-own c.args.from.now
+add_move-requires c = record { below = begins-own c.args.from.now }
 
 pub loop-path-init : goal.loop-path-init
 loop-path-init c =
@@ -17,7 +17,7 @@ loop-path-init c =
     let sources : c.add_move.new.sources.items ≡ from ∷ [] = c.in_ok-add_move.ensures.source ∙ ap (λ xs. xs ++ from ∷ []) c.new-sources.ensures.items in
     let targets : c.add_move.new.targets.items ≡ moved_path from to from ∷ [] = c.in_ok-add_move.ensures.target ∙ ap (λ xs. xs ++ moved_path from to from ∷ []) c.new-targets.ensures.items in
     record {
-      so_far = subst (λ xs. AreSoFar t from from xs) (sym sources) (so_far_first t from c.requires);
+      so_far = subst (λ xs. AreSoFar t from from xs) (sym sources) (so_far_first t from c.requires.stands);
       targets = targets ∙ ap (map (moved_path from to)) (sym sources);
     }
 

@@ -12,6 +12,6 @@ pub returns-clause-made : goal.returns-clause-made
 returns-clause-made c =
     let t = tree_of_entries c.args.nodes.now.entries in
     on_ok_weaker c.put.result
-    (λ made. made ∙ ap (λ p. with_node t p c.in_ok-copy.copy) c.in_ok-try_clone.ensures ∙ ap (with_node t c.args.target.now) c.in_ok-copy.ensures
+    (λ made. made ∙ ap (λ p. with_node t p c.in_ok-copy.copy) c.in_ok-try_clone.ensures.copy ∙ ap (with_node t c.args.target.now) c.in_ok-copy.ensures.copy
     ∙ sym (copy_some t c.args.source.now c.args.target.now c.in-Some.node.now (node_at-entries c.args.nodes.now.entries c.args.source.now ∙ sym c.in-Some.ensures.value)))
     c.put.ensures.made

@@ -15,7 +15,7 @@ names : (c : In_ok-push_str-2) → list_all is_name (c.args.self.now ++ c.args.r
 names c = names-append c.args.self.now c.args.rest.now (all_names _ _ c.self.view_is c.self.invariant.0) (all_names _ _ c.rest.view_is c.rest.invariant.0)
 
 pub of-requires : goal.of-requires
-of-requires c = is_joined _ _ (text c) (names c)
+of-requires c = record { joined = is_joined _ _ (text c) (names c) }
 
 pub returns : goal.returns
-returns c = let k = (goal.at.returns c).In_ok-push_str-2 in c.of.ensures ∙ names_in _ _ (text k) (names k)
+returns c = record { path = let k = (goal.at.returns c).In_ok-push_str-2 in c.of.ensures.names ∙ names_in _ _ (text k) (names k) }

@@ -12,4 +12,4 @@ returns-in-None-clause-value c =
 pub returns-in_ok-names_in-in-Some-clause-value : goal.returns-in_ok-names_in-in-Some-clause-value
 returns-in_ok-names_in-in-Some-clause-value c =
     let begun = strip_prefix_char 0 _ (Some c.in-Some.rest) c.in-Some.ensures.cases (lit< tt) in
-    c.in_ok-names_in-in-Some.ensures ∙ names_behind _ _ (sym c.deref.ensures ∙ begun) ∙ c.self.view_is
+    c.in_ok-names_in-in-Some.ensures.names ∙ names_behind _ _ (sym c.deref.ensures ∙ begun) ∙ c.self.view_is

@@ -19,10 +19,10 @@ slash_alone c =
     begun ∙ ap (λ t. 47 ∷ t) (nil_from_length _ (eqb-true _ _ (sym c.if-is_empty.ensures)))
 
 pub returns-then-is_empty-clause-parsed : goal.returns-then-is_empty-clause-parsed
-returns-then-is_empty-clause-parsed c = rw (c.root.ensures, slash_alone c) path_of-root
+returns-then-is_empty-clause-parsed c = rw (c.root.ensures.empty, slash_alone c) path_of-root
 
 pub returns-then-is_empty-clause-spelled : goal.returns-then-is_empty-clause-spelled
-returns-then-is_empty-clause-spelled c = rw (c.root.ensures, slash_alone c) text_of-root
+returns-then-is_empty-clause-spelled c = rw (c.root.ensures.empty, slash_alone c) text_of-root
 
 -- what two facts on the value of an Ok give
 both_on_ok : {T E : Type 0} (r : Result T E) {P Q R : T → Type 0} → IfOk r P → IfOk r Q → ((x : T) → P x → Q x → R x) → IfOk r R
@@ -33,7 +33,7 @@ parsed : (c : goal.After-drop-parts) → IfOk c.from_names.result (λ path. path
 parsed c =
     let begun = strip_prefix_char 47 c.args.text.now (Some c.in-Some.rest) c.in-Some.ensures.cases (lit< tt) in
     let some = eqb-false _ _ (sym c.if-is_empty.ensures) in
-    let split : map (λ t. t.now) c.deref.result.now ≡ slice_split (λ b. b == 47) c.in-Some.rest.now = rw c.deref.ensures.value c.in_ok-parts.ensures in
+    let split : map (λ t. t.now) c.deref.result.now ≡ slice_split (λ b. b == 47) c.in-Some.rest.now = rw c.deref.ensures.value c.in_ok-parts.ensures.parts in
     both_on_ok c.from_names.result c.from_names.ensures.path c.from_names.ensures.are_names (λ path is names. path_of-are_names c.args.text.now c.in-Some.rest.now _ path begun (omega (arith, some)) split is names)
 
 pub returns-clause-parsed : goal.returns-clause-parsed
@@ -46,4 +46,4 @@ pub returns-clause-refused : goal.returns-clause-refused
 returns-clause-refused c = λ e.
     let begun = strip_prefix_char 47 c.args.text.now (Some c.in-Some.rest) c.in-Some.ensures.cases (lit< tt) in
     let some = eqb-false _ _ (sym c.if-is_empty.ensures) in
-    path_of-no_names c.args.text.now c.in-Some.rest.now _ begun (omega (arith, some)) (rw c.deref.ensures.value c.in_ok-parts.ensures) (c.from_names.ensures.refused e)
+    path_of-no_names c.args.text.now c.in-Some.rest.now _ begun (omega (arith, some)) (rw c.deref.ensures.value c.in_ok-parts.ensures.parts) (c.from_names.ensures.refused e)

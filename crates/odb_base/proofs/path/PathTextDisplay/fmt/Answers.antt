@@ -10,7 +10,7 @@ use Rattle.odb_base.proofs.path.PathTextDisplay.fmt.Goals as goal
 
 -- the root
 pub returns-then-is_root-clause-writes : goal.returns-then-is_root-clause-writes
-returns-then-is_root-clause-writes g c = let text = ap text_of (c.is_root.ensures.0 c.if-is_root.true) ∙ text_of-root in rw text c.write.ensures.writes
+returns-then-is_root-clause-writes g c = let text = ap text_of (c.is_root.ensures.root.0 c.if-is_root.true) ∙ text_of-root in rw text c.write.ensures.writes
 
 pub loop-name-init : goal.loop-name-init
 loop-name-init g c = record { text = search; written = λ plain. ([], ap slashed (c.as_str-rest.ensures.value ∙ whole_text _ _ c.self.view_is c.self.invariant.0), search rules) }
@@ -29,5 +29,5 @@ pub returns-clause-writes : goal.returns-clause-writes
 returns-clause-writes g c = λ plain ok.
     let so_far = c.loop-name.invariant.written plain in
     let free = split_parts 0 _ None c.in_default.ensures.cases (lit< tt) in
-    let whole = ap (λ t. so_far.0 ++ t) (sym (slashed-rest _ free)) ∙ so_far.1 ∙ slashed-text _ (all_names _ _ c.self.view_is c.self.invariant.0) (λ e. false≢true (sym c.if-is_root.false ∙ c.is_root.ensures.1 e)) in
+    let whole = ap (λ t. so_far.0 ++ t) (sym (slashed-rest _ free)) ∙ so_far.1 ∙ slashed-text _ (all_names _ _ c.self.view_is c.self.invariant.0) (λ e. false≢true (sym c.if-is_root.false ∙ c.is_root.ensures.root.1 e)) in
     put_two _ _ _ _ _ _ _ so_far.2 (c.write-2.ensures.writes so_far.2.plain ok) whole

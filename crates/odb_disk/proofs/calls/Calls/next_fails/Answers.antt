@@ -5,6 +5,7 @@ use Rattle.odb_disk.proofs.CallsLemmas.{contains-keys}
 use Rattle.odb_disk.proofs.calls.Calls.next_fails.Goals as goal
 
 pub returns : goal.returns
-returns c =
-    let listed = c.self.inside.listed in
-    rw (← c.self.view_is) (c.contains.ensures ∙ ap (contains nat_cmp listed) c.saturating_add.ensures ∙ sym (contains-keys listed _))
+returns c = record {
+  fails = let listed = c.self.inside.listed in
+      rw (← c.self.view_is) (c.contains.ensures ∙ ap (contains nat_cmp listed) c.saturating_add.ensures ∙ sym (contains-keys listed _));
+}

@@ -10,6 +10,7 @@ loop-call-preserved c =
     from_list-more c.loop-call.listed c.insert.new.self c.args.calls.now c.loop-call.call-index _ c.loop-call-test.true refl c.in_ok-insert.ensures.updates c.loop-call.invariant
 
 pub returns : goal.returns
-returns c =
-    let all = take_all c.loop-call.call-index c.args.calls.now c.loop-call-test.false in
-    ap no_calls (c.loop-call.invariant ∙ ap set.from_list all)
+returns c = record {
+  listed = let all = take_all c.loop-call.call-index c.args.calls.now c.loop-call-test.false in
+      ap no_calls (c.loop-call.invariant ∙ ap set.from_list all);
+}

@@ -15,7 +15,7 @@ returns-clause-opened c =
     let count = ap finite.len (sym put) ∙ len-lists c.insert.new.self.entries c.len.ensures.ordered ∙ sym c.len.ensures.len in
     ap (λ m. record { open_dirs = m; peak = c.max-self-inside.result }) put
     ∙ ap (λ p. record { open_dirs = finite.insert (finite.from_entries {R = nat_cmp} old.lists.entries) number entries; peak = p }) (c.max-self-inside.ensures ∙ ap (max old.peak) (sym count))
-    ∙ ap (λ (s : Streams). with_opened s number entries) c.self.view_is ∙ ap (λ n. with_opened c.args.self.now n entries) (sym c.new.ensures)
+    ∙ ap (λ (s : Streams). with_opened s number entries) c.self.view_is ∙ ap (λ n. with_opened c.args.self.now n entries) (sym c.new.ensures.number)
 
 pub invariant_of-self-2 : goal.invariant_of-self-2
 invariant_of-self-2 c =

@@ -1,20 +1,37 @@
-use Rattle.std.proofs.Common.{◌∙◌, sym}
+use Rattle.std.proofs.Common.{◌≡◌, ◌∙◌, sym}
 use Rattle.odb_tree.specs.Tree.{tree_of}
-use Rattle.odb_disk.specs.Ask.{answer_in, fails_now}
-use Rattle.odb_disk.proofs.AskLemmas.{answered_by, volume_after_ask, volume_kept, has_memory, no_memory}
+use Rattle.odb_disk.specs.Ask.{answer_in, fails_now, state_after}
+use Rattle.odb_disk.proofs.StreamAsksLemmas.{told_in, left_in}
+use Rattle.odb_disk.proofs.AskLemmas.InMemory.{answered_by, volume_after_ask, volume_kept, has_memory, no_memory}
 use Rattle.odb_disk.proofs.mem_disk.MemDisk.carry_out.Goals as goal
 
 pub returns-then-ran_out-clause-kept : goal.returns-then-ran_out-clause-kept
 returns-then-ran_out-clause-kept c =
-    volume_kept c.args.self.now c.answer_to-answer.new.self c.args.ask.now c.answer_to-answer.result c.answer_to-answer.ensures.state c.answer_to-answer.ensures.streams c.answer_to-answer.ensures.counted
-    (no_memory c.answer_to-answer.result (sym c.ran_out.ensures ∙ c.if-ran_out.true))
+    let is = c.carry_out-answer.ensures in
+    let old = c.args.self.now in
+    let new = c.carry_out-answer.new.disk in
+    let ask = c.args.ask.now in
+    let answer = c.carry_out-answer.result in
+    let state : new.state ≡ state_after old.state ask answer = cc in
+    volume_kept old new ask answer state (left_in old.state old.streams new.streams ask answer is.streams is.of_streams is.answered.least) is.answered.counted (no_memory answer (sym c.ran_out.ensures.ran_out ∙ c.if-ran_out.true))
 
 pub returns-clause-answered : goal.returns-clause-answered
 returns-clause-answered c =
-    answered_by (fails_now c.args.self.now c.args.ask.now) c.answer_to-answer.result (answer_in (tree_of c.args.self.now.state) c.args.self.now.streams c.args.ask.now) c.answer_to-answer.ensures.answer c.answer_to-answer.ensures.failed.0 c.answer_to-answer.ensures.failed.1
-    (has_memory c.answer_to-answer.result (sym c.ran_out.ensures ∙ c.if-ran_out.false))
+    let is = c.carry_out-answer.ensures in
+    let old = c.args.self.now in
+    let new = c.carry_out-answer.new.disk in
+    let ask = c.args.ask.now in
+    let answer = c.carry_out-answer.result in
+    answered_by (fails_now old ask) answer (answer_in (tree_of old.state) old.streams ask) (told_in old.state old.streams new.streams ask answer is.answer is.of_streams is.answered.least) is.answered.failed.0 is.answered.failed.1
+    (has_memory answer (sym c.ran_out.ensures.ran_out ∙ c.if-ran_out.false))
 
 pub returns-clause-made : goal.returns-clause-made
 returns-clause-made c =
-    volume_after_ask c.args.self.now c.answer_to-answer.new.self c.args.ask.now c.answer_to-answer.result c.answer_to-answer.ensures.state c.answer_to-answer.ensures.streams c.answer_to-answer.ensures.counted
-    (has_memory c.answer_to-answer.result (sym c.ran_out.ensures ∙ c.if-ran_out.false)) c.answer_to-answer.ensures.answer c.answer_to-answer.ensures.failed.0 c.answer_to-answer.ensures.failed.1
+    let is = c.carry_out-answer.ensures in
+    let old = c.args.self.now in
+    let new = c.carry_out-answer.new.disk in
+    let ask = c.args.ask.now in
+    let answer = c.carry_out-answer.result in
+    let state : new.state ≡ state_after old.state ask answer = cc in
+    volume_after_ask old new ask answer state (left_in old.state old.streams new.streams ask answer is.streams is.of_streams is.answered.least) is.answered.counted
+    (has_memory answer (sym c.ran_out.ensures.ran_out ∙ c.if-ran_out.false)) (told_in old.state old.streams new.streams ask answer is.answer is.of_streams is.answered.least) is.answered.failed.0 is.answered.failed.1

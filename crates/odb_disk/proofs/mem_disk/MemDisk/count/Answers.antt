@@ -12,7 +12,7 @@ seen inside = record { state = state_of inside.tree; streams = inside.streams; c
 
 pub returns-clause-counted : goal.returns-clause-counted
 returns-clause-counted c =
-    counted_call (seen c.self.inside) _ (c.count.ensures.counted ∙ ap (λ b. calls.after_call b c.self.inside.calls) c.next_fails-fails.ensures) ∙ ap after_call c.self.view_is
+    counted_call (seen c.self.inside) _ (c.count.ensures.counted ∙ ap (λ b. calls.after_call b c.self.inside.calls) c.next_fails-fails.ensures.fails) ∙ ap after_call c.self.view_is
 
 pub returns-clause-tree : goal.returns-clause-tree
 returns-clause-tree c = subst IsTree (sym (tree_of-state_of c.self.inside.tree) ∙ ap (λ v. tree_of v.state) c.self.view_is) c.self.invariant

@@ -1,6 +1,5 @@
-use Rattle.std.proofs.Common.{◌∙◌, ap, subst}
+use Rattle.std.proofs.Common.{◌∙◌, ap}
 use Rattle.std.proofs.lemmas.Result.{err_from_is_err_and}
-use Rattle.odb_disk.specs.Streams.{Streams, IsLeastClosed}
 use Rattle.odb_disk.proofs.MemDiskLemmas.{open_refused, open_answers, Opens-from}
 use Rattle.odb_disk.proofs.mem_disk.MemDiskDisk.open_dir.Goals as goal
 
@@ -16,6 +15,3 @@ pub returns-clause-opened : goal.returns-clause-opened
 returns-clause-opened c =
     Opens-from c.self.inside.tree c.args.self.now.state c.args.path.now (ap (λ v. v.state) c.self.view_is ∙ c.count.ensures.state) c.in_ok-entries.entries c.in_ok-entries.ensures.answer
     c.self.inside.streams c.args.self.now.streams c.open.new.self c.in_ok-open.field-0 (ap (λ v. v.streams) c.self.view_is ∙ c.count.ensures.streams) c.in_ok-open.ensures.opened c.in_ok-open.ensures.least c.in_ok-open.ensures.few
-
-pub returns-clause-least : goal.returns-clause-least
-returns-clause-least c = subst (λ (q : Streams). IsLeastClosed q.open_dirs c.in_ok-open.field-0) (ap (λ v. v.streams) c.self.view_is ∙ c.count.ensures.streams) c.in_ok-open.ensures.least

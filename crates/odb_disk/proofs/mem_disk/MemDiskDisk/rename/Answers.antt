@@ -1,7 +1,10 @@
-use Rattle.std.proofs.Common.{◌∙◌, ap}
+use Rattle.std.proofs.Common.{◌∙◌, ap, sym}
 use Rattle.odb_tree.specs.Tree.Write.{change_of_rename}
 use Rattle.odb_tree.proofs.TreeLemmas.Write.{rename_possible}
 use Rattle.odb_disk.proofs.MemDiskLemmas.{write_answers, write_made, write_kept, IsTree-written}
+use Rattle.odb_disk.specs.MemDisk.{Volume}
+use Rattle.odb_disk.specs.declared.ask.DiskAsk.TheVariants as asks
+use Rattle.odb_disk.proofs.AskLemmas.InMemory.{counted_failed, counted_write}
 use Rattle.odb_disk.proofs.mem_disk.MemDiskDisk.rename.Goals as goal
 
 pub invariant_of-self : goal.invariant_of-self
@@ -15,3 +18,11 @@ returns-clause-made c = write_made (λ t. change_of_rename t c.args.from.now c.a
 
 pub returns-clause-kept : goal.returns-clause-kept
 returns-clause-kept c = write_kept (λ t. change_of_rename t c.args.from.now c.args.to.now) c.rename.result c.self.inside.tree c.rename.new.self c.args.self.now.state (ap (λ v. v.state) c.self.view_is ∙ c.count.ensures.state) c.rename.ensures.kept
+
+pub returns-then-count-clause-answered : goal.returns-then-count-clause-answered
+returns-then-count-clause-answered c = counted_failed c.args.self.now _ (asks.Rename c.args.from.now c.args.to.now) (ap (λ (v : Volume). v.calls) c.count.ensures.counted) (sym c.count.ensures.fails ∙ c.if-count.true)
+
+pub returns-clause-answered : goal.returns-clause-answered
+returns-clause-answered c =
+    counted_write c.args.self.now _ (asks.Rename c.args.from.now c.args.to.now) (ap (λ (v : Volume). v.calls) (c.self.view_is ∙ c.count.ensures.counted)) (sym c.count.ensures.fails ∙ c.if-count.false)
+    c.rename.result _ c.rename.ensures.told

@@ -12,11 +12,11 @@ loop-path-init c =
 pub returns-in_default-2-clause-ended : goal.returns-in_default-2-clause-ended
 returns-in_default-2-clause-ended c =
     ended_before (tree_of_entries c.args.nodes.now.entries) c.args.directory.now c.args.last.now c.args.entries.now c.loop-path.entries (option_copied c.loop-path.previous) c.loop-path.path-iterator
-    c.loop-path.invariant c.in-Some.path.now c.in-Some.node.now c.next.new.self c.in-Some.ensures.steps c.requires (c.in_ok-rest.ensures.apart c.in_default-2.is)
+    c.loop-path.invariant c.in-Some.path.now c.in-Some.node.now c.next.new.self c.in-Some.ensures.steps c.requires.below (c.in_ok-rest.ensures.apart c.in_default-2.is)
 
 pub loop-path-preserved : goal.loop-path-preserved
 loop-path-preserved c =
     let below : c.args.directory.now ++ c.in-Some-2.rest ≡ c.in-Some.path.now = rw c.in-Some-2.is at c.in_ok-rest.ensures.below in
     one_more (tree_of_entries c.args.nodes.now.entries) c.args.directory.now c.args.last.now c.args.entries.now c.loop-path.entries (option_copied c.loop-path.previous) c.loop-path.path-iterator
     c.loop-path.invariant c.in-Some.path.now c.in-Some.node.now c.next.new.self c.in-Some.ensures.steps c.in-Some-2.rest c.add_entry.new.entries (option_copied c.if_directory-previous.result) below
-    c.in_ok-add_entry.ensures c.if_directory-previous.ensures
+    c.in_ok-add_entry.ensures.added c.if_directory-previous.ensures.directory

@@ -6,7 +6,7 @@ use Rattle.odb_tree.proofs.ListingLemmas.{none_listed, passed_on, later_still}
 use Rattle.odb_tree.proofs.tree.list.entries_below.Goals as goal
 
 pub loop-entries-init : goal.loop-entries-init
-loop-entries-init c = none_listed (tree_of_entries c.args.nodes.now.entries) c.args.directory.now c.new-entries.result c.new-entries.ensures
+loop-entries-init c = none_listed (tree_of_entries c.args.nodes.now.entries) c.args.directory.now c.new-entries.result c.new-entries.ensures.empty
 
 pub loop-entries-smaller : goal.loop-entries-smaller
 loop-entries-smaller c =
