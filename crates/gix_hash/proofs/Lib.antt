@@ -1,5 +1,7 @@
 pub mod ObjectIdLemmas
+pub mod IdOrderLaws
+pub mod PrefixLaws
 pub mod HashLemmas
-mod CallLemmas
 pub mod HexDigitLaws
+mod CallLemmas
 mod PrefixLemmas

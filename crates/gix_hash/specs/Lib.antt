@@ -1,4 +1,5 @@
 pub mod Kind
 pub mod ObjectId
+pub mod IdOrder
 pub mod Prefix
 pub mod Hash

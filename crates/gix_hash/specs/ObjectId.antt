@@ -6,7 +6,7 @@ use Rattle.std.specs.Cmp.Lexicographic.{slice_cmp}
 use Rattle.std.specs.declared.cmp.Ordering.{Ordering}
 use Rattle.hex.specs.Hex.{decode_of, encode_lower, IsBytes}
 use Rattle.hex.specs.declared.error.FromHexError.{FromHexError}
-use Rattle.gix_hash.specs.Kind.{len_in_bytes_of}
+use Rattle.gix_hash.specs.Kind.{digits_in, len_in_bytes_of}
 use Rattle.gix_hash.specs.declared.kind.Kind.{Kind}
 use Rattle.gix_hash.specs.declared.kind.Kind.TheVariants as kind
 use Rattle.gix_hash.specs.declared.object_id.ObjectId.{ObjectId}
@@ -45,19 +45,19 @@ is_lower_text text = list_all is_lower_digit text
 
 -- as many digits as an id of some kind has
 abbrev pub IsIdLength : ℕ → Type 0
-IsIdLength digits = (digits ≡ 40) ⊎ (digits ≡ 64)
+IsIdLength digits = (digits ≡ digits_in kind.Sha1) ⊎ (digits ≡ digits_in kind.Sha256)
 
 -- the id of decoded bytes
 abbrev pub made_by : (List ℕ → ObjectId) → Result (List ℕ) FromHexError → Option ObjectId
 made_by id (Ok bytes) = Some (id bytes)
 made_by id (Err e) = None
 
--- the id that a text is the hex text of, if any: 40 digits in lower case are of SHA-1, and 64 are of SHA-256
+-- the id that a text is the hex text of, if any: digits in lower case, whose number tells the kind
 unfoldable pub id_of : List ℕ → Option ObjectId
 id_of text =
     if is_lower_text text then
-    (if length text == 40 then made_by Sha1 (decode_of text)
-    else if length text == 64 then made_by Sha256 (decode_of text)
+    (if length text == digits_in kind.Sha1 then made_by Sha1 (decode_of text)
+    else if length text == digits_in kind.Sha256 then made_by Sha256 (decode_of text)
     else None)
     else None
 

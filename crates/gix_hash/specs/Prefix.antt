@@ -1,17 +1,21 @@
 -- Prefixes of ids: the first digits of an id's hex text, and which ids begin with them.
-use Rattle.std.specs.Prelude.{◌≡◌, ℕ, ◌-◌, ◌*◌, ◌≤◌, List, take, drop, replicate, nat_le, if◌then◌else◌}
+use Rattle.std.specs.Prelude.{◌≡◌, ℕ, ◌-◌, ◌≤◌, List, take, drop, replicate, nat_le, if◌then◌else◌}
 use Rattle.std.specs.Ordering.{nat_cmp, ordering_then}
 use Rattle.std.specs.Cmp.Lexicographic.{slice_cmp}
 use Rattle.std.specs.declared.cmp.Ordering.{Ordering}
-use Rattle.gix_hash.specs.Kind.{len_in_bytes_of}
+use Rattle.gix_hash.specs.Kind.{digits_in}
 use Rattle.gix_hash.specs.ObjectId.{kind_of, hex_of, rank_of, IsId}
 use Rattle.gix_hash.specs.declared.kind.Kind.{Kind}
 use Rattle.gix_hash.specs.declared.kind.Kind.TheVariants.{Sha1, Sha256}
 use Rattle.gix_hash.specs.declared.object_id.ObjectId.{ObjectId}
 
--- how many hex digits an id of this kind has
-abbrev pub digits_in : Kind → ℕ
-digits_in kind = 2 * len_in_bytes_of kind
+-- the fewest digits of a prefix: fewer are had by too many ids of one repository
+abbrev pub fewest_digits : ℕ
+fewest_digits = 4
+
+-- so many digits `0`, each of them byte 48
+abbrev pub zero_digits : ℕ → List ℕ
+zero_digits n = replicate n 48
 
 -- a prefix as an id with this many digits in front
 pub record PrefixOf : Type 0 where
@@ -22,12 +26,12 @@ pub record PrefixOf : Type 0 where
 abbrev pub digits_of : PrefixOf → List ℕ
 digits_of prefix = take prefix.hex_len (hex_of prefix.id)
 
--- what holds of every prefix: it has from four digits to all that its kind has, and zeros (byte 48) stand behind them
+-- what holds of every prefix: it has from the fewest digits to all that its kind has, and zeros stand behind them
 pub record IsPrefix (prefix : PrefixOf) : Type 0 where
   pub id : IsId prefix.id
-  pub not_short : 4 ≤ prefix.hex_len
+  pub not_short : fewest_digits ≤ prefix.hex_len
   pub not_long : prefix.hex_len ≤ digits_in (kind_of prefix.id)
-  pub zeros : drop prefix.hex_len (hex_of prefix.id) ≡ replicate (digits_in (kind_of prefix.id) - prefix.hex_len) 48
+  pub zeros : drop prefix.hex_len (hex_of prefix.id) ≡ zero_digits (digits_in (kind_of prefix.id) - prefix.hex_len)
 
 -- an id is of the prefix's kind, and its text begins with the prefix
 pub record HasPrefix (prefix : PrefixOf) (id : ObjectId) : Type 0 where
@@ -42,4 +46,4 @@ prefix_cmp prefix id =
 
 -- the kind that a text of so many digits is a prefix of
 abbrev pub kind_of_digits : ℕ → Kind
-kind_of_digits digits = if nat_le digits 40 then Sha1 else Sha256
+kind_of_digits digits = if nat_le digits (digits_in Sha1) then Sha1 else Sha256

@@ -5,19 +5,19 @@ ghost use Rattle.gix_hash.specs.Kind.{len_in_bytes_of};
 ghost use Rattle.gix_hash.specs.ObjectId.{bytes_of, hex_of, id_of, is_lower_digit, is_lower_text, kind_of, IsHexOf, IsId, IsIdLength};
 
 use crate::Kind;
+use crate::kind::{SHA1_DIGITS, SHA1_LEN, SHA256_DIGITS, SHA256_LEN};
 use hex::FromHex;
 use odb_base::NoMemory;
 use std::alloc::Global;
+use std::cmp::Ordering;
 use std::fmt;
 use thiserror::Error;
 
 /// The id of an object.
-///
-/// Its order is that of the kind, and then of the bytes.
-#[derive(Clone, Copy, Debug, PartialEq, Eq, PartialOrd, Ord, Hash)]
+#[derive(Clone, Copy, Debug, PartialEq, Eq, Hash)]
 pub enum ObjectId {
-    Sha1([u8; 20]),
-    Sha256([u8; 32]),
+    Sha1([u8; SHA1_LEN]),
+    Sha256([u8; SHA256_LEN]),
 }
 
 /// Why a text is no id.
@@ -42,8 +42,8 @@ impl ObjectId {
         ensures invalid { IsErrOf result HexError.Invalid ↔ (IsIdLength (length text.now) × IsFalse (is_lower_text text.now)) }
     {
         match text.len() {
-            40 => Ok(ObjectId::Sha1(decoded(text)?)),
-            64 => Ok(ObjectId::Sha256(decoded(text)?)),
+            SHA1_DIGITS => Ok(ObjectId::Sha1(decoded(text)?)),
+            SHA256_DIGITS => Ok(ObjectId::Sha256(decoded(text)?)),
             _ => Err(HexError::Length),
         }
     }
@@ -55,14 +55,14 @@ impl ObjectId {
         ensures bytes { bytes_of result ≡ replicate (len_in_bytes_of kind) 0 }
     {
         match kind {
-            Kind::Sha1 => ObjectId::Sha1([0; 20]),
-            Kind::Sha256 => ObjectId::Sha256([0; 32]),
+            Kind::Sha1 => ObjectId::Sha1([0; SHA1_LEN]),
+            Kind::Sha256 => ObjectId::Sha256([0; SHA256_LEN]),
         }
     }
 
     /// The hash function that the id comes from.
     pub fn kind(&self) -> Kind
-        ensures { result ≡ kind_of self.now }
+        ensures kind { result ≡ kind_of self.now }
     {
         match self {
             ObjectId::Sha1(_) => Kind::Sha1,
@@ -83,13 +83,13 @@ impl ObjectId {
 
     /// The hex text of the id, in lower case.
     pub fn to_hex(&self, alloc: Global) -> Result<String, NoMemory>
-        ensures { IfOk result (λ text. string_bytes text ≡ hex_of self.now) }
+        ensures text { IfOk result (λ text. string_bytes text ≡ hex_of self.now) }
     {
         Ok(hex::encode(alloc, self.as_bytes())?)
     }
 
     // The hex text, written into a buffer that has room for the longer kind.
-    pub(crate) fn write_hex<'a>(&self, room: &'a mut [u8; 64]) -> &'a str
+    pub(crate) fn write_hex<'a>(&self, room: &'a mut [u8; SHA256_DIGITS]) -> &'a str
         ensures text { result.now ≡ hex_of self.now }
         ensures id { IsId self.now }
     {
@@ -105,23 +105,60 @@ impl ObjectId {
     }
 }
 
+impl PartialOrd for ObjectId {
+    ghost use Rattle.std.specs.Ordering.{as_partial_cmp};
+    ghost use Rattle.std.specs.Cmp.{po};
+    ghost use Rattle.gix_hash.specs.ObjectId.{id_cmp};
+    ghost use Rattle.gix_hash.specs.IdOrder.{id_order, ids_tie};
+
+    ghost partial_cmp = { as_partial_cmp id_cmp };
+
+    ghost laws = { po id_order ids_tie };
+
+    fn partial_cmp(&self, other: &ObjectId) -> Option<Ordering> {
+        Some(self.cmp(other))
+    }
+}
+
+/// The order of the kinds, and then of the bytes.
+impl Ord for ObjectId {
+    ghost use Rattle.std.specs.Prelude.{refl};
+    ghost use Rattle.gix_hash.specs.ObjectId.{id_cmp};
+    ghost use Rattle.gix_hash.specs.IdOrder.{id_order, ids_tie};
+
+    ghost cmp = { id_cmp };
+
+    ghost total = { id_order };
+
+    ghost matches_partial_cmp = { λ _ _. refl };
+
+    ghost matches_eq = { ids_tie };
+
+    fn cmp(&self, other: &ObjectId) -> Ordering {
+        match self.kind().cmp(&other.kind()) {
+            Ordering::Equal => self.as_bytes().cmp(other.as_bytes()),
+            apart => apart,
+        }
+    }
+}
+
 /// Writes the hex text, in lower case.
 impl fmt::Display for ObjectId {
     ghost output = { λ id. Some (hex_of id) };
 
     fn fmt<W: fmt::Write>(&self, f: &mut fmt::Formatter<W>) -> fmt::Result {
-        f.pad(self.write_hex(&mut [0; 64]))
+        f.pad(self.write_hex(&mut [0; SHA256_DIGITS]))
     }
 }
 
 fn is_digit(byte: u8) -> bool
-    ensures { result ≡ is_lower_digit byte }
+    ensures digit { result ≡ is_lower_digit byte }
 {
     matches!(byte, b'0'..=b'9' | b'a'..=b'f')
 }
 
 fn is_lower(text: &[u8]) -> bool
-    ensures { result ≡ is_lower_text text.now }
+    ensures lower { result ≡ is_lower_text text.now }
 {
     text.iter().all(|byte| is_digit(*byte))
 }

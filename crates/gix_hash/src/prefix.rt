@@ -1,10 +1,12 @@
-ghost use Rattle.std.specs.Prelude.{◌≡◌, ◌-◌, ◌*◌, ◌/◌, ◌%◌, ◌<◌, ◌≤◌, ◌++◌, ◌↔◌, length, replicate, slice_index, take, IfOk, IsErrOf, IsFalse, IsOk, IsTrue};
+ghost use Rattle.std.specs.Prelude.{◌≡◌, ◌-◌, ◌*◌, ◌/◌, ◌%◌, ◌<◌, ◌≤◌, ◌++◌, ◌↔◌, length, slice_index, take, IfOk, IsErrOf, IsFalse, IsOk, IsTrue};
 ghost use Rattle.std.specs.Ordering.{nat_cmp};
 ghost use Rattle.std.specs.Cmp.Lexicographic.{slice_cmp};
 ghost use Rattle.hex.specs.Hex.{encode_lower};
+ghost use Rattle.gix_hash.specs.Kind.{digits_in, most_digits};
 ghost use Rattle.gix_hash.specs.ObjectId.{hex_of, is_lower_text, kind_of, IsId};
-ghost use Rattle.gix_hash.specs.Prefix.{digits_in, digits_of, kind_of_digits, prefix_cmp, HasPrefix, IsPrefix};
+ghost use Rattle.gix_hash.specs.Prefix.{digits_of, fewest_digits, kind_of_digits, prefix_cmp, zero_digits, HasPrefix, IsPrefix};
 
+use crate::kind::{SHA1_DIGITS, SHA256_DIGITS};
 use crate::{HexError, Kind, ObjectId};
 use std::cmp::Ordering;
 use std::marker::Model;
@@ -46,22 +48,25 @@ pub enum PrefixError {
 }
 
 impl Prefix {
+    /// The fewest digits of a prefix: fewer are had by too many ids of one repository.
+    pub const MIN_HEX_LEN: usize = 4;
+
     /// The first digits of an id, so many of them.
     pub fn new(id: &ObjectId, hex_len: usize) -> Result<Prefix, PrefixError>
         ensures prefix { IfOk result (λ prefix. HasPrefix prefix id.now) }
         ensures hex_len { IfOk result (λ prefix. prefix.hex_len ≡ hex_len) }
         ensures is_prefix { IfOk result IsPrefix }
-        ensures short { IsErrOf result (PrefixError.TooShort hex_len) ↔ (hex_len < 4) }
+        ensures short { IsErrOf result (PrefixError.TooShort hex_len) ↔ (hex_len < fewest_digits) }
         ensures long { IsErrOf result (PrefixError.TooLong hex_len) ↔ (digits_in (kind_of id.now) < hex_len) }
-        ensures otherwise { IsOk result ↔ ((4 ≤ hex_len) × (hex_len ≤ digits_in (kind_of id.now))) }
+        ensures otherwise { IsOk result ↔ ((fewest_digits ≤ hex_len) × (hex_len ≤ digits_in (kind_of id.now))) }
     {
-        if hex_len < 4 {
+        if hex_len < Prefix::MIN_HEX_LEN {
             return Err(PrefixError::TooShort { hex_len });
         }
         if hex_len > id.kind().len_in_hex() {
             return Err(PrefixError::TooLong { hex_len });
         }
-        let mut room = [0; 64];
+        let mut room = [0; SHA256_DIGITS];
         let text = id.write_hex(&mut room);
         let digits = text.as_bytes();
         match padded(&digits[..hex_len], id.kind()) {
@@ -76,16 +81,16 @@ impl Prefix {
         ensures hex_len { IfOk result (λ prefix. prefix.hex_len ≡ length text.now) }
         ensures kind { IfOk result (λ prefix. kind_of prefix.id ≡ kind_of_digits (length text.now)) }
         ensures is_prefix { IfOk result IsPrefix }
-        ensures short { IsErrOf result (PrefixError.TooShort (length text.now)) ↔ (length text.now < 4) }
-        ensures long { IsErrOf result (PrefixError.TooLong (length text.now)) ↔ (64 < length text.now) }
-        ensures invalid { IsErrOf result PrefixError.Invalid ↔ ((4 ≤ length text.now) × (length text.now ≤ 64) × IsFalse (is_lower_text text.now)) }
-        ensures otherwise { IsOk result ↔ ((4 ≤ length text.now) × (length text.now ≤ 64) × IsTrue (is_lower_text text.now)) }
+        ensures short { IsErrOf result (PrefixError.TooShort (length text.now)) ↔ (length text.now < fewest_digits) }
+        ensures long { IsErrOf result (PrefixError.TooLong (length text.now)) ↔ (most_digits < length text.now) }
+        ensures invalid { IsErrOf result PrefixError.Invalid ↔ ((fewest_digits ≤ length text.now) × (length text.now ≤ most_digits) × IsFalse (is_lower_text text.now)) }
+        ensures otherwise { IsOk result ↔ ((fewest_digits ≤ length text.now) × (length text.now ≤ most_digits) × IsTrue (is_lower_text text.now)) }
     {
         let hex_len = text.len();
-        if hex_len < 4 {
+        if hex_len < Prefix::MIN_HEX_LEN {
             return Err(PrefixError::TooShort { hex_len });
         }
-        if hex_len > 64 {
+        if hex_len > SHA256_DIGITS {
             return Err(PrefixError::TooLong { hex_len });
         }
         match padded(text, kind_of_len(hex_len)) {
@@ -126,7 +131,7 @@ impl Prefix {
 fn kind_of_len(hex_len: usize) -> Kind
     ensures kind { result ≡ kind_of_digits hex_len }
 {
-    if hex_len <= 40 {
+    if hex_len <= SHA1_DIGITS {
         Kind::Sha1
     } else {
         Kind::Sha256
@@ -135,21 +140,21 @@ fn kind_of_len(hex_len: usize) -> Kind
 
 // The id whose text begins with these digits and goes on with zeros.
 fn padded(digits: &[u8], kind: Kind) -> Result<ObjectId, HexError>
-    requires { length digits.now ≤ digits_in kind }
+    requires fits { length digits.now ≤ digits_in kind }
     ensures id { IfOk result IsId }
     ensures kind { IfOk result (λ id. kind_of id ≡ kind) }
-    ensures text { IfOk result (λ id. hex_of id ≡ digits.now ++ replicate (digits_in kind - length digits.now) 48) }
+    ensures text { IfOk result (λ id. hex_of id ≡ digits.now ++ zero_digits (digits_in kind - length digits.now)) }
     ensures digits { IsOk result ↔ IsTrue (is_lower_text digits.now) }
 {
     ObjectId::from_hex(&with_zeros(digits)[..kind.len_in_hex()])
 }
 
 // Digits with zeros behind them, as many as the longest text has.
-fn with_zeros(digits: &[u8]) -> [u8; 64]
-    requires { length digits.now ≤ 64 }
-    ensures { result ≡ digits.now ++ replicate (64 - length digits.now) 48 }
+fn with_zeros(digits: &[u8]) -> [u8; SHA256_DIGITS]
+    requires fits { length digits.now ≤ most_digits }
+    ensures text { result ≡ digits.now ++ zero_digits (most_digits - length digits.now) }
 {
-    let mut text = [b'0'; 64];
+    let mut text = [b'0'; SHA256_DIGITS];
     text[..digits.len()].copy_from_slice(digits);
     text
 }

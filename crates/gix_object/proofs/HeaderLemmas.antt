@@ -13,8 +13,8 @@ use Rattle.gix_object.specs.declared.kind.Kind.{Kind}
 use Rattle.gix_object.specs.declared.kind.Kind.TheVariants.{Commit, Tree, Blob, Tag}
 use Rattle.gix_object.specs.Kind.{kind_of_word, kind_word}
 use Rattle.std.proofs.Math.Seq.{drop-append_seam}
-use Rattle.gix_object.specs.Loose.{IsLoose, LooseObject, head_of, header_of, loose_of, spelled}
-use Rattle.gix_object.specs.Loose.Laws.{IsLoose-loose_of, behind_space, front_of, front-spelled, loose_of-IsLoose, loose_of-no_place, loose_of-place, none-loose_of}
+use Rattle.gix_object.specs.Loose.{IsLoose, LooseObject, head_of, header_of, header_room, loose_of, spelled}
+use Rattle.gix_object.proofs.LooseLaws.{IsLoose-loose_of, behind_space, front_of, front-spelled, loose_of-IsLoose, loose_of-no_place, loose_of-place, none-loose_of}
 
 -- ---- a header without its NUL
 
@@ -99,20 +99,20 @@ chosen true place found e = (refl, cc e)
 chosen false place found e = cc e
 
 -- the place that the code found, if it found one
-pub place_of : (bytes : List ℕ) (place : ℕ) → Some place ≡ position (λ b. b == 0) (take 64 bytes) → loose_of bytes ≡ spelled (take place bytes) (drop (place + 1) bytes)
+pub place_of : (bytes : List ℕ) (place : ℕ) → Some place ≡ position (λ b. b == 0) (take header_room bytes) → loose_of bytes ≡ spelled (take place bytes) (drop (place + 1) bytes)
 place_of bytes place e =
-    let first = position_or_len (λ b. b == 0) (take 64 bytes) in
-    let found = chosen (nat_lt first (length (take 64 bytes))) first place e in
+    let first = position_or_len (λ b. b == 0) (take header_room bytes) in
+    let found = chosen (nat_lt first (length (take header_room bytes))) first place e in
     rw found.1 (loose_of-place bytes (less _ _ found.0))
 
 not_chosen : (test : Bool) (place : ℕ) → None ≡ cond test (Some place) None → test ≡ false
 not_chosen true place e = cc e
 not_chosen false place e = refl
 
-pub no_place : (bytes : List ℕ) → None ≡ position (λ b. b == 0) (take 64 bytes) → loose_of bytes ≡ None
+pub no_place : (bytes : List ℕ) → None ≡ position (λ b. b == 0) (take header_room bytes) → loose_of bytes ≡ None
 no_place bytes e =
-    let first = position_or_len (λ b. b == 0) (take 64 bytes) in
-    loose_of-no_place bytes (more _ _ (not_chosen (nat_lt first (length (take 64 bytes))) first e))
+    let first = position_or_len (λ b. b == 0) (take header_room bytes) in
+    loose_of-no_place bytes (more _ _ (not_chosen (nat_lt first (length (take header_room bytes))) first e))
 
 -- ---- what reading a file's header tells
 

@@ -1,4 +1,8 @@
+pub mod KindLaws
+pub mod LooseLaws
+pub mod IdLaws
+mod PlaceLemmas
 mod HeaderLemmas
+mod SinkLemmas
 mod IdExamples
 mod LooseExamples
-mod SinkLemmas

@@ -1,5 +1,4 @@
 -- The ids of objects.
-pub mod Laws
 use Rattle.std.specs.Prelude.{ℕ, List, ◌++◌, length}
 use Rattle.gix_hash.specs.Hash.{hash_of}
 use Rattle.gix_hash.specs.declared.kind.Kind.{Kind as HashKind}

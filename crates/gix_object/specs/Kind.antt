@@ -1,5 +1,4 @@
 -- The kinds of objects, and the words for them.
-pub mod Laws
 use Rattle.std.specs.Prelude.{ℕ, List, codes, nat_eq, Option, Some, None, if◌then◌else◌}
 use lib.Pointwise.{pointwise}
 use Rattle.gix_object.specs.declared.kind.Kind.{Kind}

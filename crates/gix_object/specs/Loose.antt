@@ -1,7 +1,5 @@
 -- A loose object: a header, and then the data.
 -- `IsLoose` is the grammar; `loose_of` computes it.
-pub mod Place
-pub mod Laws
 use Rattle.std.specs.Prelude.{◌≡◌, ℕ, ◌<◌, ◌≤◌, ◌^◌, ◌==◌, List, [], ◌∷◌, ◌++◌, length, take, codes, nat_lt, Option, Some, None, option_and_then, if◌then◌else◌}
 use Rattle.std.specs.List.{position_or_len, before_first, after_first}
 use Rattle.std.specs.Fmt.{decimal}
@@ -9,15 +7,23 @@ use Rattle.odb_base.specs.Decimal.{number_of}
 use Rattle.gix_object.specs.Kind.{kind_of_word, kind_word}
 use Rattle.gix_object.specs.declared.kind.Kind.{Kind}
 
+-- how many first bytes of a file a header ends in: more than the longest header has
+abbrev pub header_room : ℕ
+header_room = 64
+
+-- the length of the longest header: a word of 6 bytes, a space, 20 digits and NUL
+abbrev pub longest_header : ℕ
+longest_header = 28
+
 -- the header: the kind's word, a space, the size in decimal without leading zeros, and NUL
 unfoldable pub header_of : Kind → ℕ → List ℕ
 header_of kind size = kind_word kind ++ codes " " ++ decimal size ++ 0 ∷ []
 
--- the bytes begin with a header, which ends in their first 64; the data follow
+-- the bytes begin with a header, which ends early enough; the data follow
 pub record IsLoose (bytes : List ℕ) (kind : Kind) (size : ℕ) (rest : List ℕ) : Type 0 where
   pub whole : bytes ≡ header_of kind size ++ rest
   pub fits : size < 2 ^ 64
-  pub early : length (header_of kind size) ≤ 64
+  pub early : length (header_of kind size) ≤ header_room
 
 -- an object as its file spells it: the data, and the size that the header says
 pub record LooseObject : Type 0 where
@@ -29,17 +35,17 @@ infixl 10 ◌>>=◌
 abbrev ◌>>=◌ : {A B : Type 0} → Option A → (A → Option B) → Option B
 found >>= f = option_and_then f found
 
--- the kind and the size of a header without its NUL, with the data
+-- the kind and the size of a header without its NUL, which stand before and behind its first space (byte 32), with the data
 unfoldable pub spelled : List ℕ → List ℕ → Option LooseObject
 spelled header rest = do
   kind ← kind_of_word (before_first (λ b. b == 32) header)
   size ← number_of (after_first (λ b. b == 32) header)
   Some (record { kind = kind; size = size; rest = rest })
 
--- the object that a file's bytes spell, if a header ends in their first 64
+-- the object that a file's bytes spell, if their first NUL stands where a header may end
 unfoldable pub loose_of : List ℕ → Option LooseObject
 loose_of bytes =
-    if nat_lt (position_or_len (λ b. b == 0) (take 64 bytes)) (length (take 64 bytes))
+    if nat_lt (position_or_len (λ b. b == 0) (take header_room bytes)) (length (take header_room bytes))
     then spelled (before_first (λ b. b == 0) bytes) (after_first (λ b. b == 0) bytes)
     else None
 

@@ -1,13 +1,13 @@
 //! Objects read from bytes.
 ghost use Rattle.std.specs.Prelude.{◌≡◌, ◌<◌, ◌≤◌, ◌==◌, ◌↔◌, List, ℕ, take, drop, length, IfSome, IfNone, IfOk, IsErr, MatchOption, option_map, Some, None};
 ghost use Rattle.std.specs.List.{position};
-ghost use Rattle.gix_object.specs.Loose.{head_of, header_of, loose_of, spelled, IsLoose};
+ghost use Rattle.gix_object.specs.Loose.{head_of, header_of, header_room, loose_of, spelled, IsLoose};
 
 use crate::Kind;
 use odb_base::parse_decimal;
 use thiserror::Error;
 
-/// The most bytes of a header, with its NUL.
+/// In how many first bytes a header ends, with its NUL. The longest header is shorter.
 const LONGEST: usize = 64;
 
 /// The bytes begin with no header of a loose object.
@@ -33,7 +33,7 @@ pub fn loose_header(bytes: &[u8]) -> Result<(Kind, u64, usize), InvalidHeader>
 
 // The header, if there is one.
 fn header_in(bytes: &[u8]) -> Option<(Kind, u64, usize)>
-    ensures { result ≡ option_map head_of (loose_of bytes.now) }
+    ensures header { result ≡ option_map head_of (loose_of bytes.now) }
 {
     let nul = place_of_nul(bytes)?;
     let (kind, size) = parsed(&bytes[..nul])?;
@@ -42,7 +42,7 @@ fn header_in(bytes: &[u8]) -> Option<(Kind, u64, usize)>
 
 // Where the first NUL stands, if it does in the part where a header has to end.
 fn place_of_nul(bytes: &[u8]) -> Option<usize>
-    ensures first { result ≡ position (λ b. b == 0) (take 64 bytes.now) }
+    ensures first { result ≡ position (λ b. b == 0) (take header_room bytes.now) }
     ensures within { IfSome result (λ nul. nul < length bytes.now) }
 {
     bytes.iter().take(LONGEST).position(|b| *b == 0)

@@ -1,6 +1,6 @@
 //! Objects as bytes.
 ghost use Rattle.std.specs.Prelude.{◌≡◌, ◌≤◌, ℕ, List, ◌++◌, length, IfOk};
-ghost use Rattle.gix_object.specs.Loose.{header_of, loose_of, IsLoose};
+ghost use Rattle.gix_object.specs.Loose.{header_of, longest_header, loose_of, IsLoose};
 
 use crate::Kind;
 use odb_base::{ByteList, NoMemory};
@@ -13,7 +13,7 @@ pub fn loose_header(alloc: Global, kind: Kind, size: u64) -> Result<ByteList, No
     ensures header { IfOk result (λ header. header ≡ header_of kind size) }
     ensures grammar { IfOk result (λ header. (rest : List ℕ) → IsLoose (header ++ rest) kind size rest) }
     ensures read_back { IfOk result (λ header. (rest : List ℕ) → loose_of (header ++ rest) ≡ Some (record { kind = kind; size = size; rest = rest })) }
-    ensures short { IfOk result (λ header. length header ≤ 28) }
+    ensures short { IfOk result (λ header. length header ≤ longest_header) }
 {
     let header = format!(in alloc; "{kind} {size}\0")?;
     Ok(ByteList::from_vec(header.into_bytes()))

@@ -32,7 +32,7 @@ pub trait Find {
         id: &ObjectId,
         out: &'a mut Vec<u8>,
     ) -> Result<Option<Data<'a>>, Self::Error>
-        requires { kind_of id.now ≡ hash self.old }
+        requires hash { kind_of id.now ≡ hash self.old }
         ensures answered { finds self.old id.now (found_of result) self.new }
         ensures object_hash { IfOk result (λ found. IfSome found (λ object. object.object_hash ≡ hash self.old)) }
         ensures hash { hash self.new ≡ hash self.old };
@@ -56,7 +56,7 @@ pub trait FindHeader {
         alloc: Global,
         id: &ObjectId,
     ) -> Result<Option<Header>, Self::Error>
-        requires { kind_of id.now ≡ hash self.old }
+        requires hash { kind_of id.now ≡ hash self.old }
         ensures answered { finds_header self.old id.now result self.new }
         ensures hash { hash self.new ≡ hash self.old };
 }
@@ -74,7 +74,7 @@ pub trait Exists {
 
     /// Whether there is an object with this id.
     fn exists<R: Wait>(&mut self, rt: &R, alloc: Global, id: &ObjectId) -> Result<bool, Self::Error>
-        requires { kind_of id.now ≡ hash self.old }
+        requires hash { kind_of id.now ≡ hash self.old }
         ensures answered { tests self.old id.now result self.new }
         ensures hash { hash self.new ≡ hash self.old };
 }

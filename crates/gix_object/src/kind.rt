@@ -16,7 +16,7 @@ impl Kind {
     /// The kind that a word names: `commit`, `tree`, `blob` or `tag`. Any other word is none.
     #[tactic(auto, unfolding(crate::specs::Kind::kind_of_word))]
     pub fn from_bytes(word: &[u8]) -> Option<Kind>
-        ensures { result ≡ kind_of_word word.now }
+        ensures kind { result ≡ kind_of_word word.now }
     {
         if word == b"commit".as_slice() {
             Some(Kind::Commit)
@@ -33,7 +33,7 @@ impl Kind {
 
     /// The word for the kind, as it stands in a header.
     pub fn as_bytes(self) -> &'static [u8]
-        ensures { result.now ≡ kind_word self }
+        ensures word { result.now ≡ kind_word self }
     {
         match self {
             Kind::Commit => b"commit",

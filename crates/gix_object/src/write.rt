@@ -24,11 +24,11 @@ pub trait WriteTo {
 
     /// What the object is.
     fn kind(&self) -> Kind
-        ensures { result ≡ kind self.now };
+        ensures kind { result ≡ kind self.now };
 
     /// How many bytes it gives.
     fn size(&self) -> u64
-        ensures { result ≡ length (bytes self.now) };
+        ensures size { result ≡ length (bytes self.now) };
 
     /// Writes the data to a sink, and fails only where the sink failed.
     fn write_to<K: Sink>(&self, out: &mut K) -> Result<(), Failed>
@@ -76,7 +76,7 @@ pub trait Write {
         from: &[u8],
         id: ObjectId,
     ) -> Result<ObjectId, Self::Error>
-        requires { kind_of id ≡ hash self.old }
+        requires hash { kind_of id ≡ hash self.old }
         ensures answered { writes self.old (record { kind = kind; bytes = from.now }) (Some id) result self.new }
         ensures id { IfOk result (λ answered. answered ≡ id) }
         ensures hash { hash self.new ≡ hash self.old };
@@ -108,7 +108,7 @@ pub trait Write {
         from: &mut S,
         id: ObjectId,
     ) -> Result<ObjectId, Self::Error>
-        requires { kind_of id ≡ hash self.old }
+        requires hash { kind_of id ≡ hash self.old }
         ensures answered { streams self.old kind size (stream_of (S.left from.old) (S.faults from.old) (S.left from.new) (S.faults from.new)) (Some id) result self.new }
         ensures from { IsDrawn (stream_of (S.left from.old) (S.faults from.old) (S.left from.new) (S.faults from.new)) }
         ensures whole { IfOk result (λ _. IsWhole size (S.left from.old) (S.left from.new)) }

@@ -1,10 +1,10 @@
-//! A database through each bound of the traits, in words: its calls and what they answer.
-ghost use Rattle.std.specs.Prelude.{◌≡◌, IfOk};
+//! A database through each bound of the traits: its calls and what they answer.
+ghost use Rattle.std.specs.Prelude.{◌≡◌, IfOk, IfSome};
 ghost use Rattle.gix_hash.specs.ObjectId.{kind_of};
 
 use crate::front::Front;
 use crate::shelf::Shelf;
-use crate::words::{compare, first_word};
+use crate::words::compare;
 use gix_hash::ObjectId;
 use gix_object::{Data, Exists, Find, FindHeader, Header, Kind, Write, WriteTo};
 use odb_disk::{MemSink, MemSource};
@@ -21,7 +21,8 @@ fn found<D: Find, R: Wait>(
     database: &mut D,
     id: &ObjectId,
 ) -> Result<String, AllocError>
-    requires { kind_of id.now ≡ D.hash database.old }
+    requires hash { kind_of id.now ≡ D.hash database.old }
+    ensures hash { D.hash database.new ≡ D.hash database.old }
 {
     let mut out = Vec::from_slice(alloc, b"before")?;
     let shown = match database.try_find(rt, alloc, id, &mut out) {
@@ -49,7 +50,8 @@ fn header<D: FindHeader, R: Wait>(
     database: &mut D,
     id: &ObjectId,
 ) -> Result<String, AllocError>
-    requires { kind_of id.now ≡ D.hash database.old }
+    requires hash { kind_of id.now ≡ D.hash database.old }
+    ensures hash { D.hash database.new ≡ D.hash database.old }
 {
     match database.try_header(rt, alloc, id) {
         Ok(Some(Header { kind, size })) => format!(in alloc; "{kind} {size}"),
@@ -65,7 +67,7 @@ fn presence<D: Exists, R: Wait>(
     database: &mut D,
     id: &ObjectId,
 ) -> &'static str
-    requires { kind_of id.now ≡ D.hash database.old }
+    requires hash { kind_of id.now ≡ D.hash database.old }
 {
     match database.exists(rt, alloc, id) {
         Ok(true) => "yes",
@@ -75,80 +77,82 @@ fn presence<D: Exists, R: Wait>(
 }
 
 /// What a write answers: the id or `refused`.
-fn wrote<E: Drop>(alloc: Global, answer: Result<ObjectId, E>) -> Result<String, AllocError> {
+fn id_shown<E: Drop>(alloc: Global, answer: Result<ObjectId, E>) -> Result<String, AllocError> {
     match answer {
         Ok(id) => format!(in alloc; "{id}"),
         Err(_) => "refused".to_string(alloc),
     }
 }
 
-fn write_buf<D: Write, R: Wait>(
+/// What a write of bytes answers, under a known id where there is one.
+fn wrote<D: Write, R: Wait>(
     rt: &R,
     alloc: Global,
     database: &mut D,
     kind: Kind,
-    data: &str,
-) -> Result<String, AllocError> {
-    let answer = database.write_buf(rt, alloc, kind, data.as_bytes());
-    wrote(alloc, answer)
-}
-
-fn write_known<D: Write, R: Wait>(
-    rt: &R,
-    alloc: Global,
-    database: &mut D,
-    kind: Kind,
-    data: &str,
-    id: ObjectId,
+    data: &[u8],
+    known: Option<ObjectId>,
 ) -> Result<String, AllocError>
-    requires { kind_of id ≡ D.hash database.old }
+    requires hash { IfSome known (λ id. kind_of id ≡ D.hash database.old) }
 {
-    let answer = database.write_buf_with_known_id(rt, alloc, kind, data.as_bytes(), id);
-    wrote(alloc, answer)
+    match known {
+        Some(id) => id_shown(
+            alloc,
+            database.write_buf_with_known_id(rt, alloc, kind, data, id),
+        ),
+        None => id_shown(alloc, database.write_buf(rt, alloc, kind, data)),
+    }
 }
 
-fn write_object<D: Write, R: Wait>(
+/// What a write of `size` bytes of a source answers, under a known id where there is one.
+fn streamed<D: Write, R: Wait>(
+    rt: &R,
+    alloc: Global,
+    database: &mut D,
+    kind: Kind,
+    size: u64,
+    from: &mut MemSource,
+    known: Option<ObjectId>,
+) -> Result<String, AllocError>
+    requires hash { IfSome known (λ id. kind_of id ≡ D.hash database.old) }
+{
+    match known {
+        Some(id) => id_shown(
+            alloc,
+            database.write_stream_with_known_id(rt, alloc, kind, size, from, id),
+        ),
+        None => id_shown(alloc, database.write_stream(rt, alloc, kind, size, from)),
+    }
+}
+
+/// What a write of an object that gives its own data answers.
+fn gave<D: Write, R: Wait>(
     rt: &R,
     alloc: Global,
     database: &mut D,
     object: &Data,
 ) -> Result<String, AllocError> {
-    let answer = database.write(rt, alloc, object);
-    wrote(alloc, answer)
-}
-
-fn write_stream<D: Write, R: Wait>(
-    rt: &R,
-    alloc: Global,
-    database: &mut D,
-    kind: Kind,
-    size: u64,
-    from: &mut MemSource,
-) -> Result<String, AllocError> {
-    let answer = database.write_stream(rt, alloc, kind, size, from);
-    wrote(alloc, answer)
-}
-
-fn write_known_stream<D: Write, R: Wait>(
-    rt: &R,
-    alloc: Global,
-    database: &mut D,
-    kind: Kind,
-    size: u64,
-    from: &mut MemSource,
-    id: ObjectId,
-) -> Result<String, AllocError>
-    requires { kind_of id ≡ D.hash database.old }
-{
-    let answer = database.write_stream_with_known_id(rt, alloc, kind, size, from, id);
-    wrote(alloc, answer)
+    id_shown(alloc, database.write(rt, alloc, object))
 }
 
 // ---- rows
 
+/// What is asked of a database.
+#[derive(Clone, Copy)]
+enum Call {
+    /// A find, a look for a header and a test of presence, of an id.
+    Ask(&'static str),
+    /// A write of data, under an id where there is one.
+    Write(Option<&'static str>, Kind, &'static str),
+    /// A write of as many bytes as the first number says, from a source whose read with the second number fails.
+    Stream(Option<&'static str>, Kind, u64, u64, &'static str),
+    /// A write of an object that gives its own data.
+    Give(Kind, &'static str),
+}
+
 /// An id of this hash, by its hex digits.
 fn id_of(hash: gix_hash::Kind, hex: &str) -> Result<ObjectId, Fail>
-    ensures { IfOk result (λ id. kind_of id ≡ hash) }
+    ensures hash { IfOk result (λ id. kind_of id ≡ hash) }
 {
     let id = ObjectId::from_hex(hex.as_bytes())?;
     if id.kind() == hash {
@@ -157,193 +161,158 @@ fn id_of(hash: gix_hash::Kind, hex: &str) -> Result<ObjectId, Fail>
     Err(Fail::new("an id of the other hash"))
 }
 
-fn kind_named(word: &str) -> Result<Kind, Fail> {
-    match Kind::from_bytes(word.as_bytes()) {
-        Some(kind) => Ok(kind),
-        None => Err(Fail::new("no kind")),
+fn known_of(hash: gix_hash::Kind, hex: Option<&str>) -> Result<Option<ObjectId>, Fail>
+    ensures hash { IfOk result (λ known. IfSome known (λ id. kind_of id ≡ hash)) }
+{
+    match hex {
+        Some(hex) => Ok(Some(id_of(hash, hex)?)),
+        None => Ok(None),
     }
 }
 
-/// `ask HEX`: what a find, a look for a header and a test of presence answer.
 fn asked<R: Wait>(
     rt: &R,
     alloc: Global,
     database: &mut Front<Shelf>,
     hex: &str,
 ) -> Result<String, Fail> {
-    let found = find(rt, alloc, database, hex)?;
-    let head = head(rt, alloc, database, hex)?;
-    let there = there(rt, alloc, database, hex)?;
-    Ok(format!(in alloc; "{found}, {head}, {there}")?)
-}
-
-fn find<R: Wait>(
-    rt: &R,
-    alloc: Global,
-    database: &mut Front<Shelf>,
-    hex: &str,
-) -> Result<String, Fail> {
     let id = id_of(database.inner.hash, hex)?;
-    Ok(found(rt, alloc, database, &id)?)
-}
-
-fn head<R: Wait>(
-    rt: &R,
-    alloc: Global,
-    database: &mut Front<Shelf>,
-    hex: &str,
-) -> Result<String, Fail> {
-    let id = id_of(database.inner.hash, hex)?;
-    Ok(header(rt, alloc, database, &id)?)
-}
-
-fn there<R: Wait>(
-    rt: &R,
-    alloc: Global,
-    database: &mut Front<Shelf>,
-    hex: &str,
-) -> Result<&'static str, Fail> {
-    let id = id_of(database.inner.hash, hex)?;
-    Ok(presence(rt, alloc, database, &id))
-}
-
-/// `write KIND DATA`
-fn write<R: Wait>(
-    rt: &R,
-    alloc: Global,
-    database: &mut Front<Shelf>,
-    rest: &str,
-) -> Result<String, Fail> {
-    let (kind, data) = first_word(rest);
-    let kind = kind_named(kind)?;
-    Ok(write_buf(rt, alloc, database, kind, data)?)
-}
-
-/// `object KIND DATA`
-fn object<R: Wait>(
-    rt: &R,
-    alloc: Global,
-    database: &mut Front<Shelf>,
-    rest: &str,
-) -> Result<String, Fail> {
-    let (kind, data) = first_word(rest);
-    let object = Data {
-        kind: kind_named(kind)?,
-        object_hash: database.inner.hash,
-        bytes: data.as_bytes(),
-    };
-    Ok(write_object(rt, alloc, database, &object)?)
-}
-
-/// `as HEX KIND DATA`
-fn known<R: Wait>(
-    rt: &R,
-    alloc: Global,
-    database: &mut Front<Shelf>,
-    rest: &str,
-) -> Result<String, Fail> {
-    let (hex, rest) = first_word(rest);
-    let id = id_of(database.inner.hash, hex)?;
-    let (kind, data) = first_word(rest);
-    let kind = kind_named(kind)?;
-    Ok(write_known(rt, alloc, database, kind, data, id)?)
+    let found = found(rt, alloc, database, &id)?;
+    let header = header(rt, alloc, database, &id)?;
+    let presence = presence(rt, alloc, database, &id);
+    Ok(format!(in alloc; "{found}, {header}, {presence}")?)
 }
 
 /// A source of which the read with this number fails.
-fn source_of(alloc: Global, failing: &str, data: &str) -> Result<MemSource, Fail> {
-    let failing = failing.parse::<u64>()?;
+fn source_of(alloc: Global, failing: u64, data: &str) -> Result<MemSource, Fail> {
     let data = data.as_bytes().to_vec(alloc)?;
     Ok(MemSource::with_faults(alloc, data, &[failing])?)
 }
 
-/// `stream KIND SIZE FAILING DATA`
-fn stream<R: Wait>(
+fn written<R: Wait>(
     rt: &R,
     alloc: Global,
     database: &mut Front<Shelf>,
-    rest: &str,
+    hex: Option<&str>,
+    kind: Kind,
+    data: &str,
 ) -> Result<String, Fail> {
-    let (kind, rest) = first_word(rest);
-    let kind = kind_named(kind)?;
-    let (size, rest) = first_word(rest);
-    let size = size.parse::<u64>()?;
-    let (failing, data) = first_word(rest);
-    let mut from = source_of(alloc, failing, data)?;
-    Ok(write_stream(rt, alloc, database, kind, size, &mut from)?)
+    let known = known_of(database.inner.hash, hex)?;
+    Ok(wrote(rt, alloc, database, kind, data.as_bytes(), known)?)
 }
 
-/// `streamas HEX KIND SIZE DATA`
-fn known_stream<R: Wait>(
+fn drawn<R: Wait>(
     rt: &R,
     alloc: Global,
     database: &mut Front<Shelf>,
-    rest: &str,
+    hex: Option<&str>,
+    kind: Kind,
+    size: u64,
+    mut from: MemSource,
 ) -> Result<String, Fail> {
-    let (hex, rest) = first_word(rest);
-    let id = id_of(database.inner.hash, hex)?;
-    let (kind, rest) = first_word(rest);
-    let kind = kind_named(kind)?;
-    let (size, data) = first_word(rest);
-    let size = size.parse::<u64>()?;
-    let mut from = source_of(alloc, "0", data)?;
-    Ok(write_known_stream(rt, alloc, database, kind, size, &mut from, id)?)
+    let known = known_of(database.inner.hash, hex)?;
+    Ok(streamed(rt, alloc, database, kind, size, &mut from, known)?)
 }
 
-fn told<R: Wait>(
+fn answered<R: Wait>(
     rt: &R,
     alloc: Global,
     database: &mut Front<Shelf>,
-    text: &str,
+    call: Call,
 ) -> Result<String, Fail> {
-    let (verb, rest) = first_word(text);
-    match verb {
-        "ask" => asked(rt, alloc, database, rest),
-        "write" => write(rt, alloc, database, rest),
-        "object" => object(rt, alloc, database, rest),
-        "as" => known(rt, alloc, database, rest),
-        "stream" => stream(rt, alloc, database, rest),
-        _ => known_stream(rt, alloc, database, rest),
+    match call {
+        Call::Ask(hex) => asked(rt, alloc, database, hex),
+        Call::Write(hex, kind, data) => written(rt, alloc, database, hex, kind, data),
+        Call::Stream(hex, kind, size, failing, data) => {
+            let from = source_of(alloc, failing, data)?;
+            drawn(rt, alloc, database, hex, kind, size, from)
+        }
+        Call::Give(kind, data) => {
+            let object = Data {
+                kind,
+                object_hash: database.inner.hash,
+                bytes: data.as_bytes(),
+            };
+            Ok(gave(rt, alloc, database, &object)?)
+        }
     }
 }
 
+/// Git's id of the blob `hello`.
+const HELLO: &str = "b6fc4c620b67d95f953a5c1c1230aaab5db5a1b0";
+
+/// An id that no object here has by its data.
+const GIVEN: &str = "0000000000000000000000000000000000000000";
+
+/// What a row shows, the call, and what it answers.
+type Row = (&'static str, Call, &'static str);
+
+const ROWS: &[Row] = &[
+    ("empty", Call::Ask(HELLO), "none, none, no"),
+    ("written", Call::Write(None, Kind::Blob, "hello"), HELLO),
+    ("found", Call::Ask(HELLO), "blob hello, blob 5, yes"),
+    ("another", Call::Ask(GIVEN), "none, none, no"),
+    ("known", Call::Write(Some(GIVEN), Kind::Tag, "t"), GIVEN),
+    ("found by it", Call::Ask(GIVEN), "tag t, tag 1, yes"),
+    ("no more", Call::Ask(HELLO), "none, none, no"),
+    (
+        "long",
+        Call::Stream(None, Kind::Blob, 4, 0, "hello"),
+        "refused",
+    ),
+    (
+        "short",
+        Call::Stream(None, Kind::Blob, 6, 0, "hello"),
+        "refused",
+    ),
+    (
+        "fails",
+        Call::Stream(None, Kind::Blob, 5, 2, "hello"),
+        "refused",
+    ),
+    ("as before", Call::Ask(GIVEN), "tag t, tag 1, yes"),
+    (
+        "whole",
+        Call::Stream(None, Kind::Blob, 5, 0, "hello"),
+        HELLO,
+    ),
+    (
+        "none known",
+        Call::Stream(Some(GIVEN), Kind::Tree, 0, 0, ""),
+        GIVEN,
+    ),
+    ("no data", Call::Ask(GIVEN), "tree , tree 0, yes"),
+    ("given", Call::Give(Kind::Blob, "hello"), HELLO),
+    ("found again", Call::Ask(HELLO), "blob hello, blob 5, yes"),
+];
+
+fn check_row<R: Wait>(
+    rt: &R,
+    alloc: Global,
+    database: &mut Front<Shelf>,
+    row: &Row,
+) -> Result<(), Fail> {
+    let (shows, call, want) = row;
+    let found = answered(rt, alloc, database, *call)?;
+    compare(shows, found.as_str(), want)
+}
+
 /// What each row gives, in turn, through a layer in front of a database of one object.
-fn check<R: Wait>(rt: &R, alloc: Global, rows: &[&str]) -> Result<(), Fail> {
+fn check<R: Wait>(rt: &R, alloc: Global, rows: &[Row]) -> Result<(), Fail> {
     let mut database = Front {
         inner: Shelf::new(gix_hash::Kind::Sha1),
     };
     for row in rows {
-        let (text, want) = row.split_once('|').unwrap_or((row, ""));
-        let found = told(rt, alloc, &mut database, text)?;
-        compare(text, found.as_str(), want)?;
+        check_row(rt, alloc, &mut database, row)?;
     }
     Ok(())
 }
-
-// Git's id of the blob `hello`.
-const ROWS: [&str; 16] = [
-    "ask b6fc4c620b67d95f953a5c1c1230aaab5db5a1b0|none, none, no",
-    "write blob hello|b6fc4c620b67d95f953a5c1c1230aaab5db5a1b0",
-    "ask b6fc4c620b67d95f953a5c1c1230aaab5db5a1b0|blob hello, blob 5, yes",
-    "ask 0000000000000000000000000000000000000000|none, none, no",
-    "as 0000000000000000000000000000000000000000 tag t|0000000000000000000000000000000000000000",
-    "ask 0000000000000000000000000000000000000000|tag t, tag 1, yes",
-    "ask b6fc4c620b67d95f953a5c1c1230aaab5db5a1b0|none, none, no",
-    "stream blob 4 0 hello|refused",
-    "stream blob 6 0 hello|refused",
-    "stream blob 5 2 hello|refused",
-    "ask 0000000000000000000000000000000000000000|tag t, tag 1, yes",
-    "stream blob 5 0 hello|b6fc4c620b67d95f953a5c1c1230aaab5db5a1b0",
-    "streamas 0000000000000000000000000000000000000000 tree 0 |0000000000000000000000000000000000000000",
-    "ask 0000000000000000000000000000000000000000|tree , tree 0, yes",
-    "object blob hello|b6fc4c620b67d95f953a5c1c1230aaab5db5a1b0",
-    "ask b6fc4c620b67d95f953a5c1c1230aaab5db5a1b0|blob hello, blob 5, yes",
-];
 
 // A layer that answers something else than the database behind it, data behind what `out` held, a stream that is
 // taken although it is too short, too long or fails, an id that was handed in and isn't answered.
 #[test]
 fn through_the_bounds(rt: HostRuntime) -> Result<(), Fail> {
-    check(&rt, rt.alloc(), &ROWS)
+    check(&rt, rt.alloc(), ROWS)
 }
 
 /// What an object of five bytes writes to a sink of which the write with this number fails.

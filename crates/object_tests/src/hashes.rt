@@ -1,10 +1,8 @@
-ghost use Rattle.std.specs.Prelude.{◌≡◌, ◌<◌};
-ghost use Rattle.gix_hash.specs.ObjectId.{id_cmp};
+ghost use Rattle.std.specs.Prelude.{◌<◌};
 
 use crate::words::{Row, compare, first_word};
 use gix_hash::{Hasher, Kind, ObjectId, Prefix};
 use std::alloc::{AllocError, Global};
-use std::cmp::Ordering;
 use std::test::Fail;
 
 // The answer to a question, whose first word says what is asked.
@@ -91,22 +89,15 @@ fn reads_and_writes_ids(rt: HostRuntime) -> Result<(), Fail> {
     )
 }
 
-// The order that the derive makes: of the kinds, and then of the bytes.
-fn order(a: &ObjectId, b: &ObjectId) -> Ordering
-    ensures { result ≡ id_cmp a.now b.now }
-{
-    a.cmp(b)
-}
-
 fn order_shown(alloc: Global, ids: &str) -> Result<String, Fail> {
     let (first, second) = first_word(ids);
     let a = ObjectId::from_hex(first.as_bytes())?;
     let b = ObjectId::from_hex(second.as_bytes())?;
-    let order = order(&a, &b);
+    let order = a.cmp(&b);
     Ok(format!(in alloc; "{order:?}")?)
 }
 
-// Variants in the other order, or bytes that are compared from the end.
+// Kinds in the other order, or bytes that are compared from the end.
 #[test]
 fn orders_by_kind_and_then_bytes(rt: HostRuntime) -> Result<(), Fail> {
     check(
@@ -193,7 +184,7 @@ fn kind_shown(alloc: Global, kind: Kind) -> Result<String, AllocError> {
 
 /// The id of bytes that are handed over in pieces of at most `most` bytes.
 fn hashed(kind: Kind, bytes: &[u8], most: usize) -> ObjectId
-    requires { 0 < most }
+    requires some { 0 < most }
 {
     let mut hasher = Hasher::new(kind);
     for piece in bytes.chunks(most) {

@@ -8,6 +8,9 @@ use odb_disk::{Failed, MemSink, Source};
 use std::alloc::{AllocError, Global};
 use std::sync::Wait;
 
+/// How many bytes of a source are asked for at a time.
+const PIECE: usize = 16;
+
 /// A database of at most one object: a write takes the place of what was there.
 #[derive(Drop)]
 pub struct Shelf {
@@ -50,7 +53,7 @@ impl From<AllocError> for ShelfError {
 
 impl Shelf {
     pub fn new(hash: gix_hash::Kind) -> Shelf
-        ensures { result.hash ≡ hash }
+        ensures hash { result.hash ≡ hash }
     {
         Shelf { hash, object: None }
     }
@@ -67,7 +70,7 @@ impl Shelf {
 
     // Puts an object under an id.
     fn put(&mut self, id: ObjectId, kind: Kind, bytes: ByteList)
-        ensures { self.new ≡ record self.old { object = Some (record { id = id; kind = kind; bytes = bytes }) } }
+        ensures object { self.new ≡ record self.old { object = Some (record { id = id; kind = kind; bytes = bytes }) } }
     {
         self.object = Some(Stored { id, kind, bytes });
     }
@@ -225,7 +228,7 @@ fn read_whole<S: Source>(alloc: Global, size: u64, from: &mut S) -> Result<ByteL
     ensures bytes { IfOk result (λ bytes. IfSome (S.left from.old) (λ left. left ≡ bytes)) }
 {
     let mut bytes = ByteList::new(alloc);
-    let mut piece = [0u8; 16];
+    let mut piece = [0u8; PIECE];
     'reading: while bytes.len() as u64 <= size {
         let count = from.read(&mut piece)?;
         if count == 0 {

@@ -1,6 +1,6 @@
 use Rattle.std.proofs.Common.{ap, ◌∙◌, arith}
 use Rattle.std.specs.Ordering.{ordering_then}
-use Rattle.gix_hash.proofs.PrefixLemmas.{first_digits}
+use Rattle.gix_hash.proofs.PrefixLemmas.Order.{first_digits}
 use Rattle.gix_hash.proofs.prefix.cmp_digits.Goals as goal
 
 pub returns : goal.returns

@@ -2,19 +2,19 @@ use Rattle.gix_object.proofs.HeaderLemmas.{read-exact, read-found, read-invalid,
 use Rattle.gix_object.proofs.decode.loose_header.Goals as goal
 
 pub returns-clause-found : goal.returns-clause-found
-returns-clause-found c = rw (c.ok_or.ensures.value, c.header_in.ensures) (read-found _ c.args.bytes.now)
+returns-clause-found c = rw (c.ok_or.ensures.value, c.header_in.ensures.header) (read-found _ c.args.bytes.now)
 
 pub returns-clause-length : goal.returns-clause-length
-returns-clause-length c = rw (c.ok_or.ensures.value, c.header_in.ensures) (read-length _ c.args.bytes.now)
+returns-clause-length c = rw (c.ok_or.ensures.value, c.header_in.ensures.header) (read-length _ c.args.bytes.now)
 
 pub returns-clause-within : goal.returns-clause-within
-returns-clause-within c = rw (c.ok_or.ensures.value, c.header_in.ensures) (read-within _ c.args.bytes.now)
+returns-clause-within c = rw (c.ok_or.ensures.value, c.header_in.ensures.header) (read-within _ c.args.bytes.now)
 
 pub returns-clause-only : goal.returns-clause-only
-returns-clause-only c = rw (c.ok_or.ensures.value, c.header_in.ensures) (read-only _ c.args.bytes.now)
+returns-clause-only c = rw (c.ok_or.ensures.value, c.header_in.ensures.header) (read-only _ c.args.bytes.now)
 
 pub returns-clause-invalid : goal.returns-clause-invalid
-returns-clause-invalid c = rw (c.ok_or.ensures.value, c.header_in.ensures) (read-invalid _ c.args.bytes.now)
+returns-clause-invalid c = rw (c.ok_or.ensures.value, c.header_in.ensures.header) (read-invalid _ c.args.bytes.now)
 
 pub returns-clause-exact : goal.returns-clause-exact
-returns-clause-exact c = rw (c.ok_or.ensures.value, c.header_in.ensures) (read-exact _ c.args.bytes.now)
+returns-clause-exact c = rw (c.ok_or.ensures.value, c.header_in.ensures.header) (read-exact _ c.args.bytes.now)

@@ -1,6 +1,6 @@
 use Rattle.std.proofs.Common.{rules, ◌≡◌}
 use Rattle.gix_object.specs.Loose.{header_of}
-use Rattle.gix_object.specs.Loose.Laws.{IsLoose-header_of, length-header_of-fits, loose_of-header_of}
+use Rattle.gix_object.proofs.LooseLaws.{IsLoose-header_of, length-header_of-fits, loose_of-header_of}
 use Rattle.gix_object.proofs.encode.loose_header.Goals as goal
 
 pub returns-clause-grammar : goal.returns-clause-grammar

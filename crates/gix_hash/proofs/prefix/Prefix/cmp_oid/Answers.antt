@@ -1,6 +1,6 @@
 use Rattle.std.proofs.Common.{◌≡◌, sym, ◌∙◌, rules}
 use Rattle.gix_hash.specs.Prefix.{prefix_cmp}
-use Rattle.gix_hash.proofs.PrefixLemmas.{HasPrefix-from_Equal, Equal-from_HasPrefix}
+use Rattle.gix_hash.proofs.PrefixLaws.{HasPrefix-from_Equal, Equal-from_HasPrefix}
 use Rattle.gix_hash.proofs.prefix.Prefix.cmp_oid.Goals as goal
 
 pub returns-in-Equal-clause-equal : goal.returns-in-Equal-clause-equal

@@ -14,9 +14,9 @@ use Rattle.std.proofs.Math.Seq.{take-append_seam, drop-append-add}
 use Rattle.odb_base.specs.Decimal.{number_of}
 use Rattle.odb_base.proofs.DecimalLemmas.{own, IsNumber-number_of, number_of-decimal, decimal-number_of, number_of-fits}
 use Rattle.gix_object.specs.Kind.{kind_of_word, kind_word}
-use Rattle.gix_object.specs.Kind.Laws.{kind_of_word-kind_word, kind_word-kind_of_word}
-use Rattle.gix_object.specs.Loose.{IsLoose, LooseObject, header_of, loose_of, spelled}
-use Rattle.gix_object.specs.Loose.Place.{lacks, first_place, before_place, after_place, place_in_take, split_at_byte, take_place}
+use Rattle.gix_object.proofs.KindLaws.{kind_of_word-kind_word, kind_word-kind_of_word}
+use Rattle.gix_object.specs.Loose.{IsLoose, LooseObject, header_of, header_room, longest_header, loose_of, spelled}
+use Rattle.gix_object.proofs.PlaceLemmas.{lacks, first_place, before_place, after_place, place_in_take, split_at_byte, take_place}
 use Rattle.gix_object.specs.declared.kind.Kind.{Kind}
 use Rattle.gix_object.specs.declared.kind.Kind.TheVariants.{Commit, Tree, Blob, Tag}
 
@@ -108,23 +108,23 @@ tested m n h = grind (arith, h)
 not_tested : (m n : ℕ) → n ≤ m → nat_lt m n ≡ false
 not_tested m n h = grind (arith, h)
 
--- the object of a file whose first 64 bytes have a NUL
-pub loose_of-place : (bytes : List ℕ) → position_or_len (λ b. b == 0) (take 64 bytes) < length (take 64 bytes)
-    → loose_of bytes ≡ spelled (take (position_or_len (λ b. b == 0) (take 64 bytes)) bytes) (drop (position_or_len (λ b. b == 0) (take 64 bytes) + 1) bytes)
+-- the object of a file with a NUL where a header may end
+pub loose_of-place : (bytes : List ℕ) → position_or_len (λ b. b == 0) (take header_room bytes) < length (take header_room bytes)
+    → loose_of bytes ≡ spelled (take (position_or_len (λ b. b == 0) (take header_room bytes)) bytes) (drop (position_or_len (λ b. b == 0) (take header_room bytes) + 1) bytes)
 unfolding loose_of
-loose_of-place bytes lt = rw (tested _ _ lt, place_in_take 0 64 bytes lt) refl
+loose_of-place bytes lt = rw (tested _ _ lt, place_in_take 0 header_room bytes lt) refl
 
-pub loose_of-no_place : (bytes : List ℕ) → length (take 64 bytes) ≤ position_or_len (λ b. b == 0) (take 64 bytes) → loose_of bytes ≡ None
+pub loose_of-no_place : (bytes : List ℕ) → length (take header_room bytes) ≤ position_or_len (λ b. b == 0) (take header_room bytes) → loose_of bytes ≡ None
 unfolding loose_of
-loose_of-no_place bytes h = rw (not_tested (position_or_len (λ b. b == 0) (take 64 bytes)) (length (take 64 bytes)) h) refl
+loose_of-no_place bytes h = rw (not_tested (position_or_len (λ b. b == 0) (take header_room bytes)) (length (take header_room bytes)) h) refl
 
 -- what is found is in the file
 pub IsLoose-loose_of : (bytes : List ℕ) (o : LooseObject) → loose_of bytes ≡ Some o → IsLoose bytes o.kind o.size o.rest
 IsLoose-loose_of bytes o h =
-    elim (cases_lt (position_or_len (λ b. b == 0) (take 64 bytes)) (length (take 64 bytes))) [
+    elim (cases_lt (position_or_len (λ b. b == 0) (take header_room bytes)) (length (take header_room bytes))) [
       | inl less ↦
-          let same = place_in_take 0 64 bytes less in
-          let few = length-take 64 bytes in
+          let same = place_in_take 0 header_room bytes less in
+          let few = length-take header_room bytes in
           let inside : position_or_len (λ b. b == 0) bytes < length bytes = omega arith in
           let parts = front-spelled (before_first (λ b. b == 0) bytes) (after_first (λ b. b == 0) bytes) o (rw (same) (sym (loose_of-place bytes less) ∙ h)) in
           let size : length (front_of o.kind o.size) ≡ position_or_len (λ b. b == 0) bytes = ap length parts.0 ∙ length-take-le _ bytes (omega arith) in
@@ -136,15 +136,15 @@ IsLoose-loose_of bytes o h =
       | inr more ↦ cc (h, loose_of-no_place bytes more)
     ]
 
-loose_of-front : (kind : Kind) (size : ℕ) (rest : List ℕ) → size < 2 ^ 64 → length (front_of kind size) < 64
+loose_of-front : (kind : Kind) (size : ℕ) (rest : List ℕ) → size < 2 ^ 64 → length (front_of kind size) < header_room
     → loose_of (front_of kind size ++ 0 ∷ rest) ≡ Some (record { kind = kind; size = size; rest = rest })
 loose_of-front kind size rest fits early =
     let front = front_of kind size in
     let bytes = front ++ 0 ∷ rest in
-    let taken = take_place 0 64 front rest early in
-    let place : position_or_len (λ b. b == 0) (take 64 bytes) ≡ length front =
+    let taken = take_place 0 header_room front rest early in
+    let place : position_or_len (λ b. b == 0) (take header_room bytes) ≡ length front =
     ap (λ (xs : List ℕ). position_or_len (λ b. b == 0) xs) taken.1 ∙ first_place 0 front (take taken.0 rest) (lacks_nul-front kind size fits) in
-    let long : length (take 64 bytes) ≡ length front + length (0 ∷ take taken.0 rest) = ap length taken.1 ∙ length-append front (0 ∷ take taken.0 rest) in
+    let long : length (take header_room bytes) ≡ length front + length (0 ∷ take taken.0 rest) = ap length taken.1 ∙ length-append front (0 ∷ take taken.0 rest) in
     loose_of-place bytes (omega arith)
     ∙ ap (λ (n : ℕ). spelled (take n bytes) (drop (n + 1) bytes)) place
     ∙ rw (take-append_seam front (0 ∷ rest), drop-append-add front (0 ∷ rest) 1) (spelled-front kind size rest fits)
@@ -175,8 +175,8 @@ length-kind_word Tree = omega arith
 length-kind_word Blob = omega arith
 length-kind_word Tag = omega arith
 
--- a header has at most 28 bytes: a word of 6, a space, 20 digits and NUL
-pub length-header_of-fits : (kind : Kind) (size : ℕ) → size < 2 ^ 64 → length (header_of kind size) ≤ 28
+-- no header is longer than the longest
+pub length-header_of-fits : (kind : Kind) (size : ℕ) → size < 2 ^ 64 → length (header_of kind size) ≤ longest_header
 length-header_of-fits kind size fits =
     let digits = length-decimal-le 20 size (omega arith) (omega arith) fits in
     let word = length-kind_word kind in
