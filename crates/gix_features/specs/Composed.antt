@@ -1,5 +1,5 @@
 -- Names in Unicode's form NFC.
-use Rattle.std.specs.Prelude.{map, chars, encode_utf8_all, if◌then◌else◌}
+use Rattle.std.specs.Prelude.{Bool, map, chars, encode_utf8_all, if◌then◌else◌}
 use Rattle.unicode_normalization.specs.Forms.{nfc}
 use Rattle.odb_base.specs.Path.{Path, Name, is_name}
 
@@ -14,3 +14,11 @@ composed_part name = if is_name (composed_name name) then composed_name name els
 -- a path whose names are composed
 unfoldable pub composed_path : Path → Path
 composed_path path = map composed_part path
+
+-- ---- where that is asked for
+
+abbrev pub path_if : Bool → Path → Path
+path_if composes path = if composes then composed_path path else path
+
+abbrev pub name_if : Bool → Name → Name
+name_if composes name = if composes then composed_name name else name

@@ -8,9 +8,13 @@ use Rattle.walkdir.specs.Entry.{file_name_of, is_dir}
 use Rattle.walkdir.specs.Sorted.{by_key, by_key_total}
 use Rattle.walkdir.specs.declared.dent.DirEntry.{DirEntry}
 
+-- the byte of `/`
+abbrev pub slash : ℕ
+slash = 47
+
 -- what counts behind a name: a slash behind that of a directory
 abbrev pub slash_behind : DirEntry → List ℕ
-slash_behind entry = if is_dir entry then 47 ∷ [] else []
+slash_behind entry = if is_dir entry then slash ∷ [] else []
 
 abbrev pub git_name : DirEntry → List ℕ
 git_name entry = file_name_of entry ++ slash_behind entry

@@ -173,7 +173,7 @@ fn stepped<D: Disk>(
     root: &PathText,
     begins: bool,
 ) -> Result<(), NoMemory>
-    ensures { D.state disk.new ≡ D.state disk.old }
+    ensures state { D.state disk.new ≡ D.state disk.old }
 {
     let root = root.try_clone(alloc)?;
     let mut walk = walkdir_new(root, Parallelism::Serial, true).into_iter_on(alloc, disk)?;

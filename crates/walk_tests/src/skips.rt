@@ -133,7 +133,7 @@ fn tell_behind<'d>(
     told: &mut String,
     walk: &mut IntoIter<'d, MemDisk, NoSort>,
 ) -> Result<(), AllocError>
-    requires { ⟦<IntoIter<'d, MemDisk, NoSort> as Iterator>⟧.can_next walk.old }
+    requires can { ⟦<IntoIter<'d, MemDisk, NoSort> as Iterator>⟧.can_next walk.old }
 {
     let _ = walk.next();
     let _ = walk.next();
@@ -146,7 +146,7 @@ fn tell_behind_filtered<'d>(
     told: &mut String,
     walk: IntoIter<'d, MemDisk, NoSort>,
 ) -> Result<(), AllocError>
-    requires { ⟦<IntoIter<'d, MemDisk, NoSort> as Iterator>⟧.can_next walk }
+    requires can { ⟦<IntoIter<'d, MemDisk, NoSort> as Iterator>⟧.can_next walk }
 {
     let mut walk = walk.filter_entry(|e: &DirEntry| e.file_name() != "b");
     let Some(_) = walk.next() else {
@@ -186,7 +186,7 @@ fn tell_three<'d>(
     told: &mut String,
     walk: &mut IntoIter<'d, MemDisk, NoSort>,
 ) -> Result<(), AllocError>
-    requires { ⟦<IntoIter<'d, MemDisk, NoSort> as Iterator>⟧.can_next walk.old }
+    requires can { ⟦<IntoIter<'d, MemDisk, NoSort> as Iterator>⟧.can_next walk.old }
 {
     tell_next(told, walk.next())?;
     tell_next(told, walk.next())?;

@@ -86,7 +86,7 @@ fn open_now(alloc: Global, disk: &MemDisk) -> Result<u64, Fail> {
 
 /// The most streams that are open after a step of a walk.
 fn most_open(alloc: Global, disk: &mut MemDisk, walk: &mut Stack<NoSort>) -> Result<u64, Fail>
-    requires { has_its_streams (progress (λ _. all_equal) walk.old disk.old.streams) ≡ true }
+    requires own { has_its_streams (progress (λ _. all_equal) walk.old disk.old.streams) ≡ true }
 {
     let mut most = 0;
     for _ in 0..12 {

@@ -7,22 +7,25 @@ use Rattle.odb_tree.specs.Tree.Follow.{looked}
 use Rattle.odb_tree.specs.declared.meta.Meta.{Meta}
 use Rattle.walkdir.proofs.HandlesLemmas.{told_is}
 use Rattle.walkdir.proofs.ProgressLemmas.{item_turn}
-use Rattle.walkdir.proofs.RootLemmas.{FoundDevice, knows_device, looked_root}
-use Rattle.walkdir.proofs.TurnsLemmas.{Runs}
+use Rattle.walkdir.proofs.RootLemmas.{knows_device, looked_root}
+use Rattle.walkdir.specs.Turns.Taken.{FoundDevice, EntersBy, Follows}
+use Rattle.walkdir.proofs.TurnsLemmas.Turn.{Runs}
 use Rattle.walkdir.specs.Above.{AreAbove, AreEntered, AtRoot, Below, IsDirectory, IsRoot}
 use Rattle.walkdir.specs.EnteredTurns.{BeginsAbove, HandlesAbove, IsRootEntry}
 use Rattle.walkdir.specs.Error.{is_no_memory}
 use Rattle.walkdir.specs.Progress.{Progress, GivesEntered, is_lost}
 use Rattle.walkdir.specs.Stack.{ancestors}
-use Rattle.walkdir.specs.Turns.{EntersBy, Follows, IsIn, handed, item_of, turn_of}
-use Rattle.walkdir.specs.Walk.{Walking, Ancestor, Item, Tells, enter, entering, entry_by, taken_for, told_at}
+use Rattle.walkdir.specs.Turns.Stands.{IsIn}
+use Rattle.walkdir.specs.Turns.{handed, item_of, turn_of}
+use Rattle.walkdir.specs.Walk.{Walking, Ancestor, Item, Tells, told_at}
+use Rattle.walkdir.specs.Walk.Entries.{enter, entering, entry_by, taken_for}
 use Rattle.walkdir.specs.Within.{IsChild, LiesIn}
 use Rattle.walkdir.specs.declared.dent.DirEntry.{DirEntry}
 use Rattle.walkdir.specs.declared.error.Error.{Error}
-use Rattle.walkdir.specs.declared.list.DirList.{DirList}
-use Rattle.walkdir.specs.declared.list.Entering.TheVariants.{Enters}
-use Rattle.walkdir.specs.declared.list.Place.{Place}
-use Rattle.walkdir.specs.declared.stack.Found.{Found}
+use Rattle.walkdir.specs.declared.directory.DirList.{DirList}
+use Rattle.walkdir.specs.declared.directory.Entering.TheVariants.{Enters}
+use Rattle.walkdir.specs.declared.directory.Place.{Place}
+use Rattle.walkdir.specs.declared.stack.follow.Found.{Found}
 
 -- ---- the directories above a path
 

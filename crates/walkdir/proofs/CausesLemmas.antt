@@ -6,16 +6,19 @@ use Rattle.odb_disk.specs.Streams.{Streams, Gives}
 use Rattle.odb_tree.specs.declared.disk_error.DiskError.{DiskError}
 use Rattle.odb_tree.specs.declared.disk_error.DiskError.TheVariants as refusals
 use Rattle.walkdir.specs.Error.{is_no_memory, is_no_memory_inner, is_of_call, is_of_call_in, stream_failed}
-use Rattle.walkdir.specs.Progress.{Progress, CausedWithin, IsCausedAmong, IsCausedIn}
+use Rattle.walkdir.specs.Progress.{Progress, CausedWithin}
+use Rattle.walkdir.specs.Causes.{IsCausedAmong, IsCausedIn}
 use Rattle.walkdir.specs.Stack.{ancestors}
-use Rattle.walkdir.specs.Turns.{ChecksLoop, item_of, standing_at, turn_given, turn_of}
-use Rattle.walkdir.specs.Walk.{Ancestor, same_place}
+use Rattle.walkdir.specs.Turns.Taken.{ChecksLoop, standing_at}
+use Rattle.walkdir.specs.Turns.{item_of, turn_given, turn_of}
+use Rattle.walkdir.specs.Walk.{Ancestor}
+use Rattle.walkdir.specs.Walk.Entries.{same_place}
 use Rattle.walkdir.specs.declared.builder.Options.{Options}
 use Rattle.walkdir.specs.declared.dent.DirEntry.{DirEntry}
 use Rattle.walkdir.specs.declared.error.Error.{Error}
 use Rattle.walkdir.specs.declared.error.ErrorInner.{ErrorInner}
 use Rattle.walkdir.specs.declared.error.ErrorInner.TheVariants.{Io, Loop, NoMemory}
-use Rattle.walkdir.specs.declared.list.Place.{Place}
+use Rattle.walkdir.specs.declared.directory.Place.{Place}
 
 -- ---- errors that come from one call
 

@@ -18,17 +18,23 @@ use Rattle.walkdir.specs.Entry.{is_dir, is_dir_kind, is_link, is_link_kind}
 use Rattle.walkdir.specs.Error.{io_error}
 use Rattle.walkdir.specs.Options.{is_given}
 use Rattle.walkdir.specs.Progress.{Progress, Keeps}
-use Rattle.walkdir.specs.Stack.{HasNothing, StandsFor, Within, ancestors, held, stream_in}
-use Rattle.walkdir.specs.Turns.{Contains, EntersDirectory, HasContents, OnlyFailure, OpensAtMost, OpensContents, PushesDirectory, ReadInOrder, StandsAsBefore, StandsPushed, given_if, handed, stream_of}
-use Rattle.walkdir.specs.Walk.{Walking, Ancestor, Item, Order, AreChildren, ChildrenOf, ContentsOf, IsInOrder, IsRefused, IsStreamed, WalksOf, below_greatest, child_of, comes_after, shown}
+use Rattle.walkdir.specs.Directory.{HasNothing, held, stream_in}
+use Rattle.walkdir.specs.Stack.{StandsFor, Within, ancestors}
+use Rattle.walkdir.specs.Turns.Drawn.{Contains, HasContents, OnlyFailure, OpensAtMost, OpensContents, ReadInOrder, stream_of}
+use Rattle.walkdir.specs.Turns.Stands.{EntersDirectory, PushesDirectory, StandsAsBefore, StandsPushed}
+use Rattle.walkdir.specs.Turns.{given_if, handed}
+use Rattle.walkdir.specs.Walk.{Walking, Ancestor, Item, Order, ContentsOf, WalksOf}
+use Rattle.walkdir.specs.Walk.Children.{AreChildren, ChildrenOf, IsInOrder, IsStreamed, child_of}
+use Rattle.walkdir.specs.Walk.Answers.{IsRefused}
+use Rattle.walkdir.specs.Walk.Entries.{below_greatest, comes_after, shown}
 use Rattle.walkdir.specs.Walk as walks
 use Rattle.walkdir.specs.declared.builder.Options.{Options}
 use Rattle.walkdir.specs.declared.dent.DirEntry.{DirEntry}
 use Rattle.walkdir.specs.declared.error.Error.{Error}
-use Rattle.walkdir.specs.declared.list.DirList.{DirList}
-use Rattle.walkdir.specs.declared.list.Items.{Items}
-use Rattle.walkdir.specs.declared.list.Items.TheVariants.{Opened}
-use Rattle.walkdir.specs.declared.list.Place.{Place}
+use Rattle.walkdir.specs.declared.directory.DirList.{DirList}
+use Rattle.walkdir.specs.declared.directory.Items.{Items}
+use Rattle.walkdir.specs.declared.directory.Items.TheVariants.{Opened}
+use Rattle.walkdir.specs.declared.directory.Place.{Place}
 use Rattle.walkdir.proofs.DrawsLemmas.{held_left}
 use Rattle.walkdir.proofs.OwnStreamsLemmas.{has_inserted}
 use Rattle.walkdir.proofs.StandsForLemmas.{stands_opened}

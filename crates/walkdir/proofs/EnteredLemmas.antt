@@ -4,24 +4,30 @@ use Rattle.std.specs.Prelude.{MatchBool}
 use Rattle.odb_base.specs.Path.{Path}
 use Rattle.odb_disk.specs.Streams.{Streams}
 use Rattle.odb_tree.specs.Tree.{State}
-use Rattle.walkdir.proofs.RootLemmas.{FoundDevice, knows_device}
+use Rattle.walkdir.proofs.RootLemmas.{knows_device}
+use Rattle.walkdir.specs.Turns.Taken.{FoundDevice, EntersBy, Follows}
 use Rattle.walkdir.proofs.ProgressLemmas.{item_turn}
-use Rattle.walkdir.proofs.TurnsLemmas.{Passes, Runs}
+use Rattle.walkdir.proofs.TurnsLemmas.Passes.{Passes}
+use Rattle.walkdir.proofs.TurnsLemmas.Turn.{Runs}
 use Rattle.walkdir.specs.Entered.{HoldsContents, IsEntered, StaysOut}
 use Rattle.walkdir.specs.EnteredTurns.{BeginsTelling, EntersTelling, HandlesTelling, PushesContents}
 use Rattle.walkdir.specs.Entry.{is_dir}
 use Rattle.walkdir.specs.Progress.{Progress, GivesDirectory, TellsEntered}
-use Rattle.walkdir.specs.Stack.{ancestors, is_skipped}
-use Rattle.walkdir.specs.Turns.{Contains, EntersBy, Follows, HasContents, IsIn, given_if, handed, item_of, turn_given, turn_of}
-use Rattle.walkdir.specs.Walk.{Walking, ContentsOf, Item, entering}
+use Rattle.walkdir.specs.Stack.{ancestors}
+use Rattle.walkdir.specs.Directory.{is_skipped}
+use Rattle.walkdir.specs.Turns.Drawn.{Contains, HasContents}
+use Rattle.walkdir.specs.Turns.Stands.{IsIn}
+use Rattle.walkdir.specs.Turns.{given_if, handed, item_of, turn_given, turn_of}
+use Rattle.walkdir.specs.Walk.{Walking, ContentsOf, Item}
+use Rattle.walkdir.specs.Walk.Entries.{entering}
 use Rattle.walkdir.specs.declared.builder.Options.{Options}
 use Rattle.walkdir.specs.declared.dent.DirEntry.{DirEntry}
 use Rattle.walkdir.specs.declared.error.Error.{Error}
-use Rattle.walkdir.specs.declared.list.DirList.{DirList}
-use Rattle.walkdir.specs.declared.list.Entering.TheVariants.{Stays, Enters}
-use Rattle.walkdir.specs.declared.list.Items.{Items}
-use Rattle.walkdir.specs.declared.list.Place.{Place}
-use Rattle.walkdir.specs.declared.stack.Found.{Found}
+use Rattle.walkdir.specs.declared.directory.DirList.{DirList}
+use Rattle.walkdir.specs.declared.directory.Entering.TheVariants.{Stays, Enters}
+use Rattle.walkdir.specs.declared.directory.Items.{Items}
+use Rattle.walkdir.specs.declared.directory.Place.{Place}
+use Rattle.walkdir.specs.declared.stack.follow.Found.{Found}
 
 -- ---- a directory is put on the stack
 
@@ -99,6 +105,9 @@ enters_error (Some s) old new entry place error = λ walk tree options order ent
 pub handles_error : (state : Option State) (old new : Progress) (error : Error) → HandlesTelling state old (Some (Err error)) new
 handles_error None old new error = tt
 handles_error (Some s) old new error = λ walk tree is_in. tt
+
+pub handles_failed : (state : Option State) (old new : Progress) (r : Result (Option DirEntry) Error) (error : Error) → r ≡ Err error → HandlesTelling state old (handed r) new
+handles_failed state old new r error is = subst (λ x. HandlesTelling state old (handed x) new) (sym is) (handles_error state old new error)
 
 stays_given : (b : Bool) (walk : Walking) (new : Progress) (entry : DirEntry) → new.entered ≡ false → entering walk entry ≡ Ok Stays → TellsEntered walk (handed (Ok (given_if b entry))) new
 stays_given false walk new entry unmarked stays = tt

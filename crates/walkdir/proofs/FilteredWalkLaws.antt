@@ -25,7 +25,7 @@ use Rattle.walkdir.specs.Walk.{Walking, Item, IsWalk}
 use Rattle.walkdir.specs.declared.dent.DirEntry.{DirEntry}
 use Rattle.walkdir.specs.declared.filter.FilterEntry.{FilterEntry}
 use Rattle.walkdir.specs.declared.iter.OnDisk.{OnDisk}
-use Rattle.walkdir.specs.declared.list.DirList.{DirList}
+use Rattle.walkdir.specs.declared.directory.DirList.{DirList}
 
 -- ---- a filtered walk on a disk that tells its tree
 

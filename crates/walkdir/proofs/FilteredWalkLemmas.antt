@@ -13,15 +13,18 @@ use Rattle.walkdir.specs.Entered.{HoldsContents, IsEntered, StaysOut}
 use Rattle.walkdir.specs.Entry.{is_dir}
 use Rattle.walkdir.specs.FilteredWalk.{HasNotBegun, LeavesOut}
 use Rattle.walkdir.specs.OwnStreams.{AreBeside, Owns}
-use Rattle.walkdir.specs.Progress.{IsOf, Keeps, Progress, Skips, StillGives, is_innermost, skipped, still_to_come}
+use Rattle.walkdir.specs.Progress.{IsOf, Keeps, Progress, StillGives, is_innermost, still_to_come}
+use Rattle.walkdir.specs.Skips.{Skips, skipped}
 use Rattle.walkdir.specs.SkipLaws.{AreLeft, IsDropped, StoodFor, own_first}
-use Rattle.walkdir.specs.Stack.{StandsFor, ancestors, is_skipped, own_entry, own_streams}
-use Rattle.walkdir.specs.Walk.{Walking, Ancestor, ContentsOf, IsWalk, Item, enter}
+use Rattle.walkdir.specs.Stack.{StandsFor, ancestors, own_entry, own_streams}
+use Rattle.walkdir.specs.Directory.{is_skipped}
+use Rattle.walkdir.specs.Walk.{Walking, Ancestor, ContentsOf, IsWalk, Item}
+use Rattle.walkdir.specs.Walk.Entries.{enter}
 use Rattle.walkdir.specs.declared.builder.Options.{Options}
-use Rattle.walkdir.specs.declared.list.Items.TheVariants.{Skipped}
+use Rattle.walkdir.specs.declared.directory.Items.TheVariants.{Skipped}
 use Rattle.walkdir.specs.declared.dent.DirEntry.{DirEntry}
-use Rattle.walkdir.specs.declared.list.DirList.{DirList}
-use Rattle.walkdir.specs.declared.list.Place.{Place}
+use Rattle.walkdir.specs.declared.directory.DirList.{DirList}
+use Rattle.walkdir.specs.declared.directory.Place.{Place}
 
 -- ---- what a skip drops right after a directory was entered
 

@@ -11,7 +11,8 @@ use Rattle.odb_disk.specs.declared.ask.DiskAnswer.{DiskAnswer}
 use Rattle.odb_disk.specs.Streams.{Streams}
 use Rattle.odb_tree.specs.Tree.{State}
 use Rattle.odb_disk.specs.CallsMade.{Leads}
-use Rattle.walkdir.proofs.AnsweredLemmas.{item_later, leads_still, leads_then, tells_still, tells_then}
+use Rattle.walkdir.proofs.AnsweredLemmas.{item_later, leads_still, leads_then}
+use Rattle.walkdir.proofs.AnsweredLemmas.Steps.{tells_still, tells_then}
 use Rattle.walkdir.proofs.WholeWalks.{begun_keeps}
 use Rattle.walkdir.specs.Answered.{AreTold, IsStackTold, TellsOn}
 use Rattle.walkdir.specs.FilteredWalk.{FilteredOn}

@@ -2,10 +2,10 @@
 use Rattle.std.proofs.Common.{◌≡◌, ℕ, false, suc, ◌+◌, ◌≤◌, [], ◌∷◌, length, Option, Some, None, IfSome, sym, ap, subst, ◌∙◌, arith}
 use Rattle.walkdir.specs.Failures.{failures_among, failures_given, failures_left, failures_of}
 use Rattle.odb_base.specs.Path.{Path}
-use Rattle.walkdir.specs.Stack.{AreAt, IsAt, TakesHeld, held, is_skipped, stream_in}
+use Rattle.walkdir.specs.Directory.{AreAt, IsAt, TakesHeld, held, is_skipped, stream_in}
 use Rattle.walkdir.specs.Walk.{Item}
-use Rattle.walkdir.specs.declared.list.Items.{Items}
-use Rattle.walkdir.proofs.ListLemmas.{failures_held}
+use Rattle.walkdir.specs.declared.directory.Items.{Items}
+use Rattle.walkdir.proofs.DirectoryLemmas.{failures_held}
 
 pub held_closed : (old : Items) (item : Option Item) (new : Items) → TakesHeld old item new → stream_in new ≡ None
 held_closed old None new takes = takes.1.no_stream

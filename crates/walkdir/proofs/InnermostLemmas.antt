@@ -5,18 +5,20 @@ use Rattle.odb_base.specs.Path.{Path}
 use Rattle.walkdir.specs.Entry.{is_dir, is_link}
 use Rattle.walkdir.specs.Error.{IsOfEntry, IsOfEntryIn, IsOnPath, IsOnPathIn, is_no_memory, is_no_memory_inner, is_of_call, is_of_call_in}
 use Rattle.walkdir.specs.Innermost.{IsAfter, IsAfterError, IsAfterErrorIn, IsBeside, IsFromHead, IsHead, is_head_skipped, may_look}
-use Rattle.walkdir.specs.Stack.{IsAt, IsOfDirectory, is_skipped}
-use Rattle.walkdir.specs.Turns.{OnlyEnters, given_if, handed, item_of, turn_given, turn_of}
-use Rattle.walkdir.specs.Walk.{Item, is_looked_at, is_root_link}
+use Rattle.walkdir.specs.Directory.{IsAt, IsOfDirectory, is_skipped}
+use Rattle.walkdir.specs.Turns.Taken.{OnlyEnters}
+use Rattle.walkdir.specs.Turns.{given_if, handed, item_of, turn_given, turn_of}
+use Rattle.walkdir.specs.Walk.{Item}
+use Rattle.walkdir.specs.Walk.Entries.{is_looked_at, is_root_link}
 use Rattle.walkdir.specs.Within.{LiesIn}
 use Rattle.walkdir.specs.declared.builder.Options.{Options}
 use Rattle.walkdir.specs.declared.dent.DirEntry.{DirEntry}
 use Rattle.walkdir.specs.declared.error.Error.{Error}
 use Rattle.walkdir.specs.declared.error.ErrorInner.{ErrorInner}
 use Rattle.walkdir.specs.declared.error.ErrorInner.TheVariants.{Io, Loop, NoMemory}
-use Rattle.walkdir.specs.declared.list.DirList.{DirList}
-use Rattle.walkdir.specs.declared.list.Entering.{Entering}
-use Rattle.walkdir.specs.declared.list.Entering.TheVariants.{Stays, Enters}
+use Rattle.walkdir.specs.declared.directory.DirList.{DirList}
+use Rattle.walkdir.specs.declared.directory.Entering.{Entering}
+use Rattle.walkdir.specs.declared.directory.Entering.TheVariants.{Stays, Enters}
 use Rattle.walkdir.proofs.ProgressLemmas.{item_turn}
 
 -- ---- errors of one call

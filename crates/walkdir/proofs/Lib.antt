@@ -1,6 +1,6 @@
 mod OwnStreamsLemmas
 mod StackLemmas
-mod FailuresLemmas
+pub mod FailuresLaws
 mod WorkLemmas
 mod SkippedLemmas
 mod StepLemmas
@@ -10,7 +10,7 @@ mod StandsForLemmas
 mod DrawsLemmas
 mod TurnsLemmas
 mod SkipLemmas
-mod ListLemmas
+mod DirectoryLemmas
 mod WithinLemmas
 mod InnermostLemmas
 mod SoundLemmas
@@ -28,7 +28,7 @@ mod WalkLaws
 mod StableLaws
 mod WalkCases
 pub mod OneListLaws
-pub mod DirectoryLaws
+pub mod EnteredLaws
 mod FilterLemmas
 mod StillGivesLemmas
 pub mod WholeWalks

@@ -12,12 +12,14 @@ use Rattle.odb_tree.specs.declared.entry.Entry.{Entry}
 use Rattle.walkdir.specs.BuiltWalk.{walking}
 use Rattle.walkdir.specs.Error.{io_error}
 use Rattle.walkdir.specs.Failures.{failures_among}
-use Rattle.walkdir.specs.Walk.{Ancestor, AreChildren, ChildrenOf, ContentsOf, IsStreamed, Item, Order, WalkOf, Walking, WalksOf, around, child_of, comes_after, error_in, shown, Alone, Broken, Child, Closed, Deepest, Ended, Entered, Failed, Lost, Next, NoDevice, NoRoot, Nothing, Opened, Root, Unopened, Wrong}
+use Rattle.walkdir.specs.Walk.{Ancestor, ContentsOf, Item, Order, WalkOf, Walking, WalksOf, Alone, Child, Closed, Deepest, Entered, Failed, Lost, NoDevice, NoRoot, Nothing, Opened, Root, Unopened, Wrong}
+use Rattle.walkdir.specs.Walk.Children.{AreChildren, ChildrenOf, IsStreamed, child_of, error_in, Broken, Ended, Next}
+use Rattle.walkdir.specs.Walk.Entries.{around, comes_after, shown}
 use Rattle.walkdir.specs.Options.{Built, is_given}
 use Rattle.walkdir.specs.WalkLaws.{GiveOneList, GivesOneList, IsSameForAnyMost, with_most}
 use Rattle.walkdir.specs.declared.builder.Options.{Options}
 use Rattle.walkdir.specs.declared.dent.DirEntry.{DirEntry}
-use Rattle.walkdir.proofs.FailuresLemmas.{failures-append}
+use Rattle.walkdir.proofs.FailuresLaws.{failures-append}
 use Rattle.walkdir.proofs.SortedLemmas.{ordered_failures}
 use Rattle.walkdir.proofs.StableLaws.{stable_once}
 use Rattle.walkdir.proofs.WalkLaws.{same_for_any_most, same_with_most}

@@ -10,12 +10,13 @@ use native.Mathlib.Nat.{pow-suc}
 use Rattle.odb_disk.specs.Streams.{Streams}
 use Rattle.walkdir.specs.OwnStreams.{OpenDirs, AreBeside, are_apart}
 use Rattle.walkdir.specs.Progress.{Progress, Keeps, has_its_streams, is_innermost, work_left, work_of}
-use Rattle.walkdir.specs.Stack.{many, own_streams, weight, work_in}
+use Rattle.walkdir.specs.Directory.{many}
+use Rattle.walkdir.specs.Stack.{own_streams, weight, work_in}
 use Rattle.walkdir.specs.Turns.{EndsWell, LeavesLess, TakesWork, fresh, handed, item_of, turn_given, turn_of}
 use Rattle.walkdir.specs.declared.dent.DirEntry.{DirEntry}
 use Rattle.walkdir.specs.declared.error.Error.{Error}
-use Rattle.walkdir.proofs.StepLemmas.{weight_some}
-use Rattle.walkdir.specs.declared.list.DirList.{DirList}
+use Rattle.walkdir.proofs.StepLemmas.Pushed.{weight_some}
+use Rattle.walkdir.specs.declared.directory.DirList.{DirList}
 
 -- ---- own streams
 

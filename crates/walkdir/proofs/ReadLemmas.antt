@@ -17,12 +17,13 @@ use Rattle.odb_tree.specs.declared.entry.Entry.{Entry}
 use Rattle.walkdir.specs.Error.{IsFromPath, IsOnPath, failures, io_error, no_memory, stream_failed}
 use Rattle.walkdir.specs.Failures.{Costs, failures_among, failures_of}
 use Rattle.walkdir.specs.OwnStreams.{OpenDirs}
-use Rattle.walkdir.specs.Stack.{AreAt, IsAt}
-use Rattle.walkdir.specs.Turns.{Draws, DrawsEntry, IsDrawn, OpensAtMost, left_of}
-use Rattle.walkdir.specs.Walk.{Item, Tells, told_at, child_of}
+use Rattle.walkdir.specs.Directory.{AreAt, IsAt}
+use Rattle.walkdir.specs.Turns.Drawn.{Draws, DrawsEntry, IsDrawn, OpensAtMost, left_of}
+use Rattle.walkdir.specs.Walk.{Item, Tells, told_at}
+use Rattle.walkdir.specs.Walk.Children.{child_of}
 use Rattle.walkdir.specs.declared.dent.DirEntry.{DirEntry}
 use Rattle.walkdir.specs.declared.error.Error.{Error}
-use Rattle.walkdir.proofs.FailuresLemmas.{costs_none, failures-append}
+use Rattle.walkdir.proofs.FailuresLaws.{costs_none}
 use Rattle.walkdir.proofs.OwnStreamsLemmas.{has_inserted, insert_again, remove_again, remove_new}
 
 -- ---- looks
@@ -177,9 +178,6 @@ refused_on depth path refusals.NotEmpty error (inr lost) = subst (λ (e : Error)
 refused_on depth path refusals.Failed error (inl is) = subst (λ (e : Error). IsOnPath path depth e) (sym is) (refl, refl)
 refused_on depth path refusals.Failed error (inr lost) = subst (λ (e : Error). IsOnPath path depth e) (sym lost) tt
 refused_on depth path refusals.NoMemory error is = subst (λ (e : Error). IsOnPath path depth e) (sym is) tt
-
-pub failures-push : (items : List Item) (item : Item) → failures_among (items ++ item ∷ []) ≡ failures_among items + failures_of item
-failures-push items item = let e = failures-append items (item ∷ []) in omega arith
 
 -- ---- a directory that is opened
 

@@ -8,7 +8,7 @@ use Rattle.walkdir.specs.Answered.{IsHeldIn, IsRefusedAt, IsRefusedIn}
 use Rattle.walkdir.specs.AnsweredTurns.{IsItemHeld, IsSeenIn}
 use Rattle.walkdir.specs.Error.{IsOfEntry, IsOfEntryIn, is_no_memory, is_no_memory_inner}
 use Rattle.walkdir.specs.Innermost.{IsBeside, IsFromHead}
-use Rattle.walkdir.specs.Stack.{IsOfDirectory}
+use Rattle.walkdir.specs.Directory.{IsOfDirectory}
 use Rattle.walkdir.specs.Turns.{handed}
 use Rattle.walkdir.specs.Walk.{Item}
 use Rattle.walkdir.specs.Within.{LiesIn}
@@ -16,7 +16,7 @@ use Rattle.walkdir.specs.declared.dent.DirEntry.{DirEntry}
 use Rattle.walkdir.specs.declared.error.Error.{Error}
 use Rattle.walkdir.specs.declared.error.ErrorInner.{ErrorInner}
 use Rattle.walkdir.specs.declared.error.ErrorInner.TheVariants.{Io, Loop, NoMemory}
-use Rattle.walkdir.specs.declared.list.DirList.{DirList}
+use Rattle.walkdir.specs.declared.directory.DirList.{DirList}
 use Rattle.walkdir.proofs.InnermostLemmas.{beside_as}
 
 module _ {D : Type 0} (answered : D → DiskAsk → DiskAnswer → D → Type 0) where

@@ -13,8 +13,11 @@ use Rattle.odb_tree.specs.declared.disk_error.DiskError.TheVariants as refusals
 use Rattle.walkdir.specs.Error.{io_error, is_no_memory}
 use Rattle.walkdir.specs.Progress.{Progress, Keeps}
 use Rattle.walkdir.specs.Stack.{StandsFor, Nothing, ancestors}
-use Rattle.walkdir.specs.Turns.{BeginsWalk, HandlesEntry, IsIn, KnowsDevice}
-use Rattle.walkdir.specs.Walk.{Walking, Ancestor, Item, HasDevice, IsRefused, IsWalk, Tells, WalkOf, around, entering, enters_directory, enters_root_link, entry_by, is_looked_at, is_root_link, loop_at, place_of, device_at, same_place, shown, taken_for, through_link, told_at, unless_loop}
+use Rattle.walkdir.specs.Turns.Stands.{BeginsWalk, HandlesEntry, IsIn}
+use Rattle.walkdir.specs.Turns.Taken.{FoundDevice, KnowsDevice}
+use Rattle.walkdir.specs.Walk.{Walking, Ancestor, Item, HasDevice, IsWalk, Tells, WalkOf, told_at}
+use Rattle.walkdir.specs.Walk.Answers.{IsRefused}
+use Rattle.walkdir.specs.Walk.Entries.{around, entering, enters_directory, enters_root_link, entry_by, is_looked_at, is_root_link, loop_at, place_of, device_at, same_place, shown, taken_for, through_link, unless_loop}
 use Rattle.walkdir.specs.Walk as walks
 use Rattle.walkdir.specs.declared.builder.Options.{Options}
 use Rattle.walkdir.specs.declared.error.Error.{Error}
@@ -38,11 +41,6 @@ nothing_stands Nothing = refl
 
 nothing_on : (walk : Walking) (at : Progress) (items : List Item) → at.stack ≡ [] → StandsFor walk at.streams at.stack items → items ≡ []
 nothing_on walk at items none left = nothing_stands (subst (λ s. StandsFor walk at.streams s items) none left)
-
--- the device of the root, where the walk stays on it
-abbrev pub FoundDevice : Option State → Options → Path → ℕ → Type 0
-FoundDevice state options root device =
-    IfSome state (λ s. options.same_file_system ≡ true → (meta : Meta) × (looked (tree_of s) root true ≡ Ok meta) × (meta.dev ≡ device))
 
 pub device_wanted : (state : Option State) (options : Options) (root : Path) (meta : Meta) → IfSome state (λ s. Tells 0 root (Ok meta) (told_at 0 root (looked (tree_of s) root true)))
     → FoundDevice state options root meta.dev

@@ -5,14 +5,17 @@ use Rattle.std.specs.List.{cons_option}
 use Rattle.odb_base.specs.Path.{Path}
 use Rattle.odb_disk.specs.Streams.{Streams, still_gives}
 use Rattle.walkdir.specs.OwnStreams.{OpenDirs, AreBeside}
-use Rattle.walkdir.specs.Progress.{Progress, Keeps, Skips, skipped, skipped_stream}
+use Rattle.walkdir.specs.Progress.{Progress, Keeps}
+use Rattle.walkdir.specs.Skips.{Skips, skipped, skipped_stream}
 use Rattle.walkdir.specs.SkipLaws.{AreLeft, IsDropped, LeavesAll, SkipDrops, SkipLeaves, StoodFor, own_first}
-use Rattle.walkdir.specs.Stack.{HasLeft, StandsFor, Nothing, Within, ancestors, is_skipped, own_entry, own_streams, stream_in, without_stream}
-use Rattle.walkdir.specs.Walk.{Walking, Item, Ancestor, IsStreamed, WalksOf, child_of}
+use Rattle.walkdir.specs.Directory.{HasLeft, is_skipped, stream_in, without_stream}
+use Rattle.walkdir.specs.Stack.{StandsFor, Nothing, Within, ancestors, own_entry, own_streams}
+use Rattle.walkdir.specs.Walk.{Walking, Item, Ancestor, WalksOf}
+use Rattle.walkdir.specs.Walk.Children.{IsStreamed, child_of}
 use Rattle.walkdir.specs.declared.dent.DirEntry.{DirEntry}
-use Rattle.walkdir.specs.declared.list.DirList.{DirList}
-use Rattle.walkdir.specs.declared.list.Items.{Items}
-use Rattle.walkdir.specs.declared.list.Items.TheVariants.{Opened, Closed, Skipped}
+use Rattle.walkdir.specs.declared.directory.DirList.{DirList}
+use Rattle.walkdir.specs.declared.directory.Items.{Items}
+use Rattle.walkdir.specs.declared.directory.Items.TheVariants.{Opened, Closed, Skipped}
 use Rattle.walkdir.proofs.StandsForLemmas.{SameGiven, others_open, same-all, same-closed, same-sym, stands_same}
 use Rattle.walkdir.proofs.StepLemmas.{keeps_open}
 use Rattle.walkdir.proofs.WorkLemmas.{AllOpen, open_behind}

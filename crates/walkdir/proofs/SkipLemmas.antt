@@ -5,11 +5,13 @@ use lib.Seq.{get_or-append_seam}
 use mathlib.Core.List.{reverse-cons}
 use Rattle.odb_base.specs.Path.{Path}
 use Rattle.odb_disk.specs.Streams.{Streams}
-use Rattle.walkdir.specs.Progress.{Progress, Keeps, Skips, skipped, skipped_stream, work_left, work_of}
-use Rattle.walkdir.specs.Stack.{is_skipped, own_streams, stream_in, without_stream, work_in}
-use Rattle.walkdir.specs.Turns.{AllSkipped, Puts, Unskips}
-use Rattle.walkdir.specs.declared.list.DirList.{DirList}
-use Rattle.walkdir.specs.declared.list.Items.TheVariants.{Skipped}
+use Rattle.walkdir.specs.Progress.{Progress, Keeps, work_left, work_of}
+use Rattle.walkdir.specs.Skips.{Skips, skipped, skipped_stream}
+use Rattle.walkdir.specs.Directory.{is_skipped, stream_in, without_stream}
+use Rattle.walkdir.specs.Stack.{own_streams, work_in}
+use Rattle.walkdir.specs.Turns.Lists.{AllSkipped, Puts, Unskips}
+use Rattle.walkdir.specs.declared.directory.DirList.{DirList}
+use Rattle.walkdir.specs.declared.directory.Items.TheVariants.{Skipped}
 use Rattle.walkdir.proofs.StackLemmas.{reversed_at}
 use Rattle.walkdir.proofs.StepLemmas.{Same, keeps_closed, keeps_plain}
 use Rattle.walkdir.proofs.WorkLemmas.{none_without, work_put}

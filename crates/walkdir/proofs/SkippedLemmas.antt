@@ -2,10 +2,10 @@
 use Rattle.std.proofs.Common.{◌≡◌, ℕ, inl, inr, true, false, List, [], ◌∷◌, ◌++◌, length, Some, refl, sym, subst, ◌∙◌, length-append}
 use Rattle.odb_base.specs.Path.{Path}
 use Rattle.walkdir.specs.Innermost.{IsSkippedAt, SkipsNone}
-use Rattle.walkdir.specs.Stack.{is_skipped, stream_in}
-use Rattle.walkdir.specs.declared.list.DirList.{DirList}
-use Rattle.walkdir.specs.declared.list.Items.{Items}
-use Rattle.walkdir.specs.declared.list.Items.TheVariants.{Opened, Closed, Skipped}
+use Rattle.walkdir.specs.Directory.{is_skipped, stream_in}
+use Rattle.walkdir.specs.declared.directory.DirList.{DirList}
+use Rattle.walkdir.specs.declared.directory.Items.{Items}
+use Rattle.walkdir.specs.declared.directory.Items.TheVariants.{Opened, Closed, Skipped}
 
 -- a directory with a stream isn't skipped
 pub stream_open : (items : Items) (dir : ℕ) → stream_in items ≡ Some dir → is_skipped items ≡ false

@@ -6,10 +6,11 @@ use Rattle.std.proofs.lemmas.List.Elements.{All-cons, All-head, All-nil, All-tai
 use Rattle.std.proofs.lemmas.List.Sorted.{All-permutation}
 use Rattle.walkdir.specs.Failures.{failures_among}
 use Rattle.odb_base.specs.Path.{Path}
-use Rattle.walkdir.specs.Stack.{AreAt, IsAt}
-use Rattle.walkdir.specs.Walk.{IsInOrder, Item, Order, error_in}
+use Rattle.walkdir.specs.Directory.{AreAt, IsAt}
+use Rattle.walkdir.specs.Walk.Children.{IsInOrder, error_in}
+use Rattle.walkdir.specs.Walk.{Item, Order}
 use Rattle.walkdir.specs.declared.dent.DirEntry.{DirEntry}
-use Rattle.walkdir.proofs.FailuresLemmas.{failures-append}
+use Rattle.walkdir.proofs.FailuresLaws.{failures-append}
 
 errors_fail : (given : List Item) → failures_among (filter_map error_in given) ≡ failures_among given
 errors_fail [] = refl

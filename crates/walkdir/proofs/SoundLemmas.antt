@@ -5,15 +5,17 @@ use Rattle.std.proofs.lemmas.Bool.Decides.{nat_tests}
 use Rattle.odb_base.specs.Path.{Path}
 use Rattle.walkdir.specs.Entry.{is_dir}
 use Rattle.walkdir.specs.Error.{is_stream_refusal}
-use Rattle.walkdir.specs.Stack.{AreAt, Fits, FitsAt, HasNothing, IsAt, IsOfDirectory, IsSound, all_fit, are_at, fits_at, has_nothing, held, is_after, is_at, is_nested, is_of_directory, is_sound, own_streams, same_path, stream_in}
+use Rattle.walkdir.specs.Directory.{AreAt, HasNothing, IsAt, IsOfDirectory, held, stream_in}
+use Rattle.walkdir.specs.Sound.{Fits, FitsAt, IsSound, all_fit, are_at, fits_at, has_nothing, is_after, is_at, is_nested, is_of_directory, is_sound, same_path}
+use Rattle.walkdir.specs.Stack.{own_streams}
 use Rattle.walkdir.specs.Walk.{Item}
 use Rattle.walkdir.specs.declared.builder.Options.{Options}
 use Rattle.walkdir.specs.declared.dent.DirEntry.{DirEntry}
 use Rattle.walkdir.specs.Within.{is_child}
 use Rattle.walkdir.specs.declared.error.ErrorInner.{ErrorInner}
 use Rattle.walkdir.specs.declared.error.ErrorInner.TheVariants.{Io, Loop, NoMemory}
-use Rattle.walkdir.specs.declared.list.DirList.{DirList}
-use Rattle.walkdir.specs.declared.list.Items.{Items}
+use Rattle.walkdir.specs.declared.directory.DirList.{DirList}
+use Rattle.walkdir.specs.declared.directory.Items.{Items}
 use Rattle.walkdir.proofs.ProgressLemmas.{both, joined}
 use Rattle.walkdir.proofs.WithinLemmas.{child_of_test, child_tested, nested_of_test, nested_tested, path_of_test, path_tested}
 

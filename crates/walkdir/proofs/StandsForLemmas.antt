@@ -7,12 +7,13 @@ use Rattle.odb_disk.specs.Streams.{Streams, is_open, still_gives, with_closed, w
 use Rattle.odb_tree.specs.declared.entry.Entry.{Entry}
 use Rattle.walkdir.specs.OwnStreams.{OpenDirs, AreBeside}
 use Rattle.walkdir.specs.Progress.{Progress, Keeps}
-use Rattle.walkdir.specs.Turns.{HasOpened}
-use Rattle.walkdir.specs.Stack.{HasLeft, StandsFor, Nothing, Within, ancestors, own_streams, stream_in}
+use Rattle.walkdir.specs.Turns.Drawn.{HasOpened}
+use Rattle.walkdir.specs.Directory.{HasLeft, stream_in}
+use Rattle.walkdir.specs.Stack.{StandsFor, Nothing, Within, ancestors, own_streams}
 use Rattle.walkdir.specs.Walk.{Walking, Item, Ancestor, WalksOf}
-use Rattle.walkdir.specs.declared.list.DirList.{DirList}
-use Rattle.walkdir.specs.declared.list.Items.{Items}
-use Rattle.walkdir.specs.declared.list.Items.TheVariants.{Opened, Closed, Skipped}
+use Rattle.walkdir.specs.declared.directory.DirList.{DirList}
+use Rattle.walkdir.specs.declared.directory.Items.{Items}
+use Rattle.walkdir.specs.declared.directory.Items.TheVariants.{Opened, Closed, Skipped}
 use Rattle.walkdir.proofs.OwnStreamsLemmas.{at_insert, at_remove, one_closed, open_apart, same_number, tied}
 use Rattle.walkdir.proofs.StepLemmas.{keeps_open}
 use Rattle.walkdir.proofs.WorkLemmas.{AllOpen, all_open}

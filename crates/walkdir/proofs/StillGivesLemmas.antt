@@ -9,16 +9,19 @@ use Rattle.odb_tree.specs.declared.disk_error.DiskError.TheVariants as refusals
 use Rattle.walkdir.specs.Error.{io_error, stream_error}
 use Rattle.walkdir.specs.OwnStreams.{OpenDirs}
 use Rattle.walkdir.specs.Progress.{Keeps, Progress, StillGives, still_to_come}
-use Rattle.walkdir.specs.Stack.{HasLeft, StandsFor, ancestors, own_entry, own_streams, stream_in, Nothing, Within}
+use Rattle.walkdir.specs.Directory.{HasLeft, stream_in}
+use Rattle.walkdir.specs.Stack.{StandsFor, ancestors, own_entry, own_streams, Nothing, Within}
 use Rattle.odb_tree.specs.Tree.Follow.{looked}
 use Rattle.walkdir.specs.Entry.{is_dir, is_link}
 use Rattle.walkdir.specs.declared.dent.DirEntry.{DirEntry}
-use Rattle.walkdir.specs.declared.list.Entering.TheVariants.{Stays, Enters}
-use Rattle.walkdir.specs.Walk.{Ancestor, ContentsOf, IsWalk, Item, WalkOf, Walking, WalksOf, around, below_greatest, enter, entering, enters_at, enters_directory, enters_root_link, is_looked_at, is_root_link, shown, taken_for, through_link, Alone, Broken, Child, Deepest, Entered, Failed, Lost, NoDevice, NoRoot, Unopened}
+use Rattle.walkdir.specs.declared.directory.Entering.TheVariants.{Stays, Enters}
+use Rattle.walkdir.specs.Walk.{Ancestor, ContentsOf, IsWalk, Item, WalkOf, Walking, WalksOf, Alone, Child, Deepest, Entered, Failed, Lost, NoDevice, NoRoot, Unopened}
+use Rattle.walkdir.specs.Walk.Entries.{around, below_greatest, enter, entering, enters_at, enters_directory, enters_root_link, is_looked_at, is_root_link, shown, taken_for, through_link}
+use Rattle.walkdir.specs.Walk.Children.{Broken}
 use Rattle.walkdir.specs.Walk.{Nothing as NoChildren}
-use Rattle.walkdir.specs.declared.list.DirList.{DirList}
-use Rattle.walkdir.specs.declared.list.Items.{Items}
-use Rattle.walkdir.specs.declared.list.Items.TheVariants.{Opened, Closed, Skipped}
+use Rattle.walkdir.specs.declared.directory.DirList.{DirList}
+use Rattle.walkdir.specs.declared.directory.Items.{Items}
+use Rattle.walkdir.specs.declared.directory.Items.TheVariants.{Opened, Closed, Skipped}
 use Rattle.walkdir.proofs.StepLemmas.{keeps_open}
 use Rattle.walkdir.proofs.WorkLemmas.{AllOpen, open_behind}
 

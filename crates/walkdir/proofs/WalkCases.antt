@@ -10,12 +10,15 @@ use Rattle.odb_tree.specs.declared.entry.Entry.{Entry}
 use Rattle.odb_tree.specs.declared.meta.Meta.{Meta}
 use Rattle.walkdir.specs.Error.{io_error}
 use Rattle.walkdir.specs.Failures.{failures_among}
-use Rattle.walkdir.specs.Walk.{Ancestor, ChildrenOf, ContentsOf, HasDevice, IsRefused, IsWalk, Item, WalkOf, Walking, WalksOf, around, below_greatest, enter, entering, entry_by, is_looked_at, shown, taken_for, Alone, Child, Closed, Deepest, Entered, Failed, Lost, NoDevice, NoRoot, Nothing, Opened, Root, Unopened, Wrong}
+use Rattle.walkdir.specs.Walk.{Ancestor, ContentsOf, HasDevice, IsWalk, Item, WalkOf, Walking, WalksOf, Alone, Child, Closed, Deepest, Entered, Failed, Lost, NoDevice, NoRoot, Nothing, Opened, Root, Unopened, Wrong}
+use Rattle.walkdir.specs.Walk.Children.{ChildrenOf}
+use Rattle.walkdir.specs.Walk.Answers.{IsRefused}
+use Rattle.walkdir.specs.Walk.Entries.{around, below_greatest, enter, entering, entry_by, is_looked_at, shown, taken_for}
 use Rattle.walkdir.specs.declared.dent.DirEntry.{DirEntry}
 use Rattle.walkdir.specs.declared.error.Error.{Error}
-use Rattle.walkdir.specs.declared.list.Place.{Place}
-use Rattle.walkdir.specs.declared.list.Entering.TheVariants.{Stays, Enters}
-use Rattle.walkdir.proofs.FailuresLemmas.{failures-append}
+use Rattle.walkdir.specs.declared.directory.Place.{Place}
+use Rattle.walkdir.specs.declared.directory.Entering.TheVariants.{Stays, Enters}
+use Rattle.walkdir.proofs.FailuresLaws.{failures-append}
 
 pub front_sound : (items first rest : List Item) → items ≡ first ++ rest → failures_among items ≡ 0 → failures_among first ≡ 0
 front_sound items first rest is sound =

@@ -7,6 +7,7 @@ use Rattle.odb_disk.specs.declared.ask.DiskAsk.{DiskAsk}
 use Rattle.odb_disk.specs.declared.ask.DiskAnswer.{DiskAnswer}
 use Rattle.odb_disk.specs.Streams.{Streams}
 use Rattle.odb_tree.specs.Tree.{State, Tree, tree_of}
+use Rattle.walkdir.proofs.FailuresLaws.{costs_begun, costs_later, fails_none, fails_then}
 use Rattle.walkdir.proofs.ProgressLemmas.{has_streams}
 use Rattle.walkdir.proofs.StillGivesLemmas.{something_left}
 use Rattle.walkdir.specs.BuiltWalk.{walking}
@@ -32,35 +33,6 @@ begun_keeps order built streams = record { beside = refl; few = omega arith; pea
 
 pub begun_has : {T : Type 0} (order : T → Order) (built : Built T) (streams : Streams) → has_its_streams (begun order built streams) ≡ true
 begun_has order built streams = has_streams streams (begun order built streams) (begun_keeps order built streams)
-
--- ---- failures by the count of faults
-
-fails_none : (at : Progress) (count : ℕ) → FailsByFault at count 0 at count
-fails_none at count = record {
-  later = omega arith;
-  rose = λ start given rose. subst (λ n. RoseBy n start count) (sum (waiting at.stack) given) rose;
-}
-  where
-    sum : (left given : ℕ) → given + left ≡ given + 0 + left
-    sum left given = omega arith
-
-fails_after : (old mid new : Progress) (x y z first more : ℕ) → FailsByFault old x first mid y → FailsByFault mid y more new z → FailsByFault old x (first + more) new z
-fails_after old mid new x y z first more one then = record {
-  later = (let low : x ≤ y = one.later in let high : y ≤ z = then.later in omega arith);
-  rose = λ start given rose. subst (λ n. RoseBy n start z) (sum given (waiting new.stack)) (then.rose start (given + first) (one.rose start given rose));
-}
-  where
-    sum : (given left : ℕ) → given + first + more + left ≡ given + (first + more) + left
-    sum given left = omega arith
-
-rose_less : (count left before now last : ℕ) → RoseBy (count + left) before now → now ≤ last → RoseBy count before last
-rose_less count left before now last rose later = omega arith
-
-rose_none : (count : ℕ) → RoseBy (0 + 0) count count
-rose_none count = omega arith
-
-from_none : (given left : ℕ) → 0 + given + left ≡ given + left
-from_none given left = omega arith
 
 -- what had no fault had no failure
 pub none_without_fault : (count before now : ℕ) → RoseBy count before now → (Rose before now → ⊥) → count ≡ 0
@@ -142,7 +114,7 @@ module _ {D W : Type 0} (state : D → Option State) (streams : D → Streams) (
       → FailsByFault (at_walk s) (faults s.disk.now) (failures_among items) (at_walk t) (faults t.disk.now)
   failures_along s [] t is = subst (λ x. FailsByFault (at_walk s) (faults s.disk.now) 0 (at_walk x) (faults x.disk.now)) is (fails_none (at_walk s) (faults s.disk.now))
   failures_along s (item ∷ items) t along =
-      fails_after (at_walk s) (at_walk along.0) (at_walk t) (faults s.disk.now) (faults along.0.disk.now) (faults t.disk.now) (failures_of item) (failures_among items) along.1.2
+      fails_then (at_walk s) (at_walk along.0) (at_walk t) (faults s.disk.now) (faults along.0.disk.now) (faults t.disk.now) (failures_of item) (failures_among items) along.1.2
       (failures_along along.0 items t along.2)
 
   -- A walk that was run to its end gave no more failures than the count of faults rose by.
@@ -150,10 +122,9 @@ module _ {D W : Type 0} (state : D → Option State) (streams : D → Streams) (
       → at_walk s ≡ begun order built before → Yields NextOn s items t → NextOn t None u → RoseBy (failures_among items) (faults s.disk.now) (faults u.disk.now)
   failures_on_disk order built before s items t u is along last =
       let fails = failures_along s items t along in
-      let nothing : RoseBy (0 + waiting (at_walk s).stack) (faults s.disk.now) (faults s.disk.now) =
-      subst (λ (p : Progress). RoseBy (0 + waiting p.stack) (faults s.disk.now) (faults s.disk.now)) (sym is) (rose_none (faults s.disk.now)) in
-      rose_less (failures_among items) (waiting (at_walk t).stack) (faults s.disk.now) (faults t.disk.now) (faults u.disk.now)
-      (subst (λ n. RoseBy n (faults s.disk.now) (faults t.disk.now)) (from_none (failures_among items) (waiting (at_walk t).stack)) (fails.rose (faults s.disk.now) 0 nothing)) last.2.later
+      let none : waiting (at_walk s).stack ≡ 0 = ap (λ (p : Progress). waiting p.stack) is in
+      let costs = costs_begun (at_walk s) (at_walk t) (faults s.disk.now) (faults t.disk.now) (failures_among items) none fails in
+      (costs_later (failures_among items) (faults s.disk.now) (faults t.disk.now) (faults u.disk.now) costs last.2.later).rose
 
   next_step : (s : OnDisk D W) (item : Option Item) (t : OnDisk D W) → NextOn s item t → Steps (state s.disk.now) (at_walk s) item (at_walk t) × (state t.disk.now ≡ state s.disk.now)
   next_step s item t step = (step.1, step.3)

@@ -5,11 +5,12 @@ use Rattle.std.specs.Cmp.Lexicographic.{bytes_decides}
 use Rattle.std.proofs.lemmas.Bool.Decides.{nat_tests}
 use lib.Pointwise.{pointwise_decides}
 use Rattle.odb_base.specs.Path.{Name, Path, same_name}
-use Rattle.walkdir.specs.Stack.{IsNested, after_lies_in, ancestors, is_nested, same_path}
+use Rattle.walkdir.specs.Sound.{IsNested, after_lies_in, is_nested, same_path}
+use Rattle.walkdir.specs.Stack.{ancestors}
 use Rattle.walkdir.specs.Walk.{Ancestor}
 use Rattle.walkdir.specs.Within.{IsChild, LiesIn, is_child, lies_in}
 use Rattle.walkdir.specs.declared.dent.DirEntry.{DirEntry}
-use Rattle.walkdir.specs.declared.list.DirList.{DirList}
+use Rattle.walkdir.specs.declared.directory.DirList.{DirList}
 use Rattle.walkdir.proofs.ProgressLemmas.{both, joined}
 
 -- ---- paths

@@ -8,11 +8,12 @@ use lib.Seq.{append_snoc}
 use Rattle.odb_tree.specs.declared.entry.Entry.{Entry}
 use Rattle.odb_disk.specs.Streams.{Streams, is_open, with_closed, with_stream}
 use Rattle.walkdir.specs.OwnStreams.{OpenDirs, AreBeside}
-use Rattle.walkdir.specs.Stack.{left_in, own_streams, stream_in, weight, without_stream, work_in}
-use Rattle.walkdir.specs.Turns.{IsDrawn, OpensAtMost, left_of}
-use Rattle.walkdir.specs.declared.list.DirList.{DirList}
-use Rattle.walkdir.specs.declared.list.Items.{Items}
-use Rattle.walkdir.specs.declared.list.Items.TheVariants.{Opened, Closed, Skipped}
+use Rattle.walkdir.specs.Directory.{left_in, stream_in, without_stream}
+use Rattle.walkdir.specs.Stack.{own_streams, weight, work_in}
+use Rattle.walkdir.specs.Turns.Drawn.{IsDrawn, OpensAtMost, left_of}
+use Rattle.walkdir.specs.declared.directory.DirList.{DirList}
+use Rattle.walkdir.specs.declared.directory.Items.{Items}
+use Rattle.walkdir.specs.declared.directory.Items.TheVariants.{Opened, Closed, Skipped}
 use Rattle.walkdir.proofs.OwnStreamsLemmas.{tied, same_number, at_insert, at_remove, own_is_open}
 
 -- ---- streams that have no more left than before

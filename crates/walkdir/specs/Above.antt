@@ -3,11 +3,12 @@ use Rattle.std.specs.Prelude.{◌≡◌, ℕ, ◌+◌, false, List, [], ◌∷�
 use Rattle.odb_base.specs.Path.{Path}
 use Rattle.odb_tree.specs.Tree.Follow.{looked}
 use Rattle.odb_tree.specs.declared.meta.Meta.{Meta}
-use Rattle.walkdir.specs.Walk.{Walking, Ancestor, enter, entering, entry_by, taken_for}
+use Rattle.walkdir.specs.Walk.{Walking, Ancestor}
+use Rattle.walkdir.specs.Walk.Entries.{enter, entering, entry_by, taken_for}
 use Rattle.walkdir.specs.Within.{IsChild}
 use Rattle.walkdir.specs.declared.dent.DirEntry.{DirEntry}
-use Rattle.walkdir.specs.declared.list.Entering.TheVariants.{Enters}
-use Rattle.walkdir.specs.declared.list.Place.{Place}
+use Rattle.walkdir.specs.declared.directory.Entering.TheVariants.{Enters}
+use Rattle.walkdir.specs.declared.directory.Place.{Place}
 
 -- an entry is what the walk's root is taken for
 pub record IsRoot (walk : Walking) (entry : DirEntry) : Type 0 where

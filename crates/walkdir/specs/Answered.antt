@@ -11,13 +11,14 @@ use Rattle.odb_tree.specs.declared.meta.Meta.{Meta}
 use Rattle.walkdir.specs.Entry.{is_dir_kind}
 use Rattle.walkdir.specs.Error.{IsFromPath}
 use Rattle.walkdir.specs.Innermost.{IsBeside, IsHead}
-use Rattle.walkdir.specs.Stack.{held}
-use Rattle.walkdir.specs.Walk.{Item, place_of}
+use Rattle.walkdir.specs.Directory.{held}
+use Rattle.walkdir.specs.Walk.{Item}
+use Rattle.walkdir.specs.Walk.Entries.{place_of}
 use Rattle.walkdir.specs.declared.error.Error.{Error}
 use Rattle.walkdir.specs.declared.error.ErrorInner.{ErrorInner}
 use Rattle.walkdir.specs.declared.error.ErrorInner.TheVariants.{Io, Loop, NoMemory}
-use Rattle.walkdir.specs.declared.list.DirList.{DirList}
-use Rattle.walkdir.specs.declared.list.Place.{Place}
+use Rattle.walkdir.specs.declared.directory.DirList.{DirList}
+use Rattle.walkdir.specs.declared.directory.Place.{Place}
 
 module _ {D : Type 0} (answered : D → DiskAsk → DiskAnswer → D → Type 0) where
   -- a look at a path was answered: what it found, or a refusal, which is an error at this depth unless memory ran out

@@ -1,21 +1,21 @@
 -- What the parts of a turn were answered. No public clause cites this module.
-use Rattle.std.specs.Prelude.{List, Option, Some, None, Result, Ok, Err, IfOk, IfSome}
+use Rattle.std.specs.Prelude.{List, Option, Some, None, Result, Ok, Err, IfErr, IfOk, IfSome}
 use Rattle.odb_base.specs.Path.{Path}
 use Rattle.odb_disk.specs.CallsMade.{Leads}
 use Rattle.odb_disk.specs.declared.ask.DiskAsk.{DiskAsk}
 use Rattle.odb_disk.specs.declared.ask.DiskAnswer.{DiskAnswer}
 use Rattle.walkdir.specs.Answered.{AreHeld, IsHeld, IsLookRefused, IsLoopTold, IsPlaceTold, IsStackTold}
-use Rattle.walkdir.specs.Stack.{held}
+use Rattle.walkdir.specs.Directory.{held}
 use Rattle.walkdir.specs.Walk.{Item}
 use Rattle.walkdir.specs.declared.error.Error.{Error}
 use Rattle.walkdir.specs.declared.error.ErrorInner.{ErrorInner}
 use Rattle.walkdir.specs.declared.error.ErrorInner.TheVariants.{Io, Loop, NoMemory}
-use Rattle.walkdir.specs.declared.list.DirList.{DirList}
-use Rattle.walkdir.specs.declared.list.Entering.{Entering}
-use Rattle.walkdir.specs.declared.list.Entering.TheVariants.{Stays, Enters}
-use Rattle.walkdir.specs.declared.list.Items.{Items}
-use Rattle.walkdir.specs.declared.list.Place.{Place}
-use Rattle.walkdir.specs.declared.stack.Found.{Found}
+use Rattle.walkdir.specs.declared.directory.DirList.{DirList}
+use Rattle.walkdir.specs.declared.directory.Entering.{Entering}
+use Rattle.walkdir.specs.declared.directory.Entering.TheVariants.{Stays, Enters}
+use Rattle.walkdir.specs.declared.directory.Items.{Items}
+use Rattle.walkdir.specs.declared.directory.Place.{Place}
+use Rattle.walkdir.specs.declared.stack.follow.Found.{Found}
 
 module _ {D : Type 0} (answered : D → DiskAsk → DiskAnswer → D → Type 0) where
   abbrev pub IsItemHeld : D → D → Option Item → Type 0
@@ -41,6 +41,11 @@ module _ {D : Type 0} (answered : D → DiskAsk → DiskAnswer → D → Type 0)
   IsSeenIn first now (Io None error) = ⊥
   IsSeenIn first now (Loop ancestor child) = IsLoopTold answered first now ancestor child
   IsSeenIn first now NoMemory = Unit {0}
+
+  -- calls lead on, and looks told the error, if there is one
+  pub record TellsLook {A : Type 0} (old : D) (result : Result A Error) (new : D) : Type 0 where
+    pub leads : Leads answered old new
+    pub told : (first : D) → Leads answered first old → IfErr result (λ e. IsSeenIn first new e.inner)
 
   -- ---- answers
 

@@ -3,12 +3,14 @@ use Rattle.std.specs.Prelude.{◌≡◌, ◌+◌, true, false, List, [], ◌∷�
 use Rattle.odb_base.specs.Path.{Path}
 use Rattle.odb_disk.specs.Streams.{Streams}
 use Rattle.walkdir.specs.Entry.{is_dir}
-use Rattle.walkdir.specs.Stack.{HasLeft, ancestors, is_skipped}
-use Rattle.walkdir.specs.Walk.{Walking, ContentsOf, Item, WalksOf, enter, entering}
+use Rattle.walkdir.specs.Directory.{HasLeft, is_skipped}
+use Rattle.walkdir.specs.Stack.{ancestors}
+use Rattle.walkdir.specs.Walk.{Walking, ContentsOf, Item, WalksOf}
+use Rattle.walkdir.specs.Walk.Entries.{enter, entering}
 use Rattle.walkdir.specs.declared.dent.DirEntry.{DirEntry}
-use Rattle.walkdir.specs.declared.list.DirList.{DirList}
-use Rattle.walkdir.specs.declared.list.Entering.TheVariants.{Stays, Enters}
-use Rattle.walkdir.specs.declared.list.Place.{Place}
+use Rattle.walkdir.specs.declared.directory.DirList.{DirList}
+use Rattle.walkdir.specs.declared.directory.Entering.TheVariants.{Stays, Enters}
+use Rattle.walkdir.specs.declared.directory.Place.{Place}
 
 -- a directory that would come before its contents isn't entered
 abbrev pub StaysOut : Walking → DirEntry → Type 0

@@ -8,44 +8,51 @@ use Rattle.walkdir.specs.Above.{AreEntered}
 use Rattle.walkdir.specs.Entered.{HoldsContents}
 use Rattle.walkdir.specs.Progress.{Progress, TellsEntered, is_lost}
 use Rattle.walkdir.specs.Stack.{ancestors}
-use Rattle.walkdir.specs.Turns.{IsIn}
-use Rattle.walkdir.specs.Walk.{Walking, Item, entering, entry_by}
+use Rattle.walkdir.specs.Turns.Stands.{IsIn}
+use Rattle.walkdir.specs.Walk.{Walking, Item}
+use Rattle.walkdir.specs.Walk.Entries.{entering, entry_by}
 use Rattle.walkdir.specs.declared.dent.DirEntry.{DirEntry}
-use Rattle.walkdir.specs.declared.list.Entering.TheVariants.{Enters}
-use Rattle.walkdir.specs.declared.list.Place.{Place}
+use Rattle.walkdir.specs.declared.directory.Entering.TheVariants.{Enters}
+use Rattle.walkdir.specs.declared.directory.Place.{Place}
 
 -- an entry is the root, by what a look at it tells
 abbrev pub IsRootEntry : Walking → DirEntry → Type 0
 IsRootEntry walk entry = (meta : Meta) × (looked walk.tree walk.root false ≡ Ok meta) × (entry ≡ entry_by walk.root false 0 meta)
 
+-- where the tree is told, this holds of each walk of it that was made so
+abbrev pub OfEachSuch : Option State → Progress → (Walking → Type 0) → Type 0
+OfEachSuch state at Holds = IfSome state (λ s. (walk : Walking) → walk.tree ≡ tree_of s → walk.options ≡ at.options → walk.order ≡ at.order → Holds walk)
+
+-- the same of each walk of it whose stack this is
+abbrev pub OfEachThere : Option State → Progress → (Walking → Type 0) → Type 0
+OfEachThere state at Holds = IfSome state (λ s. (walk : Walking) → walk.tree ≡ tree_of s → IsIn walk at → Holds walk)
+
 -- a directory at this path and depth is put on the stack with all that it contains
 abbrev pub PushesContents : Option State → Progress → Path → ℕ → Option Place → Progress → Type 0
 PushesContents state old path depth place new =
-    IfSome state (λ s. (walk : Walking) → walk.tree ≡ tree_of s → walk.options ≡ old.options → walk.order ≡ old.order → (entry : DirEntry) → entry.path ≡ path → entry.depth ≡ depth
-    → HoldsContents walk entry place new.streams new.stack)
+    OfEachSuch state old (λ walk. (entry : DirEntry) → entry.path ≡ path → entry.depth ≡ depth → HoldsContents walk entry place new.streams new.stack)
 
 -- an entry that is entered, as the walk's rules say
 abbrev pub EntersTelling : Option State → Progress → DirEntry → Option Place → Option Item → Progress → Type 0
 EntersTelling state old entry place item new =
-    IfSome state (λ s. (walk : Walking) → walk.tree ≡ tree_of s → walk.options ≡ old.options → walk.order ≡ old.order → entering walk entry ≡ Ok (Enters place) → TellsEntered walk item new)
+    OfEachSuch state old (λ walk. entering walk entry ≡ Ok (Enters place) → TellsEntered walk item new)
 
 -- an entry that is handled
 abbrev pub HandlesTelling : Option State → Progress → Option Item → Progress → Type 0
-HandlesTelling state old item new = IfSome state (λ s. (walk : Walking) → walk.tree ≡ tree_of s → IsIn walk old → TellsEntered walk item new)
+HandlesTelling state old item new = OfEachThere state old (λ walk. TellsEntered walk item new)
 
 -- the directories that the walk is in after an entry was handled, or the root, if nothing is above it
 abbrev pub HandlesAbove : Option State → Progress → DirEntry → Option Item → Progress → Type 0
 HandlesAbove state old entry item new =
-    IfSome state (λ s. (walk : Walking) → walk.tree ≡ tree_of s → IsIn walk old → is_lost item ≡ false → (old.stack ≡ [] → IsRootEntry walk entry) → AreEntered walk (ancestors old.stack)
+    OfEachThere state old (λ walk. is_lost item ≡ false → (old.stack ≡ [] → IsRootEntry walk entry) → AreEntered walk (ancestors old.stack)
     → AreEntered walk (ancestors new.stack))
 
 -- those after the root was taken up
 abbrev pub BeginsAbove : Option State → Progress → Path → Option Item → Progress → Type 0
 BeginsAbove state old root item new =
-    IfSome state (λ s. (walk : Walking) → walk.tree ≡ tree_of s → walk.options ≡ old.options → walk.order ≡ old.order → walk.root ≡ root → is_lost item ≡ false
-    → AreEntered walk (ancestors new.stack))
+    OfEachSuch state old (λ walk. walk.root ≡ root → is_lost item ≡ false → AreEntered walk (ancestors new.stack))
 
 -- the root of a walk
 abbrev pub BeginsTelling : Option State → Progress → Path → Option Item → Progress → Type 0
 BeginsTelling state old root item new =
-    IfSome state (λ s. (walk : Walking) → walk.tree ≡ tree_of s → walk.options ≡ old.options → walk.order ≡ old.order → walk.root ≡ root → TellsEntered walk item new)
+    OfEachSuch state old (λ walk. walk.root ≡ root → TellsEntered walk item new)

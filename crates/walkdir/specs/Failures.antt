@@ -3,13 +3,17 @@ use Rattle.std.specs.Prelude.{ℕ, ◌+◌, ◌-◌, ◌^◌, ◌≤◌, min, Li
 use Rattle.walkdir.specs.Error.{failures}
 use Rattle.walkdir.specs.Walk.{Item}
 use Rattle.walkdir.specs.declared.error.Error.{Error}
-use Rattle.walkdir.specs.declared.list.DirList.{DirList}
-use Rattle.walkdir.specs.declared.list.Items.{Items}
-use Rattle.walkdir.specs.declared.list.Items.TheVariants.{Opened, Closed, Skipped}
+use Rattle.walkdir.specs.declared.directory.DirList.{DirList}
+use Rattle.walkdir.specs.declared.directory.Items.{Items}
+use Rattle.walkdir.specs.declared.directory.Items.TheVariants.{Opened, Closed, Skipped}
+
+-- a disk keeps its count of faults in 64 bits, and stands still at the greatest
+abbrev pub greatest_count : ℕ
+greatest_count = 2 ^ 64 - 1
 
 -- the count of faults rose so often in between, or stands at its greatest value
 abbrev pub RoseBy : ℕ → ℕ → ℕ → Type 0
-RoseBy count before now = min (before + count) (2 ^ 64 - 1) ≤ now
+RoseBy count before now = min (before + count) greatest_count ≤ now
 
 -- so many failures came out of a call, and no more than the count of faults rose by. It never falls
 pub record Costs (count before now : ℕ) : Type 0 where

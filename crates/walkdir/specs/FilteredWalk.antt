@@ -15,13 +15,14 @@ use Rattle.walkdir.specs.Entry.{is_dir}
 use Rattle.walkdir.specs.Filter.{Filters}
 use Rattle.walkdir.specs.OnDisk.{NextOn, SkipsOn, at_walk}
 use Rattle.walkdir.specs.Progress.{Progress, is_lost}
-use Rattle.walkdir.specs.Walk.{Walking, Ancestor, ContentsOf, IsWalk, Item, enter, entering}
+use Rattle.walkdir.specs.Walk.{Walking, Ancestor, ContentsOf, IsWalk, Item}
+use Rattle.walkdir.specs.Walk.Entries.{enter, entering}
 use Rattle.walkdir.specs.declared.dent.DirEntry.{DirEntry}
 use Rattle.walkdir.specs.declared.error.Error.{Error}
 use Rattle.walkdir.specs.declared.filter.FilterEntry.{FilterEntry}
 use Rattle.walkdir.specs.declared.iter.OnDisk.{OnDisk}
-use Rattle.walkdir.specs.declared.list.Entering.TheVariants.{Enters}
-use Rattle.walkdir.specs.declared.list.Place.{Place}
+use Rattle.walkdir.specs.declared.directory.Entering.TheVariants.{Enters}
+use Rattle.walkdir.specs.declared.directory.Place.{Place}
 
 -- the items of a walk, and what a filter leaves of them
 pub data LeavesOut (walk : Walking) (accepts : DirEntry → Bool) : List Item → List Item → Type 0 where

@@ -2,15 +2,16 @@
 use Rattle.std.specs.Prelude.{◌≡◌, ◌⊎◌, ℕ, ◌+◌, ◌==◌, ◌&&◌, ◌||◌, Bool, true, false, List, [], ◌∷◌, length, Option, Some, None, Ok, Err}
 use Rattle.odb_base.specs.Path.{Path}
 use Rattle.walkdir.specs.Entry.{is_dir}
-use Rattle.walkdir.specs.Stack.{IsAt, is_skipped}
-use Rattle.walkdir.specs.Walk.{Item, is_root_link}
+use Rattle.walkdir.specs.Directory.{IsAt, is_skipped}
+use Rattle.walkdir.specs.Walk.{Item}
+use Rattle.walkdir.specs.Walk.Entries.{knows_places, is_root_link}
 use Rattle.walkdir.specs.Within.{LiesIn}
 use Rattle.walkdir.specs.declared.builder.Options.{Options}
 use Rattle.walkdir.specs.declared.dent.DirEntry.{DirEntry}
 use Rattle.walkdir.specs.declared.error.Error.{Error}
 use Rattle.walkdir.specs.declared.error.ErrorInner.{ErrorInner}
 use Rattle.walkdir.specs.declared.error.ErrorInner.TheVariants.{Io, Loop, NoMemory}
-use Rattle.walkdir.specs.declared.list.DirList.{DirList}
+use Rattle.walkdir.specs.declared.directory.DirList.{DirList}
 
 -- whether the innermost directory is skipped
 abbrev pub is_head_skipped : List DirList → Bool
@@ -47,7 +48,7 @@ IsAfterEntry options entry stack = IsWithin options entry stack ⊎ IsBehind opt
 -- whether something at this depth may be looked at: the root, or what stands anywhere, where links are followed or devices
 -- matter
 abbrev pub may_look : Options → ℕ → Bool
-may_look options depth = (depth == 0) || (options.follow_links || options.same_file_system)
+may_look options depth = (depth == 0) || knows_places options
 
 -- a stream fails in the innermost directory, whose entries have this depth
 abbrev pub IsStreaming : ℕ → List DirList → Type 0

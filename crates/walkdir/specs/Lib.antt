@@ -8,11 +8,15 @@ pub mod Within
 pub mod Above
 pub mod WalkLaws
 pub mod OwnStreams
+pub mod Directory
 pub mod Stack
+pub mod Sound
 pub mod Innermost
 pub mod Answered
 pub mod Entered
+pub mod Causes
 pub mod Progress
+pub mod Skips
 pub mod OnDisk
 pub mod SkipLaws
 pub mod StackProgress

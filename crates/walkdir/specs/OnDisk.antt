@@ -6,7 +6,8 @@ use Rattle.odb_disk.specs.declared.ask.DiskAsk.{DiskAsk}
 use Rattle.odb_disk.specs.declared.ask.DiskAnswer.{DiskAnswer}
 use Rattle.walkdir.specs.Answered.{TellsOn}
 use Rattle.walkdir.specs.Failures.{failures_given}
-use Rattle.walkdir.specs.Progress.{Progress, FailsByFault, Skips, Steps, has_its_streams}
+use Rattle.walkdir.specs.Progress.{Progress, FailsByFault, Steps, has_its_streams}
+use Rattle.walkdir.specs.Skips.{Skips}
 use Rattle.walkdir.specs.Walk.{Item}
 use Rattle.walkdir.specs.declared.iter.OnDisk.{OnDisk}
 

@@ -4,10 +4,25 @@ use Rattle.std.specs.Coded.{Coded, code_by, coded×, coded_ℕ, coded_bool, code
 use Rattle.odb_base.specs.Path.{Path}
 use Rattle.walkdir.specs.declared.builder.Options.{Options}
 
+-- the most directories that are open unless another number is chosen, as the crate `walkdir` has it
+abbrev pub default_max_open : ℕ
+default_max_open = 10
+
+-- no entry stands deeper: depths are kept in 64 bits
+abbrev pub greatest_depth : ℕ
+greatest_depth = 2 ^ 64 - 1
+
 -- links are followed at the root alone, ten directories are open at most, and every depth is given
 abbrev pub default_options : Options
-default_options =
-    record { follow_links = false; follow_root_links = true; max_open = 10; min_depth = 0; max_depth = 2 ^ 64 - 1; contents_first = false; same_file_system = false }
+default_options = record {
+  follow_links = false;
+  follow_root_links = true;
+  max_open = default_max_open;
+  min_depth = 0;
+  max_depth = greatest_depth;
+  contents_first = false;
+  same_file_system = false;
+}
 
 -- whether entries of a depth are given
 abbrev pub is_given : Options → ℕ → Bool
@@ -24,6 +39,10 @@ pub record Built (S : Type 0) : Type 0 where
   pub options : Options
   pub sorter : Option S
 
+-- the same with other options
+abbrev pub with_options : {S : Type 0} → Built S → Options → Built S
+with_options walk options = record walk { options = options }
+
 -- ---- how built walks are told apart, for their model
 
 abbrev Parts : Type 0
@@ -33,7 +52,15 @@ abbrev pub coded_options : Coded Options
 coded_options =
     code_by Parts (coded× coded_bool (coded× coded_bool (coded× coded_ℕ (coded× coded_ℕ (coded× coded_ℕ (coded× coded_bool coded_bool))))))
     (λ o. (o.follow_links, (o.follow_root_links, (o.max_open, (o.min_depth, (o.max_depth, (o.contents_first, o.same_file_system)))))))
-    (λ p. record { follow_links = p.0; follow_root_links = p.1.0; max_open = p.1.1.0; min_depth = p.1.1.1.0; max_depth = p.1.1.1.1.0; contents_first = p.1.1.1.1.1.0; same_file_system = p.1.1.1.1.1.1 })
+    (λ p. record {
+      follow_links = p.0;
+      follow_root_links = p.1.0;
+      max_open = p.1.1.0;
+      min_depth = p.1.1.1.0;
+      max_depth = p.1.1.1.1.0;
+      contents_first = p.1.1.1.1.1.0;
+      same_file_system = p.1.1.1.1.1.1;
+    })
     (λ _. refl)
 
 abbrev pub coded_built : {S : Type 0} → Coded S → Coded (Built S)

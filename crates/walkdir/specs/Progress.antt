@@ -1,5 +1,5 @@
 -- A walk in progress on a disk, and what one call of `next` gives and leaves.
-use Rattle.std.specs.Prelude.{◌≡◌, ◌≢◌, ℕ, ◌+◌, ◌*◌, ◌<◌, ◌==◌, ◌&&◌, ◌≤◌, Bool, true, false, List, [], ◌∷◌, ◌++◌, length, Contains, Option, Some, None, Ok, Err, IfSome, MatchBool, nat_le, if◌then◌else◌}
+use Rattle.std.specs.Prelude.{◌≡◌, ◌≢◌, ℕ, ◌+◌, ◌*◌, ◌<◌, ◌==◌, ◌&&◌, ◌≤◌, Bool, true, false, List, [], ◌++◌, length, Option, Some, None, Ok, Err, IfSome, MatchBool, nat_le}
 use Rattle.std.specs.Option.{option_map, option_to_list}
 use Rattle.odb_base.specs.Path.{Path}
 use Rattle.odb_tree.specs.Tree.{State, tree_of}
@@ -7,20 +7,19 @@ use Rattle.odb_disk.specs.Streams.{Streams}
 use Rattle.walkdir.specs.Above.{AreEntered}
 use Rattle.walkdir.specs.Entered.{IsEntered, StaysOut}
 use Rattle.walkdir.specs.Entry.{is_dir}
-use Rattle.walkdir.specs.Error.{is_no_memory, is_stream_refusal}
+use Rattle.walkdir.specs.Error.{is_no_memory}
 use Rattle.walkdir.specs.Failures.{RoseBy, waiting}
 use Rattle.walkdir.specs.Innermost.{IsAfter, SkipsNone}
 use Rattle.walkdir.specs.Options.{Built}
 pub use Rattle.walkdir.specs.OwnStreams.{AreBack}
 use Rattle.walkdir.specs.OwnStreams.{Owns, are_apart}
-use Rattle.walkdir.specs.Stack.{StandsFor, ancestors, own_streams, is_skipped, many, stream_in, weight, without_stream, work_in}
-use Rattle.walkdir.specs.Walk.{Walking, Ancestor, Order, Item, IsWalk, root_device}
+use Rattle.walkdir.specs.Stack.{StandsFor, ancestors, own_streams, weight, work_in}
+use Rattle.walkdir.specs.Directory.{many}
+use Rattle.walkdir.specs.Walk.{Walking, Order, Item, IsWalk}
+use Rattle.walkdir.specs.Walk.Entries.{root_device}
 use Rattle.walkdir.specs.declared.builder.Options.{Options}
-use Rattle.walkdir.specs.declared.error.Error.{Error}
-use Rattle.walkdir.specs.declared.error.ErrorInner.{ErrorInner}
-use Rattle.walkdir.specs.declared.error.ErrorInner.TheVariants.{Io, Loop, NoMemory}
-use Rattle.walkdir.specs.declared.list.DirList.{DirList}
-use Rattle.walkdir.specs.declared.list.Items.TheVariants.{Skipped}
+use Rattle.walkdir.specs.declared.directory.DirList.{DirList}
+use Rattle.walkdir.specs.Causes.{IsCausedAmong}
 
 -- a walk at one moment. The stack has the innermost directory first
 pub record Progress : Type 0 where
@@ -47,8 +46,6 @@ begun order walk streams = record {
   streams = streams;
 }
 
--- ---- what is still to come
-
 -- the items that a walk still gives: all of it before it begins, and then what its stack stands for
 abbrev pub still_to_come : Walking → Progress → Option Path → List Item → Type 0
 still_to_come walk at (Some root) items = IsWalk walk items
@@ -64,8 +61,6 @@ pub record IsOf (walk : Walking) (at : Progress) : Type 0 where
   pub start : IfSome at.start (λ root. root ≡ walk.root)
   pub device : at.stack ≢ [] → walk.options.same_file_system ≡ true → root_device walk ≡ Some at.device
 
--- ---- its streams
-
 -- A walk that began on a disk with these streams has at most `max_open` of its own, and leaves all others as they are.
 abbrev pub Keeps : Streams → Progress → Type 0
 Keeps before at = Owns before at.options.max_open (own_streams at.stack) at.streams
@@ -76,9 +71,13 @@ has_its_streams at = nat_le (length (own_streams at.stack)) at.options.max_open 
 
 -- ---- how much there is to do at most
 
+-- what its stack has
+abbrev pub work_at : Progress → ℕ
+work_at at = work_in at.options.max_depth at.streams at.stack
+
 abbrev pub work_of : Progress → Option Path → ℕ
 work_of at (Some root) = many * weight at.options.max_depth 0
-work_of at None = work_in at.options.max_depth at.streams at.stack
+work_of at None = work_at at
 
 unfoldable pub work_left : Progress → ℕ
 work_left at = work_of at at.start
@@ -90,11 +89,15 @@ is_lost (Some (Err error)) = is_no_memory error
 is_lost (Some (Ok entry)) = false
 is_lost None = false
 
+-- where the tree is told, this holds of each walk of it that has come here, with streams of its own
+abbrev pub OfEach : Option State → Progress → (Walking → Type 0) → Type 0
+OfEach state at Holds = IfSome state (λ s. (walk : Walking) (before : Streams) → walk.tree ≡ tree_of s → IsOf walk at → Keeps before at → Holds walk)
+
 -- Where the tree is told, the item is the first of what the walk still gives, and the others are still to come. Want of
 -- memory ends the walk at any place.
 abbrev pub GivesNext : Option State → Progress → Option Item → Progress → Type 0
 GivesNext state old item new =
-    IfSome state (λ s. (walk : Walking) (before : Streams) → walk.tree ≡ tree_of s → IsOf walk old → Keeps before old → is_lost item ≡ false
+    OfEach state old (λ walk. is_lost item ≡ false
     → IsOf walk new × ((rest : List Item) → StillGives walk new rest → StillGives walk old (option_to_list item ++ rest)))
 
 -- The failures that were given and those that are still to be given are no more than the disk's count of faults rose by
@@ -108,17 +111,6 @@ abbrev pub is_innermost : List DirList → Option Item → Bool
 is_innermost stack (Some (Ok entry)) = is_dir entry && (entry.depth + 1 == length stack)
 is_innermost stack (Some (Err error)) = false
 is_innermost stack None = false
-
--- why an error comes: a call on a path was refused; a stream failed, or isn't open; a link that is followed leads to one
--- of these directories; or memory ran out
-abbrev pub IsCausedIn : Options → List Ancestor → ErrorInner → Type 0
-IsCausedIn options above (Io (Some path) error) = Unit {0}
-IsCausedIn options above (Io None error) = is_stream_refusal error ≡ true
-IsCausedIn options above (Loop path child) = (options.follow_links ≡ true) × ((ancestor : Ancestor) × Contains above ancestor × (ancestor.path ≡ path))
-IsCausedIn options above NoMemory = Unit {0}
-
-abbrev pub IsCausedAmong : Options → List Ancestor → Error → Type 0
-IsCausedAmong options above error = IsCausedIn options above error.inner
 
 -- an item that is an error is caused so, by the directories that the walk is in
 abbrev pub CausedWithin : Progress → Option Item → Type 0
@@ -135,14 +127,11 @@ TellsEntered walk None at = Unit {0}
 
 -- the same, where the tree is told
 abbrev pub GivesDirectory : Option State → Progress → Option Item → Progress → Type 0
-GivesDirectory state old item new =
-    IfSome state (λ s. (walk : Walking) (before : Streams) → walk.tree ≡ tree_of s → IsOf walk old → Keeps before old → TellsEntered walk item new)
+GivesDirectory state old item new = OfEach state old (λ walk. TellsEntered walk item new)
 
 -- where the tree is told, the directories that the walk is in are those that it entered
 abbrev pub GivesEntered : Option State → Progress → Option Item → Progress → Type 0
-GivesEntered state old item new =
-    IfSome state (λ s. (walk : Walking) (before : Streams) → walk.tree ≡ tree_of s → IsOf walk old → Keeps before old → is_lost item ≡ false → AreEntered walk (ancestors old.stack)
-    → AreEntered walk (ancestors new.stack))
+GivesEntered state old item new = OfEach state old (λ walk. is_lost item ≡ false → AreEntered walk (ancestors old.stack) → AreEntered walk (ancestors new.stack))
 
 -- what a call of `next` gives and leaves
 pub record Steps (state : Option State) (old : Progress) (item : Option Item) (new : Progress) : Type 0 where
@@ -159,27 +148,3 @@ pub record Steps (state : Option State) (old : Progress) (item : Option Item) (n
   pub skips : SkipsNone old.stack new.stack
   pub directory : GivesDirectory state old item new
   pub above : GivesEntered state old item new
-
--- ---- `skip_current_dir`
-
--- the stack, whose innermost directory that isn't skipped yet has nothing left
-abbrev pub skipped : List DirList → List DirList
-skipped [] = []
-skipped (list ∷ outer) = if is_skipped list.items then list ∷ skipped outer else (record list { items = Skipped }) ∷ outer
-
--- the stream of the innermost directory that isn't skipped yet
-abbrev pub skipped_stream : List DirList → Option ℕ
-skipped_stream [] = None
-skipped_stream (list ∷ outer) = if is_skipped list.items then skipped_stream outer else stream_in list.items
-
--- what a skip leaves: all else stays, and the streams but for the one that is closed
-pub record Skips (old new : Progress) : Type 0 where
-  pub stack : new.stack ≡ skipped old.stack
-  pub streams : new.streams ≡ without_stream (skipped_stream old.stack) old.streams
-  pub entered : new.entered ≡ false
-  pub options : new.options ≡ old.options
-  pub order : new.order ≡ old.order
-  pub start : new.start ≡ old.start
-  pub device : new.device ≡ old.device
-  pub keeps : (before : Streams) → Keeps before old → Keeps before new
-  pub less : work_left new ≤ work_left old

@@ -2,10 +2,11 @@
 use Rattle.std.specs.Prelude.{◌≡◌, ◌+◌, MatchBool, List, [], ◌∷◌, ◌++◌, length, if◌then◌else◌}
 use Rattle.odb_disk.specs.Streams.{Streams}
 use Rattle.walkdir.specs.Progress.{Progress}
-use Rattle.walkdir.specs.Stack.{HasLeft, StandsFor, ancestors, is_skipped, own_entry}
+use Rattle.walkdir.specs.Directory.{HasLeft, is_skipped}
+use Rattle.walkdir.specs.Stack.{StandsFor, ancestors, own_entry}
 use Rattle.walkdir.specs.Walk.{Walking, Item, WalksOf}
 use Rattle.walkdir.specs.declared.builder.Options.{Options}
-use Rattle.walkdir.specs.declared.list.DirList.{DirList}
+use Rattle.walkdir.specs.declared.directory.DirList.{DirList}
 
 -- the entries of the directories that are skipped already, further in than the one that a skip finds
 abbrev pub own_first : Options → List DirList → List Item

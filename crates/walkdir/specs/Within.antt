@@ -1,7 +1,7 @@
 -- Which paths lie in the directories of a stack.
 use Rattle.std.specs.Prelude.{◌≡◌, ◌&&◌, ◌==◌, Bool, true, false, List, [], ◌∷◌, ◌++◌, length}
 use Rattle.odb_base.specs.Path.{Name, Path, same_name}
-use Rattle.walkdir.specs.declared.list.DirList.{DirList}
+use Rattle.walkdir.specs.declared.directory.DirList.{DirList}
 
 -- a path has one name more than a directory's
 abbrev pub IsChild : Path → Path → Type 0

@@ -1,5 +1,5 @@
 ghost use Rattle.std.specs.Prelude.{◌≡◌, min, max, IfOk, IfErr, Some, None, true};
-ghost use Rattle.walkdir.specs.Options.{default_options};
+ghost use Rattle.walkdir.specs.Options.{default_options, with_options};
 
 use crate::iter::{IntoIter, OnDisk};
 use crate::sort::{ByKey, ByName, KeyOf, NoSort, Sorter};
@@ -7,6 +7,9 @@ use crate::stack::Stack;
 use odb_disk::{Disk, NoMemory, PathText};
 use std::alloc::Global;
 use std::marker::Model;
+
+/// The most directories that are open unless another number is chosen, as in the crate `walkdir`.
+const DEFAULT_MAX_OPEN: usize = 10;
 
 /// How a walk is made.
 #[derive(Clone, Copy)]
@@ -53,7 +56,7 @@ impl WalkDir<NoSort> {
         let options = Options {
             follow_links: false,
             follow_root_links: true,
-            max_open: 10,
+            max_open: DEFAULT_MAX_OPEN,
             min_depth: 0,
             max_depth: usize::MAX,
             contents_first: false,
@@ -87,7 +90,7 @@ impl<S: Drop> WalkDir<S> {
 
     /// Gives entries from this depth on. The root has depth 0, and a depth above `max_depth` is cut to it.
     pub fn min_depth(mut self, depth: usize) -> Self
-        ensures { result ≡ record self { options = record self.options { min_depth = min depth self.options.max_depth } } }
+        ensures options { result ≡ with_options self (record self.options { min_depth = min depth self.options.max_depth }) }
     {
         self.options.min_depth = depth.min(self.options.max_depth);
         self
@@ -95,7 +98,7 @@ impl<S: Drop> WalkDir<S> {
 
     /// Gives entries up to this depth, and enters no directory there. A depth below `min_depth` is raised to it.
     pub fn max_depth(mut self, depth: usize) -> Self
-        ensures { result ≡ record self { options = record self.options { max_depth = max depth self.options.min_depth } } }
+        ensures options { result ≡ with_options self (record self.options { max_depth = max depth self.options.min_depth }) }
     {
         self.options.max_depth = depth.max(self.options.min_depth);
         self
@@ -103,7 +106,7 @@ impl<S: Drop> WalkDir<S> {
 
     /// Whether links are followed. A link that leads to a directory above it is an error then.
     pub fn follow_links(mut self, yes: bool) -> Self
-        ensures { result ≡ record self { options = record self.options { follow_links = yes } } }
+        ensures options { result ≡ with_options self (record self.options { follow_links = yes }) }
     {
         self.options.follow_links = yes;
         self
@@ -111,7 +114,7 @@ impl<S: Drop> WalkDir<S> {
 
     /// Whether a root that is a link to a directory is entered. Its entry is a link nevertheless.
     pub fn follow_root_links(mut self, yes: bool) -> Self
-        ensures { result ≡ record self { options = record self.options { follow_root_links = yes } } }
+        ensures options { result ≡ with_options self (record self.options { follow_root_links = yes }) }
     {
         self.options.follow_root_links = yes;
         self
@@ -120,8 +123,9 @@ impl<S: Drop> WalkDir<S> {
     /// The most directories that are open at one time. 0 is taken for 1. Above it, the rest of a directory is read
     /// into memory. What the walk gives doesn't depend on it, on a tree that stays as it is and without failures.
     pub fn max_open(mut self, count: usize) -> Self
-        ensures options { result ≡ record self { options = record self.options { max_open = max count 1 } } }
-        ensures same { (tree : Tree) (order : S → Order) → GiveOneList (walking order tree self) (walking order tree result) }
+        ensures options { result ≡ with_options self (record self.options { max_open = max count 1 }) }
+        ensures same { (tree : Tree) (order : S → Order)
+            → GiveOneList (walking order tree self) (walking order tree result) }
     {
         self.options.max_open = count.max(1);
         self
@@ -129,7 +133,7 @@ impl<S: Drop> WalkDir<S> {
 
     /// Whether a directory comes after its contents.
     pub fn contents_first(mut self, yes: bool) -> Self
-        ensures { result ≡ record self { options = record self.options { contents_first = yes } } }
+        ensures options { result ≡ with_options self (record self.options { contents_first = yes }) }
     {
         self.options.contents_first = yes;
         self
@@ -137,7 +141,7 @@ impl<S: Drop> WalkDir<S> {
 
     /// Whether directories on other devices than the root's are given and not entered.
     pub fn same_file_system(mut self, yes: bool) -> Self
-        ensures { result ≡ record self { options = record self.options { same_file_system = yes } } }
+        ensures options { result ≡ with_options self (record self.options { same_file_system = yes }) }
     {
         self.options.same_file_system = yes;
         self
@@ -145,7 +149,7 @@ impl<S: Drop> WalkDir<S> {
 
     /// Gives the entries of each directory in an order.
     pub fn sort_by<T: Sorter>(self, sorter: T) -> WalkDir<T>
-        ensures { result ≡ record { root = self.root; options = self.options; sorter = Some sorter } }
+        ensures sorted { result ≡ record { root = self.root; options = self.options; sorter = Some sorter } }
     {
         WalkDir {
             root: self.root,
@@ -156,14 +160,15 @@ impl<S: Drop> WalkDir<S> {
 
     /// Gives the entries of each directory in the order of their keys.
     pub fn sort_by_key<K: KeyOf>(self, key: K) -> WalkDir<ByKey<K>>
-        ensures { result ≡ record { root = self.root; options = self.options; sorter = Some (record { key = key }) } }
+        ensures sorted { result
+            ≡ record { root = self.root; options = self.options; sorter = Some (record { key = key }) } }
     {
         self.sort_by(ByKey::new(key))
     }
 
     /// Gives the entries of each directory in the order of the bytes of their names.
     pub fn sort_by_file_name(self) -> WalkDir<ByName>
-        ensures { result ≡ record { root = self.root; options = self.options; sorter = Some (record {}) } }
+        ensures sorted { result ≡ record { root = self.root; options = self.options; sorter = Some (record {}) } }
     {
         self.sort_by(ByName)
     }
@@ -172,7 +177,7 @@ impl<S: Drop> WalkDir<S> {
     pub fn into_stack(self, alloc: Global) -> Stack<S>
     where
         S: Sorter,
-        ensures { (streams : Streams) → progress S.order result streams ≡ begun S.order self streams }
+        ensures begun { (streams : Streams) → progress S.order result streams ≡ begun S.order self streams }
     {
         Stack::new(alloc, self.options, self.sorter, self.root)
     }
@@ -186,8 +191,10 @@ impl<S: Drop> WalkDir<S> {
     where
         S: Sorter,
         ensures made { IfErr result (λ _. ⊥) }
-        ensures begun { IfOk result (λ walk. progress S.order walk.walk (D.streams walk.disk.now) ≡ begun S.order self (D.streams disk.old)) }
-        ensures own { IfOk result (λ walk. has_its_streams (progress S.order walk.walk (D.streams walk.disk.now)) ≡ true) }
+        ensures begun { IfOk result
+            (λ walk. progress S.order walk.walk (D.streams walk.disk.now) ≡ begun S.order self (D.streams disk.old)) }
+        ensures own { IfOk result
+            (λ walk. has_its_streams (progress S.order walk.walk (D.streams walk.disk.now)) ≡ true) }
         ensures disk { IfOk result (λ walk. walk.disk.ghost_name ≡ disk.entry.ghost_name) }
         ensures same { IfOk result (λ walk. walk.disk.now ≡ disk.old) }
     {

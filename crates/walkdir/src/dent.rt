@@ -32,7 +32,7 @@ impl DirEntry {
         depth: usize,
         ino: u64,
     ) -> DirEntry
-        ensures { result ≡ entry_at path kind followed depth ino }
+        ensures made { result ≡ entry_at path kind followed depth ino }
     {
         DirEntry {
             path,
@@ -45,35 +45,35 @@ impl DirEntry {
 
     /// The path: that of the root, and the names on the way from there.
     pub fn path(&self) -> &PathText
-        ensures { result.now ≡ self.now.path }
+        ensures told { result.now ≡ self.now.path }
     {
         &self.path
     }
 
     /// The path, without a copy.
     pub fn into_path(self) -> PathText
-        ensures { result ≡ self.path }
+        ensures told { result ≡ self.path }
     {
         self.path
     }
 
     /// Whether a link stands at the path, also one that was followed.
     pub fn path_is_symlink(&self) -> bool
-        ensures { result ≡ is_behind_link self.now }
+        ensures told { result ≡ is_behind_link self.now }
     {
         self.kind == Kind::Link || self.followed
     }
 
     /// What stands there: where a link was followed, behind it.
     pub fn file_type(&self) -> Kind
-        ensures { result ≡ self.now.kind }
+        ensures told { result ≡ self.now.kind }
     {
         self.kind
     }
 
     /// The last name of the path, `/` for the root of the disk.
     pub fn file_name(&self) -> &str
-        ensures { result.now ≡ file_name_of self.now }
+        ensures told { result.now ≡ file_name_of self.now }
     {
         match self.path.file_name() {
             Some(name) => name,
@@ -83,14 +83,16 @@ impl DirEntry {
 
     /// How many names below the walk's root it stands.
     pub fn depth(&self) -> usize
-        ensures { result ≡ self.now.depth }
+        ensures told { result ≡ self.now.depth }
     {
         self.depth
     }
 
     /// What a look at the path tells now. A link is followed exactly where the walk followed it.
     pub fn metadata<D: Disk>(&self, alloc: Global, disk: &mut D) -> Result<Meta>
-        ensures told { IfSome (D.state disk.old) (λ s. Tells self.now.depth self.now.path result (told_at self.now.depth self.now.path (looked (tree_of s) self.now.path self.now.followed))) }
+        ensures told { IfSome (D.state disk.old) (λ s.
+            Tells self.now.depth self.now.path result
+            (told_at self.now.depth self.now.path (looked (tree_of s) self.now.path self.now.followed))) }
         ensures answered { LooksBy D.answered self.now.depth self.now.path self.now.followed disk.old result disk.new }
         ensures kept { D.state disk.new ≡ D.state disk.old }
         ensures streams { D.streams disk.new ≡ D.streams disk.old }
@@ -101,7 +103,7 @@ impl DirEntry {
 
     /// A copy of the entry.
     pub fn try_clone(&self, alloc: Global) -> std::result::Result<DirEntry, NoMemory>
-        ensures { IfOk result (λ copy. copy ≡ self.now) }
+        ensures copied { IfOk result (λ copy. copy ≡ self.now) }
     {
         Ok(DirEntry {
             path: self.path.try_clone(alloc)?,
@@ -113,13 +115,13 @@ impl DirEntry {
     }
 
     pub(crate) fn is_dir(&self) -> bool
-        ensures { result ≡ is_dir self.now }
+        ensures told { result ≡ is_dir self.now }
     {
         self.kind == Kind::Dir
     }
 
     pub(crate) fn is_link(&self) -> bool
-        ensures { result ≡ is_link self.now }
+        ensures told { result ≡ is_link self.now }
     {
         self.kind == Kind::Link
     }
@@ -132,7 +134,7 @@ pub trait DirEntryExt {
 
     /// The inode number.
     fn ino(&self) -> u64
-        ensures { result ≡ number self.now };
+        ensures told { result ≡ number self.now };
 }
 
 impl DirEntryExt for DirEntry {

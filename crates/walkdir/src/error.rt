@@ -37,7 +37,7 @@ impl Error {
 
     /// The path at which it went wrong: of a loop, the link.
     pub fn path(&self) -> Option<&PathText>
-        ensures { option_copied result ≡ path_of self.now }
+        ensures told { option_copied result ≡ path_of self.now }
     {
         match &self.inner {
             ErrorInner::Io { path, .. } => path.as_ref(),
@@ -48,7 +48,7 @@ impl Error {
 
     /// The directory that a loop leads back to, by the path under which the walk entered it.
     pub fn loop_ancestor(&self) -> Option<&PathText>
-        ensures { option_copied result ≡ ancestor_of self.now }
+        ensures told { option_copied result ≡ ancestor_of self.now }
     {
         match &self.inner {
             ErrorInner::Io { .. } | ErrorInner::NoMemory => None,
@@ -58,14 +58,14 @@ impl Error {
 
     /// How many names below the root it went wrong. For want of memory it is 0.
     pub fn depth(&self) -> usize
-        ensures { result ≡ depth_of self.now }
+        ensures told { result ≡ depth_of self.now }
     {
         self.depth
     }
 
     /// The disk's error; a loop and want of memory have none.
     pub fn io_error(&self) -> Option<DiskError>
-        ensures { result ≡ disk_error_of self.now }
+        ensures told { result ≡ disk_error_of self.now }
     {
         match &self.inner {
             ErrorInner::Io { error, .. } => Some(*error),
@@ -75,14 +75,14 @@ impl Error {
 
     /// The disk's error; a loop and want of memory have none.
     pub fn into_io_error(self) -> Option<DiskError>
-        ensures { result ≡ disk_error_of self }
+        ensures told { result ≡ disk_error_of self }
     {
         self.io_error()
     }
 
     /// A call on a path was refused.
     pub(crate) fn from_path(alloc: Global, depth: usize, path: &PathText, error: DiskError) -> Error
-        ensures { IsFromPath depth path.now error result }
+        ensures made { IsFromPath depth path.now error result }
     {
         if error == DiskError::NoMemory {
             return Error::out_of_memory();
@@ -101,7 +101,7 @@ impl Error {
 
     /// A stream failed in the middle of a directory.
     pub(crate) fn from_stream(depth: usize, error: DiskError) -> Error
-        ensures { result ≡ stream_failed depth error }
+        ensures made { result ≡ stream_failed depth error }
     {
         if error == DiskError::NoMemory {
             return Error::out_of_memory();
@@ -119,7 +119,7 @@ impl Error {
         ancestor: &PathText,
         child: &PathText,
     ) -> Error
-        ensures { IsFromLoop depth ancestor.now child.now result }
+        ensures made { IsFromLoop depth ancestor.now child.now result }
     {
         match (ancestor.try_clone(alloc), child.try_clone(alloc)) {
             (Ok(ancestor), Ok(child)) => Error {
@@ -132,7 +132,7 @@ impl Error {
 
     /// Want of memory.
     pub(crate) fn out_of_memory() -> Error
-        ensures { result ≡ no_memory }
+        ensures made { result ≡ no_memory }
     {
         Error {
             depth: 0,
@@ -142,7 +142,7 @@ impl Error {
 
     /// Whether memory ran out.
     pub fn is_out_of_memory(&self) -> bool
-        ensures { result ≡ is_no_memory self.now }
+        ensures told { result ≡ is_no_memory self.now }
     {
         matches!(&self.inner, ErrorInner::NoMemory)
     }
@@ -150,7 +150,7 @@ impl Error {
 
 /// The name of a disk's error, as that prints itself.
 fn name_of(error: DiskError) -> &'static str
-    ensures { result.now ≡ refusal_name error }
+    ensures told { result.now ≡ refusal_name error }
 {
     match error {
         DiskError::Absent => "Absent",

@@ -45,7 +45,7 @@ impl<I: Walk, P: FnMut(&DirEntry) -> bool> FilterEntry<I, P> {
     pub fn into_inner(self) -> I
     where
         P: Drop,
-        ensures { result ≡ self.walk }
+        ensures walk { result ≡ self.walk }
     {
         let FilterEntry { walk, predicate: _ } = self;
         walk
@@ -57,7 +57,8 @@ impl<I: Walk, P: FnMut(&DirEntry) -> bool + Drop> Iterator for FilterEntry<I, P>
 
     ghost can_next = { λ s. I.can_next s.walk × IsFinite (I.remaining s.walk) × P.IsAlwaysCallable s.predicate };
 
-    ghost next_gives = { λ s item t. Filters I.next_gives I.skips I.entered P.FnMut s.walk s.predicate item t.walk t.predicate };
+    ghost next_gives = { λ s item t. Filters I.next_gives I.skips I.entered P.FnMut s.walk s.predicate item t.walk
+        t.predicate };
 
     ghost remaining = { λ s. I.remaining s.walk };
 

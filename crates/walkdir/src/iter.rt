@@ -9,7 +9,8 @@ ghost use Rattle.walkdir.specs.FilteredWalk.{AnswersBy, GivesFiltered, TellsFilt
 ghost use Rattle.walkdir.specs.OnDisk.{NextOn, SkipsOn};
 ghost use Rattle.walkdir.specs.SkipLaws.{SkipDrops, SkipLeaves};
 ghost use Rattle.walkdir.specs.Walk.{Walking};
-ghost use Rattle.walkdir.specs.Progress.{Progress, AreBack, FailsByFault, Keeps, Skips, Steps as StepsTo, has_its_streams, work_left};
+ghost use Rattle.walkdir.specs.Progress.{Progress, AreBack, FailsByFault, Keeps, Steps as StepsTo, has_its_streams, work_left};
+ghost use Rattle.walkdir.specs.Skips.{Skips};
 
 use crate::filter::FilterEntry;
 use crate::stack::Stack;
@@ -33,7 +34,7 @@ pub trait Walk: Iterator<Item = Result<DirEntry>> {
 
     /// Whether the item given last is a directory that was entered, and whose contents are still to come.
     fn has_entered(&self) -> bool
-        ensures { result ≡ entered self.now };
+        ensures told { result ≡ entered self.now };
 }
 
 /// What a walk keeps beside its disk, and how it goes on there.
@@ -43,30 +44,38 @@ pub trait Steps: Drop {
 
     /// The next item.
     fn step<D: Disk>(&mut self, disk: &mut D) -> Option<Result<DirEntry>>
-        requires { has_its_streams (progress self.old (D.streams disk.old)) ≡ true }
+        requires own { has_its_streams (progress self.old (D.streams disk.old)) ≡ true }
         ensures own { has_its_streams (progress self.new (D.streams disk.new)) ≡ true }
-        ensures steps { StepsTo (D.state disk.old) (progress self.old (D.streams disk.old)) result (progress self.new (D.streams disk.new)) }
-        ensures faults { FailsByFault (progress self.old (D.streams disk.old)) (D.faults disk.old) (failures_given result) (progress self.new (D.streams disk.new)) (D.faults disk.new) }
-        ensures answered { TellsOn D.answered disk.old (progress self.old (D.streams disk.old)).stack result disk.new (progress self.new (D.streams disk.new)).stack }
+        ensures steps { StepsTo (D.state disk.old) (progress self.old (D.streams disk.old)) result
+            (progress self.new (D.streams disk.new)) }
+        ensures faults { FailsByFault (progress self.old (D.streams disk.old)) (D.faults disk.old)
+            (failures_given result) (progress self.new (D.streams disk.new)) (D.faults disk.new) }
+        ensures answered { TellsOn D.answered disk.old (progress self.old (D.streams disk.old)).stack result disk.new
+            (progress self.new (D.streams disk.new)).stack }
         ensures state { D.state disk.new ≡ D.state disk.old };
 
     /// Drops the rest of the innermost directory.
     fn skip<D: Disk>(&mut self, disk: &mut D)
-        ensures own { has_its_streams (progress self.old (D.streams disk.old)) ≡ true → has_its_streams (progress self.new (D.streams disk.new)) ≡ true }
+        ensures own { has_its_streams (progress self.old (D.streams disk.old)) ≡ true
+            → has_its_streams (progress self.new (D.streams disk.new)) ≡ true }
         ensures skips { Skips (progress self.old (D.streams disk.old)) (progress self.new (D.streams disk.new)) }
-        ensures answered { TellsOn D.answered disk.old (progress self.old (D.streams disk.old)).stack None disk.new (progress self.new (D.streams disk.new)).stack }
+        ensures answered { TellsOn D.answered disk.old (progress self.old (D.streams disk.old)).stack None disk.new
+            (progress self.new (D.streams disk.new)).stack }
         ensures state { D.state disk.new ≡ D.state disk.old }
         ensures faults { D.faults disk.new ≡ D.faults disk.old };
 
     /// Whether the item given last is a directory that was entered.
     fn has_entered(&self) -> bool
-        ensures { (streams : Streams) → result ≡ (progress self.now streams).entered };
+        ensures told { (streams : Streams) → result ≡ (progress self.now streams).entered };
 
     /// Ends the walk: all its streams are closed.
     fn end<D: Disk>(&mut self, disk: &mut D)
-        ensures back { (before : Streams) → Keeps before (progress self.old (D.streams disk.old)) → AreBack before (progress self.old (D.streams disk.old)).options.max_open (D.streams disk.new) }
-        ensures over { (streams : Streams) → ((progress self.new streams).stack ≡ []) × ((progress self.new streams).start ≡ None) }
-        ensures options { (streams : Streams) → (progress self.new streams).options ≡ (progress self.old streams).options }
+        ensures back { (before : Streams) → Keeps before (progress self.old (D.streams disk.old))
+            → AreBack before (progress self.old (D.streams disk.old)).options.max_open (D.streams disk.new) }
+        ensures over { (streams : Streams)
+            → ((progress self.new streams).stack ≡ []) × ((progress self.new streams).start ≡ None) }
+        ensures options { (streams : Streams)
+            → (progress self.new streams).options ≡ (progress self.old streams).options }
         ensures entered { (streams : Streams) → (progress self.new streams).entered ≡ false }
         ensures answered { Leads D.answered disk.old disk.new }
         ensures state { D.state disk.new ≡ D.state disk.old }
@@ -94,11 +103,21 @@ impl<'d, D: Disk, W: Steps> OnDisk<'d, D, W> {
     /// Drops the rest of the directory that is innermost on the stack, and does nothing on an empty stack. A directory
     /// that comes after its contents still comes.
     pub fn skip_current_dir(&mut self)
-        ensures skips { Skips (W.progress self.old.walk (D.streams self.old.disk.now)) (W.progress self.new.walk (D.streams self.new.disk.now)) }
-        ensures drops { (walk : Walking) (before : Streams) → Keeps before (W.progress self.old.walk (D.streams self.old.disk.now)) → SkipDrops walk (W.progress self.old.walk (D.streams self.old.disk.now)) (W.progress self.new.walk (D.streams self.new.disk.now)) }
-        ensures leaves { (walk : Walking) (before : Streams) → Keeps before (W.progress self.old.walk (D.streams self.old.disk.now)) → SkipLeaves walk (W.progress self.old.walk (D.streams self.old.disk.now)) (W.progress self.new.walk (D.streams self.new.disk.now)) }
-        ensures own { has_its_streams (W.progress self.old.walk (D.streams self.old.disk.now)) ≡ true → has_its_streams (W.progress self.new.walk (D.streams self.new.disk.now)) ≡ true }
-        ensures answered { TellsOn D.answered self.old.disk.now (W.progress self.old.walk (D.streams self.old.disk.now)).stack None self.new.disk.now (W.progress self.new.walk (D.streams self.new.disk.now)).stack }
+        ensures skips { Skips (W.progress self.old.walk (D.streams self.old.disk.now))
+            (W.progress self.new.walk (D.streams self.new.disk.now)) }
+        ensures drops { (walk : Walking) (before : Streams)
+            → Keeps before (W.progress self.old.walk (D.streams self.old.disk.now))
+            → SkipDrops walk (W.progress self.old.walk (D.streams self.old.disk.now))
+            (W.progress self.new.walk (D.streams self.new.disk.now)) }
+        ensures leaves { (walk : Walking) (before : Streams)
+            → Keeps before (W.progress self.old.walk (D.streams self.old.disk.now))
+            → SkipLeaves walk (W.progress self.old.walk (D.streams self.old.disk.now))
+            (W.progress self.new.walk (D.streams self.new.disk.now)) }
+        ensures own { has_its_streams (W.progress self.old.walk (D.streams self.old.disk.now)) ≡ true
+            → has_its_streams (W.progress self.new.walk (D.streams self.new.disk.now)) ≡ true }
+        ensures answered { TellsOn D.answered self.old.disk.now
+            (W.progress self.old.walk (D.streams self.old.disk.now)).stack None self.new.disk.now
+            (W.progress self.new.walk (D.streams self.new.disk.now)).stack }
         ensures disk { self.new.disk.ghost_name ≡ self.old.disk.ghost_name }
         ensures state { D.state self.new.disk.now ≡ D.state self.old.disk.now }
         ensures faults { D.faults self.new.disk.now ≡ D.faults self.old.disk.now }
@@ -111,7 +130,8 @@ impl<'d, D: Disk, W: Steps> OnDisk<'d, D, W> {
     pub fn filter_entry<P: FnMut(&DirEntry) -> bool>(self, predicate: P) -> FilterEntry<Self, P>
         ensures walk { result.walk ≡ self.entry }
         ensures predicate { result.predicate ≡ predicate }
-        ensures gives { (accepts : DirEntry → Bool) → AnswersBy P.FnMut accepts → GivesFiltered D.state D.streams D.faults D.answered W.progress P.FnMut accepts result }
+        ensures gives { (accepts : DirEntry → Bool) → AnswersBy P.FnMut accepts
+            → GivesFiltered D.state D.streams D.faults D.answered W.progress P.FnMut accepts result }
         ensures answered { TellsFiltered D.state D.streams D.faults D.answered W.progress P.FnMut result }
     {
         FilterEntry::new(self, predicate)
@@ -152,7 +172,9 @@ impl<'d, D: Disk, W: Steps> Walk for OnDisk<'d, D, W> {
 
 impl<'d, D: Disk, W: Steps> Drop for OnDisk<'d, D, W> {
     fn drop(self)
-        ensures back { (before : Streams) → Keeps before (W.progress self.entry.walk (D.streams self.entry.disk.now)) → AreBack before (W.progress self.entry.walk (D.streams self.entry.disk.now)).options.max_open (D.streams self.exit.0.now) }
+        ensures back { (before : Streams) → Keeps before (W.progress self.entry.walk (D.streams self.entry.disk.now))
+            → AreBack before (W.progress self.entry.walk (D.streams self.entry.disk.now)).options.max_open
+            (D.streams self.exit.0.now) }
         ensures state { D.state self.exit.0.now ≡ D.state self.entry.disk.now }
         ensures faults { D.faults self.exit.0.now ≡ D.faults self.entry.disk.now }
         ensures answered { Leads D.answered self.entry.disk.now self.exit.0.now }

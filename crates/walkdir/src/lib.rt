@@ -13,10 +13,10 @@
 
 mod builder;
 mod dent;
+mod directory;
 mod error;
 mod filter;
 mod iter;
-mod list;
 mod read;
 mod sort;
 mod stack;

@@ -1,5 +1,5 @@
 //! What the calls of a disk give to a walk.
-ghost use Rattle.std.specs.Prelude.{◌≡◌, ◌≢◌, ◌+◌, ◌-◌, ◌^◌, ◌<◌, ◌≤◌, ◌++◌, true, false, [], None, Ok, length, map, IfOk, IfErr, IfSome, OnOk};
+ghost use Rattle.std.specs.Prelude.{◌≡◌, ◌≢◌, ◌+◌, ◌<◌, ◌≤◌, ◌++◌, true, false, [], None, Ok, length, map, IfOk, IfErr, IfSome, OnOk};
 ghost use Rattle.std.specs.List.{filter_map};
 ghost use Rattle.std.specs.Result.{result_ok};
 ghost use Rattle.std.specs.Option.{option_map};
@@ -12,12 +12,15 @@ ghost use Rattle.odb_disk.specs.CallsMade.{Leads};
 ghost use Rattle.walkdir.specs.Answered.{AreHeld, LooksBy};
 ghost use Rattle.walkdir.specs.AnsweredTurns.{TellsContents, TellsItem};
 ghost use Rattle.walkdir.specs.Error.{no_memory, is_no_memory, IsOnPath};
+ghost use Rattle.walkdir.specs.Options.{greatest_depth};
 ghost use Rattle.walkdir.specs.Failures.{Costs, failures_among, failures_by, failures_given, failures_left, failures_of};
-ghost use Rattle.walkdir.specs.Stack.{AreAt, IsAt, held, is_skipped, left_in};
-ghost use Rattle.walkdir.specs.Turns.{Draws, IsDrawn, OnlyFailure, OpensAtMost, OpensContents, ReadInOrder, StreamsAll, left_of, stream_of};
-ghost use Rattle.walkdir.specs.Walk.{Tells, told_at, child_of, entry_by, error_in, place_of, IsInOrder};
+ghost use Rattle.walkdir.specs.Directory.{most_entries, AreAt, IsAt, held, is_skipped, left_in};
+ghost use Rattle.walkdir.specs.Turns.Drawn.{Draws, IsDrawn, OnlyFailure, OpensAtMost, OpensContents, ReadInOrder, StreamsAll, left_of, stream_of};
+ghost use Rattle.walkdir.specs.Walk.{Tells, told_at};
+ghost use Rattle.walkdir.specs.Walk.Children.{child_of, error_in, IsInOrder};
+ghost use Rattle.walkdir.specs.Walk.Entries.{entry_by, place_of};
 
-use crate::list::{Items, Place};
+use crate::directory::{Items, Place};
 use crate::sort::Sorter;
 use crate::{DirEntry, Error, Result};
 use odb_disk::{BadPath, DirId, Disk, DiskError, Entry, Meta, PathText};
@@ -34,7 +37,8 @@ pub(crate) fn look<D: Disk>(
 ) -> Result<Meta>
     ensures call { IfErr result (λ e. IsOnPath path.now depth e) }
     ensures answered { LooksBy D.answered depth path.now follow disk.old result disk.new }
-    ensures told { IfSome (D.state disk.old) (λ s. Tells depth path.now result (told_at depth path.now (looked (tree_of s) path.now follow))) }
+    ensures told { IfSome (D.state disk.old)
+        (λ s. Tells depth path.now result (told_at depth path.now (looked (tree_of s) path.now follow))) }
     ensures kept { D.state disk.new ≡ D.state disk.old }
     ensures streams { D.streams disk.new ≡ D.streams disk.old }
     ensures cause { Costs (failures_of result) (D.faults disk.old) (D.faults disk.new) }
@@ -82,7 +86,8 @@ pub(crate) fn rest_of<D: Disk>(
     ensures answered { IfOk result (λ items. AreHeld D.answered disk.old disk.new items.items) }
     ensures lost { IfErr result (λ e. is_no_memory e ≡ true) }
     ensures kept { D.state disk.new ≡ D.state disk.old }
-    ensures cause { Costs (failures_by (λ items. failures_among items.items) result) (D.faults disk.old) (D.faults disk.new) }
+    ensures cause { Costs (failures_by (λ items. failures_among items.items) result) (D.faults disk.old)
+        (D.faults disk.new) }
 {
     let mut items = VecDeque::new(alloc);
     loop {
@@ -108,11 +113,12 @@ pub(crate) fn open<D: Disk, S: Sorter>(
     path: &PathText,
     depth: usize,
 ) -> Result<Items>
-    requires { depth < 2 ^ 64 - 1 }
+    requires depth { depth < greatest_depth }
     ensures streams { OpensAtMost (D.streams disk.old) (stream_of result) (D.streams disk.new) }
-    ensures bounded { IfOk result (λ items. left_in (D.streams disk.new) items ≤ 2 ^ 64) }
+    ensures bounded { IfOk result (λ items. left_in (D.streams disk.new) items ≤ most_entries) }
     ensures children { IfOk result (λ items. AreAt path.now (depth + 1) (held items)) }
-    ensures contents { OpensContents (D.state disk.old) (option_map S.order sorter.now) path.now depth result (D.streams disk.new) }
+    ensures contents { OpensContents (D.state disk.old) (option_map S.order sorter.now) path.now depth result
+        (D.streams disk.new) }
     ensures whole { IfOk result (λ items. is_skipped items ≡ false) }
     ensures lost { IfErr result (λ e. is_no_memory e ≡ true) }
     ensures answered { TellsContents D.answered disk.old result disk.new }
@@ -158,9 +164,10 @@ fn sorted<D: Disk, S: Sorter>(
     ensures peak { (D.streams disk.new).peak ≡ (D.streams disk.old).peak }
     ensures closed { stream_of result ≡ None }
     ensures whole { IfOk result (λ items. is_skipped items ≡ false) }
-    ensures bounded { IfOk result (λ items. length (held items) < 2 ^ 64) }
+    ensures bounded { IfOk result (λ items. length (held items) < most_entries) }
     ensures children { IfOk result (λ items. AreAt parent.now depth (held items)) }
-    ensures order { IfOk result (λ items. ReadInOrder (S.order sorter.now) depth parent.now (D.streams disk.old) dir items) }
+    ensures order { IfOk result
+        (λ items. ReadInOrder (S.order sorter.now) depth parent.now (D.streams disk.old) dir items) }
     ensures lost { IfErr result (λ e. is_no_memory e ≡ true) }
     ensures answered { TellsContents D.answered disk.old result disk.new }
     ensures kept { D.state disk.new ≡ D.state disk.old }
@@ -221,7 +228,7 @@ fn put_behind(entries: Vec<DirEntry>, ordered: &mut VecDeque<Result<DirEntry>>) 
 }
 
 pub(crate) fn place_in(meta: &Meta) -> Place
-    ensures { result ≡ place_of meta.now }
+    ensures told { result ≡ place_of meta.now }
 {
     Place {
         dev: meta.dev,
@@ -231,14 +238,14 @@ pub(crate) fn place_in(meta: &Meta) -> Place
 
 /// An entry by what a look told.
 pub(crate) fn entry_by(path: PathText, meta: &Meta, followed: bool, depth: usize) -> DirEntry
-    ensures { result ≡ entry_by path followed depth meta.now }
+    ensures made { result ≡ entry_by path followed depth meta.now }
 {
     DirEntry::new(path, meta.kind, followed, depth, meta.ino)
 }
 
 /// An entry by what a stream gave.
 fn child(alloc: Global, parent: &PathText, depth: usize, entry: &Entry) -> Result<DirEntry>
-    requires { is_name entry.now.name ≡ true }
+    requires name { is_name entry.now.name ≡ true }
     ensures child { IfOk result (λ child. child ≡ child_of parent.now depth entry.now) }
     ensures lost { IfErr result (λ e. e ≡ no_memory) }
 {

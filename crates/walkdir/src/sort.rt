@@ -17,7 +17,7 @@ pub trait Sorter {
 
     /// Compares two entries.
     fn compare(&self, a: &DirEntry, b: &DirEntry) -> Ordering
-        ensures { result ≡ order self.now a.now b.now };
+        ensures compared { result ≡ order self.now a.now b.now };
 
     /// It is one order of all entries.
     ghost total: { (sorter : Self) → IsTotalOrder (order sorter) };
@@ -32,7 +32,7 @@ pub trait KeyOf {
 
     /// The key of an entry.
     fn key(&self, entry: &DirEntry) -> Self::Key
-        ensures { result ≡ key_of self.now entry.now };
+        ensures told { result ≡ key_of self.now entry.now };
 }
 
 /// No order: entries stay as the stream gives them, and no directory is read before it is walked.
@@ -71,7 +71,7 @@ pub struct ByKey<K> {
 
 impl<K> ByKey<K> {
     pub(crate) fn new(key: K) -> ByKey<K>
-        ensures { result.key ≡ key }
+        ensures key { result.key ≡ key }
     {
         ByKey { key }
     }

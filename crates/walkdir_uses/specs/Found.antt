@@ -88,9 +88,13 @@ IsRefusedAmong tree entries error =
 abbrev pub IsRefusedLook : Walking → Error → Type 0
 IsRefusedLook walk error = FoundIn walk (λ entries. IsRefusedAmong walk.tree entries error)
 
--- the lengths of the files among entries, added up, and at most the greatest number of 64 bits
+-- a total is kept in 64 bits, and stands still at the greatest
+abbrev pub greatest_total : ℕ
+greatest_total = 2 ^ 64 - 1
+
+-- the lengths of the files among entries, added up
 abbrev pub total_size : Tree → List DirEntry → ℕ
-total_size tree entries = min (sum_by (size_at tree) (filter is_file entries)) (2 ^ 64 - 1)
+total_size tree entries = min (sum_by (size_at tree) (filter is_file entries)) greatest_total
 
 -- ---- names
 

@@ -29,8 +29,10 @@ pub fn entries_of<S: Sorter + Drop, D: Disk>(
     disk: &mut D,
     walk: WalkDir<S>,
 ) -> Result<Vec<DirEntry>>
-    ensures entries { IfSome (D.state disk.old) (λ s. IfOk result (λ entries. IsWalk (walking S.order (tree_of s) walk) (map Ok entries.items))) }
-    ensures only { IfSome (D.state disk.old) (λ s. IfOk result (λ entries. AreOnly (walking S.order (tree_of s) walk) entries.items)) }
+    ensures entries { IfSome (D.state disk.old)
+        (λ s. IfOk result (λ entries. IsWalk (walking S.order (tree_of s) walk) (map Ok entries.items))) }
+    ensures only { IfSome (D.state disk.old)
+        (λ s. IfOk result (λ entries. AreOnly (walking S.order (tree_of s) walk) entries.items)) }
     ensures first { IfSome (D.state disk.old) (λ s. IfErr result (IsStoppedBy (walking S.order (tree_of s) walk))) }
     ensures told { IfErr result (λ error. IsToldIn D.answered disk.old disk.new error.inner) }
     ensures cost { Costs (failures_of result) (D.faults disk.old) (D.faults disk.new) }
@@ -46,7 +48,9 @@ pub fn entries_of<S: Sorter + Drop, D: Disk>(
 
 /// The paths of all files below a folder.
 pub fn files_below<D: Disk>(alloc: Global, disk: &mut D, folder: &PathText) -> Result<Vec<PathText>>
-    ensures paths { IfSome (D.state disk.old) (λ s. IfOk result (λ paths. FoundIn (below (tree_of s) folder.now) (λ entries. paths.items ≡ paths_of_files entries))) }
+    ensures paths { IfSome (D.state disk.old) (λ s.
+        IfOk result
+        (λ paths. FoundIn (below (tree_of s) folder.now) (λ entries. paths.items ≡ paths_of_files entries))) }
     ensures first { IfSome (D.state disk.old) (λ s. IfErr result (IsStoppedBy (below (tree_of s) folder.now))) }
     ensures told { IfErr result (λ error. IsToldIn D.answered disk.old disk.new error.inner) }
     ensures cost { Costs (failures_of result) (D.faults disk.old) (D.faults disk.new) }
@@ -72,8 +76,13 @@ fn files_of(alloc: Global, entries: Vec<DirEntry>) -> std::result::Result<Vec<Pa
 
 /// The sizes of all files below a folder, added up, or the greatest `u64` where that is more.
 pub fn size_below<D: Disk>(alloc: Global, disk: &mut D, folder: &PathText) -> Result<u64>
-    ensures size { IfSome (D.state disk.old) (λ s. IfOk result (λ size. FoundIn (below (tree_of s) folder.now) (λ entries. size ≡ total_size (tree_of s) entries))) }
-    ensures first { IfSome (D.state disk.old) (λ s. IfErr result (λ error. IsStoppedBy (below (tree_of s) folder.now) error ⊎ IsRefusedLook (below (tree_of s) folder.now) error)) }
+    ensures size { IfSome (D.state disk.old) (λ s.
+        IfOk result
+        (λ size. FoundIn (below (tree_of s) folder.now) (λ entries. size ≡ total_size (tree_of s) entries))) }
+    ensures first { IfSome (D.state disk.old) (λ s.
+        IfErr result (λ error.
+        IsStoppedBy (below (tree_of s) folder.now) error
+        ⊎ IsRefusedLook (below (tree_of s) folder.now) error)) }
     ensures cost { Costs (failures_of result) (D.faults disk.old) (D.faults disk.new) }
     ensures state { D.state disk.new ≡ D.state disk.old }
     ensures back { AreBack (D.streams disk.old) default_options.max_open (D.streams disk.new) }
@@ -105,7 +114,10 @@ pub fn visible_names_in<D: Disk>(
     disk: &mut D,
     folder: &PathText,
 ) -> Result<Vec<String>>
-    ensures names { IfSome (D.state disk.old) (λ s. IfOk result (λ names. FoundIn (inside (tree_of s) folder.now) (λ entries. map (λ name. name.bytes.items) names.items ≡ visible_names entries))) }
+    ensures names { IfSome (D.state disk.old) (λ s.
+        IfOk result (λ names.
+        FoundIn (inside (tree_of s) folder.now)
+        (λ entries. map (λ name. name.bytes.items) names.items ≡ visible_names entries))) }
     ensures first { IfSome (D.state disk.old) (λ s. IfErr result (IsStoppedBy (inside (tree_of s) folder.now))) }
     ensures told { IfErr result (λ error. IsToldIn D.answered disk.old disk.new error.inner) }
     ensures cost { Costs (failures_of result) (D.faults disk.old) (D.faults disk.new) }
@@ -138,7 +150,7 @@ fn visible_names_of(
 
 /// Whether an entry's name doesn't begin with a dot.
 fn is_visible(entry: &DirEntry) -> bool
-    ensures { result ≡ is_visible entry.now }
+    ensures told { result ≡ is_visible entry.now }
 {
     !entry.file_name().starts_with('.')
 }
@@ -148,7 +160,9 @@ fn all_of<W: Walk>(alloc: Global, walk: &mut W) -> Result<Vec<DirEntry>>
     requires can { W.can_next walk.old }
     requires finite { IsFinite (W.remaining walk.old) }
     ensures whole { IfOk result (λ entries. YieldsThen W.next_gives walk.old (map Ok entries.items) None walk.new) }
-    ensures part { IfErr result (λ error. (items : List Item) × Yields W.next_gives walk.old items walk.new × ((is_no_memory error ≡ true) ⊎ EndsWith items error)) }
+    ensures part { IfErr result (λ error.
+        (items : List Item) × Yields W.next_gives walk.old items walk.new
+        × ((is_no_memory error ≡ true) ⊎ EndsWith items error)) }
 {
     let mut entries = Vec::new(alloc);
     while let Some(item) = walk.next() {
@@ -164,14 +178,25 @@ fn visible_of<'d, D: Disk>(
     found: &mut Result<Vec<DirEntry>>,
 ) -> IntoIter<'d, D, NoSort>
     requires can { has_its_streams (progress as_given walk.walk (D.streams walk.disk.now)) ≡ true }
-    ensures entries { (built : Built NoSort) (before : Streams) → progress as_given walk.entry.walk (D.streams walk.entry.disk.now) ≡ begun as_given built before → IfSome (D.state walk.entry.disk.now) (λ s. IfOk found.new (λ entries. IsFilteredWalk (walking as_given (tree_of s) built) is_visible (map Ok entries.items))) }
-    ensures first { (built : Built NoSort) (before : Streams) → progress as_given walk.entry.walk (D.streams walk.entry.disk.now) ≡ begun as_given built before → IfSome (D.state walk.entry.disk.now) (λ s. IfErr found.new (IsStoppedIn (walking as_given (tree_of s) built) is_visible)) }
+    ensures entries { (built : Built NoSort) (before : Streams)
+        → progress as_given walk.entry.walk (D.streams walk.entry.disk.now) ≡ begun as_given built before
+        → IfSome (D.state walk.entry.disk.now) (λ s.
+        IfOk found.new
+        (λ entries. IsFilteredWalk (walking as_given (tree_of s) built) is_visible (map Ok entries.items))) }
+    ensures first { (built : Built NoSort) (before : Streams)
+        → progress as_given walk.entry.walk (D.streams walk.entry.disk.now) ≡ begun as_given built before
+        → IfSome (D.state walk.entry.disk.now)
+        (λ s. IfErr found.new (IsStoppedIn (walking as_given (tree_of s) built) is_visible)) }
     ensures disk { result.disk.ghost_name ≡ walk.entry.disk.ghost_name }
     ensures visible { IfOk found.new (λ entries. All (λ entry. is_visible entry ≡ true) entries.items) }
     ensures state { D.state result.disk.now ≡ D.state walk.entry.disk.now }
     ensures options { result.walk.options ≡ walk.entry.walk.options }
-    ensures keeps { (before : Streams) → Keeps before (progress as_given walk.entry.walk (D.streams walk.entry.disk.now)) → Keeps before (progress as_given result.walk (D.streams result.disk.now)) }
-    ensures cost { FailsByFault (progress as_given walk.entry.walk (D.streams walk.entry.disk.now)) (D.faults walk.entry.disk.now) (failures_of found.new) (progress as_given result.walk (D.streams result.disk.now)) (D.faults result.disk.now) }
+    ensures keeps { (before : Streams)
+        → Keeps before (progress as_given walk.entry.walk (D.streams walk.entry.disk.now))
+        → Keeps before (progress as_given result.walk (D.streams result.disk.now)) }
+    ensures cost { FailsByFault (progress as_given walk.entry.walk (D.streams walk.entry.disk.now))
+        (D.faults walk.entry.disk.now) (failures_of found.new)
+        (progress as_given result.walk (D.streams result.disk.now)) (D.faults result.disk.now) }
 {
     let mut visible = walk.filter_entry(is_visible);
     let entries = all_of(alloc, &mut visible);
@@ -185,8 +210,10 @@ pub fn visible_below<D: Disk>(
     disk: &mut D,
     folder: &PathText,
 ) -> Result<Vec<DirEntry>>
-    ensures entries { IfSome (D.state disk.old) (λ s. IfOk result (λ entries. IsFilteredWalk (below (tree_of s) folder.now) is_visible (map Ok entries.items))) }
-    ensures first { IfSome (D.state disk.old) (λ s. IfErr result (IsStoppedIn (below (tree_of s) folder.now) is_visible)) }
+    ensures entries { IfSome (D.state disk.old) (λ s.
+        IfOk result (λ entries. IsFilteredWalk (below (tree_of s) folder.now) is_visible (map Ok entries.items))) }
+    ensures first { IfSome (D.state disk.old)
+        (λ s. IfErr result (IsStoppedIn (below (tree_of s) folder.now) is_visible)) }
     ensures visible { IfOk result (λ entries. All (λ entry. is_visible entry ≡ true) entries.items) }
     ensures cost { Costs (failures_of result) (D.faults disk.old) (D.faults disk.new) }
     ensures state { D.state disk.new ≡ D.state disk.old }

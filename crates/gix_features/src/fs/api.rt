@@ -18,15 +18,15 @@ pub trait DirEntryApi {
 
     /// The path of the entry.
     fn path(&self, alloc: Global) -> Result<PathText, NoMemory>
-        ensures { IfOk result (λ path. path ≡ path_of self.now) };
+        ensures told { IfOk result (λ path. path ≡ path_of self.now) };
 
     /// The last name of the path.
     fn file_name(&self, alloc: Global) -> Result<String, NoMemory>
-        ensures { IfOk result (λ name. string_bytes name ≡ name_of self.now) };
+        ensures told { IfOk result (λ name. string_bytes name ≡ name_of self.now) };
 
     /// What stands there. It takes no memory.
     fn file_type(&self) -> Kind
-        ensures { result ≡ type_of self.now };
+        ensures told { result ≡ type_of self.now };
 }
 
 impl DirEntryApi for walkdir::DirEntry {

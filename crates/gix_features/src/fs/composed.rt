@@ -11,14 +11,14 @@ use unicode_normalization::to_nfc;
 /// A name in form NFC.
 #[tactic(auto, unfolding(crate::specs::Composed::composed_name))]
 pub(crate) fn composed_name(alloc: Global, name: &str) -> Result<String, NoMemory>
-    ensures { IfOk result (λ composed. string_bytes composed ≡ composed_name name.now) }
+    ensures composed { IfOk result (λ composed. string_bytes composed ≡ composed_name name.now) }
 {
     Ok(to_nfc(alloc, name)?)
 }
 
 /// A path whose names are in form NFC. A name that can't stand in a path in that form stays as it is.
 pub(crate) fn composed_path(alloc: Global, path: &PathText) -> Result<PathText, NoMemory>
-    ensures { IfOk result (λ composed. composed ≡ composed_path path.now) }
+    ensures composed { IfOk result (λ composed. composed ≡ composed_path path.now) }
 {
     let names = path.names(alloc)?;
     composed_names(alloc, &names)
@@ -26,8 +26,8 @@ pub(crate) fn composed_path(alloc: Global, path: &PathText) -> Result<PathText, 
 
 /// The path of these names, composed.
 fn composed_names(alloc: Global, names: &[&str]) -> Result<PathText, NoMemory>
-    requires { list_all is_name (map (λ name. name.now) names.now) ≡ true }
-    ensures { IfOk result (λ composed. composed ≡ composed_path (map (λ name. name.now) names.now)) }
+    requires names { list_all is_name (map (λ name. name.now) names.now) ≡ true }
+    ensures composed { IfOk result (λ composed. composed ≡ composed_path (map (λ name. name.now) names.now)) }
 {
     let mut composed = PathText::root(alloc);
     for name in names {
@@ -38,8 +38,8 @@ fn composed_names(alloc: Global, names: &[&str]) -> Result<PathText, NoMemory>
 
 /// A path with one name more, composed if that can stand in a path.
 fn joined(alloc: Global, path: &PathText, name: &str) -> Result<PathText, NoMemory>
-    requires { is_name name.now ≡ true }
-    ensures { IfOk result (λ joined. joined ≡ path.now ++ composed_part name.now ∷ []) }
+    requires name { is_name name.now ≡ true }
+    ensures joined { IfOk result (λ joined. joined ≡ path.now ++ composed_part name.now ∷ []) }
 {
     let composed = composed_name(alloc, name)?;
     match path.join(alloc, composed.as_str()) {
@@ -51,8 +51,8 @@ fn joined(alloc: Global, path: &PathText, name: &str) -> Result<PathText, NoMemo
 
 /// A path with one name more.
 fn plainly_joined(alloc: Global, path: &PathText, name: &str) -> Result<PathText, NoMemory>
-    requires { is_name name.now ≡ true }
-    ensures { IfOk result (λ joined. joined ≡ path.now ++ name.now ∷ []) }
+    requires name { is_name name.now ≡ true }
+    ensures joined { IfOk result (λ joined. joined ≡ path.now ++ name.now ∷ []) }
 {
     match path.join(alloc, name) {
         Ok(joined) => Ok(joined),

@@ -1,6 +1,6 @@
 //! An entry whose names can be composed.
-ghost use Rattle.std.specs.Prelude.{◌≡◌, IfOk, string_bytes, if◌then◌else◌};
-ghost use Rattle.gix_features.specs.Composed.{composed_path, composed_name};
+ghost use Rattle.std.specs.Prelude.{◌≡◌, IfOk, string_bytes};
+ghost use Rattle.gix_features.specs.Composed.{name_if, path_if};
 
 use super::api::DirEntryApi;
 use super::composed::{composed_name, composed_path};
@@ -28,7 +28,8 @@ impl<T: DirEntryApi> DirEntry<T> {
 
     /// The path, each name of it composed if that was asked for.
     pub fn path(&self, alloc: Global) -> Result<PathText, NoMemory>
-        ensures { IfOk result (λ path. path ≡ (if self.now.precompose_unicode then composed_path (T.path_of self.now.inner) else T.path_of self.now.inner)) }
+        ensures composed { IfOk result (λ path.
+            path ≡ path_if self.now.precompose_unicode (T.path_of self.now.inner)) }
     {
         let path = self.inner.path(alloc)?;
         if self.precompose_unicode {
@@ -40,7 +41,8 @@ impl<T: DirEntryApi> DirEntry<T> {
 
     /// The last name, composed if that was asked for.
     pub fn file_name(&self, alloc: Global) -> Result<String, NoMemory>
-        ensures { IfOk result (λ name. string_bytes name ≡ (if self.now.precompose_unicode then composed_name (T.name_of self.now.inner) else T.name_of self.now.inner)) }
+        ensures composed { IfOk result (λ name.
+            string_bytes name ≡ name_if self.now.precompose_unicode (T.name_of self.now.inner)) }
     {
         let name = self.inner.file_name(alloc)?;
         if self.precompose_unicode {
@@ -52,7 +54,7 @@ impl<T: DirEntryApi> DirEntry<T> {
 
     /// What stands there: where a link was followed, behind it. It takes no memory.
     pub fn file_type(&self) -> Kind
-        ensures { result ≡ T.type_of self.now.inner }
+        ensures told { result ≡ T.type_of self.now.inner }
     {
         self.inner.file_type()
     }

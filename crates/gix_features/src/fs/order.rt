@@ -24,7 +24,7 @@ impl Sorter for GitOrder {
 
 /// What counts behind the name of an entry: a slash behind that of a directory, and else nothing.
 fn slash_behind(entry: &DirEntry) -> &'static [u8]
-    ensures { result.now ≡ slash_behind entry.now }
+    ensures told { result.now ≡ slash_behind entry.now }
 {
     if entry.file_type() == Kind::Dir {
         b"/"

@@ -1,6 +1,6 @@
 //! Walks that give wrapped entries.
 ghost use Rattle.std.specs.Prelude.{◌≡◌, min, max, Some, None, IfOk, IfErr, true};
-ghost use Rattle.walkdir.specs.Options.{default_options};
+ghost use Rattle.walkdir.specs.Options.{default_options, with_options};
 
 use super::entry::DirEntry;
 use super::order::GitOrder;
@@ -65,7 +65,8 @@ impl<S: Drop> WalkDir<S> {
 
     /// Gives entries from this depth on.
     pub fn min_depth(self, depth: usize) -> WalkDir<S>
-        ensures { result ≡ record self { inner = record self.inner { options = record self.inner.options { min_depth = min depth self.inner.options.max_depth } } } }
+        ensures options { result ≡ record self
+            { inner = with_options self.inner (record self.inner.options { min_depth = min depth self.inner.options.max_depth }) } }
     {
         WalkDir {
             inner: self.inner.min_depth(depth),
@@ -75,7 +76,8 @@ impl<S: Drop> WalkDir<S> {
 
     /// Gives entries up to this depth.
     pub fn max_depth(self, depth: usize) -> WalkDir<S>
-        ensures { result ≡ record self { inner = record self.inner { options = record self.inner.options { max_depth = max depth self.inner.options.min_depth } } } }
+        ensures options { result ≡ record self
+            { inner = with_options self.inner (record self.inner.options { max_depth = max depth self.inner.options.min_depth }) } }
     {
         WalkDir {
             inner: self.inner.max_depth(depth),
@@ -85,7 +87,8 @@ impl<S: Drop> WalkDir<S> {
 
     /// Whether links are followed.
     pub fn follow_links(self, yes: bool) -> WalkDir<S>
-        ensures { result ≡ record self { inner = record self.inner { options = record self.inner.options { follow_links = yes } } } }
+        ensures options { result ≡ record self
+            { inner = with_options self.inner (record self.inner.options { follow_links = yes }) } }
     {
         WalkDir {
             inner: self.inner.follow_links(yes),
@@ -102,8 +105,10 @@ impl<S: Drop> WalkDir<S> {
     where
         S: Sorter,
         ensures made { IfErr result (λ _. ⊥) }
-        ensures begun { IfOk result (λ walk. progress S.order walk.walk (D.streams walk.disk.now) ≡ begun S.order self.inner (D.streams disk.old)) }
-        ensures own { IfOk result (λ walk. has_its_streams (progress S.order walk.walk (D.streams walk.disk.now)) ≡ true) }
+        ensures begun { IfOk result (λ walk.
+            progress S.order walk.walk (D.streams walk.disk.now) ≡ begun S.order self.inner (D.streams disk.old)) }
+        ensures own { IfOk result
+            (λ walk. has_its_streams (progress S.order walk.walk (D.streams walk.disk.now)) ≡ true) }
         ensures disk { IfOk result (λ walk. walk.disk.ghost_name ≡ disk.entry.ghost_name) }
         ensures same { IfOk result (λ walk. walk.disk.now ≡ disk.old) }
         ensures precompose { IfOk result (λ walk. walk.precompose_unicode ≡ self.precompose_unicode) }
@@ -139,7 +144,10 @@ impl<'d, D: Disk, W: Steps> Iterator for WalkDirIter<'d, D, W> {
 
     ghost can_next = { λ s. has_its_streams (W.progress s.walk (D.streams s.disk.now)) ≡ true };
 
-    ghost next_gives = { λ s item t. (inner : Option (Result EntryValue ErrorValue)) × NextOn D.state D.streams D.faults D.answered W.progress (record { disk = s.disk; walk = s.walk }) inner (record { disk = t.disk; walk = t.walk }) × (item ≡ wrapped_item s.precompose_unicode inner) × (t.precompose_unicode ≡ s.precompose_unicode) };
+    ghost next_gives = { λ s item t. (inner : Option (Result EntryValue ErrorValue)) × NextOn D.state D.streams
+        D.faults D.answered W.progress (record { disk = s.disk; walk = s.walk }) inner
+        (record { disk = t.disk; walk = t.walk }) × (item ≡ wrapped_item s.precompose_unicode inner) ×
+        (t.precompose_unicode ≡ s.precompose_unicode) };
 
     ghost remaining = { λ s. at_most (work_left (W.progress s.walk (D.streams s.disk.now))) };
 
@@ -159,7 +167,9 @@ impl<'d, D: Disk, W: Steps> Drop for WalkDirIter<'d, D, W> {
     ghost use Rattle.walkdir.specs.Progress.{AreBack, Keeps};
 
     fn drop(self)
-        ensures back { (before : Streams) → Keeps before (W.progress self.entry.walk (D.streams self.entry.disk.now)) → AreBack before (W.progress self.entry.walk (D.streams self.entry.disk.now)).options.max_open (D.streams self.exit.0.now) }
+        ensures back { (before : Streams) → Keeps before (W.progress self.entry.walk (D.streams self.entry.disk.now))
+            → AreBack before (W.progress self.entry.walk (D.streams self.entry.disk.now)).options.max_open
+            (D.streams self.exit.0.now) }
         ensures state { D.state self.exit.0.now ≡ D.state self.entry.disk.now }
         ensures faults { D.faults self.exit.0.now ≡ D.faults self.entry.disk.now }
         ensures answered { Leads D.answered self.entry.disk.now self.exit.0.now }

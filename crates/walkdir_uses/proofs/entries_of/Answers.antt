@@ -10,7 +10,8 @@ use Rattle.walkdir.proofs.AnsweredLaws.{told_later, told_next}
 use Rattle.walkdir.proofs.SameWalks.{only_entries}
 use Rattle.walkdir.specs.OnDisk.{NextOn, at_walk}
 use Rattle.walkdir.proofs.WholeWalks.{NoneLost, begins_on_disk, entries_kept, if_told, left_back, whole_on_disk}
-use Rattle.walkdir_uses.proofs.CostLemmas.{costs_as, costs_later_only, costs_of_error, costs_of_next}
+use Rattle.walkdir.proofs.FailuresLaws.{costs_as, costs_of_error, costs_zero}
+use Rattle.walkdir_uses.proofs.CostLemmas.{costs_of_next}
 use Rattle.walkdir_uses.proofs.FoundLemmas.{if_err, lost_or_first}
 use Rattle.walkdir_uses.specs.Found.{AreOnly}
 use Rattle.walkdir_uses.proofs.entries_of.Goals as goal
@@ -89,7 +90,7 @@ returns-clause-cost g c =
     let begun = ap (at_walk g.D.Disk.state g.D.Disk.streams g.D.Disk.faults g.D.Disk.answered (λ walk streams. progress g.S.Sorter.order walk streams)) same ∙ c.in_ok-entry-items.ensures.begun in
     let costs = costs_of_next g.D.Disk.state g.D.Disk.streams g.D.Disk.faults g.D.Disk.answered (λ walk streams. progress g.S.Sorter.order walk streams) g.S.Sorter.order c.args.walk (g.D.Disk.streams c.args.disk.now)
     c.into_iter-entry-iterator.result c.loop-entry.yielded c.loop-entry.entry-iterator c.next.result c.next.new.self begun c.loop-entry.yielded_by c.next.ensures.steps in
-    let cost = costs_as 0 _ _ _ _ (ap (λ x. g.D.Disk.faults x.disk.now) same ∙ ap g.D.Disk.faults c.in_ok-entry-items.ensures.same) c.drop-entry-iterator-2.ensures.faults (costs_later_only _ _ _ costs) in
+    let cost = costs_as 0 _ _ _ _ (ap (λ x. g.D.Disk.faults x.disk.now) same ∙ ap g.D.Disk.faults c.in_ok-entry-items.ensures.same) c.drop-entry-iterator-2.ensures.faults (costs_zero _ _ _ costs) in
     search rules
 
 -- memory ran out
@@ -100,7 +101,7 @@ returns-in_err-push-clause-cost g c =
     let costs = costs_of_next g.D.Disk.state g.D.Disk.streams g.D.Disk.faults g.D.Disk.answered (λ walk streams. progress g.S.Sorter.order walk streams) g.S.Sorter.order c.args.walk (g.D.Disk.streams c.args.disk.now)
     c.into_iter-entry-iterator.result c.loop-entry.yielded c.loop-entry.entry-iterator c.next.result c.next.new.self begun c.loop-entry.yielded_by c.next.ensures.steps in
     let cost = costs_of_error c.from_residual-in_err-push.result no_memory _ _ (search rules)
-    (costs_as 0 _ _ _ _ (ap (λ x. g.D.Disk.faults x.disk.now) same ∙ ap g.D.Disk.faults c.in_ok-entry-items.ensures.same) c.drop-entry-iterator-in_err-push.ensures.faults (costs_later_only _ _ _ costs)) in
+    (costs_as 0 _ _ _ _ (ap (λ x. g.D.Disk.faults x.disk.now) same ∙ ap g.D.Disk.faults c.in_ok-entry-items.ensures.same) c.drop-entry-iterator-in_err-push.ensures.faults (costs_zero _ _ _ costs)) in
     search rules
 
 -- the walk gave an error

@@ -6,5 +6,5 @@ use Rattle.walkdir_uses.proofs.is_visible.Goals as goal
 
 pub returns : goal.returns
 returns c =
-    let dotted = c.starts_with.ensures.byte (omega arith) (omega arith) (λ w o finds. finds) ∙ ap (λ name. slice_index name 0 == 46) c.file_name.ensures in
-    ap not (dotted ∙ sym (hidden_by (file_name_of c.args.entry.now)))
+    let dotted = c.starts_with.ensures.byte (omega arith) (omega arith) (λ w o finds. finds) ∙ ap (λ name. slice_index name 0 == 46) c.file_name.ensures.told in
+    record { told = ap not (dotted ∙ sym (hidden_by (file_name_of c.args.entry.now))) }

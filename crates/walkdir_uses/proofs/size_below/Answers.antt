@@ -5,7 +5,7 @@ use Rattle.walkdir.specs.BuiltWalk.{walking}
 use Rattle.walkdir.specs.Failures.{failures_of}
 use Rattle.walkdir.specs.Walk.{IsWalk}
 use Rattle.walkdir.proofs.WholeWalks.{if_told}
-use Rattle.walkdir_uses.proofs.CostLemmas.{costs_earlier}
+use Rattle.walkdir.proofs.FailuresLaws.{costs_earlier}
 use Rattle.walkdir_uses.proofs.FoundLemmas.{if_err_then, if_ok_then, walks_below}
 use Rattle.walkdir_uses.specs.Found.{IsRefusedAmong, as_given, total_size}
 use Rattle.walkdir_uses.proofs.size_below.Goals as goal

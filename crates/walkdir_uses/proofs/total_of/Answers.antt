@@ -9,7 +9,7 @@ use Rattle.walkdir.specs.Error.{failures}
 use Rattle.walkdir.specs.declared.dent.DirEntry.{DirEntry}
 use Rattle.walkdir.proofs.WholeWalks.{if_told}
 use Rattle.walkdir.specs.Walk.{Tells, told_at}
-use Rattle.walkdir_uses.proofs.CostLemmas.{costs_earlier, costs_later, costs_nothing, costs_of_error}
+use Rattle.walkdir.proofs.FailuresLaws.{costs_earlier, costs_later, costs_none, costs_of_error}
 use Rattle.walkdir_uses.proofs.FoundLemmas.{all_taken, if_err, none_left, passes_among, size_file, size_other}
 use Rattle.walkdir_uses.specs.Found.{is_file, total_size}
 use Rattle.walkdir_uses.proofs.total_of.Goals as goal
@@ -23,7 +23,7 @@ loop-entry-preserved g c =
       | then-eq+in_ok-metadata w ↦ record {
         kept = search rules;
         same = search rules;
-        later = (let more = costs_later 0 _ _ _ (costs_nothing _ _ c.loop-entry.invariant.later) w.in_ok-metadata.ensures.cause.later in let most = more.later in search rules);
+        later = (let more = costs_later 0 _ _ _ (costs_none _ _ c.loop-entry.invariant.later) w.in_ok-metadata.ensures.cause.later in let most = more.later in search rules);
         size = if_told (g.D.Disk.state c.args.disk.now) (λ s. c.if-eq.size ≡ total_size (tree_of s) (entries ++ entry ∷ [])) (λ s told.
             w.size-is ∙ w.saturating_add-size.ensures
             ∙ size_file (tree_of s) entries entry w.in_ok-metadata.field-0 c.loop-entry.size (search rules)
@@ -43,7 +43,7 @@ loop-entry-preserved g c =
     ]
 
 pub returns-clause-cost : goal.returns-clause-cost
-returns-clause-cost g c = costs_nothing _ _ c.loop-entry.invariant.later
+returns-clause-cost g c = costs_none _ _ c.loop-entry.invariant.later
 
 -- a look that is refused has its failure by a fault
 pub returns-in_err-metadata-clause-cost : goal.returns-in_err-metadata-clause-cost

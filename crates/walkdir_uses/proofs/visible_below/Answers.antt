@@ -9,7 +9,7 @@ use Rattle.walkdir.specs.FilteredWalk.{IsFilteredWalk}
 use Rattle.walkdir.specs.Progress.{Progress}
 use Rattle.walkdir.specs.StackProgress.{progress}
 use Rattle.walkdir.specs.Walk.{Walking}
-use Rattle.walkdir_uses.proofs.CostLemmas.{costs_as, costs_begun}
+use Rattle.walkdir.proofs.FailuresLaws.{costs_as, costs_begun}
 use Rattle.walkdir_uses.proofs.FoundLemmas.{back_default, walks_below}
 use Rattle.walkdir_uses.specs.Found.{IsStoppedIn, as_given, is_visible}
 use Rattle.walkdir_uses.proofs.visible_below.Goals as goal

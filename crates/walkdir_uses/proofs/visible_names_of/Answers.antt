@@ -12,12 +12,12 @@ pub loop-entry-preserved : goal.loop-entry-preserved
 loop-entry-preserved c =
     let entry = c.in-Some.entry in
     let entries = c.loop-entry.yielded in
-    let dotted = c.starts_with.ensures.byte (omega arith) (omega arith) (λ w o finds. finds) ∙ ap (λ name. slice_index name 0 == 46) c.file_name.ensures in
+    let dotted = c.starts_with.ensures.byte (omega arith) (omega arith) (λ w o finds. finds) ∙ ap (λ name. slice_index name 0 == 46) c.file_name.ensures.told in
     elim c.if-not-starts_with.branch [
       | then-not-starts_with+in_ok-from_str+in_ok-push w ↦
           ap (λ names. map (λ name. name.bytes.items) names.items) w.names-is ∙ ap (map (λ name. name.bytes.items)) w.in_ok-push.ensures.items
           ∙ map-append (λ name. name.bytes.items) c.loop-entry.names.items (w.in_ok-from_str.field-0 ∷ [])
-          ∙ ap (λ name. map (λ name. name.bytes.items) c.loop-entry.names.items ++ name ∷ []) (w.in_ok-from_str.ensures.ok ∙ w.file_name-then-not-starts_with.ensures)
+          ∙ ap (λ name. map (λ name. name.bytes.items) c.loop-entry.names.items ++ name ∷ []) (w.in_ok-from_str.ensures.ok ∙ w.file_name-then-not-starts_with.ensures.told)
           ∙ name_shown entries entry (map (λ name. name.bytes.items) c.loop-entry.names.items) c.starts_with.result dotted (search rules) c.loop-entry.invariant
       | else-not-starts_with w ↦
           ap (λ names. map (λ name. name.bytes.items) names.items) w.names-is

@@ -22,7 +22,7 @@ returns g c =
     c.all_of-entries.new.walk c.all_of-entries.ensures.whole c.all_of-entries.ensures.part in
     let there : Passed g.D.Disk.state g.D.Disk.streams g.D.Disk.faults g.D.Disk.answered (λ walk streams. progress as_given walk streams) c.args.walk c.into_inner.result (failures_of c.all_of-entries.result) =
     subst (λ s. Passed g.D.Disk.state g.D.Disk.streams g.D.Disk.faults g.D.Disk.answered (λ walk streams. progress as_given walk streams) s c.into_inner.result (failures_of c.all_of-entries.result)) c.filter_entry-visible.ensures.walk
-    (subst (λ u. Passed g.D.Disk.state g.D.Disk.streams g.D.Disk.faults g.D.Disk.answered (λ walk streams. progress as_given walk streams) c.filter_entry-visible.result.walk u (failures_of c.all_of-entries.result)) (sym c.into_inner.ensures) went) in
+    (subst (λ u. Passed g.D.Disk.state g.D.Disk.streams g.D.Disk.faults g.D.Disk.answered (λ walk streams. progress as_given walk streams) c.filter_entry-visible.result.walk u (failures_of c.all_of-entries.result)) (sym c.into_inner.ensures.walk) went) in
     let law = c.filter_entry-visible.ensures.gives is_visible (λ f h entry answer called. let says = called.called in let shows = called.shows in search rules) in
     let at = λ (x : OnDisk g.row.D.Denot (Stack NoSort)). at_walk g.D.Disk.state g.D.Disk.streams g.D.Disk.faults g.D.Disk.answered (λ walk streams. progress as_given walk streams) x in
     record {

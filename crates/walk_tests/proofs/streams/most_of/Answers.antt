@@ -12,4 +12,4 @@ has_none : (at : Progress) (built : Built NoSort) (streams : Streams) → at ≡
 has_none at built streams is = subst (λ x. has_its_streams x ≡ true) (sym is) (begun_has (λ _. all_equal) built streams)
 
 pub most_open-requires : goal.most_open-requires
-most_open-requires c = has_none _ _ _ (c.into_stack-walk.ensures _)
+most_open-requires c = record { own = has_none _ _ _ (c.into_stack-walk.ensures.begun _) }

@@ -7,7 +7,7 @@ use Rattle.std.specs.Ordering.{is_lt}
 use Rattle.std.proofs.lemmas.Fn.{always_returns_same}
 use Rattle.std.proofs.lemmas.List.Sorted.{ranks_by}
 use Rattle.std.specs.Result.{result_ok}
-use Rattle.walkdir.specs.Walk.{error_in}
+use Rattle.walkdir.specs.Walk.Children.{error_in}
 use Rattle.walkdir.proofs.read.in_order.Goals as goal
 
 pub returns-clause-order : goal.returns-clause-order

@@ -1,7 +1,8 @@
 use Rattle.std.proofs.Common.{subst, sym}
 use Rattle.walkdir.specs.Answered.{IsHeldIn}
 use Rattle.walkdir.specs.declared.error.Error.{Error}
-use Rattle.walkdir.proofs.AnsweredLemmas.{child_told, leads_by, stream_told}
+use Rattle.walkdir.proofs.AnsweredLemmas.Calls.{child_told, stream_told}
+use Rattle.walkdir.proofs.AnsweredLemmas.{leads_by}
 use Rattle.walkdir.proofs.read.next_of.Goals as goal
 
 pub returns-in-Ok-None-clause-answered : goal.returns-in-Ok-None-clause-answered
@@ -17,6 +18,6 @@ returns-in-Ok-Some-clause-answered g c = record {
 pub returns-in-Err-clause-answered : goal.returns-in-Err-clause-answered
 returns-in-Err-clause-answered g c = record {
   leads = leads_by g.D.Disk.answered c.args.disk.now c.next_entry.new.self c.in-Err.ensures.answered;
-  told = subst (λ (e : Error). IsHeldIn g.D.Disk.answered c.args.disk.now c.next_entry.new.self e.inner) (sym c.from_stream.ensures)
+  told = subst (λ (e : Error). IsHeldIn g.D.Disk.answered c.args.disk.now c.next_entry.new.self e.inner) (sym c.from_stream.ensures.made)
       (stream_told g.D.Disk.answered c.args.disk.now c.next_entry.new.self c.args.depth c.in-Err.error c.in-Err.ensures.answered);
 }

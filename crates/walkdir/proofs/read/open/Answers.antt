@@ -1,9 +1,10 @@
 use Rattle.std.proofs.Common.{ap, subst, sym}
 use Rattle.std.specs.Option.{option_map}
-use Rattle.walkdir.specs.Turns.{OpensAtMost, OpensContents}
+use Rattle.walkdir.specs.Turns.Drawn.{OpensAtMost, OpensContents}
 use Rattle.walkdir.proofs.ContainsLemmas.{opens_refused, opens_sorted, opens_stream}
 use Rattle.walkdir.proofs.ReadLemmas.{opens_bounded, opens_closed, opens_one}
-use Rattle.walkdir.proofs.AnsweredLemmas.{contents_after, contents_unopened, leads_by}
+use Rattle.walkdir.proofs.AnsweredLemmas.Calls.{contents_after, contents_unopened}
+use Rattle.walkdir.proofs.AnsweredLemmas.{leads_by}
 use Rattle.walkdir.proofs.read.open.Goals as goal
 
 pub returns-in-None-clause-streams : goal.returns-in-None-clause-streams

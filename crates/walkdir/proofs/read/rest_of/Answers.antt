@@ -2,14 +2,15 @@ use Rattle.std.proofs.Common.{◌≡◌, ◌+◌, [], ◌∷◌, ◌++◌, inl, 
 use Rattle.std.specs.Prelude.{Ok, Err, Some}
 use Rattle.walkdir.specs.Error.{failures}
 use Rattle.walkdir.specs.Failures.{Costs, failures_among, failures_of}
-use Rattle.walkdir.specs.Stack.{AreAt, IsAt}
-use Rattle.walkdir.specs.Turns.{Draws}
+use Rattle.walkdir.specs.Directory.{AreAt, IsAt}
+use Rattle.walkdir.specs.Turns.Drawn.{Draws}
 use Rattle.walkdir.specs.Answered.{AreHeld}
 use Rattle.walkdir.specs.AnsweredTurns.{IsItemHeld}
-use Rattle.walkdir.proofs.AnsweredLemmas.{are_later, item_since, leads_still, leads_then, none_told, told_push}
+use Rattle.walkdir.proofs.AnsweredLemmas.Calls.{are_later, told_push}
+use Rattle.walkdir.proofs.AnsweredLemmas.{item_since, leads_still, leads_then, none_told}
 use Rattle.walkdir.proofs.DrawsLemmas.{streams_all, streams_broken, streams_more, streams_none}
-use Rattle.walkdir.proofs.FailuresLemmas.{costs_none, costs_then}
-use Rattle.walkdir.proofs.ReadLemmas.{at-push, child_at, drawn_on, draws_drawn, entry_left, failures-push}
+use Rattle.walkdir.proofs.FailuresLaws.{costs_none, costs_then, failures-push}
+use Rattle.walkdir.proofs.ReadLemmas.{at-push, child_at, drawn_on, draws_drawn, entry_left}
 use Rattle.walkdir.proofs.read.rest_of.Goals as goal
 
 pub loop-items-init : goal.loop-items-init
@@ -104,7 +105,7 @@ pub returns-in-Some-Err-clause-streamed : goal.returns-in-Some-Err-clause-stream
 returns-in-Some-Err-clause-streamed g c =
     let draws = (subst (λ item. Draws c.args.depth c.args.parent.now (g.D.Disk.streams c.loop-items.disk) c.args.dir (Some item) (g.D.Disk.streams c.next_of.new.disk)) c.in-Some-Err.field-0-is c.in-Some-Err.ensures.draws) in
     streams_broken c.args.depth c.args.parent.now (g.D.Disk.streams c.args.disk.now) c.args.dir c.loop-items.items.items (g.D.Disk.streams c.loop-items.disk) c.in-Some-Err.error
-    c.push_back-in-Some-Err.new.self.items c.loop-items.invariant.streams draws.0 (sym c.is_out_of_memory.ensures ∙ c.if-is_out_of_memory.false) c.in_ok-push_back-in-Some-Err.ensures.items
+    c.push_back-in-Some-Err.new.self.items c.loop-items.invariant.streams draws.0 (sym c.is_out_of_memory.ensures.told ∙ c.if-is_out_of_memory.false) c.in_ok-push_back-in-Some-Err.ensures.items
 
 pub returns-in-None-clause-leads : goal.returns-in-None-clause-leads
 returns-in-None-clause-leads g c =

@@ -2,8 +2,8 @@ use Rattle.std.proofs.Common.{◌≡◌, ◌+◌, ◌≤◌, length}
 use Rattle.odb_disk.specs.CallsMade.{Leads}
 use Rattle.walkdir.specs.Answered.{AreHeld}
 use Rattle.walkdir.specs.Failures.{failures_among}
-use Rattle.walkdir.specs.Stack.{AreAt}
-use Rattle.walkdir.specs.Turns.{IsDrawn, left_of}
+use Rattle.walkdir.specs.Directory.{AreAt}
+use Rattle.walkdir.specs.Turns.Drawn.{IsDrawn, left_of}
 use Rattle.walkdir.proofs.DrawsLemmas.{StreamsOn}
 use Rattle.walkdir.proofs.read.rest_of.Given as goal
 

@@ -4,7 +4,8 @@ use Rattle.walkdir.specs.Failures.{Costs, failures_among}
 use Rattle.walkdir.proofs.HandlesLemmas.{err_is}
 use Rattle.walkdir.proofs.ReadLemmas.{drawn_removed}
 use Rattle.walkdir.proofs.SortedLemmas.{ordered_at, ordered_failures}
-use Rattle.walkdir.proofs.AnsweredLemmas.{are_later, contents_lost, leads_by, leads_then, ordered_told}
+use Rattle.walkdir.proofs.AnsweredLemmas.Calls.{are_later, contents_lost, ordered_told}
+use Rattle.walkdir.proofs.AnsweredLemmas.{leads_by, leads_then}
 use Rattle.walkdir.proofs.read.sorted.Goals as goal
 
 pub returns-in_err-read-clause-drawn : goal.returns-in_err-read-clause-drawn

@@ -1,6 +1,6 @@
 use Rattle.std.proofs.Common.{ap, sym, arith}
 use Rattle.std.specs.Result.{result_ok}
-use Rattle.walkdir.specs.Walk.{error_in}
+use Rattle.walkdir.specs.Walk.Children.{error_in}
 use Rattle.walkdir.proofs.OrderLemmas.{all_found, none_left, one_found, one_passed}
 use Rattle.walkdir.proofs.read.tell_apart.Goals as goal
 

@@ -1,7 +1,7 @@
 use Rattle.std.proofs.Common.{◌≡◌, ◌++◌}
 use Rattle.std.specs.List.{filter_map}
 use Rattle.std.specs.Result.{result_ok}
-use Rattle.walkdir.specs.Walk.{error_in}
+use Rattle.walkdir.specs.Walk.Children.{error_in}
 use Rattle.walkdir.proofs.read.tell_apart.Given as goal
 
 -- the entries so far and the errors so far, and those that are still to come

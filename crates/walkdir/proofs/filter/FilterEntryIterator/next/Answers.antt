@@ -38,7 +38,7 @@ loop-error-preserved g c =
             callable = callable;
             fewer = omega (arith, less, nearer.2, few);
             passes = passes_rejected g.I.Iterator.next_gives g.I.Walk.skips g.I.Walk.entered g.P.FnMut _ _ _ c.next.new.self w.skip_current_dir.new.self _ _ c.in-Ok.entry before.passes steps rejected
-                (after_skipped g.I.Iterator.next_gives g.I.Walk.skips g.I.Walk.entered g.P.FnMut _ _ (sym c.has_entered.ensures ∙ w.if-has_entered.true) skip.skipped);
+                (after_skipped g.I.Iterator.next_gives g.I.Walk.skips g.I.Walk.entered g.P.FnMut _ _ (sym c.has_entered.ensures.told ∙ w.if-has_entered.true) skip.skipped);
           }
       | else-has_entered w ↦
           rw w.self-is
@@ -48,6 +48,6 @@ loop-error-preserved g c =
             callable = callable;
             fewer = omega (arith, nearer.2, few);
             passes = passes_rejected g.I.Iterator.next_gives g.I.Walk.skips g.I.Walk.entered g.P.FnMut _ _ _ c.next.new.self c.next.new.self _ _ c.in-Ok.entry before.passes steps rejected
-                (after_passed g.I.Iterator.next_gives g.I.Walk.skips g.I.Walk.entered g.P.FnMut _ (sym c.has_entered.ensures ∙ w.if-has_entered.false));
+                (after_passed g.I.Iterator.next_gives g.I.Walk.skips g.I.Walk.entered g.P.FnMut _ (sym c.has_entered.ensures.told ∙ w.if-has_entered.false));
           }
     ]

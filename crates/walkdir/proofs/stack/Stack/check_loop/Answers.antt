@@ -4,9 +4,10 @@ use Rattle.std.specs.Prelude.{find}
 use Rattle.std.specs.Option.{option_map}
 use Rattle.std.proofs.lemmas.Iterator.Adapters.{YieldsList-from_rev_slice}
 use Rattle.std.proofs.lemmas.Iterator.Search.{find_from_yields_List}
-use Rattle.walkdir.specs.Walk.{Ancestor, same_place}
-use Rattle.walkdir.specs.declared.list.DirList.{DirList}
-use Rattle.walkdir.proofs.HandlesLemmas.{standing_found}
+use Rattle.walkdir.specs.Walk.{Ancestor}
+use Rattle.walkdir.specs.Walk.Entries.{same_place}
+use Rattle.walkdir.specs.declared.directory.DirList.{DirList}
+use Rattle.walkdir.proofs.HandlesLemmas.Followed.{standing_found}
 use Rattle.walkdir.proofs.stack.Stack.check_loop.Goals as goal
 
 pub returns-in-Some-clause-checks : goal.returns-in-Some-clause-checks
@@ -16,7 +17,7 @@ returns-in-Some-clause-checks g c =
     find_from_yields_List (λ (list : DirList). same_place c.args.place list.place) _ _ c.find.result c.find.ensures.ran (YieldsList-from_rev_slice lists (cc)) (λ x b q k. search (rules, tests)) in
     let ancestor : Ancestor = record { path = c.in-Some.list.now.path; place = c.in-Some.list.now.place } in
     let one : option_map (λ (y : Bor DirList). y.now) c.find.result ≡ Some c.in-Some.list.now = ap (option_map (λ (y : Bor DirList). y.now)) c.in-Some.is in
-    (ancestor, standing_found lists c.args.place (Some c.in-Some.list.now) (sym found ∙ one), c.from_loop.ensures)
+    (ancestor, standing_found lists c.args.place (Some c.in-Some.list.now) (sym found ∙ one), c.from_loop.ensures.made)
 
 pub returns-in-None-clause-checks : goal.returns-in-None-clause-checks
 returns-in-None-clause-checks g c =

@@ -1,26 +1,29 @@
 use Rattle.std.proofs.Common.{◌+◌, ap, refl, reverse, suc, sym, subst, take, drop, ◌∙◌, arith}
 use Rattle.std.specs.Option.{option_map}
 use Rattle.walkdir.specs.Failures.{Costs, failures_among}
-use Rattle.walkdir.specs.Stack.{AreAt, own_streams}
+use Rattle.walkdir.specs.Directory.{AreAt}
+use Rattle.walkdir.specs.Stack.{own_streams}
 use Rattle.walkdir.specs.StackProgress.{progress}
-use Rattle.walkdir.specs.declared.list.DirList.{DirList}
-use Rattle.walkdir.specs.declared.list.Items.TheVariants.{Closed}
-use Rattle.walkdir.proofs.DrawsLemmas.{close_stands, stands_alike}
-use Rattle.walkdir.proofs.FailuresLemmas.{costs_zero}
-use Rattle.walkdir.proofs.ListLemmas.{goes_closed}
+use Rattle.walkdir.specs.declared.directory.DirList.{DirList}
+use Rattle.walkdir.specs.declared.directory.Items.TheVariants.{Closed}
+use Rattle.walkdir.proofs.DrawsLemmas.Puts.{close_stands, stands_alike}
+use Rattle.walkdir.proofs.FailuresLaws.{costs_zero}
+use Rattle.walkdir.proofs.DirectoryLemmas.{goes_closed}
 use Rattle.walkdir.proofs.SoundLemmas.{sound_of}
-use Rattle.walkdir.proofs.StackLemmas.{closed_past, closed_put, cut_at, cut_length, no_deep_stream, one_at, reversed_at}
+use Rattle.walkdir.proofs.StackLemmas.At.{closed_past, cut_at, cut_length, no_deep_stream, one_at}
+use Rattle.walkdir.proofs.StackLemmas.{closed_put, reversed_at}
 use Rattle.walkdir.proofs.StepLemmas.{goes_drawn, keeps_drawn}
 use Rattle.walkdir.proofs.WorkLemmas.{less_drawn}
-use Rattle.walkdir.proofs.AnsweredLemmas.{leads_by, leads_then, stack_later, stack_put, are_wider, tells_called, tells_still}
+use Rattle.walkdir.proofs.AnsweredLemmas.{leads_by, leads_then, stack_later, stack_put, are_wider}
+use Rattle.walkdir.proofs.AnsweredLemmas.Steps.{tells_called, tells_still}
 use Rattle.walkdir.proofs.stack.Stack.close.Goals as goal
 
 pub returns-in_default-clause-closed : goal.returns-in_default-clause-closed
 returns-in_default-clause-closed g c closed =
     let lists = c.args.self.now.lists.items in
     let list = c.index-list.result.now in
-    closed_past (take c.args.index lists) list (drop (suc c.args.index) lists) lists c.args.index (cut_length lists c.args.index c.requires)
-    (cut_at lists c.args.index list c.requires c.index-list.ensures) (sym c.in_default.ensures) closed
+    closed_past (take c.args.index lists) list (drop (suc c.args.index) lists) lists c.args.index (cut_length lists c.args.index c.requires.index)
+    (cut_at lists c.args.index list c.requires.index c.index-list.ensures) (sym c.in_default.ensures.told) closed
 
 pub returns-in_err-items-clause-goes : goal.returns-in_err-items-clause-goes
 returns-in_err-items-clause-goes g c =
@@ -33,20 +36,20 @@ returns-in_err-items-clause-goes g c =
     goes_drawn old new 0 (g.D.Disk.faults c.args.disk.now) (g.D.Disk.faults c.rest_of.new.disk) (record { options = refl; order = refl; start = refl }) refl
     (less_drawn (g.D.Disk.streams c.args.disk.now) c.in-Some.dir (g.D.Disk.streams c.rest_of.new.disk) c.in_err-items.ensures.drawn)
     (keeps_drawn old new (reverse inner) list (reverse outer) c.in-Some.dir (record { options = refl; order = refl; start = refl })
-    (ap reverse (cut_at lists c.args.index list c.requires c.index-list.ensures) ∙ reversed_at outer list inner) (sym c.in-Some.ensures) refl c.in_err-items.ensures.drawn)
+    (ap reverse (cut_at lists c.args.index list c.requires.index c.index-list.ensures) ∙ reversed_at outer list inner) (sym c.in-Some.ensures.told) refl c.in_err-items.ensures.drawn)
     (costs_zero _ _ _ c.in_err-items.ensures.cause)
 
 pub put-requires-clause-children : goal.put-requires-clause-children
 put-requires-clause-children g c list at =
     let lists = c.args.self.now.lists.items in
-    subst (λ (l : DirList). AreAt l.path (c.args.index + 1) c.in_ok-items.items.items) (one_at lists c.args.index c.index-list.result.now list c.requires c.index-list.ensures at)
+    subst (λ (l : DirList). AreAt l.path (c.args.index + 1) c.in_ok-items.items.items) (one_at lists c.args.index c.index-list.result.now list c.requires.index c.index-list.ensures at)
     c.in_ok-items.ensures.children
 
 pub put-requires-clause-deepest : goal.put-requires-clause-deepest
 put-requires-clause-deepest g c deep =
     let walk = c.args.self.now in
     absurd (no_deep_stream walk.options walk.start walk.lists.items walk.first_open c.args.index c.index-list.result.now c.in-Some.dir
-    (sound_of walk.options walk.start walk.lists.items walk.first_open walk.some_open walk.in_range walk.few walk.sound) c.requires c.index-list.ensures (sym c.in-Some.ensures) deep)
+    (sound_of walk.options walk.start walk.lists.items walk.first_open walk.some_open walk.in_range walk.few walk.sound) c.requires.index c.index-list.ensures (sym c.in-Some.ensures.told) deep)
 
 pub returns-clause-goes : goal.returns-clause-goes
 returns-clause-goes g c =
@@ -56,7 +59,7 @@ returns-clause-goes g c =
     let count = failures_among c.in_ok-items.items.items in
     goes_closed old new c.args.self.now.lists.items c.put.new.self.lists.items c.args.index (Closed c.in_ok-items.items) c.index-list.result.now
     (record { options = kept.options; order = ap (option_map g.S.Sorter.order) kept.sorter; start = kept.start }) refl refl c.put.ensures.lists c.index-list.ensures
-    c.in-Some.dir (g.D.Disk.streams c.rest_of.new.disk) count 0 (g.D.Disk.faults c.args.disk.now) (g.D.Disk.faults c.close_dir.new.self) (sym c.in-Some.ensures) refl
+    c.in-Some.dir (g.D.Disk.streams c.rest_of.new.disk) count 0 (g.D.Disk.faults c.args.disk.now) (g.D.Disk.faults c.close_dir.new.self) (sym c.in-Some.ensures.told) refl
     c.in_ok-items.ensures.drawn c.close_dir.ensures.closed c.in_ok-items.ensures.few (omega arith)
     (subst (λ n. Costs count (g.D.Disk.faults c.args.disk.now) n) (sym c.close_dir.ensures.faults) c.in_ok-items.ensures.cause) refl
 
@@ -78,7 +81,7 @@ returns-clause-stands g c =
     let old = progress g.S.Sorter.order c.args.self.now (g.D.Disk.streams c.args.disk.now) in
     let new = progress g.S.Sorter.order c.put.new.self (g.D.Disk.streams c.close_dir.new.self) in
     close_stands old new c.args.self.now.lists.items c.put.new.self.lists.items c.args.index (Closed c.in_ok-items.items) c.index-list.result.now refl refl c.put.ensures.lists c.index-list.ensures
-    c.in-Some.dir (g.D.Disk.streams c.rest_of.new.disk) (sym c.in-Some.ensures) refl c.in_ok-items.ensures.drawn c.close_dir.ensures.closed c.in_ok-items.ensures.streamed
+    c.in-Some.dir (g.D.Disk.streams c.rest_of.new.disk) (sym c.in-Some.ensures.told) refl c.in_ok-items.ensures.drawn c.close_dir.ensures.closed c.in_ok-items.ensures.streamed
 
 pub returns-in_default-clause-answered : goal.returns-in_default-clause-answered
 returns-in_default-clause-answered g c =

@@ -1,6 +1,6 @@
 use Rattle.std.proofs.Common.{◌≤◌, refl, arith}
 use Rattle.std.specs.Option.{option_map}
-use Rattle.walkdir.specs.declared.list.Items.TheVariants.{Closed}
+use Rattle.walkdir.specs.declared.directory.Items.TheVariants.{Closed}
 use Rattle.walkdir.proofs.ContainsLemmas.{opened_deepest}
 use Rattle.walkdir.proofs.stack.Stack.contents.Goals as goal
 

@@ -1,22 +1,27 @@
 use Rattle.std.proofs.Common.{◌≡◌, Ok, Err, refl, reverse, subst, sym, ◌∙◌}
 use lib.ListN.{length-reverse}
 use Rattle.odb_base.specs.Path.{Path}
-use Rattle.walkdir.specs.EnteredTurns.{EntersTelling, HandlesTelling}
+use Rattle.walkdir.specs.EnteredTurns.{EntersTelling}
 use Rattle.walkdir.specs.Innermost.{IsAfter}
 use Rattle.walkdir.specs.Options.{is_given}
 use Rattle.walkdir.specs.StackProgress.{progress}
-use Rattle.walkdir.specs.Turns.{EntersBy, EntersDirectory, HandlesEntry, OnlyEnters, handed}
+use Rattle.walkdir.specs.Turns.Taken.{EntersBy, OnlyEnters}
+use Rattle.walkdir.specs.Turns.Stands.{EntersDirectory, HandlesEntry}
+use Rattle.walkdir.specs.Turns.{handed}
 use Rattle.walkdir.specs.Within.{LiesIn}
 use Rattle.walkdir.specs.Stack.{ancestors}
-use Rattle.walkdir.specs.Walk.{enter, entering}
-use Rattle.walkdir.specs.declared.list.Entering.TheVariants.{Stays, Enters}
+use Rattle.walkdir.specs.Walk.Entries.{enter, entering}
+use Rattle.walkdir.specs.declared.directory.Entering.TheVariants.{Stays, Enters}
 use Rattle.walkdir.proofs.AboveLemmas.{above_entering, above_same, unless_lost}
-use Rattle.walkdir.proofs.EnteredLemmas.{handles_entering, handles_error, handles_staying}
-use Rattle.walkdir.proofs.HandlesLemmas.{err_is, handles_alone, handles_closed, handles_entered, handles_wrong}
+use Rattle.walkdir.proofs.EnteredLemmas.{handles_entering, handles_failed, handles_staying}
+use Rattle.walkdir.proofs.HandlesLemmas.{err_is}
+use Rattle.walkdir.proofs.HandlesLemmas.Entered.{enters_as}
+use Rattle.walkdir.proofs.HandlesLemmas.Handled.{handles_alone, handles_closed, handles_entered, handles_wrong}
 use Rattle.walkdir.proofs.InnermostLemmas.{after_entry_error, after_shown, link_looked, looked_at, on_entry}
 use Rattle.walkdir.specs.Answered.{IsItemTold, IsRefusedAt}
 use Rattle.walkdir.specs.AnsweredTurns.{IsEnteringTold}
-use Rattle.walkdir.proofs.AnsweredLemmas.{entry_told, error_seen, leads_then, lost_item_told, stack_later}
+use Rattle.walkdir.proofs.AnsweredLemmas.Steps.{entry_told, lost_item_told}
+use Rattle.walkdir.proofs.AnsweredLemmas.{error_seen, leads_then, stack_later}
 use Rattle.walkdir.proofs.RefusedLemmas.{given_at, looked_beside, lost_item_at}
 use Rattle.walkdir.proofs.stack.Stack.handle.Goals as goal
 
@@ -49,9 +54,8 @@ returns-in-Stays-clause-walks g c =
     let old = progress g.S.Sorter.order walk (g.D.Disk.streams c.args.disk.now) in
     let new = progress g.S.Sorter.order walk (g.D.Disk.streams c.entering.new.disk) in
     handles_alone state old new c.args.entry found c.shown.result refl (c.in_ok-entering.ensures.streams ∙ c.in_ok-found.ensures.streams) c.in_ok-found.ensures.follows
-    (subst (λ s. EntersBy entering s walk.options walk.root_device found (Ok Stays)) c.in_ok-found.ensures.state
-    (subst (λ e. EntersBy entering (g.D.Disk.state c.followed.new.disk) walk.options walk.root_device found (Ok e)) c.in-Stays.is c.in_ok-entering.ensures.enters))
-    c.shown.ensures
+    (enters_as _ _ c.in_ok-found.ensures.state walk.options walk.root_device found _ Stays c.in-Stays.is c.in_ok-entering.ensures.enters)
+    c.shown.ensures.given
 
 pub returns-in-Enters-clause-walks : goal.returns-in-Enters-clause-walks
 returns-in-Enters-clause-walks g c =
@@ -62,28 +66,22 @@ returns-in-Enters-clause-walks g c =
     let old = progress g.S.Sorter.order walk (g.D.Disk.streams c.args.disk.now) in
     let new = progress g.S.Sorter.order c.enter.new.self (g.D.Disk.streams c.enter.new.disk) in
     handles_entered state old new c.args.entry found place (handed c.enter.result) c.in_ok-found.ensures.follows
-    (subst (λ s. EntersBy entering s walk.options walk.root_device found (Ok (Enters place))) c.in_ok-found.ensures.state
-    (subst (λ e. EntersBy entering (g.D.Disk.state c.followed.new.disk) walk.options walk.root_device found (Ok e)) c.in-Enters.is c.in_ok-entering.ensures.enters))
+    (enters_as _ _ c.in_ok-found.ensures.state walk.options walk.root_device found _ (Enters place) c.in-Enters.is c.in_ok-entering.ensures.enters)
     (subst (λ s. EntersDirectory s old found.entry place (handed c.enter.result) new) (c.in_ok-entering.ensures.state ∙ c.in_ok-found.ensures.state)
     (subst (λ t. EntersDirectory (g.D.Disk.state c.entering.new.disk) (progress g.S.Sorter.order walk t) found.entry place (handed c.enter.result) new)
     (c.in_ok-entering.ensures.streams ∙ c.in_ok-found.ensures.streams) c.enter.ensures.enters))
 
 pub returns-in_err-found-clause-directory : goal.returns-in_err-found-clause-directory
 returns-in_err-found-clause-directory g c = λ unmarked.
-    let state = g.D.Disk.state c.args.disk.now in
-    let old = progress g.S.Sorter.order c.args.self.now (g.D.Disk.streams c.args.disk.now) in
-    let new = progress g.S.Sorter.order c.args.self.now (g.D.Disk.streams c.followed.new.disk) in
-    subst (λ r. HandlesTelling state old (handed r) new) (sym (err_is c.from_residual.result c.in_err-found.field-0.0 c.from_residual.ensures.1))
-    (handles_error state old new c.in_err-found.field-0.0)
+    handles_failed (g.D.Disk.state c.args.disk.now) (progress g.S.Sorter.order c.args.self.now (g.D.Disk.streams c.args.disk.now))
+    (progress g.S.Sorter.order c.args.self.now (g.D.Disk.streams c.followed.new.disk)) c.from_residual.result c.in_err-found.field-0.0
+    (err_is c.from_residual.result c.in_err-found.field-0.0 c.from_residual.ensures.1)
 
 pub returns-in_err-entering-clause-directory : goal.returns-in_err-entering-clause-directory
 returns-in_err-entering-clause-directory g c = λ unmarked.
-    let state = g.D.Disk.state c.args.disk.now in
-    let error = c.in_err-entering.field-0.0 in
-    let old = progress g.S.Sorter.order c.args.self.now (g.D.Disk.streams c.args.disk.now) in
-    let new = progress g.S.Sorter.order c.args.self.now (g.D.Disk.streams c.entering.new.disk) in
-    subst (λ r. HandlesTelling state old (handed r) new) (sym (err_is c.from_residual-in_err-entering.result error c.from_residual-in_err-entering.ensures.1))
-    (handles_error state old new error)
+    handles_failed (g.D.Disk.state c.args.disk.now) (progress g.S.Sorter.order c.args.self.now (g.D.Disk.streams c.args.disk.now))
+    (progress g.S.Sorter.order c.args.self.now (g.D.Disk.streams c.entering.new.disk)) c.from_residual-in_err-entering.result c.in_err-entering.field-0.0
+    (err_is c.from_residual-in_err-entering.result c.in_err-entering.field-0.0 c.from_residual-in_err-entering.ensures.1)
 
 pub returns-in-Stays-clause-directory : goal.returns-in-Stays-clause-directory
 returns-in-Stays-clause-directory g c = λ unmarked.
@@ -93,9 +91,8 @@ returns-in-Stays-clause-directory g c = λ unmarked.
     let old = progress g.S.Sorter.order walk (g.D.Disk.streams c.args.disk.now) in
     let new = progress g.S.Sorter.order walk (g.D.Disk.streams c.entering.new.disk) in
     handles_staying state old new c.args.entry found c.shown.result (is_given walk.options found.entry.depth) unmarked c.in_ok-found.ensures.follows
-    (subst (λ s. EntersBy entering s walk.options walk.root_device found (Ok Stays)) c.in_ok-found.ensures.state
-    (subst (λ e. EntersBy entering (g.D.Disk.state c.followed.new.disk) walk.options walk.root_device found (Ok e)) c.in-Stays.is c.in_ok-entering.ensures.enters))
-    c.shown.ensures
+    (enters_as _ _ c.in_ok-found.ensures.state walk.options walk.root_device found _ Stays c.in-Stays.is c.in_ok-entering.ensures.enters)
+    c.shown.ensures.given
 
 pub returns-in-Enters-clause-directory : goal.returns-in-Enters-clause-directory
 returns-in-Enters-clause-directory g c = λ unmarked.
@@ -107,8 +104,7 @@ returns-in-Enters-clause-directory g c = λ unmarked.
     let old = progress g.S.Sorter.order walk (g.D.Disk.streams c.args.disk.now) in
     let new = progress g.S.Sorter.order c.enter.new.self (g.D.Disk.streams c.enter.new.disk) in
     handles_entering state old new c.args.entry found place item c.in_ok-found.ensures.follows
-    (subst (λ s. EntersBy entering s walk.options walk.root_device found (Ok (Enters place))) c.in_ok-found.ensures.state
-    (subst (λ e. EntersBy entering (g.D.Disk.state c.followed.new.disk) walk.options walk.root_device found (Ok e)) c.in-Enters.is c.in_ok-entering.ensures.enters))
+    (enters_as _ _ c.in_ok-found.ensures.state walk.options walk.root_device found _ (Enters place) c.in-Enters.is c.in_ok-entering.ensures.enters)
     (subst (λ s. EntersTelling s old found.entry place item new) (c.in_ok-entering.ensures.state ∙ c.in_ok-found.ensures.state)
     (subst (λ t. EntersTelling (g.D.Disk.state c.entering.new.disk) (progress g.S.Sorter.order walk t) found.entry place item new)
     (c.in_ok-entering.ensures.streams ∙ c.in_ok-found.ensures.streams) c.enter.ensures.directory))
@@ -140,7 +136,7 @@ returns-in-Stays-clause-innermost g c =
     let stack = reverse walk.lists.items in
     let found = c.in_ok-found.found in
     let same = c.in_ok-found.ensures.same in
-    after_shown (is_given walk.options found.entry.depth) walk.options found.entry c.shown.result stack c.shown.ensures (same.0 ∙ c.requires.depth ∙ sym (length-reverse walk.lists.items))
+    after_shown (is_given walk.options found.entry.depth) walk.options found.entry c.shown.result stack c.shown.ensures.given (same.0 ∙ c.requires.depth ∙ sym (length-reverse walk.lists.items))
     (subst (λ (p : Path). LiesIn p stack) (sym same.1) c.requires.parent) c.requires.unskipped
 
 pub enter-requires-clause-parent : goal.enter-requires-clause-parent
@@ -175,8 +171,7 @@ returns-in-Enters-clause-above g c =
     let old = progress g.S.Sorter.order walk (g.D.Disk.streams c.args.disk.now) in
     let new = progress g.S.Sorter.order c.enter.new.self (g.D.Disk.streams c.enter.new.disk) in
     above_entering state old new c.args.entry found place (handed c.enter.result) c.in_ok-found.ensures.follows
-    (subst (λ s. EntersBy entering s walk.options walk.root_device found (Ok (Enters place))) c.in_ok-found.ensures.state
-    (subst (λ e. EntersBy entering (g.D.Disk.state c.followed.new.disk) walk.options walk.root_device found (Ok e)) c.in-Enters.is c.in_ok-entering.ensures.enters))
+    (enters_as _ _ c.in_ok-found.ensures.state walk.options walk.root_device found _ (Enters place) c.in-Enters.is c.in_ok-entering.ensures.enters)
     (same.0 ∙ c.requires.depth ∙ sym (length-reverse walk.lists.items)) same.1 c.requires.parent
     (unless_lost c.enter.result (ancestors new.stack ≡ enter found.entry place (ancestors old.stack)) c.enter.ensures.above c.enter.ensures.lost)
 

@@ -7,10 +7,12 @@ use Rattle.walkdir.specs.declared.dent.DirEntry.{DirEntry}
 use Rattle.walkdir.specs.Progress.{Progress}
 use Rattle.walkdir.specs.StackProgress.{progress}
 use Rattle.walkdir.specs.Turns.{GoesOn}
-use Rattle.walkdir.proofs.DrawsLemmas.{leaves_it, own_given, own_none}
+use Rattle.walkdir.proofs.DrawsLemmas.Child.{leaves_it, own_given, own_none}
 use Rattle.walkdir.proofs.SoundLemmas.{is_sound_of, sound_of}
-use Rattle.walkdir.proofs.StackLemmas.{left_depth, left_first, left_own, reversed_last, sound_pop}
-use Rattle.walkdir.proofs.StepLemmas.{goes_popped, pops_less}
+use Rattle.walkdir.proofs.StackLemmas.At.{left_depth, left_first, left_own}
+use Rattle.walkdir.proofs.StackLemmas.{reversed_last}
+use Rattle.walkdir.proofs.StackLemmas.Sound.{sound_pop}
+use Rattle.walkdir.proofs.StepLemmas.Pushed.{goes_popped, pops_less}
 use Rattle.walkdir.proofs.AnsweredLemmas.{stack_later, stack_pop}
 use Rattle.walkdir.proofs.stack.Stack.leave.Goals as goal
 
@@ -54,7 +56,7 @@ returns-clause-depth g c =
     let walk = c.args.self.now in
     left_depth walk.options walk.start walk.lists.items c.pop.new.self.items c.in_ok-list.list walk.first_open c.in_ok-list-2.field-0 c.shown.result
     (is_given walk.options c.in_ok-list-2.field-0.depth)
-    (sound_of walk.options walk.start walk.lists.items walk.first_open walk.some_open walk.in_range walk.few walk.sound) c.in_ok-list.ensures.items c.in_ok-list-2.was c.shown.ensures
+    (sound_of walk.options walk.start walk.lists.items walk.first_open walk.some_open walk.in_range walk.few walk.sound) c.in_ok-list.ensures.items c.in_ok-list-2.was c.shown.ensures.given
 
 pub returns-clause-less : goal.returns-clause-less
 returns-clause-less g c before keeps =
@@ -78,7 +80,7 @@ returns-clause-leaves g c =
     let old = progress g.S.Sorter.order walk (g.D.Disk.streams c.args.disk.now) in
     let new : Progress = record old { stack = reverse c.pop.new.self.items; streams = g.D.Disk.streams c.close.new.disk } in
     leaves_it old new c.in_ok-list.list c.shown.result (ap reverse c.in_ok-list.ensures.items ∙ reversed_last c.pop.new.self.items c.in_ok-list.list) c.close.ensures.streams
-    (own_given walk.options c.in_ok-list.list.after c.shown.result c.in_ok-list-2.field-0 c.in_ok-list-2.was c.shown.ensures)
+    (own_given walk.options c.in_ok-list.list.after c.shown.result c.in_ok-list-2.field-0 c.in_ok-list-2.was c.shown.ensures.given)
 
 pub returns-clause-first : goal.returns-clause-first
 returns-clause-first g c =
@@ -97,7 +99,7 @@ returns-clause-own g c =
     let walk = c.args.self.now in
     left_own walk.options walk.start walk.lists.items c.pop.new.self.items c.in_ok-list.list walk.first_open c.in_ok-list-2.field-0 c.shown.result
     (is_given walk.options c.in_ok-list-2.field-0.depth)
-    (sound_of walk.options walk.start walk.lists.items walk.first_open walk.some_open walk.in_range walk.few walk.sound) c.in_ok-list.ensures.items c.in_ok-list-2.was c.shown.ensures
+    (sound_of walk.options walk.start walk.lists.items walk.first_open walk.some_open walk.in_range walk.few walk.sound) c.in_ok-list.ensures.items c.in_ok-list-2.was c.shown.ensures.given
 
 pub returns-in_err-list-2-clause-above : goal.returns-in_err-list-2-clause-above
 returns-in_err-list-2-clause-above g c = (c.in_ok-list.list, ap reverse c.in_ok-list.ensures.items ∙ reversed_last c.pop.new.self.items c.in_ok-list.list)

@@ -1,8 +1,8 @@
 use Rattle.std.proofs.Common.{◌≡◌, ◌+◌, ◌<◌, [], length, refl, subst, sym, take, arith, reverse}
 use Rattle.walkdir.specs.Stack.{own_streams}
 use Rattle.walkdir.proofs.SoundLemmas.{is_sound_of, sound_of}
-use Rattle.walkdir.proofs.StackLemmas.{sound_closed}
-use Rattle.walkdir.proofs.AnsweredLemmas.{tells_still}
+use Rattle.walkdir.proofs.StackLemmas.Sound.{sound_closed}
+use Rattle.walkdir.proofs.AnsweredLemmas.Steps.{tells_still}
 use Rattle.walkdir.proofs.stack.Stack.make_room.Goals as goal
 
 pub invariant_of-self-clause-sound : goal.invariant_of-self-clause-sound

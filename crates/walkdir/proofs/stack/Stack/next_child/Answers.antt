@@ -1,18 +1,20 @@
 use Rattle.std.proofs.Common.{◌≡◌, ◌+◌, ◌<◌, ◌≤◌, None, ap, length, length-set, refl, reverse, set, subst, suc, sym, ◌∙◌, arith}
 use Rattle.odb_disk.specs.Streams.{Streams}
 use Rattle.walkdir.specs.Progress.{Keeps, Progress}
-use Rattle.walkdir.specs.Stack.{held, left_in, stream_in}
+use Rattle.walkdir.specs.Directory.{held, left_in, stream_in}
 use Rattle.walkdir.specs.StackProgress.{progress}
 use Rattle.walkdir.specs.Turns.{TakesWork}
-use Rattle.walkdir.proofs.DrawsLemmas.{draws_held, is_top, top_depth, was_top}
-use Rattle.walkdir.proofs.FailuresLemmas.{costs_none}
+use Rattle.walkdir.proofs.DrawsLemmas.Child.{draws_held}
+use Rattle.walkdir.proofs.DrawsLemmas.Puts.{is_top, top_depth, was_top}
+use Rattle.walkdir.proofs.FailuresLaws.{costs_none}
 use Rattle.walkdir.proofs.HeldLemmas.{held_closed, held_fails, held_few, held_item_at, held_none, held_rest_at, held_skips, if_taken}
 use Rattle.walkdir.proofs.InnermostLemmas.{from_top}
-use Rattle.walkdir.proofs.ListLemmas.{goes_held, left_held, put_takes}
+use Rattle.walkdir.proofs.DirectoryLemmas.{goes_held, left_held, put_takes}
 use Rattle.walkdir.proofs.SoundLemmas.{is_sound_of, sound_of}
-use Rattle.walkdir.proofs.StackLemmas.{fit_at, held_at, one_at, puts_above, puts_set, shallow_held, sound_put}
+use Rattle.walkdir.proofs.StackLemmas.At.{fit_at, held_at, one_at, puts_above, puts_set, shallow_held}
+use Rattle.walkdir.proofs.StackLemmas.Sound.{sound_put}
 use Rattle.walkdir.proofs.WorkLemmas.{less_same}
-use Rattle.walkdir.specs.declared.list.DirList.{DirList}
+use Rattle.walkdir.specs.declared.directory.DirList.{DirList}
 use Rattle.walkdir.proofs.AnsweredLemmas.{item_held, leads_still, stack_put, taken_told, top_told}
 use Rattle.walkdir.proofs.RefusedLemmas.{drawn_at}
 use Rattle.walkdir.proofs.stack.Stack.next_child.Goals as goal
@@ -24,15 +26,15 @@ invariant_of-self-clause-sound g c =
     let lists = walk.lists.items in
     let list = c.index_mut-list.result.now in
     let items = c.take_first.new.self in
-    let within : c.args.index < length lists = omega (arith, c.requires) in
+    let within : c.args.index < length lists = omega (arith, c.requires.index) in
     let at = c.index_mut-list.ensures.value in
     let sound = sound_of walk.options walk.start lists walk.first_open walk.some_open walk.in_range walk.few walk.sound in
     let fit = fit_at walk.options walk.start lists walk.first_open c.args.index list sound within at in
     is_sound_of walk.options walk.start (set lists c.args.index (record list { items = items })) walk.first_open
     (sound_put walk.options walk.start lists (set lists c.args.index (record list { items = items })) walk.first_open c.args.index items sound
-    (puts_set lists c.args.index list items within at) (held_closed list.items c.take_first.result items c.take_first.ensures)
-    (held_rest_at list.path (c.args.index + 1) list.items c.take_first.result items c.take_first.ensures fit.children)
-    (λ deep. held_none list.items c.take_first.result items c.take_first.ensures (fit.deepest deep).nothing))
+    (puts_set lists c.args.index list items within at) (held_closed list.items c.take_first.result items c.take_first.ensures.takes)
+    (held_rest_at list.path (c.args.index + 1) list.items c.take_first.result items c.take_first.ensures.takes fit.children)
+    (λ deep. held_none list.items c.take_first.result items c.take_first.ensures.takes (fit.deepest deep).nothing))
 
 pub invariant_of-self-clause-in_range : goal.invariant_of-self-clause-in_range
 invariant_of-self-clause-in_range g c =
@@ -52,16 +54,16 @@ returns-clause-goes g c =
     let lists = walk.lists.items in
     let list = c.index_mut-list.result.now in
     let items = c.take_first.new.self in
-    let within : c.args.index < length lists = omega (arith, c.requires) in
+    let within : c.args.index < length lists = omega (arith, c.requires.index) in
     let at = c.index_mut-list.ensures.value in
-    let none : stream_in list.items ≡ None = ap (λ (l : DirList). stream_in l.items) (sym (one_at lists c.args.index c.index.result.now list within c.index.ensures at)) ∙ sym c.in_default.ensures in
+    let none : stream_in list.items ≡ None = ap (λ (l : DirList). stream_in l.items) (sym (one_at lists c.args.index c.index.result.now list within c.index.ensures at)) ∙ sym c.in_default.ensures.told in
     let old = progress g.S.Sorter.order walk (g.D.Disk.streams c.args.disk.now) in
     let new : Progress = record old { stack = reverse (set lists c.args.index (record list { items = items })) } in
     goes_held old new lists (set lists c.args.index (record list { items = items })) c.args.index items list (record { options = refl; order = refl; start = refl }) refl refl
     (puts_set lists c.args.index list items within at) at _ (g.D.Disk.faults c.args.disk.now) (g.D.Disk.faults c.args.disk.now) none
-    (held_closed list.items c.take_first.result items c.take_first.ensures) refl (held_few list.items c.take_first.result items c.take_first.ensures)
-    (held_fails list.items c.take_first.result items c.take_first.ensures) (costs_none (g.D.Disk.faults c.args.disk.now) (g.D.Disk.faults c.args.disk.now) (omega arith))
-    (held_skips list.items c.take_first.result items c.take_first.ensures)
+    (held_closed list.items c.take_first.result items c.take_first.ensures.takes) refl (held_few list.items c.take_first.result items c.take_first.ensures.takes)
+    (held_fails list.items c.take_first.result items c.take_first.ensures.takes) (costs_none (g.D.Disk.faults c.args.disk.now) (g.D.Disk.faults c.args.disk.now) (omega arith))
+    (held_skips list.items c.take_first.result items c.take_first.ensures.takes)
 
 pub returns-clause-from : goal.returns-clause-from
 returns-clause-from g c =
@@ -69,7 +71,7 @@ returns-clause-from g c =
     let lists = walk.lists.items in
     let list = c.index_mut-list.result.now in
     let items = c.take_first.new.self in
-    let within : c.args.index < length lists = omega (arith, c.requires) in
+    let within : c.args.index < length lists = omega (arith, c.requires.index) in
     let at = c.index_mut-list.ensures.value in
     let old = progress g.S.Sorter.order walk (g.D.Disk.streams c.args.disk.now) in
     let after_lists = set lists c.args.index (record list { items = items }) in
@@ -77,8 +79,8 @@ returns-clause-from g c =
     let puts = puts_set lists c.args.index list items within at in
     let sound = sound_of walk.options walk.start lists walk.first_open walk.some_open walk.in_range walk.few walk.sound in
     from_top (reverse after_lists) (record list { items = items }) (reverse puts.outer) c.args.index c.take_first.result
-    (is_top old new lists after_lists c.args.index items list refl refl puts at c.requires) (top_depth old new lists after_lists c.args.index items list refl refl puts at)
-    (held_item_at list.path (c.args.index + 1) list.items c.take_first.result items c.take_first.ensures (held_at walk.options walk.start lists walk.first_open c.args.index list sound within at))
+    (is_top old new lists after_lists c.args.index items list refl refl puts at c.requires.index) (top_depth old new lists after_lists c.args.index items list refl refl puts at)
+    (held_item_at list.path (c.args.index + 1) list.items c.take_first.result items c.take_first.ensures.takes (held_at walk.options walk.start lists walk.first_open c.args.index list sound within at))
 
 pub returns-clause-less : goal.returns-clause-less
 returns-clause-less g c =
@@ -86,22 +88,22 @@ returns-clause-less g c =
     let lists = walk.lists.items in
     let list = c.index_mut-list.result.now in
     let items = c.take_first.new.self in
-    let within : c.args.index < length lists = omega (arith, c.requires) in
+    let within : c.args.index < length lists = omega (arith, c.requires.index) in
     let at = c.index_mut-list.ensures.value in
     let streams = g.D.Disk.streams c.args.disk.now in
-    let none : stream_in list.items ≡ None = ap (λ (l : DirList). stream_in l.items) (sym (one_at lists c.args.index c.index.result.now list within c.index.ensures at)) ∙ sym c.in_default.ensures in
+    let none : stream_in list.items ≡ None = ap (λ (l : DirList). stream_in l.items) (sym (one_at lists c.args.index c.index.result.now list within c.index.ensures at)) ∙ sym c.in_default.ensures.told in
     let old = progress g.S.Sorter.order walk streams in
     let new : Progress = record old { stack = reverse (set lists c.args.index (record list { items = items })) } in
-    if_taken list.items c.take_first.result items ((c.args.index < walk.options.max_depth) × ((before : Streams) → Keeps before old → TakesWork old new c.args.index)) c.take_first.ensures
+    if_taken list.items c.take_first.result items ((c.args.index < walk.options.max_depth) × ((before : Streams) → Keeps before old → TakesWork old new c.args.index)) c.take_first.ensures.takes
     (λ first is. (
       shallow_held walk.options walk.start lists walk.first_open c.args.index list first (held items)
           (sound_of walk.options walk.start lists walk.first_open walk.some_open walk.in_range walk.few walk.sound) within at is,
       λ before keeps.
           let was : left_in streams list.items ≡ length (held list.items) = left_held streams list.items none in
-          let now_left : left_in streams items ≡ length (held items) = left_held streams items (held_closed list.items c.take_first.result items c.take_first.ensures) in
+          let now_left : left_in streams items ≡ length (held items) = left_held streams items (held_closed list.items c.take_first.result items c.take_first.ensures.takes) in
           let one : length (held list.items) ≡ suc (length (held items)) = ap length is in
           put_takes old new lists (set lists c.args.index (record list { items = items })) c.args.index items list (record { options = refl; order = refl; start = refl }) refl refl
-          (puts_set lists c.args.index list items within at) at before c.requires keeps (less_same streams streams refl) (omega arith),
+          (puts_set lists c.args.index list items within at) at before c.requires.index keeps (less_same streams streams refl) (omega arith),
     ))
 
 pub returns-clause-draws : goal.returns-clause-draws
@@ -110,15 +112,15 @@ returns-clause-draws g c =
     let lists = walk.lists.items in
     let list = c.index_mut-list.result.now in
     let items = c.take_first.new.self in
-    let within : c.args.index < length lists = omega (arith, c.requires) in
+    let within : c.args.index < length lists = omega (arith, c.requires.index) in
     let at = c.index_mut-list.ensures.value in
-    let none : stream_in list.items ≡ None = ap (λ (l : DirList). stream_in l.items) (sym (one_at lists c.args.index c.index.result.now list within c.index.ensures at)) ∙ sym c.in_default.ensures in
+    let none : stream_in list.items ≡ None = ap (λ (l : DirList). stream_in l.items) (sym (one_at lists c.args.index c.index.result.now list within c.index.ensures at)) ∙ sym c.in_default.ensures.told in
     let old = progress g.S.Sorter.order walk (g.D.Disk.streams c.args.disk.now) in
     let after_lists = set lists c.args.index (record list { items = items }) in
     let new : Progress = record old { stack = reverse after_lists } in
     let puts = puts_set lists c.args.index list items within at in
-    draws_held old new list items (reverse puts.outer) (was_top old new lists after_lists c.args.index items list refl refl puts at c.requires)
-    (is_top old new lists after_lists c.args.index items list refl refl puts at c.requires) c.take_first.result c.take_first.ensures none refl
+    draws_held old new list items (reverse puts.outer) (was_top old new lists after_lists c.args.index items list refl refl puts at c.requires.index)
+    (is_top old new lists after_lists c.args.index items list refl refl puts at c.requires.index) c.take_first.result c.take_first.ensures.takes none refl
 
 pub returns-clause-kept : goal.returns-clause-kept
 returns-clause-kept g c =
@@ -126,7 +128,7 @@ returns-clause-kept g c =
     let lists = walk.lists.items in
     let list = c.index_mut-list.result.now in
     let items = c.take_first.new.self in
-    let within : c.args.index < length lists = omega (arith, c.requires) in
+    let within : c.args.index < length lists = omega (arith, c.requires.index) in
     let puts = puts_set lists c.args.index list items within c.index_mut-list.ensures.value in
     record {
       options = refl;
@@ -144,7 +146,7 @@ returns-clause-answered g c =
     let lists = walk.lists.items in
     let list = c.index_mut-list.result.now in
     let items = c.take_first.new.self in
-    let within : c.args.index < length lists = omega (arith, c.requires) in
+    let within : c.args.index < length lists = omega (arith, c.requires.index) in
     let at = c.index_mut-list.ensures.value in
     let old = progress g.S.Sorter.order walk (g.D.Disk.streams c.args.disk.now) in
     let after_lists = set lists c.args.index (record list { items = items }) in
@@ -154,17 +156,17 @@ returns-clause-answered g c =
     record {
       leads = leads_still g.D.Disk.answered c.args.disk.now;
       told = λ first told.
-          let taken = taken_told g.D.Disk.answered first c.args.disk.now list.items c.take_first.result items c.take_first.ensures
-          (top_told g.D.Disk.answered first c.args.disk.now list (reverse lists) (reverse puts.outer) (was_top old new lists after_lists c.args.index items list refl refl puts at c.requires) told) in (
+          let taken = taken_told g.D.Disk.answered first c.args.disk.now list.items c.take_first.result items c.take_first.ensures.takes
+          (top_told g.D.Disk.answered first c.args.disk.now list (reverse lists) (reverse puts.outer) (was_top old new lists after_lists c.args.index items list refl refl puts at c.requires.index) told) in (
             stack_put g.D.Disk.answered first c.args.disk.now lists after_lists c.args.index items puts told taken.0,
             item_held g.D.Disk.answered first c.args.disk.now c.take_first.result taken.1,
           );
       refused = λ first told.
-          let taken = taken_told g.D.Disk.answered first c.args.disk.now list.items c.take_first.result items c.take_first.ensures
-          (top_told g.D.Disk.answered first c.args.disk.now list (reverse lists) (reverse puts.outer) (was_top old new lists after_lists c.args.index items list refl refl puts at c.requires) told) in
+          let taken = taken_told g.D.Disk.answered first c.args.disk.now list.items c.take_first.result items c.take_first.ensures.takes
+          (top_told g.D.Disk.answered first c.args.disk.now list (reverse lists) (reverse puts.outer) (was_top old new lists after_lists c.args.index items list refl refl puts at c.requires.index) told) in
           drawn_at g.D.Disk.answered first c.args.disk.now c.take_first.result (reverse after_lists)
           (from_top (reverse after_lists) (record list { items = items }) (reverse puts.outer) c.args.index c.take_first.result
-          (is_top old new lists after_lists c.args.index items list refl refl puts at c.requires) (top_depth old new lists after_lists c.args.index items list refl refl puts at)
-          (held_item_at list.path (c.args.index + 1) list.items c.take_first.result items c.take_first.ensures (held_at walk.options walk.start lists walk.first_open c.args.index list sound within at)))
+          (is_top old new lists after_lists c.args.index items list refl refl puts at c.requires.index) (top_depth old new lists after_lists c.args.index items list refl refl puts at)
+          (held_item_at list.path (c.args.index + 1) list.items c.take_first.result items c.take_first.ensures.takes (held_at walk.options walk.start lists walk.first_open c.args.index list sound within at)))
           taken.1;
     }

@@ -4,19 +4,21 @@ use lib.ListN.{length-reverse}
 use Rattle.walkdir.specs.Error.{failures}
 use Rattle.walkdir.specs.Failures.{Costs, failures_among, failures_of}
 use Rattle.std.specs.Prelude.{Ok, Err, Option}
-use Rattle.walkdir.specs.Stack.{IsAt, left_in}
+use Rattle.walkdir.specs.Directory.{IsAt, left_in}
 use Rattle.walkdir.specs.StackProgress.{progress}
-use Rattle.walkdir.specs.Turns.{BreaksOff, Draws, DrawsEntry, left_of}
+use Rattle.walkdir.specs.Turns.Drawn.{BreaksOff, Draws, DrawsEntry, left_of}
 use Rattle.walkdir.specs.Walk.{Item}
-use Rattle.walkdir.specs.declared.list.DirList.{DirList}
-use Rattle.walkdir.specs.declared.list.Items.TheVariants.{Closed}
-use Rattle.walkdir.proofs.DrawsLemmas.{draws_broken_off, draws_next, draws_over, is_top, top_depth, was_top}
+use Rattle.walkdir.specs.declared.directory.DirList.{DirList}
+use Rattle.walkdir.specs.declared.directory.Items.TheVariants.{Closed}
+use Rattle.walkdir.proofs.DrawsLemmas.Child.{draws_broken_off, draws_next, draws_over}
+use Rattle.walkdir.proofs.DrawsLemmas.Puts.{is_top, top_depth, was_top}
 use Rattle.walkdir.proofs.InnermostLemmas.{from_top}
 use Rattle.walkdir.proofs.SkippedLemmas.{stream_open}
-use Rattle.walkdir.proofs.ListLemmas.{goes_closed, left_stream, put_takes, takes_work}
+use Rattle.walkdir.proofs.DirectoryLemmas.{goes_closed, left_stream, put_takes, takes_work}
 use Rattle.walkdir.proofs.ReadLemmas.{draws_drawn, entry_left}
 use Rattle.walkdir.proofs.SoundLemmas.{sound_of}
-use Rattle.walkdir.proofs.StackLemmas.{cut_at, cut_length, one_at, reversed_at, shallow_stream, top_cut}
+use Rattle.walkdir.proofs.StackLemmas.At.{cut_at, cut_length, one_at, shallow_stream, top_cut}
+use Rattle.walkdir.proofs.StackLemmas.{reversed_at}
 use Rattle.walkdir.proofs.StepLemmas.{goes_drawn, keeps_drawn}
 use Rattle.walkdir.proofs.WorkLemmas.{LeftLess, less_closed, less_drawn}
 use Rattle.walkdir.specs.AnsweredTurns.{IsItemHeld}

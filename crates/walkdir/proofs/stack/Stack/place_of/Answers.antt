@@ -1,9 +1,11 @@
 use Rattle.std.proofs.Common.{◌≡◌, ◌||◌, true, subst, sym, arith, Option, Ok, Err}
-use Rattle.walkdir.specs.Turns.{FindsPlace}
-use Rattle.walkdir.specs.declared.list.Place.{Place}
-use Rattle.walkdir.proofs.HandlesLemmas.{err_is, place_refused}
+use Rattle.walkdir.specs.Turns.Taken.{FindsPlace}
+use Rattle.walkdir.specs.declared.directory.Place.{Place}
+use Rattle.walkdir.proofs.HandlesLemmas.{err_is}
+use Rattle.walkdir.proofs.HandlesLemmas.Entered.{place_refused}
 use Rattle.walkdir.specs.AnsweredTurns.{IsWhereTold}
-use Rattle.walkdir.proofs.AnsweredLemmas.{leads_still, look_known, look_leads, look_refused}
+use Rattle.walkdir.proofs.AnsweredLemmas.{leads_still}
+use Rattle.walkdir.proofs.AnsweredLemmas.Calls.{look_known, look_leads, look_refused}
 use Rattle.walkdir.proofs.stack.Stack.place_of.Goals as goal
 use Rattle.walkdir.proofs.stack.Stack.place_of.Goals.{else-not-self-via-then-not-self+else-not-self-2, else-not-self-via-else-not-self}
 
@@ -17,7 +19,7 @@ returns-in_err-meta-clause-place g c =
       | else-not-self-via-else-not-self w ↦ grind arith
     ] in
     subst (λ r. FindsPlace state options found r) (sym (err_is c.from_residual.result c.in_err-meta.field-0.0 c.from_residual.ensures.1))
-    (place_refused state options found c.depth.result c.path.result.now c.in_err-meta.field-0.0 wanted c.depth.ensures c.path.ensures c.in_err-meta.ensures.told)
+    (place_refused state options found c.depth.result c.path.result.now c.in_err-meta.field-0.0 wanted c.depth.ensures.told c.path.ensures.told c.in_err-meta.ensures.told)
 
 pub returns-in-Some-clause-answered : goal.returns-in-Some-clause-answered
 returns-in-Some-clause-answered g c = record {
@@ -46,5 +48,5 @@ returns-clause-answered g c =
       leads = look_leads g.D.Disk.answered c.depth.result c.path.result.now true c.args.disk.now c.look.new.disk (Ok c.in_ok-meta.meta) by;
       told = λ first earlier known.
           look_known g.D.Disk.answered first c.depth.result c.path.result.now c.args.found.now.entry.path c.args.disk.now c.look.new.disk c.in_ok-meta.meta c.place_in.result earlier by
-          c.path.ensures c.place_in.ensures;
+          c.path.ensures.told c.place_in.ensures.told;
     }

@@ -7,20 +7,23 @@ use Rattle.walkdir.specs.Entry.{is_dir}
 use Rattle.walkdir.specs.Failures.{Costs, failures_left}
 use Rattle.walkdir.specs.Progress.{Progress}
 use Rattle.walkdir.specs.Walk.{Ancestor}
-use Rattle.walkdir.specs.Stack.{FitsAt, ancestors, held, IsSound, stream_in, without_stream}
+use Rattle.walkdir.specs.Sound.{FitsAt, IsSound}
+use Rattle.walkdir.specs.Stack.{ancestors}
+use Rattle.walkdir.specs.Directory.{held, stream_in, without_stream}
 use Rattle.walkdir.specs.StackProgress.{progress}
 use Rattle.walkdir.specs.declared.builder.Options.{Options}
-use Rattle.walkdir.specs.declared.list.DirList.{DirList}
-use Rattle.walkdir.specs.Turns.{HasContents}
+use Rattle.walkdir.specs.declared.directory.DirList.{DirList}
+use Rattle.walkdir.specs.Turns.Drawn.{HasContents}
 use Rattle.walkdir.specs.Within.{LiesIn}
 use Rattle.walkdir.proofs.ContainsLemmas.{pushed_stands}
 use Rattle.walkdir.proofs.EnteredLemmas.{pushed_holds}
-use Rattle.walkdir.proofs.FailuresLemmas.{costs_zero}
+use Rattle.walkdir.proofs.FailuresLaws.{costs_zero}
 use Rattle.walkdir.proofs.InnermostLemmas.{head_pushed}
 use Rattle.walkdir.proofs.SoundLemmas.{is_sound_of, sound_of}
-use Rattle.walkdir.proofs.StackLemmas.{own_within, reversed_last, sound_pushed}
+use Rattle.walkdir.proofs.StackLemmas.{own_within, reversed_last}
+use Rattle.walkdir.proofs.StackLemmas.Sound.{sound_pushed}
 use Rattle.walkdir.proofs.WithinLemmas.{lies_alike, own_lies}
-use Rattle.walkdir.proofs.StepLemmas.{goes_back, goes_failed, goes_in, goes_pushed, peak_without, reopened}
+use Rattle.walkdir.proofs.StepLemmas.Pushed.{goes_back, goes_failed, goes_in, goes_pushed, peak_without, reopened}
 use Rattle.walkdir.proofs.AnsweredLemmas.{are_since, known_later, leads_then, stack_as, stack_later, stack_push}
 use Rattle.walkdir.proofs.stack.Stack.push.Goals as goal
 

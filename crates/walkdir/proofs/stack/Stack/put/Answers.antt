@@ -1,6 +1,7 @@
 use Rattle.std.proofs.Common.{◌+◌, ◌≤◌, length-set, refl, set, subst, sym}
 use Rattle.walkdir.proofs.SoundLemmas.{is_sound_of, sound_of}
-use Rattle.walkdir.proofs.StackLemmas.{puts_above, puts_set, sound_put}
+use Rattle.walkdir.proofs.StackLemmas.At.{puts_above, puts_set}
+use Rattle.walkdir.proofs.StackLemmas.Sound.{sound_put}
 use Rattle.walkdir.proofs.stack.Stack.put.Goals as goal
 
 pub invariant_of-self-clause-sound : goal.invariant_of-self-clause-sound

@@ -1,23 +1,23 @@
 use Rattle.std.proofs.Common.{◌≡◌, ◌+◌, ◌≤◌, [], None, ap, refl, length, reverse, subst, sym, ◌∙◌, arith}
 use lib.ListN.{length-reverse}
 use Rattle.std.specs.Prelude.{Err, IfSome, Ok, Some, true}
-use Rattle.std.specs.Option.{option_map}
 use Rattle.walkdir.specs.Progress.{GivesDirectory, GivesEntered, GivesNext, CausedWithin, Progress, is_innermost}
 use Rattle.walkdir.specs.Innermost.{IsAfter, IsFromHead}
 use Rattle.walkdir.specs.Stack.{ancestors, work_in}
 use Rattle.walkdir.specs.EnteredTurns.{HandlesAbove, HandlesTelling}
 use Rattle.walkdir.specs.StackProgress.{progress}
-use Rattle.walkdir.specs.Turns.{DrawsChild, EndsWell, HandlesEntry, fresh, handed, item_of}
+use Rattle.walkdir.specs.Turns.Stands.{DrawsChild, HandlesEntry}
+use Rattle.walkdir.specs.Turns.{EndsWell, fresh, handed, item_of}
 use Rattle.walkdir.specs.declared.builder.Options.{Options}
 use Rattle.walkdir.proofs.AboveLemmas.{turn_above_begun, turn_above_handled, turn_above_left, turn_above_same}
-use Rattle.walkdir.proofs.CausesLemmas.{caused_given, caused_by_call, caused_turn}
+use Rattle.walkdir.proofs.CausesLemmas.{caused_given, caused_by_call}
 use Rattle.walkdir.proofs.EnteredLemmas.{gives_error, turn_tells_begun, turn_tells_handled, turn_tells_left}
-use Rattle.walkdir.proofs.InnermostLemmas.{after_head_error, after_left, after_turn, from_call, from_depth, from_open, from_parent, from_some}
-use Rattle.walkdir.proofs.ProgressLemmas.{begun_less, begun_with, ends_less, handled_less, item_turn, left_less, not_innermost, taken_less}
+use Rattle.walkdir.proofs.InnermostLemmas.{after_head_error, after_left, from_call, from_depth, from_open, from_parent, from_some}
+use Rattle.walkdir.proofs.ProgressLemmas.{begun_less, begun_with, ends_less, handled_less, left_less, not_innermost, taken_less}
 use Rattle.walkdir.proofs.SoundLemmas.{is_sound_begun, nothing_before}
-use Rattle.walkdir.proofs.TurnsLemmas.{Runs, turn_begins, turn_fails, turn_handles, turn_leaves}
+use Rattle.walkdir.proofs.TurnsLemmas.Turn.{Runs, turns_of, runs_kept, runs_on, turn_begins, turn_fails, turn_handles, turn_leaves}
 use Rattle.walkdir.specs.Answered.{TellsOn}
-use Rattle.walkdir.proofs.AnsweredLemmas.{tells_given, tells_still, tells_then, tells_turn}
+use Rattle.walkdir.proofs.AnsweredLemmas.Steps.{tells_given, tells_still, tells_then, tells_turn}
 use Rattle.walkdir.proofs.stack.Stack.turn.Goals as goal
 
 pub invariant_of-self-clause-sound : goal.invariant_of-self-clause-sound
@@ -49,7 +49,7 @@ pub returns-in-Some-Err-clause-turns : goal.returns-in-Some-Err-clause-turns
 returns-in-Some-Err-clause-turns g c =
     let old = progress g.S.Sorter.order c.args.self.now (g.D.Disk.streams c.args.disk.now) in
     let new = progress g.S.Sorter.order c.next_child.new.self (g.D.Disk.streams c.next_child.new.disk) in
-    let begun = begun_with old c.requires in
+    let begun = begun_with old c.requires.own in
     let first : c.args.self.now.start ≡ None = sym c.take.ensures.value ∙ c.in_default.is in
     let from = subst (λ i. IsFromHead new.stack i) c.in-Some-Err.field-0-is c.in-Some-Err.ensures.from in
     record {
@@ -67,43 +67,34 @@ returns-in-Some-Ok-clause-turns g c =
     let old = progress g.S.Sorter.order c.args.self.now (g.D.Disk.streams c.args.disk.now) in
     let mid = progress g.S.Sorter.order c.next_child.new.self (g.D.Disk.streams c.next_child.new.disk) in
     let new = progress g.S.Sorter.order c.handle.new.self (g.D.Disk.streams c.handle.new.disk) in
-    let begun = begun_with old c.requires in
-    let first : c.args.self.now.start ≡ None = sym c.take.ensures.value ∙ c.in_default.is in
+    let begun = begun_with old c.requires.own in
     let there : c.next_child.new.self.start ≡ None = c.in-Some-Ok.ensures.kept.start ∙ c.take.ensures.after in
     let deep : length c.next_child.new.self.lists.items ≡ c.in-Some-checked_sub.index + 1 = omega (arith, c.in-Some-Ok.ensures.kept.count) in
-    record {
-      options = c.handle.ensures.goes.options ∙ c.in-Some-Ok.ensures.goes.options;
-      keeps = λ before keeps. c.handle.ensures.goes.keeps before (c.in-Some-Ok.ensures.goes.keeps before keeps);
-      entered = λ no. c.handle.ensures.entered (c.in-Some-Ok.ensures.kept.entered ∙ no)
-          ∙ ap (is_innermost (reverse c.handle.new.self.lists.items)) (sym (ap item_of c.turn_of-in-Some-Ok.ensures ∙ item_turn c.handle.result));
-      ends = subst (λ t. EndsWell old t new) (sym c.turn_of-in-Some-Ok.ensures)
-          (ends_less old new c.handle.result
-          (handled_less old mid new c.in-Some-checked_sub.index (length c.next_child.new.self.lists.items) 0 0 first (c.handle.ensures.goes.start ∙ there) c.in-Some-Ok.ensures.kept.options
-          c.handle.ensures.goes.options c.in-Some-Ok.ensures.less.0 deep (c.in-Some-Ok.ensures.less.1 begun.0 begun.1)
-          (c.handle.ensures.goes.work begun.0 (c.in-Some-Ok.ensures.goes.keeps begun.0 begun.1))));
-      causes = subst (λ t. CausedWithin new (item_of t)) (sym c.turn_of-in-Some-Ok.ensures) (caused_turn new c.handle.result c.handle.ensures.causes);
-      innermost = subst (λ t. IsAfter new.options (item_of t) new.stack) (sym c.turn_of-in-Some-Ok.ensures) (after_turn new.options c.handle.result new.stack c.handle.ensures.innermost);
-      skips = λ path depth was. c.in-Some-Ok.ensures.goes.skips path depth (c.handle.ensures.goes.skips path depth was);
-    }
+    turns_of old new c.turn_of-in-Some-Ok.result c.handle.result c.turn_of-in-Some-Ok.ensures.turn (c.handle.ensures.goes.options ∙ c.in-Some-Ok.ensures.goes.options)
+    (λ before keeps. c.handle.ensures.goes.keeps before (c.in-Some-Ok.ensures.goes.keeps before keeps)) (λ no. c.handle.ensures.entered (c.in-Some-Ok.ensures.kept.entered ∙ no))
+    (handled_less old mid new c.in-Some-checked_sub.index (length c.next_child.new.self.lists.items) 0 0 (sym c.take.ensures.value ∙ c.in_default.is) (c.handle.ensures.goes.start ∙ there)
+    c.in-Some-Ok.ensures.kept.options c.handle.ensures.goes.options c.in-Some-Ok.ensures.less.0 deep (c.in-Some-Ok.ensures.less.1 begun.0 begun.1)
+    (c.handle.ensures.goes.work begun.0 (c.in-Some-Ok.ensures.goes.keeps begun.0 begun.1)))
+    c.handle.ensures.causes c.handle.ensures.innermost (λ path depth was. c.in-Some-Ok.ensures.goes.skips path depth (c.handle.ensures.goes.skips path depth was))
 
 pub returns-in-None-clause-turns : goal.returns-in-None-clause-turns
 returns-in-None-clause-turns g c =
     let old = progress g.S.Sorter.order c.args.self.now (g.D.Disk.streams c.args.disk.now) in
     let mid = progress g.S.Sorter.order c.next_child.new.self (g.D.Disk.streams c.next_child.new.disk) in
     let new = progress g.S.Sorter.order c.leave.new.self (g.D.Disk.streams c.leave.new.disk) in
-    let begun = begun_with old c.requires in
+    let begun = begun_with old c.requires.own in
     let first : c.args.self.now.start ≡ None = sym c.take.ensures.value ∙ c.in_default.is in
     let there : c.next_child.new.self.start ≡ None = c.in-None.ensures.kept.start ∙ c.take.ensures.after in
     record {
       options = c.leave.ensures.goes.options ∙ c.in-None.ensures.goes.options;
       keeps = λ before keeps. c.leave.ensures.goes.keeps before (c.in-None.ensures.goes.keeps before keeps);
       entered = λ no. c.leave.ensures.entered ∙ c.in-None.ensures.kept.entered ∙ no
-          ∙ sym (ap (λ t. is_innermost (reverse c.leave.new.self.lists.items) (item_of t)) c.given.ensures ∙ not_innermost c.leave.new.self.lists.items c.leave.result c.leave.ensures.depth);
-      ends = subst (λ t. EndsWell old t new) (sym c.given.ensures)
+          ∙ sym (ap (λ t. is_innermost (reverse c.leave.new.self.lists.items) (item_of t)) c.given.ensures.turn ∙ not_innermost c.leave.new.self.lists.items c.leave.result c.leave.ensures.depth);
+      ends = subst (λ t. EndsWell old t new) (sym c.given.ensures.turn)
           (ends_less old new (Ok c.leave.result)
           (left_less old mid new first (c.leave.ensures.goes.start ∙ there) (c.leave.ensures.less begun.0 (c.in-None.ensures.goes.keeps begun.0 begun.1)) (c.in-None.ensures.goes.work begun.0 begun.1)));
-      causes = subst (λ t. CausedWithin new (item_of t)) (sym c.given.ensures) (caused_given new c.leave.result);
-      innermost = subst (λ t. IsAfter new.options (item_of t) new.stack) (sym c.given.ensures)
+      causes = subst (λ t. CausedWithin new (item_of t)) (sym c.given.ensures.turn) (caused_given new c.leave.result);
+      innermost = subst (λ t. IsAfter new.options (item_of t) new.stack) (sym c.given.ensures.turn)
           (after_left new.options c.leave.result new.stack (subst (λ n. IfSome c.leave.result (λ entry. entry.depth ≡ n)) (sym (length-reverse c.leave.new.self.lists.items)) c.leave.ensures.depth)
           c.leave.ensures.own (subst (λ (o : Options). IfSome c.leave.result (λ _. o.contents_first ≡ true)) (sym c.leave.ensures.goes.options) c.leave.ensures.first));
       skips = λ path depth was. c.in-None.ensures.goes.skips path depth (c.leave.ensures.goes.skips path depth was);
@@ -115,22 +106,14 @@ returns-in-Some-clause-turns g c =
     let old = progress g.S.Sorter.order walk (g.D.Disk.streams c.args.disk.now) in
     let mid : Progress = record old { start = c.take.new.self } in
     let new = progress g.S.Sorter.order c.start_at.new.self (g.D.Disk.streams c.start_at.new.disk) in
-    let begun = begun_with old c.requires in
+    let begun = begun_with old c.requires.own in
     let none : walk.lists.items ≡ [] =
     nothing_before walk.options walk.start c.in-Some.root walk.lists.items walk.first_open (sym c.in-Some.ensures.value) walk.some_open walk.in_range walk.few walk.sound in
-    record {
-      options = c.start_at.ensures.goes.options;
-      keeps = c.start_at.ensures.goes.keeps;
-      entered = λ no. c.start_at.ensures.entered no ∙ ap (is_innermost (reverse c.start_at.new.self.lists.items)) (sym (ap item_of c.turn_of.ensures ∙ item_turn c.start_at.result));
-      ends = subst (λ t. EndsWell old t new) (sym c.turn_of.ensures)
-          (ends_less old new c.start_at.result
-          (begun_less old mid new c.in-Some.root (sym c.in-Some.ensures.value) (c.start_at.ensures.goes.start ∙ c.take.ensures.after) refl (ap reverse none)
-          (subst (λ n. work_in new.options.max_depth new.streams new.stack ≤ work_in mid.options.max_depth mid.streams mid.stack + fresh mid.options.max_depth n) (ap length none)
-          (c.start_at.ensures.goes.work begun.0 begun.1))));
-      causes = subst (λ t. CausedWithin new (item_of t)) (sym c.turn_of.ensures) (caused_turn new c.start_at.result c.start_at.ensures.causes);
-      innermost = subst (λ t. IsAfter new.options (item_of t) new.stack) (sym c.turn_of.ensures) (after_turn new.options c.start_at.result new.stack c.start_at.ensures.innermost);
-      skips = c.start_at.ensures.goes.skips;
-    }
+    turns_of old new c.turn_of.result c.start_at.result c.turn_of.ensures.turn c.start_at.ensures.goes.options c.start_at.ensures.goes.keeps c.start_at.ensures.entered
+    (begun_less old mid new c.in-Some.root (sym c.in-Some.ensures.value) (c.start_at.ensures.goes.start ∙ c.take.ensures.after) refl (ap reverse none)
+    (subst (λ n. work_in new.options.max_depth new.streams new.stack ≤ work_in mid.options.max_depth mid.streams mid.stack + fresh mid.options.max_depth n) (ap length none)
+    (c.start_at.ensures.goes.work begun.0 begun.1)))
+    c.start_at.ensures.causes c.start_at.ensures.innermost c.start_at.ensures.goes.skips
 
 pub returns-in-Some-clause-gives : goal.returns-in-Some-clause-gives
 returns-in-Some-clause-gives g c =
@@ -140,7 +123,7 @@ returns-in-Some-clause-gives g c =
     let mid : Progress = record old { start = c.take.new.self } in
     let new = progress g.S.Sorter.order c.start_at.new.self (g.D.Disk.streams c.start_at.new.disk) in
     let goes = c.start_at.ensures.goes in
-    subst (λ t. GivesNext state old (item_of t) new) (sym c.turn_of.ensures)
+    subst (λ t. GivesNext state old (item_of t) new) (sym c.turn_of.ensures.turn)
     (turn_begins state old mid new c.in-Some.root c.start_at.result (sym c.in-Some.ensures.value) refl refl (λ before keeps. keeps) goes.options goes.order
     (goes.start ∙ c.take.ensures.after) c.start_at.ensures.begins)
 
@@ -151,14 +134,7 @@ returns-in-Some-Err-clause-gives g c =
     let new = progress g.S.Sorter.order c.next_child.new.self (g.D.Disk.streams c.next_child.new.disk) in
     let first : walk.start ≡ None = sym c.take.ensures.value ∙ c.in_default.is in
     let kept = c.in-Some-Err.ensures.kept in
-    let runs : Runs old new = record {
-      begun = first;
-      some = λ empty. (let none : length (reverse walk.lists.items) ≡ 0 = ap length empty in let same = length-reverse walk.lists.items in omega arith);
-      options = kept.options;
-      order = ap (option_map g.S.Sorter.order) kept.sorter;
-      start = kept.start ∙ c.take.ensures.after;
-      device = kept.device;
-    } in
+    let runs : Runs old new = runs_kept g.S.Sorter.order walk c.next_child.new.self _ _ first (omega arith) kept.options kept.sorter (kept.start ∙ c.take.ensures.after) kept.device in
     turn_fails (g.D.Disk.state c.args.disk.now) old new c.in-Some-Err.error runs (subst (λ i. DrawsChild old (Some i) new) c.in-Some-Err.field-0-is c.in-Some-Err.ensures.draws)
 
 pub returns-in-Some-Ok-clause-gives : goal.returns-in-Some-Ok-clause-gives
@@ -171,24 +147,9 @@ returns-in-Some-Ok-clause-gives g c =
     let first : walk.start ≡ None = sym c.take.ensures.value ∙ c.in_default.is in
     let kept = c.in-Some-Ok.ensures.kept in
     let goes = c.handle.ensures.goes in
-    let some : old.stack ≡ [] → ⊥ = λ empty. (let none : length (reverse walk.lists.items) ≡ 0 = ap length empty in let same = length-reverse walk.lists.items in omega arith) in
-    let there : Runs old mid = record {
-      begun = first;
-      some = some;
-      options = kept.options;
-      order = ap (option_map g.S.Sorter.order) kept.sorter;
-      start = kept.start ∙ c.take.ensures.after;
-      device = kept.device;
-    } in
-    let runs : Runs old new = record {
-      begun = first;
-      some = some;
-      options = goes.options ∙ there.options;
-      order = goes.order ∙ there.order;
-      start = goes.start ∙ there.start;
-      device = c.handle.ensures.device ∙ kept.device;
-    } in
-    subst (λ t. GivesNext state old (item_of t) new) (sym c.turn_of-in-Some-Ok.ensures)
+    let there : Runs old mid = runs_kept g.S.Sorter.order walk c.next_child.new.self _ _ first (omega arith) kept.options kept.sorter (kept.start ∙ c.take.ensures.after) kept.device in
+    let runs = runs_on old mid new there goes.options goes.order goes.start c.handle.ensures.device in
+    subst (λ t. GivesNext state old (item_of t) new) (sym c.turn_of-in-Some-Ok.ensures.turn)
     (turn_handles state old mid new c.in-Some-Ok.entry c.handle.result there runs c.in-Some-Ok.ensures.goes.keeps
     (subst (λ i. DrawsChild old (Some i) mid) c.in-Some-Ok.field-0-is c.in-Some-Ok.ensures.draws) (subst (λ s. HandlesEntry s mid c.in-Some-Ok.entry (handed c.handle.result) new) c.in-Some-Ok.ensures.state c.handle.ensures.walks))
 
@@ -202,15 +163,9 @@ returns-in-None-clause-gives g c =
     let first : walk.start ≡ None = sym c.take.ensures.value ∙ c.in_default.is in
     let kept = c.in-None.ensures.kept in
     let goes = c.leave.ensures.goes in
-    let runs : Runs old new = record {
-      begun = first;
-      some = λ empty. (let none : length (reverse walk.lists.items) ≡ 0 = ap length empty in let same = length-reverse walk.lists.items in omega arith);
-      options = goes.options ∙ kept.options;
-      order = goes.order ∙ ap (option_map g.S.Sorter.order) kept.sorter;
-      start = goes.start ∙ kept.start ∙ c.take.ensures.after;
-      device = c.leave.ensures.device ∙ kept.device;
-    } in
-    subst (λ t. GivesNext state old (item_of t) new) (sym c.given.ensures)
+    let there : Runs old mid = runs_kept g.S.Sorter.order walk c.next_child.new.self _ _ first (omega arith) kept.options kept.sorter (kept.start ∙ c.take.ensures.after) kept.device in
+    let runs = runs_on old mid new there goes.options goes.order goes.start c.leave.ensures.device in
+    subst (λ t. GivesNext state old (item_of t) new) (sym c.given.ensures.turn)
     (turn_leaves state old mid new c.leave.result runs kept.options c.in-None.ensures.goes.keeps c.in-None.ensures.draws c.leave.ensures.leaves)
 
 pub returns-in-Some-clause-directory : goal.returns-in-Some-clause-directory
@@ -220,7 +175,7 @@ returns-in-Some-clause-directory g c = λ unmarked.
     let old = progress g.S.Sorter.order walk (g.D.Disk.streams c.args.disk.now) in
     let mid : Progress = record old { start = c.take.new.self } in
     let new = progress g.S.Sorter.order c.start_at.new.self (g.D.Disk.streams c.start_at.new.disk) in
-    subst (λ t. GivesDirectory state old (item_of t) new) (sym c.turn_of.ensures)
+    subst (λ t. GivesDirectory state old (item_of t) new) (sym c.turn_of.ensures.turn)
     (turn_tells_begun state old mid new c.in-Some.root c.start_at.result (sym c.in-Some.ensures.value) refl refl (c.start_at.ensures.directory unmarked))
 
 pub returns-in-Some-Err-clause-directory : goal.returns-in-Some-Err-clause-directory
@@ -237,15 +192,8 @@ returns-in-Some-Ok-clause-directory g c = λ unmarked.
     let new = progress g.S.Sorter.order c.handle.new.self (g.D.Disk.streams c.handle.new.disk) in
     let first : walk.start ≡ None = sym c.take.ensures.value ∙ c.in_default.is in
     let kept = c.in-Some-Ok.ensures.kept in
-    let there : Runs old mid = record {
-      begun = first;
-      some = λ empty. (let none : length (reverse walk.lists.items) ≡ 0 = ap length empty in let same = length-reverse walk.lists.items in omega arith);
-      options = kept.options;
-      order = ap (option_map g.S.Sorter.order) kept.sorter;
-      start = kept.start ∙ c.take.ensures.after;
-      device = kept.device;
-    } in
-    subst (λ t. GivesDirectory state old (item_of t) new) (sym c.turn_of-in-Some-Ok.ensures)
+    let there : Runs old mid = runs_kept g.S.Sorter.order walk c.next_child.new.self _ _ first (omega arith) kept.options kept.sorter (kept.start ∙ c.take.ensures.after) kept.device in
+    subst (λ t. GivesDirectory state old (item_of t) new) (sym c.turn_of-in-Some-Ok.ensures.turn)
     (turn_tells_handled state old mid new c.handle.result there
     (subst (λ s. HandlesTelling s mid (handed c.handle.result) new) c.in-Some-Ok.ensures.state (c.handle.ensures.directory (kept.entered ∙ unmarked))))
 
@@ -255,7 +203,7 @@ returns-in-None-clause-directory g c = λ unmarked.
     let old = progress g.S.Sorter.order c.args.self.now (g.D.Disk.streams c.args.disk.now) in
     let new = progress g.S.Sorter.order c.leave.new.self (g.D.Disk.streams c.leave.new.disk) in
     let kept = c.in-None.ensures.kept in
-    subst (λ t. GivesDirectory state old (item_of t) new) (sym c.given.ensures)
+    subst (λ t. GivesDirectory state old (item_of t) new) (sym c.given.ensures.turn)
     (turn_tells_left state old new c.leave.result (c.leave.ensures.entered ∙ kept.entered ∙ unmarked)
     (subst (λ (o : Options). IfSome c.leave.result (λ _. o.contents_first ≡ true)) kept.options c.leave.ensures.first))
 
@@ -266,7 +214,7 @@ returns-in-Some-clause-above g c =
     let old = progress g.S.Sorter.order walk (g.D.Disk.streams c.args.disk.now) in
     let mid : Progress = record old { start = c.take.new.self } in
     let new = progress g.S.Sorter.order c.start_at.new.self (g.D.Disk.streams c.start_at.new.disk) in
-    subst (λ t. GivesEntered state old (item_of t) new) (sym c.turn_of.ensures)
+    subst (λ t. GivesEntered state old (item_of t) new) (sym c.turn_of.ensures.turn)
     (turn_above_begun state old mid new c.in-Some.root c.start_at.result (sym c.in-Some.ensures.value) refl refl c.start_at.ensures.above)
 
 pub returns-in-Some-Err-clause-above : goal.returns-in-Some-Err-clause-above
@@ -283,15 +231,8 @@ returns-in-Some-Ok-clause-above g c =
     let new = progress g.S.Sorter.order c.handle.new.self (g.D.Disk.streams c.handle.new.disk) in
     let first : walk.start ≡ None = sym c.take.ensures.value ∙ c.in_default.is in
     let kept = c.in-Some-Ok.ensures.kept in
-    let there : Runs old mid = record {
-      begun = first;
-      some = λ empty. (let none : length (reverse walk.lists.items) ≡ 0 = ap length empty in let same = length-reverse walk.lists.items in omega arith);
-      options = kept.options;
-      order = ap (option_map g.S.Sorter.order) kept.sorter;
-      start = kept.start ∙ c.take.ensures.after;
-      device = kept.device;
-    } in
-    subst (λ t. GivesEntered state old (item_of t) new) (sym c.turn_of-in-Some-Ok.ensures)
+    let there : Runs old mid = runs_kept g.S.Sorter.order walk c.next_child.new.self _ _ first (omega arith) kept.options kept.sorter (kept.start ∙ c.take.ensures.after) kept.device in
+    subst (λ t. GivesEntered state old (item_of t) new) (sym c.turn_of-in-Some-Ok.ensures.turn)
     (turn_above_handled state old mid new c.in-Some-Ok.entry c.handle.result there
     (from_some mid.stack (Ok c.in-Some-Ok.entry) (subst (λ i. IsFromHead mid.stack i) c.in-Some-Ok.field-0-is c.in-Some-Ok.ensures.from)) kept.above
     (subst (λ s. HandlesAbove s mid c.in-Some-Ok.entry (handed c.handle.result) new) c.in-Some-Ok.ensures.state c.handle.ensures.above))
@@ -312,7 +253,7 @@ pub returns-in-Some-clause-answered : goal.returns-in-Some-clause-answered
 returns-in-Some-clause-answered g c =
     let old = reverse c.args.self.now.lists.items in
     let new = reverse c.start_at.new.self.lists.items in
-    subst (λ t. TellsOn g.D.Disk.answered c.args.disk.now old (item_of t) c.start_at.new.disk new) (sym c.turn_of.ensures)
+    subst (λ t. TellsOn g.D.Disk.answered c.args.disk.now old (item_of t) c.start_at.new.disk new) (sym c.turn_of.ensures.turn)
     (tells_turn g.D.Disk.answered c.args.disk.now c.start_at.new.disk old new c.start_at.result c.start_at.ensures.answered)
 
 pub returns-in-Some-Err-clause-answered : goal.returns-in-Some-Err-clause-answered
@@ -325,7 +266,7 @@ returns-in-Some-Ok-clause-answered g c =
     let old = reverse c.args.self.now.lists.items in
     let mid = reverse c.next_child.new.self.lists.items in
     let new = reverse c.handle.new.self.lists.items in
-    subst (λ t. TellsOn g.D.Disk.answered c.args.disk.now old (item_of t) c.handle.new.disk new) (sym c.turn_of-in-Some-Ok.ensures)
+    subst (λ t. TellsOn g.D.Disk.answered c.args.disk.now old (item_of t) c.handle.new.disk new) (sym c.turn_of-in-Some-Ok.ensures.turn)
     (tells_turn g.D.Disk.answered c.args.disk.now c.handle.new.disk old new c.handle.result
     (tells_then g.D.Disk.answered c.args.disk.now c.next_child.new.disk c.handle.new.disk old mid new _ (handed c.handle.result) c.in-Some-Ok.ensures.answered c.handle.ensures.answered))
 
@@ -334,6 +275,6 @@ returns-in-None-clause-answered g c =
     let old = reverse c.args.self.now.lists.items in
     let mid = reverse c.next_child.new.self.lists.items in
     let new = reverse c.leave.new.self.lists.items in
-    subst (λ t. TellsOn g.D.Disk.answered c.args.disk.now old (item_of t) c.leave.new.disk new) (sym c.given.ensures)
+    subst (λ t. TellsOn g.D.Disk.answered c.args.disk.now old (item_of t) c.leave.new.disk new) (sym c.given.ensures.turn)
     (tells_given g.D.Disk.answered c.args.disk.now c.leave.new.disk old new c.leave.result
     (tells_then g.D.Disk.answered c.args.disk.now c.next_child.new.disk c.leave.new.disk old mid new None None c.in-None.ensures.answered c.leave.ensures.answered))

@@ -1,5 +1,5 @@
 use Rattle.std.proofs.Common.{◌≤◌, drop, length}
-use Rattle.walkdir.specs.Turns.{AllSkipped}
+use Rattle.walkdir.specs.Turns.Lists.{AllSkipped}
 use Rattle.walkdir.proofs.stack.Stack.unskipped.Given as goal
 
 -- those further in are skipped

@@ -1,11 +1,12 @@
 use Rattle.std.proofs.Common.{false, ap, refl, reverse}
 use Rattle.std.specs.Option.{option_map}
-use Rattle.walkdir.specs.Progress.{Progress, Skips}
+use Rattle.walkdir.specs.Progress.{Progress}
+use Rattle.walkdir.specs.Skips.{Skips}
 use Rattle.walkdir.specs.StackProgress.{progress}
 use Rattle.walkdir.proofs.ProgressLemmas.{still_has_streams}
 use Rattle.walkdir.proofs.SkipLemmas.{skips_none, skips_one}
-use Rattle.walkdir.specs.declared.list.Items.TheVariants.{Skipped}
-use Rattle.walkdir.proofs.AnsweredLemmas.{tells_put, tells_still}
+use Rattle.walkdir.specs.declared.directory.Items.TheVariants.{Skipped}
+use Rattle.walkdir.proofs.AnsweredLemmas.Steps.{tells_put, tells_still}
 use Rattle.walkdir.proofs.stack.StackSteps.skip.Goals as goal
 
 pub returns-in-Some-clause-skips : goal.returns-in-Some-clause-skips
@@ -14,7 +15,7 @@ returns-in-Some-clause-skips g c =
     let new = progress g.S.Sorter.order c.put.new.self (g.D.Disk.streams c.close.new.disk) in
     let kept = c.put.ensures.kept in
     skips_one old new c.args.self.now.lists.items c.put.new.self.lists.items c.in-Some.index c.index.result.now
-    (record { options = kept.options; order = ap (option_map g.S.Sorter.order) kept.sorter; start = kept.start; device = kept.device; entered = kept.entered }) refl refl c.in-Some.ensures
+    (record { options = kept.options; order = ap (option_map g.S.Sorter.order) kept.sorter; start = kept.start; device = kept.device; entered = kept.entered }) refl refl c.in-Some.ensures.found
     c.put.ensures.lists c.index.ensures c.close.ensures.streams
 
 pub returns-in-Some-clause-own : goal.returns-in-Some-clause-own
@@ -28,7 +29,7 @@ pub returns-in_default-clause-skips : goal.returns-in_default-clause-skips
 returns-in_default-clause-skips g c =
     let old = progress g.S.Sorter.order c.args.self.now (g.D.Disk.streams c.args.disk.now) in
     let new : Progress = record old { entered = false } in
-    skips_none old new c.args.self.now.lists.items (record { options = refl; order = refl; start = refl; device = refl; entered = refl }) refl refl refl c.in_default.ensures
+    skips_none old new c.args.self.now.lists.items (record { options = refl; order = refl; start = refl; device = refl; entered = refl }) refl refl refl c.in_default.ensures.found
 
 pub returns-in_default-clause-own : goal.returns-in_default-clause-own
 returns-in_default-clause-own g c own =

@@ -7,10 +7,11 @@ use Rattle.walkdir.specs.Turns.{Turns}
 use Rattle.walkdir.specs.declared.stack.Turn.TheVariants as turns
 use Rattle.walkdir.proofs.EnteredLemmas.{directory_then, gives_error, gives_nothing_entered}
 use Rattle.walkdir.proofs.ProgressLemmas.{still_has_streams}
-use Rattle.walkdir.proofs.TurnsLemmas.{ended_keeps, entered_then, fails_over, fails_same, fails_then, passes_none, passes_on, steps_ended, steps_given, steps_lost}
+use Rattle.walkdir.proofs.TurnsLemmas.Passes.{ended_keeps, entered_then, passes_none, passes_on, steps_ended, steps_given, steps_lost}
+use Rattle.walkdir.proofs.FailuresLaws.{fails_over, fails_same, fails_next}
 use Rattle.walkdir.specs.Answered.{TellsOn}
 use Rattle.walkdir.specs.Walk.{Item}
-use Rattle.walkdir.proofs.AnsweredLemmas.{tells_over, tells_still, tells_then}
+use Rattle.walkdir.proofs.AnsweredLemmas.Steps.{tells_over, tells_still, tells_then}
 use Rattle.walkdir.proofs.stack.StackSteps.step.Goals as goal
 use Rattle.walkdir.proofs.stack.StackSteps.step.Goals.{then-is_out_of_memory, else-is_out_of_memory}
 
@@ -26,8 +27,10 @@ loop-entry-init g c =
 
 pub turn-requires : goal.turn-requires
 turn-requires g c =
-    still_has_streams (progress g.S.Sorter.order c.args.self.now (g.D.Disk.streams c.args.disk.now)) (progress g.S.Sorter.order c.loop-entry.self (g.D.Disk.streams c.loop-entry.disk)) c.requires
-    c.loop-entry.invariant.passes.keeps
+    record {
+      own = still_has_streams (progress g.S.Sorter.order c.args.self.now (g.D.Disk.streams c.args.disk.now)) (progress g.S.Sorter.order c.loop-entry.self (g.D.Disk.streams c.loop-entry.disk)) c.requires.own
+          c.loop-entry.invariant.passes.keeps;
+    }
 
 pub loop-entry-preserved : goal.loop-entry-preserved
 loop-entry-preserved g c =
@@ -39,7 +42,7 @@ loop-entry-preserved g c =
     record {
       passes = passes_on state old mid new so_far.passes (subst (λ s. GivesNext s mid None new) so_far.state c.in-Passed.ensures.gives) c.in-Passed.ensures.turns
           (subst (λ s. GivesEntered s mid None new) so_far.state c.in-Passed.ensures.above);
-      faults = fails_then old mid new (g.D.Disk.faults c.args.disk.now) (g.D.Disk.faults c.loop-entry.disk) (g.D.Disk.faults c.turn.new.disk) 0 so_far.faults c.in-Passed.ensures.faults;
+      faults = fails_next old mid new (g.D.Disk.faults c.args.disk.now) (g.D.Disk.faults c.loop-entry.disk) (g.D.Disk.faults c.turn.new.disk) 0 so_far.faults c.in-Passed.ensures.faults;
       state = c.in-Passed.ensures.state ∙ so_far.state;
       answered = tells_then g.D.Disk.answered c.args.disk.now c.loop-entry.disk c.turn.new.disk (reverse c.args.self.now.lists.items) (reverse c.loop-entry.self.lists.items)
           (reverse c.turn.new.self.lists.items) None None so_far.answered c.in-Passed.ensures.answered;
@@ -52,7 +55,7 @@ pub returns-in-Ended-clause-own : goal.returns-in-Ended-clause-own
 returns-in-Ended-clause-own g c =
     let old = progress g.S.Sorter.order c.args.self.now (g.D.Disk.streams c.args.disk.now) in
     let new = progress g.S.Sorter.order c.turn.new.self (g.D.Disk.streams c.turn.new.disk) in
-    still_has_streams old new c.requires (λ before keeps. c.in-Ended.ensures.turns.keeps before (c.loop-entry.invariant.passes.keeps before keeps))
+    still_has_streams old new c.requires.own (λ before keeps. c.in-Ended.ensures.turns.keeps before (c.loop-entry.invariant.passes.keeps before keeps))
 
 pub returns-in-Ended-clause-steps : goal.returns-in-Ended-clause-steps
 returns-in-Ended-clause-steps g c =
@@ -70,13 +73,13 @@ returns-in-Ended-clause-faults g c =
     let old = progress g.S.Sorter.order c.args.self.now (g.D.Disk.streams c.args.disk.now) in
     let mid = progress g.S.Sorter.order c.loop-entry.self (g.D.Disk.streams c.loop-entry.disk) in
     let new = progress g.S.Sorter.order c.turn.new.self (g.D.Disk.streams c.turn.new.disk) in
-    fails_then old mid new (g.D.Disk.faults c.args.disk.now) (g.D.Disk.faults c.loop-entry.disk) (g.D.Disk.faults c.turn.new.disk) 0 c.loop-entry.invariant.faults c.in-Ended.ensures.faults
+    fails_next old mid new (g.D.Disk.faults c.args.disk.now) (g.D.Disk.faults c.loop-entry.disk) (g.D.Disk.faults c.turn.new.disk) 0 c.loop-entry.invariant.faults c.in-Ended.ensures.faults
 
 pub returns-in-Item-Ok-clause-own : goal.returns-in-Item-Ok-clause-own
 returns-in-Item-Ok-clause-own g c =
     let old = progress g.S.Sorter.order c.args.self.now (g.D.Disk.streams c.args.disk.now) in
     let new = progress g.S.Sorter.order c.turn.new.self (g.D.Disk.streams c.turn.new.disk) in
-    still_has_streams old new c.requires (λ before keeps. c.in-Item-Ok.ensures.turns.keeps before (c.loop-entry.invariant.passes.keeps before keeps))
+    still_has_streams old new c.requires.own (λ before keeps. c.in-Item-Ok.ensures.turns.keeps before (c.loop-entry.invariant.passes.keeps before keeps))
 
 pub returns-in-Item-Ok-clause-steps : goal.returns-in-Item-Ok-clause-steps
 returns-in-Item-Ok-clause-steps g c =
@@ -101,7 +104,7 @@ returns-in-Item-Ok-clause-faults g c =
     let old = progress g.S.Sorter.order c.args.self.now (g.D.Disk.streams c.args.disk.now) in
     let mid = progress g.S.Sorter.order c.loop-entry.self (g.D.Disk.streams c.loop-entry.disk) in
     let new = progress g.S.Sorter.order c.turn.new.self (g.D.Disk.streams c.turn.new.disk) in
-    fails_then old mid new (g.D.Disk.faults c.args.disk.now) (g.D.Disk.faults c.loop-entry.disk) (g.D.Disk.faults c.turn.new.disk) 0 c.loop-entry.invariant.faults
+    fails_next old mid new (g.D.Disk.faults c.args.disk.now) (g.D.Disk.faults c.loop-entry.disk) (g.D.Disk.faults c.turn.new.disk) 0 c.loop-entry.invariant.faults
     (subst (λ i. FailsByFault mid (g.D.Disk.faults c.loop-entry.disk) (failures_given (Some i)) new (g.D.Disk.faults c.turn.new.disk)) c.in-Item-Ok.field-0-is c.in-Item-Ok.ensures.faults)
 
 pub returns-in-Item-Err-clause-own : goal.returns-in-Item-Err-clause-own
@@ -113,11 +116,11 @@ returns-in-Item-Err-clause-own g c =
           let streams = g.D.Disk.streams w.end.new.disk in
           let new = progress g.S.Sorter.order w.end.new.self streams in
           rw (w.self-is, w.disk-is)
-          (still_has_streams old new c.requires (λ before keeps. ended_keeps before there new (w.end.ensures.options streams) (w.end.ensures.over streams).0 (w.end.ensures.back before)
+          (still_has_streams old new c.requires.own (λ before keeps. ended_keeps before there new (w.end.ensures.options streams) (w.end.ensures.over streams).0 (w.end.ensures.back before)
           (c.in-Item-Err.ensures.turns.keeps before (c.loop-entry.invariant.passes.keeps before keeps))))
       | else-is_out_of_memory w ↦
           rw (w.self-is, w.disk-is)
-          (still_has_streams old there c.requires (λ before keeps. c.in-Item-Err.ensures.turns.keeps before (c.loop-entry.invariant.passes.keeps before keeps)))
+          (still_has_streams old there c.requires.own (λ before keeps. c.in-Item-Err.ensures.turns.keeps before (c.loop-entry.invariant.passes.keeps before keeps)))
     ]
 
 pub returns-in-Item-Err-clause-steps : goal.returns-in-Item-Err-clause-steps
@@ -136,11 +139,11 @@ returns-in-Item-Err-clause-steps g c =
           let new = progress g.S.Sorter.order w.end.new.self streams in
           let over = w.end.ensures.over streams in
           rw (w.self-is, w.disk-is)
-          (steps_lost state old mid there new error (sym c.is_out_of_memory.ensures ∙ w.if-is_out_of_memory.true) so_far.passes turn over.0 over.1 (w.end.ensures.options streams)
+          (steps_lost state old mid there new error (sym c.is_out_of_memory.ensures.told ∙ w.if-is_out_of_memory.true) so_far.passes turn over.0 over.1 (w.end.ensures.options streams)
           (w.end.ensures.entered streams) w.end.ensures.back (gives_error state old new error))
       | else-is_out_of_memory w ↦
           rw (w.self-is, w.disk-is)
-          (steps_given state old mid there (Err error) (sym c.is_out_of_memory.ensures ∙ w.if-is_out_of_memory.false) so_far.passes
+          (steps_given state old mid there (Err error) (sym c.is_out_of_memory.ensures.told ∙ w.if-is_out_of_memory.false) so_far.passes
           (subst (λ s. GivesNext s mid (Some (Err error)) there) so_far.state (subst (λ i. GivesNext (g.D.Disk.state c.loop-entry.disk) mid (Some i) there) is c.in-Item-Err.ensures.gives)) turn
           (gives_error state old there error)
           (entered_then state old mid there (Some (Err error)) so_far.passes
@@ -156,7 +159,7 @@ returns-in-Item-Err-clause-faults g c =
     let was = g.D.Disk.faults c.args.disk.now in
     let now = g.D.Disk.faults c.turn.new.disk in
     let fails : FailsByFault old was given there now =
-    fails_then old mid there was (g.D.Disk.faults c.loop-entry.disk) now given c.loop-entry.invariant.faults
+    fails_next old mid there was (g.D.Disk.faults c.loop-entry.disk) now given c.loop-entry.invariant.faults
     (subst (λ i. FailsByFault mid (g.D.Disk.faults c.loop-entry.disk) (failures_given (Some i)) there now) c.in-Item-Err.field-0-is c.in-Item-Err.ensures.faults) in
     elim c.if-is_out_of_memory.branch [
       | then-is_out_of_memory w ↦
@@ -192,7 +195,7 @@ returns-in-Item-Err-clause-answered g c =
       | then-is_out_of_memory w ↦
           rw (w.self-is, w.disk-is)
           (tells_over g.D.Disk.answered c.args.disk.now c.turn.new.disk w.end.new.disk old there (reverse w.end.new.self.lists.items) c.in-Item-Err.error
-          (sym c.is_out_of_memory.ensures ∙ w.if-is_out_of_memory.true) tells w.end.ensures.answered
+          (sym c.is_out_of_memory.ensures.told ∙ w.if-is_out_of_memory.true) tells w.end.ensures.answered
           (w.end.ensures.over (g.D.Disk.streams w.end.new.disk)).0)
       | else-is_out_of_memory w ↦ rw (w.self-is, w.disk-is) tells
     ]

@@ -2,7 +2,7 @@ use Rattle.std.proofs.Common.{◌≡◌, None, reverse}
 use Rattle.walkdir.specs.Answered.{TellsOn}
 use Rattle.walkdir.specs.Progress.{FailsByFault, work_left}
 use Rattle.walkdir.specs.StackProgress.{progress}
-use Rattle.walkdir.proofs.TurnsLemmas.{Passes}
+use Rattle.walkdir.proofs.TurnsLemmas.Passes.{Passes}
 use Rattle.walkdir.proofs.stack.StackSteps.step.Given as goal
 
 -- the turns so far gave nothing

@@ -12,8 +12,10 @@ pub returns : goal.returns
 returns c =
     let a = c.args.a.now in
     let b = c.args.b.now in
-    cmp_from_yields_List (λ x y. y ≡ x) _ nat_cmp _ c.cmp.ensures.ran
-    (YieldsList-from_chain (YieldsList-from_slice (file_name_of a) cc) (YieldsList-from_slice (slash_behind a) cc) c.chain-own.ensures.first_done c.chain-own.ensures.second_done)
-    (λ it e.
-    YieldsList-from_chain (YieldsList-from_slice (file_name_of b) cc) (YieldsList-from_slice (slash_behind b) cc) (ap chain_first_done e ∙ c.chain-other.ensures.first_done) (ap chain_second_done e ∙ c.chain-other.ensures.second_done))
-    (λ x y. refl)
+    record {
+      compared = cmp_from_yields_List (λ x y. y ≡ x) _ nat_cmp _ c.cmp.ensures.ran
+          (YieldsList-from_chain (YieldsList-from_slice (file_name_of a) cc) (YieldsList-from_slice (slash_behind a) cc) c.chain-own.ensures.first_done c.chain-own.ensures.second_done)
+          (λ it e.
+          YieldsList-from_chain (YieldsList-from_slice (file_name_of b) cc) (YieldsList-from_slice (slash_behind b) cc) (ap chain_first_done e ∙ c.chain-other.ensures.first_done) (ap chain_second_done e ∙ c.chain-other.ensures.second_done))
+          (λ x y. refl);
+    }

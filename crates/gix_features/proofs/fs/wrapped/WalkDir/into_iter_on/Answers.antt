@@ -4,9 +4,9 @@ use Rattle.walkdir.proofs.WholeWalks.{begun_has}
 use Rattle.gix_features.proofs.fs.wrapped.WalkDir.into_iter_on.Goals as goal
 
 pub returns-clause-begun : goal.returns-clause-begun
-returns-clause-begun g c = c.into_stack.ensures (g.D.Disk.streams c.args.disk.now)
+returns-clause-begun g c = c.into_stack.ensures.begun (g.D.Disk.streams c.args.disk.now)
 
 pub returns-clause-own : goal.returns-clause-own
 returns-clause-own g c =
     let streams = g.D.Disk.streams c.args.disk.now in
-    subst (λ at. has_its_streams at ≡ true) (sym (c.into_stack.ensures streams)) (begun_has g.S.Sorter.order _ streams)
+    subst (λ at. has_its_streams at ≡ true) (sym (c.into_stack.ensures.begun streams)) (begun_has g.S.Sorter.order _ streams)

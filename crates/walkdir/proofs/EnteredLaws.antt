@@ -5,10 +5,12 @@ use Rattle.odb_tree.specs.Tree.Follow.{looked}
 use Rattle.odb_tree.specs.declared.meta.Kind.{Kind}
 use Rattle.odb_tree.specs.declared.meta.Kind.TheVariants.{File, Dir, Link}
 use Rattle.walkdir.specs.Entry.{is_dir, is_dir_kind, is_link, is_link_kind}
-use Rattle.walkdir.specs.Walk.{Ancestor, Item, WalkOf, Walking, entering, enters_at, taken_for}
+use Rattle.walkdir.specs.Walk.{Ancestor, Item, WalkOf, Walking}
+use Rattle.walkdir.specs.Walk.Entries.{entering, enters_at, taken_for}
 use Rattle.walkdir.specs.declared.dent.DirEntry.{DirEntry}
-use Rattle.walkdir.specs.declared.list.Entering.TheVariants.{Enters}
-use Rattle.walkdir.proofs.HandlesLemmas.{dir_is, not_followed}
+use Rattle.walkdir.specs.declared.directory.Entering.TheVariants.{Enters}
+use Rattle.walkdir.proofs.HandlesLemmas.Entered.{dir_is}
+use Rattle.walkdir.proofs.HandlesLemmas.Followed.{not_followed}
 use Rattle.walkdir.proofs.WalkCases.{Within, as_unlooked}
 
 neither : (a b : Bool) → (a || b) ≡ false → a ≡ false

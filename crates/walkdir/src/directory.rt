@@ -2,8 +2,8 @@
 ghost use Rattle.std.specs.Prelude.{◌≡◌, None};
 ghost use Rattle.odb_disk.specs.CallsMade.{Leads};
 ghost use Rattle.walkdir.specs.Error.{no_memory};
-ghost use Rattle.walkdir.specs.Stack.{stream_in, is_skipped, without_stream, TakesHeld};
-ghost use Rattle.walkdir.specs.Walk.{same_place};
+ghost use Rattle.walkdir.specs.Directory.{stream_in, is_skipped, without_stream, TakesHeld};
+ghost use Rattle.walkdir.specs.Walk.Entries.{same_place};
 
 use crate::{DirEntry, Error, Result};
 use odb_disk::{DirId, Disk, PathText};
@@ -49,8 +49,8 @@ pub struct DirList {
 impl Items {
     /// Takes the first of what was read before.
     pub(crate) fn take_first(&mut self) -> Option<Result<DirEntry>>
-        requires { stream_in self.old ≡ None }
-        ensures { TakesHeld self.old result self.new }
+        requires closed { stream_in self.old ≡ None }
+        ensures takes { TakesHeld self.old result self.new }
     {
         match self {
             Items::Opened(_) | Items::Skipped => None,
@@ -62,7 +62,7 @@ impl Items {
 impl DirList {
     /// The open stream of the directory, if it has one.
     pub(crate) fn stream(&self) -> Option<DirId>
-        ensures { result ≡ stream_in self.now.items }
+        ensures told { result ≡ stream_in self.now.items }
     {
         match &self.items {
             Items::Opened(dir) => Some(*dir),
@@ -72,7 +72,7 @@ impl DirList {
 
     /// Whether the directory stands at this place.
     pub(crate) fn stands_at(&self, place: Place) -> bool
-        ensures { result ≡ same_place place self.now.place }
+        ensures told { result ≡ same_place place self.now.place }
     {
         match self.place {
             Some(own) => place.dev == own.dev && place.ino == own.ino,
@@ -82,7 +82,7 @@ impl DirList {
 
     /// Whether the rest was skipped.
     pub(crate) fn is_skipped(&self) -> bool
-        ensures { result ≡ is_skipped self.now.items }
+        ensures told { result ≡ is_skipped self.now.items }
     {
         matches!(&self.items, Items::Skipped)
     }

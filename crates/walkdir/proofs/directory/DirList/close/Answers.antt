@@ -1,5 +1,5 @@
 use Rattle.walkdir.proofs.AnsweredLemmas.{leads_by, leads_still}
-use Rattle.walkdir.proofs.list.DirList.close.Goals as goal
+use Rattle.walkdir.proofs.directory.DirList.close.Goals as goal
 
 pub returns-in-Some-clause-answered : goal.returns-in-Some-clause-answered
 returns-in-Some-clause-answered g c = leads_by g.D.Disk.answered c.args.disk.now c.close_dir.new.self c.close_dir.ensures.answered

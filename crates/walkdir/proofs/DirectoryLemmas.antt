@@ -6,11 +6,14 @@ use native.Mathlib.Nat.{mul-le-mul_right}
 use Rattle.odb_disk.specs.Streams.{Streams, with_closed}
 use Rattle.walkdir.specs.Failures.{Costs, failures_among, failures_left}
 use Rattle.walkdir.specs.Progress.{Progress, Keeps}
-use Rattle.walkdir.specs.Stack.{held, is_skipped, left_in, own_streams, stream_in, weight, work_in}
-use Rattle.walkdir.specs.Turns.{GoesOn, IsDrawn, Puts, TakesWork, left_of}
-use Rattle.walkdir.specs.declared.list.DirList.{DirList}
-use Rattle.walkdir.specs.declared.list.Items.{Items}
-use Rattle.walkdir.specs.declared.list.Items.TheVariants.{Opened, Closed, Skipped}
+use Rattle.walkdir.specs.Directory.{held, is_skipped, left_in, stream_in}
+use Rattle.walkdir.specs.Stack.{own_streams, weight, work_in}
+use Rattle.walkdir.specs.Turns.{GoesOn, TakesWork}
+use Rattle.walkdir.specs.Turns.Drawn.{IsDrawn, left_of}
+use Rattle.walkdir.specs.Turns.Lists.{Puts}
+use Rattle.walkdir.specs.declared.directory.DirList.{DirList}
+use Rattle.walkdir.specs.declared.directory.Items.{Items}
+use Rattle.walkdir.specs.declared.directory.Items.TheVariants.{Opened, Closed, Skipped}
 use Rattle.walkdir.proofs.StackLemmas.{reversed_at}
 use Rattle.walkdir.proofs.StepLemmas.{Same, goes_put, keeps_closed, keeps_open, keeps_plain}
 use Rattle.walkdir.proofs.WorkLemmas.{AllOpen, LeftLess, less_closed, less_same, open_behind, work_less}
