@@ -4,14 +4,14 @@ ghost use Rattle.gix_hash.specs.declared.kind.Kind.{Kind as hash_kind};
 ghost use Rattle.gix_hash.specs.declared.object_id.ObjectId.{ObjectId as object_id};
 ghost use Rattle.gix_hash.specs.ObjectId.{kind_of};
 ghost use Rattle.gix_pack.specs.PackFind.{found_at, rows_listed, Found, IsPackOfGiven, KeepsGiven};
-ghost use Rattle.gix_pack.specs.declared.data.entry.Location.{Location as location_data};
+ghost use Rattle.gix_pack_files.specs.declared.data.entry.Location.{Location as location_data};
 ghost use Rattle.gix_pack.specs.declared.find.Entry.{Entry as entry_data};
 ghost use Rattle.odb_base.specs.declared.no_memory.NoMemory.{NoMemory as no_memory};
 
 use crate::cache::DecodeEntry;
-use crate::data::entry::Location;
 use gix_hash::ObjectId;
 use gix_object::Data;
+use gix_pack_files::data::entry::Location;
 use odb_base::{ByteList, NoMemory};
 use std::alloc::Global;
 use std::sync::Wait;
@@ -63,7 +63,7 @@ pub trait Find {
         alloc: Global,
         id: &ObjectId,
     ) -> Result<bool, Self::Error>
-        requires { kind_of id.now ≡ hash self.old }
+        requires hash { kind_of id.now ≡ hash self.old }
         ensures answered { tests self.old id.now result self.new }
         ensures hash { hash self.new ≡ hash self.old }
         ensures stable { is_stable self.old → is_stable self.new }
@@ -78,7 +78,7 @@ pub trait Find {
         id: &ObjectId,
         out: &'a mut Vec<u8>,
     ) -> Result<Option<(Data<'a>, Option<Location>)>, Self::Error>
-        requires { kind_of id.now ≡ hash self.old }
+        requires hash { kind_of id.now ≡ hash self.old }
         ensures answered { finds self.old id.now (found_at result) self.new }
         ensures object_hash { IfOk result (λ found. IfSome found (λ pair. pair.0.object_hash ≡ hash self.old)) }
         ensures hash { hash self.new ≡ hash self.old }
@@ -94,7 +94,7 @@ pub trait Find {
         out: &'a mut Vec<u8>,
         cache: &mut C,
     ) -> Result<Option<(Data<'a>, Option<Location>)>, Self::Error>
-        requires { kind_of id.now ≡ hash self.old }
+        requires hash { kind_of id.now ≡ hash self.old }
         ensures answered { finds self.old id.now (found_at result) self.new }
         ensures object_hash { IfOk result (λ found. IfSome found (λ pair. pair.0.object_hash ≡ hash self.old)) }
         ensures hash { hash self.new ≡ hash self.old }

@@ -1,24 +1,18 @@
-//! Packs, their indices and multi-pack indices, read from bytes and written to them.
+//! Packs, their indices and multi-pack indices, read from bytes and written to them, under one name; the caches
+//! in front of them; and the databases that find objects in them.
 //!
-//! Reading takes exactly what the grammars of `specs/` allow, and keeps the bytes. What is asked of an
-//! index is answered from its rows, whatever way they are searched.
+//! Packs and their indices stand in `gix_pack_files`, multi-pack indices in `gix_multi_index`, and what both
+//! stand on in `gix_pack_tables`. A caller names this crate alone.
 //! ```rust
 //! let pack = data::File::parse(bytes, Kind::Sha1)?;
 //! assert_eq!(rt; (pack.version(), pack.num_objects()), (2, 1));
 //! ```
 #![tactic(auto)]
 
-mod bytes;
 pub mod cache;
-pub mod data;
 pub mod find;
-pub mod index;
-pub mod multi_index;
-mod object;
-mod put;
-mod put_rows;
-mod rows;
-mod search;
-mod table;
 
-pub use object::{NamedPack, Object};
+pub use gix_multi_index as multi_index;
+pub use gix_multi_index::NamedPack;
+pub use gix_pack_files::{data, index};
+pub use gix_pack_tables::Object;

@@ -143,7 +143,7 @@ fn found<D: Find, R: Wait>(
     database: &mut D,
     id: &ObjectId,
 ) -> Result<String, AllocError>
-    requires { kind_of id.now ≡ D.hash database.old }
+    requires hash { kind_of id.now ≡ D.hash database.old }
     ensures hash { OnOk result (D.hash database.new ≡ D.hash database.old) }
     ensures stable { D.is_stable database.old → OnOk result (D.is_stable database.new) }
 {
@@ -157,7 +157,7 @@ fn found_cached<D: Find, R: Wait>(
     database: &mut D,
     id: &ObjectId,
 ) -> Result<String, AllocError>
-    requires { kind_of id.now ≡ D.hash database.old }
+    requires hash { kind_of id.now ≡ D.hash database.old }
     ensures hash { OnOk result (D.hash database.new ≡ D.hash database.old) }
     ensures stable { D.is_stable database.old → OnOk result (D.is_stable database.new) }
 {
@@ -193,7 +193,7 @@ fn located<D: Find, R: Wait>(
 
 // The database of the blob `version 1`.
 fn database_of(alloc: Global, id: ObjectId) -> Result<Single, NoMemory>
-    ensures { IfOk result (λ single. single.id ≡ id) }
+    ensures id { IfOk result (λ single. single.id ≡ id) }
 {
     Ok(Single {
         id,

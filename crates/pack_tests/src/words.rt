@@ -32,7 +32,7 @@ pub fn joined(alloc: Global, parts: &[&[u8]], cut: usize) -> Result<ByteList, No
 }
 
 fn first_of(bytes: &[u8], kept: usize) -> &[u8]
-    requires { kept ≤ length bytes.now }
+    requires room { kept ≤ length bytes.now }
 {
     let (front, _) = bytes.split_at(kept);
     front

@@ -1,0 +1,11 @@
+mod ChunkLemmas
+mod PackRowLemmas
+mod NameLemmas
+mod PartLemmas
+mod ReadLemmas
+mod MultiIndexExamples
+mod PlacedPackRowLemmas
+mod WrittenMultiIndexLemmas
+mod WrittenChunkLemmas
+mod WrittenPartsLemmas
+mod ReadMultiIndexLemmas

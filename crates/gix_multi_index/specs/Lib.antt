@@ -1,0 +1,11 @@
+pub use Rattle.gix_pack_tables.specs.Bytes
+pub use Rattle.gix_pack_tables.specs.Rows
+pub use Rattle.gix_pack_tables.specs.WrittenPack
+pub use Rattle.gix_pack_tables.specs.WrittenTables
+pub mod MultiIndex
+pub mod MultiIndexRows
+pub mod WrittenMultiIndex
+pub mod MultiIndexLayout
+pub mod MultiIndexNames
+pub mod MultiIndexChunks
+pub mod PlacedPackRow

@@ -1,0 +1,113 @@
+-- A multi-pack index, version 1.
+--
+--     part                                             bytes
+--     `MIDX`, 1, the hash's number                     6
+--     number of chunks c, number of base files (0)     2
+--     number of packs p                                4
+--     c + 1 rows of a name and a place                 12 * (c + 1)
+--     chunks, each up to the place of the next row     as the rows say
+--     trailing hash                                    h
+--
+-- The places never fall. The last row has the name 0, and the place where the trailing hash begins.
+pub mod Chunks
+pub mod Held
+use Rattle.std.specs.Prelude.{ℕ, ◌-◌, ◌*◌, ◌%◌, ◌==◌, ◌&&◌, Bool, List, [], ◌∷◌, length, take, map, codes, nat_lt, Option, Some, None, Result, Err, ok_or, option_and_then, unwrap_or, if◌then◌else◌}
+use Rattle.std.specs.List.{list_all, zip}
+use Rattle.gix_hash.specs.Kind.{len_in_bytes_of}
+use Rattle.gix_hash.specs.declared.kind.Kind.{Kind}
+use Rattle.gix_hash.specs.declared.kind.Kind.TheVariants.{Sha1}
+use Rattle.gix_hash.specs.declared.object_id.ObjectId.{ObjectId}
+use Rattle.gix_multi_index.specs.declared.file.Error.{Error}
+use Rattle.gix_multi_index.specs.declared.file.Error.TheVariants.{AboveLimit, BadMultiIndex}
+use Rattle.gix_pack_tables.specs.Bytes.{is_within, same, table, number_at, numbers}
+use Rattle.gix_pack_tables.specs.Rows.{PackRow, ids_of, is_rising, counts_of}
+use Rattle.gix_multi_index.specs.MultiIndex.Chunks.{Chunk, chunk, chunk_rows, counts_len, ends_at, has_header, has_room, kind_in, last_count_place, named, packs_in, trailer_place}
+pub use Rattle.gix_multi_index.specs.MultiIndex.Held.{are_names}
+use Rattle.gix_multi_index.specs.MultiIndex.Held.{has_offset, holds_names, name_parts, offset_of_bytes}
+
+-- ---- the whole
+
+-- the parts of a multi-index that tell its names and rows
+pub record Parts : Type 0 where
+  pub names : List ℕ
+  pub counts : List ℕ
+  pub ids : List ℕ
+  pub offsets : List ℕ
+  -- the chunk of wide offsets, if there is one
+  pub wides : Option (List ℕ)
+
+infixl 10 ◌>>=◌
+abbrev ◌>>=◌ : {A B : Type 0} → Option A → (A → Option B) → Option B
+found >>= f = option_and_then f found
+
+-- the chunk of wide offsets may be missing, and stands once otherwise
+abbrev pub at_most_one : List Chunk → Option (Option (List ℕ))
+at_most_one [] = Some None
+at_most_one (chunk ∷ []) = Some (Some chunk.bytes)
+at_most_one (chunk ∷ other ∷ chunks) = None
+
+-- the parts, where each required chunk stands once
+unfoldable pub parts_of : List ℕ → Option Parts
+parts_of bytes = do
+  names ← chunk (codes "PNAM") bytes
+  counts ← chunk (codes "OIDF") bytes
+  ids ← chunk (codes "OIDL") bytes
+  offsets ← chunk (codes "OOFF") bytes
+  wides ← at_most_one (named (codes "LOFF") bytes)
+  Some (record { names = names; counts = counts; ids = ids; offsets = offsets; wides = wides })
+
+-- n: how many objects there are, by the last of the counts
+abbrev pub objects_in : Parts → ℕ
+objects_in parts = number_at last_count_place parts.counts
+
+abbrev pub part_ids : Kind → Parts → List ObjectId
+part_ids kind parts = ids_of kind (objects_in parts) parts.ids
+
+-- a row of the offsets: the number of a pack, and four bytes of offset
+abbrev pub offset_rows : Parts → List (List ℕ)
+offset_rows parts = table 8 (objects_in parts) parts.offsets
+
+-- whether the chunks have their lengths
+abbrev pub have_lengths : Kind → Parts → Bool
+have_lengths kind parts =
+    length parts.counts == counts_len && length parts.ids == objects_in parts * len_in_bytes_of kind && length parts.offsets == objects_in parts * 8
+    && length (unwrap_or parts.wides []) % 8 == 0
+
+-- whether the parts agree: names and ids that rise strictly, the counts of the ids, packs that are named, and offsets
+unfoldable pub are_parts : Kind → ℕ → Parts → Bool
+are_parts kind packs parts =
+    have_lengths kind parts && holds_names packs parts.names && is_rising (part_ids kind parts) && same (numbers 256 parts.counts) (counts_of (part_ids kind parts))
+    && list_all (λ row. nat_lt (number_at 0 row) packs && has_offset parts.wides (number_at 4 row)) (offset_rows parts)
+
+-- what a multi-index tells: its hash, the names of its packs, and its rows
+pub record MultiIndex : Type 0 where
+  pub kind : Kind
+  pub names : List (List ℕ)
+  pub rows : List PackRow
+
+abbrev pub pack_row : Option (List ℕ) → ObjectId × List ℕ → PackRow
+pack_row wides row = record { id = row.0; pack = number_at 0 row.1; offset = offset_of_bytes wides (number_at 4 row.1) }
+
+-- what the parts tell, if they agree
+unfoldable pub multi_index_from : Kind → ℕ → Parts → Option MultiIndex
+multi_index_from kind packs parts =
+    if are_parts kind packs parts
+    then Some (record { kind = kind; names = take packs (name_parts parts.names); rows = map (pack_row parts.wides) (zip (part_ids kind parts) (offset_rows parts)) })
+    else None
+
+-- what bytes tell as a multi-index, if they are one
+unfoldable pub multi_index_of : List ℕ → Option MultiIndex
+multi_index_of bytes =
+    if has_header bytes && has_room bytes && ends_at (trailer_place bytes) (chunk_rows bytes)
+    then (do
+      parts ← parts_of bytes
+      multi_index_from (kind_in bytes) (packs_in bytes) parts)
+    else None
+
+-- what bytes tell, where they are a multi-index
+unfoldable pub told : List ℕ → MultiIndex
+told bytes = unwrap_or (multi_index_of bytes) (record { kind = Sha1; names = []; rows = [] })
+
+-- what reading answers: the limit is tested first
+abbrev pub read_of : Option ℕ → List ℕ → Result MultiIndex Error
+read_of limit bytes = if is_within limit (length bytes) then ok_or (multi_index_of bytes) BadMultiIndex else Err AboveLimit

@@ -1,0 +1,39 @@
+-- No public clause cites this module: chunks as the encoder of multi-pack indices keeps them.
+use Rattle.std.specs.Prelude.{ℕ, Bool, true, List, ◌∷◌, [], ◌++◌, length, sum_by, codes}
+use Rattle.std.specs.Int.{w32, to_be_bytes}
+use Rattle.std.specs.List.{flat_map, zip}
+use Rattle.std.specs.Ordering.{is_lt}
+use Rattle.odb_base.specs.Path.{name_cmp}
+use Rattle.gix_hash.specs.declared.kind.Kind.{Kind as HashKind}
+use Rattle.gix_multi_index.specs.MultiIndex.Chunks.{Chunk}
+use Rattle.gix_multi_index.specs.WrittenMultiIndex.{Named, chunk_table, chunks_place, hash_number, offsets_written, pack_and_offset, wide_chunk}
+use Rattle.gix_multi_index.specs.declared.writing.Chunk as kept
+
+abbrev pub chunk_seen : kept.Chunk → Chunk
+chunk_seen chunk = record { name = chunk.name; bytes = chunk.bytes }
+
+-- one chunk
+abbrev pub one_chunk : List ℕ → List ℕ → List Chunk
+one_chunk name bytes = record { name = name; bytes = bytes } ∷ []
+
+-- the chunk of packs and offsets, and that of wide offsets where one is needed
+abbrev pub offset_chunks : List ℕ → List ℕ → List Chunk
+offset_chunks packs offsets = record { name = codes "OOFF"; bytes = flat_map pack_and_offset (zip packs (offsets_written offsets)) } ∷ wide_chunk offsets
+
+-- a multi-index of so many packs and some chunks, without its hash
+abbrev pub front_with : HashKind → ℕ → List Chunk → List ℕ
+front_with hash packs chunks =
+    codes "MIDX" ++ 1 ∷ hash_number hash ∷ length chunks ∷ 0 ∷ to_be_bytes w32 packs ++ chunk_table (chunks_place (length chunks)) chunks ++ flat_map (λ (chunk : Chunk). chunk.bytes) chunks
+
+-- how many bytes chunks have over all
+abbrev pub bytes_over : List Chunk → ℕ
+bytes_over chunks = length (flat_map (λ (chunk : Chunk). chunk.bytes) chunks)
+
+-- how many objects packs have over all
+abbrev pub objects_over : List Named → ℕ
+objects_over packs = sum_by (λ (pack : Named). length pack.objects) packs
+
+-- whether a name is below the first of some names, if there is one
+abbrev pub below_first : List ℕ → List (List ℕ) → Bool
+below_first name [] = true
+below_first name (first ∷ names) = is_lt (name_cmp name first)

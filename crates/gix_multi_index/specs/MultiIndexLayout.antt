@@ -1,0 +1,144 @@
+-- Where the parts of a multi-pack index stand in its bytes, as a parsed one keeps that. No public clause cites this module.
+use Rattle.std.specs.Prelude.{◌≡◌, ℕ, suc, drop, ◌*◌, ◌/◌, ◌+◌, ◌^◌, ◌<◌, ◌≤◌, ◌&&◌, Bool, true, nat_lt, List, [], ◌∷◌, length, map, Option, Some, None, option_map}
+use Rattle.std.specs.List.{list_all, zip, filter}
+use Rattle.gix_hash.specs.Kind.{len_in_bytes_of}
+use Rattle.gix_hash.specs.declared.kind.Kind.{Kind}
+use Rattle.gix_hash.specs.declared.object_id.ObjectId.{ObjectId}
+use Rattle.gix_pack_tables.specs.Bytes.{part, number_at, numbers, same, table}
+use Rattle.gix_multi_index.specs.MultiIndex.Chunks.{Chunk, ChunkRow, chunk_at, chunk_row, chunk_rows, ends_at, has_header, has_room, kind_in, packs_in, row_len, trailer_place}
+use Rattle.gix_multi_index.specs.MultiIndex.{Parts, at_most_one, parts_of, have_lengths, multi_index_of, objects_in, offset_rows, pack_row, part_ids}
+use Rattle.gix_multi_index.specs.MultiIndex.Held.{has_offset}
+use Rattle.gix_pack_tables.specs.Rows.{PackRow, counts_of, ids_of, is_named_below, is_rising}
+use Rattle.gix_multi_index.specs.declared.layout.Layout as layout
+use Rattle.gix_multi_index.specs.declared.layout.Span as span
+use Rattle.gix_multi_index.specs.declared.layout.Spans as spans
+
+-- ---- the chunk table, row by row
+
+-- the rows that are left: those of so many chunks, and one more
+unfoldable pub rows_left : ℕ → List ℕ → List ChunkRow
+rows_left left rest = map chunk_row (table row_len (suc left) rest)
+
+-- the chunks of those rows
+unfoldable pub chunks_left : List ℕ → ℕ → List ℕ → List Chunk
+chunks_left bytes left rest = map (chunk_at bytes) (zip (rows_left left rest) (drop 1 (rows_left left rest)))
+
+-- those of a name
+unfoldable pub named_left : List ℕ → List ℕ → ℕ → List ℕ → List Chunk
+named_left name bytes left rest = filter (λ chunk. same chunk.name name) (chunks_left bytes left rest)
+
+-- ---- chunks that were found
+
+abbrev pub span_of : List ℕ → span.Span → List ℕ
+span_of bytes place = part place.start place.len bytes
+
+abbrev pub IsIn : List ℕ → span.Span → Type 0
+IsIn bytes place = place.start + place.len ≤ length bytes
+
+-- the chunk of wide offsets lies in the bytes, if there is one
+abbrev pub IsInIfThere : List ℕ → Option span.Span → Type 0
+IsInIfThere bytes None = Unit {0}
+IsInIfThere bytes (Some place) = IsIn bytes place
+
+-- what is told of a chunk that may be missing, with one that was found and those behind it
+abbrev pub with_found : List ℕ → Option span.Span → List Chunk → Option (Option (List ℕ))
+with_found bytes None chunks = at_most_one chunks
+with_found bytes (Some place) [] = Some (Some (span_of bytes place))
+with_found bytes (Some place) (chunk ∷ chunks) = None
+
+-- the chunks that stand there
+abbrev pub parts_at : List ℕ → spans.Spans → Parts
+parts_at bytes places =
+    record {
+      names = span_of bytes places.names;
+      counts = span_of bytes places.counts;
+      ids = span_of bytes places.ids;
+      offsets = span_of bytes places.offsets;
+      wides = option_map (span_of bytes) places.wides;
+    }
+
+-- the chunks lie in the bytes
+pub record AreIn (bytes : List ℕ) (places : spans.Spans) : Type 0 where
+  pub names : IsIn bytes places.names
+  pub counts : IsIn bytes places.counts
+  pub ids : IsIn bytes places.ids
+  pub offsets : IsIn bytes places.offsets
+  pub wides : IsInIfThere bytes places.wides
+
+-- how many bytes of wide offsets there are
+abbrev pub len_of : Option span.Span → ℕ
+len_of None = 0
+len_of (Some place) = place.len
+
+-- whether four bytes are an offset, by the number of wide ones, if there is a chunk of them
+abbrev pub is_offset : Option ℕ → ℕ → Bool
+is_offset None narrow = true
+is_offset (Some wides) narrow = is_named_below wides narrow
+
+-- whether a row names one of so many packs, and an offset
+abbrev pub is_row : ℕ → Option ℕ → List ℕ → Bool
+is_row packs wides row = nat_lt (number_at 0 row) packs && is_offset wides (number_at 4 row)
+
+-- how many wide offsets there are, if there is a chunk of them
+abbrev pub wides_in : Option (List ℕ) → Option ℕ
+wides_in wides = option_map (λ (chunk : List ℕ). length chunk / 8) wides
+
+-- whether the ids rise strictly, and the counts are theirs
+abbrev pub ids_agree : Kind → Parts → Bool
+ids_agree kind parts = is_rising (part_ids kind parts) && same (numbers 256 parts.counts) (counts_of (part_ids kind parts))
+
+-- whether each row names one of so many packs, and an offset
+abbrev pub rows_name : ℕ → Parts → Bool
+rows_name packs parts = list_all (is_row packs (wides_in parts.wides)) (offset_rows parts)
+
+-- whether both is so
+unfoldable pub rows_agree : Kind → ℕ → Parts → Bool
+rows_agree kind packs parts = ids_agree kind parts && rows_name packs parts
+
+-- whether the parts agree, but for the names
+unfoldable pub tables_agree : Kind → ℕ → Parts → Bool
+tables_agree kind packs parts = have_lengths kind parts && rows_agree kind packs parts
+
+-- ---- what is kept
+
+-- the places of the rows among those of the chunks
+abbrev pub layout_in : List ℕ → spans.Spans → layout.Layout
+layout_in bytes places = record { count = objects_in (parts_at bytes places); ids = places.ids; offsets = places.offsets; wides = places.wides }
+
+-- the chunk of wide offsets, if there is one
+abbrev pub wides_at : layout.Layout → List ℕ → Option (List ℕ)
+wides_at places bytes = option_map (span_of bytes) places.wides
+
+abbrev pub ids_at : Kind → layout.Layout → List ℕ → List ObjectId
+ids_at kind places bytes = ids_of kind places.count (span_of bytes places.ids)
+
+abbrev pub offset_rows_at : layout.Layout → List ℕ → List (List ℕ)
+offset_rows_at places bytes = table 8 places.count (span_of bytes places.offsets)
+
+-- the rows that stand at these places
+unfoldable pub rows_at : Kind → layout.Layout → List ℕ → List PackRow
+rows_at kind places bytes = map (pack_row (wides_at places bytes)) (zip (ids_at kind places bytes) (offset_rows_at places bytes))
+
+-- the tables lie in the bytes, the ids rise strictly, and each offset that names a wide one names one of them
+pub record IsLaidOut (kind : Kind) (places : layout.Layout) (bytes : List ℕ) : Type 0 where
+  pub ids_in : IsIn bytes places.ids
+  pub offsets_in : IsIn bytes places.offsets
+  pub wides_in : IsInIfThere bytes places.wides
+  pub ids_len : places.ids.len ≡ places.count * len_in_bytes_of kind
+  pub offsets_len : places.offsets.len ≡ places.count * 8
+  pub rising : is_rising (ids_at kind places bytes) ≡ true
+  pub named : list_all (λ row. has_offset (wides_at places bytes) (number_at 4 row)) (offset_rows_at places bytes) ≡ true
+
+-- bytes tell a multi-index of this kind, with these names, and with the rows at these places
+pub record IsRead (kind : Kind) (names : List (List ℕ)) (places : layout.Layout) (bytes : List ℕ) : Type 0 where
+  pub told : multi_index_of bytes ≡ Some (record { kind = kind; names = names; rows = rows_at kind places bytes })
+  pub few : length names < 2 ^ 32
+  pub laid_out : IsLaidOut kind places bytes
+
+-- the header and the chunk table are sound, the chunks stand at these places, and but for the names they agree
+pub record AreTables (places : spans.Spans) (rows : layout.Layout) (bytes : List ℕ) : Type 0 where
+  pub front : (has_header bytes && has_room bytes && ends_at (trailer_place bytes) (chunk_rows bytes)) ≡ true
+  pub within : AreIn bytes places
+  pub parts : parts_of bytes ≡ Some (parts_at bytes places)
+  pub agree : tables_agree (kind_in bytes) (packs_in bytes) (parts_at bytes places) ≡ true
+  pub rows_are : rows ≡ layout_in bytes places

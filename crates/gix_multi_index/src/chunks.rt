@@ -1,0 +1,153 @@
+//! The chunk table of a multi-pack index: whether it is sound, and where a chunk stands.
+ghost use Rattle.std.specs.Prelude.{◌≡◌, ◌-◌, ◌≤◌, ◌&&◌, true, length, take, option_map, IfSome};
+ghost use Rattle.gix_pack_tables.specs.Bytes.{long_number_at, same};
+ghost use Rattle.gix_multi_index.specs.MultiIndex.{at_most_one as at_most_one_of, parts_of};
+ghost use Rattle.gix_multi_index.specs.MultiIndex.Chunks.{chunk_rows, ends_at, has_header as header_fits, has_room as room_fits, kind_in, named, the_one as the_one_of, trailer_place as end_of_chunks};
+ghost use Rattle.gix_multi_index.specs.MultiIndexLayout.{AreIn, IsIn, IsInIfThere, parts_at, rows_left, span_of};
+
+use crate::layout::{Span, Spans};
+use gix_hash::Kind;
+use gix_pack_tables::read::bytes::{behind_first, long_at, part_of, trailer_place};
+
+// How long the header is: `MIDX`, the version, the hash's number, the numbers of chunks and of base files, and the number of packs.
+pub(crate) const HEADER_LEN: usize = 12;
+
+// How long a row of the chunk table is: a name of four bytes, and a place of eight.
+pub(crate) const ROW_LEN: usize = 12;
+
+// Whether bytes begin with a header (the magic, version 1, a hash, and no base file), and have room for the chunk table
+// and the trailing hash. Fewer than twelve bytes have no such room.
+#[tactic(auto, using(crate::proofs::ChunkLemmas::short_front))]
+pub(crate) fn has_front(bytes: &[u8]) -> bool
+    ensures front { result ≡ (header_fits bytes.now && room_fits bytes.now) }
+{
+    bytes.len() >= HEADER_LEN && has_header(bytes) && has_room(bytes)
+}
+
+#[tactic(auto, using(crate::proofs::ChunkLemmas::known_hash))]
+fn has_header(bytes: &[u8]) -> bool
+    requires room { 12 ≤ length bytes.now }
+    ensures header { result ≡ header_fits bytes.now }
+{
+    bytes.starts_with(b"MIDX\x01") && (bytes[5] == 1 || bytes[5] == 2) && bytes[7] == 0
+}
+
+fn has_room(bytes: &[u8]) -> bool
+    requires room { 12 ≤ length bytes.now }
+    ensures room { result ≡ room_fits bytes.now }
+{
+    bytes.len() >= HEADER_LEN + ROW_LEN * (bytes[6] as usize + 1) + kind_of(bytes).len_in_bytes()
+}
+
+// The hash of the ids.
+pub(crate) fn kind_of(bytes: &[u8]) -> Kind
+    requires room { 12 ≤ length bytes.now }
+    ensures kind { result ≡ kind_in bytes.now }
+{
+    if bytes[5] == 2 {
+        Kind::Sha256
+    } else {
+        Kind::Sha1
+    }
+}
+
+// Whether the places of the chunks never fall, and the last row ends them at the trailing hash.
+#[tactic(auto, using(crate::proofs::ChunkLemmas::table_room, crate::proofs::ChunkLemmas::trailer_room, crate::proofs::ChunkLemmas::all_rows, crate::proofs::ChunkLemmas::falls, crate::proofs::ChunkLemmas::goes_on))]
+pub(crate) fn has_table(bytes: &[u8]) -> bool
+    requires room { room_fits bytes.now ≡ true }
+    ensures table { result ≡ ends_at (end_of_chunks bytes.now) (chunk_rows bytes.now) }
+{
+    let end = trailer_place(kind_of(bytes), bytes);
+    let mut rest = behind_first(bytes, HEADER_LEN);
+    let mut left = bytes[6];
+    while left > 0 {
+        if long_at(rest, 4) > long_at(rest, 16) {
+            return false;
+        }
+        rest = behind_first(rest, ROW_LEN);
+        left -= 1;
+    }
+    is_end(rest, end)
+}
+
+// Whether the first row is the end of the table, at a place.
+#[tactic(auto, using(crate::proofs::ChunkLemmas::ends_last))]
+fn is_end(rest: &[u8], end: usize) -> bool
+    requires room { 12 ≤ length rest.now }
+    ensures end { result ≡ ends_at end (rows_left 0 rest.now) }
+{
+    part_of(rest, 0, 4) == b"\0\0\0\0".as_slice() && long_at(rest, 4) == end as u64
+}
+
+// Where the chunk of a name stands, if there is one; nothing where there are more.
+#[tactic(auto, using(crate::proofs::ChunkLemmas::table_room, crate::proofs::ChunkLemmas::all_rows, crate::proofs::ChunkLemmas::all_named, crate::proofs::ChunkLemmas::next_row, crate::proofs::ChunkLemmas::named_other, crate::proofs::ChunkLemmas::found_first, crate::proofs::ChunkLemmas::found_other, crate::proofs::ChunkLemmas::no_more))]
+pub(crate) fn at_most_one(bytes: &[u8], name: &[u8; 4]) -> Option<Option<Span>>
+    requires room { room_fits bytes.now ≡ true }
+    requires table { ends_at (end_of_chunks bytes.now) (chunk_rows bytes.now) ≡ true }
+    ensures chunk { at_most_one_of (named name.now bytes.now) ≡ option_map (option_map (span_of bytes.now)) result }
+    ensures within { IfSome result (λ found. IsInIfThere bytes.now found) }
+{
+    let mut found = None;
+    let mut rest = behind_first(bytes, HEADER_LEN);
+    let mut left = bytes[6];
+    while left > 0 {
+        if has_name(rest, name) {
+            if found.is_some() {
+                return None;
+            }
+            found = Some(span_at(rest));
+        }
+        rest = behind_first(rest, ROW_LEN);
+        left -= 1;
+    }
+    Some(found)
+}
+
+fn has_name(row: &[u8], name: &[u8; 4]) -> bool
+    requires room { 4 ≤ length row.now }
+    ensures name { result ≡ same (take 4 row.now) name.now }
+{
+    part_of(row, 0, 4) == name.as_slice()
+}
+
+// Where the chunk of the first row stands, which ends where that of the next row begins.
+fn span_at(rows: &[u8]) -> Span
+    requires room { 24 ≤ length rows.now }
+    requires order { long_number_at 4 rows.now ≤ long_number_at 16 rows.now }
+    ensures span { result ≡ record { start = long_number_at 4 rows.now; len = long_number_at 16 rows.now - long_number_at 4 rows.now } }
+{
+    let start = long_at(rows, 4) as usize;
+    let end = long_at(rows, 16) as usize;
+    Span {
+        start,
+        len: end - start,
+    }
+}
+
+// Where the one chunk of a name stands; nothing where there is none, or more.
+#[tactic(auto, using(crate::proofs::ChunkLemmas::one_of))]
+fn the_one(bytes: &[u8], name: &[u8; 4]) -> Option<Span>
+    requires room { room_fits bytes.now ≡ true }
+    requires table { ends_at (end_of_chunks bytes.now) (chunk_rows bytes.now) ≡ true }
+    ensures chunk { the_one_of (named name.now bytes.now) ≡ option_map (span_of bytes.now) result }
+    ensures within { IfSome result (λ span. IsIn bytes.now span) }
+{
+    at_most_one(bytes, name)?
+}
+
+// Where the chunks stand that tell names and rows, if each that is required is there once.
+#[tactic(auto, unfolding(crate::specs::MultiIndex::parts_of))]
+pub(crate) fn spans_of(bytes: &[u8]) -> Option<Spans>
+    requires room { room_fits bytes.now ≡ true }
+    requires table { ends_at (end_of_chunks bytes.now) (chunk_rows bytes.now) ≡ true }
+    ensures parts { parts_of bytes.now ≡ option_map (parts_at bytes.now) result }
+    ensures within { IfSome result (λ spans. AreIn bytes.now spans) }
+{
+    Some(Spans {
+        names: the_one(bytes, b"PNAM")?,
+        counts: the_one(bytes, b"OIDF")?,
+        ids: the_one(bytes, b"OIDL")?,
+        offsets: the_one(bytes, b"OOFF")?,
+        wides: at_most_one(bytes, b"LOFF")?,
+    })
+}

@@ -1,0 +1,90 @@
+//! The rows of a multi-pack index, where they stand.
+ghost use Rattle.std.specs.Prelude.{◌≡◌, ◌<◌, length, map, option_map, slice_get, Some, true};
+ghost use Rattle.gix_multi_index.specs.MultiIndex.Held.{has_offset, offset_of_bytes};
+ghost use Rattle.gix_multi_index.specs.MultiIndexLayout.{rows_at, span_of, IsInIfThere, IsLaidOut};
+ghost use Rattle.gix_pack_tables.specs.Rows.{PackRow, IsPrefixRun, IsRowOf};
+
+use crate::layout::{Layout, Span};
+use crate::parts::span_in;
+use gix_hash::{Kind, ObjectId, Prefix};
+use gix_pack_tables::read::bytes::{long_at, number_at, part_of};
+use gix_pack_tables::read::search;
+use std::ops::Range;
+
+// The rows of a multi-index in its bytes: the hash of their ids, and where they stand.
+#[derive(Clone, Copy)]
+pub(crate) struct Rows<'a> {
+    pub(crate) kind: Kind,
+    pub(crate) layout: Layout,
+    pub(crate) bytes: &'a [u8],
+}
+
+impl Rows<'_> {
+    // The id of a row.
+    #[tactic(auto, using(crate::proofs::PackRowLemmas::id_room, crate::proofs::PackRowLemmas::id_in_row))]
+    pub(crate) fn id_at(&self, n: u32) -> ObjectId
+        requires laid_out { IsLaidOut self.now.kind self.now.layout self.now.bytes.now }
+        requires row { n < self.now.layout.count }
+        ensures id { option_map (λ (row : PackRow). row.id) (slice_get (rows_at self.now.kind self.now.layout self.now.bytes.now) n) ≡ Some result }
+    {
+        search::id_at(span_in(self.bytes, self.layout.ids), self.kind, n)
+    }
+
+    // The row of an id.
+    #[tactic(auto, using(crate::proofs::PackRowLemmas::ids_room, crate::proofs::PackRowLemmas::ids_in_rows))]
+    pub(crate) fn row_of(&self, id: &ObjectId) -> Option<u32>
+        requires laid_out { IsLaidOut self.now.kind self.now.layout self.now.bytes.now }
+        ensures row { IsRowOf (map (λ (row : PackRow). row.id) (rows_at self.now.kind self.now.layout self.now.bytes.now)) id.now result }
+    {
+        search::row_of(
+            span_in(self.bytes, self.layout.ids),
+            self.kind,
+            self.layout.count,
+            id,
+        )
+    }
+
+    // The rows of a prefix.
+    #[tactic(auto, using(crate::proofs::PackRowLemmas::ids_room, crate::proofs::PackRowLemmas::ids_in_rows))]
+    pub(crate) fn rows_of_prefix(&self, prefix: &Prefix) -> Range<u32>
+        requires laid_out { IsLaidOut self.now.kind self.now.layout self.now.bytes.now }
+        ensures run { IsPrefixRun (map (λ (row : PackRow). row.id) (rows_at self.now.kind self.now.layout self.now.bytes.now)) prefix.now result.start result.end }
+    {
+        search::rows_of_prefix(
+            span_in(self.bytes, self.layout.ids),
+            self.kind,
+            self.layout.count,
+            prefix,
+        )
+    }
+
+    // The number of a row's pack, and the place of its object there.
+    #[tactic(auto, using(crate::proofs::PackRowLemmas::row_room, crate::proofs::PackRowLemmas::row_named, crate::proofs::PackRowLemmas::pack_in_row, crate::proofs::PackRowLemmas::offset_in_row))]
+    pub(crate) fn place_at(&self, n: u32) -> (u32, u64)
+        requires laid_out { IsLaidOut self.now.kind self.now.layout self.now.bytes.now }
+        requires row { n < self.now.layout.count }
+        ensures pack { option_map (λ (row : PackRow). row.pack) (slice_get (rows_at self.now.kind self.now.layout self.now.bytes.now) n) ≡ Some result.0 }
+        ensures offset { option_map (λ (row : PackRow). row.offset) (slice_get (rows_at self.now.kind self.now.layout self.now.bytes.now) n) ≡ Some result.1 }
+    {
+        let row = part_of(span_in(self.bytes, self.layout.offsets), n as usize * 8, 8);
+        (
+            number_at(row, 0),
+            offset_in(self.bytes, self.layout.wides, number_at(row, 4)),
+        )
+    }
+}
+
+// The offset that four bytes are.
+fn offset_in(bytes: &[u8], wides: Option<Span>, narrow: u32) -> u64
+    requires within { IsInIfThere bytes.now wides }
+    requires named { has_offset (option_map (span_of bytes.now) wides) narrow ≡ true }
+    ensures offset { result ≡ offset_of_bytes (option_map (span_of bytes.now) wides) narrow }
+{
+    match wides {
+        Some(span) if narrow >= 1 << 31 => {
+            let row = (narrow - (1 << 31)) as usize;
+            long_at(span_in(bytes, span), row * 8)
+        }
+        _ => narrow as u64,
+    }
+}

@@ -1,6 +1,0 @@
-use Rattle.std.proofs.Common.{sym, arith}
-use Rattle.gix_pack.proofs.EntryLemmas.{head_long}
-use Rattle.gix_pack.proofs.data.entry_head.read_head.Goals as goal
-
-pub returns-then-last-ge10 : goal.returns-then-last-ge10
-returns-then-last-ge10 c = sym (head_long c.args.rest.now c.in-Some.last (sym c.in-Some.ensures.first) (omega arith))

@@ -1,9 +1,0 @@
-use Rattle.std.proofs.Common.{ℕ, List, drop, subst}
-use Rattle.gix_pack.specs.Rows.{ids_of, IsPrefixRun}
-use Rattle.gix_pack.proofs.index.rows_of_prefix.Goals as goal
-
--- the same of the count and of the table that are handed on
-pub returns : goal.returns
-returns c =
-    subst (λ (n : ℕ). IsPrefixRun (ids_of c.args.kind n (drop 1032 c.args.bytes.now)) c.args.prefix.now c.rows_of_prefix.result.start c.rows_of_prefix.result.end) c.count_of.ensures
-    (subst (λ (ids : List ℕ). IsPrefixRun (ids_of c.args.kind c.count_of.result ids) c.args.prefix.now c.rows_of_prefix.result.start c.rows_of_prefix.result.end) c.behind_first.ensures c.rows_of_prefix.ensures)

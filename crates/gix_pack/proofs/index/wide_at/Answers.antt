@@ -1,8 +1,0 @@
-use Rattle.gix_pack.proofs.IndexLemmas.{wide_read, wide_read_room}
-use Rattle.gix_pack.proofs.index.wide_at.Goals as goal
-
-pub long_at-requires : goal.long_at-requires
-long_at-requires c = wide_read_room c.args.kind c.args.bytes.now c.args.wide c.count_of.result c.wides_place_of.result c.requires.index c.requires.wide c.count_of.ensures c.wides_place_of.ensures.place
-
-pub returns : goal.returns
-returns c = wide_read c.args.kind c.args.bytes.now c.args.wide c.count_of.result c.wides_place_of.result c.long_at.result c.count_of.ensures c.wides_place_of.ensures.place c.long_at.ensures c.requires.wide

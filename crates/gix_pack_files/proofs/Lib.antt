@@ -1,0 +1,9 @@
+mod PackLemmas
+mod EntryLemmas
+mod ReadHeaderLemmas
+mod ReadBackLemmas
+mod PackExamples
+mod IndexLemmas
+mod IndexRowsLemmas
+mod WrittenIndexLemmas
+mod IndexExamples

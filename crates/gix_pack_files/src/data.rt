@@ -1,0 +1,262 @@
+//! Packs: the entries of objects, one behind another.
+ghost use Rattle.std.specs.Prelude.{◌≡◌, ◌≤◌, ◌↔◌, length, option_map, true, IfOk, IfErr, IsOk, IsTrue};
+ghost use Rattle.gix_pack_files.specs.Pack.{entry_at, entry_seen, head_at, header_at, is_pack, is_version as version_is_read, kind_of_code, object_behind as behind_header, objects_in, slice_at, version_in};
+ghost use Rattle.gix_pack_tables.specs.WrittenPack.{entries_place};
+ghost use Rattle.gix_pack_files.specs.PackHead.{head_seen};
+
+pub mod entry;
+mod entry_head;
+mod writing;
+
+use crate::file_bytes::FileBytes;
+pub use entry::{Entry, Header};
+use entry_head::{Head, read_head};
+use gix_hash::Kind;
+use gix_pack_tables::read::bytes::{behind_first, is_within};
+use gix_pack_tables::write::entries::ENTRIES_PLACE;
+use odb_base::ByteList;
+use std::marker::Model;
+use thiserror::Error;
+pub use writing::encode;
+
+// Where the version stands: behind `PACK`.
+const VERSION_PLACE: usize = 4;
+
+// Where the number of objects stands: behind the version.
+const COUNT_PLACE: usize = 8;
+
+/// Why a pack, or an entry in it, is refused.
+#[derive(Clone, Copy, Debug, Error)]
+pub enum Error {
+    /// The bytes don't begin with `PACK` and version 2 or 3, or are too short.
+    #[error("the bytes are no pack of version 2 or 3")]
+    BadPack,
+    /// No header stands at the offset, or the data reach into the trailing hash.
+    #[error("there is no entry at this offset")]
+    BadEntry,
+    /// The entry is a delta: a change of another object.
+    #[error("the entry is a delta")]
+    DeltaEntry,
+    /// The size is above the limit.
+    #[error("an object of {size} bytes is above the limit")]
+    OutOfMemory { size: u64 },
+    /// The entry has a type that is no kind.
+    #[error("{code} is no type of an entry")]
+    EntryType { code: u8 },
+}
+
+/// A pack.
+///
+/// It is seen as its bytes and the hash of its ids.
+#[derive(Drop)]
+pub struct File {
+    kind: Kind,
+    bytes: ByteList,
+}
+
+impl Model for File {
+    ghost use Rattle.std.specs.Prelude.{◌≡◌, true};
+    ghost use Rattle.gix_pack_files.specs.FileBytes.{FileBytes as seen};
+
+    ghost Value = { seen };
+
+    ghost use Rattle.gix_pack_files.specs.Pack.{is_pack};
+
+    ghost view = { λ pack. record { kind = pack.kind; bytes = pack.bytes } };
+
+    ghost invariant = { λ pack. is_pack pack.kind pack.bytes ≡ true };
+}
+
+impl File {
+    // What it keeps, borrowed.
+    fn borrowed(&self) -> FileBytes<'_>
+        ensures kind { result.kind ≡ self.now.kind }
+        ensures bytes { result.bytes.now ≡ self.now.bytes }
+        ensures pack { is_pack result.kind result.bytes.now ≡ true }
+    {
+        FileBytes {
+            kind: self.kind,
+            bytes: self.bytes.as_slice(),
+        }
+    }
+
+    /// Reads a pack from its bytes, which it keeps.
+    pub fn parse(bytes: ByteList, kind: Kind) -> Result<File, Error>
+        ensures found { IfOk result (λ pack. pack ≡ record { kind = kind; bytes = bytes }) }
+        ensures exact { IsOk result ↔ IsTrue (is_pack kind bytes) }
+        ensures refused { IfErr result (λ error. error ≡ Error.BadPack) }
+    {
+        if is_whole(&FileBytes {
+            kind,
+            bytes: bytes.as_slice(),
+        }) {
+            Ok(File { kind, bytes })
+        } else {
+            Err(Error::BadPack)
+        }
+    }
+
+    /// The version, 2 or 3.
+    #[tactic(auto, using(crate::proofs::PackLemmas::has_room))]
+    pub fn version(&self) -> u32
+        ensures version { result ≡ version_in self.now.bytes }
+        ensures pack { is_pack self.now.kind self.now.bytes ≡ true }
+    {
+        version_of(&self.borrowed())
+    }
+
+    /// The number of objects, as the pack's header tells it.
+    #[tactic(auto, using(crate::proofs::PackLemmas::has_room))]
+    pub fn num_objects(&self) -> u32
+        ensures count { result ≡ objects_in self.now.bytes }
+        ensures pack { is_pack self.now.kind self.now.bytes ≡ true }
+    {
+        count_of(&self.borrowed())
+    }
+
+    /// The kind and the size of the object at an offset, and the length of its header.
+    pub fn decode_header(&self, offset: u64) -> Result<Header, Error>
+        ensures header { result ≡ header_at self.now.kind self.now.bytes offset }
+    {
+        header_of(&self.borrowed(), offset)
+    }
+
+    /// The object at an offset, where its size is within the limit.
+    pub fn entry(&self, offset: u64, limit: Option<u64>) -> Result<Entry<'_>, Error>
+        ensures entry { entry_seen result ≡ entry_at self.now.kind self.now.bytes offset limit }
+    {
+        object_of(&self.borrowed(), offset, limit)
+    }
+
+    /// So many bytes of entries from an offset on, or none where they leave the entries.
+    pub fn entry_slice(&self, offset: u64, len: u64) -> Option<&[u8]>
+        ensures slice { option_map (λ slice. slice.now) result ≡ slice_at self.now.kind self.now.bytes offset len }
+    {
+        slice_of(&self.borrowed(), offset, len)
+    }
+}
+
+// Whether bytes are a pack.
+#[tactic(auto, unfolding(crate::specs::Pack::is_pack))]
+fn is_whole(file: &FileBytes<'_>) -> bool
+    ensures whole { result ≡ is_pack file.now.kind file.now.bytes.now }
+{
+    file.bytes.starts_with(b"PACK")
+        && file.len() >= ENTRIES_PLACE as usize + file.hash_len()
+        && is_version(version_of(file))
+}
+
+fn is_version(number: u32) -> bool
+    ensures version { result ≡ version_is_read number }
+{
+    number == 2 || number == 3
+}
+
+// The version of a pack.
+fn version_of(file: &FileBytes<'_>) -> u32
+    requires room { 8 ≤ length file.now.bytes.now }
+    ensures version { result ≡ version_in file.now.bytes.now }
+{
+    file.number_at(VERSION_PLACE)
+}
+
+// The number of objects of a pack.
+fn count_of(file: &FileBytes<'_>) -> u32
+    requires room { entries_place ≤ length file.now.bytes.now }
+    ensures count { result ≡ objects_in file.now.bytes.now }
+{
+    file.number_at(COUNT_PLACE)
+}
+
+// The header at an offset.
+#[tactic(auto, using(crate::proofs::PackLemmas::has_room, crate::proofs::EntryLemmas::head_before, crate::proofs::EntryLemmas::head_behind, crate::proofs::EntryLemmas::head_within))]
+fn head_of(file: &FileBytes<'_>, offset: u64) -> Result<Head, Error>
+    requires pack { is_pack file.now.kind file.now.bytes.now ≡ true }
+    ensures head { head_seen result ≡ head_at file.now.kind file.now.bytes.now offset }
+{
+    let end = file.trailer_place();
+    if offset < ENTRIES_PLACE || offset >= end as u64 {
+        return Err(Error::BadEntry);
+    }
+    read_head(behind_first(file.part(0, end), offset as usize))
+}
+
+// The kind of an entry's type.
+#[tactic(auto, unfolding(crate::specs::Pack::kind_of_code))]
+fn kind_of(code: u8) -> Result<gix_object::Kind, Error>
+    ensures kind { result ≡ kind_of_code code }
+{
+    match code {
+        1 => Ok(gix_object::Kind::Commit),
+        2 => Ok(gix_object::Kind::Tree),
+        3 => Ok(gix_object::Kind::Blob),
+        4 => Ok(gix_object::Kind::Tag),
+        6 | 7 => Err(Error::DeltaEntry),
+        code => Err(Error::EntryType { code }),
+    }
+}
+
+// The header of the object at an offset.
+#[tactic(auto, unfolding(crate::specs::Pack::header_at))]
+fn header_of(file: &FileBytes<'_>, offset: u64) -> Result<Header, Error>
+    requires pack { is_pack file.now.kind file.now.bytes.now ≡ true }
+    ensures header { result ≡ header_at file.now.kind file.now.bytes.now offset }
+{
+    let head = head_of(file, offset)?;
+    let kind = kind_of(head.code)?;
+    Ok(Header {
+        kind,
+        size: head.size,
+        header_len: head.header_len,
+    })
+}
+
+// The object at an offset.
+#[tactic(auto, unfolding(crate::specs::Pack::entry_at))]
+fn object_of<'a>(file: &FileBytes<'a>, offset: u64, limit: Option<u64>) -> Result<Entry<'a>, Error>
+    requires pack { is_pack file.now.kind file.now.bytes.now ≡ true }
+    ensures entry { entry_seen result ≡ entry_at file.now.kind file.now.bytes.now offset limit }
+{
+    let header = header_of(file, offset)?;
+    object_behind(file, offset, limit, header)
+}
+
+// The object whose header was read at an offset.
+#[tactic(auto, using(crate::proofs::EntryLemmas::Objects::object_above))]
+fn object_behind<'a>(
+    file: &FileBytes<'a>,
+    offset: u64,
+    limit: Option<u64>,
+    header: Header,
+) -> Result<Entry<'a>, Error>
+    requires pack { is_pack file.now.kind file.now.bytes.now ≡ true }
+    requires header { header_at file.now.kind file.now.bytes.now offset ≡ Ok header }
+    ensures entry { entry_seen result ≡ behind_header file.now.kind file.now.bytes.now offset limit header }
+{
+    if !is_within(limit, header.size) {
+        return Err(Error::OutOfMemory { size: header.size });
+    }
+    let place = offset + header.header_len as u64;
+    match slice_of(file, place, header.size) {
+        Some(found) => Ok(Entry {
+            kind: header.kind,
+            size: header.size,
+            header_len: header.header_len,
+            bytes: found,
+        }),
+        None => Err(Error::BadEntry),
+    }
+}
+
+// So many bytes of entries from a place on.
+#[tactic(auto, using(crate::proofs::PackLemmas::has_room))]
+fn slice_of<'a>(file: &FileBytes<'a>, offset: u64, len: u64) -> Option<&'a [u8]>
+    requires pack { is_pack file.now.kind file.now.bytes.now ≡ true }
+    ensures slice { option_map (λ slice. slice.now) result ≡ slice_at file.now.kind file.now.bytes.now offset len }
+{
+    let end = file.trailer_place() as u64;
+    if offset < ENTRIES_PLACE || offset > end || len > end - offset {
+        return None;
+    }
+    Some(file.part(offset as usize, len as usize))
+}

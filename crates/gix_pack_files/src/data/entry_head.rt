@@ -1,0 +1,72 @@
+//! The header of an entry, read from the bytes that begin with it.
+ghost use Rattle.std.specs.Prelude.{◌≡◌, ◌<◌, ◌≤◌, length, nat_lt, IfSome};
+ghost use Rattle.std.specs.List.{position};
+ghost use Rattle.gix_pack_files.specs.Pack.{size_bits};
+ghost use Rattle.gix_pack_files.specs.PackHead.{head_from, head_seen, head_whole};
+
+use super::Error;
+use gix_pack_tables::read::bytes::{behind_first, part_of};
+
+// What the header of an entry holds, whatever its type is.
+#[derive(Clone, Copy)]
+pub(super) struct Head {
+    pub(super) code: u8,
+    pub(super) size: u64,
+    pub(super) header_len: usize,
+}
+
+// The header that bytes begin with: ten bytes at most, whose last one alone has bit 7 clear.
+#[tactic(auto, using(crate::proofs::EntryLemmas::head_missing, crate::proofs::EntryLemmas::head_long, crate::proofs::EntryLemmas::head_found))]
+pub(super) fn read_head(rest: &[u8]) -> Result<Head, Error>
+    ensures head { head_seen result ≡ head_from rest.now }
+{
+    let Some(last) = place_of_last(rest) else {
+        return Err(Error::BadEntry);
+    };
+    if last >= 10 {
+        return Err(Error::BadEntry);
+    }
+    head_in(part_of(rest, 0, last + 1))
+}
+
+// Where the first byte stands whose bit 7 is clear.
+fn place_of_last(rest: &[u8]) -> Option<usize>
+    ensures first { result ≡ position (λ b. nat_lt b 128) rest.now }
+    ensures within { IfSome result (λ last. last < length rest.now) }
+{
+    rest.iter().position(|byte| *byte < 128)
+}
+
+// A header of at most ten bytes.
+#[tactic(auto, using(crate::proofs::EntryLemmas::head_too_large, crate::proofs::EntryLemmas::head_that_fits))]
+fn head_in(header: &[u8]) -> Result<Head, Error>
+    requires some { 0 < length header.now }
+    requires short { length header.now ≤ 10 }
+    ensures head { head_seen result ≡ head_whole header.now }
+{
+    let first = header[0];
+    let high = size_bits_in(behind_first(header, 1));
+    if high >= 1 << 60 {
+        return Err(Error::BadEntry);
+    }
+    Ok(Head {
+        code: first / 16 % 8,
+        size: high * 16 + (first % 16) as u64,
+        header_len: header.len(),
+    })
+}
+
+// The number that at most nine bytes of seven bits are, the lowest first.
+#[tactic(auto, using(crate::proofs::EntryLemmas::bits_none, crate::proofs::EntryLemmas::bits_before, crate::proofs::EntryLemmas::bits_small, crate::proofs::EntryLemmas::bits_fit))]
+fn size_bits_in(bytes: &[u8]) -> u64
+    requires short { length bytes.now ≤ 9 }
+    ensures size { result ≡ size_bits bytes.now }
+{
+    let mut value = 0;
+    let mut place = bytes.len();
+    while place > 0 {
+        place -= 1;
+        value = (bytes[place] % 128) as u64 + 128 * value;
+    }
+    value
+}

@@ -1,0 +1,70 @@
+//! The bytes of a pack or of an index, borrowed from where they are kept.
+ghost use Rattle.std.specs.Prelude.{◌≡◌, ◌+◌, ◌≤◌, drop, length};
+ghost use Rattle.gix_hash.specs.Kind.{len_in_bytes_of};
+ghost use Rattle.gix_pack_tables.specs.Bytes.{long_number_at, number_at as number_of, part as part_of, trailer_place as place_of_trailer};
+
+use gix_hash::Kind;
+use gix_pack_tables::read::bytes;
+
+// The bytes of a file that ends with a hash, and the hash that its ids are of.
+#[derive(Clone, Copy)]
+pub(crate) struct FileBytes<'a> {
+    pub(crate) kind: Kind,
+    pub(crate) bytes: &'a [u8],
+}
+
+impl<'a> FileBytes<'a> {
+    // How many bytes there are.
+    pub(crate) fn len(&self) -> usize
+        ensures len { result ≡ length self.now.bytes.now }
+    {
+        self.bytes.len()
+    }
+
+    // How long an id is, and a hash at the end.
+    pub(crate) fn hash_len(&self) -> usize
+        ensures len { result ≡ len_in_bytes_of self.now.kind }
+    {
+        self.kind.len_in_bytes()
+    }
+
+    // Where the last hash begins.
+    pub(crate) fn trailer_place(&self) -> usize
+        requires room { len_in_bytes_of self.now.kind ≤ length self.now.bytes.now }
+        ensures place { result ≡ place_of_trailer self.now.kind self.now.bytes.now }
+    {
+        bytes::trailer_place(self.kind, self.bytes)
+    }
+
+    // The number of four bytes at a place.
+    pub(crate) fn number_at(&self, place: usize) -> u32
+        requires room { place + 4 ≤ length self.now.bytes.now }
+        ensures number { result ≡ number_of place self.now.bytes.now }
+    {
+        bytes::number_at(self.bytes, place)
+    }
+
+    // The number of eight bytes at a place.
+    pub(crate) fn long_at(&self, place: usize) -> u64
+        requires room { place + 8 ≤ length self.now.bytes.now }
+        ensures number { result ≡ long_number_at place self.now.bytes.now }
+    {
+        bytes::long_at(self.bytes, place)
+    }
+
+    // The bytes behind the first so many.
+    pub(crate) fn behind(&self, size: usize) -> &'a [u8]
+        requires room { size ≤ length self.now.bytes.now }
+        ensures rest { result.now ≡ drop size self.now.bytes.now }
+    {
+        bytes::behind_first(self.bytes, size)
+    }
+
+    // So many bytes from a place on.
+    pub(crate) fn part(&self, place: usize, size: usize) -> &'a [u8]
+        requires room { place + size ≤ length self.now.bytes.now }
+        ensures part { result.now ≡ part_of place size self.now.bytes.now }
+    {
+        bytes::part_of(self.bytes, place, size)
+    }
+}

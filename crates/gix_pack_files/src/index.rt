@@ -1,0 +1,279 @@
+//! Pack indices, version 2: where the objects of a pack stand in it.
+ghost use Rattle.std.specs.Prelude.{◌≡◌, ◌^◌, ◌<◌, ◌≤◌, ◌↔◌, length, slice_get, true, IfOk, IsOk, IsTrue, Some};
+ghost use Rattle.gix_pack_files.specs.IndexRows.{rows_left};
+ghost use Rattle.gix_pack_tables.specs.Rows.{IsPrefixRun, IsRowOf};
+ghost use Rattle.gix_pack_files.specs.Index.{has_length as length_fits, ids_place, index_ids, index_offsets, index_rows, is_index, narrow_offsets, objects_in, offsets_place, tables_agree, wide_offsets, wides_in, wides_place};
+
+mod walk;
+mod writing;
+
+use crate::file_bytes::FileBytes;
+use gix_hash::{Kind, ObjectId, Prefix};
+use gix_pack_tables::read::{search, tables};
+use odb_base::ByteList;
+use std::marker::Model;
+use std::ops::Range;
+use thiserror::Error;
+pub use walk::Iter;
+pub use writing::encode;
+
+/// What each index begins with: the mark of indices that have a version, and version 2.
+const SIGNATURE: [u8; 8] = [255, 116, 79, 99, 0, 0, 0, 2];
+
+// Where the 256 counts begin: behind the mark and the version.
+const COUNTS_PLACE: usize = 8;
+
+// Where the last of them stands, which is the number of objects: behind the mark, the version and 255 counts of four bytes.
+const LAST_COUNT_PLACE: usize = 1028;
+
+// Where the ids begin: behind the mark, the version and the counts.
+const IDS_PLACE: usize = 1032;
+
+/// The bytes are no pack index of version 2.
+#[derive(Clone, Copy, Debug, Error)]
+#[error("the bytes are no pack index of version 2")]
+pub struct BadIndex;
+
+/// A pack index.
+///
+/// It is seen as its bytes and the hash of its ids.
+#[derive(Drop)]
+pub struct File {
+    kind: Kind,
+    bytes: ByteList,
+}
+
+impl Model for File {
+    ghost use Rattle.std.specs.Prelude.{◌≡◌, true};
+    ghost use Rattle.gix_pack_files.specs.FileBytes.{FileBytes as seen};
+    ghost use Rattle.gix_pack_files.specs.Index.{is_index};
+
+    ghost Value = { seen };
+
+    ghost view = { λ index. record { kind = index.kind; bytes = index.bytes } };
+
+    ghost invariant = { λ index. is_index index.kind index.bytes ≡ true };
+}
+
+/// A row of an index.
+#[derive(Clone, Copy, Debug)]
+pub struct Entry {
+    pub oid: ObjectId,
+    pub pack_offset: u64,
+    /// Always none: checks are not read.
+    pub crc32: Option<u32>,
+}
+
+impl File {
+    // What it keeps, borrowed.
+    fn borrowed(&self) -> FileBytes<'_>
+        ensures kind { result.kind ≡ self.now.kind }
+        ensures bytes { result.bytes.now ≡ self.now.bytes }
+        ensures index { is_index result.kind result.bytes.now ≡ true }
+    {
+        FileBytes {
+            kind: self.kind,
+            bytes: self.bytes.as_slice(),
+        }
+    }
+
+    /// Reads an index from its bytes, which it keeps.
+    pub fn parse(bytes: ByteList, kind: Kind) -> Result<File, BadIndex>
+        ensures found { IfOk result (λ index. index ≡ record { kind = kind; bytes = bytes }) }
+        ensures exact { IsOk result ↔ IsTrue (is_index kind bytes) }
+    {
+        if is_whole(&FileBytes {
+            kind,
+            bytes: bytes.as_slice(),
+        }) {
+            Ok(File { kind, bytes })
+        } else {
+            Err(BadIndex)
+        }
+    }
+
+    /// How many objects the index has.
+    #[tactic(auto, using(crate::proofs::IndexLemmas::has_ids))]
+    pub fn num_objects(&self) -> u32
+        ensures count { result ≡ objects_in self.now.bytes }
+        ensures index { is_index self.now.kind self.now.bytes ≡ true }
+    {
+        count_of(&self.borrowed())
+    }
+
+    /// The id of a row.
+    pub fn oid_at_index(&self, n: u32) -> ObjectId
+        requires row { n < objects_in self.now.bytes }
+        ensures id { slice_get (index_ids self.now.kind self.now.bytes) n ≡ Some result }
+    {
+        id_at(&self.borrowed(), n)
+    }
+
+    /// The place in the pack of a row's object.
+    pub fn pack_offset_at_index(&self, n: u32) -> u64
+        requires row { n < objects_in self.now.bytes }
+        ensures offset { slice_get (index_offsets self.now.kind self.now.bytes) n ≡ Some result }
+    {
+        offset_at(&self.borrowed(), n)
+    }
+
+    /// The row of an id, if it has one.
+    pub fn lookup(&self, id: &ObjectId) -> Option<u32>
+        ensures row { IsRowOf (index_ids self.now.kind self.now.bytes) id.now result }
+    {
+        row_of(&self.borrowed(), id)
+    }
+
+    /// The rows whose ids begin with a prefix.
+    pub fn lookup_prefix(&self, prefix: &Prefix) -> Range<u32>
+        ensures run { IsPrefixRun (index_ids self.now.kind self.now.bytes) prefix.now result.start result.end }
+    {
+        rows_of_prefix(&self.borrowed(), prefix)
+    }
+
+    /// The rows, in the order of their ids.
+    pub fn iter(&self) -> Iter<'_>
+        ensures rows { rows_left result ≡ index_rows self.now.kind self.now.bytes }
+    {
+        Iter {
+            index: self,
+            row: 0,
+        }
+    }
+}
+
+// Whether bytes are an index.
+#[tactic(auto, using(crate::proofs::IndexLemmas::short_file), unfolding(crate::specs::Index::is_index))]
+fn is_whole(file: &FileBytes<'_>) -> bool
+    ensures whole { result ≡ is_index file.now.kind file.now.bytes.now }
+{
+    file.bytes.starts_with(&SIGNATURE)
+        && file.len() >= IDS_PLACE
+        && has_length(file)
+        && has_tables(file)
+}
+
+// Whether the length is that of the number of objects and of a number of wide offsets.
+fn has_length(file: &FileBytes<'_>) -> bool
+    requires room { ids_place ≤ length file.now.bytes.now }
+    ensures length { result ≡ length_fits file.now.kind file.now.bytes.now }
+{
+    let fixed = wides_place_of(file.kind, count_of(file)) + 2 * file.hash_len();
+    file.len() == fixed + 8 * wides_of(file)
+}
+
+// Whether the tables of an index of the right length agree with each other.
+#[tactic(auto, using(crate::proofs::IndexLemmas::front_room, crate::proofs::IndexLemmas::counts_room, crate::proofs::IndexLemmas::table_room, crate::proofs::IndexLemmas::offsets_place_room, crate::proofs::IndexLemmas::offsets_room), unfolding(crate::specs::Index::tables_agree))]
+fn has_tables(file: &FileBytes<'_>) -> bool
+    requires length { length_fits file.now.kind file.now.bytes.now ≡ true }
+    ensures agree { result ≡ tables_agree file.now.kind file.now.bytes.now }
+{
+    let count = count_of(file);
+    let n = count as usize;
+    let ids = file.behind(IDS_PLACE);
+    let offsets = file.behind(offsets_place_of(file.kind, count));
+    tables::is_rising(file.kind, n, ids)
+        && tables::counts_agree(file.behind(COUNTS_PLACE), file.kind, n, ids)
+        && tables::are_named(n, offsets, wides_of(file) as u64)
+}
+
+// The number of objects, by the last of the counts.
+fn count_of(file: &FileBytes<'_>) -> u32
+    requires room { ids_place ≤ length file.now.bytes.now }
+    ensures count { result ≡ objects_in file.now.bytes.now }
+{
+    file.number_at(LAST_COUNT_PLACE)
+}
+
+// How many wide offsets the length leaves room for.
+fn wides_of(file: &FileBytes<'_>) -> usize
+    requires room { ids_place ≤ length file.now.bytes.now }
+    ensures wides { result ≡ wides_in file.now.kind file.now.bytes.now }
+{
+    let fixed = wides_place_of(file.kind, count_of(file)) + 2 * file.hash_len();
+    file.len().saturating_sub(fixed) / 8
+}
+
+// Where the offsets of so many objects begin.
+fn offsets_place_of(kind: Kind, count: u32) -> usize
+    ensures place { result ≡ offsets_place kind count }
+    ensures small { result < 2 ^ 40 }
+{
+    match kind {
+        Kind::Sha1 => IDS_PLACE + count as usize * 24,
+        Kind::Sha256 => IDS_PLACE + count as usize * 36,
+    }
+}
+
+// Where the wide offsets of so many objects begin.
+fn wides_place_of(kind: Kind, count: u32) -> usize
+    ensures place { result ≡ wides_place kind count }
+    ensures small { result < 2 ^ 40 }
+{
+    match kind {
+        Kind::Sha1 => IDS_PLACE + count as usize * 28,
+        Kind::Sha256 => IDS_PLACE + count as usize * 40,
+    }
+}
+
+// The id of a row.
+#[tactic(auto, using(crate::proofs::IndexLemmas::row_room, crate::proofs::IndexLemmas::has_ids))]
+fn id_at(file: &FileBytes<'_>, row: u32) -> ObjectId
+    requires index { is_index file.now.kind file.now.bytes.now ≡ true }
+    requires row { row < objects_in file.now.bytes.now }
+    ensures id { slice_get (index_ids file.now.kind file.now.bytes.now) row ≡ Some result }
+{
+    search::id_at(file.behind(IDS_PLACE), file.kind, row)
+}
+
+// The row of an id.
+#[tactic(auto, using(crate::proofs::IndexLemmas::ids_room, crate::proofs::IndexLemmas::has_ids))]
+fn row_of(file: &FileBytes<'_>, id: &ObjectId) -> Option<u32>
+    requires index { is_index file.now.kind file.now.bytes.now ≡ true }
+    ensures row { IsRowOf (index_ids file.now.kind file.now.bytes.now) id.now result }
+{
+    search::row_of(file.behind(IDS_PLACE), file.kind, count_of(file), id)
+}
+
+// The rows of a prefix.
+#[tactic(auto, using(crate::proofs::IndexLemmas::ids_room, crate::proofs::IndexLemmas::ids_rise, crate::proofs::IndexLemmas::has_ids))]
+fn rows_of_prefix(file: &FileBytes<'_>, prefix: &Prefix) -> Range<u32>
+    requires index { is_index file.now.kind file.now.bytes.now ≡ true }
+    ensures run { IsPrefixRun (index_ids file.now.kind file.now.bytes.now) prefix.now result.start result.end }
+{
+    search::rows_of_prefix(file.behind(IDS_PLACE), file.kind, count_of(file), prefix)
+}
+
+// The offset of a row.
+#[tactic(auto, using(crate::proofs::IndexLemmas::narrow_offset, crate::proofs::IndexLemmas::wide_offset, crate::proofs::IndexLemmas::wide_below))]
+fn offset_at(file: &FileBytes<'_>, row: u32) -> u64
+    requires index { is_index file.now.kind file.now.bytes.now ≡ true }
+    requires row { row < objects_in file.now.bytes.now }
+    ensures offset { slice_get (index_offsets file.now.kind file.now.bytes.now) row ≡ Some result }
+{
+    let narrow = narrow_at(file, row);
+    if narrow < 1 << 31 {
+        return narrow as u64;
+    }
+    wide_at(file, narrow - (1 << 31))
+}
+
+// The offset of a row, as its four bytes tell it.
+#[tactic(auto, using(crate::proofs::IndexLemmas::narrow_room, crate::proofs::IndexLemmas::has_ids))]
+fn narrow_at(file: &FileBytes<'_>, row: u32) -> u32
+    requires index { is_index file.now.kind file.now.bytes.now ≡ true }
+    requires row { row < objects_in file.now.bytes.now }
+    ensures offset { slice_get (narrow_offsets file.now.kind file.now.bytes.now) row ≡ Some result }
+{
+    file.number_at(offsets_place_of(file.kind, count_of(file)) + row as usize * 4)
+}
+
+// A row of the wide offsets.
+#[tactic(auto, using(crate::proofs::IndexLemmas::wide_room, crate::proofs::IndexLemmas::has_ids))]
+fn wide_at(file: &FileBytes<'_>, wide: u32) -> u64
+    requires index { is_index file.now.kind file.now.bytes.now ≡ true }
+    requires wide { wide < wides_in file.now.kind file.now.bytes.now }
+    ensures offset { slice_get (wide_offsets file.now.kind file.now.bytes.now) wide ≡ Some result }
+{
+    file.long_at(wides_place_of(file.kind, count_of(file)) + wide as usize * 8)
+}

@@ -1,0 +1,5 @@
+pub mod Bytes
+pub mod Rows
+pub mod WrittenPack
+pub mod WrittenTables
+pub mod PlacedRow

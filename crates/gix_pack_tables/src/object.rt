@@ -1,0 +1,9 @@
+use gix_object::Kind;
+use odb_base::ByteList;
+
+/// An object to be put into a pack.
+#[derive(Drop)]
+pub struct Object {
+    pub kind: Kind,
+    pub bytes: ByteList,
+}
