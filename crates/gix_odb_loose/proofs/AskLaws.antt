@@ -7,50 +7,50 @@ use Rattle.odb_disk.specs.declared.ask.DiskAnswer.{DiskAnswer}
 use Rattle.gix_hash.specs.declared.object_id.ObjectId.{ObjectId}
 use Rattle.gix_odb_loose.specs.Exchanges.{Exchange, exchanged}
 use Rattle.gix_odb_loose.specs.LooseOrder.{stage_ask, next_stage, written_to}
-use Rattle.gix_odb_loose.specs.WriteAsks.{next_asks, onward_by, led_along, asks_along, asks_in, answers_in, IsAlong, IsCallAlong}
-use Rattle.gix_odb_loose.specs.WriteJobs.{ask_in, next_in, led_by}
+use Rattle.gix_odb_loose.specs.WriteAsks.{next_asks, onward_by, onward_along, asks_along, asks_in, answers_in, IsAlong, IsCallAlong}
+use Rattle.gix_odb_loose.specs.WriteJobs.{ask_in, next_in, advance_to}
 use Rattle.gix_odb_loose.specs.WriteOrder.{wrote_by}
 use Rattle.gix_odb_loose.specs.declared.call.Stage.{Stage as CallStage}
 use Rattle.gix_odb_loose.specs.declared.call.Stage.TheVariants as calls
-use Rattle.gix_odb_loose.specs.declared.write_call.Refusal.{Refusal}
-use Rattle.gix_odb_loose.specs.declared.write_call.Onward.{Onward}
-use Rattle.gix_odb_loose.specs.declared.write_call.Onward.TheVariants.{Stage, End}
-use Rattle.gix_odb_loose.specs.declared.write_call.WriteStage.{WriteStage}
-use Rattle.gix_odb_loose.specs.declared.write_job.WriteJob.{WriteJob}
+use Rattle.gix_odb_loose.specs.declared.write_order.Refusal.{Refusal}
+use Rattle.gix_odb_loose.specs.declared.write_order.Onward.{Onward}
+use Rattle.gix_odb_loose.specs.declared.write_order.Onward.TheVariants.{Stage, End}
+use Rattle.gix_odb_loose.specs.declared.write_order.WriteStage.{WriteStage}
+use Rattle.gix_odb_loose.specs.declared.write_at_hand.WriteJob.{WriteJob}
 
 module _ (job : WriteJob) where
   -- ---- one answer more
 
-  led_push : (onward : Onward) (given : List DiskAnswer) (answer : DiskAnswer) → led_along job onward (given ++ answer ∷ []) ≡ onward_by job (led_along job onward given) answer
-  unfolding led_along
-  led_push onward [] answer = refl
-  led_push onward (first ∷ given) answer = led_push (onward_by job onward first) given answer
+  onward_push : (onward : Onward) (given : List DiskAnswer) (answer : DiskAnswer) → onward_along job onward (given ++ answer ∷ []) ≡ onward_by job (onward_along job onward given) answer
+  unfolding onward_along
+  onward_push onward [] answer = refl
+  onward_push onward (first ∷ given) answer = onward_push (onward_by job onward first) given answer
 
-  asks_push : (onward : Onward) (given : List DiskAnswer) (answer : DiskAnswer) → asks_along job onward (given ++ answer ∷ []) ≡ asks_along job onward given ++ next_asks job (led_along job onward given)
-  unfolding led_along asks_along
+  asks_push : (onward : Onward) (given : List DiskAnswer) (answer : DiskAnswer) → asks_along job onward (given ++ answer ∷ []) ≡ asks_along job onward given ++ next_asks job (onward_along job onward given)
+  unfolding onward_along asks_along
   asks_push onward [] answer = append-nil (next_asks job onward)
   asks_push onward (first ∷ given) answer =
       ap (λ (xs : List DiskAsk). next_asks job onward ++ xs) (asks_push (onward_by job onward first) given answer)
-      ∙ sym (append_assoc (next_asks job onward) (asks_along job (onward_by job onward first) given) (next_asks job (led_along job (onward_by job onward first) given)))
+      ∙ sym (append_assoc (next_asks job onward) (asks_along job (onward_by job onward first) given) (next_asks job (onward_along job (onward_by job onward first) given)))
 
   -- a write that has asked nothing
   pub IsAlong-start : IsAlong job (Stage job.stage) []
-  unfolding led_along asks_along
-  IsAlong-start = record { led = refl; asked = refl }
+  unfolding onward_along asks_along
+  IsAlong-start = record { reached = refl; asked = refl }
 
   -- the answer to the next call leads on
   pub IsAlong-next : (stage : WriteStage) (past : List Exchange) (answer : DiskAnswer) → IsAlong job (Stage stage) past
       → IsAlong job (next_in (record job { stage = stage }) answer) (past ++ exchanged (ask_in (record job { stage = stage })) answer ∷ [])
   IsAlong-next stage past answer along =
       record {
-        led =
-            ap (λ (o : Onward). onward_by job o answer) along.led
-            ∙ sym (led_push (Stage job.stage) (answers_in past) answer)
-            ∙ ap (led_along job (Stage job.stage)) (sym (map-append (λ (x : Exchange). x.answer) past (last ∷ [])));
+        reached =
+            ap (λ (o : Onward). onward_by job o answer) along.reached
+            ∙ sym (onward_push (Stage job.stage) (answers_in past) answer)
+            ∙ ap (onward_along job (Stage job.stage)) (sym (map-append (λ (x : Exchange). x.answer) past (last ∷ [])));
         asked =
             map-append (λ (x : Exchange). x.ask) past (last ∷ [])
             ∙ ap (λ (xs : List DiskAsk). xs ++ ask_in (record job { stage = stage }) ∷ []) along.asked
-            ∙ ap (λ (o : Onward). asks_along job (Stage job.stage) (answers_in past) ++ next_asks job o) along.led
+            ∙ ap (λ (o : Onward). asks_along job (Stage job.stage) (answers_in past) ++ next_asks job o) along.reached
             ∙ sym (asks_push (Stage job.stage) (answers_in past) answer)
             ∙ ap (asks_along job (Stage job.stage)) (sym (map-append (λ (x : Exchange). x.answer) past (last ∷ [])));
       }
@@ -64,8 +64,8 @@ module _ (job : WriteJob) where
   pub asked_same : (onward other : Onward) (past others : List Exchange) → IsAlong job onward past → IsAlong job other others → answers_in past ≡ answers_in others → asks_in past ≡ asks_in others
   asked_same onward other past others along along' same = along.asked ∙ ap (asks_along job (Stage job.stage)) same ∙ sym along'.asked
 
-  pub led_same : (onward other : Onward) (past others : List Exchange) → IsAlong job onward past → IsAlong job other others → answers_in past ≡ answers_in others → onward ≡ other
-  led_same onward other past others along along' same = along.led ∙ ap (led_along job (Stage job.stage)) same ∙ sym along'.led
+  pub onward_same : (onward other : Onward) (past others : List Exchange) → IsAlong job onward past → IsAlong job other others → answers_in past ≡ answers_in others → onward ≡ other
+  onward_same onward other past others along along' same = along.reached ∙ ap (onward_along job (Stage job.stage)) same ∙ sym along'.reached
 
   nothing_behind : (end : Result ObjectId Refusal) (given : List DiskAnswer) → asks_along job (End end) given ≡ []
   unfolding asks_along
@@ -105,9 +105,9 @@ module _ (job : WriteJob) where
 
   -- ---- a call that has its data at hand
 
-  led_call : (now : WriteJob) (onward : Onward) (past : List Exchange) → now ≡ record job { stage = now.stage } → IsAlong job onward past → IsCallAlong job (written_to now (led_by now onward)) past
-  led_call now (Stage stage) past same along = (ap (λ (j : WriteJob). record j { stage = stage }) same, along)
-  led_call now (End end) past same along = (end, ap (λ (j : WriteJob). wrote_by j.head end) same, along)
+  call_along : (now : WriteJob) (onward : Onward) (past : List Exchange) → now ≡ record job { stage = now.stage } → IsAlong job onward past → IsCallAlong job (written_to now (advance_to now onward)) past
+  call_along now (Stage stage) past same along = (ap (λ (j : WriteJob). record j { stage = stage }) same, along)
+  call_along now (End end) past same along = (end, ap (λ (j : WriteJob). wrote_by j.head end) same, along)
 
   -- The answer to its call leads it on.
   pub IsCallAlong-next : (stage : CallStage) (past : List Exchange) (ask : DiskAsk) (answer : DiskAnswer) → stage_ask stage ≡ Some ask → IsCallAlong job stage past → IsCallAlong job (next_stage stage answer) (past ++ exchanged ask answer ∷ [])
@@ -117,7 +117,7 @@ module _ (job : WriteJob) where
   IsCallAlong-next (calls.Done reply) past ask answer asked h = absurd (cc asked)
   IsCallAlong-next (calls.Writing now) past ask answer asked h =
       let same : ask_in now ≡ ask = cc asked in
-      led_call now (next_in now answer) (past ++ exchanged ask answer ∷ []) h.0
+      call_along now (next_in now answer) (past ++ exchanged ask answer ∷ []) h.0
       (subst (λ (j : WriteJob). IsAlong job (next_in j answer) (past ++ exchanged ask answer ∷ [])) (sym h.0)
       (subst (λ (a : DiskAsk). IsAlong job (next_in (record job { stage = now.stage }) answer) (past ++ exchanged a answer ∷ [])) (ap ask_in (sym h.0) ∙ same) (IsAlong-next now.stage past answer h.1)))
 

@@ -1,43 +1,39 @@
 -- Each answer leaves a call with fewer asks, for callers: a call with so many asks left has at most so many turns.
-use Rattle.std.proofs.Common.{◌≡◌, ◌<◌, ◌≤◌, ◌+◌, ◌-◌, ◌==◌, ℕ, Bool, true, false, length, drop, Some, Err, refl, sym, ap, ◌∙◌, subst, arith}
+use Rattle.std.proofs.Common.{◌≡◌, ◌<◌, ◌≤◌, ◌+◌, ◌-◌, ◌==◌, ℕ, Bool, true, false, length, drop, Some, None, refl, sym, ap, ◌∙◌, subst, arith}
 use Rattle.std.specs.Prelude.{nat_lt, nat_le, min, if◌then◌else◌}
 use Rattle.std.proofs.lemmas.Grind.{common_steps}
 use Rattle.std.proofs.lemmas.List.{length-take, length-drop}
 use Rattle.odb_disk.specs.declared.ask.DiskAsk.{DiskAsk}
 use Rattle.odb_disk.specs.declared.ask.DiskAnswer.{DiskAnswer}
 use Rattle.odb_disk.specs.declared.ask.DiskAnswer.TheVariants as answers
-use Rattle.odb_tree.specs.declared.disk_error.DiskError.TheVariants as disk_errors
 use Rattle.gix_hash.specs.declared.object_id.ObjectId.{ObjectId}
 use Rattle.gix_odb_loose.specs.LooseOrder.{fed, disk_ask_of, stage_ask, next_stage, asks_left, written_to}
 use Rattle.gix_odb_loose.specs.WriteOrder.{made_by, headed_by, filled_by, foldered_by, moved_by, next_write, ended_with, written_in, room_behind, grown}
 use Rattle.gix_odb_loose.specs.WriteNames.{name_for}
-use Rattle.gix_odb_loose.specs.WriteJobs.{supplied, piece_at, piece_of, next_in, led_by, pieces_of, writes_left}
+use Rattle.gix_odb_loose.specs.WritePieces.{piece_size}
+use Rattle.gix_odb_loose.proofs.WriteJobsLemmas as turns
+use Rattle.gix_odb_loose.specs.WriteJobs.{supplied, pieces_left, piece_at, piece_of, next_in, advance_to, pieces_of, writes_left}
 use Rattle.gix_odb_loose.specs.declared.call.LooseCall.{LooseCall}
 use Rattle.gix_odb_loose.specs.declared.call.Stage.{Stage as CallStage}
 use Rattle.gix_odb_loose.specs.declared.call.Stage.TheVariants as calls
-use Rattle.gix_odb_loose.specs.declared.write.Message.TheVariants as messages
-use Rattle.gix_odb_loose.specs.declared.write_call.Onward.{Onward}
-use Rattle.gix_odb_loose.specs.declared.write_call.Onward.TheVariants.{Stage, End}
-use Rattle.gix_odb_loose.specs.declared.write_call.WriteStage.{WriteStage}
-use Rattle.gix_odb_loose.specs.declared.write_call.WriteStage.TheVariants as stages
-use Rattle.gix_odb_loose.specs.declared.write_call.Refusal.TheVariants as refusals
-use Rattle.gix_odb_loose.specs.declared.write_job.WriteJob.{WriteJob}
+use Rattle.gix_odb_loose.specs.declared.write_order.Onward.{Onward}
+use Rattle.gix_odb_loose.specs.declared.write_order.Onward.TheVariants.{Stage, End}
+use Rattle.gix_odb_loose.specs.declared.write_order.WriteStage.{WriteStage}
+use Rattle.gix_odb_loose.specs.declared.write_order.WriteStage.TheVariants as stages
+use Rattle.gix_odb_loose.specs.declared.write_order.Refusal.TheVariants as refusals
+use Rattle.gix_odb_loose.specs.declared.write_at_hand.WriteJob.{WriteJob}
 
 -- how many asks are left of a write that goes on, or ends
 abbrev onward_left : ℕ → Onward → ℕ
-onward_left n (Stage stage) = writes_left n stage
-onward_left n (End end) = 0
+onward_left n onward = turns.onward_left (pieces_left n) onward
 
-led_left : (job : WriteJob) (onward : Onward) → asks_left (written_to job (led_by job onward)) ≡ onward_left (length job.bytes) onward
-led_left job (Stage stage) = refl
-led_left job (End end) = refl
+advance_left : (job : WriteJob) (onward : Onward) → asks_left (written_to job (advance_to job onward)) ≡ onward_left (length job.bytes) onward
+advance_left job (Stage stage) = refl
+advance_left job (End end) = refl
 
 -- a whole piece less
-pieces_fewer : (len : ℕ) → 65536 < len → pieces_of (len - 65536) < pieces_of len
+pieces_fewer : (len : ℕ) → piece_size < len → pieces_of (len - piece_size) < pieces_of len
 pieces_fewer len more = omega (arith, more)
-
-nothing_off : (len : ℕ) → len - 0 ≡ len
-nothing_off len = omega arith
 
 -- ---- the end of the data takes no more asks
 
@@ -74,63 +70,11 @@ module _ (job : WriteJob) where
 
   -- ---- each answer
 
-  tries : (number : ℕ) (b : Bool) → nat_lt (number + 1) 16 ≡ b → onward_left n (if b then Stage (stages.Making (number + 1)) else End (Err (refusals.Io messages.CreateTempFile))) < 6 + pieces_of n + (16 - number)
-  tries number true e = let below : number + 1 < 16 = grind (arith, common_steps, e) in omega (arith, below)
-  tries number false e = omega arith
-
-  made_left : (number : ℕ) (given : DiskAnswer) → onward_left n (made_by number given) < 6 + pieces_of n + (16 - number)
-  made_left number answers.Done = omega arith
-  made_left number (answers.Meta meta) = omega arith
-  made_left number (answers.Dir dir) = omega arith
-  made_left number (answers.Entry entry) = omega arith
-  made_left number answers.End = omega arith
-  made_left number (answers.File bytes time) = omega arith
-  made_left number (answers.Refused disk_errors.Exists) = tries number (nat_lt (number + 1) 16) refl
-  made_left number (answers.Refused disk_errors.Absent) = omega arith
-  made_left number (answers.Refused disk_errors.WrongKind) = omega arith
-  made_left number (answers.Refused disk_errors.LinkLoop) = omega arith
-  made_left number (answers.Refused disk_errors.NotEmpty) = omega arith
-  made_left number (answers.Refused disk_errors.Failed) = omega arith
-  made_left number (answers.Refused disk_errors.NoMemory) = omega arith
-
-  headed_left : (number : ℕ) (given : DiskAnswer) → onward_left n (headed_by number given) < 5 + pieces_of n
-  headed_left number answers.Done = rw nothing_off (omega arith)
-  headed_left number (answers.Meta meta) = omega arith
-  headed_left number (answers.Dir dir) = omega arith
-  headed_left number (answers.Entry entry) = omega arith
-  headed_left number answers.End = omega arith
-  headed_left number (answers.File bytes time) = omega arith
-  headed_left number (answers.Refused error) = omega arith
-
-  foldered_left : (number : ℕ) (id : ObjectId) (given : DiskAnswer) → onward_left n (foldered_by number id given) < 3
-  foldered_left number id answers.Done = omega arith
-  foldered_left number id (answers.Meta meta) = omega arith
-  foldered_left number id (answers.Dir dir) = omega arith
-  foldered_left number id (answers.Entry entry) = omega arith
-  foldered_left number id answers.End = omega arith
-  foldered_left number id (answers.File bytes time) = omega arith
-  foldered_left number id (answers.Refused disk_errors.Exists) = omega arith
-  foldered_left number id (answers.Refused disk_errors.Absent) = omega arith
-  foldered_left number id (answers.Refused disk_errors.WrongKind) = omega arith
-  foldered_left number id (answers.Refused disk_errors.LinkLoop) = omega arith
-  foldered_left number id (answers.Refused disk_errors.NotEmpty) = omega arith
-  foldered_left number id (answers.Refused disk_errors.Failed) = omega arith
-  foldered_left number id (answers.Refused disk_errors.NoMemory) = omega arith
-
-  moved_left : (number : ℕ) (id : ObjectId) (given : DiskAnswer) → onward_left n (moved_by number id given) < 2
-  moved_left number id answers.Done = omega arith
-  moved_left number id (answers.Meta meta) = omega arith
-  moved_left number id (answers.Dir dir) = omega arith
-  moved_left number id (answers.Entry entry) = omega arith
-  moved_left number id answers.End = omega arith
-  moved_left number id (answers.File bytes time) = omega arith
-  moved_left number id (answers.Refused error) = omega arith
-
   abbrev pub piece : ℕ → ℕ
   piece written = length (piece_at job.head.size job.bytes written)
 
   -- where more than this piece are left and the piece fits, it is a whole one
-  pub whole_piece : (size written len room : ℕ) (b : Bool) → nat_lt written size ≡ b → room ≡ (if b then min 65536 (size - written + 1) else 1) → len ≡ min room (n - written) → written + len < n → written + len ≤ size → len ≡ 65536
+  pub whole_piece : (size written len room : ℕ) (b : Bool) → nat_lt written size ≡ b → room ≡ (if b then min piece_size (size - written + 1) else 1) → len ≡ min room (n - written) → written + len < n → written + len ≤ size → len ≡ piece_size
   whole_piece size written len room true e room_is len_is more fits = grind (arith, common_steps, e, room_is, len_is, more, fits)
   whole_piece size written len room false e room_is len_is more fits = absurd (grind (arith, common_steps, e, room_is, len_is, more, fits))
 
@@ -147,7 +91,7 @@ module _ (job : WriteJob) where
       let whole = whole_piece job.head.size written (piece written) (room_behind job.head.size written) (nat_lt written job.head.size) refl refl (piece_is written) below fits in
       let least = supply_fill number (written + piece written) (nat_le n (written + piece written)) refl in
       let fewer = pieces_fewer (n - written) (omega (arith, below, whole)) in
-      let rest : n - (written + piece written) ≡ n - written - 65536 = omega (arith, whole) in
+      let rest : n - (written + piece written) ≡ n - written - piece_size = omega (arith, whole) in
       let least' = rw rest at least in
       omega (arith, least', fewer)
 
@@ -165,19 +109,28 @@ module _ (job : WriteJob) where
   filled_left number written (answers.File bytes time) = omega arith
   filled_left number written (answers.Refused error) = omega arith
 
+  -- what is asked next, where a stage waits for no data
+  other_left : (stage : WriteStage) (given : DiskAnswer) → written_in stage ≡ None → onward_left n (supplied job (next_write job.head.size 0 stage given)) < writes_left n stage
+  other_left (stages.Making number) given none = omega (arith, supplied_left (made_by number given), turns.fewer_left (pieces_left n) job.head.size (stages.Making number) 0 given tt)
+  other_left (stages.Heading number) given none = omega (arith, supplied_left (headed_by number given), turns.fewer_left (pieces_left n) job.head.size (stages.Heading number) 0 given tt)
+  other_left (stages.Filling number written) given none = absurd (cc none)
+  other_left (stages.Foldering number id) given none = omega (arith, supplied_left (foldered_by number id given), turns.fewer_left (pieces_left n) job.head.size (stages.Foldering number id) 0 given tt)
+  other_left (stages.Moving number id) given none = omega (arith, supplied_left (moved_by number id given), turns.fewer_left (pieces_left n) job.head.size (stages.Moving number id) 0 given tt)
+  other_left (stages.Removing number refusal) given none = omega arith
+
   stage_left : (stage : WriteStage) (given : DiskAnswer) → onward_left n (supplied job (next_write job.head.size (length (piece_of job.head.size job.bytes (written_in stage))) stage given)) < writes_left n stage
-  stage_left (stages.Making number) given = omega (arith, supplied_left (made_by number given), made_left number given)
-  stage_left (stages.Heading number) given = omega (arith, supplied_left (headed_by number given), headed_left number given)
+  stage_left (stages.Making number) given = other_left (stages.Making number) given refl
+  stage_left (stages.Heading number) given = other_left (stages.Heading number) given refl
   stage_left (stages.Filling number written) given = filled_left number written given
-  stage_left (stages.Foldering number id) given = omega (arith, supplied_left (foldered_by number id given), foldered_left number id given)
-  stage_left (stages.Moving number id) given = omega (arith, supplied_left (moved_by number id given), moved_left number id given)
-  stage_left (stages.Removing number refusal) given = omega arith
+  stage_left (stages.Foldering number id) given = other_left (stages.Foldering number id) given refl
+  stage_left (stages.Moving number id) given = other_left (stages.Moving number id) given refl
+  stage_left (stages.Removing number refusal) given = other_left (stages.Removing number refusal) given refl
 
 pub fewer : (stage : CallStage) (ask : DiskAsk) (given : DiskAnswer) → stage_ask stage ≡ Some ask → asks_left (next_stage stage given) < asks_left stage
 fewer (calls.Testing path) ask given is = omega arith
 fewer (calls.Finding path limit) ask given is = omega arith
 fewer (calls.Heading path) ask given is = omega arith
-fewer (calls.Writing job) ask given is = rw (led_left job (next_in job given)) (stage_left job job.stage given)
+fewer (calls.Writing job) ask given is = rw (advance_left job (next_in job given)) (stage_left job job.stage given)
 fewer (calls.Done reply) ask given is = absurd (cc is)
 
 -- a call that is fed the answer to its ask has fewer asks left

@@ -1,11 +1,10 @@
 -- An object that was written is found, for callers: what a find makes of the file that a write leaves.
-use Rattle.std.specs.Prelude.{◌≡◌, ℕ, ◌^◌, ◌<◌, false, List, [], ◌∷◌, ◌++◌, take, drop, length, Option, Some, Result, Ok}
+use Rattle.std.specs.Prelude.{◌≡◌, ℕ, ◌^◌, ◌<◌, List, [], ◌∷◌, ◌++◌, take, drop, length, Option, Some, Result, Ok}
 use Rattle.std.proofs.Common.{sym, ap, ◌∙◌, subst, append_assoc}
 use Rattle.odb_base.specs.Path.{Path}
 use Rattle.odb_tree.specs.Tree.{State, Tree, tree_of}
 use Rattle.odb_tree.specs.Tree.Follow.{read_of}
 use Rattle.odb_tree.specs.Tree.Way.{crosses}
-use Rattle.odb_tree.specs.Tree.Write as writing
 use Rattle.odb_tree.specs.Tree.Write.{spot, replaceable, written}
 use Rattle.odb_tree.specs.declared.change.Change.TheVariants.{Rename}
 use Rattle.gix_hash.specs.ObjectId.{hex_of}
@@ -14,7 +13,7 @@ use Rattle.odb_tree.proofs.CrossesLaws.{StandsPlain, crosses_plain, replaceable_
 use Rattle.odb_tree.proofs.WayWriteLaws.{rename_change}
 use Rattle.gix_hash.specs.declared.object_id.ObjectId.{ObjectId}
 use Rattle.gix_object.specs.Loose.{header_of}
-use Rattle.gix_object.specs.Loose.Laws.{IsLoose-header_of}
+use Rattle.gix_object.proofs.LooseLaws.{IsLoose-header_of}
 use Rattle.gix_object.specs.declared.kind.Kind.{Kind}
 use Rattle.gix_odb_loose.specs.LooseFile.{Gives, HoldsObject, IsWithin, loose_path}
 use Rattle.gix_hash.specs.declared.kind.Kind.{Kind as HashKind}
@@ -26,7 +25,7 @@ use Rattle.gix_odb_loose.specs.WriteRuns.{Writes, write_head}
 use Rattle.gix_odb_loose.specs.WriteRuns.ReadBack.{ReadsBack}
 use Rattle.gix_odb_loose.specs.declared.find.Error.{Error}
 use Rattle.gix_odb_loose.specs.declared.store.Store.{Store}
-use Rattle.gix_odb_loose.specs.declared.write_call.WriteHead.{WriteHead}
+use Rattle.gix_odb_loose.specs.declared.write_order.WriteHead.{WriteHead}
 
 -- ---- what is read back
 

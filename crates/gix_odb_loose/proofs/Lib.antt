@@ -1,23 +1,23 @@
 mod LooseExamples
-mod DrawLemmas
-mod RoomLemmas
-pub mod AskLaws
-pub mod StillAskLaws
-mod StreamAskLemmas
-mod StreamLemmas
-mod TurnsLeftLemmas
-mod StreamTurnLemmas
-mod StreamEndLemmas
 mod LoosePathLemmas
-mod RunLemmas
-mod WriteRunLemmas
-mod WriteCallLemmas
-mod TurnLemmas
+pub mod LooseOrderLaws
+pub mod CauseLaws
+pub mod ExchangeLaws
+pub mod ReplyLaws
 pub mod AsksLeftLemmas
+pub mod StillAskLaws
+pub mod NameLaws
+mod RunLemmas
+mod TurnLemmas
+mod RoomLemmas
+mod WriteJobsLemmas
+mod WriteStreamsLemmas
+pub mod AskLaws
 pub mod WriteHistoryLaws
+pub mod WriteMadeLaws
 pub mod WriteShownLaws
 pub mod WriteCauseLaws
 pub mod ReadBackLaws
 pub mod FoundLaws
-pub mod NameLaws
-pub mod WriteMadeLaws
+mod StreamJobsLemmas
+mod WriteRunsLemmas

@@ -1,5 +1,5 @@
 -- Paths, replies and what files hold, on examples, by computation.
-use Rattle.std.proofs.Common.{◌≡◌, ℕ, List, [], ◌∷◌, ◌++◌, codes, true, false, Option, Some, None, Result, Ok, Err, refl, arith}
+use Rattle.std.proofs.Common.{◌≡◌, ℕ, List, [], ◌∷◌, ◌++◌, codes, true, false, Option, Some, None, Result, Ok, Err, refl}
 use Rattle.odb_base.specs.Decimal.{number_of}
 use Rattle.odb_base.specs.Path.{Path}
 use Rattle.odb_disk.specs.declared.ask.DiskAnswer.TheVariants as answers
@@ -13,7 +13,7 @@ use Rattle.gix_object.specs.Loose.{loose_of, spelled}
 use Rattle.gix_object.specs.declared.kind.Kind.{Kind}
 use Rattle.gix_object.specs.declared.kind.Kind.TheVariants.{Blob}
 use Rattle.gix_odb_loose.specs.LooseFile.{loose_path, IsWithin, Holds, HeaderOf, Presence}
-use Rattle.gix_odb_loose.specs.LooseOrder.{tested_by, found_by, header_by, unreadable}
+use Rattle.gix_odb_loose.specs.LooseOrder.Answered.{tested_by, found_by, header_by, unreadable}
 use Rattle.gix_odb_loose.specs.declared.call.LooseJob.TheVariants as jobs
 use Rattle.gix_odb_loose.specs.declared.find.Error.{Error}
 use Rattle.gix_odb_loose.specs.declared.find.Error.TheVariants as errors
@@ -113,4 +113,4 @@ a_header_is_no_object : ¬ (Holds None (jobs.Find (Sha1 [])) hello (HeaderOf Blo
 a_header_is_no_object = λ h. h
 
 the_limit_is_within : IsWithin (Some 5) 5
-the_limit_is_within = omega arith
+the_limit_is_within = refl

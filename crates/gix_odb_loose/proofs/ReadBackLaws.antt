@@ -25,11 +25,11 @@ use Rattle.odb_tree.proofs.WriteLaws.{tree_of-written}
 use Rattle.gix_hash.specs.declared.object_id.ObjectId.{ObjectId}
 use Rattle.gix_object.specs.Loose.{header_of}
 use Rattle.gix_odb_loose.specs.Exchanges.{Exchange, exchanged, left_by, IsGiven, AreGiven}
-use Rattle.gix_odb_loose.specs.Exchanges.Laws.{left_by-push, left_by-append, AreGiven-append}
+use Rattle.gix_odb_loose.proofs.ExchangeLaws.{left_by-push, left_by-append, AreGiven-append}
 use Rattle.gix_odb_loose.specs.LooseFile.{loose_path}
-use Rattle.gix_odb_loose.specs.WriteHistory.{tried, made, headed, IsFilled, IsFoldered, IsMoved, IsThere}
+use Rattle.gix_odb_loose.specs.WriteHistory.WentWell.{tried, made, headed, IsFilled, IsFoldered, IsMoved, IsThere}
 use Rattle.gix_odb_loose.specs.WriteOrder.{temp_path, prefix_path}
-use Rattle.gix_odb_loose.specs.declared.write_call.WriteHead.{WriteHead}
+use Rattle.gix_odb_loose.specs.declared.write_order.WriteHead.{WriteHead}
 use Rattle.gix_odb_loose.specs.WriteRuns.ReadBack.{ReadsBack}
 
 -- ---- one exchange that was done

@@ -3,13 +3,14 @@ use Rattle.std.specs.Prelude.{◌≡◌, ℕ, ◌+◌, ◌-◌, ◌<◌, ◌≤�
 use Rattle.std.proofs.Common.{arith}
 use Rattle.std.proofs.lemmas.Grind.{common_steps}
 use Rattle.gix_odb_loose.specs.WriteOrder.{room_behind}
+use Rattle.gix_odb_loose.specs.WritePieces.{piece_size}
 
 -- a piece has room, and one byte above the size at most
-room_some : (size written : ℕ) (b : Bool) → nat_lt written size ≡ b → 1 ≤ (if b then min 65536 (size - written + 1) else 1)
+room_some : (size written : ℕ) (b : Bool) → nat_lt written size ≡ b → 1 ≤ (if b then min piece_size (size - written + 1) else 1)
 room_some size written true e = grind (arith, common_steps)
 room_some size written false e = omega arith
 
-room_most : (size written : ℕ) (b : Bool) → nat_lt written size ≡ b → written ≤ size → written + (if b then min 65536 (size - written + 1) else 1) ≤ size + 1
+room_most : (size written : ℕ) (b : Bool) → nat_lt written size ≡ b → written ≤ size → written + (if b then min piece_size (size - written + 1) else 1) ≤ size + 1
 room_most size written true e within = let less : written < size = grind (arith, common_steps, e) in grind (arith, common_steps, less)
 room_most size written false e within = omega (arith, within)
 
@@ -19,9 +20,9 @@ has_room size written = room_some size written (nat_lt written size) refl
 pub room_within : (size written : ℕ) → written ≤ size → written + room_behind size written ≤ size + 1
 room_within size written within = room_most size written (nat_lt written size) refl within
 
-few_by : (size written : ℕ) (b : Bool) → (if b then min 65536 (size - written + 1) else 1) ≤ 65536
+few_by : (size written : ℕ) (b : Bool) → (if b then min piece_size (size - written + 1) else 1) ≤ piece_size
 few_by size written true = grind (arith, common_steps)
 few_by size written false = omega arith
 
-pub room_few : (size written : ℕ) → room_behind size written ≤ 65536
+pub room_few : (size written : ℕ) → room_behind size written ≤ piece_size
 room_few size written = few_by size written (nat_lt written size)

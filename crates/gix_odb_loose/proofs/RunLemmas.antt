@@ -18,9 +18,10 @@ use Rattle.gix_odb_loose.specs.Store.{store_path, store_limit}
 use Rattle.gix_odb_loose.specs.LooseFile.{Reading, loose_path, LeadsToFile, HoldsObject, HoldsHeader}
 use Rattle.gix_odb_loose.specs.Causes.{FindCause, HeaderCause}
 use Rattle.gix_odb_loose.specs.Answers.{ComesTo, AnswersRead, GaveIn}
-use Rattle.gix_odb_loose.specs.LooseOrder.{started, tested_by, found_by, header_by}
-use Rattle.gix_odb_loose.specs.LooseOrder.ReadLaws.{found_by-Err, found_by-Err_untold, header_by-Err, header_by-Err_untold, found_by-AnswersRead, header_by-AnswersRead}
-use Rattle.gix_odb_loose.specs.LooseOrder.LookLaws.{tested_by-Ok}
+use Rattle.gix_odb_loose.specs.LooseOrder.{started}
+use Rattle.gix_odb_loose.specs.LooseOrder.Answered.{tested_by, found_by, header_by}
+use Rattle.gix_odb_loose.proofs.LooseOrderLaws.Read.{found_by-Err, found_by-Err_untold, header_by-Err, header_by-Err_untold, found_by-AnswersRead, header_by-AnswersRead}
+use Rattle.gix_odb_loose.proofs.LooseOrderLaws.Look.{tested_by-Ok}
 use Rattle.gix_odb_loose.specs.Runs.{ComesToReply}
 use Rattle.gix_odb_loose.specs.declared.find.Error.{Error}
 use Rattle.gix_odb_loose.specs.declared.find.Error.TheVariants as errors

@@ -5,15 +5,16 @@ use Rattle.odb_disk.specs.StreamAsks.{is_of_streams}
 use Rattle.odb_disk.specs.declared.ask.DiskAsk.{DiskAsk}
 use Rattle.odb_disk.specs.declared.ask.DiskAsk.TheVariants as asks
 use Rattle.gix_odb_loose.specs.LooseOrder.{disk_ask_of, stage_ask}
-use Rattle.gix_odb_loose.specs.StreamJobs.{Begun, IsReady}
+use Rattle.gix_odb_loose.specs.StreamJobs.Progress.{Begun}
+use Rattle.gix_odb_loose.specs.StreamJobs.AtStage.{IsReady}
 use Rattle.gix_odb_loose.specs.WriteOrder.{number_made, write_ask}
 use Rattle.gix_odb_loose.specs.WriteJobs.{ask_in, piece_in}
 use Rattle.gix_odb_loose.specs.declared.call.LooseCall.{LooseCall}
 use Rattle.gix_odb_loose.specs.declared.call.Stage.{Stage}
 use Rattle.gix_odb_loose.specs.declared.call.Stage.TheVariants as calls
-use Rattle.gix_odb_loose.specs.declared.write_call.WriteHead.{WriteHead}
-use Rattle.gix_odb_loose.specs.declared.write_call.WriteStage.{WriteStage}
-use Rattle.gix_odb_loose.specs.declared.write_call.WriteStage.TheVariants as stages
+use Rattle.gix_odb_loose.specs.declared.write_order.WriteHead.{WriteHead}
+use Rattle.gix_odb_loose.specs.declared.write_order.WriteStage.{WriteStage}
+use Rattle.gix_odb_loose.specs.declared.write_order.WriteStage.TheVariants as stages
 
 pub write_asks_still : (head : WriteHead) (piece : List ℕ) (stage : WriteStage) → is_of_streams (write_ask head piece stage) ≡ false
 write_asks_still head piece (stages.Making number) = refl

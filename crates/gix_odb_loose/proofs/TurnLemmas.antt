@@ -10,7 +10,7 @@ use Rattle.odb_disk.specs.declared.ask.DiskAnswer.{DiskAnswer}
 use Rattle.odb_disk.specs.declared.ask.DiskAnswer.TheVariants as answers
 use Rattle.gix_odb_loose.specs.LooseFile.{IsFinding, loose_path}
 use Rattle.gix_odb_loose.specs.LooseOrder.{started, fed, disk_ask_of, reply_of}
-use Rattle.gix_odb_loose.specs.Runs.{Goes, Led, Turned, Turns, Broke, ComesToReply}
+use Rattle.gix_odb_loose.specs.Runs.{Goes, FedOnce, Turned, Turns, Broke, ComesToReply}
 use Rattle.gix_odb_loose.specs.Store.{store_path}
 use Rattle.gix_odb_loose.specs.declared.store.Store.{Store}
 use Rattle.gix_odb_loose.specs.declared.call.LooseCall.{LooseCall}
@@ -63,7 +63,7 @@ module _ (state : Option State) (before now : ℕ) (store : Store) (job : LooseJ
   is_new : (ask : DiskAsk) → disk_ask_of call ≡ Some ask → call ≡ started store job
   is_new ask asked = elim goes [ inl e ↦ e | inr led ↦ absurd (none_twice led) ]
     where
-      none_twice : Led state before now (started store job) call → ⊥
+      none_twice : FedOnce state before now (started store job) call → ⊥
       none_twice led = let none = ap disk_ask_of led.is ∙ asked_once store job led.given finding in cc (none, asked)
 
   -- a finding call leaves the disk as it was
@@ -114,7 +114,7 @@ module _ (state : Option State) (before now : ℕ) (store : Store) (job : LooseJ
   finding_end own new later after true reply then is turned replied = absurd (cc is)
   finding_end own new later after false reply then is turned replied = elim goes [ inl e ↦ absurd (asks_first (sym (ap disk_ask_of e) ∙ turned.0)) | inr led ↦ told led ]
     where
-      told : Led state before now (started store job) call → ComesToReply state before later (started store job) reply
+      told : FedOnce state before now (started store job) call → ComesToReply state before later (started store job) reply
       told led = record {
         ask = led.ask;
         given = led.given;

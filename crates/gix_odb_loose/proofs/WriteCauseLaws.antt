@@ -1,5 +1,5 @@
 -- The cause of a refused write stands in its exchanges, or in the source of its data.
-use Rattle.std.specs.Prelude.{◌≡◌, ◌⊎◌, ℕ, zero, suc, ◌+◌, ◌<◌, List, [], ◌∷◌, ◌++◌, map, All, Contains, slice_index_or, refl}
+use Rattle.std.specs.Prelude.{◌≡◌, ◌⊎◌, ℕ, zero, suc, ◌<◌, List, [], ◌∷◌, ◌++◌, map, All, Contains, slice_index_or, refl}
 use Rattle.std.proofs.Common.{inl, inr, sym, subst, arith}
 use Rattle.std.proofs.lemmas.Bool.{cases_lt}
 use Rattle.std.proofs.lemmas.List.{length-map, get_or-map}
@@ -11,18 +11,20 @@ use Rattle.odb_disk.specs.declared.ask.DiskAnswer.TheVariants as answers
 use Rattle.odb_tree.specs.declared.disk_error.DiskError.TheVariants as disk_errors
 use Rattle.gix_hash.specs.declared.object_id.ObjectId.{ObjectId}
 use Rattle.gix_odb_loose.specs.Causes.{AppendsOther}
-use Rattle.gix_odb_loose.specs.Causes.WriteLaws.{WriteCause-wider}
+use Rattle.gix_odb_loose.proofs.CauseLaws.Write.{WriteCause-wider}
 use Rattle.gix_odb_loose.specs.Exchanges.{Exchange, exchanged}
-use Rattle.gix_odb_loose.specs.WriteOrder.{temp_path, prefix_path, write_ask, error_from}
-use Rattle.gix_odb_loose.specs.WriteHistory.{tried, made, headed, IsFilled, IsFoldered, IsThere, IsRefused, RefusedIn, TakenIn, DoneIn, WantedIn, HasCauseIn, IsAnswered, Wants, IsStopped, IsUnmade, IsRefusedRun}
+use Rattle.gix_odb_loose.specs.WriteOrder.{temp_names, temp_path, prefix_path, write_ask, error_from}
+use Rattle.gix_odb_loose.specs.WriteHistory.WentWell.{tried, made, headed, IsFilled, IsFoldered, IsThere}
+use Rattle.gix_odb_loose.specs.WriteHistory.Refused.{IsRefused, RefusedIn, TakenIn, DoneIn, WantedIn, HasCauseIn}
+use Rattle.gix_odb_loose.specs.WriteHistory.{IsAnswered, Wants, IsStopped, IsUnmade, IsRefusedRun}
 use Rattle.gix_odb_loose.specs.WriteStreams.{CountsOther}
 use Rattle.gix_odb_loose.specs.declared.write.Error.{Error}
 use Rattle.gix_odb_loose.specs.declared.write.Message.TheVariants as messages
-use Rattle.gix_odb_loose.specs.declared.write_call.Refusal.{Refusal}
-use Rattle.gix_odb_loose.specs.declared.write_call.Refusal.TheVariants as refusals
-use Rattle.gix_odb_loose.specs.declared.write_call.WriteHead.{WriteHead}
-use Rattle.gix_odb_loose.specs.declared.write_call.WriteStage.{WriteStage}
-use Rattle.gix_odb_loose.specs.declared.write_call.WriteStage.TheVariants as stages
+use Rattle.gix_odb_loose.specs.declared.write_order.Refusal.{Refusal}
+use Rattle.gix_odb_loose.specs.declared.write_order.Refusal.TheVariants as refusals
+use Rattle.gix_odb_loose.specs.declared.write_order.WriteHead.{WriteHead}
+use Rattle.gix_odb_loose.specs.declared.write_order.WriteStage.{WriteStage}
+use Rattle.gix_odb_loose.specs.declared.write_order.WriteStage.TheVariants as stages
 
 -- the last exchange is one of them
 last_in : (past : List Exchange) (x : Exchange) → Contains (past ++ x ∷ []) x
@@ -156,7 +158,7 @@ module _ (head : WriteHead) (Named : ObjectId → Type 0) (SourceFailed : Type 0
   unmade_cause : (refusal : Refusal) (past : List Exchange) → IsUnmade head Named refusal past → Caused past (error_from head refusal)
   unmade_cause (refusals.Io messages.CreateTempFile) past h =
       elim h [
-        | inl all ↦ (refl, inr (λ n less. subst (λ (xs : List Exchange). TakenIn xs (asks.NewFile (temp_path head.objects n))) (sym all) (tried_in head 16 n less)))
+        | inl all ↦ (refl, inr (λ n less. subst (λ (xs : List Exchange). TakenIn xs (asks.NewFile (temp_path head.objects n))) (sym all) (tried_in head temp_names n less)))
         | inr one ↦ (refl, inl (one.0, one.1.well.0, refused_in (stages.Making one.0) past one.1))
       ]
   unmade_cause (refusals.Io messages.WriteHeader) past h = absurd h

@@ -1,22 +1,23 @@
 -- Laws of the temporary file of a write, for callers: a write that stands at a stage after the making of its file has asked
 -- for that file, and was answered that it is made.
-use Rattle.std.proofs.Common.{◌≡◌, ◌⊎◌, inl, inr, ℕ, ◌<◌, List, [], ◌∷◌, ◌++◌, Contains, Some, refl, sym, ap, ◌∙◌, subst, arith}
+use Rattle.std.proofs.Common.{◌≡◌, inl, inr, ℕ, ◌<◌, List, [], ◌∷◌, Contains, Some, refl, sym, ap, ◌∙◌, subst, arith}
 use Rattle.std.proofs.lemmas.List.Elements.{Contains-append_left, Contains-append_right}
 use Rattle.odb_disk.specs.declared.ask.DiskAsk.{DiskAsk}
 use Rattle.odb_disk.specs.declared.ask.DiskAsk.TheVariants as asks
 use Rattle.odb_disk.specs.declared.ask.DiskAnswer.{DiskAnswer}
 use Rattle.odb_disk.specs.declared.ask.DiskAnswer.TheVariants as answers
 use Rattle.gix_hash.specs.declared.object_id.ObjectId.{ObjectId}
-use Rattle.gix_object.specs.Loose.{header_of}
 use Rattle.gix_odb_loose.specs.Exchanges.{Exchange, exchanged}
-use Rattle.gix_odb_loose.specs.WriteHistory.{GoesWell, IsAnswered, IsFilled, IsFoldered, IsHistory, IsRefused, IsStopped, Wants, made, tried}
-use Rattle.gix_odb_loose.specs.WriteOrder.{number_made, temp_path}
+use Rattle.gix_odb_loose.specs.WriteHistory.{GoesWell, IsAnswered, IsHistory, IsStopped, Wants}
+use Rattle.gix_odb_loose.specs.WriteHistory.WentWell.{IsFilled, IsFoldered, IsMoved, made, tried}
+use Rattle.gix_odb_loose.specs.WriteHistory.Refused.{IsRefused}
+use Rattle.gix_odb_loose.specs.WriteOrder.{temp_names, number_made, temp_path}
 use Rattle.gix_odb_loose.specs.declared.write.Message.TheVariants as messages
-use Rattle.gix_odb_loose.specs.declared.write_call.Refusal.{Refusal}
-use Rattle.gix_odb_loose.specs.declared.write_call.Refusal.TheVariants as refusals
-use Rattle.gix_odb_loose.specs.declared.write_call.WriteHead.{WriteHead}
-use Rattle.gix_odb_loose.specs.declared.write_call.WriteStage.{WriteStage}
-use Rattle.gix_odb_loose.specs.declared.write_call.WriteStage.TheVariants as stages
+use Rattle.gix_odb_loose.specs.declared.write_order.Refusal.{Refusal}
+use Rattle.gix_odb_loose.specs.declared.write_order.Refusal.TheVariants as refusals
+use Rattle.gix_odb_loose.specs.declared.write_order.WriteHead.{WriteHead}
+use Rattle.gix_odb_loose.specs.declared.write_order.WriteStage.{WriteStage}
+use Rattle.gix_odb_loose.specs.declared.write_order.WriteStage.TheVariants as stages
 
 module _ (head : WriteHead) (Named : ObjectId → Type 0) (number : ℕ) where
   abbrev making : Exchange
@@ -64,3 +65,7 @@ module _ (head : WriteHead) (Named : ObjectId → Type 0) (number : ℕ) where
     history_makes (stages.Moving n id) appended past e h = in_well (stages.Moving n id) appended past e h
     history_makes (stages.Removing n refusal) appended past e h =
         let same : n ≡ number = cc e in in_stopped refusal past (subst (λ (m : ℕ). IsStopped head Named SourceFailed Counted m refusal past) same h)
+
+-- the number of a file that was moved
+pub moved_below : (head : WriteHead) (number : ℕ) (id : ObjectId) (appended : List ℕ) (past : List Exchange) → IsMoved head number id appended past → number < temp_names
+moved_below head number id appended past h = h.foldered.filled.below

@@ -1,11 +1,9 @@
 -- What the exchanges of a write show, for callers: its calls are its own, a refused one renamed nothing and left no file, and
--- each error has its cause.
-use Rattle.std.specs.Prelude.{◌≡◌, ◌⊎◌, ℕ, zero, suc, ◌<◌, ◌≤◌, ◌&&◌, false, List, [], ◌∷◌, All, Option, Some, None, refl}
+pub mod Unmade
+use Rattle.std.specs.Prelude.{◌≡◌, ◌⊎◌, ℕ, zero, suc, ◌<◌, ◌≤◌, ◌&&◌, false, List, [], All, Option, Some, None, refl}
 use Rattle.std.proofs.Common.{inl, inr, sym, ap, ◌∙◌, subst, arith}
-use Rattle.std.proofs.lemmas.List.Elements.{All-nil, All-append, All-push, All-map, All-head, All-tail}
+use Rattle.std.proofs.lemmas.List.Elements.{All-nil, All-append, All-push, All-map}
 use Rattle.odb_base.specs.Path.{Path}
-use Rattle.odb_disk.specs.Ask.{state_told_after}
-use Rattle.odb_tree.specs.Tree.{State}
 use Rattle.odb_disk.specs.declared.ask.DiskAsk.{DiskAsk}
 use Rattle.odb_disk.specs.declared.ask.DiskAsk.TheVariants as asks
 use Rattle.odb_disk.specs.declared.ask.DiskAnswer.{DiskAnswer}
@@ -13,18 +11,19 @@ use Rattle.odb_disk.specs.declared.ask.DiskAnswer.TheVariants as answers
 use Rattle.odb_tree.specs.declared.disk_error.DiskError.TheVariants as disk_errors
 use Rattle.gix_hash.specs.declared.object_id.ObjectId.{ObjectId}
 use Rattle.gix_object.specs.Loose.{header_of}
-use Rattle.gix_odb_loose.specs.Exchanges.{Exchange, exchanged, left_by, RenamedNothing, MadeOnly, file_made, is_rename, is_done}
+use Rattle.gix_odb_loose.specs.Exchanges.{Exchange, exchanged, RenamedNothing, MadeOnly, file_made, is_rename, is_done}
 use Rattle.gix_odb_loose.specs.LooseFile.{loose_path}
-use Rattle.gix_odb_loose.specs.WriteOrder.{temp_path, prefix_path, temporary_of, number_made, write_ask, error_from}
-use Rattle.gix_odb_loose.specs.WriteHistory.{tried, made, headed, IsFilled, IsFoldered, IsMoved, IsRefused, GoesWell, IsAnswered, Wants, IsStopped, IsUnmade, IsRemovedAfter, IsRefusedRun, IsBrokenRun, IsHistory}
+use Rattle.gix_odb_loose.specs.WriteOrder.{temp_names, temp_path, prefix_path, temporary_of, number_made, write_ask}
+use Rattle.gix_odb_loose.specs.WriteHistory.WentWell.{tried, made, headed, IsFilled, IsFoldered, IsMoved}
+use Rattle.gix_odb_loose.specs.WriteHistory.Refused.{IsRefused}
+use Rattle.gix_odb_loose.specs.WriteHistory.{GoesWell, IsAnswered, Wants, IsStopped, IsUnmade, IsRemovedAfter, IsRefusedRun, IsBrokenRun, IsHistory}
 use Rattle.gix_odb_loose.specs.WriteOwn.{IsOwn, AreOwn, LeavesNothing}
-use Rattle.gix_odb_loose.specs.declared.write.Error.TheVariants as errors
 use Rattle.gix_odb_loose.specs.declared.write.Message.TheVariants as messages
-use Rattle.gix_odb_loose.specs.declared.write_call.Refusal.{Refusal}
-use Rattle.gix_odb_loose.specs.declared.write_call.Refusal.TheVariants as refusals
-use Rattle.gix_odb_loose.specs.declared.write_call.WriteHead.{WriteHead}
-use Rattle.gix_odb_loose.specs.declared.write_call.WriteStage.{WriteStage}
-use Rattle.gix_odb_loose.specs.declared.write_call.WriteStage.TheVariants as stages
+use Rattle.gix_odb_loose.specs.declared.write_order.Refusal.{Refusal}
+use Rattle.gix_odb_loose.specs.declared.write_order.Refusal.TheVariants as refusals
+use Rattle.gix_odb_loose.specs.declared.write_order.WriteHead.{WriteHead}
+use Rattle.gix_odb_loose.specs.declared.write_order.WriteStage.{WriteStage}
+use Rattle.gix_odb_loose.specs.declared.write_order.WriteStage.TheVariants as stages
 
 -- an answer that refuses isn't that it is done
 undone : (ask : DiskAsk) (answer : DiskAnswer) → IsRefused ask answer → is_done answer ≡ false
@@ -43,8 +42,8 @@ module _ (head : WriteHead) (Named : ObjectId → Type 0) where
   -- ---- what each exchange of a write has
 
   -- before a file is made
-  module _ (P : Exchange → Type 0) (makes : (n : ℕ) → n < 16 → (answer : DiskAnswer) → is_done answer ≡ false → P (exchanged (asks.NewFile (temp_path head.objects n)) answer)) where
-    tried_all : (n : ℕ) → n ≤ 16 → All P (tried head n)
+  module _ (P : Exchange → Type 0) (makes : (n : ℕ) → n < temp_names → (answer : DiskAnswer) → is_done answer ≡ false → P (exchanged (asks.NewFile (temp_path head.objects n)) answer)) where
+    tried_all : (n : ℕ) → n ≤ temp_names → All P (tried head n)
     unfolding tried
     tried_all zero few = All-nil P
     tried_all (suc n) few = All-push P (tried head n) _ (tried_all n (omega (arith, few))) (makes n (omega (arith, few)) (answers.Refused disk_errors.Exists) refl)
@@ -56,7 +55,7 @@ module _ (head : WriteHead) (Named : ObjectId → Type 0) where
 
     pub unmade_all : (refusal : Refusal) (past : List Exchange) → IsUnmade head Named refusal past → All P past
     unmade_all (refusals.Io messages.CreateTempFile) past h =
-        elim h [ inl all ↦ subst (All P) (sym all) (tried_all 16 (omega arith)) | inr one ↦ making_all one.0 IsRefused undone past one.1 ]
+        elim h [ inl all ↦ subst (All P) (sym all) (tried_all temp_names (omega arith)) | inr one ↦ making_all one.0 IsRefused undone past one.1 ]
     unmade_all (refusals.Io messages.WriteHeader) past h = absurd h
     unmade_all (refusals.Io messages.StreamData) past h = absurd h
     unmade_all refusals.IoRaw past h = absurd h
@@ -65,10 +64,10 @@ module _ (head : WriteHead) (Named : ObjectId → Type 0) where
     unmade_all refusals.NoMemory past h = making_all h.0 Wants unwanted past h.1
 
     -- after it is made
-    module _ (number : ℕ) (is_made : number < 16 → P (exchanged (asks.NewFile (temp_path head.objects number)) answers.Done)) (appends : (bytes : List ℕ) (answer : DiskAnswer) → P (exchanged (asks.Append (temp_path head.objects number) bytes) answer))
+    module _ (number : ℕ) (is_made : number < temp_names → P (exchanged (asks.NewFile (temp_path head.objects number)) answers.Done)) (appends : (bytes : List ℕ) (answer : DiskAnswer) → P (exchanged (asks.Append (temp_path head.objects number) bytes) answer))
         (folders : (id : ObjectId) → Named id → (answer : DiskAnswer) → P (exchanged (asks.MakeDir (prefix_path head.objects id)) answer))
         (renames : (id : ObjectId) → Named id → (answer : DiskAnswer) → is_done answer ≡ false → P (exchanged (asks.Rename (temp_path head.objects number) (loose_path head.objects id)) answer)) where
-      made_all : number < 16 → All P (made head number)
+      made_all : number < temp_names → All P (made head number)
       made_all below = All-push P (tried head number) _ (tried_all number (omega (arith, below))) (is_made below)
 
       filled_all : (appended : List ℕ) (past : List Exchange) → IsFilled head number appended past → All P past
@@ -82,7 +81,7 @@ module _ (head : WriteHead) (Named : ObjectId → Type 0) where
 
       well_all : (stage : WriteStage) (appended : List ℕ) (past : List Exchange) → number_made stage ≡ Some number → GoesWell head Named appended stage past → All P past
       well_all (stages.Making n) appended past e h = absurd (cc e)
-      well_all (stages.Heading n) appended past e h = let same : n ≡ number = cc e in subst (All P) (sym (h.1 ∙ ap (made head) same)) (made_all (subst (λ (m : ℕ). m < 16) same h.2))
+      well_all (stages.Heading n) appended past e h = let same : n ≡ number = cc e in subst (All P) (sym (h.1 ∙ ap (made head) same)) (made_all (subst (λ (m : ℕ). m < temp_names) same h.2))
       well_all (stages.Filling n written) appended past e h = let same : n ≡ number = cc e in filled_all appended past (subst (λ (m : ℕ). IsFilled head m appended past) same h.1)
       well_all (stages.Foldering n id) appended past e h = let same : n ≡ number = cc e in filled_all appended past (subst (λ (m : ℕ). IsFilled head m appended past) same h.2)
       well_all (stages.Moving n id) appended past e h = let same : n ≡ number = cc e in foldered_all id appended past h.1 (subst (λ (m : ℕ). IsFoldered head m id appended past) same h.2)
@@ -247,44 +246,3 @@ module _ (head : WriteHead) (Named : ObjectId → Type 0) where
         each = moved_all (λ (x : Exchange). IsOwn head Named number x.ask) (λ n below answer isnt_done. (n, below, refl)) number (λ below. (number, below, refl)) (λ bytes answer. refl) (λ i n answer. (i, n, refl)) (λ i n answer isnt_done. (refl, (i, n, refl))) id appended past named
             (refl, (id, named, refl)) h;
       }
-
--- the number of a file that was moved
-pub moved_below : (head : WriteHead) (number : ℕ) (id : ObjectId) (appended : List ℕ) (past : List Exchange) → IsMoved head number id appended past → number < 16
-moved_below head number id appended past h = h.foldered.filled.below
-
--- ---- where no file was made
-
--- calls that weren't done leave the disk as it was
-undone_left : (state : Option State) (xs : List Exchange) → All (λ (x : Exchange). is_done x.answer ≡ false) xs → left_by state xs ≡ state
-unfolding left_by
-undone_left state [] all = refl
-undone_left state (x ∷ xs) all =
-    ap (λ (s : Option State). left_by s xs) (same state x.ask x.answer (All-head (λ (y : Exchange). is_done y.answer ≡ false) x xs all)) ∙ undone_left state xs (All-tail (λ (y : Exchange). is_done y.answer ≡ false) x xs all)
-  where
-    same : (s : Option State) (ask : DiskAsk) (answer : DiskAnswer) → is_done answer ≡ false → state_told_after s ask answer ≡ s
-    same None ask answer isnt_done = refl
-    same (Some s) ask answers.Done isnt_done = absurd (cc isnt_done)
-    same (Some s) ask (answers.Meta meta) isnt_done = refl
-    same (Some s) ask (answers.Dir dir) isnt_done = refl
-    same (Some s) ask (answers.Entry entry) isnt_done = refl
-    same (Some s) ask answers.End isnt_done = refl
-    same (Some s) ask (answers.File bytes time) isnt_done = refl
-    same (Some s) ask (answers.Refused error) isnt_done = refl
-
-module _ (head : WriteHead) (Named : ObjectId → Type 0) (SourceFailed : Type 0) (Counted : ℕ → Type 0) (state : Option State) where
-  unmade_run : (past : List Exchange) → IsRefusedRun head Named SourceFailed Counted (refusals.Io messages.CreateTempFile) past → left_by state past ≡ state
-  unmade_run past run =
-      elim run [
-        | inl none ↦ undone_left state past (unmade_all head Named (λ (x : Exchange). is_done x.answer ≡ false) (λ n below answer isnt_done. isnt_done) (refusals.Io messages.CreateTempFile) past none)
-        | inr one ↦ absurd one.2
-      ]
-
-  -- where no temporary file could be made, the disk is as it was
-  pub unmade_left : (refusal : Refusal) (path : Path) (past : List Exchange) → error_from head refusal ≡ errors.Io messages.CreateTempFile path → IsRefusedRun head Named SourceFailed Counted refusal past → left_by state past ≡ state
-  unmade_left (refusals.Io messages.CreateTempFile) path past e run = unmade_run past run
-  unmade_left (refusals.Io messages.WriteHeader) path past e run = absurd (cc e)
-  unmade_left (refusals.Io messages.StreamData) path past e run = absurd (cc e)
-  unmade_left refusals.IoRaw path past e run = absurd (cc e)
-  unmade_left (refusals.Persist id) path past e run = absurd (cc e)
-  unmade_left (refusals.SizeMismatch actual) path past e run = absurd (cc e)
-  unmade_left refusals.NoMemory path past e run = absurd (cc e)

@@ -5,18 +5,16 @@
 -- its way absent, of the wrong kind or a link loop, `Exists ask` that something was there already, and `Done ask` that
 -- it was done. A write removes its file last, so a file that it made and then appends to or renames was not removed by
 -- it. A store's call, the machine and a run over a changing tree each have their own.
-pub mod Laws
-pub mod WriteLaws
-use Rattle.std.specs.Prelude.{◌≡◌, ◌≢◌, ◌⊎◌, ℕ, ◌<◌, List, [], length, All, Option, Some, None, Ok, Err}
+use Rattle.std.specs.Prelude.{◌≡◌, ◌≢◌, ◌⊎◌, ℕ, ◌<◌, true, List, [], length, All, Option, Ok, Err}
 use Rattle.std.specs.List.{concat}
 use Rattle.odb_disk.specs.declared.ask.DiskAsk.{DiskAsk}
 use Rattle.odb_disk.specs.declared.ask.DiskAsk.TheVariants as asks
 use Rattle.gix_hash.specs.declared.object_id.ObjectId.{ObjectId}
 use Rattle.gix_object.specs.Loose.{header_of}
 use Rattle.gix_odb_loose.specs.LooseFile.{loose_path}
-use Rattle.gix_odb_loose.specs.WriteOrder.{temp_path, prefix_path}
+use Rattle.gix_odb_loose.specs.WriteOrder.{temp_names, temp_path, prefix_path}
 use Rattle.gix_odb_loose.specs.WriteStreams.{CountsOther}
-use Rattle.gix_odb_loose.specs.declared.write_call.WriteHead.{WriteHead}
+use Rattle.gix_odb_loose.specs.declared.write_order.WriteHead.{WriteHead}
 use Rattle.gix_odb_loose.specs.declared.write.Error.{Error as WriteError}
 use Rattle.gix_odb_loose.specs.declared.write.Error.TheVariants as write_errors
 use Rattle.gix_odb_loose.specs.declared.write.Message.{Message}
@@ -25,7 +23,7 @@ use Rattle.odb_base.specs.Path.{Path}
 use Rattle.odb_tree.specs.Tree.Follow.{WrongKind, LinkLoop}
 use Rattle.gix_object.specs.Loose.{IsLoose}
 use Rattle.gix_object.specs.declared.kind.Kind.{Kind}
-use Rattle.gix_odb_loose.specs.LooseFile.{Reading, IsWithin}
+use Rattle.gix_odb_loose.specs.LooseFile.{Reading, is_above, IsWithin}
 use Rattle.gix_odb_loose.specs.declared.find.Error.{Error}
 use Rattle.gix_odb_loose.specs.declared.find.Error.TheVariants as errors
 use Rattle.gix_odb_loose.specs.declared.find.Action.TheVariants.{OpenOrMap}
@@ -48,11 +46,6 @@ pub record HasNoHeader (read : Reading) : Type 0 where
   pub some : bytes ≢ []
   pub none : (kind : Kind) (size : ℕ) (rest : List ℕ) → ¬ (IsLoose bytes kind size rest)
 
--- a size is above the limit
-abbrev pub IsAbove : Option ℕ → ℕ → Type 0
-IsAbove None size = ⊥
-IsAbove (Some limit) size = limit < size
-
 -- a read gave a file whose header says a size above the limit
 pub record HasLargeSize (limit : Option ℕ) (size : ℕ) (read : Reading) : Type 0 where
   pub bytes : List ℕ
@@ -61,7 +54,7 @@ pub record HasLargeSize (limit : Option ℕ) (size : ℕ) (read : Reading) : Typ
   pub rest : List ℕ
   pub given : read ≡ Ok (bytes, time)
   pub header : IsLoose bytes kind size rest
-  pub above : IsAbove limit size
+  pub above : is_above limit size ≡ true
 
 -- a read gave a file whose header says a size within the limit, and whose data have another length
 pub record HasOtherLength (limit : Option ℕ) (expected actual : ℕ) (read : Reading) : Type 0 where
@@ -112,7 +105,7 @@ Cause (jobs.Write kind size bytes id) path limit Gave Failed Wanting error = ⊥
 -- header or a piece of the data couldn't be appended to the file that was made; or the source of the data failed.
 abbrev pub IoCause : WriteHead → (Refuses Exists Done : DiskAsk → Type 0) (SourceFailed : Type 0) → Message → Type 0
 IoCause head Refuses Exists Done SourceFailed messages.CreateTempFile =
-    ((number : ℕ) × (number < 16) × Refuses (asks.NewFile (temp_path head.objects number))) ⊎ ((number : ℕ) → number < 16 → Exists (asks.NewFile (temp_path head.objects number)))
+    ((number : ℕ) × (number < temp_names) × Refuses (asks.NewFile (temp_path head.objects number))) ⊎ ((number : ℕ) → number < temp_names → Exists (asks.NewFile (temp_path head.objects number)))
 IoCause head Refuses Exists Done SourceFailed messages.WriteHeader =
     (number : ℕ) × Done (asks.NewFile (temp_path head.objects number)) × Refuses (asks.Append (temp_path head.objects number) (header_of head.kind head.size))
 IoCause head Refuses Exists Done SourceFailed messages.StreamData =

@@ -1,5 +1,4 @@
 -- What a call asked of a disk and what it was answered, one exchange after another.
-pub mod Laws
 use Rattle.std.specs.Prelude.{◌≡◌, ◌⊎◌, ℕ, Bool, true, false, ◌&&◌, List, [], ◌∷◌, All, Option, Some, None, IfSome}
 use Rattle.odb_base.specs.Faults.{Rose}
 use Rattle.odb_base.specs.Path.{Path}

@@ -1,5 +1,5 @@
 -- Loose files: where the file of an object lies, and what its bytes hold as answers of calls.
-use Rattle.std.specs.Prelude.{◌≡◌, ℕ, ◌≤◌, List, [], ◌∷◌, ◌++◌, length, take, drop, Option, Some, None, Result, Ok}
+use Rattle.std.specs.Prelude.{◌≡◌, ℕ, Bool, false, nat_lt, List, [], ◌∷◌, ◌++◌, length, take, drop, Option, Some, None, Result, Ok}
 use Rattle.odb_base.specs.Path.{Path}
 use Rattle.odb_tree.specs.Tree.{Tree}
 use Rattle.odb_tree.specs.Tree.Follow.{Refusal, read_of}
@@ -49,10 +49,13 @@ pub record Gives (read : Reading) (P : List ℕ → Type 0) : Type 0 where
 abbrev pub LeadsToFile : Tree → Path → Type 0
 LeadsToFile tree path = Gives (read_of tree path) (λ bytes. Unit {0})
 
--- a size is within the limit, where there is one
+-- whether a size is above the limit, where there is one
+abbrev pub is_above : Option ℕ → ℕ → Bool
+is_above None size = false
+is_above (Some limit) size = nat_lt limit size
+
 abbrev pub IsWithin : Option ℕ → ℕ → Type 0
-IsWithin None size = Unit {0}
-IsWithin (Some limit) size = size ≤ limit
+IsWithin limit size = is_above limit size ≡ false
 
 -- the bytes of a file hold an object: data as long as the header says, within the limit
 pub record HoldsObject (limit : Option ℕ) (bytes : List ℕ) (kind : Kind) (found : List ℕ) : Type 0 where

@@ -1,27 +1,15 @@
 -- The order of work of a call: which call of the disk comes next, and what is made of its answer.
-pub mod FileLaws
-pub mod ReadLaws
-pub mod LookLaws
-use Rattle.std.specs.Prelude.{◌≡◌, ℕ, ◌==◌, Bool, true, false, nat_lt, List, [], ◌∷◌, length, Option, Some, None, Result, Ok, Err, if◌then◌else◌}
+pub mod Answered
+use Rattle.std.specs.Prelude.{ℕ, true, List, length, Option, Some, None}
 use Rattle.odb_base.specs.Path.{Path}
 use Rattle.odb_disk.specs.declared.ask.DiskAsk.{DiskAsk}
 use Rattle.odb_disk.specs.declared.ask.DiskAsk.TheVariants as asks
 use Rattle.odb_disk.specs.declared.ask.DiskAnswer.{DiskAnswer}
-use Rattle.odb_disk.specs.declared.ask.DiskAnswer.TheVariants as answers
-use Rattle.odb_tree.specs.declared.disk_error.DiskError.TheVariants as disk_errors
-use Rattle.odb_tree.specs.declared.meta.Kind.{Kind as NodeKind}
-use Rattle.odb_tree.specs.declared.meta.Kind.TheVariants as nodes
 use Rattle.gix_hash.specs.declared.object_id.ObjectId.{ObjectId}
-use Rattle.gix_object.specs.Loose.{LooseObject, loose_of}
 use Rattle.gix_object.specs.declared.kind.Kind.{Kind}
 use Rattle.gix_odb_loose.specs.LooseFile.{loose_path}
 use Rattle.gix_odb_loose.specs.Store.{store_path, store_hash, store_limit}
 use Rattle.gix_odb_loose.specs.declared.store.Store.{Store}
-use Rattle.gix_odb_loose.specs.declared.find.Error.{Error}
-use Rattle.gix_odb_loose.specs.declared.find.Error.TheVariants as errors
-use Rattle.gix_odb_loose.specs.declared.find.Action.TheVariants.{OpenOrMap}
-use Rattle.gix_odb_loose.specs.declared.reply.Flaw.{Flaw}
-use Rattle.gix_odb_loose.specs.declared.reply.Flaw.TheVariants as flaws
 use Rattle.gix_odb_loose.specs.declared.call.LooseJob.{LooseJob}
 use Rattle.gix_odb_loose.specs.declared.call.LooseJob.TheVariants as jobs
 use Rattle.gix_odb_loose.specs.declared.call.LooseAsk.{LooseAsk}
@@ -30,13 +18,14 @@ use Rattle.gix_odb_loose.specs.declared.call.LooseReply.{LooseReply}
 use Rattle.gix_odb_loose.specs.declared.call.LooseReply.TheVariants as replies
 use Rattle.gix_odb_loose.specs.declared.call.LooseCall.{LooseCall}
 use Rattle.gix_odb_loose.specs.WriteOrder.{number_made, temporary_of}
-use Rattle.gix_odb_loose.specs.WriteJobs.{ask_in, led_in, writes_left}
-use Rattle.gix_odb_loose.specs.declared.write_call.WriteStage.TheVariants as writes
-use Rattle.gix_odb_loose.specs.declared.write_job.Led.{Led}
-use Rattle.gix_odb_loose.specs.declared.write_job.Led.TheVariants as leds
-use Rattle.gix_odb_loose.specs.declared.write_job.WriteJob.{WriteJob}
+use Rattle.gix_odb_loose.specs.WriteJobs.{ask_in, advance_by, writes_left}
+use Rattle.gix_odb_loose.specs.declared.write_order.WriteStage.TheVariants as writes
+use Rattle.gix_odb_loose.specs.declared.write_at_hand.Advance.{Advance}
+use Rattle.gix_odb_loose.specs.declared.write_at_hand.Advance.TheVariants as advances
+use Rattle.gix_odb_loose.specs.declared.write_at_hand.WriteJob.{WriteJob}
 use Rattle.gix_odb_loose.specs.declared.call.Stage.{Stage}
 use Rattle.gix_odb_loose.specs.declared.call.Stage.TheVariants as stages
+use Rattle.gix_odb_loose.specs.LooseOrder.Answered.{tested_by, found_by, header_by}
 
 -- ---- the stages of a call
 
@@ -88,93 +77,25 @@ ask_of call = asked_at call.stage
 
 -- ---- what is made of an answer
 
-abbrev pub unreadable : Path → Error
-unreadable path = errors.Io OpenOrMap path
-
-abbrev pub is_file : NodeKind → Bool
-is_file nodes.File = true
-is_file nodes.Dir = false
-is_file nodes.Link = false
-
--- A file is a yes, a failed call is an error, want of memory is passed on, and all else is a no.
-abbrev pub tested_by : Path → DiskAnswer → Result Bool Error
-tested_by path (answers.Meta meta) = Ok (is_file meta.kind)
-tested_by path (answers.Refused disk_errors.Failed) = Err (unreadable path)
-tested_by path (answers.Refused disk_errors.NoMemory) = Err errors.NoMemory
-tested_by path answer = Ok false
-
--- the object that a file spells, or what it lacks: an empty file is told apart from one without a header
-abbrev pub spelled_or : Option LooseObject → Result LooseObject Flaw
-spelled_or None = Err flaws.NoHeader
-spelled_or (Some object) = Ok object
-
-abbrev pub spelled_in : List ℕ → Result LooseObject Flaw
-spelled_in [] = Err flaws.Empty
-spelled_in (byte ∷ bytes) = spelled_or (loose_of (byte ∷ bytes))
-
-abbrev pub flaw_error : Path → Flaw → Error
-flaw_error path flaws.Empty = unreadable path
-flaw_error path flaws.NoHeader = errors.Decode
-
-abbrev pub is_above : Option ℕ → ℕ → Bool
-is_above None size = false
-is_above (Some limit) size = nat_lt limit size
-
--- the limit is tested first, and then the length of the data
-abbrev pub object_from : Path → Option ℕ → Result LooseObject Flaw → Result (Option (Kind × List ℕ)) Error
-object_from path limit (Err flaw) = Err (flaw_error path flaw)
-object_from path limit (Ok object) =
-    if is_above limit object.size then Err (errors.OutOfMemory object.size)
-    else if length object.rest == object.size then Ok (Some (object.kind, object.rest))
-    else Err (errors.SizeMismatch (length object.rest) object.size path)
-
-abbrev pub header_from : Path → Result LooseObject Flaw → Result (Option (ℕ × Kind)) Error
-header_from path (Err flaw) = Err (flaw_error path flaw)
-header_from path (Ok object) = Ok (Some (object.size, object.kind))
-
--- A read that gave no file: nothing at the path is a not-found, want of memory is passed on; a failed call, a wrong kind
--- and a link loop are errors.
-abbrev pub unread_by : {A : Type 0} → Path → DiskAnswer → Result (Option A) Error
-unread_by path (answers.Refused disk_errors.Absent) = Ok None
-unread_by path (answers.Refused disk_errors.NoMemory) = Err errors.NoMemory
-unread_by path answer = Err (unreadable path)
-
--- A file is judged by its bytes.
-abbrev pub read_by : {A : Type 0} → (List ℕ → Result (Option A) Error) → Path → DiskAnswer → Result (Option A) Error
-read_by from path (answers.File bytes time) = from bytes
-read_by from path answer = unread_by path answer
-
-abbrev pub object_in : Path → Option ℕ → List ℕ → Result (Option (Kind × List ℕ)) Error
-object_in path limit bytes = object_from path limit (spelled_in bytes)
-
-abbrev pub header_in : Path → List ℕ → Result (Option (ℕ × Kind)) Error
-header_in path bytes = header_from path (spelled_in bytes)
-
-abbrev pub found_by : Path → Option ℕ → DiskAnswer → Result (Option (Kind × List ℕ)) Error
-found_by path limit answer = read_by (object_in path limit) path answer
-
-abbrev pub header_by : Path → DiskAnswer → Result (Option (ℕ × Kind)) Error
-header_by path answer = read_by (header_in path) path answer
-
 -- a write goes on, or has its reply
-abbrev pub written_to : WriteJob → Led → Stage
-written_to job (leds.On stage) = stages.Writing (record job { stage = stage })
-written_to job (leds.Wrote answer) = stages.Done (replies.Wrote answer)
+abbrev pub written_to : WriteJob → Advance → Stage
+written_to job (advances.Stage stage) = stages.Writing (record job { stage = stage })
+written_to job (advances.Reply answer) = stages.Done (replies.Wrote answer)
 
 -- what an answer leads a write to, if the stage is one
-abbrev pub led_at : Stage → DiskAnswer → Option Led
-led_at (stages.Testing path) answer = None
-led_at (stages.Finding path limit) answer = None
-led_at (stages.Heading path) answer = None
-led_at (stages.Writing job) answer = Some (led_in job answer)
-led_at (stages.Done reply) answer = None
+abbrev pub advance_at : Stage → DiskAnswer → Option Advance
+advance_at (stages.Testing path) answer = None
+advance_at (stages.Finding path limit) answer = None
+advance_at (stages.Heading path) answer = None
+advance_at (stages.Writing job) answer = Some (advance_by job answer)
+advance_at (stages.Done reply) answer = None
 
 -- a finding call is done after its one answer, a write at its end; a call that is done stays as it is
 abbrev pub next_stage : Stage → DiskAnswer → Stage
 next_stage (stages.Testing path) answer = stages.Done (replies.Contains (tested_by path answer))
 next_stage (stages.Finding path limit) answer = stages.Done (replies.Found (found_by path limit answer))
 next_stage (stages.Heading path) answer = stages.Done (replies.Header (header_by path answer))
-next_stage (stages.Writing job) answer = written_to job (led_in job answer)
+next_stage (stages.Writing job) answer = written_to job (advance_by job answer)
 next_stage (stages.Done reply) answer = stages.Done reply
 
 abbrev pub fed : LooseCall → DiskAnswer → LooseCall

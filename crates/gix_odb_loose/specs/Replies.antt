@@ -1,6 +1,5 @@
 -- What the reply of a call says of the tree that answered the call's ask. A call over a changing tree cites this of
 -- the tree of that moment.
-pub mod Laws
 use Rattle.std.specs.Prelude.{◌≡◌, ℕ, true, false, Option, Some, None, Ok, Err}
 use Rattle.odb_base.specs.Path.{Path}
 use Rattle.odb_tree.specs.Tree.{Tree}

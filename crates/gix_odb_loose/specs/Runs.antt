@@ -17,7 +17,7 @@ pub record Gave (state : Option State) (before now : ℕ) (ask : DiskAsk) (given
   pub failed : given ≡ answers.Refused disk_errors.Failed → Rose before now
 
 -- a call that was fed what the disk answered to its one ask
-pub record Led (state : Option State) (before now : ℕ) (call after : LooseCall) : Type 0 where
+pub record FedOnce (state : Option State) (before now : ℕ) (call after : LooseCall) : Type 0 where
   pub ask : DiskAsk
   pub given : DiskAnswer
   pub asked : disk_ask_of call ≡ Some ask
@@ -26,7 +26,7 @@ pub record Led (state : Option State) (before now : ℕ) (call after : LooseCall
 
 -- a call is as it was, or was led on
 abbrev pub Goes : Option State → ℕ → ℕ → LooseCall → LooseCall → Type 0
-Goes state before now call after = (after ≡ call) ⊎ Led state before now call after
+Goes state before now call after = (after ≡ call) ⊎ FedOnce state before now call after
 
 -- the reply that a call comes to
 pub record ComesToReply (state : Option State) (before now : ℕ) (call : LooseCall) (reply : LooseReply) : Type 0 where

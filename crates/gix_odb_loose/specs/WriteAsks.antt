@@ -15,13 +15,13 @@ use Rattle.gix_odb_loose.specs.declared.call.Stage.TheVariants as calls
 use Rattle.gix_odb_loose.specs.declared.write.Error.{Error}
 use Rattle.gix_odb_loose.specs.declared.write.Error.TheVariants as errors
 use Rattle.gix_odb_loose.specs.declared.write.Message.TheVariants as messages
-use Rattle.gix_odb_loose.specs.declared.write_call.Refusal.{Refusal}
-use Rattle.gix_odb_loose.specs.declared.write_call.Onward.{Onward}
-use Rattle.gix_odb_loose.specs.declared.write_call.Onward.TheVariants.{Stage, End}
-use Rattle.gix_odb_loose.specs.declared.write_call.WriteHead.{WriteHead}
-use Rattle.gix_odb_loose.specs.declared.write_call.WriteStage.{WriteStage}
-use Rattle.gix_odb_loose.specs.declared.write_call.WriteStage.TheVariants as stages
-use Rattle.gix_odb_loose.specs.declared.write_job.WriteJob.{WriteJob}
+use Rattle.gix_odb_loose.specs.declared.write_order.Refusal.{Refusal}
+use Rattle.gix_odb_loose.specs.declared.write_order.Onward.{Onward}
+use Rattle.gix_odb_loose.specs.declared.write_order.Onward.TheVariants.{Stage, End}
+use Rattle.gix_odb_loose.specs.declared.write_order.WriteHead.{WriteHead}
+use Rattle.gix_odb_loose.specs.declared.write_order.WriteStage.{WriteStage}
+use Rattle.gix_odb_loose.specs.declared.write_order.WriteStage.TheVariants as stages
+use Rattle.gix_odb_loose.specs.declared.write_at_hand.WriteJob.{WriteJob}
 
 -- a write of these data that has asked nothing yet
 abbrev pub write_of : WriteHead → HashKind → Option ObjectId → List ℕ → WriteJob
@@ -40,9 +40,9 @@ onward_by job (Stage stage) answer = next_in (record job { stage = stage }) answ
 onward_by job (End end) answer = End end
 
 -- what answers lead to, one after another
-unfoldable pub led_along : WriteJob → Onward → List DiskAnswer → Onward
-led_along job onward [] = onward
-led_along job onward (answer ∷ given) = led_along job (onward_by job onward answer) given
+unfoldable pub onward_along : WriteJob → Onward → List DiskAnswer → Onward
+onward_along job onward [] = onward
+onward_along job onward (answer ∷ given) = onward_along job (onward_by job onward answer) given
 
 -- the calls of the disk that were answered so
 unfoldable pub asks_along : WriteJob → Onward → List DiskAnswer → List DiskAsk
@@ -59,7 +59,7 @@ answers_in past = map (λ (x : Exchange). x.answer) past
 
 -- Exchanges lead a write to a stage, or to its end: each call is the one that the answers before it led to.
 pub record IsAlong (job : WriteJob) (onward : Onward) (past : List Exchange) : Type 0 where
-  pub led : onward ≡ led_along job (Stage job.stage) (answers_in past)
+  pub reached : onward ≡ onward_along job (Stage job.stage) (answers_in past)
   pub asked : asks_in past ≡ asks_along job (Stage job.stage) (answers_in past)
 
 -- The exchanges of a write that was broken off: its answers led it to a stage, and then the temporary file was asked to be

@@ -3,14 +3,15 @@ use Rattle.std.specs.Prelude.{ℕ, ◌+◌, ◌-◌, ◌/◌, Bool, false, nat_l
 use Rattle.odb_disk.specs.declared.ask.DiskAsk.{DiskAsk}
 use Rattle.odb_disk.specs.declared.ask.DiskAnswer.{DiskAnswer}
 use Rattle.gix_odb_loose.specs.WriteNames.{name_for}
-use Rattle.gix_odb_loose.specs.WriteOrder.{room_behind, written_in, write_ask, next_write, ended_with, wrote_by}
-use Rattle.gix_odb_loose.specs.declared.write_call.Onward.{Onward}
-use Rattle.gix_odb_loose.specs.declared.write_call.Onward.TheVariants.{Stage, End}
-use Rattle.gix_odb_loose.specs.declared.write_call.WriteStage.{WriteStage}
-use Rattle.gix_odb_loose.specs.declared.write_call.WriteStage.TheVariants as stages
-use Rattle.gix_odb_loose.specs.declared.write_job.Led.{Led}
-use Rattle.gix_odb_loose.specs.declared.write_job.Led.TheVariants.{On, Wrote}
-use Rattle.gix_odb_loose.specs.declared.write_job.WriteJob.{WriteJob}
+use Rattle.gix_odb_loose.specs.WritePieces.{piece_size}
+use Rattle.gix_odb_loose.specs.WriteOrder.{temp_names, room_behind, written_in, write_ask, next_write, ended_with, wrote_by}
+use Rattle.gix_odb_loose.specs.declared.write_order.Onward.{Onward}
+use Rattle.gix_odb_loose.specs.declared.write_order.Onward.TheVariants.{Stage, End}
+use Rattle.gix_odb_loose.specs.declared.write_order.WriteStage.{WriteStage}
+use Rattle.gix_odb_loose.specs.declared.write_order.WriteStage.TheVariants as stages
+use Rattle.gix_odb_loose.specs.declared.write_at_hand.Advance.{Advance}
+use Rattle.gix_odb_loose.specs.declared.write_at_hand.Advance.TheVariants as advances
+use Rattle.gix_odb_loose.specs.declared.write_at_hand.WriteJob.{WriteJob}
 
 -- the piece that stands behind so many bytes
 abbrev pub piece_at : ℕ → List ℕ → ℕ → List ℕ
@@ -43,22 +44,35 @@ supplied job (End end) = End end
 abbrev pub next_in : WriteJob → DiskAnswer → Onward
 next_in job answer = supplied job (next_write job.head.size (length (piece_in job)) job.stage answer)
 
-abbrev pub led_by : WriteJob → Onward → Led
-led_by job (Stage stage) = On stage
-led_by job (End end) = Wrote (wrote_by job.head end)
+abbrev pub advance_to : WriteJob → Onward → Advance
+advance_to job (Stage stage) = advances.Stage stage
+advance_to job (End end) = advances.Reply (wrote_by job.head end)
 
-abbrev pub led_in : WriteJob → DiskAnswer → Led
-led_in job answer = led_by job (next_in job answer)
+abbrev pub advance_by : WriteJob → DiskAnswer → Advance
+advance_by job answer = advance_to job (next_in job answer)
 
--- how many pieces so many bytes take: one for each begun 65,536
+-- how many pieces so many bytes take: one for each that is begun
 abbrev pub pieces_of : ℕ → ℕ
-pieces_of len = (len + 65535) / 65536
+pieces_of len = (len + (piece_size - 1)) / piece_size
 
--- how many calls of the disk are still to come, at most, for so many bytes of data
+-- How many calls of the disk are still to come, at most, where `appends written` says how many appends are left behind so
+-- many bytes of data.
+abbrev pub turns_left : (appends : ℕ → ℕ) → WriteStage → ℕ
+turns_left appends (stages.Making number) = 6 + appends 0 + (temp_names - number)
+turns_left appends (stages.Heading number) = 5 + appends 0
+turns_left appends (stages.Filling number written) = 4 + appends written
+turns_left appends (stages.Foldering number id) = 3
+turns_left appends (stages.Moving number id) = 2
+turns_left appends (stages.Removing number refusal) = 1
+
+-- of so many bytes at hand a piece is appended at a time
+abbrev pub pieces_left : (len written : ℕ) → ℕ
+pieces_left len written = pieces_of (len - written)
+
+-- of so many bytes from a source one at least
+abbrev pub bytes_left : (size written : ℕ) → ℕ
+bytes_left size written = size - written
+
+-- how many calls of the disk are still to come, at most, for so many bytes at hand
 abbrev pub writes_left : ℕ → WriteStage → ℕ
-writes_left len (stages.Making number) = 6 + pieces_of len + (16 - number)
-writes_left len (stages.Heading number) = 5 + pieces_of len
-writes_left len (stages.Filling number written) = 4 + pieces_of (len - written)
-writes_left len (stages.Foldering number id) = 3
-writes_left len (stages.Moving number id) = 2
-writes_left len (stages.Removing number refusal) = 1
+writes_left len stage = turns_left (pieces_left len) stage

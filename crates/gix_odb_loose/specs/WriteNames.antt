@@ -6,7 +6,7 @@ use Rattle.gix_hash.specs.declared.object_id.ObjectId.{ObjectId}
 use Rattle.gix_object.specs.Loose.{header_of}
 use Rattle.gix_odb_loose.specs.declared.naming.Naming.{Naming}
 use Rattle.gix_odb_loose.specs.declared.naming.Naming.TheVariants.{Known, Hashing}
-use Rattle.gix_odb_loose.specs.declared.write_call.WriteHead.{WriteHead}
+use Rattle.gix_odb_loose.specs.declared.write_order.WriteHead.{WriteHead}
 
 -- a known id is taken as it is, else the id is that of header and data
 abbrev pub name_for : Option ObjectId → HashKind → WriteHead → List ℕ → ObjectId

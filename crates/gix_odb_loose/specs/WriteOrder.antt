@@ -11,17 +11,18 @@ use Rattle.gix_hash.specs.ObjectId.{hex_of}
 use Rattle.gix_hash.specs.declared.object_id.ObjectId.{ObjectId}
 use Rattle.gix_object.specs.Loose.{header_of}
 use Rattle.gix_odb_loose.specs.LooseFile.{loose_path}
+use Rattle.gix_odb_loose.specs.WritePieces.{piece_size}
 use Rattle.gix_odb_loose.specs.declared.write.Error.{Error}
 use Rattle.gix_odb_loose.specs.declared.write.Error.TheVariants as errors
 use Rattle.gix_odb_loose.specs.declared.write.Message.{Message}
 use Rattle.gix_odb_loose.specs.declared.write.Message.TheVariants as messages
-use Rattle.gix_odb_loose.specs.declared.write_call.Refusal.{Refusal}
-use Rattle.gix_odb_loose.specs.declared.write_call.Refusal.TheVariants as refusals
-use Rattle.gix_odb_loose.specs.declared.write_call.Onward.{Onward}
-use Rattle.gix_odb_loose.specs.declared.write_call.Onward.TheVariants.{Stage, End}
-use Rattle.gix_odb_loose.specs.declared.write_call.WriteHead.{WriteHead}
-use Rattle.gix_odb_loose.specs.declared.write_call.WriteStage.{WriteStage}
-use Rattle.gix_odb_loose.specs.declared.write_call.WriteStage.TheVariants as stages
+use Rattle.gix_odb_loose.specs.declared.write_order.Refusal.{Refusal}
+use Rattle.gix_odb_loose.specs.declared.write_order.Refusal.TheVariants as refusals
+use Rattle.gix_odb_loose.specs.declared.write_order.Onward.{Onward}
+use Rattle.gix_odb_loose.specs.declared.write_order.Onward.TheVariants.{Stage, End}
+use Rattle.gix_odb_loose.specs.declared.write_order.WriteHead.{WriteHead}
+use Rattle.gix_odb_loose.specs.declared.write_order.WriteStage.{WriteStage}
+use Rattle.gix_odb_loose.specs.declared.write_order.WriteStage.TheVariants as stages
 
 -- the words of an error's message
 abbrev pub message_text : Message → List ℕ
@@ -29,11 +30,13 @@ message_text messages.CreateTempFile = codes "create named temp file in"
 message_text messages.WriteHeader = codes "write header to tempfile in"
 message_text messages.StreamData = codes "stream all data into tempfile in"
 
--- ---- paths
-
 -- the directory that an object's file lies in: the first two hex digits of the id
 unfoldable pub prefix_path : Path → ObjectId → Path
 prefix_path objects id = objects ++ take 2 (hex_of id) ∷ []
+
+-- how many temporary names are tried: enough for the writes of one time, and a write ends soon where all are taken
+abbrev pub temp_names : ℕ
+temp_names = 16
 
 unfoldable pub temp_name : ℕ → Name
 temp_name number = codes "tmp_obj_" ++ decimal number
@@ -58,14 +61,19 @@ abbrev pub written_in : WriteStage → Option ℕ
 written_in (stages.Filling number written) = Some written
 written_in stage = None
 
--- the number of the temporary file, where it was made
+-- the number of the temporary file
+abbrev pub number_in : WriteStage → ℕ
+number_in (stages.Making number) = number
+number_in (stages.Heading number) = number
+number_in (stages.Filling number written) = number
+number_in (stages.Foldering number id) = number
+number_in (stages.Moving number id) = number
+number_in (stages.Removing number refusal) = number
+
+-- the same, where the file was made
 abbrev pub number_made : WriteStage → Option ℕ
 number_made (stages.Making number) = None
-number_made (stages.Heading number) = Some number
-number_made (stages.Filling number written) = Some number
-number_made (stages.Foldering number id) = Some number
-number_made (stages.Moving number id) = Some number
-number_made (stages.Removing number refusal) = Some number
+number_made stage = Some (number_in stage)
 
 abbrev pub temporary_of : WriteHead → Option ℕ → Option Path
 temporary_of head None = None
@@ -73,7 +81,7 @@ temporary_of head (Some number) = Some (temp_path head.objects number)
 
 -- the most bytes of a piece behind `written` bytes: one byte above the size is taken, and shows that there are too many
 abbrev pub room_behind : ℕ → ℕ → ℕ
-room_behind size written = if nat_lt written size then min 65536 (size - written + 1) else 1
+room_behind size written = if nat_lt written size then min piece_size (size - written + 1) else 1
 
 -- ---- what is made of an answer
 
@@ -82,10 +90,10 @@ abbrev pub refused_by : Refusal → DiskAnswer → Refusal
 refused_by refusal (answers.Refused disk_errors.NoMemory) = refusals.NoMemory
 refused_by refusal answer = refusal
 
--- where the name is taken, the next one is tried, sixteen at most
+-- where the name is taken, the next one is tried, if there is one
 abbrev pub made_by : ℕ → DiskAnswer → Onward
 made_by number answers.Done = Stage (stages.Heading number)
-made_by number (answers.Refused disk_errors.Exists) = if nat_lt (number + 1) 16 then Stage (stages.Making (number + 1)) else End (Err (refusals.Io messages.CreateTempFile))
+made_by number (answers.Refused disk_errors.Exists) = if nat_lt (number + 1) temp_names then Stage (stages.Making (number + 1)) else End (Err (refusals.Io messages.CreateTempFile))
 made_by number answer = End (Err (refused_by (refusals.Io messages.CreateTempFile) answer))
 
 abbrev pub headed_by : ℕ → DiskAnswer → Onward
@@ -129,8 +137,6 @@ ended_with size id stage = stage
 abbrev pub source_failed : WriteStage → WriteStage
 source_failed (stages.Filling number written) = stages.Removing number (refusals.Io messages.StreamData)
 source_failed stage = stage
-
--- ---- the reply
 
 abbrev pub error_from : WriteHead → Refusal → Error
 error_from head (refusals.Io message) = errors.Io message head.objects

@@ -6,8 +6,8 @@ use Rattle.odb_disk.specs.declared.ask.DiskAnswer.{DiskAnswer}
 use Rattle.gix_hash.specs.declared.object_id.ObjectId.{ObjectId}
 use Rattle.gix_odb_loose.specs.Exchanges.{Exchange, exchanged, MadeOnly}
 use Rattle.gix_odb_loose.specs.LooseFile.{loose_path}
-use Rattle.gix_odb_loose.specs.WriteOrder.{temp_path, prefix_path}
-use Rattle.gix_odb_loose.specs.declared.write_call.WriteHead.{WriteHead}
+use Rattle.gix_odb_loose.specs.WriteOrder.{temp_names, temp_path, prefix_path}
+use Rattle.gix_odb_loose.specs.declared.write_order.WriteHead.{WriteHead}
 
 -- ---- what is left
 
@@ -28,7 +28,7 @@ LeavesNothing head past = MadeOnly None past ⊎ IsCleared head past
 -- The calls of a write's own, whose temporary file has this number: the making of a temporary file, appends to its file, the
 -- directory of its object, the rename to the object's path, and the removal of its file. It makes no others.
 abbrev pub IsOwn : WriteHead → (Named : ObjectId → Type 0) (number : ℕ) → DiskAsk → Type 0
-IsOwn head Named number (asks.NewFile path) = (one : ℕ) × (one < 16) × (path ≡ temp_path head.objects one)
+IsOwn head Named number (asks.NewFile path) = (one : ℕ) × (one < temp_names) × (path ≡ temp_path head.objects one)
 IsOwn head Named number (asks.Append path bytes) = path ≡ temp_path head.objects number
 IsOwn head Named number (asks.MakeDir path) = (id : ObjectId) × Named id × (path ≡ prefix_path head.objects id)
 IsOwn head Named number (asks.Rename from to) = (from ≡ temp_path head.objects number) × ((id : ObjectId) × Named id × (to ≡ loose_path head.objects id))

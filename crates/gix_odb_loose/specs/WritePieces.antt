@@ -1,20 +1,24 @@
 -- The pieces that the data of an object are appended in.
 use Rattle.std.specs.Prelude.{◌≡◌, ℕ, ◌*◌, ◌≤◌, List, [], ◌∷◌, ◌++◌, length, All}
 
--- so many bytes are whole pieces of 65,536
+-- The most bytes of one append. Each piece is held in memory whole, and each costs a call of the disk.
+abbrev pub piece_size : ℕ
+piece_size = 65536
+
+-- so many bytes are whole pieces
 abbrev pub IsInPieces : ℕ → Type 0
-IsInPieces len = (count : ℕ) × (len ≡ 65536 * count)
+IsInPieces len = (count : ℕ) × (len ≡ piece_size * count)
 
 -- a last piece, if there is one: it isn't empty
 abbrev pub IsLast : List (List ℕ) → Type 0
 IsLast [] = Unit {0}
-IsLast (piece ∷ []) = (1 ≤ length piece) × (length piece ≤ 65536)
+IsLast (piece ∷ []) = (1 ≤ length piece) × (length piece ≤ piece_size)
 IsLast (piece ∷ other ∷ more) = ⊥
 
--- Data are cut into whole pieces of 65,536 bytes, and a last one that may be shorter, but isn't empty.
+-- Data are cut into whole pieces, and a last one that may be shorter, but isn't empty.
 pub record IsCut (pieces : List (List ℕ)) : Type 0 where
   pub whole : List (List ℕ)
   pub last : List (List ℕ)
   pub is : pieces ≡ whole ++ last
-  pub are_whole : All (λ (piece : List ℕ). length piece ≡ 65536) whole
+  pub are_whole : All (λ (piece : List ℕ). length piece ≡ piece_size) whole
   pub is_last : IsLast last

@@ -3,12 +3,12 @@ ghost use Rattle.std.specs.Prelude.{◌≡◌, true, None, Some, is_some, IfOk, 
 ghost use Rattle.gix_hash.specs.ObjectId.{kind_of};
 ghost use Rattle.gix_odb_loose.specs.Store.{store_hash};
 ghost use Rattle.gix_odb_loose.specs.LooseFile.{id_asked};
-ghost use Rattle.gix_odb_loose.specs.LooseOrder.{started, ask_of, disk_ask_of, reply_of, temporary_in, led_at, written_to, next_stage};
+ghost use Rattle.gix_odb_loose.specs.LooseOrder.{started, ask_of, disk_ask_of, reply_of, temporary_in, advance_at, written_to, next_stage};
 ghost use Rattle.gix_odb_loose.specs.LooseOrder.{fed as fed_with};
 ghost use Rattle.odb_disk.specs.declared.ask.DiskAnswer.{DiskAnswer as answer_of_disk};
 
-use crate::write_call::{WriteHead, WriteStage};
-use crate::write_job::{Led, WriteJob};
+use crate::write_at_hand::{Advance, WriteJob};
+use crate::write_order::{WriteHead, WriteStage};
 use crate::{Store, find, reply, write};
 use gix_hash::ObjectId;
 use gix_object::Kind;
@@ -75,8 +75,8 @@ pub struct LooseCall {
 impl LooseCall {
     /// A new call. It asks nothing of the disk yet.
     pub fn start(alloc: Global, store: &Store, job: LooseJob) -> Result<LooseCall, NoMemory>
-        requires { kind_of (id_asked (store_hash store.now) job) ≡ store_hash store.now }
-        ensures { IfOk result (λ call. call ≡ started store.now job) }
+        requires hash { kind_of (id_asked (store_hash store.now) job) ≡ store_hash store.now }
+        ensures first { IfOk result (λ call. call ≡ started store.now job) }
     {
         let stage = match job {
             LooseJob::Contains(id) => Stage::Testing {
@@ -111,7 +111,7 @@ impl LooseCall {
 
     /// What the call does next. A reply is copied: `into_reply` moves it out.
     pub fn ask(&self, alloc: Global) -> Result<LooseAsk, NoMemory>
-        ensures { IfOk result (λ ask. ask ≡ ask_of self.now) }
+        ensures ask { IfOk result (λ ask. ask ≡ ask_of self.now) }
     {
         match &self.stage {
             Stage::Testing { path } => Ok(LooseAsk::Disk(look_at(alloc, path)?)),
@@ -124,7 +124,7 @@ impl LooseCall {
 
     /// The call of the disk that comes next; there is none where the call is done.
     pub fn disk_ask(&self, alloc: Global) -> Result<Option<DiskAsk>, NoMemory>
-        ensures { IfOk result (λ ask. ask ≡ disk_ask_of self.now) }
+        ensures ask { IfOk result (λ ask. ask ≡ disk_ask_of self.now) }
     {
         match &self.stage {
             Stage::Testing { path } => Ok(Some(look_at(alloc, path)?)),
@@ -143,14 +143,14 @@ impl LooseCall {
         ensures fed { OnOk result (self.new ≡ fed_with self.old answer) }
         ensures refused { OnErr result (self.new ≡ self.old) }
     {
-        let led = self.stage.led(alloc, &answer)?;
-        self.stage.go_on(answer, led);
+        let advance = self.stage.advance(alloc, &answer)?;
+        self.stage.go_on(answer, advance);
         Ok(())
     }
 
     /// The temporary file of a write, where it was made and is neither moved nor removed.
     pub fn temporary_file(&self, alloc: Global) -> Result<Option<PathText>, NoMemory>
-        ensures { IfOk result (λ path. path ≡ temporary_in self.now) }
+        ensures path { IfOk result (λ path. path ≡ temporary_in self.now) }
     {
         match &self.stage {
             Stage::Writing(job) => job.temporary_file(alloc),
@@ -167,7 +167,7 @@ impl LooseCall {
 
     /// The reply, where the call is done.
     pub fn into_reply(self) -> Option<LooseReply>
-        ensures { result ≡ reply_of self }
+        ensures reply { result ≡ reply_of self }
     {
         match self.stage {
             Stage::Done(reply) => Some(reply),
@@ -182,7 +182,7 @@ impl LooseCall {
 impl LooseReply {
     /// A copy of the reply.
     pub fn try_clone(&self, alloc: Global) -> Result<LooseReply, NoMemory>
-        ensures { IfOk result (λ copy. copy ≡ self.now) }
+        ensures copy { IfOk result (λ copy. copy ≡ self.now) }
     {
         match self {
             LooseReply::Contains(answer) => presence_copy(alloc, answer),
@@ -194,7 +194,7 @@ impl LooseReply {
 }
 
 fn presence_copy(alloc: Global, answer: &Result<bool, find::Error>) -> Result<LooseReply, NoMemory>
-    ensures { IfOk result (λ copy. copy ≡ LooseReply.Contains answer.now) }
+    ensures copy { IfOk result (λ copy. copy ≡ LooseReply.Contains answer.now) }
 {
     match answer {
         Ok(there) => Ok(LooseReply::Contains(Ok(*there))),
@@ -206,7 +206,7 @@ fn object_copy(
     alloc: Global,
     answer: &Result<Option<(Kind, ByteList)>, find::Error>,
 ) -> Result<LooseReply, NoMemory>
-    ensures { IfOk result (λ copy. copy ≡ LooseReply.Found answer.now) }
+    ensures copy { IfOk result (λ copy. copy ≡ LooseReply.Found answer.now) }
 {
     match answer {
         Ok(None) => Ok(LooseReply::Found(Ok(None))),
@@ -222,7 +222,7 @@ fn header_copy(
     alloc: Global,
     answer: &Result<Option<(u64, Kind)>, find::Error>,
 ) -> Result<LooseReply, NoMemory>
-    ensures { IfOk result (λ copy. copy ≡ LooseReply.Header answer.now) }
+    ensures copy { IfOk result (λ copy. copy ≡ LooseReply.Header answer.now) }
 {
     match answer {
         Ok(found) => Ok(LooseReply::Header(Ok(*found))),
@@ -231,7 +231,7 @@ fn header_copy(
 }
 
 fn id_copy(alloc: Global, answer: &Result<ObjectId, write::Error>) -> Result<LooseReply, NoMemory>
-    ensures { IfOk result (λ copy. copy ≡ LooseReply.Wrote answer.now) }
+    ensures copy { IfOk result (λ copy. copy ≡ LooseReply.Wrote answer.now) }
 {
     match answer {
         Ok(id) => Ok(LooseReply::Wrote(Ok(*id))),
@@ -240,42 +240,42 @@ fn id_copy(alloc: Global, answer: &Result<ObjectId, write::Error>) -> Result<Loo
 }
 
 impl Stage {
-    // What an answer leads a write to, which may want memory.
-    fn led(&self, alloc: Global, answer: &DiskAnswer) -> Result<Option<Led>, NoMemory>
-        ensures { IfOk result (λ led. led ≡ led_at self.now answer.now) }
+    // What an answer makes of a write, which may want memory.
+    fn advance(&self, alloc: Global, answer: &DiskAnswer) -> Result<Option<Advance>, NoMemory>
+        ensures by_answer { IfOk result (λ made. made ≡ advance_at self.now answer.now) }
     {
         match self {
-            Stage::Writing(job) => Ok(Some(job.led(alloc, answer)?)),
+            Stage::Writing(job) => Ok(Some(job.advance(alloc, answer)?)),
             _ => Ok(None),
         }
     }
 
-    // Goes on by the answer to its ask, which led a write so.
-    fn go_on(&mut self, answer: DiskAnswer, led: Option<Led>)
-        requires { led ≡ led_at self.old answer }
-        ensures { self.new ≡ next_stage self.old answer }
+    // Goes on by the answer to its ask, and by what it makes of a write.
+    fn go_on(&mut self, answer: DiskAnswer, advance: Option<Advance>)
+        requires by_answer { advance ≡ advance_at self.old answer }
+        ensures next { self.new ≡ next_stage self.old answer }
     {
         let meanwhile = Stage::Done(LooseReply::Contains(Ok(false)));
         let stage = mem::replace(self, meanwhile);
-        drop(mem::replace(self, led_on(stage, answer, led)));
+        drop(mem::replace(self, advanced(stage, answer, advance)));
     }
 }
 
-// A stage after the answer to its ask, which led a write so.
-fn led_on(stage: Stage, answer: DiskAnswer, led: Option<Led>) -> Stage
-    requires { led ≡ led_at stage answer }
-    ensures { result ≡ next_stage stage answer }
+// A stage after the answer to its ask, by what this makes of a write.
+fn advanced(stage: Stage, answer: DiskAnswer, advance: Option<Advance>) -> Stage
+    requires by_answer { advance ≡ advance_at stage answer }
+    ensures next { result ≡ next_stage stage answer }
 {
-    match led {
-        Some(led) => write_led_on(stage, led),
-        None => find_led_on(stage, answer),
+    match advance {
+        Some(advance) => write_advanced(stage, advance),
+        None => find_answered(stage, answer),
     }
 }
 
 // A stage of a find after the answer to its ask.
-fn find_led_on(stage: Stage, answer: DiskAnswer) -> Stage
-    requires { led_at stage answer ≡ None }
-    ensures { result ≡ next_stage stage answer }
+fn find_answered(stage: Stage, answer: DiskAnswer) -> Stage
+    requires finds { advance_at stage answer ≡ None }
+    ensures next { result ≡ next_stage stage answer }
 {
     match stage {
         Stage::Testing { path } => {
@@ -298,32 +298,32 @@ fn find_led_on(stage: Stage, answer: DiskAnswer) -> Stage
     }
 }
 
-// A stage of a write after an answer that led it so.
-fn write_led_on(stage: Stage, led: Led) -> Stage
-    ensures { (answer : answer_of_disk) → led_at stage answer ≡ Some led → result ≡ next_stage stage answer }
+// The stage of a write after its answer.
+fn write_advanced(stage: Stage, advance: Advance) -> Stage
+    ensures next { (answer : answer_of_disk) → advance_at stage answer ≡ Some advance → result ≡ next_stage stage answer }
 {
     match stage {
-        Stage::Writing(job) => written_on(job, led),
+        Stage::Writing(job) => written_on(job, advance),
         other => other,
     }
 }
 
-// A write after its answer led it so.
-fn written_on(job: WriteJob, led: Led) -> Stage
-    ensures { result ≡ written_to job led }
+// A write after its answer.
+fn written_on(job: WriteJob, advance: Advance) -> Stage
+    ensures next { result ≡ written_to job advance }
 {
-    match led {
-        Led::On(stage) => {
+    match advance {
+        Advance::Stage(stage) => {
             let mut job = job;
             job.stage = stage;
             Stage::Writing(job)
         }
-        Led::Wrote(answer) => Stage::Done(LooseReply::Wrote(answer)),
+        Advance::Reply(answer) => Stage::Done(LooseReply::Wrote(answer)),
     }
 }
 
 fn look_at(alloc: Global, path: &PathText) -> Result<DiskAsk, NoMemory>
-    ensures { IfOk result (λ ask. ask ≡ DiskAsk.Look path.now true) }
+    ensures ask { IfOk result (λ ask. ask ≡ DiskAsk.Look path.now true) }
 {
     Ok(DiskAsk::Look {
         path: path.try_clone(alloc)?,
@@ -332,7 +332,7 @@ fn look_at(alloc: Global, path: &PathText) -> Result<DiskAsk, NoMemory>
 }
 
 fn read_of(alloc: Global, path: &PathText) -> Result<DiskAsk, NoMemory>
-    ensures { IfOk result (λ ask. ask ≡ DiskAsk.Read path.now) }
+    ensures ask { IfOk result (λ ask. ask ≡ DiskAsk.Read path.now) }
 {
     Ok(DiskAsk::Read {
         path: path.try_clone(alloc)?,

@@ -1,12 +1,12 @@
 //! The next bytes of a source.
 ghost use Rattle.std.specs.Prelude.{IfOk, OnErr};
-ghost use Rattle.gix_odb_loose.specs.StreamJobs.{Fetches, Loses};
+ghost use Rattle.gix_odb_loose.specs.StreamJobs.Reads.{Fetches, Loses};
 
 use odb_base::{ByteList, NoMemory};
 use odb_disk::Source;
 use std::alloc::Global;
 
-/// How many bytes one read asks for, at most.
+/// How many bytes one read asks for, at most: they pass through an array of this length, which lies on the stack.
 const CHUNK: usize = 8_192;
 
 /// What a source gave.

@@ -11,7 +11,7 @@ pub struct Lent<'a> {
 
 impl<'a> Lent<'a> {
     pub fn new(bytes: &'a [u8]) -> Lent<'a>
-        ensures { result.left.now ≡ bytes.now }
+        ensures whole { result.left.now ≡ bytes.now }
     {
         Lent { left: bytes }
     }

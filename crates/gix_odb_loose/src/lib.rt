@@ -3,7 +3,9 @@
 //! What a call finds is what the file at the object's path holds; nothing at that path is no error, and each
 //! error has its cause. `LooseCall` is the order of work of every call, one call of the disk at a time: the finding
 //! calls of `Store` are loops over it, and its writing calls go through the same stages while they read their data.
-//! Read `store` first; `specs/LooseFile.antt` says what a file holds.
+//! Read `store` first; `specs/LooseFile.antt` says what a file holds. The calls that write stand in `store_writes`, the
+//! machine of a write in `write_order`; `write_at_hand` and `write_streamed` hand it its data. `find` and `write` have
+//! the errors.
 //! ```rust
 //! let store = Store::at(alloc, &PathText::parse(alloc, "/o")?, gix_hash::Kind::Sha1)?;
 //! let mut out = Vec::new(alloc);
@@ -19,11 +21,11 @@ mod naming;
 mod paths;
 mod reply;
 mod store;
-mod stream_job;
+mod store_writes;
 pub mod write;
-mod write_call;
-mod write_job;
-mod writes;
+mod write_at_hand;
+mod write_order;
+mod write_streamed;
 
 pub use call::{LooseAsk, LooseCall, LooseJob, LooseReply};
 pub use store::{Options, Store};

@@ -3,11 +3,11 @@ ghost use Rattle.std.specs.Prelude.{◌≡◌, ℕ, List, Option, [], ◌++◌, 
 ghost use Rattle.gix_odb_loose.specs.WriteNames.{Names, name_for};
 ghost use Rattle.gix_hash.specs.Hash.{HasTaken, hasher_kind};
 ghost use Rattle.gix_object.specs.Loose.{header_of};
-ghost use Rattle.gix_odb_loose.specs.declared.write_call.WriteHead.{WriteHead as head_of_write};
+ghost use Rattle.gix_odb_loose.specs.declared.write_order.WriteHead.{WriteHead as head_of_write};
 ghost use Rattle.gix_hash.specs.declared.kind.Kind.{Kind as hash_kind};
 ghost use Rattle.gix_hash.specs.declared.object_id.ObjectId.{ObjectId as id_of_object};
 
-use crate::write_call::WriteHead;
+use crate::write_order::WriteHead;
 use gix_hash::{Hasher, ObjectId};
 use gix_object::encode;
 use odb_base::NoMemory;

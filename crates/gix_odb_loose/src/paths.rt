@@ -11,7 +11,7 @@ use std::alloc::Global;
 
 /// The path of an object's file: `xx/rest` in the objects directory.
 pub fn object_path(alloc: Global, objects: &PathText, id: &ObjectId) -> Result<PathText, NoMemory>
-    ensures { IfOk result (λ path. path ≡ loose_path_of objects.now id.now) }
+    ensures path { IfOk result (λ path. path ≡ loose_path_of objects.now id.now) }
 {
     let folder = prefix_folder(alloc, objects, id)?;
     let hex = id.to_hex(alloc)?;
@@ -22,7 +22,7 @@ pub fn object_path(alloc: Global, objects: &PathText, id: &ObjectId) -> Result<P
 
 /// The directory that an object's file lies in.
 pub fn prefix_folder(alloc: Global, objects: &PathText, id: &ObjectId) -> Result<PathText, NoMemory>
-    ensures { IfOk result (λ path. path ≡ prefix_path objects.now id.now) }
+    ensures path { IfOk result (λ path. path ≡ prefix_path objects.now id.now) }
 {
     let hex = id.to_hex(alloc)?;
     prove!(id.as_bytes().len() > 1);
@@ -32,7 +32,7 @@ pub fn prefix_folder(alloc: Global, objects: &PathText, id: &ObjectId) -> Result
 
 /// The path of a temporary file: `tmp_obj_` and a number in the objects directory.
 pub fn temp_path(alloc: Global, objects: &PathText, number: u64) -> Result<PathText, NoMemory>
-    ensures { IfOk result (λ path. path ≡ temp_path_of objects.now number) }
+    ensures path { IfOk result (λ path. path ≡ temp_path_of objects.now number) }
 {
     let name = temp_file(alloc, number)?;
     joined(alloc, objects, name.as_str())
@@ -47,8 +47,8 @@ fn temp_file(alloc: Global, number: u64) -> Result<String, NoMemory>
 
 // A path with one more name.
 fn joined(alloc: Global, path: &PathText, name: &str) -> Result<PathText, NoMemory>
-    requires { is_name name.now ≡ true }
-    ensures { IfOk result (λ joined. joined ≡ path.now ++ name.now ∷ []) }
+    requires name { is_name name.now ≡ true }
+    ensures path { IfOk result (λ joined. joined ≡ path.now ++ name.now ∷ []) }
 {
     match path.join(alloc, name) {
         Ok(path) => Ok(path),

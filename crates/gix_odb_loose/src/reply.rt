@@ -1,7 +1,8 @@
 //! What is made of the answer of the disk. Nothing else decides.
 ghost use Rattle.std.specs.Prelude.{◌≡◌, ◌≤◌, ◌↔◌, ℕ, List, length, drop, IfOk, IfErr, IsTrue};
-ghost use Rattle.gix_odb_loose.specs.LooseOrder.{tested_by, found_by, header_by, object_from, header_from, spelled_in, unread_by, flaw_error, is_above};
-ghost use Rattle.gix_odb_loose.specs.LooseOrder.{unreadable as unreadable_at};
+ghost use Rattle.gix_odb_loose.specs.LooseOrder.Answered.{tested_by, found_by, header_by, object_from, header_from, spelled_in, unread_by, flaw_error};
+ghost use Rattle.gix_odb_loose.specs.LooseFile.{is_above};
+ghost use Rattle.gix_odb_loose.specs.LooseOrder.Answered.{unreadable as unreadable_at};
 
 use crate::find::{Action, Error};
 use gix_object::{Kind, decode};
@@ -18,7 +19,7 @@ pub enum Flaw {
 
 /// The answer of a test to a look at the path.
 pub fn tested(path: PathText, answer: &DiskAnswer) -> Result<bool, Error>
-    ensures { result ≡ tested_by path answer.now }
+    ensures answer { result ≡ tested_by path answer.now }
 {
     match answer {
         DiskAnswer::Meta(meta) => Ok(matches!(meta.kind, odb_disk::Kind::File)),
@@ -34,7 +35,7 @@ pub fn found(
     limit: Option<u64>,
     answer: DiskAnswer,
 ) -> Result<Option<(Kind, ByteList)>, Error>
-    ensures { result ≡ found_by path limit answer }
+    ensures answer { result ≡ found_by path limit answer }
 {
     match answer {
         DiskAnswer::File { bytes, .. } => object_in(path, limit, bytes),
@@ -44,7 +45,7 @@ pub fn found(
 
 /// The answer of a look for a header to a read of the path.
 pub fn headed(path: PathText, answer: &DiskAnswer) -> Result<Option<(u64, Kind)>, Error>
-    ensures { result ≡ header_by path answer.now }
+    ensures answer { result ≡ header_by path answer.now }
 {
     match answer {
         DiskAnswer::File { bytes, .. } => header_in(path, bytes.as_slice()),
@@ -54,7 +55,7 @@ pub fn headed(path: PathText, answer: &DiskAnswer) -> Result<Option<(u64, Kind)>
 
 // The answer to a read that gave no file.
 fn unread<T>(path: PathText, answer: &DiskAnswer) -> Result<Option<T>, Error>
-    ensures { result ≡ unread_by path answer.now }
+    ensures answer { result ≡ unread_by path answer.now }
 {
     match answer {
         DiskAnswer::Refused(DiskError::Absent) => Ok(None),
@@ -69,7 +70,7 @@ fn object_in(
     limit: Option<u64>,
     bytes: ByteList,
 ) -> Result<Option<(Kind, ByteList)>, Error>
-    ensures { result ≡ object_from path limit (spelled_in bytes) }
+    ensures object { result ≡ object_from path limit (spelled_in bytes) }
 {
     let (kind, expected, header_len) = match spelled(bytes.as_slice()) {
         Ok(header) => header,
@@ -92,7 +93,7 @@ fn object_in(
 
 // The header of a file.
 fn header_in(path: PathText, bytes: &[u8]) -> Result<Option<(u64, Kind)>, Error>
-    ensures { result ≡ header_from path (spelled_in bytes.now) }
+    ensures header { result ≡ header_from path (spelled_in bytes.now) }
 {
     match spelled(bytes) {
         Ok((kind, size, _)) => Ok(Some((size, kind))),
@@ -117,8 +118,8 @@ fn spelled(bytes: &[u8]) -> Result<(Kind, u64, usize), Flaw>
 
 // The bytes behind the first ones, in the same room.
 fn behind(bytes: ByteList, len: usize) -> ByteList
-    requires { len ≤ length bytes }
-    ensures { result ≡ drop len bytes }
+    requires within { len ≤ length bytes }
+    ensures rest { result ≡ drop len bytes }
 {
     let mut bytes = bytes.into_vec();
     let _ = bytes.drain(..len);
@@ -126,7 +127,7 @@ fn behind(bytes: ByteList, len: usize) -> ByteList
 }
 
 fn exceeds(limit: Option<u64>, size: u64) -> bool
-    ensures { result ≡ is_above limit size }
+    ensures above { result ≡ is_above limit size }
 {
     match limit {
         Some(limit) => limit < size,
@@ -135,7 +136,7 @@ fn exceeds(limit: Option<u64>, size: u64) -> bool
 }
 
 fn flawed(path: PathText, flaw: Flaw) -> Error
-    ensures { result ≡ flaw_error path flaw }
+    ensures error { result ≡ flaw_error path flaw }
 {
     match flaw {
         Flaw::Empty => unreadable(path),
@@ -144,7 +145,7 @@ fn flawed(path: PathText, flaw: Flaw) -> Error
 }
 
 fn unreadable(path: PathText) -> Error
-    ensures { result ≡ unreadable_at path }
+    ensures error { result ≡ unreadable_at path }
 {
     Error::Io {
         action: Action::OpenOrMap,

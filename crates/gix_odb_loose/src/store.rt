@@ -70,7 +70,7 @@ impl Store {
 
     /// A copy of the store, equal to it.
     pub fn try_clone(&self, alloc: Global) -> Result<Store, NoMemory>
-        ensures { IfOk result (λ store. store ≡ self.now) }
+        ensures copy { IfOk result (λ store. store ≡ self.now) }
     {
         Ok(Store {
             path: self.path.try_clone(alloc)?,
@@ -81,21 +81,21 @@ impl Store {
 
     /// The objects directory.
     pub fn path(&self) -> &PathText
-        ensures { result.now ≡ store_path self.now }
+        ensures path { result.now ≡ store_path self.now }
     {
         &self.path
     }
 
     /// The hash that ids are of.
     pub fn object_hash(&self) -> gix_hash::Kind
-        ensures { result ≡ store_hash self.now }
+        ensures hash { result ≡ store_hash self.now }
     {
         self.object_hash
     }
 
     /// The most bytes that a found object may have, where there is a limit.
     pub(crate) fn limit(&self) -> Option<u64>
-        ensures { result ≡ store_limit self.now }
+        ensures limit { result ≡ store_limit self.now }
     {
         self.options.alloc_limit_bytes
     }
@@ -103,8 +103,8 @@ impl Store {
     /// The path of an object's file: `xx/rest` in the objects directory, the first two hex digits of the id and
     /// the others.
     pub fn object_path(&self, alloc: Global, id: &ObjectId) -> Result<PathText, NoMemory>
-        requires { kind_of id.now ≡ store_hash self.now }
-        ensures { IfOk result (λ path. path ≡ path_in self.now id.now) }
+        requires hash { kind_of id.now ≡ store_hash self.now }
+        ensures path { IfOk result (λ path. path ≡ path_in self.now id.now) }
     {
         paths::object_path(alloc, &self.path, id)
     }
@@ -119,7 +119,7 @@ impl Store {
         disk: &mut D,
         id: &ObjectId,
     ) -> Result<bool, find::Error>
-        requires { kind_of id.now ≡ store_hash self.now }
+        requires hash { kind_of id.now ≡ store_hash self.now }
         ensures answer { IfSome (D.state disk.old) (λ s.
             IfOk result (λ there. IsTrue there ↔ LeadsToFile (tree_of s) (path_in self.now id.now))) }
         ensures cause { IfErr result
@@ -147,7 +147,7 @@ impl Store {
         id: &ObjectId,
         out: &'a mut Vec<u8>,
     ) -> Result<Option<Data<'a>>, find::Error>
-        requires { kind_of id.now ≡ store_hash self.now }
+        requires hash { kind_of id.now ≡ store_hash self.now }
         ensures answer { IfSome (D.state disk.old) (λ s.
             Finds self.now id.now s (Rose (D.faults disk.old) (D.faults disk.new)) (found_of result)) }
         ensures cause { IfErr result
@@ -176,7 +176,7 @@ impl Store {
         id: &ObjectId,
         out: &mut Vec<u8>,
     ) -> Result<Option<Kind>, find::Error>
-        requires { kind_of id.now ≡ store_hash self.now }
+        requires hash { kind_of id.now ≡ store_hash self.now }
         ensures answer { IfSome (D.state disk.old) (λ s.
             Finds self.now id.now s (Rose (D.faults disk.old) (D.faults disk.new)) (put_in result out.new.items)) }
         ensures none { IfOk result (λ found. found ≡ None → out.new.items ≡ []) }
@@ -209,7 +209,7 @@ impl Store {
         disk: &mut D,
         id: &ObjectId,
     ) -> Result<Option<(u64, Kind)>, find::Error>
-        requires { kind_of id.now ≡ store_hash self.now }
+        requires hash { kind_of id.now ≡ store_hash self.now }
         ensures answer { IfSome (D.state disk.old) (λ s.
             TellsHeader self.now id.now s (Rose (D.faults disk.old) (D.faults disk.new)) result) }
         ensures cause { IfErr result
@@ -252,8 +252,8 @@ impl Store {
 
 // The reply of a call that asks nothing more.
 fn reply_in(call: LooseCall) -> LooseReply
-    requires { disk_ask_of call ≡ None }
-    ensures { reply_of call ≡ Some result }
+    requires done { disk_ask_of call ≡ None }
+    ensures reply { reply_of call ≡ Some result }
 {
     match call.into_reply() {
         Some(reply) => reply,
@@ -301,7 +301,7 @@ fn ask_once<D: Disk>(
     call: &mut LooseCall,
     ask: &DiskAsk,
 ) -> Result<bool, NoMemory>
-    requires { disk_ask_of call.old ≡ Some ask.now }
+    requires asked { disk_ask_of call.old ≡ Some ask.now }
     ensures turned { IfOk result (λ more.
         Turns more (D.state disk.old) (D.state disk.new) (D.faults disk.old) (D.faults disk.new) call.old call.new) }
     ensures fewer { IfOk result (λ more. IsTrue more → asks_left call.new.stage < asks_left call.old.stage) }

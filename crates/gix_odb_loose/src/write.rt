@@ -60,7 +60,7 @@ impl From<NoMemory> for Error {
 impl Error {
     /// A copy of the error.
     pub fn try_clone(&self, alloc: Global) -> Result<Error, NoMemory>
-        ensures { IfOk result (λ copy. copy ≡ self.now) }
+        ensures copy { IfOk result (λ copy. copy ≡ self.now) }
     {
         match self {
             Error::Io { message, path } => Ok(Error::Io {

@@ -10,7 +10,7 @@ use Rattle.gix_hash.specs.declared.object_id.ObjectId.{ObjectId}
 use Rattle.gix_object.specs.Loose.{header_of}
 use Rattle.gix_odb_loose.specs.LooseFile.{loose_path}
 use Rattle.gix_odb_loose.specs.WriteOrder.{temp_path}
-use Rattle.gix_odb_loose.specs.declared.write_call.WriteHead.{WriteHead}
+use Rattle.gix_odb_loose.specs.declared.write_order.WriteHead.{WriteHead}
 
 -- The last change of a write moves the temporary file to the object's path. Then this path reads as the header and the
 -- data, unless a link was replaced that is crossed on the way of the path.

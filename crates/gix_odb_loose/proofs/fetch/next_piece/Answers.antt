@@ -1,6 +1,6 @@
 use Rattle.std.proofs.Common.{arith}
 use Rattle.std.proofs.lemmas.Grind.{common_steps}
-use Rattle.gix_odb_loose.proofs.DrawLemmas.{refused_any, loses_read}
+use Rattle.gix_odb_loose.proofs.WriteStreamsLemmas.{refused_any, loses_read}
 use Rattle.gix_odb_loose.proofs.fetch.next_piece.Goals as goal
 
 -- what was read without room for it is lost

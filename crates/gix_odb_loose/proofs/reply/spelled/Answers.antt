@@ -1,4 +1,4 @@
-use Rattle.gix_odb_loose.specs.LooseOrder.FileLaws.{spelled_in-IsLoose}
+use Rattle.gix_odb_loose.proofs.LooseOrderLaws.File.{spelled_in-IsLoose}
 use Rattle.gix_odb_loose.proofs.reply.spelled.Goals as goal
 
 pub returns-in-Ok-clause-found : goal.returns-in-Ok-clause-found

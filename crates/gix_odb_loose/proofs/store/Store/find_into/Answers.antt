@@ -5,7 +5,7 @@ use Rattle.gix_odb_loose.proofs.store.Store.find_into.Goals as goal
 -- the bytes put there are those of the reply
 pub returns-in-Found-Ok-Some-clause-answer : goal.returns-in-Found-Ok-Some-clause-answer
 returns-in-Found-Ok-Some-clause-answer g c =
-    rw (c.into_vec.ensures)
+    rw (c.into_vec.ensures.items)
     (find_answers _ _ _ c.args.self.now c.args.id.now _ c.in_ok-alloc.ensures.reply (Ok (Some (c.in-Found-Ok-Some.kind, c.in-Found-Ok-Some.bytes))) (cc c.in-Found-Ok-Some.is))
 
 pub returns-in-Found-Ok-None-clause-answer : goal.returns-in-Found-Ok-None-clause-answer

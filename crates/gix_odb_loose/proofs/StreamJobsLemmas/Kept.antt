@@ -1,0 +1,184 @@
+-- What a write holds is kept by the answer to its ask.
+use Rattle.std.specs.Prelude.{◌≡◌, ◌≢◌, ℕ, ◌+◌, ◌-◌, ◌^◌, ◌≤◌, Bool, true, false, nat_lt, nat_le, min, List, [], ◌∷◌, ◌++◌, length, Option, Some, None, Ok, Err, IfSome, if◌then◌else◌, refl}
+use Rattle.std.proofs.Common.{inr, sym, ap, ◌∙◌, subst, arith, append-nil}
+use Rattle.std.proofs.lemmas.Grind.{common_steps}
+use Rattle.std.proofs.lemmas.List.{length-append}
+use Rattle.odb_disk.specs.declared.ask.DiskAsk.{DiskAsk}
+use Rattle.odb_disk.specs.declared.ask.DiskAsk.TheVariants as asks
+use Rattle.odb_disk.specs.declared.ask.DiskAnswer.{DiskAnswer}
+use Rattle.odb_disk.specs.declared.ask.DiskAnswer.TheVariants as answers
+use Rattle.odb_tree.specs.declared.disk_error.DiskError.TheVariants as disk_errors
+use Rattle.gix_hash.specs.declared.object_id.ObjectId.{ObjectId}
+use Rattle.gix_odb_loose.specs.Exchanges.{Exchange}
+use Rattle.gix_odb_loose.specs.WriteHistory.{IsHistory, data_after}
+use Rattle.gix_odb_loose.specs.WritePieces.{piece_size, IsInPieces}
+use Rattle.gix_odb_loose.proofs.WriteHistoryLaws.{CountsTooMany, IsNextPiece}
+use Rattle.gix_odb_loose.specs.WriteNames.{Names}
+use Rattle.gix_odb_loose.specs.WriteOrder.{temp_names, room_behind, temp_path, next_write, made_by, headed_by, filled_by, foldered_by, moved_by, grown}
+use Rattle.gix_odb_loose.specs.StreamJobs.Progress.{Begun, NamedBy, SourceFailed, Took}
+use Rattle.gix_odb_loose.specs.StreamJobs.AtStage.{HasPiece, IsNext, Named, HoldsFed, Holds, IsReady, removal_at}
+use Rattle.gix_odb_loose.specs.WriteStreams.{OtherLength}
+use Rattle.gix_odb_loose.specs.declared.write_streamed.StreamJob.{StreamJob}
+use Rattle.gix_odb_loose.specs.declared.write.Message.TheVariants as messages
+use Rattle.gix_odb_loose.specs.declared.write_order.Onward.{Onward}
+use Rattle.gix_odb_loose.specs.declared.write_order.Onward.TheVariants.{Stage, End}
+use Rattle.gix_odb_loose.specs.declared.write_order.Refusal.TheVariants as refusals
+use Rattle.gix_odb_loose.specs.declared.write_order.WriteStage.{WriteStage}
+use Rattle.gix_odb_loose.specs.declared.write_order.WriteStage.TheVariants as stages
+use Rattle.gix_odb_loose.proofs.WriteStreamsLemmas.{Draws-length}
+use Rattle.gix_odb_loose.proofs.RoomLemmas.{room_few}
+
+module _ (w : Begun) (rest : Option (List ℕ)) (job fed : StreamJob) (removal : fed.removal ≡ job.removal) (naming : fed.naming ≡ job.naming) (ended : fed.has_ended ≡ job.has_ended) where
+  -- what is known of the stage or of the end that an answer leads to
+  abbrev pub KeptAt : List ℕ → List ℕ → WriteStage → Type 0
+  KeptAt appended all onward = HoldsFed w rest appended all fed onward × IsReady w fed.removal onward
+
+  abbrev pub Kept : List ℕ → List ℕ → Onward → Type 0
+  Kept appended all (Stage onward) = KeptAt appended all onward
+  Kept appended all (End (Ok id)) = Named w rest appended all id
+  Kept appended all (End (Err refusal)) = Unit {0}
+
+  module _ (number : ℕ) (ready : job.removal ≡ asks.Remove (temp_path w.head.objects number)) where
+    abbrev stays : fed.removal ≡ asks.Remove (temp_path w.head.objects number)
+    stays = removal ∙ ready
+
+    abbrev new_file : DiskAsk
+    new_file = asks.NewFile (temp_path w.head.objects number)
+
+    module _ (appended all : List ℕ) (none : appended ≡ []) (unread : all ≡ []) (open' : job.has_ended ≡ false) (named : Names w.known w.hash w.head [] job.naming) where
+      still : Names w.known w.hash w.head [] fed.naming
+      still = subst (Names w.known w.hash w.head []) (sym naming) named
+
+      kept_name : (more : Bool) → Kept appended all (if more then Stage (stages.Making (number + 1)) else End (Err (refusals.Io messages.CreateTempFile)))
+      kept_name true = ((unread, ended ∙ open', still), tt)
+      kept_name false = tt
+
+      kept_made : (answer : DiskAnswer) → Kept appended all (made_by number answer)
+      kept_made answers.Done = ((unread, ended ∙ open', still), stays)
+      kept_made (answers.Meta meta) = tt
+      kept_made (answers.Dir dir) = tt
+      kept_made (answers.Entry entry) = tt
+      kept_made answers.End = tt
+      kept_made (answers.File bytes time) = tt
+      kept_made (answers.Refused disk_errors.Exists) = kept_name (nat_lt (number + 1) temp_names)
+      kept_made (answers.Refused disk_errors.Absent) = tt
+      kept_made (answers.Refused disk_errors.WrongKind) = tt
+      kept_made (answers.Refused disk_errors.LinkLoop) = tt
+      kept_made (answers.Refused disk_errors.NotEmpty) = tt
+      kept_made (answers.Refused disk_errors.Failed) = tt
+      kept_made (answers.Refused disk_errors.NoMemory) = tt
+
+      begins : HasPiece w rest 0 appended all [] fed
+      begins =
+          record { is = unread ∙ sym (append-nil appended ∙ none); named = subst (λ (xs : List ℕ). Names w.known w.hash w.head xs fed.naming) (sym unread) still; within = omega arith; ended = λ e. absurd (let both : false ≡ true = sym (ended ∙ open') ∙ e in cc both) }
+
+      kept_headed : (answer : DiskAnswer) → Kept appended all (headed_by number answer)
+      kept_headed answers.Done = ((begins, λ e. (0, omega arith)), stays)
+      kept_headed (answers.Meta meta) = (tt, stays)
+      kept_headed (answers.Dir dir) = (tt, stays)
+      kept_headed (answers.Entry entry) = (tt, stays)
+      kept_headed answers.End = (tt, stays)
+      kept_headed (answers.File found time) = (tt, stays)
+      kept_headed (answers.Refused error) = (tt, stays)
+
+    module _ (written : ℕ) (appended all piece : List ℕ) (has : HasPiece w rest written appended all piece job) (next : IsNext w written job) (is_piece : piece ≡ job.piece) where
+      -- a piece that takes all room and fits is a whole one
+      whole_piece : (size room len : ℕ) (b : Bool) → nat_lt written size ≡ b → room ≡ (if b then min piece_size (size - written + 1) else 1) → len ≡ room → written + len ≤ size → len ≡ piece_size
+      whole_piece size room len true e room_is len_is fits = grind (arith, common_steps, e, room_is, len_is, fits)
+      whole_piece size room len false e room_is len_is fits = absurd (grind (arith, common_steps, e, room_is, len_is, fits))
+
+      more_pieces : length piece ≡ room_behind w.head.size written → written + length piece ≤ w.head.size → IsInPieces (written + length piece)
+      more_pieces full fits =
+          let whole = whole_piece w.head.size (room_behind w.head.size written) (length piece) (nat_lt written w.head.size) refl refl full fits in
+          (next.in_pieces.0 + 1, omega (arith, next.in_pieces.1, whole))
+
+      kept_fits : (fits : Bool) → nat_le (written + length piece) w.head.size ≡ fits
+          → Kept (appended ++ piece) all (if fits then Stage (stages.Filling number (written + length piece)) else Stage (stages.Removing number (refusals.SizeMismatch (grown written (length piece)))))
+      kept_fits true e = (
+        (
+          record {
+            is = has.is ∙ sym (append-nil (appended ++ piece));
+            named = subst (Names w.known w.hash w.head all) (sym naming) has.named;
+            within = grind (arith, common_steps, e);
+            ended = λ d. has.ended (sym ended ∙ d);
+          },
+          λ d. more_pieces (ap length is_piece ∙ next.full (sym ended ∙ d)) (grind (arith, common_steps, e)),
+        ),
+        stays,
+      )
+      kept_fits false e = (tt, stays)
+
+      kept_filled : (answer : DiskAnswer) → Kept (data_after (stages.Filling number written) piece answer appended) all (filled_by number written w.head.size (length piece) answer)
+      kept_filled answers.Done = kept_fits (nat_le (written + length piece) w.head.size) refl
+      kept_filled (answers.Meta meta) = (tt, stays)
+      kept_filled (answers.Dir dir) = (tt, stays)
+      kept_filled (answers.Entry entry) = (tt, stays)
+      kept_filled answers.End = (tt, stays)
+      kept_filled (answers.File found time) = (tt, stays)
+      kept_filled (answers.Refused error) = (tt, stays)
+
+    module _ (id : ObjectId) (appended all : List ℕ) (named : Named w rest appended all id) where
+      kept_foldered : (answer : DiskAnswer) → Kept appended all (foldered_by number id answer)
+      kept_foldered answers.Done = (named, stays)
+      kept_foldered (answers.Meta meta) = (tt, stays)
+      kept_foldered (answers.Dir dir) = (tt, stays)
+      kept_foldered (answers.Entry entry) = (tt, stays)
+      kept_foldered answers.End = (tt, stays)
+      kept_foldered (answers.File found time) = (tt, stays)
+      kept_foldered (answers.Refused disk_errors.Exists) = (named, stays)
+      kept_foldered (answers.Refused disk_errors.Absent) = (tt, stays)
+      kept_foldered (answers.Refused disk_errors.WrongKind) = (tt, stays)
+      kept_foldered (answers.Refused disk_errors.LinkLoop) = (tt, stays)
+      kept_foldered (answers.Refused disk_errors.NotEmpty) = (tt, stays)
+      kept_foldered (answers.Refused disk_errors.Failed) = (tt, stays)
+      kept_foldered (answers.Refused disk_errors.NoMemory) = (tt, stays)
+
+      kept_moved : (answer : DiskAnswer) → Kept appended all (moved_by number id answer)
+      kept_moved answers.Done = named
+      kept_moved (answers.Meta meta) = (tt, stays)
+      kept_moved (answers.Dir dir) = (tt, stays)
+      kept_moved (answers.Entry entry) = (tt, stays)
+      kept_moved answers.End = (tt, stays)
+      kept_moved (answers.File found time) = (tt, stays)
+      kept_moved (answers.Refused error) = (tt, stays)
+
+  module _ (source_now : ℕ) (appended all : List ℕ) (past : List Exchange) where
+    pub kept : (stage : WriteStage) (answer : DiskAnswer) → IsHistory w.head (NamedBy w) (SourceFailed w source_now) (OtherLength w.left w.head.size) appended stage past → Holds w rest appended all job stage → job.removal ≡ removal_at w stage
+        → Kept (data_after stage job.piece answer appended) all (next_write w.head.size (length job.piece) stage answer)
+    kept (stages.Making number) answer history holds ready = kept_made number ready appended all history.1 holds.0 holds.1 holds.2 answer
+    kept (stages.Heading number) answer history holds ready = kept_headed number ready appended all history.0 holds.0 holds.1 holds.2 answer
+    kept (stages.Filling number written) answer history holds ready = kept_filled number ready written appended all job.piece holds.0 holds.1 refl answer
+    kept (stages.Foldering number id) answer history holds ready = kept_foldered number ready id appended all holds answer
+    kept (stages.Moving number id) answer history holds ready = kept_moved number ready id appended all holds answer
+    kept (stages.Removing number refusal) answer history holds ready = tt
+
+    -- one byte above the size is counted
+    pub counts : (stage : WriteStage) → IsHistory w.head (NamedBy w) (SourceFailed w source_now) (OtherLength w.left w.head.size) appended stage past → Holds w rest appended all job stage → Took w rest source_now all
+        → CountsTooMany w.head (NamedBy w) (SourceFailed w source_now) (OtherLength w.left w.head.size) stage job.piece
+    counts (stages.Making number) history holds took = tt
+    counts (stages.Heading number) history holds took = tt
+    counts (stages.Filling number written) history holds took =
+        λ more.
+        let long : written + length job.piece ≡ length all = rw (history.0) (sym (length-append appended job.piece)) ∙ ap length (sym holds.0.is) in
+        let exact : written + length job.piece ≡ w.head.size + 1 = omega (arith, more, long, took.few) in
+        (exact, by_left w.left (Draws-length w.left rest all took.drawn) long exact)
+      where
+        by_left : (left : Option (List ℕ)) → IfSome left (λ bytes. length all ≤ length bytes) → written + length job.piece ≡ length all → written + length job.piece ≡ w.head.size + 1 → OtherLength left w.head.size (grown written (length job.piece))
+        by_left None h long exact = tt
+        by_left (Some bytes) h long exact = inr (omega (arith, h, long, exact), ap (λ (n : ℕ). min n (2 ^ 64 - 1)) exact)
+    counts (stages.Foldering number id) history holds took = tt
+    counts (stages.Moving number id) history holds took = tt
+    counts (stages.Removing number refusal) history holds took = tt
+
+    -- the piece that is appended is the next
+    pub next_piece : (stage : WriteStage) → Holds w rest appended all job stage → IsNextPiece w.head (NamedBy w) (SourceFailed w source_now) (OtherLength w.left w.head.size) stage job.piece
+    next_piece (stages.Making number) holds = tt
+    next_piece (stages.Heading number) holds = tt
+    next_piece (stages.Filling number written) holds = (holds.1.in_pieces, some_bytes job.piece holds.1.some, (let most = room_few w.head.size written in omega (arith, most, holds.1.few)))
+      where
+        some_bytes : (piece : List ℕ) → piece ≢ [] → 1 ≤ length piece
+        some_bytes [] some = absurd (some refl)
+        some_bytes (b ∷ bs) some = omega arith
+    next_piece (stages.Foldering number id) holds = tt
+    next_piece (stages.Moving number id) holds = tt
+    next_piece (stages.Removing number refusal) holds = tt

@@ -1,0 +1,4 @@
+-- Lemmas on what a write promises: what its asks were refused by, its run, and the clauses of each call.
+pub mod RefusedAsks
+pub mod Ends
+pub mod Calls

@@ -1,0 +1,232 @@
+-- From the end of a write to what its run promises.
+use Rattle.std.specs.Result.{IsErrAnd}
+use Rattle.std.specs.Prelude.{◌≡◌, ◌⊎◌, ⊤, ℕ, false, List, [], ◌∷◌, length, Option, Some, None, Result, Ok, Err, IfOk, IfSome, refl}
+use Rattle.std.proofs.Common.{inl, inr, sym, ap, ◌∙◌, subst, arith}
+use Rattle.odb_base.specs.Faults.{Rose}
+use Rattle.odb_tree.specs.Tree.{State, IsTree, tree_of}
+use Rattle.odb_disk.specs.declared.ask.DiskAsk.TheVariants as asks
+use Rattle.odb_disk.specs.declared.ask.DiskAnswer.TheVariants as answers
+use Rattle.gix_hash.specs.declared.object_id.ObjectId.{ObjectId}
+use Rattle.gix_odb_loose.specs.Causes.{WriteCause}
+use Rattle.gix_odb_loose.proofs.CauseLaws.Write.{WriteCause-wider}
+use Rattle.gix_odb_loose.specs.Exchanges.{Exchange, exchanged, left_by, AreGiven, RenamedNothing}
+use Rattle.std.proofs.lemmas.List.{length-append}
+use Rattle.gix_odb_loose.specs.LooseFile.{loose_path}
+use Rattle.gix_odb_loose.specs.WriteRuns.ReadBack.{ReadsBack}
+use Rattle.gix_odb_loose.proofs.ReadBackLaws.{moved_reads_back}
+use Rattle.gix_odb_loose.specs.WriteAsks.{RunsAlong}
+use Rattle.gix_odb_loose.specs.WriteHistory.WentWell.{IsMoved, tried}
+use Rattle.gix_odb_loose.specs.WriteHistory.Refused.{RefusedIn, TakenIn, DoneIn, WantedIn, HasCauseIn}
+use Rattle.gix_odb_loose.specs.WriteHistory.{IsRefusedRun, IsBrokenRun}
+use Rattle.gix_odb_loose.specs.WriteOwn.{AreOwn, LeavesNothing}
+use Rattle.gix_odb_loose.specs.WriteOrder.{error_from, temp_path}
+use Rattle.gix_odb_loose.specs.WriteRuns.RefusedAsks.{Refuses, FoundThere}
+use Rattle.gix_odb_loose.specs.WriteRuns.{IsRefusedWrite, IsStoppedBySource, Writes, WriteRuns}
+use Rattle.gix_odb_loose.specs.StreamJobs.Progress.{write_made, Begun, NamedBy, SourceFailed, IsSpared, Did, Took}
+use Rattle.gix_odb_loose.specs.StreamJobs.SameAsks.{at_hand}
+use Rattle.gix_odb_loose.specs.StreamJobs.AtStage.{IsNew}
+use Rattle.gix_odb_loose.specs.StreamJobs.{IsToldBy, StandsAt, IsAtItsEnd, IsBrokenOff}
+use Rattle.gix_odb_loose.specs.WriteStreams.{IsAtEnd, OtherLength, TakesFrom}
+use Rattle.gix_odb_loose.proofs.WriteShownLaws.{refused_unnamed, refused_cleared, refused_own, broken_unnamed, broken_cleared, broken_own, moved_own}
+use Rattle.gix_odb_loose.proofs.WriteMadeLaws.{moved_below}
+use Rattle.gix_odb_loose.proofs.WriteShownLaws.Unmade.{unmade_left}
+use Rattle.gix_odb_loose.proofs.WriteCauseLaws.{refused_cause}
+use Rattle.gix_odb_loose.specs.declared.write.Error.{Error}
+use Rattle.gix_odb_loose.specs.declared.write.Error.TheVariants as errors
+use Rattle.gix_odb_loose.specs.declared.write_order.Refusal.{Refusal}
+use Rattle.gix_odb_loose.specs.declared.write_order.Refusal.TheVariants as refusals
+use Rattle.gix_odb_loose.specs.declared.write_order.WriteHead.{WriteHead}
+use Rattle.gix_odb_loose.specs.declared.write_order.WriteStage.TheVariants as stages
+use Rattle.gix_odb_loose.specs.declared.write.Message.TheVariants as messages
+use Rattle.odb_base.specs.Path.{Path}
+use Rattle.gix_odb_loose.proofs.AskLaws.{IsAlong-start}
+use Rattle.gix_odb_loose.proofs.WriteStreamsLemmas.{Draws-end}
+use Rattle.gix_odb_loose.proofs.StreamJobsLemmas.SameAsks.{runs_end}
+use Rattle.gix_odb_loose.proofs.StreamJobsLemmas.Ends.{stands_first}
+use Rattle.gix_odb_loose.specs.WriteNames.{Names}
+use Rattle.gix_odb_loose.specs.declared.write_streamed.StreamJob.{StreamJob}
+use Rattle.gix_hash.specs.declared.kind.Kind.{Kind as HashKind}
+use Rattle.gix_odb_loose.proofs.WriteRunsLemmas.RefusedAsks.{refuses_in}
+
+-- an object that got its name is read back, where the states are told
+reads_back : (first new : Option State) (head : WriteHead) (number : ℕ) (id : ObjectId) (bytes : List ℕ) (past : List Exchange) → (moved : IsMoved head number id bytes past) → AreGiven first past → new ≡ left_by first past
+    → (past ≡ []) ⊎ IfSome first (λ s. IsTree (tree_of s)) → IfSome first (λ _. ReadsBack head number id bytes (left_by first moved.before) new)
+reads_back None new head number id bytes past moved given left tree = tt
+reads_back (Some s) new head number id bytes past moved given left tree =
+    elim tree [
+      | inl none ↦ absurd (let long = ap length (sym moved.is ∙ none) in omega (arith, long, length-append moved.before (exchanged (asks.Rename (temp_path head.objects number) (loose_path head.objects id)) answers.Done ∷ [])))
+      | inr is ↦ subst (ReadsBack head number id bytes (left_by (Some s) moved.before)) (sym left) (moved_reads_back head number id bytes s is past moved given)
+    ]
+
+module _ (w : Begun) (state : Option State) (now : ℕ) (rest : Option (List ℕ)) (source_now : ℕ) where
+  abbrev Runs : Result ObjectId Error → Type 0
+  Runs result = WriteRuns (write_made w state now source_now result)
+
+  abbrev Refused : List Exchange → Error → Type 0
+  Refused past error = WriteCause w.head (NamedBy w) (Refuses w.state (Rose w.faults now) past) (FoundThere past) (DoneIn past) (Rose w.source_faults source_now) ⊤ (OtherLength w.left w.head.size) error
+
+  abbrev Stopped : List Exchange → Error → Type 0
+  Stopped past error = IsRefusedWrite w.head (NamedBy w) (SourceFailed w source_now) (OtherLength w.left w.head.size) past error
+
+  -- the cause, as the disk told it
+  cause_told : (past : List Exchange) (error : Error) → Did w state now past → HasCauseIn w.head (NamedBy w) (SourceFailed w source_now) (OtherLength w.left w.head.size) past error → Refused past error
+  cause_told past error did h =
+      WriteCause-wider w.head (RefusedIn past) (Refuses w.state (Rose w.faults now) past) (TakenIn past) (FoundThere past) (DoneIn past) (DoneIn past) (refuses_in w.state w.faults now past did.given did.failed) (λ ask t. t) (λ ask d. d) (Rose w.source_faults source_now)
+      (Rose w.source_faults source_now) (λ f. f) (NamedBy w) (NamedBy w) (λ id n. n) (WantedIn past) ⊤ (λ m. tt) (OtherLength w.left w.head.size) (OtherLength w.left w.head.size) (λ n k. k) error h
+
+  -- what a refused write shows
+  record Shows (past : List Exchange) (error : Error) : Type 0 where
+    own : AreOwn w.head (NamedBy w) past
+    stopped : Stopped past error
+    unnamed : RenamedNothing past
+    cleared : LeavesNothing w.head past
+    untouched : (at : Path) → error ≡ errors.Io messages.CreateTempFile at → left_by w.state past ≡ w.state
+    cause : Refused past error
+
+  -- what it asked, where the source tells its data
+  abbrev Asked : List Exchange → Result ObjectId Error → Type 0
+  Asked past result = (bytes : List ℕ) → w.left ≡ Some bytes → RunsAlong (at_hand w bytes) (SourceFailed w source_now) past result
+
+  abbrev SparedBy : List Exchange → Result ObjectId Error → Type 0
+  SparedBy past result = IsSpared w source_now ⊎ IsStoppedBySource w.head past result
+
+  runs_refused : (past : List Exchange) (error : Error) (result : Result ObjectId Error) → result ≡ Err error → Did w state now past → Shows past error → Asked past result → SparedBy past result → Runs result
+  runs_refused past error result is did shows asked spared =
+      record {
+        exchanges = past;
+        given = did.given;
+        left = did.left;
+        own = shows.own;
+        asks = asked;
+        spared = spared;
+        wrote = λ id e. absurd (let both : Ok id ≡ Err error = sym e ∙ is in cc both);
+        stopped = λ other e. let same : error ≡ other = cc (sym is ∙ e) in subst (Stopped past) same shows.stopped;
+        unnamed = λ other e. shows.unnamed;
+        cleared = λ other e. shows.cleared;
+        untouched = λ at e. did.left ∙ shows.untouched at (let same : error ≡ errors.Io messages.CreateTempFile at = cc (sym is ∙ e) in same);
+        refused = λ other e. let same : error ≡ other = cc (sym is ∙ e) in subst (Refused past) same shows.cause;
+      }
+
+  -- a write that got its name
+  pub runs_wrote : (id : ObjectId) → IsAtItsEnd w state now rest source_now (Ok id) → (result : Result ObjectId Error) → result ≡ Ok id → Runs result
+  runs_wrote id at result is =
+      record {
+        exchanges = at.past;
+        given = at.did.given;
+        left = at.did.left;
+        own = moved_own w.head (NamedBy w) at.ends.0.2.0 id at.appended at.past at.ends.0.1 at.ends.0.2.1;
+        asks = λ bytes told. runs_end w bytes (SourceFailed w source_now) (Ok id) at.past result (inl is) (at.follows bytes told);
+        spared = elim at.spared [ inl spared ↦ inl spared | inr failed ↦ absurd (let both = failed.0 in cc both) ];
+        wrote = λ other e. let same : id ≡ other = cc (sym is ∙ e) in subst (λ (i : ObjectId). Writes w.head w.hash w.known w.left w.state state at.past i) same writes;
+        stopped = λ error e. absurd (let both : Err error ≡ Ok id = sym e ∙ is in cc both);
+        unnamed = λ error e. absurd (let both : Err error ≡ Ok id = sym e ∙ is in cc both);
+        cleared = λ error e. absurd (let both : Err error ≡ Ok id = sym e ∙ is in cc both);
+        untouched = λ at e. absurd (let both : Err (errors.Io messages.CreateTempFile at) ≡ Ok id = sym e ∙ is in cc both);
+        refused = λ error e. absurd (let both : Err error ≡ Ok id = sym e ∙ is in cc both);
+      }
+    where
+      writes : Writes w.head w.hash w.known w.left w.state state at.past id
+      writes =
+          record {
+            bytes = at.appended;
+            number = at.ends.0.2.0;
+            below = moved_below w.head at.ends.0.2.0 id at.appended at.past at.ends.0.2.1;
+            moved = at.ends.0.2.1;
+            size = at.ends.0.0;
+            name = at.ends.1.2;
+            whole = subst (λ (xs : List ℕ). IfSome w.left (λ all. all ≡ xs)) at.ends.1.1 (Draws-end w.left rest at.all at.took.drawn at.ends.1.0);
+            read_back = reads_back w.state state w.head at.ends.0.2.0 id at.appended at.past at.ends.0.2.1 at.did.given at.did.left at.did.tree;
+          }
+
+  -- a write that was refused, or had no memory to tell why
+  module _ (refusal : Refusal) (at : IsAtItsEnd w state now rest source_now (Err refusal)) where
+    abbrev run : IsRefusedRun w.head (NamedBy w) (SourceFailed w source_now) (OtherLength w.left w.head.size) refusal at.past
+    run = at.ends
+
+    spared_by : (result : Result ObjectId Error) → (refusal ≡ refusals.Io messages.StreamData → (result ≡ Err (errors.Io messages.StreamData w.head.objects)) ⊎ (result ≡ Err errors.NoMemory)) → SparedBy at.past result
+    spared_by result told = elim at.spared [ inl spared ↦ inl spared | inr failed ↦ inr (failed.1, told (let both = failed.0 in cc both)) ]
+
+    shown : (error : Error) → (error ≡ error_from w.head refusal) ⊎ (error ≡ errors.NoMemory) → ((path : Path) → error ≡ errors.Io messages.CreateTempFile path → left_by w.state at.past ≡ w.state) → Refused at.past error → Shows at.past error
+    shown error is untouched cause =
+        record {
+          own = refused_own w.head (NamedBy w) (SourceFailed w source_now) (OtherLength w.left w.head.size) refusal at.past run;
+          stopped = inl (refusal, run, is);
+          unnamed = refused_unnamed w.head (NamedBy w) (SourceFailed w source_now) (OtherLength w.left w.head.size) refusal at.past run;
+          cleared = refused_cleared w.head (NamedBy w) (SourceFailed w source_now) (OtherLength w.left w.head.size) refusal at.past run;
+          untouched = untouched;
+          cause = cause;
+        }
+
+    pub runs_ended : (result : Result ObjectId Error) → result ≡ Err (error_from w.head refusal) → Runs result
+    runs_ended result is =
+        runs_refused at.past (error_from w.head refusal) result is at.did
+        (shown (error_from w.head refusal) (inl refl) (λ path e. unmade_left w.head (NamedBy w) (SourceFailed w source_now) (OtherLength w.left w.head.size) w.state refusal path at.past e run)
+        (cause_told at.past (error_from w.head refusal) at.did (refused_cause w.head (NamedBy w) (SourceFailed w source_now) (OtherLength w.left w.head.size) refusal at.past run)))
+        (λ bytes told. runs_end w bytes (SourceFailed w source_now) (Err refusal) at.past result (inl is) (at.follows bytes told)) (spared_by result (λ same. inl (is ∙ ap (λ (r : Refusal). Err (error_from w.head r)) same)))
+
+    pub runs_untold : (result : Result ObjectId Error) → result ≡ Err errors.NoMemory → Runs result
+    runs_untold result is =
+        runs_refused at.past errors.NoMemory result is at.did (shown errors.NoMemory (inr refl) (λ path e. absurd (cc e)) tt)
+        (λ bytes told. runs_end w bytes (SourceFailed w source_now) (Err refusal) at.past result (inr is) (at.follows bytes told)) (spared_by result (λ same. inr is))
+
+  shown_broken : (past : List Exchange) → IsBrokenRun w.head (NamedBy w) (SourceFailed w source_now) (OtherLength w.left w.head.size) past → Shows past errors.NoMemory
+  shown_broken past run =
+      record {
+        own = broken_own w.head (NamedBy w) (SourceFailed w source_now) (OtherLength w.left w.head.size) past run;
+        stopped = inr (run, refl);
+        unnamed = broken_unnamed w.head (NamedBy w) (SourceFailed w source_now) (OtherLength w.left w.head.size) past run;
+        cleared = broken_cleared w.head (NamedBy w) (SourceFailed w source_now) (OtherLength w.left w.head.size) past run;
+        untouched = λ path e. absurd (cc e);
+        cause = tt;
+      }
+
+  pub runs_broken : IsBrokenOff w state now rest source_now → (result : Result ObjectId Error) → result ≡ Err errors.NoMemory → Runs result
+  runs_broken off result is = runs_refused off.past errors.NoMemory result is off.did (shown_broken off.past off.run) (λ bytes told. inr (off.follows bytes told, inr is))
+      (elim off.spared [ inl spared ↦ inl spared | inr failed ↦ inr (failed, inr is) ])
+
+  -- by its end, as it is told
+  pub runs_told : (end : Result ObjectId Refusal) → IsAtItsEnd w state now rest source_now end → (result : Result ObjectId Error) → IsToldBy w.head end result → Runs result
+  runs_told (Ok id) at result told = runs_wrote id at result told
+  runs_told (Err refusal) at result told = elim told [ inl is ↦ runs_ended refusal at result is | inr is ↦ runs_untold refusal at result is ]
+
+  pub ended_told : (end : Result ObjectId Refusal) → IsAtItsEnd w state now rest source_now end → (result : Result ObjectId Error) → IsToldBy w.head end result → IfOk result (λ _. IsAtEnd rest)
+  ended_told (Ok id) at result told = subst (λ (r : Result ObjectId Error). IfOk r (λ _. IsAtEnd rest)) (sym told) at.ends.1.0
+  ended_told (Err refusal) at result told =
+      elim told [
+        | inl is ↦ subst (λ (r : Result ObjectId Error). IfOk r (λ _. IsAtEnd rest)) (sym is) tt
+        | inr is ↦ subst (λ (r : Result ObjectId Error). IfOk r (λ _. IsAtEnd rest)) (sym is) tt
+      ]
+
+-- what it took
+pub took_from : (w : Begun) (rest : Option (List ℕ)) (source_now : ℕ) (all : List ℕ) → Took w rest source_now all → TakesFrom w.head.size w.left rest w.source_faults source_now
+took_from w rest source_now all took = record { all = all; drawn = took.drawn; few = took.few; later = took.later }
+
+-- a write that didn't begin
+pub runs_nothing : (w : Begun) (result : Result ObjectId Error) → result ≡ Err errors.NoMemory → Runs w w.state w.faults w.left w.source_faults result
+unfolding AreGiven left_by tried
+runs_nothing w result is =
+    runs_refused w w.state w.faults w.left w.source_faults [] errors.NoMemory result is (record { given = tt; left = refl; failed = λ k d l. absurd (omega (arith, l)); later = omega arith; tree = inl refl })
+    (shown_broken w w.state w.faults w.left w.source_faults [] (record { stage = stages.Making 0; appended = []; before = []; history = (omega arith, refl, refl); removed = refl }))
+    (λ bytes told. inr (record { stage = stages.Making 0; before = []; along = IsAlong-start (at_hand w bytes); removed = refl }, inr is)) (inl refl)
+
+-- a call that was refused for want of memory
+pub for_memory : {A : Type 0} (result : Result A Error) → IsErrAnd result (λ e. e ≡ errors.NoMemory) → result ≡ Err errors.NoMemory
+for_memory (Ok x) h = absurd h
+for_memory (Err error) h = ap (λ (e : Error). Err e) h
+
+-- ---- how it begins
+
+pub new_underway : (w : Begun) (job : StreamJob) → IsNew w.head w.hash w.known job → StandsAt w w.state w.faults w.left w.source_faults job job.stage
+new_underway w job new = stands_first w job new.about new.stage new.has_ended new.naming new.removal
+
+pub new_in : {E : Type 0} (head made : WriteHead) (hash taken : HashKind) (known : Option ObjectId) (result : Result StreamJob E) → made ≡ head → taken ≡ hash → IfOk result (λ job. job.head ≡ made) → IfOk result (λ job. job.stage ≡ stages.Making 0)
+    → IfOk result (λ job. job.has_ended ≡ false) → IfOk result (λ job. Names known taken made [] job.naming) → IfOk result (λ job. job.removal ≡ asks.Remove (temp_path made.objects 0)) → IfOk result (IsNew head hash known)
+new_in head made hash taken known (Err error) same hash_is heads stage ended naming removal = tt
+new_in head made hash taken known (Ok job) same hash_is heads stage ended naming removal =
+    record {
+      about = heads ∙ same;
+      stage = stage;
+      has_ended = ended;
+      naming = subst (λ (h : HashKind). Names known h head [] job.naming) hash_is (subst (λ (h : WriteHead). Names known taken h [] job.naming) same naming);
+      removal = removal ∙ ap (λ (h : WriteHead). asks.Remove (temp_path h.objects 0)) same;
+    }

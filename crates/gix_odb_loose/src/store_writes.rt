@@ -1,0 +1,267 @@
+//! The calls of a store that write.
+ghost use Rattle.std.specs.Prelude.{◌≡◌, ◌≤◌, Option, Some, None, length, IfOk, IfSome};
+ghost use Rattle.gix_hash.specs.ObjectId.{kind_of};
+ghost use Rattle.gix_object.specs.Id.{object_id};
+ghost use Rattle.gix_object.specs.Stream.{stream_of, IsDrawn, IsWhole};
+ghost use Rattle.gix_odb_loose.specs.Store.{store_hash};
+ghost use Rattle.gix_odb_loose.specs.StreamJobs.Progress.{Begun, write_made};
+ghost use Rattle.gix_odb_loose.specs.StreamJobs.AtStage.{IsNew};
+ghost use Rattle.gix_odb_loose.specs.StreamJobs.{IsSomeUnderway, IsToldBy, IsUnderway};
+ghost use Rattle.gix_odb_loose.specs.WriteRuns.{WriteRuns, Streamed, AtHand, write_head};
+ghost use Rattle.gix_odb_loose.specs.WriteStreams.{IsAtEnd, TakesFrom};
+
+use crate::lent::Lent;
+use crate::write_order::{Refusal, WriteHead};
+use crate::write_streamed::StreamJob;
+use crate::{Store, write};
+use gix_hash::ObjectId;
+use gix_object::{Kind, WriteTo};
+use odb_base::NoMemory;
+use odb_disk::{Disk, MemSink, Source};
+use std::alloc::Global;
+
+impl Store {
+    /// Writes an object whose data are these bytes, and answers its id.
+    ///
+    /// The object gets its name last, by a rename. After a refusal there is no name of an object that wasn't there
+    /// before, and the temporary file is left only where its removal was refused too.
+    pub fn write_buf<D: Disk>(
+        &self,
+        alloc: Global,
+        disk: &mut D,
+        kind: Kind,
+        from: &[u8],
+    ) -> Result<ObjectId, write::Error>
+        ensures run { WriteRuns (record {
+          head = write_head self.now kind (length from.now);
+          hash = store_hash self.now;
+          known = None;
+          content = AtHand from.now;
+          state = D.state disk.old;
+          state_now = D.state disk.new;
+          faults = D.faults disk.old;
+          faults_now = D.faults disk.new;
+          answer = result;
+        }) }
+        ensures id { IfOk result (λ id. id ≡ object_id (store_hash self.now) kind from.now) }
+        ensures kind { IfOk result (λ id. kind_of id ≡ store_hash self.now) }
+        ensures later { D.faults disk.old ≤ D.faults disk.new }
+        ensures streams { D.streams disk.new ≡ D.streams disk.old }
+    {
+        let mut data = Lent::new(from);
+        self.run_write(alloc, disk, kind, from.len() as u64, None, &mut data)
+    }
+
+    /// The same under an id that the object is known to have. It isn't tested.
+    pub fn write_buf_with_known_id<D: Disk>(
+        &self,
+        alloc: Global,
+        disk: &mut D,
+        kind: Kind,
+        from: &[u8],
+        id: ObjectId,
+    ) -> Result<ObjectId, write::Error>
+        requires hash { kind_of id ≡ store_hash self.now }
+        ensures run { WriteRuns (record {
+          head = write_head self.now kind (length from.now);
+          hash = store_hash self.now;
+          known = Some id;
+          content = AtHand from.now;
+          state = D.state disk.old;
+          state_now = D.state disk.new;
+          faults = D.faults disk.old;
+          faults_now = D.faults disk.new;
+          answer = result;
+        }) }
+        ensures id { IfOk result (λ answered. answered ≡ id) }
+        ensures later { D.faults disk.old ≤ D.faults disk.new }
+        ensures streams { D.streams disk.new ≡ D.streams disk.old }
+    {
+        let mut data = Lent::new(from);
+        self.run_write(alloc, disk, kind, from.len() as u64, Some(id), &mut data)
+    }
+
+    /// Writes an object whose data are the bytes of a source, which are to be `size`, and answers its id.
+    ///
+    /// The data are read in pieces of 65,536 bytes between the calls of the disk, and one byte above the size at most.
+    /// Fewer or more are `SizeMismatch`, and a source that fails is `Io`: nothing is appended after a failure.
+    pub fn write_stream<D: Disk, S: Source>(
+        &self,
+        alloc: Global,
+        disk: &mut D,
+        kind: Kind,
+        size: u64,
+        from: &mut S,
+    ) -> Result<ObjectId, write::Error>
+        ensures run { WriteRuns (record {
+          head = write_head self.now kind size;
+          hash = store_hash self.now;
+          known = None;
+          content = Streamed (S.left from.old) (S.faults from.old) (S.faults from.new);
+          state = D.state disk.old;
+          state_now = D.state disk.new;
+          faults = D.faults disk.old;
+          faults_now = D.faults disk.new;
+          answer = result;
+        }) }
+        ensures from { IsDrawn (stream_of (S.left from.old) (S.faults from.old) (S.left from.new) (S.faults from.new)) }
+        ensures few { TakesFrom size (S.left from.old) (S.left from.new) (S.faults from.old) (S.faults from.new) }
+        ensures whole { IfOk result (λ _. IsWhole size (S.left from.old) (S.left from.new)) }
+        ensures spared { IfOk result (λ _. S.faults from.new ≡ S.faults from.old) }
+        ensures id { IfOk result (λ id. IfSome (S.left from.old) (λ bytes. id ≡ object_id (store_hash self.now) kind bytes)) }
+        ensures kind { IfOk result (λ id. kind_of id ≡ store_hash self.now) }
+        ensures later { D.faults disk.old ≤ D.faults disk.new }
+        ensures streams { D.streams disk.new ≡ D.streams disk.old }
+    {
+        self.run_write(alloc, disk, kind, size, None, from)
+    }
+
+    /// The same under an id that the object is known to have. It isn't tested.
+    pub fn write_stream_with_known_id<D: Disk, S: Source>(
+        &self,
+        alloc: Global,
+        disk: &mut D,
+        kind: Kind,
+        size: u64,
+        from: &mut S,
+        id: ObjectId,
+    ) -> Result<ObjectId, write::Error>
+        requires hash { kind_of id ≡ store_hash self.now }
+        ensures run { WriteRuns (record {
+          head = write_head self.now kind size;
+          hash = store_hash self.now;
+          known = Some id;
+          content = Streamed (S.left from.old) (S.faults from.old) (S.faults from.new);
+          state = D.state disk.old;
+          state_now = D.state disk.new;
+          faults = D.faults disk.old;
+          faults_now = D.faults disk.new;
+          answer = result;
+        }) }
+        ensures from { IsDrawn (stream_of (S.left from.old) (S.faults from.old) (S.left from.new) (S.faults from.new)) }
+        ensures few { TakesFrom size (S.left from.old) (S.left from.new) (S.faults from.old) (S.faults from.new) }
+        ensures whole { IfOk result (λ _. IsWhole size (S.left from.old) (S.left from.new)) }
+        ensures spared { IfOk result (λ _. S.faults from.new ≡ S.faults from.old) }
+        ensures id { IfOk result (λ answered. answered ≡ id) }
+        ensures later { D.faults disk.old ≤ D.faults disk.new }
+        ensures streams { D.streams disk.new ≡ D.streams disk.old }
+    {
+        self.run_write(alloc, disk, kind, size, Some(id), from)
+    }
+
+    /// Writes an object that gives its own data, and answers its id. The data are put into memory first.
+    pub fn write<D: Disk, O: WriteTo>(
+        &self,
+        alloc: Global,
+        disk: &mut D,
+        object: &O,
+    ) -> Result<ObjectId, write::Error>
+        ensures run { WriteRuns (record {
+          head = write_head self.now (O.kind object.now) (length (O.bytes object.now));
+          hash = store_hash self.now;
+          known = None;
+          content = AtHand (O.bytes object.now);
+          state = D.state disk.old;
+          state_now = D.state disk.new;
+          faults = D.faults disk.old;
+          faults_now = D.faults disk.new;
+          answer = result;
+        }) }
+        ensures id { IfOk result (λ id. id ≡ object_id (store_hash self.now) (O.kind object.now) (O.bytes object.now)) }
+        ensures kind { IfOk result (λ id. kind_of id ≡ store_hash self.now) }
+        ensures later { D.faults disk.old ≤ D.faults disk.new }
+        ensures streams { D.streams disk.new ≡ D.streams disk.old }
+    {
+        let mut data = MemSink::new(alloc);
+        if object.write_to(&mut data).is_err() {
+            return Err(write::Error::NoMemory);
+        }
+        self.write_buf(alloc, disk, object.kind(), data.bytes())
+    }
+
+    // Writes an object of this kind and size whose data a source gives: what the write answers.
+    fn run_write<D: Disk, S: Source>(
+        &self,
+        alloc: Global,
+        disk: &mut D,
+        kind: Kind,
+        size: u64,
+        known: Option<ObjectId>,
+        from: &mut S,
+    ) -> Result<ObjectId, write::Error>
+        ensures run { WriteRuns (record {
+          head = write_head self.now kind size;
+          hash = store_hash self.now;
+          known = known;
+          content = Streamed (S.left from.old) (S.faults from.old) (S.faults from.new);
+          state = D.state disk.old;
+          state_now = D.state disk.new;
+          faults = D.faults disk.old;
+          faults_now = D.faults disk.new;
+          answer = result;
+        }) }
+        ensures taken { TakesFrom size (S.left from.old) (S.left from.new) (S.faults from.old) (S.faults from.new) }
+        ensures ended { IfOk result (λ _. IsAtEnd (S.left from.new)) }
+        ensures later { D.faults disk.old ≤ D.faults disk.new }
+        ensures streams { D.streams disk.new ≡ D.streams disk.old }
+    {
+        let mut job = self.new_write(alloc, kind, size, known)?;
+        let answer = answered(alloc, disk, from, &mut job);
+        drop(job);
+        answer
+    }
+
+    // A write into the store that has asked nothing and read nothing.
+    fn new_write(
+        &self,
+        alloc: Global,
+        kind: Kind,
+        size: u64,
+        known: Option<ObjectId>,
+    ) -> Result<StreamJob, NoMemory>
+        ensures begun { IfOk result (IsNew (write_head self.now kind size) (store_hash self.now) known) }
+    {
+        let head = WriteHead {
+            objects: self.path().try_clone(alloc)?,
+            kind,
+            size,
+        };
+        StreamJob::start(alloc, self.object_hash(), head, known)
+    }
+}
+
+// All turns of a write that is underway, and what it answers.
+fn answered<D: Disk, S: Source>(
+    alloc: Global,
+    disk: &mut D,
+    from: &mut S,
+    job: &mut StreamJob,
+) -> Result<ObjectId, write::Error>
+    requires underway { IsSomeUnderway (D.state disk.old) (D.faults disk.old) (S.left from.old) (S.faults from.old) job.old }
+    ensures run { (w : Begun) →
+        IsUnderway w (D.state disk.old) (D.faults disk.old) (S.left from.old) (S.faults from.old) job.old →
+        WriteRuns (write_made w (D.state disk.new) (D.faults disk.new) (S.faults from.new) result) }
+    ensures taken { (w : Begun) →
+        IsUnderway w (D.state disk.old) (D.faults disk.old) (S.left from.old) (S.faults from.old) job.old →
+        TakesFrom w.head.size w.left (S.left from.new) w.source_faults (S.faults from.new) }
+    ensures ended { IfOk result (λ _. IsAtEnd (S.left from.new)) }
+    ensures later { D.faults disk.old ≤ D.faults disk.new }
+    ensures streams { D.streams disk.new ≡ D.streams disk.old }
+{
+    let end = job.run(alloc, disk, from)?;
+    told(alloc, &job.head, end)
+}
+
+// What a write answers that ended so.
+fn told(
+    alloc: Global,
+    head: &WriteHead,
+    end: Result<ObjectId, Refusal>,
+) -> Result<ObjectId, write::Error>
+    ensures answer { IsToldBy head.now end result }
+{
+    match end {
+        Ok(id) => Ok(id),
+        Err(refusal) => Err(head.error(alloc, refusal)?),
+    }
+}

@@ -1,0 +1,118 @@
+//! A write whose data are all at hand.
+ghost use Rattle.std.specs.Prelude.{◌≡◌, IfOk};
+ghost use Rattle.gix_odb_loose.specs.WriteJobs.{piece_at, piece_in, ask_in, next_in, advance_by, supplied_to};
+ghost use Rattle.gix_odb_loose.specs.WriteOrder.{number_made, temporary_of};
+ghost use Rattle.gix_odb_loose.specs.WriteNames.{name_for};
+
+use crate::naming::Naming;
+use crate::write_order::{Onward, WriteHead, WriteStage, room};
+use crate::{paths, write};
+use gix_hash::ObjectId;
+use odb_base::{ByteList, NoMemory, PathText};
+use odb_disk::{DiskAnswer, DiskAsk};
+use std::alloc::Global;
+
+/// A write on its way, which hands its data to the machine.
+#[derive(Drop)]
+pub struct WriteJob {
+    pub head: WriteHead,
+    pub stage: WriteStage,
+    pub bytes: ByteList,
+    pub hash: gix_hash::Kind,
+    /// The id that the object is known to have.
+    pub known: Option<ObjectId>,
+}
+
+/// What the answer to its ask makes of a write: its next stage, or its reply.
+#[derive(Drop)]
+pub enum Advance {
+    Stage(WriteStage),
+    Reply(Result<ObjectId, write::Error>),
+}
+
+impl WriteJob {
+    /// The next piece of the data, where the machine waits for one.
+    fn piece(&self) -> &[u8]
+        ensures piece { result.now ≡ piece_in self.now }
+    {
+        match self.stage.filling() {
+            None => &[],
+            Some(written) => piece_behind(self.bytes.as_slice(), self.head.size, written),
+        }
+    }
+
+    pub fn disk_ask(&self, alloc: Global) -> Result<DiskAsk, NoMemory>
+        ensures ask { IfOk result (λ ask. ask ≡ ask_in self.now) }
+    {
+        let piece = ByteList::from_slice(alloc, self.piece())?;
+        self.head.disk_ask(alloc, &self.stage, piece)
+    }
+
+    /// The path of the temporary file, where it was made.
+    pub fn temporary_file(&self, alloc: Global) -> Result<Option<PathText>, NoMemory>
+        ensures path { IfOk result (λ path. path ≡ temporary_of self.now.head (number_made self.now.stage)) }
+    {
+        match self.stage.number_made() {
+            Some(number) => Ok(Some(paths::temp_path(alloc, &self.head.objects, number)?)),
+            None => Ok(None),
+        }
+    }
+
+    /// What comes after the answer to its ask. Where no data are left, their end is told at once.
+    pub fn next(&self, alloc: Global, answer: &DiskAnswer) -> Result<Onward, NoMemory>
+        ensures next { IfOk result (λ next. next ≡ next_in self.now answer.now) }
+    {
+        let piece = self.piece().len() as u64;
+        match self.stage.next(self.head.size, piece, answer) {
+            Onward::Stage(stage) => Ok(Onward::Stage(self.supply(alloc, stage)?)),
+            Onward::End(end) => Ok(Onward::End(end)),
+        }
+    }
+
+    /// The same, with the reply where the write ends.
+    pub fn advance(&self, alloc: Global, answer: &DiskAnswer) -> Result<Advance, NoMemory>
+        ensures by_answer { IfOk result (λ made. made ≡ advance_by self.now answer.now) }
+    {
+        match self.next(alloc, answer)? {
+            Onward::Stage(stage) => Ok(Advance::Stage(stage)),
+            Onward::End(end) => Ok(Advance::Reply(self.head.reply(alloc, end)?)),
+        }
+    }
+
+    fn supply(&self, alloc: Global, stage: WriteStage) -> Result<WriteStage, NoMemory>
+        ensures supplied { IfOk result (λ supplied. supplied ≡ supplied_to self.now stage) }
+    {
+        match stage.filling() {
+            Some(written) => {
+                if self.bytes.len() as u64 <= written {
+                    Ok(stage.ended(self.head.size, self.name(alloc)?))
+                } else {
+                    Ok(stage)
+                }
+            }
+            None => Ok(stage),
+        }
+    }
+
+    fn name(&self, alloc: Global) -> Result<ObjectId, NoMemory>
+        ensures name { IfOk result (λ id. id ≡ name_for self.now.known self.now.hash self.now.head self.now.bytes) }
+    {
+        let mut naming = Naming::start(alloc, self.hash, &self.head, self.known)?;
+        naming.update(self.bytes.as_slice());
+        Ok(naming.finish())
+    }
+}
+
+// The piece that stands behind so many bytes.
+fn piece_behind(bytes: &[u8], size: u64, written: u64) -> &[u8]
+    ensures piece { result.now ≡ piece_at size bytes.now written }
+{
+    let len = bytes.len();
+    if len as u64 <= written {
+        return &[];
+    }
+    let start = written as usize;
+    let rest = &bytes[start..];
+    let count = room(size, written).min(rest.len() as u64) as usize;
+    &rest[..count]
+}

@@ -1,0 +1,263 @@
+//! A write whose data come from a source, a piece at a time.
+ghost use Rattle.std.specs.Prelude.{◌≡◌, ◌<◌, ◌≤◌, ◌++◌, ℕ, List, [], length, nat_lt, false, Option, IfOk, OnOk, Some, None};
+ghost use Rattle.odb_disk.specs.StreamAsks.{is_of_streams};
+ghost use Rattle.odb_tree.specs.Tree.{State};
+ghost use Rattle.gix_odb_loose.specs.WriteOrder.{write_ask, written_in};
+ghost use Rattle.gix_odb_loose.specs.WriteOrder.{temp_path as temp_path_of};
+ghost use Rattle.gix_odb_loose.specs.declared.write_order.WriteHead.{WriteHead as head_of_write};
+ghost use Rattle.gix_odb_loose.specs.declared.write_order.WriteStage.{WriteStage as stage_of_write};
+ghost use Rattle.gix_hash.specs.declared.kind.Kind.{Kind as hash_kind};
+ghost use Rattle.gix_hash.specs.declared.object_id.ObjectId.{ObjectId as id_of_object};
+ghost use Rattle.gix_odb_loose.specs.WriteNames.{Names};
+ghost use Rattle.gix_odb_loose.specs.StreamJobs.Progress.{Begun};
+ghost use Rattle.gix_odb_loose.specs.StreamJobs.{IsFed, IsUnderway, IsSomeUnderway, GoesOn, IsEnded, LeadsTo, TurnsTo, RunsTo, IsBroken, IsBrokenOff};
+ghost use Rattle.gix_odb_loose.specs.WriteJobs.{bytes_left, turns_left};
+
+use crate::fetch::{Fetched, next_piece};
+use crate::naming::Naming;
+use crate::paths;
+use crate::write_order::{Onward, Refusal, WriteHead, WriteStage, room};
+use gix_hash::ObjectId;
+use odb_base::{ByteList, NoMemory, PathText};
+use odb_disk::{Disk, DiskAsk, Source};
+use std::alloc::Global;
+use std::mem;
+
+/// A write on its way, with the piece of its data that is to be appended next.
+#[derive(Drop)]
+pub struct StreamJob {
+    pub head: WriteHead,
+    pub stage: WriteStage,
+    pub naming: Naming,
+    /// The next piece, where the machine waits for one.
+    pub piece: ByteList,
+    /// Whether the source came to its end.
+    pub has_ended: bool,
+    /// The removal of the temporary file. It is ready before the file is made, so that it wants no memory.
+    pub removal: DiskAsk,
+}
+
+impl StreamJob {
+    /// A new write, which has asked nothing and read nothing.
+    pub fn start(
+        alloc: Global,
+        hash: gix_hash::Kind,
+        head: WriteHead,
+        known: Option<ObjectId>,
+    ) -> Result<StreamJob, NoMemory>
+        ensures head { IfOk result (λ job. job.head ≡ head) }
+        ensures stage { IfOk result (λ job. job.stage ≡ WriteStage.Making 0) }
+        ensures piece { IfOk result (λ job. job.piece ≡ []) }
+        ensures has_ended { IfOk result (λ job. job.has_ended ≡ false) }
+        ensures naming { IfOk result (λ job. Names known hash head [] job.naming) }
+        ensures removal { IfOk result (λ job. job.removal ≡ DiskAsk.Remove (temp_path_of head.objects 0)) }
+    {
+        let naming = Naming::start(alloc, hash, &head, known)?;
+        let removal = removal_of(alloc, &head.objects, 0)?;
+        Ok(StreamJob {
+            head,
+            stage: WriteStage::Making { number: 0 },
+            naming,
+            piece: ByteList::new(alloc),
+            has_ended: false,
+            removal,
+        })
+    }
+
+    /// One ask of the disk, its answer, and what the next stage needs: how the write ends, if it does.
+    ///
+    /// Where memory runs out, the removal of the temporary file is ready, if one was made.
+    pub fn turn<D: Disk, S: Source>(
+        &mut self,
+        alloc: Global,
+        disk: &mut D,
+        from: &mut S,
+    ) -> Result<Option<Result<ObjectId, Refusal>>, NoMemory>
+        ensures turned { (w : Begun) →
+            IsUnderway w (D.state disk.old) (D.faults disk.old) (S.left from.old) (S.faults from.old) self.old →
+            TurnsTo w (D.state disk.new) (D.faults disk.new) (S.left from.new) (S.faults from.new) self.new result }
+        ensures fewer { (w : Begun) →
+            IsUnderway w (D.state disk.old) (D.faults disk.old) (S.left from.old) (S.faults from.old) self.old →
+            IfOk result (λ end. end ≡ None → turns_left (bytes_left w.head.size) self.new.stage < turns_left (bytes_left w.head.size) self.old.stage) }
+        ensures head { self.new.head ≡ self.old.head }
+        ensures later { D.faults disk.old ≤ D.faults disk.new }
+        ensures streams { D.streams disk.new ≡ D.streams disk.old }
+    {
+        let onward = self.asked(alloc, disk)?;
+        match onward {
+            Onward::Stage(stage) => {
+                self.go_on(alloc, from, stage)?;
+                Ok(None)
+            }
+            Onward::End(end) => Ok(Some(end)),
+        }
+    }
+
+    /// All turns of a write that is underway: how it ends. Where memory runs out, the removal of the temporary file is
+    /// asked, if one was made.
+    pub fn run<D: Disk, S: Source>(
+        &mut self,
+        alloc: Global,
+        disk: &mut D,
+        from: &mut S,
+    ) -> Result<Result<ObjectId, Refusal>, NoMemory>
+        requires underway { IsSomeUnderway (D.state disk.old) (D.faults disk.old) (S.left from.old) (S.faults from.old) self.old }
+        ensures ran { (w : Begun) →
+            IsUnderway w (D.state disk.old) (D.faults disk.old) (S.left from.old) (S.faults from.old) self.old →
+            RunsTo w (D.state disk.new) (D.faults disk.new) (S.left from.new) (S.faults from.new) result }
+        ensures head { self.new.head ≡ self.old.head }
+        ensures later { D.faults disk.old ≤ D.faults disk.new }
+        ensures streams { D.streams disk.new ≡ D.streams disk.old }
+    {
+        'turns: loop {
+            match self.turn(alloc, disk, from) {
+                Ok(None) => {}
+                Ok(Some(end)) => return Ok(end),
+                Err(NoMemory) => {
+                    self.clear(alloc, disk);
+                    return Err(NoMemory);
+                }
+            }
+        }
+    }
+
+    /// Asks to remove the temporary file of a write that memory ran out of, where one was made.
+    pub fn clear<D: Disk>(&self, alloc: Global, disk: &mut D)
+        ensures cleared { (w : Begun) (rest : Option (List ℕ)) (source_now : ℕ) →
+            IsBroken w (D.state disk.old) (D.faults disk.old) rest source_now self.now →
+            IsBrokenOff w (D.state disk.new) (D.faults disk.new) rest source_now }
+        ensures later { D.faults disk.old ≤ D.faults disk.new }
+        ensures streams { (w : Begun) (rest : Option (List ℕ)) (source_now : ℕ) →
+            IsBroken w (D.state disk.old) (D.faults disk.old) rest source_now self.now →
+            D.streams disk.new ≡ D.streams disk.old }
+    {
+        if self.stage.number_made().is_some() {
+            let _ = self.removal.carry_out(alloc, disk);
+        }
+    }
+
+    // One ask of the disk: what its answer leads to.
+    fn asked<D: Disk>(&mut self, alloc: Global, disk: &mut D) -> Result<Onward, NoMemory>
+        ensures leads { (w : Begun) (rest : Option (List ℕ)) (source_now : ℕ) →
+            IsUnderway w (D.state disk.old) (D.faults disk.old) rest source_now self.old →
+            LeadsTo w (D.state disk.new) (D.faults disk.new) rest source_now self.new result }
+        ensures fewer { (w : Begun) (rest : Option (List ℕ)) (source_now : ℕ) →
+            IsUnderway w (D.state disk.old) (D.faults disk.old) rest source_now self.old →
+            IfOk result (λ onward. (stage : stage_of_write) → onward ≡ Onward.Stage stage → turns_left (bytes_left w.head.size) stage < turns_left (bytes_left w.head.size) self.old.stage) }
+        ensures head { self.new.head ≡ self.old.head }
+        ensures later { D.faults disk.old ≤ D.faults disk.new }
+        ensures streams { D.streams disk.new ≡ D.streams disk.old }
+    {
+        let len = self.piece.len() as u64;
+        let ask = self.ask(alloc)?;
+        let answer = ask.carry_out(alloc, disk);
+        drop(ask);
+        let onward = self.stage.next(self.head.size, len, &answer);
+        drop(answer);
+        Ok(onward)
+    }
+
+    // The next call of the disk, which takes the piece that it appends.
+    #[tactic(auto, using(crate::proofs::StillAskLaws::write_asked_still))]
+    fn ask(&mut self, alloc: Global) -> Result<DiskAsk, NoMemory>
+        ensures ask { IfOk result (λ ask. ask ≡ write_ask self.old.head self.old.piece self.old.stage) }
+        ensures still { IfOk result (λ ask. is_of_streams ask ≡ false) }
+        ensures same { self.new ≡ record self.old { piece = [] } }
+    {
+        let piece = mem::replace(&mut self.piece, ByteList::new(alloc));
+        self.head.disk_ask(alloc, &self.stage, piece)
+    }
+
+    // Goes on to a stage, and makes ready what it needs.
+    fn go_on<S: Source>(
+        &mut self,
+        alloc: Global,
+        from: &mut S,
+        stage: WriteStage,
+    ) -> Result<(), NoMemory>
+        ensures goes_on { (w : Begun) (state : Option State) (now : ℕ) →
+            IsFed w state now (S.left from.old) (S.faults from.old) self.old stage →
+            GoesOn w state now (S.left from.new) (S.faults from.new) self.new result }
+        ensures fewer { (size : ℕ) → OnOk result (turns_left (bytes_left size) self.new.stage ≤ turns_left (bytes_left size) stage) }
+        ensures head { self.new.head ≡ self.old.head }
+    {
+        self.stage = stage;
+        match stage {
+            WriteStage::Making { number } => {
+                let removal = removal_of(alloc, &self.head.objects, number)?;
+                drop(mem::replace(&mut self.removal, removal));
+                Ok(())
+            }
+            WriteStage::Filling { written, .. } => self.read_on(alloc, from, written),
+            _ => Ok(()),
+        }
+    }
+
+    // Reads the next piece, or tells the end of the data, or that the source failed.
+    fn read_on<S: Source>(
+        &mut self,
+        alloc: Global,
+        from: &mut S,
+        written: u64,
+    ) -> Result<(), NoMemory>
+        requires filling { written_in self.old.stage ≡ Some written }
+        ensures goes_on { (w : Begun) (state : Option State) (now : ℕ) →
+            IsFed w state now (S.left from.old) (S.faults from.old) self.old self.old.stage →
+            GoesOn w state now (S.left from.new) (S.faults from.new) self.new result }
+        ensures fewer { (size : ℕ) → OnOk result (turns_left (bytes_left size) self.new.stage ≤ turns_left (bytes_left size) self.old.stage) }
+        ensures head { self.new.head ≡ self.old.head }
+    {
+        if self.has_ended {
+            self.end();
+            return Ok(());
+        }
+        let most = room(self.head.size, written) as usize;
+        match next_piece(alloc, from, most)? {
+            Fetched::Failed => {
+                self.stage = self.stage.failed();
+                Ok(())
+            }
+            Fetched::Piece(piece) => {
+                self.take(piece, most);
+                if !self.piece.is_empty() {
+                    return Ok(());
+                }
+                self.end();
+                Ok(())
+            }
+        }
+    }
+
+    // Takes a piece of at most so many bytes. A shorter one is the last.
+    fn take(&mut self, piece: ByteList, most: usize)
+        ensures piece { self.new.piece ≡ piece }
+        ensures has_ended { self.new.has_ended ≡ nat_lt (length piece) most }
+        ensures naming { (known : Option id_of_object) (hash : hash_kind) (head : head_of_write) (before : List ℕ) → Names known hash head before self.old.naming → Names known hash head (before ++ piece) self.new.naming }
+        ensures head { self.new.head ≡ self.old.head }
+        ensures stage { self.new.stage ≡ self.old.stage }
+        ensures removal { self.new.removal ≡ self.old.removal }
+    {
+        self.has_ended = piece.len() < most;
+        self.naming.update(piece.as_slice());
+        drop(mem::replace(&mut self.piece, piece));
+    }
+
+    // Tells the end of the data.
+    fn end(&mut self)
+        ensures stage { IsEnded self.old self.new }
+        ensures head { self.new.head ≡ self.old.head }
+        ensures removal { self.new.removal ≡ self.old.removal }
+    {
+        let unnamed = Naming::Known(ObjectId::null(gix_hash::Kind::Sha1));
+        let id = mem::replace(&mut self.naming, unnamed).finish();
+        self.stage = self.stage.ended(self.head.size, id);
+    }
+}
+
+fn removal_of(alloc: Global, objects: &PathText, number: u64) -> Result<DiskAsk, NoMemory>
+    ensures ask { IfOk result (λ ask. ask ≡ DiskAsk.Remove (temp_path_of objects.now number)) }
+{
+    Ok(DiskAsk::Remove {
+        path: paths::temp_path(alloc, objects, number)?,
+    })
+}
