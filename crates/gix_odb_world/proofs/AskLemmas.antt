@@ -12,18 +12,18 @@ use Rattle.gix_odb_loose.specs.WriteOrder.{prefix_path, temp_path}
 use Rattle.gix_odb_loose.specs.WritePieces.{IsInPieces}
 use Rattle.gix_odb_loose.specs.WriteStreams.{OtherLength}
 use Rattle.gix_odb_loose.specs.declared.call.LooseCall.{LooseCall}
-use Rattle.gix_odb_loose.specs.declared.write_call.WriteStage.{WriteStage}
-use Rattle.gix_odb_loose.specs.declared.write_call.WriteStage.TheVariants as stages
-use Rattle.gix_odb_world.specs.declared.look_state.LookState.{LookState}
-use Rattle.gix_odb_world.specs.declared.open_state.OpenState.{OpenState}
-use Rattle.gix_odb_world.specs.declared.open_state.OpenState.TheVariants as opens
-use Rattle.gix_odb_world.specs.declared.query.Query.{Query}
-use Rattle.gix_odb_world.specs.declared.query.Query.TheVariants.{Find, Header, Test}
+use Rattle.gix_odb_loose.specs.declared.write_order.WriteStage.{WriteStage}
+use Rattle.gix_odb_loose.specs.declared.write_order.WriteStage.TheVariants as stages
+use Rattle.gix_odb.specs.declared.look_state.LookState.{LookState}
+use Rattle.gix_odb.specs.declared.open_state.OpenState.{OpenState}
+use Rattle.gix_odb.specs.declared.open_state.OpenState.TheVariants as opens
+use Rattle.gix_odb.specs.declared.query.Query.{Query}
+use Rattle.gix_odb.specs.declared.query.Query.TheVariants.{Find, Header, Test}
 use Rattle.gix_odb_world.specs.Asks.{AppendsHeader, AppendsPiece, AsksInOrder, AsksToWrite, MakesDirectory, MakesFile, Removes, Renames}
-use Rattle.gix_odb_world.specs.Contents.{folder_list, sought}
+use Rattle.gix_odb.specs.Contents.{folder_list, sought}
 use Rattle.gix_odb_world.specs.Event.{Event, Store}
-use Rattle.gix_odb_world.specs.LookOrder.{ask_at, asking}
-use Rattle.gix_odb_world.specs.OpenOrder as openings
+use Rattle.gix_odb.specs.LookOrder.{ask_at, asking}
+use Rattle.gix_odb.specs.OpenOrder as openings
 use Rattle.gix_odb_world.specs.Run.{FailedSince, MakeCall, OpenStore, tree_at}
 use Rattle.gix_odb_world.specs.Running.{IsWaiting, IsWriting, Seeks, StandsAt, call_of}
 use Rattle.gix_odb_world.specs.Writing.{ToWrite, call_to_write, head_to_write, name_to_write, to_write}

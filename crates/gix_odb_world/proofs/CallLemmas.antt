@@ -10,17 +10,17 @@ use Rattle.gix_odb_loose.specs.LooseFile.{LeadsToFile, loose_path}
 use Rattle.gix_odb_loose.specs.LooseOrder as loose_order
 use Rattle.gix_odb_loose.specs.declared.call.LooseReply.{LooseReply}
 use Rattle.gix_odb_loose.specs.declared.find.Error as loose
-use Rattle.gix_odb_world.specs.declared.query.Query.{Query}
-use Rattle.gix_odb_world.specs.declared.query.Query.TheVariants.{Find, Header, Test}
-use Rattle.gix_odb_world.specs.declared.call.Reply.{Reply}
-use Rattle.gix_odb_world.specs.declared.look_state.LookState.{LookState}
-use Rattle.gix_odb_world.specs.declared.look_state.Head.{Head}
-use Rattle.gix_odb_world.specs.declared.look_state.Lead.{Lead}
-use Rattle.gix_odb_world.specs.declared.look_state.Lead.TheVariants as leads
-use Rattle.gix_odb_world.specs.declared.look_state.Stage.TheVariants as stages
-use Rattle.gix_odb_world.specs.LookOrder.{asking, at_next, by_reply, ended, first_of, led, led_by, next_stage, result_at}
+use Rattle.gix_odb.specs.declared.query.Query.{Query}
+use Rattle.gix_odb.specs.declared.query.Query.TheVariants.{Find, Header, Test}
+use Rattle.gix_odb.specs.declared.call.Reply.{Reply}
+use Rattle.gix_odb.specs.declared.look_state.LookState.{LookState}
+use Rattle.gix_odb.specs.declared.look_state.Head.{Head}
+use Rattle.gix_odb.specs.declared.look_state.Lead.{Lead}
+use Rattle.gix_odb.specs.declared.look_state.Lead.TheVariants as leads
+use Rattle.gix_odb.specs.declared.look_state.Stage.TheVariants as stages
+use Rattle.gix_odb.specs.LookOrder.{asking, at_next, by_reply, ended, first_of, led, led_by, next_stage, result_at}
 use Rattle.gix_odb_world.specs.Causes.{LooseCause}
-use Rattle.gix_odb_world.specs.Contents.{LooseFile, Contents, Shows, folder_list}
+use Rattle.gix_odb.specs.Contents.{LooseFile, Contents, Shows, folder_list}
 use Rattle.gix_odb_world.specs.Event.{Store}
 use Rattle.gix_odb_world.specs.Promise.{Keeps, Misses, claim_of}
 use Rattle.gix_odb_world.specs.Running.{Passed, Leaves, Noted, Seeks}

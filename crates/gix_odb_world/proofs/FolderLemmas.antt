@@ -13,27 +13,28 @@ use Rattle.odb_tree.specs.declared.disk_error.DiskError.TheVariants as disk_erro
 use Rattle.gix_hash.specs.declared.object_id.ObjectId.{ObjectId}
 use Rattle.gix_object.specs.declared.kind.Kind.{Kind}
 use Rattle.gix_odb_loose.specs.Causes.{Cause}
-use Rattle.gix_odb_loose.specs.Causes.Laws.{Cause-wider}
+use Rattle.gix_odb_loose.proofs.CauseLaws.{Cause-wider}
 use Rattle.gix_odb_loose.specs.LooseFile.{LeadsToFile, loose_path}
 use Rattle.gix_odb_loose.specs.LooseFile as loose_files
-use Rattle.gix_odb_loose.specs.LooseOrder.{disk_ask_of, reply_of, fed, tested_by, found_by, header_by}
+use Rattle.gix_odb_loose.specs.LooseOrder.{disk_ask_of, reply_of, fed}
+use Rattle.gix_odb_loose.specs.LooseOrder.Answered.{tested_by, found_by, header_by}
 use Rattle.gix_odb_loose.specs.Replies.{Says}
-use Rattle.gix_odb_loose.specs.Replies.Laws.{Says-now}
+use Rattle.gix_odb_loose.proofs.ReplyLaws.{Says-now}
 use Rattle.gix_odb_loose.specs.declared.call.LooseJob.TheVariants as jobs
 use Rattle.gix_odb_loose.specs.declared.call.LooseReply.{LooseReply}
 use Rattle.gix_odb_loose.specs.declared.call.LooseReply.TheVariants as loose_replies
 use Rattle.gix_odb_loose.specs.declared.find.Error.{Error}
 use Rattle.gix_odb_loose.specs.declared.find.Error.TheVariants as errors
-use Rattle.gix_odb_world.specs.declared.query.Query.{Query}
-use Rattle.gix_odb_world.specs.declared.query.Query.TheVariants.{Find, Header, Test}
-use Rattle.gix_odb_world.specs.declared.look_state.Lead.{Lead}
-use Rattle.gix_odb_world.specs.declared.look_state.Lead.TheVariants as leads
-use Rattle.gix_odb_world.specs.declared.find.Header.TheVariants as headers
-use Rattle.gix_odb_world.specs.LookOrder.{asking, job_of, led_by, loose_store}
+use Rattle.gix_odb.specs.declared.query.Query.{Query}
+use Rattle.gix_odb.specs.declared.query.Query.TheVariants.{Find, Header, Test}
+use Rattle.gix_odb.specs.declared.look_state.Lead.{Lead}
+use Rattle.gix_odb.specs.declared.look_state.Lead.TheVariants as leads
+use Rattle.gix_odb.specs.declared.find.Header.TheVariants as headers
+use Rattle.gix_odb.specs.LookOrder.{asking, job_of, led_by, loose_store}
 use Rattle.gix_odb_world.specs.Causes.{GaveSometime, LooseCause}
-use Rattle.gix_odb_world.specs.Contents.{Answer, Object, HeaderOf, Presence, LooseFile, Holds, folder_list}
+use Rattle.gix_odb.specs.Contents.{Answer, Object, HeaderOf, Presence, LooseFile, Holds, folder_list}
 use Rattle.gix_odb_world.specs.Event.{Store}
-use Rattle.gix_odb_world.specs.Held.{Held}
+use Rattle.gix_odb.specs.Held.{Held}
 use Rattle.gix_odb_world.specs.Promise.{Keeps, claim_of}
 
 -- a look and a read make no change

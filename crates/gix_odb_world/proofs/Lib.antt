@@ -1,7 +1,6 @@
 mod BoundLemmas
 mod CallLemmas
 mod FailedLemmas
-mod FedLemmas
 mod FolderLemmas
 mod OpenLemmas
 mod OpeningLemmas

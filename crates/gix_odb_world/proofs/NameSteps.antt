@@ -20,8 +20,8 @@ use Rattle.odb_tree.proofs.WayLaws.{read_kept}
 use Rattle.odb_tree.proofs.WayWriteLaws.{rename_file_spot, rename_spot}
 use Rattle.gix_hash.specs.declared.object_id.ObjectId.{ObjectId}
 use Rattle.gix_odb_loose.specs.WriteOrder.{temp_path}
-use Rattle.gix_odb_world.specs.declared.call.Reply.TheVariants as replies
-use Rattle.gix_odb_world.specs.declared.call_state.CallState.TheVariants.{Writing}
+use Rattle.gix_odb.specs.declared.call.Reply.TheVariants as replies
+use Rattle.gix_odb.specs.declared.call_state.CallState.TheVariants.{Writing}
 use Rattle.gix_odb_world.specs.declared.step.Outcome.TheVariants as outcomes
 use Rattle.gix_odb_world.specs.declared.work.Work.TheVariants.{Calling}
 use Rattle.gix_odb_world.specs.Event.{Event}

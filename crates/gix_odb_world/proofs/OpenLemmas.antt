@@ -12,18 +12,19 @@ use Rattle.gix_odb_world.specs.declared.step.Step.TheVariants as steps
 use Rattle.gix_odb_world.specs.declared.step.Outcome.TheVariants as outcomes
 use Rattle.gix_odb_world.specs.declared.step.Why.{Why}
 use Rattle.gix_odb_world.specs.declared.step.Why.TheVariants.{BadOpen}
-use Rattle.gix_odb_world.specs.declared.init.Options.{Options}
-use Rattle.gix_odb_world.specs.declared.init.Slots.{Slots}
-use Rattle.gix_odb_world.specs.declared.init.Slots.TheVariants.{Given}
-use Rattle.gix_odb_world.specs.declared.open_state.OpenState.TheVariants.{Looking}
+use Rattle.gix_odb.specs.declared.init.Options.{Options}
+use Rattle.gix_odb.specs.declared.init.Slots.{Slots}
+use Rattle.gix_odb.specs.declared.init.Slots.TheVariants.{Given}
+use Rattle.gix_odb.specs.declared.open_state.OpenState.TheVariants.{Looking}
 use Rattle.gix_odb_world.specs.declared.record.Did.TheVariants.{Nothing}
 use Rattle.gix_odb_world.specs.declared.handle.Handle.{Handle}
-use Rattle.gix_odb_world.specs.declared.handle.HandleState.{HandleState}
+use Rattle.gix_odb.specs.declared.handle_state.HandleState.{HandleState}
 use Rattle.gix_odb_world.specs.declared.work.Work.{Work}
 use Rattle.gix_odb_world.specs.declared.work.Work.TheVariants.{Opening}
 use Rattle.gix_odb_world.specs.declared.world.World.{World}
-use Rattle.gix_odb_world.specs.Contents.{id_cmp}
-use Rattle.gix_odb_world.specs.Event.{Event, Store, Status, Free, Resting, Working, given_slots, store_at, opening_at, ignoring_from}
+use Rattle.gix_hash.specs.ObjectId.{id_cmp}
+use Rattle.gix_odb_world.specs.Event.{Event, Store, Status, Free, Resting, Working, store_at, opening_at, ignoring_from}
+use Rattle.gix_odb.specs.OpenOrder.{given_slots}
 use Rattle.gix_odb_world.specs.Handle.{IsHandleOf, IsOpened}
 use Rattle.gix_odb_world.specs.Run.{IsTurnOf, OpenedBy}
 use Rattle.gix_odb_world.specs.Running.{Runs}

@@ -17,13 +17,13 @@ use Rattle.std.proofs.lemmas.Map.Made.{distinct_count-le}
 use Rattle.std.proofs.lemmas.Map.Views.{btree_map_len-from_list, btree_set_len-from_list}
 use Rattle.odb_base.specs.Path.{Path, path_cmp}
 use Rattle.odb_base.specs.PathLaws.{path_order}
-use Rattle.gix_hash.specs.contracts.object_id.ObjectIdOrd.TheImpl.Laws as id_laws
+use Rattle.gix_hash.proofs.IdOrderLaws.{id_order}
 use Rattle.gix_hash.specs.declared.object_id.ObjectId.{ObjectId}
-use Rattle.gix_odb_world.specs.Contents.{id_cmp}
+use Rattle.gix_hash.specs.ObjectId.{id_cmp}
 use Rattle.gix_odb_world.specs.Valid.{are_distinct, are_good_folders}
 
 pub ids_ordered : IsTotalOrder id_cmp
-ids_ordered = id_laws.total-law
+ids_ordered = id_order
 
 pub ids_equal : IsEquivalence (eq_by_cmp id_cmp)
 ids_equal = eq_by_cmp_equiv ids_ordered

@@ -26,14 +26,14 @@ use Rattle.gix_odb_loose.specs.LooseFile.{loose_path}
 use Rattle.gix_odb_loose.specs.WriteOrder.{number_made, prefix_path, temp_name, temp_path}
 use Rattle.gix_odb_loose.specs.WriteStreams.{OtherLength}
 use Rattle.gix_odb_loose.specs.declared.call.LooseCall.{LooseCall}
-use Rattle.gix_odb_loose.specs.declared.write_call.Refusal.{Refusal}
-use Rattle.gix_odb_loose.specs.declared.write_call.WriteStage.{WriteStage}
-use Rattle.gix_odb_loose.specs.declared.write_call.WriteStage.TheVariants as stages
+use Rattle.gix_odb_loose.specs.declared.write_order.Refusal.{Refusal}
+use Rattle.gix_odb_loose.specs.declared.write_order.WriteStage.{WriteStage}
+use Rattle.gix_odb_loose.specs.declared.write_order.WriteStage.TheVariants as stages
 use Rattle.gix_odb_loose.proofs.NameLaws.{IsTemporary, temp_path-is, temporary_spot}
 use Rattle.gix_odb_loose.proofs.WriteMadeLaws.{history_makes}
-use Rattle.gix_odb_world.specs.declared.call.Reply.{Reply}
-use Rattle.gix_odb_world.specs.declared.call.Reply.TheVariants as replies
-use Rattle.gix_odb_world.specs.declared.call_state.CallState.TheVariants.{Looking, Writing, Written}
+use Rattle.gix_odb.specs.declared.call.Reply.{Reply}
+use Rattle.gix_odb.specs.declared.call.Reply.TheVariants as replies
+use Rattle.gix_odb.specs.declared.call_state.CallState.TheVariants.{Looking, Writing, Written}
 use Rattle.gix_odb_world.specs.declared.record.Did.TheVariants.{Disk}
 use Rattle.gix_odb_world.specs.declared.step.Outcome.{Outcome}
 use Rattle.gix_odb_world.specs.declared.step.Outcome.TheVariants as outcomes

@@ -15,9 +15,9 @@ use Rattle.odb_tree.specs.declared.disk_error.DiskError.{DiskError}
 use Rattle.odb_tree.specs.declared.disk_error.DiskError.TheVariants as disk_errors
 use Rattle.odb_disk.proofs.StillAskLaws.{answer_now-still}
 use Rattle.odb_tree.proofs.RefusalLaws.{append-never, full, make_dir-never, new_file-never, rename-never, there}
-use Rattle.gix_odb_loose.specs.Causes.WriteLaws.{IsMaking}
-use Rattle.gix_odb_loose.specs.WriteHistory.{IsRefused}
-use Rattle.gix_odb_loose.specs.WriteRuns.{IsOnWay}
+use Rattle.gix_odb_loose.proofs.CauseLaws.Write.{IsMaking}
+use Rattle.gix_odb_loose.specs.WriteHistory.Refused.{IsRefused}
+use Rattle.gix_odb_loose.specs.WriteRuns.RefusedAsks.{IsOnWay}
 use Rattle.gix_odb_world.specs.Event.{Event}
 use Rattle.gix_odb_world.specs.Run.{Fails, disk_after}
 use Rattle.gix_odb_world.specs.Writing.{AskedSince, RefusedSince}

@@ -5,29 +5,24 @@ use Rattle.odb_disk.specs.MemDisk.{Volume}
 use Rattle.gix_hash.specs.declared.object_id.ObjectId.{ObjectId}
 use Rattle.gix_odb_world.specs.declared.step.Step.TheVariants as steps
 use Rattle.gix_odb_world.specs.declared.step.Outcome.TheVariants as outcomes
-use Rattle.gix_odb_world.specs.declared.call.Call.{Call}
-use Rattle.gix_odb_world.specs.declared.call.Call.TheVariants as call_kinds
-use Rattle.gix_odb_world.specs.declared.call_state.CallState.TheVariants.{Looking}
-use Rattle.gix_odb_world.specs.declared.query.Query.{Query}
-use Rattle.gix_odb_world.specs.declared.query.Query.TheVariants.{Find, Header, Test}
-use Rattle.gix_odb_world.specs.LookOrder as looks
+use Rattle.gix_odb.specs.declared.call.Call.{Call}
+use Rattle.gix_odb.specs.declared.call.Call.TheVariants as call_kinds
+use Rattle.gix_odb.specs.declared.call_state.CallState.TheVariants.{Looking}
+use Rattle.gix_odb.specs.declared.query.Query.{Query}
+use Rattle.gix_odb.specs.declared.query.Query.TheVariants.{Find, Header, Test}
+use Rattle.gix_odb.specs.LookOrder as looks
 use Rattle.gix_odb_world.specs.declared.record.Did.TheVariants.{Nothing}
 use Rattle.gix_odb_world.specs.declared.handle.Handle.{Handle}
-use Rattle.gix_odb_world.specs.declared.handle.HandleState.{HandleState}
+use Rattle.gix_odb.specs.declared.handle_state.HandleState.{HandleState}
 use Rattle.gix_odb_world.specs.declared.work.Work.{Work}
 use Rattle.gix_odb_world.specs.declared.work.Work.TheVariants.{Calling}
 use Rattle.gix_odb_world.specs.declared.world.World.{World}
-use Rattle.gix_odb_world.specs.CallOrder as calls
-use Rattle.gix_odb_world.specs.CallOrder.{HasSize, hash_to_write}
-use Rattle.gix_hash.specs.ObjectId.{kind_of}
-use Rattle.gix_hash.specs.declared.kind.Kind.{Kind as HashKind}
-use Rattle.gix_object.specs.Id.Laws.{kind_of-object_id}
-use Rattle.gix_object.specs.declared.kind.Kind.{Kind}
-use Rattle.gix_odb_loose.specs.LooseFile.{id_asked}
-use Rattle.gix_odb_loose.specs.declared.call.LooseJob.TheVariants as jobs
-use Rattle.gix_odb_world.specs.Contents.{or_itself, replaced, replacement_in, sought}
+use Rattle.gix_odb.specs.CallOrder as calls
+use Rattle.gix_odb.specs.CallOrder.{HasSize}
+use Rattle.gix_odb.specs.Contents.{or_itself, replaced, replacement_in, sought}
 use Rattle.gix_odb_world.specs.Event.{Event, Store, Status, Free, Resting, Working, started, call_started}
-use Rattle.gix_odb_world.specs.Handle.{IsHandleOf, replaced_by, replacement_of, sought_by}
+use Rattle.gix_odb_world.specs.Handle.{IsHandleOf}
+use Rattle.gix_odb.specs.HandleState.{replaced_by, replacement_of, sought_by}
 use Rattle.gix_odb_world.specs.Run.{BegunBy, IsOpenStore, IsTurnOf, FailedSince, tree_at}
 use Rattle.gix_odb_world.specs.Running.{Knows, Runs, Seen}
 use Rattle.gix_odb_world.specs.Valid.{why_not_idle}
@@ -38,11 +33,6 @@ use Rattle.gix_odb_world.proofs.RunLemmas.{none_failed_yet, slice_get-last}
 use Rattle.gix_odb_world.proofs.StepLemmas.{applied}
 use Rattle.gix_odb_world.proofs.RunningLemmas.{runs-push}
 use Rattle.gix_odb_world.proofs.WriteKept.{open_store_kept, writing_begun}
-
--- the id that a write is about is of the hash that it is written with
-pub start_fits : (kind : Kind) (size : ℕ) (bytes : List ℕ) (known : Option ObjectId) (hash : HashKind) → hash ≡ hash_to_write known → kind_of (id_asked hash (jobs.Write kind size bytes known)) ≡ hash
-start_fits kind size bytes None hash is = kind_of-object_id hash kind bytes
-start_fits kind size bytes (Some id) hash is = sym is
 
 -- the call of the code is that of the store
 work_started : (store : Store) (ignoring : Bool) (state : HandleState) (call : Call) → IsHandleOf store ignoring state

@@ -10,7 +10,7 @@ use Rattle.gix_odb_world.specs.declared.step.Step.TheVariants as steps
 use Rattle.gix_odb_world.specs.declared.step.Outcome.{Outcome}
 use Rattle.gix_odb_world.specs.declared.step.Outcome.TheVariants as outcomes
 use Rattle.gix_odb_world.specs.declared.step.Why.{Why}
-use Rattle.gix_odb_world.specs.declared.call.Reply.{Reply}
+use Rattle.gix_odb.specs.declared.call.Reply.{Reply}
 use Rattle.gix_odb_world.specs.declared.record.Did.{Did}
 use Rattle.gix_odb_world.specs.declared.record.Did.TheVariants.{Nothing}
 use Rattle.gix_odb_world.specs.declared.handle.Handle.{Handle}

@@ -13,28 +13,28 @@ use Rattle.odb_disk.specs.declared.ask.DiskAnswer.{DiskAnswer}
 use Rattle.gix_odb_world.specs.Recorded.{path_recorded}
 use Rattle.gix_odb_world.specs.declared.step.Step.TheVariants as steps
 use Rattle.gix_odb_world.specs.declared.step.Outcome.TheVariants as outcomes
-use Rattle.gix_odb_world.specs.declared.call.CallError.TheVariants as call_errors
-use Rattle.gix_odb_world.specs.declared.call.Reply.{Reply}
-use Rattle.gix_odb_world.specs.declared.call.Reply.TheVariants as replies
-use Rattle.gix_odb_world.specs.declared.look_state.LookState.{LookState}
-use Rattle.gix_odb_world.specs.declared.query.Query.{Query}
-use Rattle.gix_odb_world.specs.declared.query.Query.TheVariants.{Find, Header, Test}
-use Rattle.gix_odb_world.specs.declared.look_state.Head.{Head}
-use Rattle.gix_odb_world.specs.declared.look_state.Stage.{Stage}
-use Rattle.gix_odb_world.specs.declared.look_state.Stage.TheVariants as stages
-use Rattle.gix_odb_world.specs.declared.open_state.OpenState.TheVariants as opens
+use Rattle.gix_odb.specs.declared.call.CallError.TheVariants as call_errors
+use Rattle.gix_odb.specs.declared.call.Reply.{Reply}
+use Rattle.gix_odb.specs.declared.call.Reply.TheVariants as replies
+use Rattle.gix_odb.specs.declared.look_state.LookState.{LookState}
+use Rattle.gix_odb.specs.declared.query.Query.{Query}
+use Rattle.gix_odb.specs.declared.query.Query.TheVariants.{Find, Header, Test}
+use Rattle.gix_odb.specs.declared.look_state.Head.{Head}
+use Rattle.gix_odb.specs.declared.look_state.Stage.{Stage}
+use Rattle.gix_odb.specs.declared.look_state.Stage.TheVariants as stages
+use Rattle.gix_odb.specs.declared.open_state.OpenState.TheVariants as opens
 use Rattle.gix_odb_world.specs.declared.record.Did.TheVariants.{Disk}
-use Rattle.gix_odb_world.specs.declared.handle.HandleState.{HandleState}
+use Rattle.gix_odb.specs.declared.handle_state.HandleState.{HandleState}
 use Rattle.gix_odb_world.specs.declared.work.Work.{Work}
 use Rattle.gix_odb_world.specs.declared.work.Work.TheVariants.{Opening, Calling}
 use Rattle.gix_odb_world.specs.declared.world.World.{World}
 use Rattle.gix_odb_world.specs.Asks.{AsksInOrder}
 use Rattle.gix_odb_world.specs.Bound.{bound_of_task, bytes_to_write, default_changes, turn_bound}
-use Rattle.gix_odb_world.specs.LookOrder.{result_at}
-use Rattle.gix_odb_world.specs.CallOrder.{looking_result}
-use Rattle.gix_odb_world.specs.declared.call_state.CallState.TheVariants.{Looking, Writing, Written}
-use Rattle.gix_odb_world.specs.Contents.{folder_list}
-use Rattle.gix_odb_world.specs.Event.{Event, Store, Status, Free, Resting, Working, status_of, replied, turned, fed_in}
+use Rattle.gix_odb.specs.LookOrder.{result_at}
+use Rattle.gix_odb.specs.CallOrder.{looking_result}
+use Rattle.gix_odb.specs.declared.call_state.CallState.TheVariants.{Looking, Writing, Written}
+use Rattle.gix_odb.specs.Contents.{folder_list}
+use Rattle.gix_odb_world.specs.Event.{Event, Store, Status, Working, status_of, replied, turned, fed_in}
 use Rattle.gix_odb_world.specs.Event as statuses
 use Rattle.gix_odb_world.specs.Handle.{IsHandleOf}
 use Rattle.gix_odb_world.specs.Run.{BegunAs, BegunBy, Fails, FailedSince, IsOpenStore, MakeCall, OpenStore, Task, change_by, did_of, disk_after, disk_after_turn, has_failed, tree_at}

@@ -10,10 +10,10 @@ use Rattle.odb_disk.specs.declared.ask.DiskAnswer.{DiskAnswer}
 use Rattle.odb_disk.specs.declared.ask.DiskAsk.{DiskAsk}
 use Rattle.gix_odb_world.specs.declared.step.Step.TheVariants as steps
 use Rattle.gix_odb_world.specs.declared.step.Outcome.{Outcome}
-use Rattle.gix_odb_world.specs.declared.call.Reply.{Reply}
+use Rattle.gix_odb.specs.declared.call.Reply.{Reply}
 use Rattle.gix_odb_world.specs.declared.record.Did.{Did}
 use Rattle.gix_odb_world.specs.declared.handle.Handle.{Handle}
-use Rattle.gix_odb_world.specs.declared.handle.HandleState.{HandleState}
+use Rattle.gix_odb.specs.declared.handle_state.HandleState.{HandleState}
 use Rattle.gix_odb_world.specs.declared.work.Work.{Work}
 use Rattle.gix_odb_world.specs.declared.world.World.{World}
 use Rattle.gix_odb_world.specs.Event.{Event, Store, Status, Free, Resting, Working, status_of, replied, turned, fed_in}

@@ -15,24 +15,24 @@ use Rattle.odb_tree.specs.declared.meta.Kind.TheVariants as kinds
 use Rattle.odb_tree.specs.declared.disk_error.DiskError.TheVariants as disk_errors
 use Rattle.gix_odb_loose.specs.declared.find.Error as loose
 use Rattle.gix_odb_loose.proofs.StillAskLaws.{call_asks_still}
-use Rattle.gix_odb_world.specs.declared.call.Reply.{Reply}
-use Rattle.gix_odb_world.specs.declared.call.Reply.TheVariants as replies
-use Rattle.gix_odb_world.specs.declared.look_state.LookState.{LookState}
-use Rattle.gix_odb_world.specs.declared.call_state.CallState.TheVariants.{Looking, Writing, Written}
-use Rattle.gix_odb_world.specs.CallOrder.{looking_result}
-use Rattle.gix_odb_world.specs.declared.look_state.Stage.{Stage}
-use Rattle.gix_odb_world.specs.declared.look_state.Stage.TheVariants as stages
-use Rattle.gix_odb_world.specs.declared.look_state.Head.{Head}
-use Rattle.gix_odb_world.specs.declared.init.Error.TheVariants as opening_errors
-use Rattle.gix_odb_world.specs.declared.open_state.OpenState.{OpenState}
-use Rattle.gix_odb_world.specs.declared.open_state.OpenState.TheVariants as opens
+use Rattle.gix_odb.specs.declared.call.Reply.{Reply}
+use Rattle.gix_odb.specs.declared.call.Reply.TheVariants as replies
+use Rattle.gix_odb.specs.declared.look_state.LookState.{LookState}
+use Rattle.gix_odb.specs.declared.call_state.CallState.TheVariants.{Looking, Writing, Written}
+use Rattle.gix_odb.specs.CallOrder.{looking_result}
+use Rattle.gix_odb.specs.declared.look_state.Stage.{Stage}
+use Rattle.gix_odb.specs.declared.look_state.Stage.TheVariants as stages
+use Rattle.gix_odb.specs.declared.look_state.Head.{Head}
+use Rattle.gix_odb.specs.declared.init.Error.TheVariants as opening_errors
+use Rattle.gix_odb.specs.declared.open_state.OpenState.{OpenState}
+use Rattle.gix_odb.specs.declared.open_state.OpenState.TheVariants as opens
 use Rattle.gix_odb_world.specs.declared.work.Work.{Work}
 use Rattle.gix_odb_world.specs.declared.work.Work.TheVariants.{Opening, Calling}
-use Rattle.gix_odb_world.specs.LookOrder.{asking, ask_at, next_stage, result_at}
+use Rattle.gix_odb.specs.LookOrder.{asking, ask_at, next_stage, result_at}
 use Rattle.gix_odb_world.specs.Causes.{Sometime, ShowsDirectory}
-use Rattle.gix_odb_world.specs.Contents.{folder_list, sought}
+use Rattle.gix_odb.specs.Contents.{folder_list, sought}
 use Rattle.gix_odb_world.specs.Event.{Store, fed_in}
-use Rattle.gix_odb_world.specs.OpenOrder.{most_slots, opened, opening_refused, opening_reply}
+use Rattle.gix_odb.specs.OpenOrder.{most_slots, opened, opening_refused, opening_reply}
 use Rattle.gix_odb_world.specs.Promise.{Keeps, OpeningPromise, QueryPromise, claim_of}
 use Rattle.gix_odb_world.specs.Running.{Noted, Seeks, Seen}
 use Rattle.gix_odb_world.specs.WorkOrder.{ask_in, calling_result, result_in}

@@ -12,7 +12,7 @@ use Rattle.odb_tree.proofs.TreeLemmas.Write.{movable_at, removable_at, replaceab
 use Rattle.odb_tree.proofs.WayWriteLaws.{append_change, make_dir_change, new_file_change, remove_change, rename_change}
 use Rattle.gix_hash.specs.declared.object_id.ObjectId.{ObjectId}
 use Rattle.gix_object.specs.Loose.{header_of}
-use Rattle.gix_object.specs.Loose.Laws.{length-header_of-fits}
+use Rattle.gix_object.proofs.LooseLaws.{length-header_of-fits}
 use Rattle.gix_odb_loose.specs.Exchanges.{Exchange, exchanged}
 use Rattle.gix_odb_loose.specs.LooseFile.{loose_path}
 use Rattle.gix_odb_loose.specs.WriteHistory.{GoesWell, IsHistory, IsStopped}
@@ -21,11 +21,11 @@ use Rattle.gix_odb_loose.specs.WriteOrder.{number_made, prefix_path, room_behind
 use Rattle.gix_odb_loose.specs.WriteStreams.{OtherLength}
 use Rattle.gix_odb_loose.specs.declared.call.LooseCall.{LooseCall}
 use Rattle.gix_odb_loose.specs.declared.write.Message.TheVariants as messages
-use Rattle.gix_odb_loose.specs.declared.write_call.Refusal.{Refusal}
-use Rattle.gix_odb_loose.specs.declared.write_call.Refusal.TheVariants as refusals
-use Rattle.gix_odb_loose.specs.declared.write_call.WriteHead.{WriteHead}
-use Rattle.gix_odb_loose.specs.declared.write_call.WriteStage.{WriteStage}
-use Rattle.gix_odb_loose.specs.declared.write_call.WriteStage.TheVariants as stages
+use Rattle.gix_odb_loose.specs.declared.write_order.Refusal.{Refusal}
+use Rattle.gix_odb_loose.specs.declared.write_order.Refusal.TheVariants as refusals
+use Rattle.gix_odb_loose.specs.declared.write_order.WriteHead.{WriteHead}
+use Rattle.gix_odb_loose.specs.declared.write_order.WriteStage.{WriteStage}
+use Rattle.gix_odb_loose.specs.declared.write_order.WriteStage.TheVariants as stages
 use Rattle.gix_odb_loose.proofs.WriteMadeLaws.{history_makes}
 use Rattle.gix_odb_world.specs.Event.{Event, Store}
 use Rattle.gix_odb_world.specs.Headline.{ChangesInTask, ChangesInWrite, IsOneOfFive}

@@ -10,28 +10,28 @@ use Rattle.gix_odb_loose.specs.LooseOrder as loose_order
 use Rattle.gix_odb_loose.specs.LooseOrder.{disk_ask_of, written_to}
 use Rattle.gix_odb_loose.specs.WriteHistory.{IsHistory}
 use Rattle.gix_odb_loose.proofs.WriteHistoryLaws.{IsHistory-ended}
-use Rattle.gix_odb_loose.specs.WriteJobs.{led_by, piece_of, pieces_of, supplied, supplied_to}
+use Rattle.gix_odb_loose.specs.WriteJobs.{advance_to, piece_of, pieces_of, supplied, supplied_to}
 use Rattle.gix_odb_loose.specs.WriteOrder.{error_from, next_write, write_ask, written_in}
 use Rattle.gix_odb_loose.specs.WriteStreams.{OtherLength}
 use Rattle.gix_odb_loose.specs.declared.call.LooseCall.{LooseCall}
-use Rattle.gix_odb_loose.specs.declared.write_call.Onward.{Onward}
-use Rattle.gix_odb_loose.specs.declared.write_call.Onward.TheVariants.{Stage, End}
-use Rattle.gix_odb_loose.specs.declared.write_call.Refusal.TheVariants as refusals
-use Rattle.gix_odb_loose.specs.declared.write_call.WriteStage.{WriteStage}
-use Rattle.gix_odb_loose.specs.declared.write_call.WriteStage.TheVariants as stages
-use Rattle.gix_odb_loose.specs.declared.write_job.WriteJob.{WriteJob}
-use Rattle.gix_odb_world.specs.declared.call.Call.{Call}
-use Rattle.gix_odb_world.specs.declared.call.CallError.TheVariants as call_errors
-use Rattle.gix_odb_world.specs.declared.call.Reply.{Reply}
-use Rattle.gix_odb_world.specs.declared.call.Reply.TheVariants as replies
-use Rattle.gix_odb_world.specs.declared.call_state.CallState.TheVariants.{Writing}
+use Rattle.gix_odb_loose.specs.declared.write_order.Onward.{Onward}
+use Rattle.gix_odb_loose.specs.declared.write_order.Onward.TheVariants.{Stage, End}
+use Rattle.gix_odb_loose.specs.declared.write_order.Refusal.TheVariants as refusals
+use Rattle.gix_odb_loose.specs.declared.write_order.WriteStage.{WriteStage}
+use Rattle.gix_odb_loose.specs.declared.write_order.WriteStage.TheVariants as stages
+use Rattle.gix_odb_loose.specs.declared.write_at_hand.WriteJob.{WriteJob}
+use Rattle.gix_odb.specs.declared.call.Call.{Call}
+use Rattle.gix_odb.specs.declared.call.CallError.TheVariants as call_errors
+use Rattle.gix_odb.specs.declared.call.Reply.{Reply}
+use Rattle.gix_odb.specs.declared.call.Reply.TheVariants as replies
+use Rattle.gix_odb.specs.declared.call_state.CallState.TheVariants.{Writing}
 use Rattle.gix_odb_world.specs.declared.step.Step.TheVariants as steps
-use Rattle.gix_odb_world.specs.declared.write.Error.TheVariants as write_errors
+use Rattle.gix_odb.specs.declared.write.Error.TheVariants as write_errors
 use Rattle.gix_odb_world.specs.declared.work.Work.{Work}
 use Rattle.gix_odb_world.specs.declared.work.Work.TheVariants.{Calling}
 use Rattle.gix_odb_world.specs.Bound.{bound_of_task}
-use Rattle.gix_odb_world.specs.CallOrder.{after_write, hash_to_write, result_of}
-use Rattle.gix_odb_world.specs.Contents.{folder_list}
+use Rattle.gix_odb.specs.CallOrder.{after_write, hash_to_write, result_of}
+use Rattle.gix_odb.specs.Contents.{folder_list}
 use Rattle.gix_odb_world.specs.Event.{Event, Store, fed_in}
 use Rattle.gix_odb_world.specs.Promise.{Promise}
 use Rattle.gix_odb_world.specs.Run.{BegunAs, BegunBy, MakeCall, OpenStore, OpenedBy, Task, disk_after}
@@ -191,7 +191,7 @@ module _ (first : Volume) (events : List Event) (e : Event) (handle : ℕ) (stor
       WriteGoes onward = Goes first events e handle begun turns w since (ask_at_stage w writes.stage) is given refl writes.stands.past writes.stands.asked onward
 
       onward_comes : (onward : Onward) → WriteGoes onward
-          → ComesTo (calling_result (result_of (after_write (record { stage = written_to (job_at w writes.stage) (led_by (job_at w writes.stage) (supplied (job_at w writes.stage) onward)) }))))
+          → ComesTo (calling_result (result_of (after_write (record { stage = written_to (job_at w writes.stage) (advance_to (job_at w writes.stage) (supplied (job_at w writes.stage) onward)) }))))
       onward_comes (Stage stage) goes =
           let stands = supply first whole handle begun (turns + 1) w writes.fits writes.stage stage goes in (
             record {

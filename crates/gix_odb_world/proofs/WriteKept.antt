@@ -18,13 +18,13 @@ use Rattle.gix_odb_loose.specs.WriteOrder.{temp_path, number_made}
 use Rattle.gix_odb_loose.specs.declared.call.LooseCall.{LooseCall}
 use Rattle.gix_hash.specs.declared.object_id.ObjectId.{ObjectId}
 use Rattle.gix_object.specs.declared.kind.Kind.{Kind}
-use Rattle.gix_odb_loose.specs.WriteHistory.{tried}
-use Rattle.gix_odb_loose.specs.declared.write_call.WriteHead.{WriteHead}
-use Rattle.gix_odb_loose.specs.declared.write_call.WriteStage.TheVariants as write_stages
+use Rattle.gix_odb_loose.specs.WriteHistory.WentWell.{tried}
+use Rattle.gix_odb_loose.specs.declared.write_order.WriteHead.{WriteHead}
+use Rattle.gix_odb_loose.specs.declared.write_order.WriteStage.TheVariants as write_stages
 use Rattle.gix_odb_world.specs.Recorded.{path_recorded}
-use Rattle.gix_odb_world.specs.CallOrder.{writing}
-use Rattle.gix_odb_world.specs.declared.call.Call.{Call}
-use Rattle.gix_odb_world.specs.declared.call.Call.TheVariants.{Write}
+use Rattle.gix_odb.specs.CallOrder.{writing}
+use Rattle.gix_odb.specs.declared.call.Call.{Call}
+use Rattle.gix_odb.specs.declared.call.Call.TheVariants.{Write}
 use Rattle.gix_odb_world.specs.declared.step.Step.TheVariants as steps
 use Rattle.gix_odb_world.specs.declared.record.Did.TheVariants.{Disk}
 use Rattle.gix_odb_world.specs.Event.{Event, Store}

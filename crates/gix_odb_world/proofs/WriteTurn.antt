@@ -26,10 +26,11 @@ use Rattle.odb_tree.proofs.WayWriteLaws.{append_change, make_dir_change, new_fil
 use Rattle.odb_tree.proofs.WriteLaws.{tree_of-written}
 use Rattle.gix_hash.specs.declared.object_id.ObjectId.{ObjectId}
 use Rattle.gix_object.specs.Loose.{header_of}
-use Rattle.gix_odb_loose.specs.Causes.WriteLaws.{WriteCause-wider}
+use Rattle.gix_odb_loose.proofs.CauseLaws.Write.{WriteCause-wider}
 use Rattle.gix_odb_loose.specs.Exchanges.{Exchange, exchanged}
 use Rattle.gix_odb_loose.specs.LooseFile.{loose_path}
-use Rattle.gix_odb_loose.specs.WriteHistory.{DoneIn, HasCauseIn, IsHistoryOnward, IsStopped, RefusedIn, TakenIn, WantedIn}
+use Rattle.gix_odb_loose.specs.WriteHistory.Refused.{DoneIn, HasCauseIn, RefusedIn, TakenIn, WantedIn}
+use Rattle.gix_odb_loose.specs.WriteHistory.{IsHistoryOnward, IsStopped}
 use Rattle.gix_odb_loose.proofs.WriteCauseLaws.{refused_cause}
 use Rattle.gix_odb_loose.proofs.WriteHistoryLaws.{IsHistory-next, IsNextPiece}
 use Rattle.gix_odb_loose.specs.WriteJobs.{piece_of, pieces_of}
@@ -38,13 +39,13 @@ use Rattle.gix_odb_loose.specs.WriteOrder.{error_from, grown, next_write, number
 use Rattle.gix_odb_loose.specs.WriteStreams.{OtherLength}
 use Rattle.gix_odb_loose.specs.declared.write.Error.TheVariants as loose_errors
 use Rattle.gix_odb_loose.specs.declared.write.Message.TheVariants as messages
-use Rattle.gix_odb_loose.specs.declared.write_call.Onward.{Onward}
-use Rattle.gix_odb_loose.specs.declared.write_call.Onward.TheVariants.{Stage, End}
-use Rattle.gix_odb_loose.specs.declared.write_call.Refusal.{Refusal}
-use Rattle.gix_odb_loose.specs.declared.write_call.Refusal.TheVariants as refusals
-use Rattle.gix_odb_loose.specs.declared.write_call.WriteHead.{WriteHead}
-use Rattle.gix_odb_loose.specs.declared.write_call.WriteStage.{WriteStage}
-use Rattle.gix_odb_loose.specs.declared.write_call.WriteStage.TheVariants as stages
+use Rattle.gix_odb_loose.specs.declared.write_order.Onward.{Onward}
+use Rattle.gix_odb_loose.specs.declared.write_order.Onward.TheVariants.{Stage, End}
+use Rattle.gix_odb_loose.specs.declared.write_order.Refusal.{Refusal}
+use Rattle.gix_odb_loose.specs.declared.write_order.Refusal.TheVariants as refusals
+use Rattle.gix_odb_loose.specs.declared.write_order.WriteHead.{WriteHead}
+use Rattle.gix_odb_loose.specs.declared.write_order.WriteStage.{WriteStage}
+use Rattle.gix_odb_loose.specs.declared.write_order.WriteStage.TheVariants as stages
 use Rattle.gix_odb_world.specs.Recorded.{path_recorded}
 use Rattle.gix_odb_world.specs.declared.record.Did.TheVariants.{Disk}
 use Rattle.gix_odb_world.specs.Event.{Event}

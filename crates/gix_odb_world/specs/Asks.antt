@@ -8,9 +8,9 @@ use Rattle.gix_object.specs.Loose.{header_of}
 use Rattle.gix_odb_loose.specs.LooseFile.{loose_path}
 use Rattle.gix_odb_loose.specs.WriteJobs.{piece_at, pieces_of}
 use Rattle.gix_odb_loose.specs.WriteOrder.{prefix_path, temp_path}
-use Rattle.gix_odb_world.specs.declared.call.Call.TheVariants as calls
-use Rattle.gix_odb_world.specs.declared.query.Query.TheVariants.{Find, Header, Test}
-use Rattle.gix_odb_world.specs.Contents.{folder_list, sought}
+use Rattle.gix_odb.specs.declared.call.Call.TheVariants as calls
+use Rattle.gix_odb.specs.declared.query.Query.TheVariants.{Find, Header, Test}
+use Rattle.gix_odb.specs.Contents.{folder_list, sought}
 use Rattle.gix_odb_world.specs.Event.{Event, Store}
 use Rattle.gix_odb_world.specs.Run.{MakeCall, OpenStore, Task}
 use Rattle.gix_odb_world.specs.Writing.{DoneSince, ToWrite, name_to_write, to_write}

@@ -4,10 +4,10 @@ use Rattle.std.specs.List.{list_all, list_any}
 use Rattle.odb_base.specs.Path.{Path, Name}
 use Rattle.odb_tree.specs.Tree.{Tree}
 use Rattle.odb_tree.specs.Tree.Follow.{listed}
-use Rattle.gix_odb_world.specs.declared.call.Call.{Call}
-use Rattle.gix_odb_world.specs.declared.call.Call.TheVariants.{Write}
+use Rattle.gix_odb.specs.declared.call.Call.{Call}
+use Rattle.gix_odb.specs.declared.call.Call.TheVariants.{Write}
 use Rattle.gix_odb_loose.specs.WriteJobs.{pieces_of}
-use Rattle.gix_odb_world.specs.Contents.{StoreData, folder_list}
+use Rattle.gix_odb.specs.Contents.{StoreData, folder_list}
 use Rattle.gix_odb_world.specs.Event.{Store}
 use Rattle.gix_odb_world.specs.Run.{Task, OpenStore, MakeCall}
 

@@ -9,15 +9,15 @@ use Rattle.gix_hash.specs.declared.object_id.ObjectId.{ObjectId}
 use Rattle.gix_odb_loose.specs.Causes.{Cause}
 use Rattle.gix_odb_loose.specs.LooseFile.{Reading, loose_path}
 use Rattle.gix_odb_loose.specs.declared.find.Error as loose
-use Rattle.gix_odb_world.specs.declared.query.Query.{Query}
-use Rattle.gix_odb_world.specs.declared.init.Error as opening
-use Rattle.gix_odb_world.specs.declared.init.Error.TheVariants as opening_errors
-use Rattle.gix_odb_world.specs.declared.find.Error as finding
-use Rattle.gix_odb_world.specs.declared.find.Error.TheVariants as find_errors
-use Rattle.gix_odb_world.specs.LookOrder.{job_of}
-use Rattle.gix_odb_world.specs.Contents.{folder_list}
+use Rattle.gix_odb.specs.declared.query.Query.{Query}
+use Rattle.gix_odb.specs.declared.init.Error as opening
+use Rattle.gix_odb.specs.declared.init.Error.TheVariants as opening_errors
+use Rattle.gix_odb.specs.declared.find.Error as finding
+use Rattle.gix_odb.specs.declared.find.Error.TheVariants as find_errors
+use Rattle.gix_odb.specs.LookOrder.{job_of}
+use Rattle.gix_odb.specs.Contents.{folder_list}
 use Rattle.gix_odb_world.specs.Event.{Store}
-use Rattle.gix_odb_world.specs.OpenOrder.{most_slots}
+use Rattle.gix_odb.specs.OpenOrder.{most_slots}
 
 -- something was so at some moment of a call
 pub record Sometime (begun now : ℕ) (P : ℕ → Type 0) : Type 0 where

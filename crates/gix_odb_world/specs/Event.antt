@@ -4,17 +4,16 @@ use Rattle.odb_base.specs.Path.{Path}
 use Rattle.odb_disk.specs.declared.ask.DiskAnswer.{DiskAnswer}
 use Rattle.odb_disk.specs.declared.ask.DiskAsk.{DiskAsk}
 use Rattle.gix_hash.specs.declared.object_id.ObjectId.{ObjectId}
-use Rattle.gix_odb_world.specs.Contents.{StoreData, sought}
-use Rattle.gix_odb_world.specs.CallOrder as calls
+use Rattle.gix_odb.specs.Contents.{StoreData, sought}
+use Rattle.gix_odb.specs.CallOrder as calls
+use Rattle.gix_odb.specs.OpenOrder.{given_slots}
 use Rattle.gix_odb_world.specs.WorkOrder.{fed}
-use Rattle.gix_odb_world.specs.declared.call.Call.{Call}
-use Rattle.gix_odb_world.specs.declared.call.CallError.TheVariants as call_errors
-use Rattle.gix_odb_world.specs.declared.call.Reply.{Reply}
-use Rattle.gix_odb_world.specs.declared.call.Reply.TheVariants as replies
-use Rattle.gix_odb_world.specs.declared.init.Options.{Options}
-use Rattle.gix_odb_world.specs.declared.init.Slots.{Slots}
-use Rattle.gix_odb_world.specs.declared.init.Slots.TheVariants.{Given}
-use Rattle.gix_odb_world.specs.declared.open_state.OpenState.TheVariants.{Looking}
+use Rattle.gix_odb.specs.declared.call.Call.{Call}
+use Rattle.gix_odb.specs.declared.call.CallError.TheVariants as call_errors
+use Rattle.gix_odb.specs.declared.call.Reply.{Reply}
+use Rattle.gix_odb.specs.declared.call.Reply.TheVariants as replies
+use Rattle.gix_odb.specs.declared.init.Options.{Options}
+use Rattle.gix_odb.specs.declared.open_state.OpenState.TheVariants.{Looking}
 use Rattle.gix_odb_world.specs.declared.step.Step.{Step}
 use Rattle.gix_odb_world.specs.declared.step.Step.TheVariants as steps
 use Rattle.gix_odb_world.specs.declared.step.Outcome.{Outcome}
@@ -42,9 +41,6 @@ pub data Status : Type 0 where
   Free : Status
   Resting : (store : Store) (ignoring : Bool) → Status
   Working : (store : Store) (ignoring : Bool) (begun turns : ℕ) (work : Work) → Status
-
-abbrev pub given_slots : Slots → ℕ
-given_slots (Given slots) = slots
 
 abbrev pub store_at : ℕ → Path → List Path → List (ObjectId × ObjectId) → Options → Store
 store_at number path folders replacements options = record {

@@ -1,25 +1,15 @@
 -- How a handle of the code stands for a store.
-use Rattle.std.specs.Prelude.{◌≡◌, Bool, false, List, Option}
-use Rattle.std.specs.BTreeMap.{get, IsFromIterResult}
+use Rattle.std.specs.Prelude.{◌≡◌, Bool, false, List}
+use Rattle.std.specs.BTreeMap.{IsFromIterResult}
 use Rattle.odb_base.specs.Path.{Path}
 use Rattle.gix_hash.specs.declared.object_id.ObjectId.{ObjectId}
-use Rattle.gix_odb_world.specs.Contents.{id_cmp, replaced, replacement_in, sought_with}
-use Rattle.gix_odb_world.specs.Event.{Store, given_slots}
-use Rattle.gix_odb_world.specs.declared.query.Query.{Query}
-use Rattle.gix_odb_world.specs.declared.handle.HandleState.{HandleState}
-use Rattle.gix_odb_world.specs.declared.init.Options.{Options}
-
--- the id that replaces another
-abbrev pub replacement_of : HandleState → ObjectId → Option ObjectId
-replacement_of handle id = get id_cmp handle.replacements id
-
--- the id that is sought in the place of another
-abbrev pub replaced_by : HandleState → ObjectId → ObjectId
-replaced_by handle id = replaced (replacement_of handle) handle.ignore_replacements id
-
--- the id that a call seeks
-abbrev pub sought_by : HandleState → Query → ObjectId
-sought_by handle call = sought_with (replacement_of handle) handle.ignore_replacements call
+use Rattle.gix_hash.specs.ObjectId.{id_cmp}
+use Rattle.gix_odb.specs.Contents.{replacement_in}
+use Rattle.gix_odb.specs.HandleState.{replacement_of}
+use Rattle.gix_odb_world.specs.Event.{Store}
+use Rattle.gix_odb.specs.OpenOrder.{given_slots}
+use Rattle.gix_odb.specs.declared.handle_state.HandleState.{HandleState}
+use Rattle.gix_odb.specs.declared.init.Options.{Options}
 
 -- the handle has what its open step was handed
 pub record IsOpened (objects : Path) (folders : List Path) (replacements : List (ObjectId × ObjectId)) (options : Options) (handle : HandleState) : Type 0 where

@@ -1,8 +1,3 @@
-pub mod Contents
-pub mod Held
-pub mod LookOrder
-pub mod CallOrder
-pub mod OpenOrder
 pub mod WorkOrder
 pub mod Event
 pub mod Recorded

@@ -3,21 +3,21 @@ use Rattle.std.specs.Prelude.{◌≡◌, ℕ, ◌≤◌, Bool, true, false, List
 use Rattle.odb_tree.specs.Tree.{Tree}
 use Rattle.odb_disk.specs.MemDisk.{Volume}
 use Rattle.gix_hash.specs.declared.object_id.ObjectId.{ObjectId}
-use Rattle.gix_odb_world.specs.declared.query.Query.{Query}
-use Rattle.gix_odb_world.specs.declared.query.Query.TheVariants.{Find, Header, Test}
-use Rattle.gix_odb_world.specs.declared.call.Reply.{Reply}
-use Rattle.gix_odb_world.specs.declared.call.Reply.TheVariants as replies
-use Rattle.gix_odb_world.specs.declared.call.CallError.TheVariants as call_errors
-use Rattle.gix_odb_world.specs.declared.find.Error as finding
-use Rattle.gix_odb_world.specs.declared.call.Call.TheVariants as calls
-use Rattle.gix_odb_world.specs.Contents.{Answer, Object, HeaderOf, Presence, sought}
-use Rattle.gix_odb_world.specs.Held.{Held, Still}
+use Rattle.gix_odb.specs.declared.query.Query.{Query}
+use Rattle.gix_odb.specs.declared.query.Query.TheVariants.{Find, Header, Test}
+use Rattle.gix_odb.specs.declared.call.Reply.{Reply}
+use Rattle.gix_odb.specs.declared.call.Reply.TheVariants as replies
+use Rattle.gix_odb.specs.declared.call.CallError.TheVariants as call_errors
+use Rattle.gix_odb.specs.declared.find.Error as finding
+use Rattle.gix_odb.specs.declared.call.Call.TheVariants as calls
+use Rattle.gix_odb.specs.Contents.{Answer, Object, HeaderOf, Presence, sought}
+use Rattle.gix_odb.specs.Held.{Held, Still}
 use Rattle.gix_odb_world.specs.Event.{Event, Store}
 use Rattle.gix_odb_world.specs.Run.{Task, OpenStore, MakeCall, tree_at, FailedSince}
 use Rattle.gix_odb_world.specs.Writing.{to_write}
 use Rattle.gix_odb_world.specs.Written.{PromiseOfWrite}
 use Rattle.gix_odb_world.specs.Causes.{Sometime, ShowsDirectory, OpeningCause, FindCause}
-use Rattle.gix_odb_world.specs.OpenOrder.{most_slots}
+use Rattle.gix_odb.specs.OpenOrder.{most_slots}
 
 -- An open store has the slots that were asked for, and its objects directory was shown in the opening.
 pub record Opens (trees : ℕ → Tree) (store : Store) (begun now slots : ℕ) : Type 0 where

@@ -17,25 +17,25 @@ use Rattle.gix_odb_loose.specs.WritePieces.{IsInPieces}
 use Rattle.gix_odb_loose.specs.WriteStreams.{OtherLength}
 use Rattle.gix_odb_loose.specs.declared.call.LooseCall.{LooseCall}
 use Rattle.gix_odb_loose.specs.declared.call.Stage.TheVariants as loose_stages
-use Rattle.gix_odb_loose.specs.declared.write_call.WriteStage.{WriteStage}
-use Rattle.gix_odb_loose.specs.declared.write_call.WriteStage.TheVariants as write_stages
+use Rattle.gix_odb_loose.specs.declared.write_order.WriteStage.{WriteStage}
+use Rattle.gix_odb_loose.specs.declared.write_order.WriteStage.TheVariants as write_stages
 use Rattle.gix_odb_loose.specs.declared.find.Error as loose
-use Rattle.gix_odb_world.specs.declared.call.Call.{Call}
-use Rattle.gix_odb_world.specs.declared.call.Call.TheVariants as calls
-use Rattle.gix_odb_world.specs.declared.query.Query.{Query}
-use Rattle.gix_odb_world.specs.declared.query.Query.TheVariants.{Find, Header, Test}
-use Rattle.gix_odb_world.specs.declared.call_state.CallState.TheVariants.{Looking, Writing, Written}
-use Rattle.gix_odb_world.specs.declared.look_state.Stage.{Stage}
-use Rattle.gix_odb_world.specs.declared.look_state.Stage.TheVariants as stages
-use Rattle.gix_odb_world.specs.declared.open_state.OpenState.TheVariants as opens
+use Rattle.gix_odb.specs.declared.call.Call.{Call}
+use Rattle.gix_odb.specs.declared.call.Call.TheVariants as calls
+use Rattle.gix_odb.specs.declared.query.Query.{Query}
+use Rattle.gix_odb.specs.declared.query.Query.TheVariants.{Find, Header, Test}
+use Rattle.gix_odb.specs.declared.call_state.CallState.TheVariants.{Looking, Writing, Written}
+use Rattle.gix_odb.specs.declared.look_state.Stage.{Stage}
+use Rattle.gix_odb.specs.declared.look_state.Stage.TheVariants as stages
+use Rattle.gix_odb.specs.declared.open_state.OpenState.TheVariants as opens
 use Rattle.gix_odb_world.specs.declared.work.Work.{Work}
 use Rattle.gix_odb_world.specs.declared.work.Work.TheVariants.{Opening, Calling}
-use Rattle.gix_odb_world.specs.LookOrder.{asking}
-use Rattle.gix_odb_world.specs.Contents.{folder_list, sought}
+use Rattle.gix_odb.specs.LookOrder.{asking}
+use Rattle.gix_odb.specs.Contents.{folder_list, sought}
 use Rattle.gix_odb_world.specs.Causes.{Sometime, LooseCause}
 use Rattle.gix_odb_world.specs.Event.{Event, Store, Status, Free, Resting, Working, status_of}
 use Rattle.gix_odb_world.specs.Run.{BegunBy, IsOpenStore, OpenedBy, tree_at, FailedSince}
-use Rattle.gix_odb_world.specs.CallOrder.{hash_to_write}
+use Rattle.gix_odb.specs.CallOrder.{hash_to_write}
 use Rattle.gix_odb_world.specs.Writing.{AskedAt, AskedSince, ChangedNothing, LeftAlone, MadeOnly, RenamedNothing, ToWrite, call_to_write, head_to_write, name_to_write}
 
 -- a folder was passed: at some moment its loose path led to no file

@@ -5,16 +5,16 @@ use Rattle.odb_tree.specs.Tree.{tree_of}
 use Rattle.odb_disk.specs.MemDisk.{Volume}
 use Rattle.odb_disk.specs.declared.ask.DiskAsk.{DiskAsk}
 use Rattle.odb_tree.specs.declared.change.Change.{Change}
-use Rattle.gix_odb_world.specs.declared.call.Reply.{Reply}
-use Rattle.gix_odb_world.specs.declared.call.Reply.TheVariants as replies
-use Rattle.gix_odb_world.specs.declared.call.CallError.TheVariants as call_errors
+use Rattle.gix_odb.specs.declared.call.Reply.{Reply}
+use Rattle.gix_odb.specs.declared.call.Reply.TheVariants as replies
+use Rattle.gix_odb.specs.declared.call.CallError.TheVariants as call_errors
 use Rattle.gix_odb_world.specs.declared.step.Step.{Step}
 use Rattle.gix_odb_world.specs.declared.step.Outcome.{Outcome}
 use Rattle.gix_odb_world.specs.declared.step.Why.{Why}
 use Rattle.gix_odb_world.specs.declared.record.Did.{Did}
 use Rattle.gix_odb_world.specs.declared.record.Did.TheVariants as done
 use Rattle.gix_odb_world.specs.declared.handle.Handle.{Handle}
-use Rattle.gix_odb_world.specs.declared.handle.HandleState.{HandleState}
+use Rattle.gix_odb.specs.declared.handle_state.HandleState.{HandleState}
 use Rattle.gix_odb_world.specs.declared.work.Work.{Work}
 use Rattle.gix_odb_world.specs.Run.{did_of, has_failed}
 use Rattle.gix_odb_world.specs.WorkOrder.{fed}

@@ -11,7 +11,7 @@ use Rattle.odb_tree.specs.declared.change.Change.{Change}
 use Rattle.odb_tree.specs.declared.change.Change.TheVariants.{PutFile, Rename}
 use Rattle.gix_odb_loose.specs.WriteOrder.{temp_path}
 use Rattle.gix_odb_loose.specs.declared.call.LooseCall.{LooseCall}
-use Rattle.gix_odb_world.specs.declared.call_state.CallState.TheVariants.{Writing}
+use Rattle.gix_odb.specs.declared.call_state.CallState.TheVariants.{Writing}
 use Rattle.gix_odb_world.specs.declared.step.Step.TheVariants as steps
 use Rattle.gix_odb_world.specs.declared.step.Outcome.TheVariants as outcomes
 use Rattle.gix_odb_world.specs.declared.work.Work.TheVariants.{Calling}

@@ -6,7 +6,7 @@ use Rattle.std.specs.Set.{distinct_count}
 use Rattle.std.specs.declared.cmp.Ordering.{Ordering}
 use Rattle.odb_base.specs.Path.{Path, path_cmp}
 use Rattle.gix_hash.specs.declared.object_id.ObjectId.{ObjectId}
-use Rattle.gix_odb_world.specs.Contents.{id_cmp}
+use Rattle.gix_hash.specs.ObjectId.{id_cmp}
 use Rattle.odb_tree.specs.Tree.{State}
 use Rattle.odb_disk.specs.MemDisk.{Volume}
 use Rattle.odb_tree.specs.Tree.Change.{is_possible}

@@ -9,7 +9,7 @@ use Rattle.odb_tree.specs.declared.change.Change.TheVariants.{Rename}
 use Rattle.gix_object.specs.Loose.{header_of}
 use Rattle.gix_odb_loose.specs.LooseFile.{loose_path}
 use Rattle.gix_odb_loose.specs.declared.call.LooseCall.{LooseCall}
-use Rattle.gix_odb_world.specs.declared.call_state.CallState.TheVariants.{Writing}
+use Rattle.gix_odb.specs.declared.call_state.CallState.TheVariants.{Writing}
 use Rattle.gix_odb_world.specs.declared.work.Work.TheVariants.{Calling}
 use Rattle.gix_odb_world.specs.Event.{Event, Store, Working, status_of}
 use Rattle.gix_odb_world.specs.Run.{BegunBy, IsTurnOf, tree_at}

@@ -3,14 +3,14 @@ use Rattle.std.specs.Prelude.{ℕ, List, Option, Result, Ok, Err}
 use Rattle.odb_base.specs.Path.{Path}
 use Rattle.odb_disk.specs.declared.ask.DiskAsk.{DiskAsk}
 use Rattle.odb_disk.specs.declared.ask.DiskAnswer.{DiskAnswer}
-use Rattle.gix_odb_world.specs.declared.call.Reply.{Reply}
-use Rattle.gix_odb_world.specs.declared.call_state.CallState.{CallState}
-use Rattle.gix_odb_world.specs.declared.open_state.OpenState.{OpenState}
-use Rattle.gix_odb_world.specs.declared.open_state.OpenState.TheVariants as opens
+use Rattle.gix_odb.specs.declared.call.Reply.{Reply}
+use Rattle.gix_odb.specs.declared.call_state.CallState.{CallState}
+use Rattle.gix_odb.specs.declared.open_state.OpenState.{OpenState}
+use Rattle.gix_odb.specs.declared.open_state.OpenState.TheVariants as opens
 use Rattle.gix_odb_world.specs.declared.work.Work.{Work}
 use Rattle.gix_odb_world.specs.declared.work.Work.TheVariants.{Opening, Calling}
-use Rattle.gix_odb_world.specs.CallOrder as calls
-use Rattle.gix_odb_world.specs.OpenOrder as openings
+use Rattle.gix_odb.specs.CallOrder as calls
+use Rattle.gix_odb.specs.OpenOrder as openings
 
 -- the next call of the disk, if there is one
 abbrev pub ask_in : Path → Work → Option DiskAsk

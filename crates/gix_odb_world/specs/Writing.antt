@@ -17,16 +17,16 @@ use Rattle.gix_object.specs.declared.kind.Kind.{Kind}
 use Rattle.gix_odb_loose.specs.Causes.{WriteCause}
 use Rattle.gix_odb_loose.specs.WriteNames.{name_for}
 use Rattle.gix_odb_loose.specs.WriteOrder.{temp_path}
-use Rattle.gix_odb_loose.specs.WriteRuns.{IsOnWay}
+use Rattle.gix_odb_loose.specs.WriteRuns.RefusedAsks.{IsOnWay}
 use Rattle.gix_odb_loose.specs.WriteStreams.{OtherLength}
 use Rattle.gix_odb_loose.specs.declared.write.Error as loose_write
-use Rattle.gix_odb_loose.specs.declared.write_call.WriteHead.{WriteHead}
+use Rattle.gix_odb_loose.specs.declared.write_order.WriteHead.{WriteHead}
 use Rattle.gix_odb_world.specs.Recorded.{path_recorded}
-use Rattle.gix_odb_world.specs.CallOrder.{hash_to_write}
+use Rattle.gix_odb.specs.CallOrder.{hash_to_write}
 use Rattle.gix_odb_world.specs.Event.{Event}
 use Rattle.gix_odb_world.specs.Run.{Fails, IsTurnOf, disk_after, tree_at}
-use Rattle.gix_odb_world.specs.declared.call.Call.{Call}
-use Rattle.gix_odb_world.specs.declared.call.Call.TheVariants.{Write}
+use Rattle.gix_odb.specs.declared.call.Call.{Call}
+use Rattle.gix_odb.specs.declared.call.Call.TheVariants.{Write}
 use Rattle.gix_odb_world.specs.declared.record.Did.{Did}
 use Rattle.gix_odb_world.specs.declared.record.Did.TheVariants.{Disk}
 

@@ -12,7 +12,7 @@ pub fn bound_of(
 ) -> u128
     requires folders_few { folders ≤ 256 }
     requires changes_few { max_changes ≤ 1000000 }
-    ensures { result ≡ turn_bound slots folders max_changes entries write }
+    ensures bound { result ≡ turn_bound slots folders max_changes entries write }
 {
     let per_folder = 8 * u128::from(entries) + 16;
     let listing = 8 + 8 * u128::from(slots) + u128::from(folders) * per_folder;

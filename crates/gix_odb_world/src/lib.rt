@@ -12,29 +12,17 @@
 #![tactic(auto)]
 
 mod bound;
-mod call;
-mod call_state;
-pub mod find;
-mod folder;
 mod handle;
-pub mod init;
-mod lists;
-mod look_state;
-mod open_state;
 mod opening;
 mod play;
-mod query;
 mod record;
 mod step;
 mod turn;
 mod work;
 mod world;
-pub mod write;
 
 pub use bound::bound_of;
-pub use call::{Call, CallError, Reply};
-pub use init::{Options, Slots};
-pub use lists::{IdPairs, PathList};
+pub use gix_odb::{Call, CallError, IdPairs, Options, PathList, Reply, Slots, find, init, write};
 pub use play::{Line, Play};
 pub use record::{Did, OutcomeList, Record, RecordList, Run};
 pub use step::{Outcome, Step, Why};

@@ -3,14 +3,12 @@ ghost use Rattle.std.specs.Prelude.{◌≡◌, ◌∷◌, ◌≤◌, IfOk, Match
 ghost use Rattle.std.specs.Map.{keys_of};
 ghost use Rattle.std.specs.BTreeMap.{get, IsFromIterResult};
 ghost use Rattle.odb_base.specs.Path.{path_cmp};
-ghost use Rattle.gix_odb_world.specs.Contents.{id_cmp};
+ghost use Rattle.gix_hash.specs.ObjectId.{id_cmp};
 ghost use Rattle.gix_odb_world.specs.Handle.{IsOpened};
 ghost use Rattle.gix_odb_world.specs.Valid.{are_distinct, is_openable};
 
-use crate::handle::HandleState;
-use crate::init::Options;
-use crate::lists::{self, IdPairs, PathList};
 use gix_hash::ObjectId;
+use gix_odb::{HandleState, IdPairs, Options, PathList, copy_of_paths};
 use odb_base::{NoMemory, PathText};
 use std::alloc::Global;
 use std::collections::{BTreeMap, BTreeSet};
@@ -26,7 +24,7 @@ pub fn begun(
     replacements: &IdPairs,
     options: Options,
 ) -> Result<Option<HandleState>, NoMemory>
-    ensures { IfOk result (λ begun. MatchOption begun (is_openable path.now folders.now replacements.now ≡ false)
+    ensures begun { IfOk result (λ begun. MatchOption begun (is_openable path.now folders.now replacements.now ≡ false)
         (λ state. (is_openable path.now folders.now replacements.now ≡ true) × IsOpened path.now folders.now replacements.now options state)) }
 {
     if !are_good_folders(alloc, path, folders)? {
@@ -37,7 +35,7 @@ pub fn begun(
     };
     Ok(Some(HandleState {
         objects: path.try_clone(alloc)?,
-        folders: lists::copy_of_paths(alloc, folders)?,
+        folders: copy_of_paths(alloc, folders)?,
         replacements,
         ignore_replacements: false,
         alloc_limit_bytes: options.alloc_limit_bytes,
@@ -52,14 +50,14 @@ pub fn is_good(
     folders: &PathList,
     replacements: &IdPairs,
 ) -> Result<bool, NoMemory>
-    ensures { IfOk result (λ good. good ≡ is_openable path.now folders.now replacements.now) }
+    ensures good { IfOk result (λ good. good ≡ is_openable path.now folders.now replacements.now) }
 {
     Ok(are_good_folders(alloc, path, folders)? && replacement_map(alloc, replacements)?.is_some())
 }
 
 // Whether the folders are few enough, all distinct, and none of them the objects directory.
 fn are_good_folders(alloc: Global, path: &PathText, folders: &PathList) -> Result<bool, NoMemory>
-    ensures { IfOk result (λ good. good ≡ Rattle.gix_odb_world.specs.Valid.are_good_folders path.now folders.now) }
+    ensures good { IfOk result (λ good. good ≡ Rattle.gix_odb_world.specs.Valid.are_good_folders path.now folders.now) }
 {
     if folders.len() > MAX_FOLDERS {
         return Ok(false);
@@ -77,7 +75,7 @@ fn replacement_map(
     alloc: Global,
     pairs: &IdPairs,
 ) -> Result<Option<BTreeMap<ObjectId, ObjectId>>, NoMemory>
-    ensures { IfOk result (λ made. MatchOption made (are_distinct id_cmp (keys_of pairs.now) ≡ false)
+    ensures made { IfOk result (λ made. MatchOption made (are_distinct id_cmp (keys_of pairs.now) ≡ false)
         (λ map. (are_distinct id_cmp (keys_of pairs.now) ≡ true) × IsFromIterResult id_cmp pairs.now map)) }
 {
     let map = collected(alloc, pairs.as_slice())?;
@@ -93,7 +91,7 @@ fn collected(
     alloc: Global,
     pairs: &[(ObjectId, ObjectId)],
 ) -> Result<BTreeMap<ObjectId, ObjectId>, NoMemory>
-    ensures { IfOk result (IsFromIterResult id_cmp pairs.now) }
+    ensures collected { IfOk result (IsFromIterResult id_cmp pairs.now) }
 {
     Ok(pairs.iter().copied().collect(alloc)?)
 }

@@ -22,7 +22,7 @@ pub enum Did {
 impl Did {
     /// What a turn did that made a call of the disk.
     pub(crate) fn of(alloc: Global, ask: &DiskAsk, answer: &DiskAnswer) -> Result<Did, NoMemory>
-        ensures { IfOk result (λ did. did ≡ did_of ask.now answer.now) }
+        ensures did { IfOk result (λ did. did ≡ did_of ask.now answer.now) }
     {
         Ok(Did::Disk {
             op: ask.op(),
@@ -34,7 +34,7 @@ impl Did {
 
 /// The path that the record of a call has. A call on an open stream names none, and no handle makes one.
 fn path_recorded(alloc: Global, ask: &DiskAsk) -> Result<PathText, NoMemory>
-    ensures { IfOk result (λ path. path ≡ path_recorded ask.now) }
+    ensures path { IfOk result (λ path. path ≡ path_recorded ask.now) }
 {
     match ask.path() {
         Some(path) => path.try_clone(alloc),

@@ -1,8 +1,6 @@
 ghost use Rattle.std.specs.Prelude.{◌≡◌, IfOk};
 
-use crate::call::{Call, Reply};
-use crate::init::Options;
-use crate::lists::{self, IdPairs, PathList};
+use gix_odb::{Call, IdPairs, Options, PathList, Reply, copy_of_pairs, copy_of_paths};
 use odb_base::NoMemory;
 use odb_disk::{Change, PathText};
 use std::alloc::Global;
@@ -45,7 +43,7 @@ pub enum Step {
 impl Step {
     /// A copy of the step.
     pub fn try_clone(&self, alloc: Global) -> Result<Step, NoMemory>
-        ensures { IfOk result (λ copy. copy ≡ self.now) }
+        ensures copied { IfOk result (λ copy. copy ≡ self.now) }
     {
         match self {
             Step::Open {
@@ -75,13 +73,13 @@ fn opening_copy(
     replacements: &IdPairs,
     options: Options,
 ) -> Result<Step, NoMemory>
-    ensures { IfOk result (λ copy. copy ≡ Step.Open handle path.now folders.now replacements.now options) }
+    ensures copied { IfOk result (λ copy. copy ≡ Step.Open handle path.now folders.now replacements.now options) }
 {
     Ok(Step::Open {
         handle,
         path: path.try_clone(alloc)?,
-        folders: lists::copy_of_paths(alloc, folders)?,
-        replacements: lists::copy_of_pairs(alloc, replacements)?,
+        folders: copy_of_paths(alloc, folders)?,
+        replacements: copy_of_pairs(alloc, replacements)?,
         options,
     })
 }
@@ -100,7 +98,7 @@ pub enum Outcome {
 impl Outcome {
     /// A copy of the outcome.
     pub fn try_clone(&self, alloc: Global) -> Result<Outcome, NoMemory>
-        ensures { IfOk result (λ copy. copy ≡ self.now) }
+        ensures copied { IfOk result (λ copy. copy ≡ self.now) }
     {
         match self {
             Outcome::Applied => Ok(Outcome::Applied),

@@ -8,11 +8,11 @@ ghost use Rattle.gix_odb_world.specs.WorkOrder.{fed as fed_with};
 ghost use Rattle.gix_odb_world.specs.Table as tables;
 ghost use Rattle.gix_odb_world.specs.Table.{after_turn, change_now, did_now, disk_now, work_now};
 
-use crate::call::{CallError, Reply};
-use crate::handle::{Handle, HandleState};
+use crate::handle::Handle;
 use crate::record::Did;
 use crate::step::Outcome;
 use crate::work::Work;
+use gix_odb::{CallError, HandleState, Reply};
 use odb_base::NoMemory;
 use odb_disk::{Change, DiskAnswer, DiskAsk, DiskError, MemDisk};
 use std::alloc::Global;
@@ -109,7 +109,7 @@ fn answered(alloc: Global, disk: &mut MemDisk, ask: &DiskAsk) -> Result<(Did, Di
 
 /// The change that a call of the disk makes where it doesn't fail, or none where it failed.
 fn change_unless_failed(change: Option<Change>, answer: &DiskAnswer) -> Option<Change>
-    ensures { result ≡ (if has_failed answer.now then None else change) }
+    ensures change { result ≡ (if has_failed answer.now then None else change) }
 {
     match answer {
         DiskAnswer::Refused(DiskError::Failed) => None,
@@ -136,7 +136,7 @@ pub fn settled(state: HandleState, work: Work) -> (Outcome, Option<Handle>)
 
 /// A handle after the reply to its work: none after a refused opening, else at rest.
 fn at_rest(state: HandleState, reply: &Reply) -> Option<Handle>
-    ensures { result ≡ tables.after_reply state reply.now }
+    ensures rests { result ≡ tables.after_reply state reply.now }
 {
     match reply {
         Reply::Refused(CallError::Open(_)) => None,

@@ -3,10 +3,7 @@ ghost use Rattle.std.specs.Prelude.{◌≡◌, IfOk};
 ghost use Rattle.gix_odb_world.specs.WorkOrder.{ask_in, result_in};
 ghost use Rattle.gix_odb_world.specs.WorkOrder.{fed as fed_with};
 
-use crate::call::Reply;
-use crate::call_state::CallState;
-use crate::handle::HandleState;
-use crate::open_state::OpenState;
+use gix_odb::{CallState, HandleState, OpenState, Reply};
 use odb_base::NoMemory;
 use odb_disk::{DiskAnswer, DiskAsk};
 use std::alloc::Global;
@@ -21,7 +18,7 @@ pub enum Work {
 impl Work {
     /// The call of the disk that comes next; there is none where the work is done.
     pub fn disk_ask(&self, alloc: Global, handle: &HandleState) -> Result<Option<DiskAsk>, NoMemory>
-        ensures { IfOk result (λ ask. ask ≡ ask_in handle.now.objects self.now) }
+        ensures asked { IfOk result (λ ask. ask ≡ ask_in handle.now.objects self.now) }
     {
         match self {
             Work::Opening(state) => state.disk_ask(alloc, handle),
@@ -36,7 +33,7 @@ impl Work {
         handle: &HandleState,
         answer: DiskAnswer,
     ) -> Result<Work, NoMemory>
-        ensures { IfOk result (λ work. work ≡ fed_with handle.now.slots handle.now.folders handle.now.alloc_limit_bytes self answer) }
+        ensures fed { IfOk result (λ work. work ≡ fed_with handle.now.slots handle.now.folders handle.now.alloc_limit_bytes self answer) }
     {
         match self {
             Work::Opening(state) => Ok(Work::Opening(state.feed(handle.slots, &answer))),
@@ -46,7 +43,7 @@ impl Work {
 
     /// The reply of work that is done, or the work that goes on.
     pub fn into_reply(self) -> Result<Reply, Work>
-        ensures { result ≡ result_in self }
+        ensures replied { result ≡ result_in self }
     {
         match self {
             Work::Opening(OpenState::Done(reply)) => Ok(reply),

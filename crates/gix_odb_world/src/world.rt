@@ -9,17 +9,13 @@ ghost use Rattle.gix_odb_world.specs.WorkOrder.{result_in};
 ghost use Rattle.gix_odb_world.specs.World.{Explains, GoesOn, Continues, handle_at};
 ghost use Rattle.gix_odb_world.specs.Table.{HasOneMore, Notes, SetsHandle, Settles, after_turn, phase_of_handle, with_ignoring, with_work, why_not_now};
 
-use crate::call::Call;
-use crate::call_state::CallState;
-use crate::handle::{Handle, HandleState};
-use crate::init::Options;
-use crate::lists::{IdPairs, PathList};
-use crate::open_state::OpenState;
+use crate::handle::Handle;
 use crate::opening;
 use crate::record::{Did, OutcomeList, Record, RecordList, Run};
 use crate::step::{Outcome, Step, Why};
 use crate::turn::{carried_out, settled};
 use crate::work::Work;
+use gix_odb::{Call, CallState, HandleState, IdPairs, OpenState, Options, PathList};
 use odb_base::NoMemory;
 use odb_disk::{Change, Impossible, MemDisk, PathText};
 use std::alloc::Global;
@@ -143,8 +139,8 @@ impl World {
 
     /// What the last step came to.
     fn last_outcome(&self, alloc: Global) -> Result<Outcome, NoMemory>
-        requires { self.now.outcomes ≢ [] }
-        ensures { IfOk result (λ outcome. (before : List Outcome) × (self.now.outcomes ≡ before ++ outcome ∷ [])) }
+        requires some { self.now.outcomes ≢ [] }
+        ensures last { IfOk result (λ outcome. (before : List Outcome) × (self.now.outcomes ≡ before ++ outcome ∷ [])) }
     {
         let outcomes = self.outcomes.as_slice();
         outcomes[outcomes.len() - 1].try_clone(alloc)
@@ -234,7 +230,7 @@ impl World {
 
     /// Takes a handle that runs a call out of the table.
     fn take_work(&mut self, number: u32) -> (HandleState, Work)
-        requires { reasons.why_not_running (phase_of_handle (handle_at self.old number)) ≡ None }
+        requires runs { reasons.why_not_running (phase_of_handle (handle_at self.old number)) ≡ None }
         ensures taken { handle_at self.old number ≡ Some (record { state = result.0; work = Some result.1 }) }
         ensures sets { SetsHandle self.old self.new number None }
         ensures is_tree { IsTree (tree_of self.new.disk.state) }
@@ -259,8 +255,8 @@ impl World {
         did: Did,
         change: Option<Change>,
     ) -> Result<(), NoMemory>
-        requires { handle_at self.old number ≡ None }
-        ensures { OnOk result (Settles self.old self.new number (after_turn state (result_in work)) (outcome_of (result_in work)) did change) }
+        requires free { handle_at self.old number ≡ None }
+        ensures settles { OnOk result (Settles self.old self.new number (after_turn state (result_in work)) (outcome_of (result_in work)) did change) }
     {
         let (outcome, handle) = settled(state, work);
         match self.set(number, handle) {
@@ -313,7 +309,7 @@ impl World {
 
     /// Puts a handle under a number that has none, if there is one to put.
     fn set(&mut self, number: u32, handle: Option<Handle>) -> Result<(), NoMemory>
-        requires { handle_at self.old number ≡ None }
+        requires free { handle_at self.old number ≡ None }
         ensures sets { OnOk result (SetsHandle self.old self.new number handle) }
     {
         match handle {
@@ -349,7 +345,7 @@ impl World {
         folders: &PathList,
         replacements: &IdPairs,
     ) -> Result<Option<Why>, NoMemory>
-        ensures { IfOk result (λ why. why ≡ reasons.why_not_open (phase_of_handle (handle_at self.now number)) (is_openable path.now folders.now replacements.now)) }
+        ensures why { IfOk result (λ why. why ≡ reasons.why_not_open (phase_of_handle (handle_at self.now number)) (is_openable path.now folders.now replacements.now)) }
     {
         if let Some(why) = self.why_not_free(number) {
             return Ok(Some(why));
@@ -363,7 +359,7 @@ impl World {
 
     /// Why a number isn't free.
     fn why_not_free(&self, number: u32) -> Option<Why>
-        ensures { result ≡ reasons.why_not_open (phase_of_handle (handle_at self.now number)) true }
+        ensures why { result ≡ reasons.why_not_open (phase_of_handle (handle_at self.now number)) true }
     {
         match self.handles.get(&number) {
             None => None,
@@ -373,7 +369,7 @@ impl World {
 
     /// Why a step that needs an idle handle isn't valid.
     fn why_not_idle(&self, number: u32) -> Option<Why>
-        ensures { result ≡ reasons.why_not_idle (phase_of_handle (handle_at self.now number)) }
+        ensures why { result ≡ reasons.why_not_idle (phase_of_handle (handle_at self.now number)) }
     {
         let Some(handle) = self.handles.get(&number) else {
             return Some(Why::NoHandle);
@@ -386,7 +382,7 @@ impl World {
 
     /// Why a turn isn't valid.
     fn why_not_running(&self, number: u32) -> Option<Why>
-        ensures { result ≡ reasons.why_not_running (phase_of_handle (handle_at self.now number)) }
+        ensures why { result ≡ reasons.why_not_running (phase_of_handle (handle_at self.now number)) }
     {
         let Some(handle) = self.handles.get(&number) else {
             return Some(Why::NoHandle);

@@ -11,7 +11,7 @@ on_ok_both (Err error) both p q = tt
 
 pub returns : goal.returns
 returns c =
-    let same = last_is c.args.steps.now c.as_slice-made.result.now c.args.step c.index-made-made.result (c.as_slice-made.ensures ∙ c.in_ok-push.ensures.ok) c.index-made-made.is in
+    let same = last_is c.args.steps.now c.as_slice-made.result.now c.args.step c.index-made-made.result (c.as_slice-made.ensures.value ∙ c.in_ok-push.ensures.ok) c.index-made-made.is in
     record {
       makes = on_ok_both c.advance.result
           (λ noted continues. makes_one c.args.world.now c.advance.new.self c.args.steps.now c.push.new.self c.args.step c.in_ok-push.ensures.ok noted (subst (λ (step : Step). Continues c.args.world.now step c.advance.new.self) same continues))

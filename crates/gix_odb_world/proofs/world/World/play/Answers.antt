@@ -3,7 +3,7 @@ use Rattle.gix_odb_world.proofs.PlayLemmas.{has_played_none, has_played_more}
 use Rattle.gix_odb_world.proofs.world.World.play.Goals as goal
 
 pub loop-line-init : goal.loop-line-init
-loop-line-init c = has_played_none c.args.disk c.new-world.result c.new-steps.result c.new-last.result c.new-steps.ensures c.new-last.ensures c.new-world.ensures.explained
+loop-line-init c = has_played_none c.args.disk c.new-world.result c.new-steps.result c.new-last.result c.new-steps.ensures.empty c.new-last.ensures.empty c.new-world.ensures.explained
 
 pub loop-line-preserved : goal.loop-line-preserved
 loop-line-preserved c =

@@ -1,6 +1,6 @@
 //! Opening a store: its options, and why an opening was refused.
 ghost use Rattle.std.specs.Prelude.{◌≡◌};
-ghost use Rattle.gix_odb_world.specs.Event.{given_slots};
+ghost use Rattle.gix_odb.specs.OpenOrder.{given_slots};
 
 use thiserror::Error;
 
@@ -12,8 +12,8 @@ pub enum Slots {
 
 impl Slots {
     /// How many slots those are.
-    pub(crate) fn count(self) -> u16
-        ensures { result ≡ given_slots self }
+    pub fn count(self) -> u16
+        ensures counted { result ≡ given_slots self }
     {
         match self {
             Slots::Given(slots) => slots,

@@ -15,19 +15,19 @@ use Rattle.gix_odb_loose.specs.declared.call.LooseReply.TheVariants as loose_rep
 use Rattle.gix_odb_loose.specs.declared.find.Error.{Error}
 use Rattle.gix_odb_loose.specs.declared.find.Error.TheVariants as errors
 use Rattle.gix_odb_loose.specs.declared.store.Store as loose
-use Rattle.gix_odb_world.specs.declared.query.Query.{Query}
-use Rattle.gix_odb_world.specs.declared.query.Query.TheVariants.{Find, Header, Test}
-use Rattle.gix_odb_world.specs.declared.call.CallError.TheVariants as call_errors
-use Rattle.gix_odb_world.specs.declared.call.Reply.{Reply}
-use Rattle.gix_odb_world.specs.declared.call.Reply.TheVariants as replies
-use Rattle.gix_odb_world.specs.declared.look_state.LookState.{LookState}
-use Rattle.gix_odb_world.specs.declared.look_state.Head.{Head}
-use Rattle.gix_odb_world.specs.declared.look_state.Lead.{Lead}
-use Rattle.gix_odb_world.specs.declared.look_state.Lead.TheVariants as leads
-use Rattle.gix_odb_world.specs.declared.look_state.Stage.{Stage}
-use Rattle.gix_odb_world.specs.declared.look_state.Stage.TheVariants as stages
-use Rattle.gix_odb_world.specs.declared.find.Error.TheVariants as find_errors
-use Rattle.gix_odb_world.specs.declared.find.Header.TheVariants as headers
+use Rattle.gix_odb.specs.declared.query.Query.{Query}
+use Rattle.gix_odb.specs.declared.query.Query.TheVariants.{Find, Header, Test}
+use Rattle.gix_odb.specs.declared.call.CallError.TheVariants as call_errors
+use Rattle.gix_odb.specs.declared.call.Reply.{Reply}
+use Rattle.gix_odb.specs.declared.call.Reply.TheVariants as replies
+use Rattle.gix_odb.specs.declared.look_state.LookState.{LookState}
+use Rattle.gix_odb.specs.declared.look_state.Head.{Head}
+use Rattle.gix_odb.specs.declared.look_state.Lead.{Lead}
+use Rattle.gix_odb.specs.declared.look_state.Lead.TheVariants as leads
+use Rattle.gix_odb.specs.declared.look_state.Stage.{Stage}
+use Rattle.gix_odb.specs.declared.look_state.Stage.TheVariants as stages
+use Rattle.gix_odb.specs.declared.find.Error.TheVariants as find_errors
+use Rattle.gix_odb.specs.declared.find.Header.TheVariants as headers
 
 -- ---- what one folder is asked
 

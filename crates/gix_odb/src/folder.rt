@@ -9,7 +9,7 @@ use std::alloc::Global;
 
 /// The folder's call after the answer to its call of the disk.
 pub fn fed(call: LooseCall, alloc: Global, answer: DiskAnswer) -> Result<LooseCall, NoMemory>
-    ensures { IfOk result (λ next. next ≡ loose_order.fed call answer) }
+    ensures fed { IfOk result (λ next. next ≡ loose_order.fed call answer) }
 {
     let mut call = call;
     match call.feed(alloc, answer) {

@@ -2,22 +2,17 @@
 use Rattle.std.specs.Prelude.{◌≡◌, ℕ, Bool, true, false, List, ◌∷◌, Option, Some, None, Ok}
 use Rattle.std.specs.Map.{lookup}
 use Rattle.std.specs.Ordering.{eq_by_cmp}
-use Rattle.std.specs.declared.cmp.Ordering.{Ordering}
 use Rattle.odb_base.specs.Path.{Path}
 use Rattle.odb_tree.specs.Tree.{Tree}
 use Rattle.odb_tree.specs.Tree.Follow.{read_of}
-use Rattle.gix_hash.specs.contracts.object_id.ObjectIdOrd.TheImpl as id_order
 use Rattle.gix_hash.specs.declared.object_id.ObjectId.{ObjectId}
+use Rattle.gix_hash.specs.ObjectId.{id_cmp}
 use Rattle.gix_object.specs.declared.kind.Kind.{Kind}
 use Rattle.gix_odb_loose.specs.LooseFile.{loose_path, HoldsObject, HoldsHeader}
-use Rattle.gix_odb_world.specs.declared.query.Query.{Query}
-use Rattle.gix_odb_world.specs.declared.query.Query.TheVariants.{Find, Header, Test}
-use Rattle.gix_odb_world.specs.declared.find.Header as headers
-use Rattle.gix_odb_world.specs.declared.find.Header.TheVariants.{Loose}
-
--- the order of ids
-abbrev pub id_cmp : ObjectId → ObjectId → Ordering
-id_cmp = (id_order.ghosts).cmp
+use Rattle.gix_odb.specs.declared.query.Query.{Query}
+use Rattle.gix_odb.specs.declared.query.Query.TheVariants.{Find, Header, Test}
+use Rattle.gix_odb.specs.declared.find.Header as headers
+use Rattle.gix_odb.specs.declared.find.Header.TheVariants.{Loose}
 
 -- what a store is, for what it holds: its objects directory, its other folders, the ids that others replace, and
 -- the limit on found objects

@@ -13,7 +13,7 @@ pub type IdPairs = Sequence<(ObjectId, ObjectId)>;
 
 /// A copy of a list of paths.
 pub fn copy_of_paths(alloc: Global, paths: &PathList) -> Result<PathList, NoMemory>
-    ensures { IfOk result (λ copy. copy ≡ paths.now) }
+    ensures copied { IfOk result (λ copy. copy ≡ paths.now) }
 {
     let mut copy = PathList::new(alloc);
     for path in paths.as_slice() {
@@ -24,7 +24,7 @@ pub fn copy_of_paths(alloc: Global, paths: &PathList) -> Result<PathList, NoMemo
 
 /// A copy of a list of pairs of ids.
 pub fn copy_of_pairs(alloc: Global, pairs: &IdPairs) -> Result<IdPairs, NoMemory>
-    ensures { IfOk result (λ copy. copy ≡ pairs.now) }
+    ensures copied { IfOk result (λ copy. copy ≡ pairs.now) }
 {
     let mut copy = IdPairs::new(alloc);
     for pair in pairs.as_slice() {

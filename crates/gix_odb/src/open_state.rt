@@ -1,10 +1,10 @@
 //! The order of work of an opening.
 ghost use Rattle.std.specs.Prelude.{◌≡◌, true, IfOk};
-ghost use Rattle.gix_odb_world.specs.OpenOrder.{ask_of, opened, opening_reply};
-ghost use Rattle.gix_odb_world.specs.OpenOrder.{fed as fed_with};
+ghost use Rattle.gix_odb.specs.OpenOrder.{ask_of, opened, opening_reply};
+ghost use Rattle.gix_odb.specs.OpenOrder.{fed as fed_with};
 
 use crate::call::{CallError, Reply};
-use crate::handle::HandleState;
+use crate::handle_state::HandleState;
 use crate::init;
 use odb_base::NoMemory;
 use odb_disk::{DiskAnswer, DiskAsk, DiskError, Kind};
@@ -24,7 +24,7 @@ pub enum OpenState {
 impl OpenState {
     /// The call of the disk that comes next; there is none where the opening is done.
     pub fn disk_ask(&self, alloc: Global, handle: &HandleState) -> Result<Option<DiskAsk>, NoMemory>
-        ensures { IfOk result (λ ask. ask ≡ ask_of handle.now.objects self.now) }
+        ensures asked { IfOk result (λ ask. ask ≡ ask_of handle.now.objects self.now) }
     {
         match self {
             OpenState::Looking => Ok(Some(DiskAsk::Look {
@@ -37,7 +37,7 @@ impl OpenState {
 
     /// The opening after the answer to its call of the disk.
     pub fn feed(self, slots: u16, answer: &DiskAnswer) -> OpenState
-        ensures { result ≡ fed_with slots self answer.now }
+        ensures fed { result ≡ fed_with slots self answer.now }
     {
         match self {
             OpenState::Looking => OpenState::Done(reply_to_look(slots, answer)),
@@ -47,7 +47,7 @@ impl OpenState {
 }
 
 fn reply_to_look(slots: u16, answer: &DiskAnswer) -> Reply
-    ensures { result ≡ opening_reply slots answer.now }
+    ensures reply { result ≡ opening_reply slots answer.now }
 {
     let error = match answer {
         DiskAnswer::Meta(meta) => return open_as(slots, meta.kind),
@@ -58,7 +58,7 @@ fn reply_to_look(slots: u16, answer: &DiskAnswer) -> Reply
 }
 
 fn open_as(slots: u16, kind: Kind) -> Reply
-    ensures { result ≡ opened slots kind }
+    ensures opened { result ≡ opened slots kind }
 {
     let error = match kind {
         Kind::Dir if slots <= MAX_SLOTS => return Reply::Opened { slots },

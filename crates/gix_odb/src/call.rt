@@ -29,7 +29,7 @@ pub enum Call {
 impl Call {
     /// A copy of the call.
     pub fn try_clone(&self, alloc: Global) -> Result<Call, NoMemory>
-        ensures { IfOk result (λ copy. copy ≡ self.now) }
+        ensures copied { IfOk result (λ copy. copy ≡ self.now) }
     {
         match self {
             Call::Find(id) => Ok(Call::Find(*id)),
@@ -68,7 +68,7 @@ pub enum Reply {
 impl Reply {
     /// A copy of the reply.
     pub fn try_clone(&self, alloc: Global) -> Result<Reply, NoMemory>
-        ensures { IfOk result (λ copy. copy ≡ self.now) }
+        ensures copied { IfOk result (λ copy. copy ≡ self.now) }
     {
         match self {
             Reply::Opened { slots } => Ok(Reply::Opened { slots: *slots }),
@@ -99,7 +99,7 @@ pub enum CallError {
 impl CallError {
     /// A copy of the error.
     pub fn try_clone(&self, alloc: Global) -> Result<CallError, NoMemory>
-        ensures { IfOk result (λ copy. copy ≡ self.now) }
+        ensures copied { IfOk result (λ copy. copy ≡ self.now) }
     {
         match self {
             CallError::Open(error) => Ok(CallError::Open(*error)),

@@ -1,13 +1,13 @@
 //! The order of work of a call on a handle: an object is looked for, or written.
 ghost use Rattle.std.specs.Prelude.{◌≡◌, ◌<◌, ◌^◌, IfOk};
 ghost use Rattle.gix_odb_loose.specs.LooseOrder as loose_order;
-ghost use Rattle.gix_odb_world.specs.LookOrder as looks;
-ghost use Rattle.gix_odb_world.specs.CallOrder.{HasSize, after_write, ask_of, hash_to_write, result_of, started, writing, wrote_as};
-ghost use Rattle.gix_odb_world.specs.CallOrder.{fed as fed_with};
-ghost use Rattle.gix_odb_world.specs.Handle.{sought_by};
+ghost use Rattle.gix_odb.specs.LookOrder as looks;
+ghost use Rattle.gix_odb.specs.CallOrder.{HasSize, after_write, ask_of, hash_to_write, result_of, started, writing, wrote_as};
+ghost use Rattle.gix_odb.specs.CallOrder.{fed as fed_with};
+ghost use Rattle.gix_odb.specs.HandleState.{sought_by};
 
 use crate::call::{Call, CallError, Reply};
-use crate::handle::HandleState;
+use crate::handle_state::HandleState;
 use crate::look_state::LookState;
 use crate::query::Query;
 use crate::{folder, write};
@@ -54,14 +54,14 @@ impl Model for WriteState {
 
 impl WriteState {
     fn disk_ask(&self, alloc: Global) -> Result<Option<DiskAsk>, NoMemory>
-        ensures { IfOk result (λ ask. ask ≡ loose_order.disk_ask_of self.now) }
+        ensures asked { IfOk result (λ ask. ask ≡ loose_order.disk_ask_of self.now) }
     {
         self.folder.disk_ask(alloc)
     }
 
     // The write after the answer to its call of the disk.
     fn feed(self, alloc: Global, answer: DiskAnswer) -> Result<CallState, NoMemory>
-        ensures { IfOk result (λ state. state ≡ after_write (loose_order.fed self answer)) }
+        ensures fed { IfOk result (λ state. state ≡ after_write (loose_order.fed self answer)) }
     {
         let WriteState { folder } = self;
         Ok(after(folder::fed(folder, alloc, answer)?))
@@ -89,7 +89,7 @@ impl CallState {
 
     /// The call of the disk that comes next; there is none where the call is done.
     pub fn disk_ask(&self, alloc: Global) -> Result<Option<DiskAsk>, NoMemory>
-        ensures { IfOk result (λ ask. ask ≡ ask_of self.now) }
+        ensures asked { IfOk result (λ ask. ask ≡ ask_of self.now) }
     {
         match self {
             CallState::Looking(state) => state.disk_ask(alloc),
@@ -105,7 +105,7 @@ impl CallState {
         handle: &HandleState,
         answer: DiskAnswer,
     ) -> Result<CallState, NoMemory>
-        ensures { IfOk result (λ state. state ≡ fed_with handle.now.folders handle.now.alloc_limit_bytes self answer) }
+        ensures fed { IfOk result (λ state. state ≡ fed_with handle.now.folders handle.now.alloc_limit_bytes self answer) }
     {
         match self {
             CallState::Looking(state) => {
@@ -118,7 +118,7 @@ impl CallState {
 
     /// The reply of a call that is done, or the call that goes on.
     pub fn into_reply(self) -> Result<Reply, CallState>
-        ensures { result ≡ result_of self }
+        ensures replied { result ≡ result_of self }
     {
         match self {
             CallState::Looking(state) => match state.into_reply() {
@@ -132,7 +132,7 @@ impl CallState {
 }
 
 fn looking(alloc: Global, handle: &HandleState, query: Query) -> Result<CallState, NoMemory>
-    ensures { IfOk result (λ state. state ≡ CallState.Looking (looks.started handle.now.objects handle.now.alloc_limit_bytes query (sought_by handle.now query))) }
+    ensures begun { IfOk result (λ state. state ≡ CallState.Looking (looks.started handle.now.objects handle.now.alloc_limit_bytes query (sought_by handle.now query))) }
 {
     Ok(CallState::Looking(LookState::start(alloc, handle, query)?))
 }
@@ -166,7 +166,7 @@ fn begun(
 
 // The hash of an id that is known, and SHA-1 where none is.
 fn hash_of(id: Option<ObjectId>) -> gix_hash::Kind
-    ensures { result ≡ hash_to_write id }
+    ensures hash { result ≡ hash_to_write id }
 {
     match id {
         Some(id) => id.kind(),
@@ -176,8 +176,8 @@ fn hash_of(id: Option<ObjectId>) -> gix_hash::Kind
 
 // A write after it was fed an answer.
 fn after(folder: LooseCall) -> CallState
-    requires { loose_order.IsWriteStage folder.stage }
-    ensures { result ≡ after_write folder }
+    requires writes { loose_order.IsWriteStage folder.stage }
+    ensures after { result ≡ after_write folder }
 {
     if !folder.is_done() {
         return CallState::Writing(WriteState { folder });
@@ -189,8 +189,8 @@ fn after(folder: LooseCall) -> CallState
 }
 
 fn told(reply: LooseReply) -> Reply
-    requires { loose_order.IsWriteReply reply }
-    ensures { result ≡ wrote_as reply }
+    requires wrote { loose_order.IsWriteReply reply }
+    ensures told { result ≡ wrote_as reply }
 {
     match reply {
         LooseReply::Wrote(Ok(id)) => Reply::Wrote(id),

@@ -1,12 +1,12 @@
 //! The order of work of a query on a handle: the loose objects of each folder of the store, one after another.
 ghost use Rattle.std.specs.Prelude.{◌≡◌, slice_get, None, IfOk};
 ghost use Rattle.gix_odb_loose.specs.LooseOrder as loose_order;
-ghost use Rattle.gix_odb_world.specs.Handle.{sought_by};
-ghost use Rattle.gix_odb_world.specs.LookOrder.{ask_of, asking, at_next, started};
-ghost use Rattle.gix_odb_world.specs.LookOrder.{fed as fed_with, first_of, job_of as loose_job, led as led_to, led_by as leads_to, next_stage as stage_after};
+ghost use Rattle.gix_odb.specs.HandleState.{sought_by};
+ghost use Rattle.gix_odb.specs.LookOrder.{ask_of, asking, at_next, started};
+ghost use Rattle.gix_odb.specs.LookOrder.{fed as fed_with, first_of, job_of as loose_job, led as led_to, led_by as leads_to, next_stage as stage_after};
 
 use crate::call::{CallError, Reply};
-use crate::handle::HandleState;
+use crate::handle_state::HandleState;
 use crate::query::Query;
 use crate::{find, folder};
 use gix_hash::ObjectId;
@@ -80,7 +80,7 @@ pub enum Lead {
 impl LookState {
     /// A new call. It asks nothing of the disk yet.
     pub fn start(alloc: Global, handle: &HandleState, query: Query) -> Result<LookState, NoMemory>
-        ensures { IfOk result (λ state. state ≡ started handle.now.objects handle.now.alloc_limit_bytes query (sought_by handle.now query)) }
+        ensures begun { IfOk result (λ state. state ≡ started handle.now.objects handle.now.alloc_limit_bytes query (sought_by handle.now query)) }
     {
         let id = handle.sought(query);
         let head = Head { query, id };
@@ -95,7 +95,7 @@ impl LookState {
 
     /// The call of the disk that comes next; there is none where the call is done.
     pub fn disk_ask(&self, alloc: Global) -> Result<Option<DiskAsk>, NoMemory>
-        ensures { IfOk result (λ ask. ask ≡ ask_of self.now) }
+        ensures asked { IfOk result (λ ask. ask ≡ ask_of self.now) }
     {
         match &self.stage {
             Stage::Loose { folder, .. } => folder.call.disk_ask(alloc),
@@ -110,7 +110,7 @@ impl LookState {
         handle: &HandleState,
         answer: DiskAnswer,
     ) -> Result<LookState, NoMemory>
-        ensures { IfOk result (λ state. state ≡ fed_with handle.now.folders handle.now.alloc_limit_bytes self answer) }
+        ensures fed { IfOk result (λ state. state ≡ fed_with handle.now.folders handle.now.alloc_limit_bytes self answer) }
     {
         let LookState { head, stage } = self;
         let stage = head.next_stage(alloc, handle, stage, answer)?;
@@ -119,7 +119,7 @@ impl LookState {
 
     /// The reply of a call that is done, or the call that goes on.
     pub fn into_reply(self) -> Result<Reply, LookState>
-        ensures { result ≡ Rattle.gix_odb_world.specs.LookOrder.result_of self }
+        ensures replied { result ≡ Rattle.gix_odb.specs.LookOrder.result_of self }
     {
         let LookState { head, stage } = self;
         match stage {
@@ -148,7 +148,7 @@ impl Head {
         folder: &PathText,
         limit: Option<u64>,
     ) -> Result<FolderLook, NoMemory>
-        ensures { IfOk result (λ look. look ≡ asking limit self.query self.id folder.now) }
+        ensures asking { IfOk result (λ look. look ≡ asking limit self.query self.id folder.now) }
     {
         let options = gix_odb_loose::Options {
             alloc_limit_bytes: limit,
@@ -166,7 +166,7 @@ impl Head {
         stage: Stage,
         answer: DiskAnswer,
     ) -> Result<Stage, NoMemory>
-        ensures { IfOk result (λ next. next ≡ stage_after handle.now.folders handle.now.alloc_limit_bytes self stage answer) }
+        ensures next { IfOk result (λ next. next ≡ stage_after handle.now.folders handle.now.alloc_limit_bytes self stage answer) }
     {
         match stage {
             Stage::Loose {
@@ -188,7 +188,7 @@ impl Head {
         folder: FolderLook,
         answer: DiskAnswer,
     ) -> Result<Stage, NoMemory>
-        ensures { IfOk result (λ stage. stage ≡ Rattle.gix_odb_world.specs.LookOrder.after_folder handle.now.folders handle.now.alloc_limit_bytes self next noted (loose_order.fed folder answer)) }
+        ensures fed { IfOk result (λ stage. stage ≡ Rattle.gix_odb.specs.LookOrder.after_folder handle.now.folders handle.now.alloc_limit_bytes self next noted (loose_order.fed folder answer)) }
     {
         let FolderLook { call } = folder;
         let call = folder::fed(call, alloc, answer)?;
@@ -204,8 +204,8 @@ impl Head {
         noted: Option<gix_odb_loose::find::Error>,
         call: LooseCall,
     ) -> Result<Stage, NoMemory>
-        requires { ¬ (loose_order.IsWriteStage call.stage) }
-        ensures { IfOk result (λ stage. stage ≡ Rattle.gix_odb_world.specs.LookOrder.after_folder handle.now.folders handle.now.alloc_limit_bytes self next noted call) }
+        requires finds { ¬ (loose_order.IsWriteStage call.stage) }
+        ensures after { IfOk result (λ stage. stage ≡ Rattle.gix_odb.specs.LookOrder.after_folder handle.now.folders handle.now.alloc_limit_bytes self next noted call) }
     {
         if !call.is_done() {
             let folder = FolderLook { call };
@@ -230,7 +230,7 @@ impl Head {
         noted: Option<gix_odb_loose::find::Error>,
         lead: Lead,
     ) -> Result<Stage, NoMemory>
-        ensures { IfOk result (λ stage. stage ≡ led_to handle.now.folders handle.now.alloc_limit_bytes self next noted lead) }
+        ensures led { IfOk result (λ stage. stage ≡ led_to handle.now.folders handle.now.alloc_limit_bytes self next noted lead) }
     {
         match lead {
             Lead::Ends(reply) => Ok(Stage::Done(reply)),
@@ -247,7 +247,7 @@ impl Head {
         next: usize,
         noted: Option<gix_odb_loose::find::Error>,
     ) -> Result<Stage, NoMemory>
-        ensures { IfOk result (λ stage. stage ≡ at_next handle.now.alloc_limit_bytes self next noted (slice_get handle.now.folders next)) }
+        ensures next { IfOk result (λ stage. stage ≡ at_next handle.now.alloc_limit_bytes self next noted (slice_get handle.now.folders next)) }
     {
         let folders = handle.folders.as_slice();
         if next < folders.len() {
@@ -265,7 +265,7 @@ impl Head {
 }
 
 fn job_of(query: Query, id: ObjectId) -> LooseJob
-    ensures { result ≡ loose_job query id }
+    ensures job { result ≡ loose_job query id }
 {
     match query {
         Query::Find(_) => LooseJob::Find(id),
@@ -275,8 +275,8 @@ fn job_of(query: Query, id: ObjectId) -> LooseJob
 }
 
 fn led_by(reply: LooseReply) -> Lead
-    requires { ¬ (loose_order.IsWriteReply reply) }
-    ensures { result ≡ leads_to reply }
+    requires finds { ¬ (loose_order.IsWriteReply reply) }
+    ensures leads { result ≡ leads_to reply }
 {
     match reply {
         LooseReply::Contains(answer) => tested(answer),
@@ -294,7 +294,7 @@ fn led_by(reply: LooseReply) -> Lead
 
 // A look that failed is noted, so that another folder may still answer.
 fn tested(answer: Result<bool, gix_odb_loose::find::Error>) -> Lead
-    ensures { result ≡ Rattle.gix_odb_world.specs.LookOrder.tested_leads answer }
+    ensures leads { result ≡ Rattle.gix_odb.specs.LookOrder.tested_leads answer }
 {
     match answer {
         Ok(true) => Lead::Ends(Reply::Tested(true)),
@@ -310,7 +310,7 @@ fn first_error(
     noted: Option<gix_odb_loose::find::Error>,
     error: gix_odb_loose::find::Error,
 ) -> Option<gix_odb_loose::find::Error>
-    ensures { result ≡ first_of noted error }
+    ensures first { result ≡ first_of noted error }
 {
     match noted {
         Some(first) => Some(first),
@@ -319,14 +319,14 @@ fn first_error(
 }
 
 fn refused(error: gix_odb_loose::find::Error) -> Reply
-    ensures { result ≡ Rattle.gix_odb_world.specs.LookOrder.refused error }
+    ensures refused { result ≡ Rattle.gix_odb.specs.LookOrder.refused error }
 {
     Reply::Refused(CallError::Find(find::Error::Loose(error)))
 }
 
 // The reply where no folder answered.
 fn ended(query: Query, noted: Option<gix_odb_loose::find::Error>) -> Reply
-    ensures { result ≡ Rattle.gix_odb_world.specs.LookOrder.ended query noted }
+    ensures ended { result ≡ Rattle.gix_odb.specs.LookOrder.ended query noted }
 {
     match (noted, query) {
         (Some(error), _) => refused(error),

@@ -3,8 +3,8 @@ use Rattle.std.specs.Prelude.{ℕ, ◌≤◌, Contains}
 use Rattle.odb_base.specs.Path.{Path}
 use Rattle.odb_tree.specs.Tree.{Tree}
 use Rattle.gix_hash.specs.declared.object_id.ObjectId.{ObjectId}
-use Rattle.gix_odb_world.specs.declared.query.Query.{Query}
-use Rattle.gix_odb_world.specs.Contents.{StoreData, folder_list, Contents, Answer, Shows, Holds, IsSound}
+use Rattle.gix_odb.specs.declared.query.Query.{Query}
+use Rattle.gix_odb.specs.Contents.{StoreData, folder_list, Contents, Answer, Shows, Holds, IsSound}
 
 -- In one folder, at some moment from `begun` to `now`, contents were shown for the sought id that hold the answer.
 pub record Held (trees : ℕ → Tree) (store : StoreData) (begun now : ℕ) (call : Query) (id : ObjectId) (answer : Answer) : Type 0 where

@@ -26,7 +26,7 @@ pub enum Error {
 impl Error {
     /// A copy of the error.
     pub fn try_clone(&self, alloc: Global) -> Result<Error, NoMemory>
-        ensures { IfOk result (λ copy. copy ≡ self.now) }
+        ensures copied { IfOk result (λ copy. copy ≡ self.now) }
     {
         match self {
             Error::Loose(error) => Ok(Error::Loose(error.try_clone(alloc)?)),

@@ -1,0 +1,20 @@
+-- What a handle of the code seeks for a query.
+use Rattle.std.specs.Prelude.{Option}
+use Rattle.std.specs.BTreeMap.{get}
+use Rattle.gix_hash.specs.declared.object_id.ObjectId.{ObjectId}
+use Rattle.gix_hash.specs.ObjectId.{id_cmp}
+use Rattle.gix_odb.specs.Contents.{replaced, sought_with}
+use Rattle.gix_odb.specs.declared.handle_state.HandleState.{HandleState}
+use Rattle.gix_odb.specs.declared.query.Query.{Query}
+
+-- the id that replaces another
+abbrev pub replacement_of : HandleState → ObjectId → Option ObjectId
+replacement_of handle id = get id_cmp handle.replacements id
+
+-- the id that is sought in the place of another
+abbrev pub replaced_by : HandleState → ObjectId → ObjectId
+replaced_by handle id = replaced (replacement_of handle) handle.ignore_replacements id
+
+-- the id that a call seeks
+abbrev pub sought_by : HandleState → Query → ObjectId
+sought_by handle call = sought_with (replacement_of handle) handle.ignore_replacements call

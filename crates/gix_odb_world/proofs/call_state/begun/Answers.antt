@@ -1,6 +1,0 @@
-use Rattle.std.proofs.Common.{◌∙◌}
-use Rattle.gix_odb_world.proofs.StartLemmas.{start_fits}
-use Rattle.gix_odb_world.proofs.call_state.begun.Goals as goal
-
-pub start-requires : goal.start-requires
-start-requires c = start_fits c.args.kind c.args.size c.in_ok-bytes.bytes c.args.id _ (c.in_ok-store.ensures.hash ∙ c.hash_of.ensures)
