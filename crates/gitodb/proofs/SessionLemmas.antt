@@ -1,19 +1,22 @@
 -- Lemmas on statuses: what was read of a script is answered as the script, and what a delivery says of a status.
-use Rattle.std.proofs.Common.{◌≡◌, inl, inr, ℕ, ◌≤◌, List, [], ◌++◌, length, take, refl, sym, ap, ◌∙◌, subst, Option, Some, None}
+use Rattle.std.proofs.Common.{◌≡◌, inl, inr, ℕ, ◌≤◌, List, [], ◌++◌, length, sym, subst}
+use Rattle.std.specs.Prelude.{IfSome}
 use Rattle.std.proofs.lemmas.Bool.{cases_lt}
 use Rattle.odb_disk.specs.Source.{ReadsFile}
 use Rattle.gix_odb_world.specs.Headline.{Headline}
 use Rattle.gix_odb_world.specs.Play.{Plays, made_of}
-use Rattle.gitodb.specs.declared.command.Command.{Command}
 use Rattle.gitodb.specs.declared.command.Command.TheVariants.{World}
 use Rattle.gitodb.specs.declared.status.Status.{Status}
+use Rattle.gitodb.specs.declared.status.Status.TheVariants.{WriteFault}
 use Rattle.odb_script.specs.declared.reader.Ending.{Ending}
 use Rattle.odb_script.specs.declared.reader.Ending.TheVariants.{Whole, RefusedAt, NotBuiltAt}
 use Rattle.odb_script.specs.declared.reader.Script.TheVariants.{Faults}
 use Rattle.odb_script.specs.declared.item.Item.{Item}
 use Rattle.odb_script.specs.Script.{disk_of, lines_of, script_limit, reading_from}
 use Rattle.odb_script.proofs.LimitLemmas.{items_of-read, too-long-Whole}
-use Rattle.gitodb.specs.Session.{Session, Answers, AnswersWith, Writes, WritesForScript, Finished, ReadToEnd, ReadsIts, Ends, Delivers, status_of_ending}
+use Rattle.odb_program.specs.Session.{Delivers, Input}
+use Rattle.odb_program.proofs.SessionLaws.{ReadToEnd-short, ends_delivered, holds_of_source}
+use Rattle.gitodb.specs.Session.{Session, Answers, AnswersWith, Writes, WritesFor, Finishes, ReadsIts, Ends, status_of_ending}
 
 -- ---- what was read and what is written
 
@@ -31,45 +34,35 @@ Answers-front text rest written ending whole a =
     }
 
 -- what `world` writes for what it read, it writes for the script
-pub WritesForScript-read : (left left' : Option (List ℕ)) (text written : List ℕ) (status : Status) → ReadsFile script_limit left left' text → AnswersWith text written status → WritesForScript left written status
-WritesForScript-read None left' text written status reads answers = tt
-WritesForScript-read (Some script) left' text written status reads answers =
-    let P : List ℕ → Type 0 = λ s. AnswersWith s written status in
-    subst P (sym reads.1) (record { ending = answers.ending; answers = Answers-front text reads.0 written answers.ending reads.3 answers.answers; status_is = answers.status_is })
+written_for_script : (input : Input) (text written : List ℕ) (status : Status) → ReadsFile script_limit input.left input.left' text → AnswersWith text written status
+    → IfSome input.left (λ script. AnswersWith script written status)
+written_for_script input text written status reads answers =
+    holds_of_source script_limit input.left input.left' text (λ script. AnswersWith script written status) reads
+    (λ rest whole. record { ending = answers.ending; answers = Answers-front text rest written answers.ending whole answers.answers; status_is = answers.status_is })
 
--- a script that ended whole was read to its end
-ReadToEnd-whole : (left left' : Option (List ℕ)) (text written : List ℕ) → ReadsFile script_limit left left' text → Answers text written Whole → ReadToEnd left left'
-ReadToEnd-whole None left' text written reads answers = tt
-ReadToEnd-whole (Some script) left' text written reads answers =
-    elim (cases_lt script_limit (length text)) [
-      | inl long ↦ absurd (too-long-Whole text long answers.ends)
-      | inr short ↦ reads.2 ∙ ap Some (reads.3 short)
-    ]
+-- a script that ended whole is no longer than a script may be
+whole_is_short : (text written : List ℕ) → Answers text written Whole → length text ≤ script_limit
+whole_is_short text written answers = elim (cases_lt script_limit (length text)) [ inl long ↦ absurd (too-long-Whole text long answers.ends) | inr short ↦ short ]
 
 -- ---- what a delivery says of a status
 
 -- an output that was delivered ends with its status, or with a failed write
-pub Ends-delivered : (s : Session) (output : List ℕ) (status result : Status) → Writes s.help s.version s.command s.left output status → (Finished s status → Ends s status) → Delivers s.held s.held' s.sink_faults s.sink_faults' output status result → Ends s result
-Ends-delivered s output status result writes ends (inl whole) =
-    let P : Status → Type 0 = λ r. Ends s r in
-    subst P (sym whole.0) (ends (record { written = output; writes = writes; added = whole.1 }))
-Ends-delivered s output status result writes ends (inr failed) =
-    let P : Status → Type 0 = λ r. Ends s r in
-    subst P (sym failed.0) (failed.1, record { status = status; written = output; writes = writes; count = failed.2.0; added = failed.2.1 })
+pub Ends-delivered : (s : Session) (output : List ℕ) (status result : Status) → Writes s output status → (Finishes s status → Ends s status) → Delivers WriteFault s.output output status result → Ends s result
+Ends-delivered s output status result writes ends delivered =
+    ends_delivered (Ends s) (Writes s) WriteFault s.output output status result writes ends (λ failed. failed) delivered
 
 -- a script that was answered ends with the status of its ending
-ends-by : (s : Session) (text written : List ℕ) (ending : Ending) → s.command ≡ World → ReadsFile script_limit s.left s.left' text → Answers text written ending → Finished s (status_of_ending ending) → Ends s (status_of_ending ending)
-ends-by s text written Whole world reads answers finished =
-    let P : Command → Type 0 = λ c. ReadsIts c s.left s.left' in
-    (finished, subst P (sym world) (ReadToEnd-whole s.left s.left' text written reads answers))
-ends-by s text written (RefusedAt line) world reads answers finished = (world, finished)
-ends-by s text written (NotBuiltAt line) world reads answers finished = (world, finished)
+ends_by : (s : Session) (text written : List ℕ) (ending : Ending) → s.command ≡ World → ReadsFile script_limit s.input.left s.input.left' text → Answers text written ending → Finishes s (status_of_ending ending)
+    → Ends s (status_of_ending ending)
+ends_by s text written Whole world reads answers finished =
+    (finished, subst (λ c. ReadsIts c s.input) (sym world) (ReadToEnd-short script_limit s.input.left s.input.left' text reads (whole_is_short text written answers)))
+ends_by s text written (RefusedAt line) world reads answers finished = (world, finished)
+ends_by s text written (NotBuiltAt line) world reads answers finished = (world, finished)
 
-pub Ends-world : (s : Session) (text output : List ℕ) (status result : Status) → s.command ≡ World → ReadsFile script_limit s.left s.left' text → AnswersWith text output status → Delivers s.held s.held' s.sink_faults s.sink_faults' output status result → Ends s result
+pub Ends-world : (s : Session) (text output : List ℕ) (status result : Status) → s.command ≡ World → ReadsFile script_limit s.input.left s.input.left' text → AnswersWith text output status
+    → Delivers WriteFault s.output output status result → Ends s result
 Ends-world s text output status result world reads answers delivered =
-    let P : Command → Type 0 = λ c. Writes s.help s.version c s.left output status in
-    let E : Status → Type 0 = λ r. Finished s r → Ends s r in
     Ends-delivered s output status result
-    (subst P (sym world) (WritesForScript-read s.left s.left' text output status reads answers))
-    (subst E (sym answers.status_is) (ends-by s text output answers.ending world reads answers.answers))
+    (subst (λ c. WritesFor s.help s.version c s.input.left output status) (sym world) (written_for_script s.input text output status reads answers))
+    (subst (λ r. Finishes s r → Ends s r) (sym answers.status_is) (ends_by s text output answers.ending world reads answers.answers))
     delivered

@@ -10,18 +10,18 @@ use Rattle.gix_odb_world.specs.declared.step.Outcome.{Outcome}
 use Rattle.gix_odb_world.specs.declared.step.Outcome.TheVariants as comes
 use Rattle.gix_odb_world.specs.declared.step.Why.{Why}
 use Rattle.gix_odb_world.specs.declared.step.Why.TheVariants.{HandleTaken, BadOpen, NoHandle, NotRunning, Busy, ImpossibleChange}
-use Rattle.gix_odb_world.specs.declared.call.Reply.{Reply}
-use Rattle.gix_odb_world.specs.declared.call.Reply.TheVariants as replies
-use Rattle.gix_odb_world.specs.declared.call.CallError.{CallError}
-use Rattle.gix_odb_world.specs.declared.call.CallError.TheVariants as call_errors
-use Rattle.gix_odb_world.specs.declared.init.Error as opening
-use Rattle.gix_odb_world.specs.declared.init.Error.TheVariants as opening_errors
-use Rattle.gix_odb_world.specs.declared.find.Header.{Header}
-use Rattle.gix_odb_world.specs.declared.find.Header.TheVariants.{Loose}
-use Rattle.gix_odb_world.specs.declared.find.Error as finding
-use Rattle.gix_odb_world.specs.declared.find.Error.TheVariants as find_errors
-use Rattle.gix_odb_world.specs.declared.write.Error as writing
-use Rattle.gix_odb_world.specs.declared.write.Error.TheVariants as write_errors
+use Rattle.gix_odb.specs.declared.call.Reply.{Reply}
+use Rattle.gix_odb.specs.declared.call.Reply.TheVariants as replies
+use Rattle.gix_odb.specs.declared.call.CallError.{CallError}
+use Rattle.gix_odb.specs.declared.call.CallError.TheVariants as call_errors
+use Rattle.gix_odb.specs.declared.init.Error as opening
+use Rattle.gix_odb.specs.declared.init.Error.TheVariants as opening_errors
+use Rattle.gix_odb.specs.declared.find.Header.{Header}
+use Rattle.gix_odb.specs.declared.find.Header.TheVariants.{Loose}
+use Rattle.gix_odb.specs.declared.find.Error as finding
+use Rattle.gix_odb.specs.declared.find.Error.TheVariants as find_errors
+use Rattle.gix_odb.specs.declared.write.Error as writing
+use Rattle.gix_odb.specs.declared.write.Error.TheVariants as write_errors
 use Rattle.gix_odb_loose.specs.declared.write.Error as loose_write
 use Rattle.gix_odb_loose.specs.declared.write.Error.TheVariants as loose_write_errors
 use Rattle.gix_odb_loose.specs.declared.find.Error as loose
@@ -104,7 +104,7 @@ printed (comes.Misuse why) = codes "misuse " ++ why_text why
 -- the line of an outcome with its line feed, if there is one at the place
 abbrev pub line_of : Option Outcome → List ℕ
 line_of None = []
-line_of (Some outcome) = printed outcome ++ 10 ∷ []
+line_of (Some outcome) = printed outcome ++ codes "\n"
 
 -- a line for the outcome at each place
 unfoldable pub printed_at : List Outcome → List ℕ → List ℕ
@@ -113,5 +113,5 @@ printed_at outcomes places = flat_map (λ place. line_of (slice_get outcomes pla
 -- the text with which a script ends
 abbrev pub ending_text : Ending → List ℕ
 ending_text Whole = []
-ending_text (RefusedAt line) = codes "line " ++ decimal line ++ codes " refused" ++ 10 ∷ []
-ending_text (NotBuiltAt line) = codes "line " ++ decimal line ++ codes " not built" ++ 10 ∷ []
+ending_text (RefusedAt line) = codes "line " ++ decimal line ++ codes " refused" ++ codes "\n"
+ending_text (NotBuiltAt line) = codes "line " ++ decimal line ++ codes " not built" ++ codes "\n"

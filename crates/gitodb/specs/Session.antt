@@ -1,10 +1,11 @@
 -- What the program promises of each status, by its words, its source and its sink.
-use Rattle.std.specs.Prelude.{◌≡◌, ◌⊎◌, ℕ, List, [], ◌∷◌, ◌++◌, take, codes, Option, Some, None, if◌then◌else◌}
-use Rattle.odb_base.specs.Faults.{Rose}
+use Rattle.std.specs.Prelude.{◌≡◌, ℕ, List, [], ◌∷◌, ◌++◌, codes, Option, IfSome, if◌then◌else◌}
 use Rattle.odb_base.specs.Path.{same_name}
-use Rattle.odb_disk.specs.Source.{Adds}
+use Rattle.odb_disk.specs.MemDisk.{Volume}
+use Rattle.odb_program.specs.Session.{FailedRead, FailedWrite, Finished, Input, Output, ReadToEnd, Wrote}
 use Rattle.gix_odb_world.specs.Headline.{Headline}
 use Rattle.gix_odb_world.specs.Play.{Plays, made_of}
+use Rattle.gix_odb_world.specs.declared.play.Line.{Line}
 use Rattle.gix_odb_world.specs.declared.play.Play.{Play}
 use Rattle.gitodb.specs.declared.command.Command.{Command}
 use Rattle.gitodb.specs.declared.command.Command.TheVariants.{World, Help, Version, NotUnderstood}
@@ -24,6 +25,12 @@ command_of (word ∷ []) =
     else if same_name word (codes "--version") then Version
     else NotUnderstood
 command_of (word ∷ other ∷ words) = NotUnderstood
+
+-- a script makes this disk, plays these lines on it, and ends so
+pub record Says (script : List ℕ) (disk : Volume) (lines : List Line) (ending : Ending) : Type 0 where
+  pub disk_is : disk ≡ disk_of (reading_of script).script
+  pub lines_are : lines ≡ lines_of (reading_of script).script
+  pub ends : ending ≡ (reading_of script).ending
 
 -- What `world` writes for a script that ends so: line after line, the printed outcome of the last step of that
 -- line, from a run of the script's disk that meets the theorem of a world; and then the text of the ending.
@@ -46,67 +53,44 @@ pub record AnswersWith (script written : List ℕ) (status : Status) : Type 0 wh
   pub answers : Answers script written ending
   pub status_is : status ≡ status_of_ending ending
 
--- what a command writes with a status, where the source told its bytes
-abbrev pub WritesForScript : Option (List ℕ) → List ℕ → Status → Type 0
-WritesForScript None written status = Unit {0}
-WritesForScript (Some script) written status = AnswersWith script written status
-
-abbrev pub Writes : List ℕ → List ℕ → Command → Option (List ℕ) → List ℕ → Status → Type 0
-Writes help version World left written status = WritesForScript left written status
-Writes help version Help left written status = (status ≡ statuses.Done) × (written ≡ help)
-Writes help version Version left written status = (status ≡ statuses.Done) × (written ≡ version)
-Writes help version NotUnderstood left written status = (status ≡ statuses.NotUnderstood) × (written ≡ codes "words not understood\n")
-
--- What was there before and after a session: the bytes left in the source and held by the sink, where they tell
--- them, and their counts of faults; and the two texts that the program writes about itself.
+-- What was there before and after a session: the command, what was read and what was written; and the two texts that the
+-- program writes about itself.
 pub record Session : Type 0 where
   pub command : Command
-  pub left : Option (List ℕ)
-  pub left' : Option (List ℕ)
-  pub held : Option (List ℕ)
-  pub held' : Option (List ℕ)
-  pub source_faults : ℕ
-  pub source_faults' : ℕ
-  pub sink_faults : ℕ
-  pub sink_faults' : ℕ
+  pub input : Input
+  pub output : Output
   pub help : List ℕ
   pub version : List ℕ
 
--- the bytes written are a whole output of the command with that status
-pub record Finished (s : Session) (status : Status) : Type 0 where
-  pub written : List ℕ
-  pub writes : Writes s.help s.version s.command s.left written status
-  pub added : Adds s.held s.held' written
+-- what is written where the words are no command
+abbrev pub refusal : List ℕ
+refusal = codes "words not understood\n"
 
--- the bytes written are a front of an output of the command
-pub record CutOff (s : Session) : Type 0 where
-  pub status : Status
-  pub written : List ℕ
-  pub writes : Writes s.help s.version s.command s.left written status
-  pub count : ℕ
-  pub added : Adds s.held s.held' (take count written)
+-- what a command writes with a status, by the bytes of the source, where it told them
+abbrev pub WritesFor : List ℕ → List ℕ → Command → Option (List ℕ) → List ℕ → Status → Type 0
+WritesFor help version World left written status = IfSome left (λ script. AnswersWith script written status)
+WritesFor help version Help left written status = (status ≡ statuses.Done) × (written ≡ help)
+WritesFor help version Version left written status = (status ≡ statuses.Done) × (written ≡ version)
+WritesFor help version NotUnderstood left written status = (status ≡ statuses.NotUnderstood) × (written ≡ refusal)
 
--- where the source tells its bytes, all of them were read
-abbrev pub ReadToEnd : Option (List ℕ) → Option (List ℕ) → Type 0
-ReadToEnd None now = Unit {0}
-ReadToEnd (Some left) now = now ≡ Some []
+abbrev pub Writes : Session → List ℕ → Status → Type 0
+Writes s written status = WritesFor s.help s.version s.command s.input.left written status
+
+-- a whole output was written with that status
+abbrev pub Finishes : Session → Status → Type 0
+Finishes s status = Finished (Writes s) s.output status
 
 -- only `world` reads its source
-abbrev pub ReadsIts : Command → Option (List ℕ) → Option (List ℕ) → Type 0
-ReadsIts World left left' = ReadToEnd left left'
-ReadsIts command left left' = Unit {0}
+abbrev pub ReadsIts : Command → Input → Type 0
+ReadsIts World input = ReadToEnd input.left input.left'
+ReadsIts command input = Unit {0}
 
 -- What each status says. Want of memory is the one status without a cause.
 abbrev pub Ends : Session → Status → Type 0
-Ends s statuses.Done = Finished s statuses.Done × ReadsIts s.command s.left s.left'
-Ends s statuses.NotUnderstood = (s.command ≡ NotUnderstood) × Finished s statuses.NotUnderstood
-Ends s statuses.Refused = (s.command ≡ World) × Finished s statuses.Refused
-Ends s statuses.ReadFault = (s.command ≡ World) × Rose s.source_faults s.source_faults' × Adds s.held s.held' []
-Ends s statuses.WriteFault = Rose s.sink_faults s.sink_faults' × CutOff s
-Ends s statuses.NoMemory = (s.command ≡ World) × Adds s.held s.held' []
-Ends s statuses.NotBuilt = (s.command ≡ World) × Finished s statuses.NotBuilt
-
--- An output was delivered: the sink took all of it, and the status is its own; or the sink failed, and took a front.
-abbrev pub Delivers : Option (List ℕ) → Option (List ℕ) → ℕ → ℕ → List ℕ → Status → Status → Type 0
-Delivers held held' faults faults' output status result =
-    ((result ≡ status) × Adds held held' output) ⊎ ((result ≡ statuses.WriteFault) × Rose faults faults' × ((count : ℕ) × Adds held held' (take count output)))
+Ends s statuses.Done = Finishes s statuses.Done × ReadsIts s.command s.input
+Ends s statuses.NotUnderstood = (s.command ≡ NotUnderstood) × Finishes s statuses.NotUnderstood
+Ends s statuses.Refused = (s.command ≡ World) × Finishes s statuses.Refused
+Ends s statuses.ReadFault = (s.command ≡ World) × FailedRead s.input s.output
+Ends s statuses.WriteFault = FailedWrite (Writes s) s.output
+Ends s statuses.NoMemory = (s.command ≡ World) × Wrote s.output []
+Ends s statuses.NotBuilt = (s.command ≡ World) × Finishes s statuses.NotBuilt

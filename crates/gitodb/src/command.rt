@@ -13,7 +13,7 @@ pub enum Command {
 
 /// The command that the words are.
 pub fn command_of(words: &[String]) -> Command
-    ensures { result ≡ command_of (map (λ word. string_bytes word) words.now) }
+    ensures command { result ≡ command_of (map (λ word. string_bytes word) words.now) }
 {
     let [word] = words else {
         return Command::NotUnderstood;

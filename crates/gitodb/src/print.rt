@@ -96,7 +96,7 @@ fn print_header(alloc: Global, out: &mut Vec<u8>, header: find::Header) -> Resul
 }
 
 fn yes_or_no(is_yes: bool) -> &'static [u8]
-    ensures { result.now ≡ yes_or_no is_yes }
+    ensures text { result.now ≡ yes_or_no is_yes }
 {
     if is_yes { b"yes" } else { b"no" }
 }
@@ -194,7 +194,7 @@ fn print_sizes(alloc: Global, out: &mut Vec<u8>, expected: u64, actual: u64) -> 
 }
 
 fn word_of(why: Why) -> &'static [u8]
-    ensures { result.now ≡ why_text why }
+    ensures text { result.now ≡ why_text why }
 {
     match why {
         Why::HandleTaken => b"handle-taken",

@@ -1,14 +1,16 @@
 //! The program as one call, over any source, sink and disk.
 ghost use Rattle.std.specs.Prelude.{◌≡◌, List, ℕ, map};
 ghost use Rattle.std.specs.String.{string_bytes};
-ghost use Rattle.gitodb.specs.Session.{Ends, Delivers, command_of};
+ghost use Rattle.odb_program.specs.Session.{input_of, output_of};
+ghost use Rattle.gitodb.specs.Session.{Ends, command_of};
 ghost use Rattle.gitodb.specs.declared.command.Command.TheVariants.{World as world_command};
 
 use crate::command::{Command, command_of};
 use crate::status::Status;
 use crate::world_command::answer_script;
 use odb_base::NoMemory;
-use odb_disk::{Disk, Failed, ReadError, Sink, Source, read_file, write_all};
+use odb_disk::{Disk, ReadError, Sink, Source, read_file};
+use odb_program::answer;
 use odb_script::SCRIPT_LIMIT;
 use std::alloc::Global;
 
@@ -59,6 +61,9 @@ status  0 done   1 words not understood   2 a line was refused   3 read fault
 /// What `--version` writes.
 pub const VERSION: &str = "gitodb 0.1.0\n";
 
+/// What is written where the words are no command.
+const REFUSAL: &[u8] = b"words not understood\n";
+
 /// Does what the words of the command line say, and answers the status.
 ///
 /// `world` reads a script from the source and runs it over a disk in memory; the disk that is handed in is left as it is.
@@ -72,14 +77,8 @@ pub fn run<R, S: Source, K: Sink, D: Disk>(
 ) -> Status
     ensures ends { Ends (record {
       command = command_of (map (λ word. string_bytes word) words.now);
-      left = S.left source.old;
-      left' = S.left source.new;
-      held = K.held sink.old;
-      held' = K.held sink.new;
-      source_faults = S.faults source.old;
-      source_faults' = S.faults source.new;
-      sink_faults = K.faults sink.old;
-      sink_faults' = K.faults sink.new;
+      input = input_of S.left S.faults source.old source.new;
+      output = output_of K.held K.faults sink.old sink.new;
       help = HELP.now;
       version = VERSION.now;
     }) result }
@@ -89,7 +88,7 @@ pub fn run<R, S: Source, K: Sink, D: Disk>(
         Command::World => world(alloc, source, sink),
         Command::Help => answer(sink, HELP.as_bytes(), Status::Done),
         Command::Version => answer(sink, VERSION.as_bytes(), Status::Done),
-        Command::NotUnderstood => answer(sink, b"words not understood\n", Status::NotUnderstood),
+        Command::NotUnderstood => answer(sink, REFUSAL, Status::NotUnderstood),
     }
 }
 
@@ -97,14 +96,8 @@ pub fn run<R, S: Source, K: Sink, D: Disk>(
 fn world<S: Source, K: Sink>(alloc: Global, source: &mut S, sink: &mut K) -> Status
     ensures ends { (help version : List ℕ) → Ends (record {
       command = world_command;
-      left = S.left source.old;
-      left' = S.left source.new;
-      held = K.held sink.old;
-      held' = K.held sink.new;
-      source_faults = S.faults source.old;
-      source_faults' = S.faults source.new;
-      sink_faults = K.faults sink.old;
-      sink_faults' = K.faults sink.new;
+      input = input_of S.left S.faults source.old source.new;
+      output = output_of K.held K.faults sink.old sink.new;
       help = help;
       version = version;
     }) result }
@@ -117,15 +110,5 @@ fn world<S: Source, K: Sink>(alloc: Global, source: &mut S, sink: &mut K) -> Sta
     match answer_script(alloc, &script) {
         Ok((output, status)) => answer(sink, &output, status),
         Err(NoMemory) => Status::NoMemory,
-    }
-}
-
-/// Writes an output, and answers its status unless the sink fails.
-fn answer<K: Sink>(sink: &mut K, output: &[u8], status: Status) -> Status
-    ensures delivered { Delivers (K.held sink.old) (K.held sink.new) (K.faults sink.old) (K.faults sink.new) output.now status result }
-{
-    match write_all(sink, output) {
-        Ok(()) => status,
-        Err(Failed) => Status::WriteFault,
     }
 }

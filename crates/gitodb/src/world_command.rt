@@ -4,8 +4,7 @@ ghost use Rattle.std.specs.Option.{option_copied};
 ghost use Rattle.gix_odb_world.specs.Headline.{Headline};
 ghost use Rattle.gix_odb_world.specs.Play.{Plays, made_of};
 ghost use Rattle.gitodb.specs.Print.{printed_at, ending_text, line_of};
-ghost use Rattle.odb_script.specs.Script.{reading_of, disk_of, lines_of};
-ghost use Rattle.gitodb.specs.Session.{Answers, AnswersWith, status_of_ending};
+ghost use Rattle.gitodb.specs.Session.{Answers, AnswersWith, Says, status_of_ending};
 
 use crate::print::{labelled, print_outcome, text};
 use crate::status::Status;
@@ -17,7 +16,7 @@ use std::alloc::Global;
 
 /// What is written for a script, and the status.
 pub fn answer_script(alloc: Global, script: &[u8]) -> Result<(Vec<u8>, Status), NoMemory>
-    ensures { IfOk result (λ answer. AnswersWith script.now answer.0.items answer.1) }
+    ensures answered { IfOk result (λ answer. AnswersWith script.now answer.0.items answer.1) }
 {
     let (disk, lines, ending) = read(alloc, script)?.into_parts(alloc)?;
     let out = answer_lines(alloc, disk, lines, ending)?;
@@ -31,7 +30,7 @@ fn answer_lines(
     lines: Sequence<Line>,
     ending: Ending,
 ) -> Result<Vec<u8>, NoMemory>
-    ensures { (script : List ℕ) → disk ≡ disk_of (reading_of script).script → lines ≡ lines_of (reading_of script).script → ending ≡ (reading_of script).ending → IfOk result (λ out. Answers script out.items ending) }
+    ensures answered { (script : List ℕ) → Says script disk lines ending → IfOk result (λ out. Answers script out.items ending) }
 {
     let play = played(alloc, disk, lines)?;
     printed(alloc, &play, ending)
@@ -47,7 +46,7 @@ fn played(alloc: Global, disk: MemDisk, lines: Sequence<Line>) -> Result<Play, N
 
 /// What is written for a play, and for the ending of its script.
 fn printed(alloc: Global, play: &Play, ending: Ending) -> Result<Vec<u8>, NoMemory>
-    ensures { IfOk result (λ out. out.items ≡ printed_at play.now.run.outcomes play.now.last ++ ending_text ending) }
+    ensures written { IfOk result (λ out. out.items ≡ printed_at play.now.run.outcomes play.now.last ++ ending_text ending) }
 {
     let mut out = Vec::new(alloc);
     print_places(alloc, &mut out, &play.run.outcomes, play.last.as_slice())?;
@@ -104,7 +103,7 @@ fn print_ending(alloc: Global, out: &mut Vec<u8>, ending: Ending) -> Result<(), 
 
 /// The status of a script that ends so.
 fn status_of(ending: Ending) -> Status
-    ensures { result ≡ status_of_ending ending }
+    ensures status { result ≡ status_of_ending ending }
 {
     match ending {
         Ending::Whole => Status::Done,

@@ -1,5 +1,4 @@
 mod AskedLemmas
 mod LinesLemmas
-mod FaultsLemmas
 mod WrittenLemmas
 mod SessionLemmas

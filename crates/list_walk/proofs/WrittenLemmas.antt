@@ -14,12 +14,12 @@ use Rattle.walkdir.specs.Options.{Built}
 use Rattle.walkdir.specs.OwnStreams.{AreBack}
 use Rattle.walkdir.specs.Progress.{FailsByFault, Keeps, Progress, Steps, begun}
 use Rattle.walkdir.specs.Walk.{Item, Order}
-use Rattle.list_walk.specs.Lines.{Delivers, EndsWritten, IsFront, IsWhole, Leaves, Gave, Output, is_error, is_want, line_of, lines_of, status_of}
+use Rattle.list_walk.specs.Lines.{TakesFront, EndsWritten, IsFront, IsWhole, Leaves, Gave, Listing, is_error, is_want, line_of, lines_of, status_of}
 use Rattle.list_walk.specs.declared.line.LineError.{LineError}
 use Rattle.list_walk.specs.declared.line.LineError.TheVariants as errors
 use Rattle.list_walk.specs.declared.status.Status.{Status}
 use Rattle.list_walk.specs.declared.status.Status.TheVariants as statuses
-use Rattle.list_walk.proofs.FaultsLemmas.{fails_cut, fails_end, fails_more, fails_none}
+use Rattle.walkdir.proofs.FailuresLaws.{fails_cut, fails_end, fails_more, fails_none}
 use Rattle.list_walk.proofs.LinesLemmas.{adds_both, adds_front, adds_nothing, any_more, lines_more, yields_more}
 
 -- What is written so far of a walk that has come to a place: its items, the text that is gathered, and the disk's counts of
@@ -29,7 +29,7 @@ pub record SoFar (state : Option State) (first at : Progress) (faults faults' : 
   pub gave : Gave state first items at
   pub memory : list_any is_want items ≡ false
   pub status_is : status ≡ status_of items
-  pub delivers : Delivers held held' (lines_of items) text
+  pub delivers : TakesFront held held' (lines_of items) text
   pub fails : FailsByFault first faults (failures_among items) at faults'
 
 pub begins : (state : Option State) (first : Progress) (faults : ℕ) (held : Option (List ℕ)) (text : List ℕ) → text ≡ [] → SoFar state first first faults faults held held text statuses.Done
@@ -60,7 +60,7 @@ status_more items item = by_cases (list_any is_error items) (is_error item) ∙ 
     by_cases false false = refl
 
 module _ (state : Option State) (first at : Progress) (x y z : ℕ) (held now next : Option (List ℕ)) (text : List ℕ) (status : Status) (so_far : SoFar state first at x y held now text status) where
-  delivered_more : (item : Item) (left : List ℕ) → Delivers now next (text ++ line_of item) left → Delivers held next (lines_of (so_far.items ++ item ∷ [])) left
+  delivered_more : (item : Item) (left : List ℕ) → TakesFront now next (text ++ line_of item) left → TakesFront held next (lines_of (so_far.items ++ item ∷ [])) left
   delivered_more item left given =
       let before = so_far.delivers in (
         before.0 ++ given.0,
@@ -69,7 +69,7 @@ module _ (state : Option State) (first at : Progress) (x y z : ℕ) (held now ne
       )
 
   pub more : (item : Item) (new : Progress) (left : List ℕ) (after : Status) → Steps state at (Some item) new → FailsByFault at y (failures_given (Some item)) new z → is_want item ≡ false
-      → Delivers now next (text ++ line_of item) left → after ≡ status_with (is_error item) status → SoFar state first new x z held next left after
+      → TakesFront now next (text ++ line_of item) left → after ≡ status_with (is_error item) status → SoFar state first new x z held next left after
   more item new left after step fails want given after_is = record {
     items = so_far.items ++ item ∷ [];
     gave = yields_more (Steps state) first so_far.items at item new so_far.gave step;
@@ -154,19 +154,19 @@ listing : (errors : Bool) (status : Status) → status ≡ cond errors statuses.
 listing true status is = inl is
 listing false status is = inr is
 
-pub ends_whole : (o : Output) (status : Status) → IsWhole o status → EndsWritten o (Ok status)
+pub ends_whole : (o : Listing) (status : Status) → IsWhole o status → EndsWritten o (Ok status)
 ends_whole o statuses.Done w = w
 ends_whole o statuses.SomeErrors w = w
 ends_whole o statuses.NoMemory w = absurd (elim (listing (list_any is_error w.items) statuses.NoMemory w.status_is) [ inl is ↦ cc is | inr is ↦ cc is ])
 ends_whole o statuses.NotUnderstood w = absurd (elim (listing (list_any is_error w.items) statuses.NotUnderstood w.status_is) [ inl is ↦ cc is | inr is ↦ cc is ])
 ends_whole o statuses.WriteFault w = absurd (elim (listing (list_any is_error w.items) statuses.WriteFault w.status_is) [ inl is ↦ cc is | inr is ↦ cc is ])
 
-pub ends_cut : (o : Output) (result : Result Status LineError) → IsErr result → IsFront o → EndsWritten o result
+pub ends_cut : (o : Listing) (result : Result Status LineError) → IsErr result → IsFront o → EndsWritten o result
 ends_cut o (Ok status) is_err front = absurd (IfOk-from_err {E = LineError} (Ok status) (λ _. ⊥) is_err)
 ends_cut o (Err error) is_err front = front
 
 -- what is gathered was written, or a front of it
-pub ends_by : (o : Output) (result : Result Status LineError) (status : Status) (Whole Part : Type 0) → IfOk result (λ answer. (answer ≡ status) × Whole) → OnErr result Part → (Whole → EndsWritten o (Ok status))
+pub ends_by : (o : Listing) (result : Result Status LineError) (status : Status) (Whole Part : Type 0) → IfOk result (λ answer. (answer ≡ status) × Whole) → OnErr result Part → (Whole → EndsWritten o (Ok status))
     → (Part → IsFront o) → EndsWritten o result
 ends_by o (Ok answer) status Whole Part ok err whole part = subst (λ s. EndsWritten o (Ok s)) (sym ok.0) (whole ok.1)
 ends_by o (Err error) status Whole Part ok err whole part = part err

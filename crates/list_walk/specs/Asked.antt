@@ -17,8 +17,15 @@ abbrev pub is_word : List ℕ → List ℕ → Bool
 is_word = pointwise nat_eq
 
 abbrev pub no_choices : Choices
-no_choices =
-    record { follow = false; sort = false; contents_first = false; same_file_system = false; max_open = None; min_depth = None; max_depth = None }
+no_choices = record {
+  follow = false;
+  sort = false;
+  contents_first = false;
+  same_file_system = false;
+  max_open = None;
+  min_depth = None;
+  max_depth = None;
+}
 
 -- ---- the choices with one option more, if there is such an option
 
@@ -52,7 +59,8 @@ unfoldable pub choices_of : Choices → List (List ℕ) → Option Choices
 choices_of choices [] = Some choices
 choices_of choices (word ∷ []) = chosen_or (with_option choices word) (λ more. choices_of more []) None
 choices_of choices (word ∷ next ∷ words) =
-    chosen_or (with_option choices word) (λ more. choices_of more (next ∷ words)) (chosen (λ more. choices_of more words) (with_count choices word (number_of next)))
+    chosen_or (with_option choices word) (λ more. choices_of more (next ∷ words))
+    (chosen (λ more. choices_of more words) (with_count choices word (number_of next)))
 
 abbrev pub asked_at : Option Path → Option Choices → Option Asked
 asked_at None choices = None
@@ -76,10 +84,18 @@ abbrev pub max_depth_by : Option ℕ → Options → Options
 max_depth_by None options = options
 max_depth_by (Some depth) options = record options { max_depth = max depth options.min_depth }
 
+-- the choices that stand alone
+abbrev pub flags_by : Choices → Options → Options
+flags_by choices options = record options {
+  follow_links = choices.follow;
+  contents_first = choices.contents_first;
+  same_file_system = choices.same_file_system;
+}
+
 -- the greatest depth gives way to the least
 abbrev pub chosen_by : Choices → Options → Options
 chosen_by choices options =
-    max_depth_by choices.max_depth (min_depth_by choices.min_depth (max_open_by choices.max_open (record options { follow_links = choices.follow; contents_first = choices.contents_first; same_file_system = choices.same_file_system })))
+    max_depth_by choices.max_depth (min_depth_by choices.min_depth (max_open_by choices.max_open (flags_by choices options)))
 
 abbrev pub options_of : Asked → Options
 options_of asked = chosen_by asked.choices default_options

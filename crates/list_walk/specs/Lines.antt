@@ -56,8 +56,8 @@ abbrev pub lines_of : List Item → List ℕ
 lines_of items = flat_map line_of items
 
 -- of some bytes the sink took a front, and these are left
-abbrev pub Delivers : Option (List ℕ) → Option (List ℕ) → List ℕ → List ℕ → Type 0
-Delivers held held' bytes left = (front : List ℕ) × (bytes ≡ front ++ left) × Adds held held' front
+abbrev pub TakesFront : Option (List ℕ) → Option (List ℕ) → List ℕ → List ℕ → Type 0
+TakesFront held held' bytes left = (front : List ℕ) × (bytes ≡ front ++ left) × Adds held held' front
 
 -- ---- their status
 
@@ -70,8 +70,9 @@ status_of items = if list_any is_error items then statuses.SomeErrors else statu
 
 -- ---- what is written of a walk
 
--- The state of the disk, the walk, and before and after the bytes held by the sink and the disk's count of faults.
-pub record Output : Type 0 where
+-- What is written of a walk: the state of the disk, the walk, and before and after the bytes held by the sink and the
+-- disk's count of faults.
+pub record Listing : Type 0 where
   pub state : Option State
   pub first : Progress
   pub held : Option (List ℕ)
@@ -81,7 +82,7 @@ pub record Output : Type 0 where
 
 -- The lines of all items of the walk, none of them want of memory, were written, and the status is theirs. Beside failures
 -- that waited before, there are no more among them than the disk's count of faults rose by.
-pub record IsWhole (o : Output) (status : Status) : Type 0 where
+pub record IsWhole (o : Listing) (status : Status) : Type 0 where
   pub items : List Item
   pub gave : GaveAll o.state o.first items
   pub memory : list_any is_want items ≡ false
@@ -91,7 +92,7 @@ pub record IsWhole (o : Output) (status : Status) : Type 0 where
 
 -- A front of the lines of items of the walk was written. Beside failures that waited before, there are no more among these
 -- items than the disk's count of faults rose by.
-pub record IsFront (o : Output) : Type 0 where
+pub record IsFront (o : Listing) : Type 0 where
   pub items : List Item
   pub gave : GaveSome o.state o.first items
   pub count : ℕ
@@ -99,7 +100,7 @@ pub record IsFront (o : Output) : Type 0 where
   pub fails : FailsByFault o.first o.disk_faults (failures_among items) gave.at o.disk_faults'
 
 -- the walk came to its end, or it was cut off
-abbrev pub EndsWritten : Output → Result Status LineError → Type 0
+abbrev pub EndsWritten : Listing → Result Status LineError → Type 0
 EndsWritten o (Ok statuses.Done) = IsWhole o statuses.Done
 EndsWritten o (Ok statuses.SomeErrors) = IsWhole o statuses.SomeErrors
 EndsWritten o (Ok statuses.NoMemory) = IsFront o

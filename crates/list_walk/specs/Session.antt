@@ -1,38 +1,41 @@
 -- What the program promises of each status, by its words, its disk and its sink.
-use Rattle.std.specs.Prelude.{◌≡◌, ◌⊎◌, ℕ, List, [], take, Option, Some, None, Result, Ok, Err, IfSome}
+use Rattle.std.specs.Prelude.{◌≡◌, ◌⊎◌, ℕ, List, [], Option, Some, None, Result, Ok, Err, IfSome}
 use Rattle.odb_base.specs.Faults.{Rose}
-use Rattle.odb_disk.specs.Source.{Adds}
 use Rattle.odb_disk.specs.Streams.{Streams}
+use Rattle.odb_program.specs.Session.{Output, Wrote, WroteFront}
 use Rattle.odb_tree.specs.Tree.{State, tree_of}
 use Rattle.walkdir.specs.Failures.{Costs, failures_among}
 use Rattle.walkdir.specs.OwnStreams.{AreBack}
 use Rattle.walkdir.specs.Walk.{IsWalk}
 use Rattle.list_walk.specs.Asked.{options_of, walk_of, walking_of}
-use Rattle.list_walk.specs.Lines.{IsFront, IsWhole, Output}
+use Rattle.list_walk.specs.Lines.{IsFront, IsWhole, Listing}
 use Rattle.list_walk.specs.declared.line.LineError.{LineError}
 use Rattle.list_walk.specs.declared.line.LineError.TheVariants as errors
 use Rattle.list_walk.specs.declared.words.Asked.{Asked}
 use Rattle.list_walk.specs.declared.status.Status.{Status}
 use Rattle.list_walk.specs.declared.status.Status.TheVariants as statuses
 
--- What was there before and after a session: what the words ask, the disk, where it tells, its counts of faults, the bytes
--- held by the sink, where it tells them, its counts of faults, and the text that is written where the words ask nothing.
+-- What was there before and after a session: what the words ask, the disk, where it tells, and its counts of faults, what
+-- was written, and the text that is written where the words ask nothing.
 pub record Session : Type 0 where
   pub asked : Option Asked
   pub state : Option State
   pub streams : Streams
   pub disk_faults : ℕ
   pub disk_faults' : ℕ
-  pub held : Option (List ℕ)
-  pub held' : Option (List ℕ)
-  pub faults : ℕ
-  pub faults' : ℕ
+  pub output : Output
   pub refusal : List ℕ
 
 -- what is written of the walk that is asked for
-abbrev pub output_of : Session → Asked → Output
-output_of s asked =
-    record { state = s.state; first = walk_of asked s.streams; held = s.held; held' = s.held'; disk_faults = s.disk_faults; disk_faults' = s.disk_faults' }
+abbrev pub listing_of : Session → Asked → Listing
+listing_of s asked = record {
+  state = s.state;
+  first = walk_of asked s.streams;
+  held = s.output.held;
+  held' = s.output.held';
+  disk_faults = s.disk_faults;
+  disk_faults' = s.disk_faults';
+}
 
 -- The lines of all items of the walk that is asked for were written, and the status is theirs. Where the disk tells its
 -- tree, they are the items of that tree's walk. On every disk the failures among them are no more than its count of
@@ -40,7 +43,7 @@ output_of s asked =
 pub record Listed (s : Session) (status : Status) : Type 0 where
   pub asked : Asked
   pub asks : s.asked ≡ Some asked
-  pub wrote : IsWhole (output_of s asked) status
+  pub wrote : IsWhole (listing_of s asked) status
   pub walks : IfSome s.state (λ state. IsWalk (walking_of asked (tree_of state)) wrote.items)
   pub costs : Costs (failures_among wrote.items) s.disk_faults s.disk_faults'
 
@@ -49,25 +52,24 @@ pub record Listed (s : Session) (status : Status) : Type 0 where
 pub record CutOff (s : Session) : Type 0 where
   pub asked : Asked
   pub asks : s.asked ≡ Some asked
-  pub wrote : IsFront (output_of s asked)
+  pub wrote : IsFront (listing_of s asked)
   pub costs : Costs (failures_among wrote.items) s.disk_faults s.disk_faults'
 
 -- the words ask nothing, and a front of the refusal was written
 pub record RefusalCutOff (s : Session) : Type 0 where
   pub none : s.asked ≡ None
-  pub count : ℕ
-  pub added : Adds s.held s.held' (take count s.refusal)
+  pub front : WroteFront s.output s.refusal
 
 -- nothing was written, or a front of the lines
 abbrev pub OutOfMemory : Session → Type 0
-OutOfMemory s = Adds s.held s.held' [] ⊎ CutOff s
+OutOfMemory s = Wrote s.output [] ⊎ CutOff s
 
 -- What each status says. Want of memory is the one status without a cause.
 abbrev pub Ends : Session → Status → Type 0
 Ends s statuses.Done = Listed s statuses.Done
 Ends s statuses.SomeErrors = Listed s statuses.SomeErrors
-Ends s statuses.NotUnderstood = (s.asked ≡ None) × Adds s.held s.held' s.refusal
-Ends s statuses.WriteFault = Rose s.faults s.faults' × (CutOff s ⊎ RefusalCutOff s)
+Ends s statuses.NotUnderstood = (s.asked ≡ None) × Wrote s.output s.refusal
+Ends s statuses.WriteFault = Rose s.output.faults s.output.faults' × (CutOff s ⊎ RefusalCutOff s)
 Ends s statuses.NoMemory = OutOfMemory s
 
 -- the status that a failed line comes to

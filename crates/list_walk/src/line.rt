@@ -6,7 +6,7 @@ use odb_disk::{Failed, Sink, write_all};
 use std::alloc::{AllocError, Global};
 use walkdir::DirEntry;
 
-/// How many bytes are gathered before they are written.
+/// How many bytes are gathered before they are written: 32 KiB, so that one call of the sink serves many lines.
 const PIECE: usize = 32_768;
 
 /// Lines on their way to a sink.
@@ -48,11 +48,11 @@ impl Lines {
     ghost use Rattle.std.specs.Prelude.{◌≡◌, ◌++◌, ◌≤◌, [], ℕ, take, string_bytes, OnOk, OnErr, IsErrOf};
     ghost use Rattle.odb_base.specs.Faults.{HasCause, Rose};
     ghost use Rattle.odb_disk.specs.Source.{Adds};
-    ghost use Rattle.list_walk.specs.Lines.{line_of, Delivers};
+    ghost use Rattle.list_walk.specs.Lines.{line_of, TakesFront};
 
     /// No lines, which take no memory.
     pub fn new(alloc: Global) -> Lines
-        ensures { string_bytes result.text ≡ [] }
+        ensures empty { string_bytes result.text ≡ [] }
     {
         Lines {
             text: String::new(alloc),
@@ -66,7 +66,7 @@ impl Lines {
         sink: &mut K,
         item: walkdir::Result<DirEntry>,
     ) -> Result<(), LineError>
-        ensures added { OnOk result (Delivers (K.held sink.old) (K.held sink.new) (string_bytes self.old.text ++ line_of item) (string_bytes self.new.text)) }
+        ensures added { OnOk result (TakesFront (K.held sink.old) (K.held sink.new) (string_bytes self.old.text ++ line_of item) (string_bytes self.new.text)) }
         ensures failed { IsErrOf result LineError.Failed → (count : ℕ) × Adds (K.held sink.old) (K.held sink.new) (take count (string_bytes self.old.text ++ line_of item)) }
         ensures lost { IsErrOf result LineError.NoMemory → Adds (K.held sink.old) (K.held sink.new) [] }
         ensures later { K.faults sink.old ≤ K.faults sink.new }
@@ -97,7 +97,7 @@ impl Lines {
 /// The line of an item: the path of an entry, or the text of an error.
 #[tactic(auto, unfolding(crate::specs::Lines::line_of))]
 fn line_of(alloc: Global, item: walkdir::Result<DirEntry>) -> Result<String, AllocError>
-    ensures { IfOk result (λ line. string_bytes line ≡ line_of item) }
+    ensures line { IfOk result (λ line. string_bytes line ≡ line_of item) }
 {
     match item {
         Ok(entry) => {

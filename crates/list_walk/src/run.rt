@@ -2,19 +2,22 @@
 ghost use Rattle.std.specs.Prelude.{◌≡◌, ℕ, List, Some, map, string_bytes, take, true, IfOk, OnErr, IsErrOf};
 ghost use Rattle.list_walk.specs.Asked.{asked_of, chosen_by, options_of, max_depth_by, max_open_by, min_depth_by};
 ghost use Rattle.list_walk.specs.Lines.{EndsWritten, Leaves, is_want};
-ghost use Rattle.list_walk.specs.Session.{Ends, EndsListed, StreamsBack};
+ghost use Rattle.list_walk.specs.Session.{Ends, EndsListed, StreamsBack, status_by};
 ghost use Rattle.odb_base.specs.Faults.{Rose};
 ghost use Rattle.odb_disk.specs.Source.{Adds};
+ghost use Rattle.odb_program.specs.Session.{output_of};
 ghost use Rattle.walkdir.specs.OwnStreams.{AreBack};
 ghost use Rattle.walkdir.specs.Progress.{begun, has_its_streams};
 
 use crate::line::{LineError, Lines};
 use crate::status::Status;
 use crate::words::{Asked, Choices, asked_by};
-use odb_disk::{Disk, NoMemory, Sink, write_all};
+use odb_disk::{Disk, NoMemory, Sink};
+use odb_program::answer;
 use std::alloc::Global;
 use walkdir::{DirEntry, OnDisk, Sorter, Steps, WalkDir};
 
+/// What is written where the words ask nothing.
 const NOT_UNDERSTOOD: &str = "words not understood\n";
 
 /// Walks as the words ask, and writes a line for each item.
@@ -27,26 +30,27 @@ pub fn run<K: Sink, D: Disk>(alloc: Global, words: &[String], sink: &mut K, disk
       streams = D.streams disk.old;
       disk_faults = D.faults disk.old;
       disk_faults' = D.faults disk.new;
-      held = K.held sink.old;
-      held' = K.held sink.new;
-      faults = K.faults sink.old;
-      faults' = K.faults sink.new;
+      output = output_of K.held K.faults sink.old sink.new;
       refusal = NOT_UNDERSTOOD.now;
     }) result }
     ensures state { D.state disk.new ≡ D.state disk.old }
     ensures back { StreamsBack (asked_of (map (λ word. string_bytes word) words.now)) (D.streams disk.old) (D.streams disk.new) }
 {
     match asked_by(alloc, words) {
-        Ok(Some(asked)) => match listed(alloc, asked, sink, disk) {
-            Ok(status) => status,
-            Err(LineError::Failed) => Status::WriteFault,
-            Err(LineError::NoMemory) => Status::NoMemory,
-        },
-        Ok(None) => match write_all(sink, NOT_UNDERSTOOD.as_bytes()) {
-            Ok(()) => Status::NotUnderstood,
-            Err(_) => Status::WriteFault,
-        },
+        Ok(Some(asked)) => status_by(listed(alloc, asked, sink, disk)),
+        Ok(None) => answer(sink, NOT_UNDERSTOOD.as_bytes(), Status::NotUnderstood),
         Err(NoMemory) => Status::NoMemory,
+    }
+}
+
+/// The status that the writing of lines comes to.
+fn status_by(listed: Result<Status, LineError>) -> Status
+    ensures status { result ≡ status_by listed }
+{
+    match listed {
+        Ok(status) => status,
+        Err(LineError::Failed) => Status::WriteFault,
+        Err(LineError::NoMemory) => Status::NoMemory,
     }
 }
 
@@ -63,10 +67,7 @@ fn listed<K: Sink, D: Disk>(
       streams = D.streams disk.old;
       disk_faults = D.faults disk.old;
       disk_faults' = D.faults disk.new;
-      held = K.held sink.old;
-      held' = K.held sink.new;
-      faults = K.faults sink.old;
-      faults' = K.faults sink.new;
+      output = output_of K.held K.faults sink.old sink.new;
       refusal = refusal;
     }) result }
     ensures state { D.state disk.new ≡ D.state disk.old }
@@ -108,7 +109,7 @@ fn walked<S: Sorter + Drop, K: Sink, D: Disk>(
 
 /// A walk with these choices.
 fn chosen<S: Drop>(walk: WalkDir<S>, choices: Choices) -> WalkDir<S>
-    ensures { result ≡ record walk { options = chosen_by choices walk.options } }
+    ensures walk { result ≡ record walk { options = chosen_by choices walk.options } }
 {
     let walk = walk
         .follow_links(choices.follow)
@@ -120,7 +121,7 @@ fn chosen<S: Drop>(walk: WalkDir<S>, choices: Choices) -> WalkDir<S>
 }
 
 fn with_max_open<S: Drop>(walk: WalkDir<S>, count: Option<usize>) -> WalkDir<S>
-    ensures { result ≡ record walk { options = max_open_by count walk.options } }
+    ensures walk { result ≡ record walk { options = max_open_by count walk.options } }
 {
     match count {
         Some(count) => walk.max_open(count),
@@ -129,7 +130,7 @@ fn with_max_open<S: Drop>(walk: WalkDir<S>, count: Option<usize>) -> WalkDir<S>
 }
 
 fn with_min_depth<S: Drop>(walk: WalkDir<S>, depth: Option<usize>) -> WalkDir<S>
-    ensures { result ≡ record walk { options = min_depth_by depth walk.options } }
+    ensures walk { result ≡ record walk { options = min_depth_by depth walk.options } }
 {
     match depth {
         Some(depth) => walk.min_depth(depth),
@@ -138,7 +139,7 @@ fn with_min_depth<S: Drop>(walk: WalkDir<S>, depth: Option<usize>) -> WalkDir<S>
 }
 
 fn with_max_depth<S: Drop>(walk: WalkDir<S>, depth: Option<usize>) -> WalkDir<S>
-    ensures { result ≡ record walk { options = max_depth_by depth walk.options } }
+    ensures walk { result ≡ record walk { options = max_depth_by depth walk.options } }
 {
     match depth {
         Some(depth) => walk.max_depth(depth),
@@ -152,7 +153,7 @@ fn written<K: Sink, D: Disk, W: Steps>(
     walk: &mut OnDisk<'_, D, W>,
     sink: &mut K,
 ) -> Result<Status, LineError>
-    requires { has_its_streams (W.progress walk.old.walk (D.streams walk.old.disk.now)) ≡ true }
+    requires own { has_its_streams (W.progress walk.old.walk (D.streams walk.old.disk.now)) ≡ true }
     ensures ends { EndsWritten (record {
       state = D.state walk.old.disk.now;
       first = W.progress walk.old.walk (D.streams walk.old.disk.now);
@@ -194,7 +195,7 @@ fn ended<K: Sink>(lines: Lines, sink: &mut K, status: Status) -> Result<Status, 
 
 /// Whether an item is want of memory.
 fn is_want(item: &walkdir::Result<DirEntry>) -> bool
-    ensures { result ≡ is_want item.now }
+    ensures want { result ≡ is_want item.now }
 {
     match item {
         Ok(_) => false,

@@ -36,7 +36,7 @@ pub struct Choices {
 impl Choices {
     /// No option.
     pub fn none() -> Choices
-        ensures { result ≡ no_choices }
+        ensures choices { result ≡ no_choices }
     {
         Choices {
             follow: false,
@@ -53,7 +53,7 @@ impl Choices {
     /// one counts.
     #[tactic(auto, using(crate::proofs::AskedLemmas::choices_of_option, crate::proofs::AskedLemmas::choices_of_count), unfolding(crate::specs::Asked::choices_of))]
     fn with_words(self, words: &[String]) -> Option<Choices>
-        ensures { result ≡ choices_of self (map (λ word. string_bytes word) words.now) }
+        ensures choices { result ≡ choices_of self (map (λ word. string_bytes word) words.now) }
     {
         let mut choices = self;
         let mut rest = words;
@@ -78,7 +78,7 @@ impl Choices {
     /// The choices with one that stands alone.
     #[tactic(auto, unfolding(crate::specs::Asked::with_option))]
     fn with_option(mut self, option: &str) -> Option<Choices>
-        ensures { result ≡ with_option self option.now }
+        ensures choices { result ≡ with_option self option.now }
     {
         match option {
             "--follow" => self.follow = true,
@@ -93,7 +93,7 @@ impl Choices {
     /// The choices with one that has a number behind it.
     #[tactic(auto, unfolding(crate::specs::Asked::with_count))]
     fn with_number(mut self, option: &str, number: &str) -> Option<Choices>
-        ensures { result ≡ with_count self option.now (number_of number.now) }
+        ensures choices { result ≡ with_count self option.now (number_of number.now) }
     {
         let number = Some(parse_decimal(number)? as usize);
         match option {
@@ -109,7 +109,7 @@ impl Choices {
 /// What the words ask for, if they are understood: an absolute path, and options behind it.
 #[tactic(auto, unfolding(crate::specs::Asked::asked_of))]
 pub fn asked_by(alloc: Global, words: &[String]) -> Result<Option<Asked>, NoMemory>
-    ensures { IfOk result (λ asked. asked ≡ asked_of (map (λ word. string_bytes word) words.now)) }
+    ensures asked { IfOk result (λ asked. asked ≡ asked_of (map (λ word. string_bytes word) words.now)) }
 {
     let [root, options @ ..] = words else {
         return Ok(None);

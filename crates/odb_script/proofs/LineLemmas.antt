@@ -13,7 +13,7 @@ use Rattle.gix_hash.specs.ObjectId.{IsId, hex_of, is_lower_text, is_lower_digit}
 use Rattle.gix_hash.specs.declared.object_id.ObjectId.{ObjectId}
 use Rattle.gix_hash.specs.declared.object_id.ObjectId.TheVariants as ids
 use Rattle.gix_hash.proofs.ObjectIdLemmas.{id_of-hex_of, is_lower_text-hex_of}
-use Rattle.gix_odb_world.specs.declared.call.Call.TheVariants as calls
+use Rattle.gix_odb.specs.declared.call.Call.TheVariants as calls
 use Rattle.gix_odb_world.specs.declared.step.Step.TheVariants as steps
 use Rattle.gix_odb_world.specs.declared.play.Line.TheVariants.{One, Finish}
 use Rattle.odb_script.specs.declared.item.Item.TheVariants as items
@@ -24,7 +24,7 @@ use Rattle.odb_script.specs.Word.{word_of}
 use Rattle.gix_object.specs.declared.kind.Kind.{Kind}
 use Rattle.gix_object.specs.declared.kind.Kind.TheVariants.{Commit, Tree, Blob, Tag}
 use Rattle.gix_object.specs.Kind.{kind_word}
-use Rattle.gix_object.specs.Kind.Laws.{kind_of_word-kind_word}
+use Rattle.gix_object.proofs.KindLaws.{kind_of_word-kind_word}
 use Rattle.odb_script.specs.Content.{data_of}
 use Rattle.odb_script.specs.Opening.{handle_of}
 use Rattle.odb_script.proofs.SplitLemmas.{slice_split-join}

@@ -1,6 +1,6 @@
 -- Data and the contents of files as fields of a line.
-use Rattle.std.specs.Prelude.{ℕ, List, [], ◌∷◌, ◌++◌, ◌==◌, ◌^◌, ◌&&◌, nat_eq, nat_lt, length, map, sum_by, codes, Bool, Option, Some, None, option_map, option_and_then, Result, Ok, Err, if◌then◌else◌}
-use Rattle.std.specs.List.{before_first, after_first, slice_split, starts_with}
+use Rattle.std.specs.Prelude.{ℕ, List, [], ◌∷◌, ◌++◌, ◌^◌, ◌&&◌, nat_eq, nat_lt, length, map, sum_by, codes, Bool, Option, Some, None, option_map, option_and_then, Result, Ok, Err, if◌then◌else◌}
+use Rattle.std.specs.List.{starts_with}
 use Rattle.hex.specs.Hex.{decode_of}
 use Rattle.hex.specs.declared.error.FromHexError.{FromHexError}
 use Rattle.odb_base.specs.Path.{same_name}
@@ -8,12 +8,13 @@ use Rattle.gix_hash.specs.declared.kind.Kind.TheVariants.{Sha1}
 use Rattle.gix_object.specs.declared.kind.Kind.{Kind}
 use Rattle.gix_object.specs.Kind.{kind_of_word}
 use Rattle.gix_object.specs.Loose.{header_of}
-use Rattle.gix_pack.specs.declared.object.Object.{Object}
-use Rattle.gix_pack.specs.declared.object.NamedPack.{NamedPack}
+use Rattle.gix_pack_tables.specs.declared.object.Object.{Object}
+use Rattle.gix_multi_index.specs.declared.named_pack.NamedPack.{NamedPack}
 use Rattle.gix_pack.specs.MultiIndex.{are_names}
 use Rattle.gix_pack.specs.WrittenPack.{object_seen, pack_of}
 use Rattle.gix_pack.specs.WrittenIndex.{index_of}
 use Rattle.gix_pack.specs.WrittenMultiIndex.{Named, names_of, named_seen, multi_index_of_packs}
+use Rattle.odb_script.specs.Split.{before_colon, after_colon, before_equals, after_equals, at_commas, at_semicolons}
 
 -- the bytes that hex digits of either case give
 abbrev pub given : Result (List ℕ) FromHexError → Option (List ℕ)
@@ -26,12 +27,6 @@ data_of [] = None
 data_of (c ∷ rest) = if same_name (c ∷ rest) (codes "-") then Some [] else given (decode_of (c ∷ rest))
 
 -- ---- objects and packs
-
-abbrev pub before_colon : List ℕ → List ℕ
-before_colon text = before_first (λ c. c == 58) text
-
-abbrev pub after_colon : List ℕ → List ℕ
-after_colon text = after_first (λ c. c == 58) text
 
 abbrev pub object_by : Option Kind → Option (List ℕ) → Option Object
 object_by None found = None
@@ -54,7 +49,7 @@ items_of read (text ∷ texts) items = with_item (items_of read texts) items (re
 
 -- `OBJ,OBJ..`
 abbrev pub objects_of : List ℕ → Option (List Object)
-objects_of text = items_of object_of (slice_split (λ c. c == 44) text) []
+objects_of text = items_of object_of (at_commas text) []
 
 abbrev pub pack_by : List ℕ → Option (List Object) → Option NamedPack
 pack_by stem None = None
@@ -62,11 +57,11 @@ pack_by stem (Some objects) = Some (record { name = stem ++ codes ".idx"; object
 
 -- `STEM=OBJ,OBJ..`, by the first `=`: the pack whose index is `STEM.idx`
 unfoldable pub named_pack_of : List ℕ → Option NamedPack
-named_pack_of text = pack_by (before_first (λ c. c == 61) text) (objects_of (after_first (λ c. c == 61) text))
+named_pack_of text = pack_by (before_equals text) (objects_of (after_equals text))
 
 -- `STEM=OBJ,OBJ..;STEM=..`
 abbrev pub packs_of : List ℕ → Option (List NamedPack)
-packs_of text = items_of named_pack_of (slice_split (λ c. c == 59) text) []
+packs_of text = items_of named_pack_of (at_semicolons text) []
 
 -- ---- what is encoded
 
@@ -74,9 +69,12 @@ packs_of text = items_of named_pack_of (slice_split (λ c. c == 59) text) []
 abbrev pub loose_file : Object → List ℕ
 loose_file object = header_of object.kind (length object.bytes) ++ object.bytes
 
--- fewer than 2^31 objects; no script is long enough for more
+-- packs and indices are written of fewer objects; no script is long enough for so many
+abbrev pub object_limit : ℕ
+object_limit = 2 ^ 31
+
 abbrev pub are_few : List Object → Bool
-are_few objects = nat_lt (length objects) (2 ^ 31)
+are_few objects = nat_lt (length objects) object_limit
 
 -- the pack of objects, and its index
 abbrev pub pack_file : List Object → Option (List ℕ)
@@ -88,7 +86,7 @@ index_file objects = if are_few objects then Some (index_of Sha1 (map object_see
 -- whether packs can be in a multi-index: their names are those of indices and rise, and they and their objects are few
 unfoldable pub can_be_written : List Named → Bool
 can_be_written packs =
-    are_names (names_of packs) && nat_lt (length packs) (2 ^ 31) && nat_lt (sum_by (λ (pack : Named). length pack.objects) packs) (2 ^ 31)
+    are_names (names_of packs) && nat_lt (length packs) object_limit && nat_lt (sum_by (λ (pack : Named). length pack.objects) packs) object_limit
 
 -- the multi-index of packs
 abbrev pub multi_index_by : List Named → Option (List ℕ)

@@ -1,3 +1,4 @@
+pub mod Split
 pub mod Word
 pub mod Content
 pub mod Change

@@ -1,7 +1,5 @@
 -- What one line of a script says. Fields are split by one space.
-use Rattle.std.specs.Prelude.{ℕ, ◌==◌, Bool, true, List, [], ◌∷◌, length, Option, Some, None, if◌then◌else◌, map}
-use Rattle.std.specs.Borrow.{Bor}
-use Rattle.std.specs.List.{slice_split}
+use Rattle.std.specs.Prelude.{ℕ, ◌==◌, Bool, true, List, [], ◌∷◌, length, Option, Some, None, if◌then◌else◌}
 use Rattle.std.specs.Str.{is_utf8}
 use Rattle.odb_base.specs.Decimal.{number_of}
 use Rattle.odb_tree.specs.declared.change.Change.{Change}
@@ -10,31 +8,24 @@ use Rattle.gix_hash.specs.declared.object_id.ObjectId.{ObjectId}
 use Rattle.gix_hash.specs.declared.object_id.ObjectId.TheVariants as ids
 use Rattle.gix_object.specs.Kind.{kind_of_word}
 use Rattle.gix_object.specs.declared.kind.Kind.{Kind}
-use Rattle.gix_odb_world.specs.declared.call.Call.{Call}
-use Rattle.gix_odb_world.specs.declared.call.Call.TheVariants as calls
+use Rattle.gix_odb.specs.declared.call.Call.{Call}
+use Rattle.gix_odb.specs.declared.call.Call.TheVariants as calls
 use Rattle.gix_odb_world.specs.declared.step.Step.{Step}
 use Rattle.gix_odb_world.specs.declared.step.Step.TheVariants as steps
 use Rattle.gix_odb_world.specs.declared.play.Line.TheVariants.{One, Finish}
 use Rattle.odb_script.specs.declared.item.Item.{Item}
 use Rattle.odb_script.specs.declared.item.Item.TheVariants as items
+use Rattle.odb_script.specs.declared.word.ChangeWord.{ChangeWord}
+use Rattle.odb_script.specs.declared.word.ChangeWord.TheVariants as change_words
 use Rattle.odb_script.specs.declared.word.Question.{Question}
 use Rattle.odb_script.specs.declared.word.Question.TheVariants as questions
 use Rattle.odb_script.specs.declared.word.Word.{Word}
 use Rattle.odb_script.specs.declared.word.Word.TheVariants as words
+pub use Rattle.odb_script.specs.Split.{Fields, fields_of, texts_of}
 use Rattle.odb_script.specs.Word.{word_of, change_word_of}
 use Rattle.odb_script.specs.Content.{data_of}
 use Rattle.odb_script.specs.Change.{change_of}
 use Rattle.odb_script.specs.Opening.{handle_of, open_of}
-
-abbrev pub Fields : Type 0
-Fields = List (List ℕ)
-
-abbrev pub fields_of : List ℕ → Fields
-fields_of line = slice_split (λ b. b == 32) line
-
--- the fields that references lead to
-abbrev pub texts_of : List (Bor (List ℕ)) → Fields
-texts_of fields = map (λ field. field.now) fields
 
 abbrev pub step_item : Step → Item
 step_item step = items.Play (One step)
@@ -50,6 +41,11 @@ setup_item change = item_or_refused items.Setup change
 
 abbrev pub outside_item : Option Change → Item
 outside_item change = item_or_refused (λ c. step_item (steps.Disk c)) change
+
+-- such a change by the word behind `do` and the fields after it
+abbrev pub changed_item : Option ChangeWord → Fields → Item
+changed_item None fields = items.Refused
+changed_item (Some word) fields = outside_item (change_of word fields)
 
 -- the handle of a line whose one field names it
 abbrev pub one_handle : Fields → Option ℕ
@@ -97,30 +93,37 @@ unfoldable pub line_item : Option Word → Fields → Item
 line_item None fields = items.Refused
 line_item (Some words.NotBuilt) fields = items.NotBuilt
 line_item (Some words.Fail) (number ∷ []) = item_or_refused items.Fail (number_of number)
-line_item (Some words.Mkdir) fields = setup_item (change_of (Some words.Mkdir) fields)
-line_item (Some words.Put) fields = setup_item (change_of (Some words.Put) fields)
-line_item (Some words.Link) fields = setup_item (change_of (Some words.Link) fields)
+line_item (Some words.Mkdir) fields = setup_item (change_of change_words.Mkdir fields)
+line_item (Some words.Put) fields = setup_item (change_of change_words.Put fields)
+line_item (Some words.Link) fields = setup_item (change_of change_words.Link fields)
 line_item (Some words.Steps) [] = items.Steps
 line_item (Some words.Open) (handle ∷ path ∷ options) = open_of handle path options
 line_item (Some words.Close) fields = for_handle (λ h. step_item (steps.Close h)) fields
 line_item (Some words.Ignore) fields = for_handle (λ h. step_item (steps.Ignore h)) fields
 line_item (Some (words.Ask question)) (handle ∷ id ∷ []) = start_of (call_of question) (handle_of handle) (id_of id)
-line_item (Some words.Write) (handle ∷ kind ∷ digits ∷ []) = write_of (handle_of handle) (kind_of_word kind) (size_of (data_of digits)) (data_of digits) None
-line_item (Some words.Stream) (handle ∷ kind ∷ size ∷ digits ∷ []) = write_of (handle_of handle) (kind_of_word kind) (number_of size) (data_of digits) None
-line_item (Some words.WriteAs) (handle ∷ kind ∷ id ∷ digits ∷ []) = write_under (handle_of handle) (kind_of_word kind) (id_of id) (data_of digits)
+line_item (Some words.Write) (handle ∷ kind ∷ digits ∷ []) =
+    write_of (handle_of handle) (kind_of_word kind) (size_of (data_of digits)) (data_of digits) None
+line_item (Some words.Stream) (handle ∷ kind ∷ size ∷ digits ∷ []) =
+    write_of (handle_of handle) (kind_of_word kind) (number_of size) (data_of digits) None
+line_item (Some words.WriteAs) (handle ∷ kind ∷ id ∷ digits ∷ []) =
+    write_under (handle_of handle) (kind_of_word kind) (id_of id) (data_of digits)
 line_item (Some words.Turn) fields = for_handle (λ h. step_item (steps.Turn h)) fields
 line_item (Some words.Finish) fields = for_handle (λ h. items.Play (Finish h)) fields
-line_item (Some words.Do) (word ∷ fields) = outside_item (change_of (change_word_of word) fields)
+line_item (Some words.Do) (word ∷ fields) = changed_item (change_word_of word) fields
 line_item (Some word) fields = items.Refused
 
 abbrev pub fields_item : Fields → Item
 fields_item [] = items.Blank
 fields_item (word ∷ fields) = line_item (word_of word) fields
 
+-- `#`, with which a comment begins
+abbrev pub comment : ℕ
+comment = 35
+
 -- an empty line, or one that begins with `#`
 abbrev pub is_blank : List ℕ → Bool
 is_blank [] = true
-is_blank (first ∷ rest) = first == 35
+is_blank (first ∷ rest) = first == comment
 
 -- what a line says: a blank one nothing, and any other has to be text
 unfoldable pub item_of : List ℕ → Item

@@ -1,13 +1,14 @@
 -- The opening of a store as fields, of which the last are options.
 use Rattle.std.specs.Prelude.{ℕ, ◌^◌, ◌==◌, ◌&&◌, ◌||◌, Bool, true, false, not, List, [], ◌∷◌, ◌++◌, codes, Option, Some, None, if◌then◌else◌}
-use Rattle.std.specs.List.{list_any, before_first, after_first}
+use Rattle.std.specs.List.{list_any}
 use Rattle.std.specs.Option.{option_map}
 use Rattle.odb_base.specs.Decimal.{number_of, number_below}
 use Rattle.odb_base.specs.Path.{Path, path_of, same_name}
 use Rattle.gix_hash.specs.ObjectId.{id_of}
 use Rattle.gix_hash.specs.declared.object_id.ObjectId.{ObjectId}
 use Rattle.gix_hash.specs.declared.object_id.ObjectId.TheVariants as ids
-use Rattle.gix_odb_world.specs.declared.init.Slots.TheVariants.{Given}
+use Rattle.gix_odb.specs.declared.init.Options.{Options}
+use Rattle.gix_odb.specs.declared.init.Slots.TheVariants.{Given}
 use Rattle.gix_odb_world.specs.declared.step.Step.TheVariants as steps
 use Rattle.gix_odb_world.specs.declared.play.Line.TheVariants.{One}
 use Rattle.odb_script.specs.declared.choice.Choice.{Choice}
@@ -15,6 +16,7 @@ use Rattle.odb_script.specs.declared.choice.Choice.TheVariants as choices
 use Rattle.odb_script.specs.declared.choice.Chosen.{Chosen}
 use Rattle.odb_script.specs.declared.item.Item.{Item}
 use Rattle.odb_script.specs.declared.item.Item.TheVariants as items
+use Rattle.odb_script.specs.Split.{equals, before_colon, after_colon, before_equals, after_equals}
 use Rattle.odb_script.specs.Word.{is_one_of}
 
 abbrev pub handle_of : List ℕ → Option ℕ
@@ -22,20 +24,20 @@ handle_of text = number_below (2 ^ 32) text
 
 -- an option is a name, `=` and a value
 abbrev pub has_value : List ℕ → Bool
-has_value option = list_any (λ b. b == 61) option
+has_value option = list_any (λ b. b == equals) option
 
 abbrev pub name_in : List ℕ → List ℕ
-name_in option = before_first (λ b. b == 61) option
+name_in option = before_equals option
 
 abbrev pub value_in : List ℕ → List ℕ
-value_in option = after_first (λ b. b == 61) option
+value_in option = after_equals option
 
 -- the two ids of a value, which `:` splits
 abbrev pub first_id : List ℕ → Option ObjectId
-first_id pair = id_of (before_first (λ b. b == 58) pair)
+first_id pair = id_of (before_colon pair)
 
 abbrev pub second_id : List ℕ → Option ObjectId
-second_id pair = id_of (after_first (λ b. b == 58) pair)
+second_id pair = id_of (after_colon pair)
 
 -- ---- what isn't built yet
 
@@ -107,11 +109,14 @@ chosen_by (option ∷ options) chosen = with_next (chosen_by options) chosen (ch
 
 -- ---- the line
 
+abbrev pub options_of : ℕ → Option ℕ → Options
+options_of slots limit = record { slots = Given slots; alloc_limit_bytes = limit }
+
 -- an opening by what is chosen; without slots it is refused
 abbrev pub opening_at : ℕ → Path → Chosen → Option ℕ → Item
 opening_at handle path chosen None = items.Refused
 opening_at handle path chosen (Some slots) =
-    items.Play (One (steps.Open handle path chosen.folders chosen.replacements (record { slots = Given slots; alloc_limit_bytes = chosen.limit })))
+    items.Play (One (steps.Open handle path chosen.folders chosen.replacements (options_of slots chosen.limit)))
 
 abbrev pub open_with : Option ℕ → Option Path → Option Chosen → Item
 open_with None path chosen = items.Refused

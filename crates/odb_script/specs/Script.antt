@@ -1,6 +1,5 @@
 -- A script: its lines, the disk that its setup makes, the lines to play, and where it ends.
-use Rattle.std.specs.Prelude.{ℕ, ◌+◌, ◌==◌, List, [], ◌∷◌, ◌++◌, length, map, take, nat_le, if◌then◌else◌, Bool, true, false}
-use Rattle.std.specs.List.{slice_split}
+use Rattle.std.specs.Prelude.{ℕ, ◌+◌, List, [], ◌∷◌, ◌++◌, length, map, take, nat_le, if◌then◌else◌, Bool, true, false}
 use Rattle.std.specs.FinSet as set
 use Rattle.odb_tree.specs.Tree.Change.{is_possible}
 use Rattle.odb_disk.specs.MemDisk.{Volume, new_volume, after_outside_change}
@@ -14,21 +13,22 @@ use Rattle.odb_script.specs.declared.reader.Taken.{Taken}
 use Rattle.odb_script.specs.declared.reader.Taken.TheVariants.{GoesOn, RefusedHere, NotBuiltHere}
 use Rattle.odb_script.specs.declared.reader.Ending.TheVariants.{Whole, RefusedAt, NotBuiltAt}
 use Rattle.odb_script.specs.declared.reader.Reading.{Reading}
+pub use Rattle.odb_script.specs.Split.{lines_in}
 use Rattle.odb_script.specs.Line.{item_of}
 
--- the most bytes of a script
+-- the most bytes of a script, 64 MiB: a source that never ends is refused
 abbrev pub script_limit : ℕ
-script_limit = 67108864
-
--- The lines of a script, between line feeds. A line feed at the end leaves an empty line behind it, which says nothing.
-abbrev pub lines_in : List ℕ → List (List ℕ)
-lines_in bytes = slice_split (λ b. b == 10) bytes
+script_limit = 67_108_864
 
 -- all but the last
 abbrev pub but_last : List (List ℕ) → List (List ℕ)
 but_last [] = []
 but_last (line ∷ []) = []
 but_last (line ∷ other ∷ lines) = line ∷ but_last (other ∷ lines)
+
+-- what the last line of a script says, which is refused where it is cut off
+abbrev pub last_item : Bool → List ℕ → Item
+last_item is_cut line = if is_cut then items.Refused else item_of line
 
 -- what the lines of a script say, and those of a front of one, whose last line is refused
 abbrev pub items_in : Bool → List (List ℕ) → List Item
@@ -82,6 +82,10 @@ carried further number (NotBuiltHere script) = record { script = script; ending 
 unfoldable pub reading_from : List Item → ℕ → Script → Reading
 reading_from [] number script = record { script = script; ending = Whole }
 reading_from (item ∷ items) number script = carried (reading_from items (number + 1)) number (taken script item)
+
+-- the reading of a script with its last line, which has a number
+abbrev pub reading_at : ℕ → Taken → Reading
+reading_at number last = carried (reading_from [] (number + 1)) number last
 
 -- the reading of a whole script
 abbrev pub reading_of : List ℕ → Reading

@@ -2,6 +2,8 @@
 use Rattle.std.specs.Prelude.{ℕ, Bool, List, [], ◌∷◌, codes, Option, Some, None, if◌then◌else◌}
 use Rattle.std.specs.List.{list_any}
 use Rattle.odb_base.specs.Path.{same_name}
+use Rattle.odb_script.specs.declared.word.ChangeWord.{ChangeWord}
+use Rattle.odb_script.specs.declared.word.ChangeWord.TheVariants as changes
 use Rattle.odb_script.specs.declared.word.Question.TheVariants as questions
 use Rattle.odb_script.specs.declared.word.Word.{Word}
 use Rattle.odb_script.specs.declared.word.Word.TheVariants as words
@@ -44,12 +46,12 @@ word_of text =
     else step_word_of text
 
 -- the word that may follow `do`
-unfoldable pub change_word_of : List ℕ → Option Word
+unfoldable pub change_word_of : List ℕ → Option ChangeWord
 change_word_of text =
-    if same_name text (codes "mkdir") then Some words.Mkdir
-    else if same_name text (codes "put") then Some words.Put
-    else if same_name text (codes "link") then Some words.Link
-    else if same_name text (codes "rename") then Some words.Rename
-    else if same_name text (codes "remove") then Some words.Remove
-    else if same_name text (codes "time") then Some words.Time
+    if same_name text (codes "mkdir") then Some changes.Mkdir
+    else if same_name text (codes "put") then Some changes.Put
+    else if same_name text (codes "link") then Some changes.Link
+    else if same_name text (codes "rename") then Some changes.Rename
+    else if same_name text (codes "remove") then Some changes.Remove
+    else if same_name text (codes "time") then Some changes.Time
     else None

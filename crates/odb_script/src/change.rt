@@ -1,41 +1,44 @@
-ghost use Rattle.std.specs.Prelude.{◌≡◌, Some, IfOk};
-ghost use Rattle.odb_base.specs.Path.{path_of};
+//! Changes of the disk as a word and its fields.
+ghost use Rattle.std.specs.Prelude.{◌≡◌, IfOk};
 ghost use Rattle.odb_script.specs.Line.{texts_of};
 ghost use Rattle.odb_script.specs.Change.{change_of, file_of};
 
 use crate::content::content_of;
-use crate::word::Word;
+use crate::field::path_of;
+use crate::word::ChangeWord;
 use odb_base::{ByteList, NoMemory, parse_decimal};
-use odb_disk::{BadPath, Change, PathText};
+use odb_disk::{Change, PathText};
 use std::alloc::Global;
+
+/// The device of all directories that a script makes: it has no word for devices.
+const DEVICE: u64 = 0;
 
 /// The change that a word and the fields after it spell, if they spell one.
 #[tactic(auto, unfolding(crate::specs::Change::change_of))]
 pub fn change_of(
     alloc: Global,
-    word: Option<Word>,
+    word: ChangeWord,
     fields: &[&str],
 ) -> Result<Option<Change>, NoMemory>
-    ensures { IfOk result (λ change. change ≡ change_of word (texts_of fields.now)) }
+    ensures change { IfOk result (λ change. change ≡ change_of word (texts_of fields.now)) }
 {
     match word {
-        Some(Word::Mkdir) => mkdir(alloc, fields),
-        Some(Word::Put) => put(alloc, fields),
-        Some(Word::Link) => link(alloc, fields),
-        Some(Word::Rename) => rename(alloc, fields),
-        Some(Word::Remove) => remove(alloc, fields),
-        Some(Word::Time) => time(alloc, fields),
-        _ => Ok(None),
+        ChangeWord::Mkdir => mkdir(alloc, fields),
+        ChangeWord::Put => put(alloc, fields),
+        ChangeWord::Link => link(alloc, fields),
+        ChangeWord::Rename => rename(alloc, fields),
+        ChangeWord::Remove => remove(alloc, fields),
+        ChangeWord::Time => time(alloc, fields),
     }
 }
 
 #[tactic(auto, unfolding(crate::specs::Change::change_of))]
 fn mkdir(alloc: Global, fields: &[&str]) -> Result<Option<Change>, NoMemory>
-    ensures { IfOk result (λ change. change ≡ change_of (Some Word.Mkdir) (texts_of fields.now)) }
+    ensures change { IfOk result (λ change. change ≡ change_of ChangeWord.Mkdir (texts_of fields.now)) }
 {
     match fields {
         [path] => match path_of(alloc, path)? {
-            Some(path) => Ok(Some(Change::MakeDir { path, dev: 0 })),
+            Some(path) => Ok(Some(Change::MakeDir { path, dev: DEVICE })),
             None => Ok(None),
         },
         _ => Ok(None),
@@ -44,7 +47,7 @@ fn mkdir(alloc: Global, fields: &[&str]) -> Result<Option<Change>, NoMemory>
 
 #[tactic(auto, unfolding(crate::specs::Change::change_of))]
 fn put(alloc: Global, fields: &[&str]) -> Result<Option<Change>, NoMemory>
-    ensures { IfOk result (λ change. change ≡ change_of (Some Word.Put) (texts_of fields.now)) }
+    ensures change { IfOk result (λ change. change ≡ change_of ChangeWord.Put (texts_of fields.now)) }
 {
     match fields {
         [path, time, content] => {
@@ -57,7 +60,7 @@ fn put(alloc: Global, fields: &[&str]) -> Result<Option<Change>, NoMemory>
 }
 
 fn file_of(path: Option<PathText>, time: Option<u64>, content: Option<ByteList>) -> Option<Change>
-    ensures { result ≡ file_of path time content }
+    ensures change { result ≡ file_of path time content }
 {
     match (path, time, content) {
         (Some(path), Some(time), Some(bytes)) => Some(Change::PutFile { path, time, bytes }),
@@ -67,7 +70,7 @@ fn file_of(path: Option<PathText>, time: Option<u64>, content: Option<ByteList>)
 
 #[tactic(auto, unfolding(crate::specs::Change::change_of))]
 fn link(alloc: Global, fields: &[&str]) -> Result<Option<Change>, NoMemory>
-    ensures { IfOk result (λ change. change ≡ change_of (Some Word.Link) (texts_of fields.now)) }
+    ensures change { IfOk result (λ change. change ≡ change_of ChangeWord.Link (texts_of fields.now)) }
 {
     match fields {
         [path, target] => match (path_of(alloc, path)?, path_of(alloc, target)?) {
@@ -80,7 +83,7 @@ fn link(alloc: Global, fields: &[&str]) -> Result<Option<Change>, NoMemory>
 
 #[tactic(auto, unfolding(crate::specs::Change::change_of))]
 fn rename(alloc: Global, fields: &[&str]) -> Result<Option<Change>, NoMemory>
-    ensures { IfOk result (λ change. change ≡ change_of (Some Word.Rename) (texts_of fields.now)) }
+    ensures change { IfOk result (λ change. change ≡ change_of ChangeWord.Rename (texts_of fields.now)) }
 {
     match fields {
         [from, to] => match (path_of(alloc, from)?, path_of(alloc, to)?) {
@@ -93,7 +96,7 @@ fn rename(alloc: Global, fields: &[&str]) -> Result<Option<Change>, NoMemory>
 
 #[tactic(auto, unfolding(crate::specs::Change::change_of))]
 fn remove(alloc: Global, fields: &[&str]) -> Result<Option<Change>, NoMemory>
-    ensures { IfOk result (λ change. change ≡ change_of (Some Word.Remove) (texts_of fields.now)) }
+    ensures change { IfOk result (λ change. change ≡ change_of ChangeWord.Remove (texts_of fields.now)) }
 {
     match fields {
         [path] => match path_of(alloc, path)? {
@@ -106,7 +109,7 @@ fn remove(alloc: Global, fields: &[&str]) -> Result<Option<Change>, NoMemory>
 
 #[tactic(auto, unfolding(crate::specs::Change::change_of))]
 fn time(alloc: Global, fields: &[&str]) -> Result<Option<Change>, NoMemory>
-    ensures { IfOk result (λ change. change ≡ change_of (Some Word.Time) (texts_of fields.now)) }
+    ensures change { IfOk result (λ change. change ≡ change_of ChangeWord.Time (texts_of fields.now)) }
 {
     match fields {
         [path, time] => match (path_of(alloc, path)?, parse_decimal(time)) {
@@ -114,16 +117,5 @@ fn time(alloc: Global, fields: &[&str]) -> Result<Option<Change>, NoMemory>
             _ => Ok(None),
         },
         _ => Ok(None),
-    }
-}
-
-/// The path that a text spells.
-pub fn path_of(alloc: Global, text: &str) -> Result<Option<PathText>, NoMemory>
-    ensures { IfOk result (λ path. path ≡ path_of text.now) }
-{
-    match PathText::parse(alloc, text) {
-        Ok(path) => Ok(Some(path)),
-        Err(BadPath::Malformed) => Ok(None),
-        Err(BadPath::NoMemory) => Err(NoMemory),
     }
 }

@@ -5,9 +5,8 @@ ghost use Rattle.odb_base.specs.Decimal.{number_of, number_below};
 ghost use Rattle.odb_script.specs.Line.{texts_of};
 ghost use Rattle.odb_script.specs.Opening.{has_value, name_in, value_in, replacement, first_id, second_id, named_choice, choice_of, with_choice, nothing_chosen, chosen_by};
 
-use crate::change::path_of;
-use crate::content::at_colon;
-use crate::item::id_of;
+use crate::field::{id_of, path_of};
+use crate::split::at_colon;
 use gix_hash::ObjectId;
 use gix_odb_world::{IdPairs, PathList};
 use odb_base::{NoMemory, parse_decimal};
@@ -40,7 +39,7 @@ pub struct Chosen {
 /// What options choose, if each of them chooses something.
 #[tactic(auto, unfolding(crate::specs::Opening::chosen_by))]
 pub fn chosen_by(alloc: Global, options: &[&str]) -> Result<Option<Chosen>, NoMemory>
-    ensures { IfOk result (λ chosen. chosen ≡ chosen_by (texts_of options.now) nothing_chosen) }
+    ensures chosen { IfOk result (λ chosen. chosen ≡ chosen_by (texts_of options.now) nothing_chosen) }
 {
     let mut chosen = nothing_chosen(alloc);
     let mut rest = options;
@@ -55,7 +54,7 @@ pub fn chosen_by(alloc: Global, options: &[&str]) -> Result<Option<Chosen>, NoMe
 }
 
 fn nothing_chosen(alloc: Global) -> Chosen
-    ensures { result ≡ nothing_chosen }
+    ensures chosen { result ≡ nothing_chosen }
 {
     Chosen {
         folders: PathList::new(alloc),
@@ -68,7 +67,7 @@ fn nothing_chosen(alloc: Global) -> Chosen
 /// What is chosen with one option more: each folder and each replacement adds one; of slots and of limits the last
 /// counts.
 fn with_choice(mut chosen: Chosen, choice: Choice) -> Result<Chosen, NoMemory>
-    ensures { IfOk result (λ more. more ≡ with_choice chosen choice) }
+    ensures chosen { IfOk result (λ more. more ≡ with_choice chosen choice) }
 {
     match choice {
         Choice::Folder(path) => chosen.folders.push(path)?,
@@ -80,7 +79,7 @@ fn with_choice(mut chosen: Chosen, choice: Choice) -> Result<Chosen, NoMemory>
 }
 
 fn choice_of(alloc: Global, option: &str) -> Result<Option<Choice>, NoMemory>
-    ensures { IfOk result (λ choice. choice ≡ choice_of option.now) }
+    ensures choice { IfOk result (λ choice. choice ≡ choice_of option.now) }
 {
     match name_and_value(option) {
         Some((name, value)) => named_choice(alloc, name, value),
@@ -90,7 +89,7 @@ fn choice_of(alloc: Global, option: &str) -> Result<Option<Choice>, NoMemory>
 
 /// What a name chooses with its value.
 fn named_choice(alloc: Global, name: &str, value: &str) -> Result<Option<Choice>, NoMemory>
-    ensures { IfOk result (λ choice. choice ≡ named_choice name.now value.now) }
+    ensures choice { IfOk result (λ choice. choice ≡ named_choice name.now value.now) }
 {
     match name {
         "folder" => Ok(path_of(alloc, value)?.map(Choice::Folder)),
@@ -105,7 +104,7 @@ fn named_choice(alloc: Global, name: &str, value: &str) -> Result<Option<Choice>
 }
 
 fn replacement(id: Option<ObjectId>, by: Option<ObjectId>) -> Option<Choice>
-    ensures { result ≡ replacement id by }
+    ensures choice { result ≡ replacement id by }
 {
     match (id, by) {
         (Some(id), Some(by)) => Some(Choice::Replacement(id, by)),
@@ -115,13 +114,13 @@ fn replacement(id: Option<ObjectId>, by: Option<ObjectId>) -> Option<Choice>
 
 #[tactic(auto, unfolding(odb_base::specs::Decimal::number_below))]
 fn slots(value: &str) -> Option<Choice>
-    ensures { result ≡ option_map Choice.Slots (number_below (2 ^ 16) value.now) }
+    ensures choice { result ≡ option_map Choice.Slots (number_below (2 ^ 16) value.now) }
 {
     u16::try_from(parse_decimal(value)?).ok().map(Choice::Slots)
 }
 
 fn limit(value: &str) -> Option<Choice>
-    ensures { result ≡ option_map Choice.Limit (number_of value.now) }
+    ensures choice { result ≡ option_map Choice.Limit (number_of value.now) }
 {
     parse_decimal(value).map(Choice::Limit)
 }

@@ -1,19 +1,20 @@
-ghost use Rattle.std.specs.Prelude.{◌≡◌, ◌==◌, ◌<◌, IfOk, option_and_then, option_map};
-ghost use Rattle.std.specs.List.{after_first, before_first, slice_split};
+//! Contents of files as fields of a line spell them.
+ghost use Rattle.std.specs.Prelude.{◌≡◌, IfOk, option_and_then, option_map};
 ghost use Rattle.odb_script.specs.Content.{content_of, data_of, encoded, index_file, is_encoded, loose_file, multi_index_file, object_of, objects_of, pack_file, packs_of};
-ghost use Rattle.odb_script.specs.Line.{texts_of};
 
+use crate::field::data_of;
 use crate::objects::{are_few, can_be_written, object_of, objects_of, packs_of};
+use crate::split::at_colon;
 use gix_hash::Kind;
 use gix_object::encode;
 use gix_pack::{NamedPack, Object, data, index, multi_index};
 use odb_base::{ByteList, NoMemory};
-use std::alloc::{AllocError, Global};
+use std::alloc::Global;
 
 /// The contents that a word gives: objects that are encoded, or plain data.
 #[tactic(auto, unfolding(crate::specs::Content::content_of))]
 pub fn content_of(alloc: Global, text: &str) -> Result<Option<ByteList>, NoMemory>
-    ensures { IfOk result (λ content. content ≡ content_of text.now) }
+    ensures content { IfOk result (λ content. content ≡ content_of text.now) }
 {
     if is_encoded(text) {
         let (word, rest) = at_colon(text);
@@ -26,14 +27,14 @@ pub fn content_of(alloc: Global, text: &str) -> Result<Option<ByteList>, NoMemor
 /// Whether a text begins with `@`.
 #[tactic(auto, using(std::proofs::lemmas::Str::Pattern::starts_text))]
 fn is_encoded(text: &str) -> bool
-    ensures { result ≡ is_encoded text.now }
+    ensures encoded { result ≡ is_encoded text.now }
 {
     text.starts_with("@")
 }
 
 /// Encoded contents, by the word before the colon and what follows it.
 fn encoded(alloc: Global, word: &str, rest: &str) -> Result<Option<ByteList>, NoMemory>
-    ensures { IfOk result (λ content. content ≡ encoded word.now rest.now) }
+    ensures content { IfOk result (λ content. content ≡ encoded word.now rest.now) }
 {
     match word {
         "@loose" => loose(alloc, rest),
@@ -46,7 +47,7 @@ fn encoded(alloc: Global, word: &str, rest: &str) -> Result<Option<ByteList>, No
 
 /// An object as the bytes of its loose file.
 fn loose(alloc: Global, text: &str) -> Result<Option<ByteList>, NoMemory>
-    ensures { IfOk result (λ content. content ≡ option_map loose_file (object_of text.now)) }
+    ensures content { IfOk result (λ content. content ≡ option_map loose_file (object_of text.now)) }
 {
     match object_of(alloc, text)? {
         Some(object) => Ok(Some(loose_file(alloc, &object)?)),
@@ -56,7 +57,7 @@ fn loose(alloc: Global, text: &str) -> Result<Option<ByteList>, NoMemory>
 
 /// A loose file: the header, and then the data.
 fn loose_file(alloc: Global, object: &Object) -> Result<ByteList, NoMemory>
-    ensures { IfOk result (λ file. file ≡ loose_file object.now) }
+    ensures file { IfOk result (λ file. file ≡ loose_file object.now) }
 {
     let bytes = object.bytes.as_slice();
     let mut file = encode::loose_header(alloc, object.kind, bytes.len() as u64)?;
@@ -66,7 +67,7 @@ fn loose_file(alloc: Global, object: &Object) -> Result<ByteList, NoMemory>
 
 /// Objects as the bytes of their pack.
 fn pack(alloc: Global, text: &str) -> Result<Option<ByteList>, NoMemory>
-    ensures { IfOk result (λ content. content ≡ option_and_then pack_file (objects_of text.now)) }
+    ensures content { IfOk result (λ content. content ≡ option_and_then pack_file (objects_of text.now)) }
 {
     match objects_of(alloc, text)? {
         Some(objects) => pack_file(alloc, objects.as_slice()),
@@ -75,7 +76,7 @@ fn pack(alloc: Global, text: &str) -> Result<Option<ByteList>, NoMemory>
 }
 
 fn pack_file(alloc: Global, objects: &[Object]) -> Result<Option<ByteList>, NoMemory>
-    ensures { IfOk result (λ content. content ≡ pack_file objects.now) }
+    ensures content { IfOk result (λ content. content ≡ pack_file objects.now) }
 {
     if !are_few(objects) {
         return Ok(None);
@@ -85,7 +86,7 @@ fn pack_file(alloc: Global, objects: &[Object]) -> Result<Option<ByteList>, NoMe
 
 /// Objects as the bytes of the index of their pack.
 fn idx(alloc: Global, text: &str) -> Result<Option<ByteList>, NoMemory>
-    ensures { IfOk result (λ content. content ≡ option_and_then index_file (objects_of text.now)) }
+    ensures content { IfOk result (λ content. content ≡ option_and_then index_file (objects_of text.now)) }
 {
     match objects_of(alloc, text)? {
         Some(objects) => index_file(alloc, objects.as_slice()),
@@ -94,7 +95,7 @@ fn idx(alloc: Global, text: &str) -> Result<Option<ByteList>, NoMemory>
 }
 
 fn index_file(alloc: Global, objects: &[Object]) -> Result<Option<ByteList>, NoMemory>
-    ensures { IfOk result (λ content. content ≡ index_file objects.now) }
+    ensures content { IfOk result (λ content. content ≡ index_file objects.now) }
 {
     if !are_few(objects) {
         return Ok(None);
@@ -104,7 +105,7 @@ fn index_file(alloc: Global, objects: &[Object]) -> Result<Option<ByteList>, NoM
 
 /// Packs as the bytes of their multi-index.
 fn midx(alloc: Global, text: &str) -> Result<Option<ByteList>, NoMemory>
-    ensures { IfOk result (λ content. content ≡ option_and_then multi_index_file (packs_of text.now)) }
+    ensures content { IfOk result (λ content. content ≡ option_and_then multi_index_file (packs_of text.now)) }
 {
     match packs_of(alloc, text)? {
         Some(packs) => multi_index_file(alloc, packs.as_slice()),
@@ -113,60 +114,10 @@ fn midx(alloc: Global, text: &str) -> Result<Option<ByteList>, NoMemory>
 }
 
 fn multi_index_file(alloc: Global, packs: &[NamedPack]) -> Result<Option<ByteList>, NoMemory>
-    ensures { IfOk result (λ content. content ≡ multi_index_file packs.now) }
+    ensures content { IfOk result (λ content. content ≡ multi_index_file packs.now) }
 {
     if !can_be_written(packs) {
         return Ok(None);
     }
     Ok(Some(multi_index::encode(alloc, packs, Kind::Sha1)?))
-}
-
-/// Data: `-` for nothing, else an even number of hex digits, at least two.
-#[tactic(auto, unfolding(crate::specs::Content::data_of))]
-pub fn data_of(alloc: Global, text: &str) -> Result<Option<ByteList>, NoMemory>
-    ensures { IfOk result (λ found. found ≡ data_of text.now) }
-{
-    match text {
-        "" => Ok(None),
-        "-" => Ok(Some(ByteList::new(alloc))),
-        _ => match hex::decode(alloc, text) {
-            Ok(bytes) => Ok(Some(ByteList::from_vec(bytes))),
-            Err(hex::FromHexError::OutOfMemory) => Err(NoMemory),
-            Err(_) => Ok(None),
-        },
-    }
-}
-
-/// What stands before the first colon, and what after it. All of a text without one stands before it.
-pub fn at_colon(text: &str) -> (&str, &str)
-    ensures before { result.0.now ≡ before_first (λ b. b == 58) text.now }
-    ensures after { result.1.now ≡ after_first (λ b. b == 58) text.now }
-{
-    match text.split_once(':') {
-        Some((before, after)) => (before, after),
-        None => (text, ""),
-    }
-}
-
-/// What stands before the first `=`, and what after it. All of a text without one stands before it.
-pub fn at_equals(text: &str) -> (&str, &str)
-    ensures before { result.0.now ≡ before_first (λ b. b == 61) text.now }
-    ensures after { result.1.now ≡ after_first (λ b. b == 61) text.now }
-{
-    match text.split_once('=') {
-        Some((before, after)) => (before, after),
-        None => (text, ""),
-    }
-}
-
-/// The parts of a text, which one ASCII character splits.
-pub fn parts_of<'a>(
-    alloc: Global,
-    text: &'a str,
-    separator: char,
-) -> Result<Vec<&'a str>, AllocError>
-    requires { separator < 128 }
-    ensures { IfOk result (λ parts. texts_of parts.items ≡ slice_split (λ b. b == separator) text.now) }
-{
-    text.split(separator).collect(alloc)
 }

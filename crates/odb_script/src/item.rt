@@ -1,18 +1,20 @@
+//! What one line of a script says.
 ghost use Rattle.std.specs.Prelude.{◌≡◌, Some, IfOk};
 ghost use Rattle.std.specs.Option.{MatchOption};
-ghost use Rattle.gix_hash.specs.ObjectId.{id_of};
-ghost use Rattle.odb_script.specs.Line.{item_of, is_blank, fields_of, fields_item, texts_of, one_handle, line_item, call_of, start_of, step_item, setup_item, outside_item};
+ghost use Rattle.odb_script.specs.Change.{change_of};
+ghost use Rattle.odb_script.specs.Line.{item_of, is_blank, fields_of, fields_item, texts_of, one_handle, line_item, call_of, start_of, step_item, setup_item, outside_item, changed_item};
 
 use crate::change::change_of;
-use crate::content::parts_of;
-use crate::opening::{handle_of, open_of};
-use crate::word::{Question, Word, change_word_of, word_of};
+use crate::field::{handle_of, id_of};
+use crate::opening::open_of;
+use crate::split::fields_of;
+use crate::word::{ChangeWord, Question, Word, change_word_of, word_of};
 use crate::write::{stream, write, writeas};
 use gix_hash::ObjectId;
 use gix_odb_world::{Call, Line, Step};
 use odb_base::{NoMemory, parse_decimal};
 use odb_disk::Change;
-use std::alloc::{AllocError, Global};
+use std::alloc::Global;
 
 /// What a line of a script says.
 #[derive(Drop)]
@@ -36,7 +38,7 @@ pub enum Item {
 /// What a line says. The line has no line feed.
 #[tactic(auto, using(crate::proofs::TextLemmas::utf8_true, crate::proofs::TextLemmas::utf8_false), unfolding(crate::specs::Line::item_of))]
 pub fn item_of(alloc: Global, line: &[u8]) -> Result<Item, NoMemory>
-    ensures { IfOk result (λ item. item ≡ item_of line.now) }
+    ensures item { IfOk result (λ item. item ≡ item_of line.now) }
 {
     if is_blank(line) {
         return Ok(Item::Blank);
@@ -49,7 +51,7 @@ pub fn item_of(alloc: Global, line: &[u8]) -> Result<Item, NoMemory>
 
 /// Whether a line is empty or begins with `#`.
 fn is_blank(line: &[u8]) -> bool
-    ensures { result ≡ is_blank line.now }
+    ensures blank { result ≡ is_blank line.now }
 {
     match line {
         [] => true,
@@ -59,21 +61,14 @@ fn is_blank(line: &[u8]) -> bool
 
 /// What a line that is text says.
 fn text_item(alloc: Global, line: &str) -> Result<Item, NoMemory>
-    ensures { IfOk result (λ item. item ≡ fields_item (fields_of line.now)) }
+    ensures item { IfOk result (λ item. item ≡ fields_item (fields_of line.now)) }
 {
     let fields = fields_of(alloc, line)?;
     fields_item(alloc, &fields)
 }
 
-/// The fields of a line, which are split by one space.
-fn fields_of<'a>(alloc: Global, line: &'a str) -> Result<Vec<&'a str>, AllocError>
-    ensures { IfOk result (λ fields. texts_of fields.items ≡ fields_of line.now) }
-{
-    parts_of(alloc, line, ' ')
-}
-
 fn fields_item(alloc: Global, fields: &[&str]) -> Result<Item, NoMemory>
-    ensures { IfOk result (λ item. item ≡ fields_item (texts_of fields.now)) }
+    ensures item { IfOk result (λ item. item ≡ fields_item (texts_of fields.now)) }
 {
     match fields {
         [] => Ok(Item::Blank),
@@ -84,14 +79,14 @@ fn fields_item(alloc: Global, fields: &[&str]) -> Result<Item, NoMemory>
 /// A line by its first word and the fields after it.
 #[tactic(auto, unfolding(crate::specs::Line::line_item))]
 fn line_item(alloc: Global, word: Option<Word>, fields: &[&str]) -> Result<Item, NoMemory>
-    ensures { IfOk result (λ item. item ≡ line_item word (texts_of fields.now)) }
+    ensures item { IfOk result (λ item. item ≡ line_item word (texts_of fields.now)) }
 {
     match word {
         Some(Word::NotBuilt) => Ok(Item::NotBuilt),
         Some(Word::Fail) => Ok(fail(fields)),
-        Some(Word::Mkdir | Word::Put | Word::Link) => {
-            Ok(setup_item(change_of(alloc, word, fields)?))
-        }
+        Some(Word::Mkdir) => set_up(alloc, ChangeWord::Mkdir, fields),
+        Some(Word::Put) => set_up(alloc, ChangeWord::Put, fields),
+        Some(Word::Link) => set_up(alloc, ChangeWord::Link, fields),
         Some(Word::Steps) => Ok(steps(fields)),
         Some(Word::Open) => open(alloc, fields),
         Some(Word::Close) => Ok(for_handle(fields, |handle| step_item(Step::Close { handle }))),
@@ -103,13 +98,13 @@ fn line_item(alloc: Global, word: Option<Word>, fields: &[&str]) -> Result<Item,
         Some(Word::Turn) => Ok(for_handle(fields, |handle| step_item(Step::Turn { handle }))),
         Some(Word::Finish) => Ok(for_handle(fields, |handle| Item::Play(Line::Finish { handle }))),
         Some(Word::Do) => change(alloc, fields),
-        Some(Word::Rename | Word::Remove | Word::Time) | None => Ok(Item::Refused),
+        None => Ok(Item::Refused),
     }
 }
 
 #[tactic(auto, unfolding(crate::specs::Line::line_item))]
 fn fail(fields: &[&str]) -> Item
-    ensures { result ≡ line_item (Some Word.Fail) (texts_of fields.now) }
+    ensures item { result ≡ line_item (Some Word.Fail) (texts_of fields.now) }
 {
     match fields {
         [number] => match parse_decimal(number) {
@@ -120,9 +115,16 @@ fn fail(fields: &[&str]) -> Item
     }
 }
 
+/// A change before the steps.
+fn set_up(alloc: Global, word: ChangeWord, fields: &[&str]) -> Result<Item, NoMemory>
+    ensures item { IfOk result (λ item. item ≡ setup_item (change_of word (texts_of fields.now))) }
+{
+    Ok(setup_item(change_of(alloc, word, fields)?))
+}
+
 #[tactic(auto, unfolding(crate::specs::Line::line_item))]
 fn steps(fields: &[&str]) -> Item
-    ensures { result ≡ line_item (Some Word.Steps) (texts_of fields.now) }
+    ensures item { result ≡ line_item (Some Word.Steps) (texts_of fields.now) }
 {
     match fields {
         [] => Item::Steps,
@@ -132,7 +134,7 @@ fn steps(fields: &[&str]) -> Item
 
 #[tactic(auto, unfolding(crate::specs::Line::line_item))]
 fn open(alloc: Global, fields: &[&str]) -> Result<Item, NoMemory>
-    ensures { IfOk result (λ item. item ≡ line_item (Some Word.Open) (texts_of fields.now)) }
+    ensures item { IfOk result (λ item. item ≡ line_item (Some Word.Open) (texts_of fields.now)) }
 {
     match fields {
         [handle, path, options @ ..] => open_of(alloc, handle, path, options),
@@ -142,8 +144,8 @@ fn open(alloc: Global, fields: &[&str]) -> Result<Item, NoMemory>
 
 /// A line of the handle that its one field names.
 fn for_handle<F: FnOnce(u32) -> Item + Drop>(fields: &[&str], item: F) -> Item
-    requires { F.IsAlwaysCallable item }
-    ensures { MatchOption (one_handle (texts_of fields.now)) (result ≡ Item.Refused) (λ handle. F.post item handle result) }
+    requires callable { F.IsAlwaysCallable item }
+    ensures item { MatchOption (one_handle (texts_of fields.now)) (result ≡ Item.Refused) (λ handle. F.post item handle result) }
 {
     match fields {
         [handle] => handle_of(handle).map_or(Item::Refused, item),
@@ -153,7 +155,7 @@ fn for_handle<F: FnOnce(u32) -> Item + Drop>(fields: &[&str], item: F) -> Item
 
 #[tactic(auto, unfolding(crate::specs::Line::line_item))]
 fn ask(question: Question, fields: &[&str]) -> Item
-    ensures { result ≡ line_item (Some (Word.Ask question)) (texts_of fields.now) }
+    ensures item { result ≡ line_item (Some (Word.Ask question)) (texts_of fields.now) }
 {
     match fields {
         [handle, id] => start_of(question, handle_of(handle), id_of(id)),
@@ -161,16 +163,9 @@ fn ask(question: Question, fields: &[&str]) -> Item
     }
 }
 
-/// The id that a text spells.
-pub fn id_of(text: &str) -> Option<ObjectId>
-    ensures { result ≡ id_of text.now }
-{
-    ObjectId::from_hex(text.as_bytes()).ok()
-}
-
 /// The start of a call on an id. Ids of 64 digits aren't built yet.
 fn start_of(question: Question, handle: Option<u32>, id: Option<ObjectId>) -> Item
-    ensures { result ≡ start_of (call_of question) handle id }
+    ensures item { result ≡ start_of (call_of question) handle id }
 {
     match (handle, id) {
         (_, None) => Item::Refused,
@@ -185,7 +180,7 @@ fn start_of(question: Question, handle: Option<u32>, id: Option<ObjectId>) -> It
 
 /// The call that a question about an id is.
 fn call_of(question: Question, id: ObjectId) -> Call
-    ensures { result ≡ call_of question id }
+    ensures call { result ≡ call_of question id }
 {
     match question {
         Question::Find => Call::Find(id),
@@ -197,26 +192,33 @@ fn call_of(question: Question, id: ObjectId) -> Call
 /// A change that another program makes.
 #[tactic(auto, unfolding(crate::specs::Line::line_item))]
 fn change(alloc: Global, fields: &[&str]) -> Result<Item, NoMemory>
-    ensures { IfOk result (λ item. item ≡ line_item (Some Word.Do) (texts_of fields.now)) }
+    ensures item { IfOk result (λ item. item ≡ line_item (Some Word.Do) (texts_of fields.now)) }
 {
     match fields {
-        [word, fields @ ..] => {
-            let change = change_of(alloc, change_word_of(word), fields)?;
-            Ok(outside_item(change))
-        }
+        [word, fields @ ..] => changed(alloc, change_word_of(word), fields),
         [] => Ok(Item::Refused),
+    }
+}
+
+/// A change that another program makes, by the word behind `do` and the fields after it.
+fn changed(alloc: Global, word: Option<ChangeWord>, fields: &[&str]) -> Result<Item, NoMemory>
+    ensures item { IfOk result (λ item. item ≡ changed_item word (texts_of fields.now)) }
+{
+    match word {
+        Some(word) => Ok(outside_item(change_of(alloc, word, fields)?)),
+        None => Ok(Item::Refused),
     }
 }
 
 /// A line to play that is one step.
 pub fn step_item(step: Step) -> Item
-    ensures { result ≡ step_item step }
+    ensures item { result ≡ step_item step }
 {
     Item::Play(Line::One(step))
 }
 
 fn setup_item(change: Option<Change>) -> Item
-    ensures { result ≡ setup_item change }
+    ensures item { result ≡ setup_item change }
 {
     match change {
         Some(change) => Item::Setup(change),
@@ -225,7 +227,7 @@ fn setup_item(change: Option<Change>) -> Item
 }
 
 fn outside_item(change: Option<Change>) -> Item
-    ensures { result ≡ outside_item change }
+    ensures item { result ≡ outside_item change }
 {
     match change {
         Some(change) => step_item(Step::Disk(change)),

@@ -11,13 +11,15 @@
 mod change;
 mod choice;
 mod content;
+mod field;
 mod item;
 mod objects;
 mod opening;
 mod reader;
+mod split;
 mod word;
 mod write;
 
 pub use item::{Item, item_of};
 pub use reader::{Ending, Reading, SCRIPT_LIMIT, Script, Taken, read};
-pub use word::{Question, Word, change_word_of, word_of};
+pub use word::{ChangeWord, Question, Word, change_word_of, word_of};

@@ -3,24 +3,27 @@ ghost use Rattle.std.specs.Prelude.{◌≡◌, ◌++◌, IfOk, IsTrue, codes, ma
 ghost use Rattle.gix_pack.specs.WrittenMultiIndex.{named_seen, CanBeWritten};
 ghost use Rattle.odb_script.specs.Content.{are_few, can_be_written, named_pack_of, object_by, object_of, objects_of, packs_of};
 
-use crate::content::{at_colon, at_equals, data_of, parts_of};
+use crate::field::{data_of, kind_of};
+use crate::split::{at_colon, at_equals, parts_of};
 use gix_object::Kind;
 use gix_pack::{NamedPack, Object, multi_index};
 use odb_base::{ByteList, NoMemory, PathName, Sequence};
 use std::alloc::Global;
 
+/// Packs and indices are written of fewer objects.
+const OBJECT_LIMIT: usize = 1 << 31;
+
 /// `KIND:DATA`, by the first colon.
 #[tactic(auto, unfolding(crate::specs::Content::object_of))]
 pub fn object_of(alloc: Global, text: &str) -> Result<Option<Object>, NoMemory>
-    ensures { IfOk result (λ object. object ≡ object_of text.now) }
+    ensures object { IfOk result (λ object. object ≡ object_of text.now) }
 {
     let (kind, bytes) = at_colon(text);
-    let kind = Kind::from_bytes(kind.as_bytes());
-    Ok(object_by(kind, data_of(alloc, bytes)?))
+    Ok(object_by(kind_of(kind), data_of(alloc, bytes)?))
 }
 
 fn object_by(kind: Option<Kind>, bytes: Option<ByteList>) -> Option<Object>
-    ensures { result ≡ object_by kind bytes }
+    ensures object { result ≡ object_by kind bytes }
 {
     match (kind, bytes) {
         (Some(kind), Some(bytes)) => Some(Object { kind, bytes }),
@@ -31,7 +34,7 @@ fn object_by(kind: Option<Kind>, bytes: Option<ByteList>) -> Option<Object>
 /// `OBJ,OBJ..`: one object at least.
 #[tactic(auto, unfolding(crate::specs::Content::items_of))]
 pub fn objects_of(alloc: Global, text: &str) -> Result<Option<Sequence<Object>>, NoMemory>
-    ensures { IfOk result (λ objects. objects ≡ objects_of text.now) }
+    ensures objects { IfOk result (λ objects. objects ≡ objects_of text.now) }
 {
     let texts = parts_of(alloc, text, ',')?;
     let mut objects = Sequence::new(alloc);
@@ -49,7 +52,7 @@ pub fn objects_of(alloc: Global, text: &str) -> Result<Option<Sequence<Object>>,
 /// `STEM=OBJ,OBJ..`, by the first `=`: the pack whose index is `STEM.idx`.
 #[tactic(auto, unfolding(crate::specs::Content::named_pack_of))]
 fn named_pack_of(alloc: Global, text: &str) -> Result<Option<NamedPack>, NoMemory>
-    ensures { IfOk result (λ pack. pack ≡ named_pack_of text.now) }
+    ensures pack { IfOk result (λ pack. pack ≡ named_pack_of text.now) }
 {
     let (stem, objects) = at_equals(text);
     match objects_of(alloc, objects)? {
@@ -62,7 +65,7 @@ fn named_pack_of(alloc: Global, text: &str) -> Result<Option<NamedPack>, NoMemor
 }
 
 fn index_name(alloc: Global, stem: &str) -> Result<PathName, NoMemory>
-    ensures { IfOk result (λ name. name ≡ stem.now ++ codes ".idx") }
+    ensures name { IfOk result (λ name. name ≡ stem.now ++ codes ".idx") }
 {
     let name = format!(in alloc; "{stem}.idx")?;
     PathName::new(alloc, name.as_str())
@@ -71,7 +74,7 @@ fn index_name(alloc: Global, stem: &str) -> Result<PathName, NoMemory>
 /// `STEM=OBJ,OBJ..;STEM=..`: one pack at least.
 #[tactic(auto, unfolding(crate::specs::Content::items_of))]
 pub fn packs_of(alloc: Global, text: &str) -> Result<Option<Sequence<NamedPack>>, NoMemory>
-    ensures { IfOk result (λ packs. packs ≡ packs_of text.now) }
+    ensures packs { IfOk result (λ packs. packs ≡ packs_of text.now) }
 {
     let texts = parts_of(alloc, text, ';')?;
     let mut packs = Sequence::new(alloc);
@@ -88,9 +91,9 @@ pub fn packs_of(alloc: Global, text: &str) -> Result<Option<Sequence<NamedPack>>
 
 /// Whether a pack can have so many objects.
 pub fn are_few(objects: &[Object]) -> bool
-    ensures { result ≡ are_few objects.now }
+    ensures few { result ≡ are_few objects.now }
 {
-    objects.len() < 1 << 31
+    objects.len() < OBJECT_LIMIT
 }
 
 /// Whether packs can be in a multi-index.

@@ -1,15 +1,16 @@
+//! The opening of a store by its fields.
 ghost use Rattle.std.specs.Prelude.{◌≡◌, IfOk};
 ghost use Rattle.std.specs.List.{list_any};
 ghost use Rattle.odb_script.specs.Line.{texts_of};
-ghost use Rattle.odb_script.specs.Opening.{handle_of, gives_slots, is_long, unbuilt_options, is_unbuilt_choice, is_unbuilt_option, is_unbuilt, opening_at, open_with, open_of};
+ghost use Rattle.odb_script.specs.Opening.{gives_slots, is_long, unbuilt_options, is_unbuilt_choice, is_unbuilt_option, is_unbuilt, opening_at, open_with, open_of};
 ghost use Rattle.odb_script.specs.Word.{is_one_of};
 
-use crate::change::path_of;
 use crate::choice::{Chosen, chosen_by, id_pair, name_and_value};
+use crate::field::{handle_of, path_of};
 use crate::item::Item;
 use gix_hash::ObjectId;
 use gix_odb_world::{Line, Options, Slots, Step};
-use odb_base::{NoMemory, parse_decimal};
+use odb_base::NoMemory;
 use odb_disk::PathText;
 use std::alloc::Global;
 
@@ -17,7 +18,7 @@ use std::alloc::Global;
 /// options alone.
 #[tactic(auto, unfolding(crate::specs::Opening::open_of))]
 pub fn open_of(alloc: Global, handle: &str, path: &str, options: &[&str]) -> Result<Item, NoMemory>
-    ensures { IfOk result (λ item. item ≡ open_of handle.now path.now (texts_of options.now)) }
+    ensures item { IfOk result (λ item. item ≡ open_of handle.now path.now (texts_of options.now)) }
 {
     if is_unbuilt(options) {
         return Ok(Item::NotBuilt);
@@ -28,7 +29,7 @@ pub fn open_of(alloc: Global, handle: &str, path: &str, options: &[&str]) -> Res
 }
 
 fn open_with(handle: Option<u32>, path: Option<PathText>, chosen: Option<Chosen>) -> Item
-    ensures { result ≡ open_with handle path chosen }
+    ensures item { result ≡ open_with handle path chosen }
 {
     match (handle, path, chosen) {
         (Some(handle), Some(path), Some(chosen)) => opening_at(handle, path, chosen),
@@ -38,7 +39,7 @@ fn open_with(handle: Option<u32>, path: Option<PathText>, chosen: Option<Chosen>
 
 /// An opening by what its options chose; they have to choose slots.
 fn opening_at(handle: u32, path: PathText, chosen: Chosen) -> Item
-    ensures { result ≡ opening_at handle path chosen chosen.slots }
+    ensures item { result ≡ opening_at handle path chosen chosen.slots }
 {
     let Chosen {
         folders,
@@ -61,49 +62,41 @@ fn opening_at(handle: u32, path: PathText, chosen: Chosen) -> Item
     }
 }
 
-/// The number of a handle.
-#[tactic(auto, unfolding(odb_base::specs::Decimal::number_below))]
-pub fn handle_of(text: &str) -> Option<u32>
-    ensures { result ≡ handle_of text.now }
-{
-    u32::try_from(parse_decimal(text)?).ok()
-}
-
 /// Whether one of the options isn't built yet, or none gives slots.
 fn is_unbuilt(options: &[&str]) -> bool
-    ensures { result ≡ is_unbuilt (texts_of options.now) }
+    ensures unbuilt { result ≡ is_unbuilt (texts_of options.now) }
 {
     has_unbuilt(options) || !have_slots(options)
 }
 
 #[tactic(auto, using(crate::proofs::OpeningLemmas::any_of_texts))]
 fn has_unbuilt(options: &[&str]) -> bool
-    ensures { result ≡ list_any is_unbuilt_option (texts_of options.now) }
+    ensures unbuilt { result ≡ list_any is_unbuilt_option (texts_of options.now) }
 {
     any_is_unbuilt(options)
 }
 
 fn any_is_unbuilt(options: &[&str]) -> bool
-    ensures { result ≡ list_any (λ option. is_unbuilt_option option.now) options.now }
+    ensures unbuilt { result ≡ list_any (λ option. is_unbuilt_option option.now) options.now }
 {
     options.iter().any(|option| is_unbuilt_option(option))
 }
 
 #[tactic(auto, using(crate::proofs::OpeningLemmas::any_of_texts))]
 fn have_slots(options: &[&str]) -> bool
-    ensures { result ≡ list_any gives_slots (texts_of options.now) }
+    ensures slots { result ≡ list_any gives_slots (texts_of options.now) }
 {
     any_gives_slots(options)
 }
 
 fn any_gives_slots(options: &[&str]) -> bool
-    ensures { result ≡ list_any (λ option. gives_slots option.now) options.now }
+    ensures slots { result ≡ list_any (λ option. gives_slots option.now) options.now }
 {
     options.iter().any(|option| gives_slots(option))
 }
 
 fn gives_slots(option: &str) -> bool
-    ensures { result ≡ gives_slots option.now }
+    ensures slots { result ≡ gives_slots option.now }
 {
     match name_and_value(option) {
         Some((name, _)) => name == "slots",
@@ -112,7 +105,7 @@ fn gives_slots(option: &str) -> bool
 }
 
 fn is_unbuilt_option(option: &str) -> bool
-    ensures { result ≡ is_unbuilt_option option.now }
+    ensures unbuilt { result ≡ is_unbuilt_option option.now }
 {
     match name_and_value(option) {
         Some((name, value)) => is_unbuilt_choice(name, value),
@@ -122,7 +115,7 @@ fn is_unbuilt_option(option: &str) -> bool
 
 /// Whether a name isn't built yet, or one of the ids in its value.
 fn is_unbuilt_choice(name: &str, value: &str) -> bool
-    ensures { result ≡ is_unbuilt_choice name.now value.now }
+    ensures unbuilt { result ≡ is_unbuilt_choice name.now value.now }
 {
     if is_unbuilt_name(name) {
         return true;
@@ -132,14 +125,14 @@ fn is_unbuilt_choice(name: &str, value: &str) -> bool
 }
 
 fn is_unbuilt_name(name: &str) -> bool
-    ensures { result ≡ is_one_of unbuilt_options name.now }
+    ensures unbuilt { result ≡ is_one_of unbuilt_options name.now }
 {
     matches!(name, "changes" | "midx" | "hash")
 }
 
 /// Whether an id has 64 digits. Those aren't built yet.
 fn is_long(id: Option<ObjectId>) -> bool
-    ensures { result ≡ is_long id }
+    ensures long { result ≡ is_long id }
 {
     matches!(id, Some(ObjectId::Sha256(_)))
 }

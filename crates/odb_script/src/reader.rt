@@ -1,8 +1,10 @@
+//! Scripts, read line by line.
 ghost use Rattle.std.specs.Prelude.{◌≡◌, ◌+◌, ◌==◌, ◌≤◌, ◌<◌, position, ◌∷◌, [], length, IfOk, IfSome, IsNone, if◌then◌else◌};
 ghost use Rattle.odb_tree.specs.Tree.Change.{is_possible};
 ghost use Rattle.odb_disk.specs.MemDisk.{after_outside_change};
 ghost use Rattle.odb_script.specs.Line.{item_of};
-ghost use Rattle.odb_script.specs.Script.{taken, disk_of, lines_of, lines_in, items_in, carried, reading_from, reading_of};
+ghost use Rattle.odb_script.specs.Script.{taken, disk_of, lines_of, items_in, last_item, reading_at, reading_from, reading_of};
+ghost use Rattle.odb_script.specs.Split.{line_feed, lines_in};
 
 use crate::item::{Item, item_of};
 use gix_odb_world::Line;
@@ -10,7 +12,7 @@ use odb_base::{NoMemory, Sequence};
 use odb_disk::{Change, Impossible, MemDisk};
 use std::alloc::Global;
 
-/// The most bytes of a script.
+/// The most bytes of a script, 64 MiB: a source that never ends is refused.
 pub const SCRIPT_LIMIT: usize = 67_108_864;
 
 /// How far a script is read: the calls that are to fail come first, then the setup of the disk, then the lines to play.
@@ -52,7 +54,7 @@ impl Script {
     /// is impossible.
     #[tactic(auto, unfolding(crate::specs::Script::taken))]
     pub fn take(self, alloc: Global, item: Item) -> Result<Taken, NoMemory>
-        ensures { IfOk result (λ t. t ≡ taken self item) }
+        ensures taken { IfOk result (λ t. t ≡ taken self item) }
     {
         match item {
             Item::Blank => Ok(Taken::GoesOn(self)),
@@ -68,7 +70,7 @@ impl Script {
 
 #[tactic(auto, unfolding(crate::specs::Script::taken))]
 fn with_fault(script: Script, number: u64) -> Result<Taken, NoMemory>
-    ensures { IfOk result (λ t. t ≡ taken script (Item.Fail number)) }
+    ensures taken { IfOk result (λ t. t ≡ taken script (Item.Fail number)) }
 {
     match script {
         Script::Faults(mut numbers) => {
@@ -81,7 +83,7 @@ fn with_fault(script: Script, number: u64) -> Result<Taken, NoMemory>
 
 #[tactic(auto, unfolding(crate::specs::Script::taken))]
 fn with_line(script: Script, line: Line) -> Result<Taken, NoMemory>
-    ensures { IfOk result (λ t. t ≡ taken script (Item.Play line)) }
+    ensures taken { IfOk result (λ t. t ≡ taken script (Item.Play line)) }
 {
     match script {
         Script::Steps { disk, lines } => one_more(disk, lines, line),
@@ -91,7 +93,7 @@ fn with_line(script: Script, line: Line) -> Result<Taken, NoMemory>
 
 #[tactic(auto, unfolding(crate::specs::Script::taken))]
 fn one_more(disk: MemDisk, lines: Sequence<Line>, line: Line) -> Result<Taken, NoMemory>
-    ensures { IfOk result (λ t. t ≡ taken (Script.Steps disk lines) (Item.Play line)) }
+    ensures taken { IfOk result (λ t. t ≡ taken (Script.Steps disk lines) (Item.Play line)) }
 {
     let mut lines = lines;
     lines.push(line)?;
@@ -101,7 +103,7 @@ fn one_more(disk: MemDisk, lines: Sequence<Line>, line: Line) -> Result<Taken, N
 /// The steps begin.
 #[tactic(auto, unfolding(crate::specs::Script::taken))]
 fn begun(script: Script, alloc: Global) -> Result<Taken, NoMemory>
-    ensures { IfOk result (λ t. t ≡ taken script Item.Steps) }
+    ensures taken { IfOk result (λ t. t ≡ taken script Item.Steps) }
 {
     let lines = Sequence::new(alloc);
     match script {
@@ -116,7 +118,7 @@ fn begun(script: Script, alloc: Global) -> Result<Taken, NoMemory>
 
 #[tactic(auto, unfolding(crate::specs::Script::taken))]
 fn set_up(script: Script, alloc: Global, change: &Change) -> Result<Taken, NoMemory>
-    ensures { IfOk result (λ t. t ≡ taken script (Item.Setup change.now)) }
+    ensures taken { IfOk result (λ t. t ≡ taken script (Item.Setup change.now)) }
 {
     match script {
         Script::Faults(numbers) => first_change(numbers, alloc, change),
@@ -127,7 +129,7 @@ fn set_up(script: Script, alloc: Global, change: &Change) -> Result<Taken, NoMem
 
 #[tactic(auto, unfolding(crate::specs::Script::taken))]
 fn first_change(numbers: Sequence<u64>, alloc: Global, change: &Change) -> Result<Taken, NoMemory>
-    ensures { IfOk result (λ t. t ≡ taken (Script.Faults numbers) (Item.Setup change.now)) }
+    ensures taken { IfOk result (λ t. t ≡ taken (Script.Faults numbers) (Item.Setup change.now)) }
 {
     let mut disk = MemDisk::with_faults(alloc, numbers.as_slice())?;
     if try_change(&mut disk, alloc, change)? {
@@ -139,7 +141,7 @@ fn first_change(numbers: Sequence<u64>, alloc: Global, change: &Change) -> Resul
 
 #[tactic(auto, unfolding(crate::specs::Script::taken))]
 fn next_change(disk: MemDisk, alloc: Global, change: &Change) -> Result<Taken, NoMemory>
-    ensures { IfOk result (λ t. t ≡ taken (Script.Setup disk) (Item.Setup change.now)) }
+    ensures taken { IfOk result (λ t. t ≡ taken (Script.Setup disk) (Item.Setup change.now)) }
 {
     let mut disk = disk;
     if try_change(&mut disk, alloc, change)? {
@@ -184,7 +186,7 @@ impl Reading {
 /// built.
 #[tactic(auto, unfolding(crate::specs::Script::items_of))]
 pub fn read(alloc: Global, bytes: &[u8]) -> Result<Reading, NoMemory>
-    ensures { IfOk result (λ reading. reading ≡ reading_of bytes.now) }
+    ensures reading { IfOk result (λ reading. reading ≡ reading_of bytes.now) }
 {
     if bytes.len() <= SCRIPT_LIMIT {
         read_lines(alloc, bytes, false)
@@ -196,8 +198,8 @@ pub fn read(alloc: Global, bytes: &[u8]) -> Result<Reading, NoMemory>
 /// Reads lines, of which the last is refused where they are cut off there.
 #[tactic(auto, using(crate::proofs::ScriptLemmas::goes_on, crate::proofs::ScriptLemmas::refused, crate::proofs::ScriptLemmas::not_built, crate::proofs::ScriptLemmas::last))]
 fn read_lines(alloc: Global, bytes: &[u8], is_cut: bool) -> Result<Reading, NoMemory>
-    requires { length bytes.now ≤ SCRIPT_LIMIT }
-    ensures { IfOk result (λ reading. reading ≡ reading_from (items_in is_cut (lines_in bytes.now)) 1 (Script.Faults [])) }
+    requires short { length bytes.now ≤ SCRIPT_LIMIT }
+    ensures reading { IfOk result (λ reading. reading ≡ reading_from (items_in is_cut (lines_in bytes.now)) 1 (Script.Faults [])) }
 {
     let mut script = Script::Faults(Sequence::new(alloc));
     let mut rest = bytes;
@@ -216,7 +218,7 @@ fn read_lines(alloc: Global, bytes: &[u8], is_cut: bool) -> Result<Reading, NoMe
 
 /// The script with the line more that is these bytes.
 fn with_text(script: Script, alloc: Global, line: &[u8]) -> Result<Taken, NoMemory>
-    ensures { IfOk result (λ t. t ≡ taken script (item_of line.now)) }
+    ensures taken { IfOk result (λ t. t ≡ taken script (item_of line.now)) }
 {
     let item = item_of(alloc, line)?;
     script.take(alloc, item)
@@ -230,14 +232,14 @@ fn with_last(
     is_cut: bool,
     number: u64,
 ) -> Result<Reading, NoMemory>
-    ensures { IfOk result (λ reading. reading ≡ carried (reading_from [] (number + 1)) number (taken script (if is_cut then Item.Refused else item_of line.now))) }
+    ensures reading { IfOk result (λ reading. reading ≡ reading_at number (taken script (last_item is_cut line.now))) }
 {
     let item = last_item(alloc, line, is_cut)?;
     Ok(reading_at(script.take(alloc, item)?, number))
 }
 
 fn last_item(alloc: Global, line: &[u8], is_cut: bool) -> Result<Item, NoMemory>
-    ensures { IfOk result (λ item. item ≡ (if is_cut then Item.Refused else item_of line.now)) }
+    ensures item { IfOk result (λ item. item ≡ last_item is_cut line.now) }
 {
     if is_cut {
         Ok(Item::Refused)
@@ -249,7 +251,7 @@ fn last_item(alloc: Global, line: &[u8], is_cut: bool) -> Result<Item, NoMemory>
 /// The reading of a script that goes no further.
 #[tactic(auto, unfolding(crate::specs::Script::reading_from))]
 fn reading_at(taken: Taken, number: u64) -> Reading
-    ensures { result ≡ carried (reading_from [] (number + 1)) number taken }
+    ensures reading { result ≡ reading_at number taken }
 {
     match taken {
         Taken::GoesOn(script) => Reading {
@@ -262,7 +264,7 @@ fn reading_at(taken: Taken, number: u64) -> Reading
 }
 
 fn refused_at(script: Script, number: u64) -> Reading
-    ensures { result ≡ record { script = script; ending = Ending.RefusedAt number } }
+    ensures reading { result ≡ record { script = script; ending = Ending.RefusedAt number } }
 {
     Reading {
         script,
@@ -271,7 +273,7 @@ fn refused_at(script: Script, number: u64) -> Reading
 }
 
 fn not_built_at(script: Script, number: u64) -> Reading
-    ensures { result ≡ record { script = script; ending = Ending.NotBuiltAt number } }
+    ensures reading { result ≡ record { script = script; ending = Ending.NotBuiltAt number } }
 {
     Reading {
         script,
@@ -292,7 +294,7 @@ fn next_line(bytes: &[u8]) -> Option<(&[u8], &[u8])>
 }
 
 fn first_line_feed(bytes: &[u8]) -> Option<usize>
-    ensures { result ≡ position (λ b. b == 10) bytes.now }
+    ensures place { result ≡ position (λ b. b == line_feed) bytes.now }
 {
     bytes.iter().position(|byte| *byte == b'\n')
 }

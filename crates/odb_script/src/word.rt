@@ -1,3 +1,4 @@
+//! The words of the language: those that a line may begin with, and those that may follow `do`.
 ghost use Rattle.std.specs.Prelude.{◌≡◌, Some, None, if◌then◌else◌};
 ghost use Rattle.odb_script.specs.Word.{word_of, step_word_of, change_word_of, unbuilt_words, is_one_of};
 
@@ -9,16 +10,13 @@ pub enum Question {
     Test,
 }
 
-/// A word that says what a line is about.
+/// A word that a line may begin with.
 #[derive(Clone, Copy, PartialEq, Eq)]
 pub enum Word {
     Fail,
     Mkdir,
     Put,
     Link,
-    Rename,
-    Remove,
-    Time,
     Steps,
     Open,
     Close,
@@ -35,10 +33,21 @@ pub enum Word {
     NotBuilt,
 }
 
+/// A word that may follow `do`: how another program changes the disk. With three of them lines of the setup begin too.
+#[derive(Clone, Copy, PartialEq, Eq)]
+pub enum ChangeWord {
+    Mkdir,
+    Put,
+    Link,
+    Rename,
+    Remove,
+    Time,
+}
+
 /// The word that a line may begin with.
 #[tactic(auto, unfolding(crate::specs::Word::word_of))]
 pub fn word_of(text: &str) -> Option<Word>
-    ensures { result ≡ word_of text.now }
+    ensures word { result ≡ word_of text.now }
 {
     match text {
         "fail" => Some(Word::Fail),
@@ -52,7 +61,7 @@ pub fn word_of(text: &str) -> Option<Word>
 
 /// The word of a step, or one that isn't built yet, with which a line may begin.
 fn step_word_of(text: &str) -> Option<Word>
-    ensures { result ≡ step_word_of text.now }
+    ensures word { result ≡ step_word_of text.now }
 {
     match text {
         "open" => Some(Word::Open),
@@ -73,23 +82,23 @@ fn step_word_of(text: &str) -> Option<Word>
 
 /// The word that may follow `do`.
 #[tactic(auto, unfolding(crate::specs::Word::change_word_of))]
-pub fn change_word_of(text: &str) -> Option<Word>
-    ensures { result ≡ change_word_of text.now }
+pub fn change_word_of(text: &str) -> Option<ChangeWord>
+    ensures word { result ≡ change_word_of text.now }
 {
     match text {
-        "mkdir" => Some(Word::Mkdir),
-        "put" => Some(Word::Put),
-        "link" => Some(Word::Link),
-        "rename" => Some(Word::Rename),
-        "remove" => Some(Word::Remove),
-        "time" => Some(Word::Time),
+        "mkdir" => Some(ChangeWord::Mkdir),
+        "put" => Some(ChangeWord::Put),
+        "link" => Some(ChangeWord::Link),
+        "rename" => Some(ChangeWord::Rename),
+        "remove" => Some(ChangeWord::Remove),
+        "time" => Some(ChangeWord::Time),
         _ => None,
     }
 }
 
 /// Whether a line may begin with a word that isn't built yet.
 fn is_unbuilt_word(text: &str) -> bool
-    ensures { result ≡ is_one_of unbuilt_words text.now }
+    ensures unbuilt { result ≡ is_one_of unbuilt_words text.now }
 {
     matches!(
         text,
@@ -99,7 +108,7 @@ fn is_unbuilt_word(text: &str) -> bool
 
 /// The word for what isn't built yet, if a test found one.
 fn not_built(is_unbuilt: bool) -> Option<Word>
-    ensures { result ≡ (if is_unbuilt then Some Word.NotBuilt else None) }
+    ensures word { result ≡ (if is_unbuilt then Some Word.NotBuilt else None) }
 {
     if is_unbuilt {
         Some(Word::NotBuilt)

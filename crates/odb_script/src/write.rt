@@ -1,11 +1,9 @@
 //! The writes that lines start.
 ghost use Rattle.std.specs.Prelude.{◌≡◌, Some, IfOk};
-ghost use Rattle.gix_object.specs.Kind.{kind_of_word};
 ghost use Rattle.odb_script.specs.Line.{texts_of, line_item, size_of, write_of, write_under};
 
-use crate::content::data_of;
-use crate::item::{Item, id_of, step_item};
-use crate::opening::handle_of;
+use crate::field::{data_of, handle_of, id_of, kind_of};
+use crate::item::{Item, step_item};
 use crate::word::Word;
 use gix_hash::ObjectId;
 use gix_object::Kind;
@@ -16,7 +14,7 @@ use std::alloc::Global;
 /// A write of data by the handle, the kind and the data. The size is that of the data.
 #[tactic(auto, unfolding(crate::specs::Line::line_item))]
 pub fn write(alloc: Global, fields: &[&str]) -> Result<Item, NoMemory>
-    ensures { IfOk result (λ item. item ≡ line_item (Some Word.Write) (texts_of fields.now)) }
+    ensures item { IfOk result (λ item. item ≡ line_item (Some Word.Write) (texts_of fields.now)) }
 {
     match fields {
         [handle, kind, data] => {
@@ -31,7 +29,7 @@ pub fn write(alloc: Global, fields: &[&str]) -> Result<Item, NoMemory>
 /// A write of data with the size that the line says they have.
 #[tactic(auto, unfolding(crate::specs::Line::line_item))]
 pub fn stream(alloc: Global, fields: &[&str]) -> Result<Item, NoMemory>
-    ensures { IfOk result (λ item. item ≡ line_item (Some Word.Stream) (texts_of fields.now)) }
+    ensures item { IfOk result (λ item. item ≡ line_item (Some Word.Stream) (texts_of fields.now)) }
 {
     match fields {
         [handle, kind, size, data] => {
@@ -46,7 +44,7 @@ pub fn stream(alloc: Global, fields: &[&str]) -> Result<Item, NoMemory>
 /// A write of data under an id that the line says they have.
 #[tactic(auto, unfolding(crate::specs::Line::line_item))]
 pub fn writeas(alloc: Global, fields: &[&str]) -> Result<Item, NoMemory>
-    ensures { IfOk result (λ item. item ≡ line_item (Some Word.WriteAs) (texts_of fields.now)) }
+    ensures item { IfOk result (λ item. item ≡ line_item (Some Word.WriteAs) (texts_of fields.now)) }
 {
     match fields {
         [handle, kind, id, data] => {
@@ -57,15 +55,9 @@ pub fn writeas(alloc: Global, fields: &[&str]) -> Result<Item, NoMemory>
     }
 }
 
-fn kind_of(word: &str) -> Option<Kind>
-    ensures { result ≡ kind_of_word word.now }
-{
-    Kind::from_bytes(word.as_bytes())
-}
-
 /// How many bytes of data there are.
 fn size_of(bytes: &Option<ByteList>) -> Option<u64>
-    ensures { result ≡ size_of bytes.now }
+    ensures size { result ≡ size_of bytes.now }
 {
     match bytes {
         Some(bytes) => Some(bytes.len() as u64),
@@ -80,7 +72,7 @@ fn write_under(
     id: Option<ObjectId>,
     bytes: Option<ByteList>,
 ) -> Item
-    ensures { result ≡ write_under handle kind id bytes }
+    ensures item { result ≡ write_under handle kind id bytes }
 {
     match id {
         None => Item::Refused,
@@ -100,7 +92,7 @@ fn write_of(
     bytes: Option<ByteList>,
     id: Option<ObjectId>,
 ) -> Item
-    ensures { result ≡ write_of handle kind size bytes id }
+    ensures item { result ≡ write_of handle kind size bytes id }
 {
     match (handle, kind, size, bytes) {
         (Some(handle), Some(kind), Some(size), Some(bytes)) => step_item(Step::Start {

@@ -1,18 +1,14 @@
 -- Lemmas on why a file is refused.
-use Rattle.std.proofs.Common.{◌≡◌, ℕ, ◌≤◌, false, nat_lt, List, length, sym, ◌∙◌, ap, subst, Option, Some, None, Result, if◌then◌else◌, arith}
+use Rattle.std.proofs.Common.{◌≡◌, ℕ, ◌≤◌, false, nat_lt, List, length, sym, ◌∙◌, ap, subst, Option, Some, Result, if◌then◌else◌, arith}
 use Rattle.std.specs.Result.{IfOk}
 use Rattle.std.proofs.lemmas.Bool.Decides.{nat_tests}
 use Rattle.gix_hash.specs.declared.kind.Kind.{Kind}
-use Rattle.gix_pack.specs.Index.{is_index}
 use Rattle.probe_index.specs.declared.asked.Asked.{Asked}
 use Rattle.probe_index.specs.declared.probe.Format.TheVariants.{Index}
 use Rattle.probe_index.specs.declared.probe.Refusal.{Refusal}
-use Rattle.probe_index.specs.declared.probe.Refusal.TheVariants.{BadIndex, TooLong}
+use Rattle.probe_index.specs.declared.probe.Refusal.TheVariants.{TooLong}
 use Rattle.probe_index.specs.declared.status.Status.{Status}
-use Rattle.probe_index.specs.Probe.{WritesIn, WritesOf, file_limit, format_of, refusal_in, refusal_of}
-
-abbrev index_refusal : Kind → List ℕ → Option Refusal
-index_refusal kind bytes = if is_index kind bytes then None else Some BadIndex
+use Rattle.probe_index.specs.Probe.{WritesIn, WritesOf, file_limit, format_of, index_refusal, refusal_in, refusal_of}
 
 refusal_of-index : (kind : Kind) (bytes : List ℕ) → length bytes ≤ file_limit → format_of bytes ≡ Some Index → refusal_of kind bytes ≡ index_refusal kind bytes
 refusal_of-index kind bytes short format =

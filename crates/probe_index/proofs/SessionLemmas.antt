@@ -1,5 +1,6 @@
 -- Lemmas on statuses: a front of a file that is too long is answered as the file, and what a delivery says of a status.
 use Rattle.std.proofs.Common.{◌≡◌, ◌⊎◌, inl, inr, ℕ, ◌<◌, ◌≤◌, true, nat_lt, List, [], ◌++◌, length, refl, sym, ap, ◌∙◌, subst, Option, Some, None, arith}
+use Rattle.std.specs.Prelude.{IfSome}
 use Rattle.std.proofs.lemmas.Bool.{cases_lt}
 use Rattle.std.proofs.lemmas.Bool.Decides.{nat_tests}
 use Rattle.std.proofs.lemmas.List.{append-nil, length-append}
@@ -11,7 +12,9 @@ use Rattle.probe_index.specs.declared.status.Status.TheVariants as statuses
 use Rattle.probe_index.specs.declared.probe.Refusal.{Refusal}
 use Rattle.probe_index.specs.declared.probe.Refusal.TheVariants.{TooLong}
 use Rattle.probe_index.specs.Probe.{WritesIn, WritesOf, file_limit, refusal_of}
-use Rattle.probe_index.specs.Session.{Delivers, Ends, Finished, ReadToEnd, Session, Writes, WritesForFile}
+use Rattle.odb_program.specs.Session.{Delivers, Input}
+use Rattle.odb_program.proofs.SessionLaws.{ReadToEnd-short, ends_delivered, holds_of_source}
+use Rattle.probe_index.specs.Session.{Ends, Finishes, Session, Writes, WritesFor}
 
 -- ---- a file that is too long
 
@@ -36,62 +39,54 @@ WritesOf-read asked bytes rest written status whole writes =
           subst P (sym (ap (λ r. bytes ++ r) (whole short) ∙ append-nil bytes)) writes
     ]
 
-WritesForFile-read : (asked : Asked) (left left' : Option (List ℕ)) (bytes written : List ℕ) (status : Status) → ReadsFile file_limit left left' bytes → WritesOf asked bytes written status → WritesForFile asked left written status
-WritesForFile-read asked None left' bytes written status reads writes = tt
-WritesForFile-read asked (Some left) left' bytes written status reads writes =
-    let P : List ℕ → Type 0 = λ b. WritesOf asked b written status in
-    subst P (sym reads.1) (WritesOf-read asked bytes reads.0 written status reads.3 writes)
+written_for_file : (asked : Asked) (input : Input) (bytes written : List ℕ) (status : Status) → ReadsFile file_limit input.left input.left' bytes → WritesOf asked bytes written status
+    → IfSome input.left (λ file. WritesOf asked file written status)
+written_for_file asked input bytes written status reads writes =
+    holds_of_source file_limit input.left input.left' bytes (λ file. WritesOf asked file written status) reads
+    (λ rest whole. WritesOf-read asked bytes rest written status whole writes)
 
 -- ---- a file that is answered was read to its end
 
 refused : (asked : Asked) (bytes written : List ℕ) → WritesIn asked bytes written statuses.Done (Some TooLong) → ⊥
 refused asked bytes written writes = cc writes.0
 
-Done-short : (asked : Asked) (bytes written : List ℕ) → WritesOf asked bytes written statuses.Done → file_limit < length bytes → ⊥
-Done-short asked bytes written writes long =
-    let P : Option Refusal → Type 0 = λ why. WritesIn asked bytes written statuses.Done why in
-    refused asked bytes written (subst P (too_long asked.kind bytes long) writes)
-
-ReadToEnd-Done : (asked : Asked) (left left' : Option (List ℕ)) (bytes written : List ℕ) → ReadsFile file_limit left left' bytes → WritesOf asked bytes written statuses.Done → ReadToEnd left left'
-ReadToEnd-Done asked None left' bytes written reads writes = tt
-ReadToEnd-Done asked (Some left) left' bytes written reads writes =
+done_is_short : (asked : Asked) (bytes written : List ℕ) → WritesOf asked bytes written statuses.Done → length bytes ≤ file_limit
+done_is_short asked bytes written writes =
     elim (cases_lt file_limit (length bytes)) [
-      | inl long ↦ absurd (Done-short asked bytes written writes long)
-      | inr short ↦ reads.2 ∙ ap Some (reads.3 short)
+      | inl long ↦
+          let P : Option Refusal → Type 0 = λ why. WritesIn asked bytes written statuses.Done why in
+          absurd (refused asked bytes written (subst P (too_long asked.kind bytes long) writes))
+      | inr short ↦ short
     ]
 
 -- ---- what a delivery says of a status
 
 -- an output that was delivered ends with its status, or with a failed write
-pub Ends-delivered : (s : Session) (output : List ℕ) (status result : Status) → Writes s.usage s.asked s.left output status → (Finished s status → Ends s status) → Delivers s.held s.held' s.sink_faults s.sink_faults' output status result → Ends s result
-Ends-delivered s output status result writes ends (inl whole) =
-    let P : Status → Type 0 = λ r. Ends s r in
-    subst P (sym whole.0) (ends (record { written = output; writes = writes; added = whole.1 }))
-Ends-delivered s output status result writes ends (inr failed) =
-    let P : Status → Type 0 = λ r. Ends s r in
-    subst P (sym failed.0) (failed.1, record { status = status; written = output; writes = writes; count = failed.2.0; added = failed.2.1 })
+pub Ends-delivered : (s : Session) (output : List ℕ) (status result : Status) → Writes s output status → (Finishes s status → Ends s status) → Delivers statuses.WriteFault s.output output status result → Ends s result
+Ends-delivered s output status result writes ends delivered =
+    ends_delivered (Ends s) (Writes s) statuses.WriteFault s.output output status result writes ends (λ failed. failed) delivered
 
 -- a file is answered, or it is refused
 answered_or_refused : (asked : Asked) (bytes written : List ℕ) (status : Status) (why : Option Refusal) → WritesIn asked bytes written status why → (status ≡ statuses.Done) ⊎ (status ≡ statuses.Refused)
 answered_or_refused asked bytes written status None writes = inl writes.0
 answered_or_refused asked bytes written status (Some why) writes = inr writes.0
 
-module _ (s : Session) (asked : Asked) (bytes output : List ℕ) (asks : s.asked ≡ Some asked) (reads : ReadsFile file_limit s.left s.left' bytes) where
-  ends-by : (status : Status) → WritesOf asked bytes output status → (status ≡ statuses.Done) ⊎ (status ≡ statuses.Refused) → Finished s status → Ends s status
+module _ (s : Session) (asked : Asked) (bytes output : List ℕ) (asks : s.asked ≡ Some asked) (reads : ReadsFile file_limit s.input.left s.input.left' bytes) where
+  ends-by : (status : Status) → WritesOf asked bytes output status → (status ≡ statuses.Done) ⊎ (status ≡ statuses.Refused) → Finishes s status → Ends s status
   ends-by status writes (inl done) finished =
-      let P : Status → Type 0 = λ r. WritesOf asked bytes output r → Finished s r → Ends s r in
-      subst P (sym done) (λ w f. ((asked, asks), f, ReadToEnd-Done asked s.left s.left' bytes output reads w)) writes finished
+      let P : Status → Type 0 = λ r. WritesOf asked bytes output r → Finishes s r → Ends s r in
+      subst P (sym done) (λ w f. ((asked, asks), f, ReadToEnd-short file_limit s.input.left s.input.left' bytes reads (done_is_short asked bytes output w))) writes finished
   ends-by status writes (inr refused) finished =
-      let P : Status → Type 0 = λ r. Finished s r → Ends s r in
+      let P : Status → Type 0 = λ r. Finishes s r → Ends s r in
       subst P (sym refused) (λ f. ((asked, asks), f)) finished
 
-  writes-for : (status : Status) → WritesOf asked bytes output status → Writes s.usage s.asked s.left output status
+  writes-for : (status : Status) → WritesOf asked bytes output status → Writes s output status
   writes-for status writes =
-      let P : Option Asked → Type 0 = λ a. Writes s.usage a s.left output status in
-      subst P (sym asks) (WritesForFile-read asked s.left s.left' bytes output status reads writes)
+      let P : Option Asked → Type 0 = λ a. WritesFor s.usage a s.input.left output status in
+      subst P (sym asks) (written_for_file asked s.input bytes output status reads writes)
 
   -- a file that was answered ends with the status of its answer, or with a failed write
-  pub Ends-answered : (status result : Status) → WritesOf asked bytes output status → Delivers s.held s.held' s.sink_faults s.sink_faults' output status result → Ends s result
+  pub Ends-answered : (status result : Status) → WritesOf asked bytes output status → Delivers statuses.WriteFault s.output output status result → Ends s result
   Ends-answered status result writes delivered =
       Ends-delivered s output status result (writes-for status writes)
       (ends-by status writes (answered_or_refused asked bytes output status (refusal_of asked.kind bytes) writes))

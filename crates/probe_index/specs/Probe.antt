@@ -14,21 +14,34 @@ use Rattle.probe_index.specs.declared.status.Status.{Status}
 use Rattle.probe_index.specs.declared.status.Status.TheVariants.{Done, Refused}
 use Rattle.probe_index.specs.Lines.{AreLines, IsIndexLine, IsPackLine}
 
--- the most bytes that a file may have: 1 GiB
+-- the most bytes that a file may have, 1 GiB: a source that never ends is refused
 abbrev pub file_limit : ℕ
-file_limit = 1073741824
+file_limit = 1_073_741_824
+
+-- the bytes that a pack index and a multi-pack index begin with
+abbrev pub index_start : List ℕ
+index_start = 255 ∷ 116 ∷ 79 ∷ 99 ∷ []
+
+abbrev pub multi_index_start : List ℕ
+multi_index_start = codes "MIDX"
 
 -- the format that the first four bytes tell
 abbrev pub format_of : List ℕ → Option Format
 format_of bytes =
-    if starts_with nat_eq bytes (255 ∷ 116 ∷ 79 ∷ 99 ∷ []) then Some Index
-    else if starts_with nat_eq bytes (codes "MIDX") then Some MultiIndex
+    if starts_with nat_eq bytes index_start then Some Index
+    else if starts_with nat_eq bytes multi_index_start then Some MultiIndex
     else None
+
+abbrev pub index_refusal : Kind → List ℕ → Option Refusal
+index_refusal kind bytes = if is_index kind bytes then None else Some BadIndex
+
+abbrev pub multi_index_refusal : List ℕ → Option Refusal
+multi_index_refusal bytes = if is_some (multi_index_of bytes) then None else Some BadMultiIndex
 
 abbrev pub refusal_in : Kind → List ℕ → Option Format → Option Refusal
 refusal_in kind bytes None = Some Unknown
-refusal_in kind bytes (Some Index) = if is_index kind bytes then None else Some BadIndex
-refusal_in kind bytes (Some MultiIndex) = if is_some (multi_index_of bytes) then None else Some BadMultiIndex
+refusal_in kind bytes (Some Index) = index_refusal kind bytes
+refusal_in kind bytes (Some MultiIndex) = multi_index_refusal bytes
 
 -- why bytes are refused, if they are: the length comes before all else
 abbrev pub refusal_of : Kind → List ℕ → Option Refusal

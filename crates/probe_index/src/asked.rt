@@ -18,7 +18,7 @@ pub struct Asked {
 /// What the words ask for, if each of them is an id, and all are as long as the first.
 #[tactic(auto, unfolding(crate::specs::Asked::asked_of))]
 pub fn asked_of(alloc: Global, words: &[String]) -> Result<Option<Asked>, NoMemory>
-    ensures { IfOk result (λ asked. asked ≡ asked_of (map (λ word. string_bytes word) words.now)) }
+    ensures asked { IfOk result (λ asked. asked ≡ asked_of (map (λ word. string_bytes word) words.now)) }
 {
     let [first, ..] = words else {
         return Ok(None);
@@ -30,7 +30,7 @@ pub fn asked_of(alloc: Global, words: &[String]) -> Result<Option<Asked>, NoMemo
 }
 
 fn asked_with(alloc: Global, kind: Kind, words: &[String]) -> Result<Option<Asked>, NoMemory>
-    ensures { IfOk result (λ asked. asked ≡ asked_with kind (map (λ word. string_bytes word) words.now)) }
+    ensures asked { IfOk result (λ asked. asked ≡ asked_with kind (map (λ word. string_bytes word) words.now)) }
 {
     match ids_of(alloc, kind, words)? {
         Some(ids) => Ok(Some(Asked { kind, ids })),
@@ -44,7 +44,7 @@ fn ids_of(
     kind: Kind,
     words: &[String],
 ) -> Result<Option<Sequence<ObjectId>>, NoMemory>
-    ensures { IfOk result (λ ids. ids ≡ ids_of kind (map (λ word. string_bytes word) words.now) []) }
+    ensures ids { IfOk result (λ ids. ids ≡ ids_of kind (map (λ word. string_bytes word) words.now) []) }
 {
     let mut ids = Sequence::new(alloc);
     let mut rest = words;
@@ -60,7 +60,7 @@ fn ids_of(
 
 /// An id, if it is of the hash.
 fn kept(kind: Kind, id: Option<ObjectId>) -> Option<ObjectId>
-    ensures { result ≡ kept kind id }
+    ensures kept { result ≡ kept kind id }
 {
     match (kind, id) {
         (Kind::Sha1, Some(ObjectId::Sha1(bytes))) => Some(ObjectId::Sha1(bytes)),
@@ -71,7 +71,7 @@ fn kept(kind: Kind, id: Option<ObjectId>) -> Option<ObjectId>
 
 /// The id that a text spells.
 fn id_of(text: &str) -> Option<ObjectId>
-    ensures { result ≡ id_of text.now }
+    ensures id { result ≡ id_of text.now }
 {
     ObjectId::from_hex(text.as_bytes()).ok()
 }

@@ -1,10 +1,10 @@
 //! The lines that are written for ids.
-ghost use Rattle.std.specs.Prelude.{◌≡◌, ◌++◌, ℕ, List, IfOk, OnOk, Some};
+ghost use Rattle.std.specs.Prelude.{◌≡◌, ◌++◌, IfOk, OnOk, Some};
 ghost use Rattle.std.specs.Fmt.{decimal};
 ghost use Rattle.gix_hash.specs.ObjectId.{hex_of};
 ghost use Rattle.gix_pack.specs.Index.{index_rows};
 ghost use Rattle.gix_pack.specs.MultiIndex.{told};
-ghost use Rattle.probe_index.specs.Lines.{absent_line, name_at, offset_line, pack_line, AreLines, IsIndexLine, IsPackLine};
+ghost use Rattle.probe_index.specs.Lines.{absent_line, name_at, offset_line, pack_line, AddsLine, AreLines, IsIndexLine, IsPackLine};
 
 use gix_hash::ObjectId;
 use gix_pack::{index, multi_index};
@@ -17,7 +17,7 @@ pub fn index_lines(
     index: &index::File,
     ids: &[ObjectId],
 ) -> Result<Vec<u8>, NoMemory>
-    ensures { IfOk result (λ lines. AreLines (IsIndexLine (index_rows index.now.kind index.now.bytes)) ids.now lines.items) }
+    ensures lines { IfOk result (λ lines. AreLines (IsIndexLine (index_rows index.now.kind index.now.bytes)) ids.now lines.items) }
 {
     let mut lines = Vec::new(alloc);
     for id in ids {
@@ -32,7 +32,7 @@ fn add_index_line(
     index: &index::File,
     id: &ObjectId,
 ) -> Result<(), NoMemory>
-    ensures { OnOk result ((line : List ℕ) × IsIndexLine (index_rows index.now.kind index.now.bytes) id.now line × (lines.new.items ≡ lines.old.items ++ line)) }
+    ensures line { OnOk result (AddsLine (IsIndexLine (index_rows index.now.kind index.now.bytes) id.now) lines.old.items lines.new.items) }
 {
     match index.lookup(id) {
         Some(row) => add_offset(alloc, lines, id, index.pack_offset_at_index(row)),
@@ -46,7 +46,7 @@ pub fn pack_lines(
     index: &multi_index::File,
     ids: &[ObjectId],
 ) -> Result<Vec<u8>, NoMemory>
-    ensures { IfOk result (λ lines. AreLines (IsPackLine (told index.now)) ids.now lines.items) }
+    ensures lines { IfOk result (λ lines. AreLines (IsPackLine (told index.now)) ids.now lines.items) }
 {
     let mut lines = Vec::new(alloc);
     for id in ids {
@@ -61,7 +61,7 @@ fn add_pack_line(
     index: &multi_index::File,
     id: &ObjectId,
 ) -> Result<(), NoMemory>
-    ensures { OnOk result ((line : List ℕ) × IsPackLine (told index.now) id.now line × (lines.new.items ≡ lines.old.items ++ line)) }
+    ensures line { OnOk result (AddsLine (IsPackLine (told index.now) id.now) lines.old.items lines.new.items) }
 {
     match index.lookup(id) {
         Some(row) => {
@@ -75,7 +75,7 @@ fn add_pack_line(
 
 /// The name of the pack with a number. Each row of a multi-pack index names a pack that is there.
 fn name_at(names: &[PathName], pack: u32) -> &str
-    ensures { result.now ≡ name_at names.now pack }
+    ensures name { result.now ≡ name_at names.now pack }
 {
     match names.get(pack as usize) {
         Some(name) => name.as_str(),
@@ -84,7 +84,7 @@ fn name_at(names: &[PathName], pack: u32) -> &str
 }
 
 fn add_absent(alloc: Global, lines: &mut Vec<u8>, id: &ObjectId) -> Result<(), NoMemory>
-    ensures { OnOk result (lines.new.items ≡ lines.old.items ++ absent_line id.now) }
+    ensures ok { OnOk result (lines.new.items ≡ lines.old.items ++ absent_line id.now) }
 {
     add_id(alloc, lines, id)?;
     add(lines, b" absent\n")
@@ -96,7 +96,7 @@ fn add_offset(
     id: &ObjectId,
     offset: u64,
 ) -> Result<(), NoMemory>
-    ensures { OnOk result (lines.new.items ≡ lines.old.items ++ offset_line id.now offset) }
+    ensures ok { OnOk result (lines.new.items ≡ lines.old.items ++ offset_line id.now offset) }
 {
     add_id(alloc, lines, id)?;
     add(lines, b" ")?;
@@ -111,7 +111,7 @@ fn add_named_offset(
     offset: u64,
     name: &str,
 ) -> Result<(), NoMemory>
-    ensures { OnOk result (lines.new.items ≡ lines.old.items ++ pack_line id.now offset name.now) }
+    ensures ok { OnOk result (lines.new.items ≡ lines.old.items ++ pack_line id.now offset name.now) }
 {
     add_id(alloc, lines, id)?;
     add(lines, b" ")?;
@@ -123,20 +123,20 @@ fn add_named_offset(
 
 /// Adds an id in hex.
 fn add_id(alloc: Global, lines: &mut Vec<u8>, id: &ObjectId) -> Result<(), NoMemory>
-    ensures { OnOk result (lines.new.items ≡ lines.old.items ++ hex_of id.now) }
+    ensures ok { OnOk result (lines.new.items ≡ lines.old.items ++ hex_of id.now) }
 {
     add(lines, id.to_hex(alloc)?.as_bytes())
 }
 
 /// Adds a number in decimal.
 fn add_number(alloc: Global, lines: &mut Vec<u8>, number: u64) -> Result<(), NoMemory>
-    ensures { OnOk result (lines.new.items ≡ lines.old.items ++ decimal number) }
+    ensures ok { OnOk result (lines.new.items ≡ lines.old.items ++ decimal number) }
 {
     add(lines, number.to_string(alloc)?.as_bytes())
 }
 
 fn add(lines: &mut Vec<u8>, text: &[u8]) -> Result<(), NoMemory>
-    ensures { OnOk result (lines.new.items ≡ lines.old.items ++ text.now) }
+    ensures ok { OnOk result (lines.new.items ≡ lines.old.items ++ text.now) }
 {
     Ok(lines.extend_from_slice(text)?)
 }

@@ -4,10 +4,6 @@
 //! promises, over any source and sink; `main` calls it with the real ones.
 #![tactic(auto)]
 
-ghost use Rattle.std.specs.Prelude.{◌≡◌};
-ghost use Rattle.std.specs.Process.{exit_status};
-ghost use Rattle.probe_index.specs.Status.{code_of};
-
 mod asked;
 mod lines;
 mod probe;
@@ -17,40 +13,21 @@ mod status;
 mod tests;
 
 use crate::status::Status;
+use odb_base::NoMemory;
 use odb_disk::{StdSink, StdSource};
-use std::alloc::Global;
+use odb_program::{command_words, exit_code};
+use std::io;
 use std::process::ExitCode;
-use std::rt::Env;
-use std::{env, io};
 
 fn main(rt: HostRuntime) -> ExitCode {
+    exit_code(ended(&rt).unwrap_or(Status::NoMemory))
+}
+
+/// The status of a session over the real streams.
+fn ended(rt: &HostRuntime) -> Result<Status, NoMemory> {
     let alloc = rt.alloc();
-    let words = match words(&rt, alloc) {
-        Ok(words) => words,
-        Err(error) if error.kind() == io::ErrorKind::OutOfMemory => {
-            return exit_code(Status::NoMemory);
-        }
-        // Arguments that are no text are words that ask nothing.
-        Err(_) => Vec::new(alloc),
-    };
+    let words = command_words(rt, alloc)?;
     let mut source = StdSource::new(rt.reader());
-    let mut sink = StdSink::new(io::writer(&rt));
-    let status = run::run(alloc, &words, &mut source, &mut sink);
-    exit_code(status)
-}
-
-/// What the process ends with.
-fn exit_code(status: Status) -> ExitCode
-    ensures { exit_status result ≡ code_of status }
-{
-    ExitCode::from(status.code())
-}
-
-/// The words of the command line, without the program's name.
-fn words<R: Env + AllocGlobal>(rt: &R, alloc: Global) -> io::Result<Vec<String>> {
-    let mut words = Vec::new(alloc);
-    for word in env::args(rt)?.skip(1) {
-        words.push(word)?;
-    }
-    Ok(words)
+    let mut sink = StdSink::new(io::writer(rt));
+    Ok(run::run(alloc, &words, &mut source, &mut sink))
 }

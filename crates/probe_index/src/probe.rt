@@ -1,8 +1,6 @@
 //! A file in, and the lines of the ids that are asked for out.
-ghost use Rattle.std.specs.Prelude.{◌≡◌, Some, None, IfOk, is_some, if◌then◌else◌};
-ghost use Rattle.gix_pack.specs.Index.{is_index};
-ghost use Rattle.gix_pack.specs.MultiIndex.{multi_index_of};
-ghost use Rattle.probe_index.specs.Probe.{format_of, refusal_text, WritesIn, WritesOf};
+ghost use Rattle.std.specs.Prelude.{◌≡◌, Some, IfOk};
+ghost use Rattle.probe_index.specs.Probe.{format_of, index_refusal, multi_index_refusal, refusal_text, WritesIn, WritesOf};
 
 use crate::asked::Asked;
 use crate::lines::{index_lines, pack_lines};
@@ -11,8 +9,14 @@ use gix_pack::{index, multi_index};
 use odb_base::{ByteList, NoMemory};
 use std::alloc::Global;
 
-/// The most bytes that a file may have: 1 GiB.
+/// The most bytes that a file may have, 1 GiB: a source that never ends is refused.
 pub const FILE_LIMIT: usize = 1_073_741_824;
+
+/// The bytes that a pack index begins with, from version 2 on.
+const INDEX_START: [u8; 4] = [255, 116, 79, 99];
+
+/// The bytes that a multi-pack index begins with.
+const MULTI_INDEX_START: &[u8] = b"MIDX";
 
 /// What a file is.
 #[derive(Clone, Copy)]
@@ -39,7 +43,7 @@ pub fn answer_file(
     bytes: Vec<u8>,
     asked: &Asked,
 ) -> Result<(Vec<u8>, Status), NoMemory>
-    ensures { IfOk result (λ answer. WritesOf asked.now bytes.items answer.0.items answer.1) }
+    ensures writes { IfOk result (λ answer. WritesOf asked.now bytes.items answer.0.items answer.1) }
 {
     if bytes.len() > FILE_LIMIT {
         return refused(alloc, Refusal::TooLong);
@@ -53,11 +57,11 @@ pub fn answer_file(
 
 /// The format that the first four bytes tell.
 fn format_of(bytes: &[u8]) -> Option<Format>
-    ensures { result ≡ format_of bytes.now }
+    ensures format { result ≡ format_of bytes.now }
 {
-    if bytes.starts_with(&[255, 116, 79, 99]) {
+    if bytes.starts_with(&INDEX_START) {
         Some(Format::Index)
-    } else if bytes.starts_with(b"MIDX") {
+    } else if bytes.starts_with(MULTI_INDEX_START) {
         Some(Format::MultiIndex)
     } else {
         None
@@ -69,8 +73,8 @@ fn answer_index(
     bytes: ByteList,
     asked: &Asked,
 ) -> Result<(Vec<u8>, Status), NoMemory>
-    requires { format_of bytes ≡ Some Format.Index }
-    ensures { IfOk result (λ answer. WritesIn asked.now bytes answer.0.items answer.1 (if is_index asked.now.kind bytes then None else Some Refusal.BadIndex)) }
+    requires begins { format_of bytes ≡ Some Format.Index }
+    ensures writes { IfOk result (λ answer. WritesIn asked.now bytes answer.0.items answer.1 (index_refusal asked.now.kind bytes)) }
 {
     match index::File::parse(bytes, asked.kind) {
         Ok(index) => {
@@ -86,8 +90,8 @@ fn answer_multi_index(
     bytes: ByteList,
     asked: &Asked,
 ) -> Result<(Vec<u8>, Status), NoMemory>
-    requires { format_of bytes ≡ Some Format.MultiIndex }
-    ensures { IfOk result (λ answer. WritesIn asked.now bytes answer.0.items answer.1 (if is_some (multi_index_of bytes) then None else Some Refusal.BadMultiIndex)) }
+    requires begins { format_of bytes ≡ Some Format.MultiIndex }
+    ensures writes { IfOk result (λ answer. WritesIn asked.now bytes answer.0.items answer.1 (multi_index_refusal bytes)) }
 {
     match multi_index::File::parse(alloc, bytes, None) {
         Ok(index) => {
@@ -108,7 +112,7 @@ fn refused(alloc: Global, why: Refusal) -> Result<(Vec<u8>, Status), NoMemory>
 }
 
 fn text_of(why: Refusal) -> &'static [u8]
-    ensures { result.now ≡ refusal_text why }
+    ensures text { result.now ≡ refusal_text why }
 {
     match why {
         Refusal::TooLong => b"refused: more than 1073741824 bytes\n",

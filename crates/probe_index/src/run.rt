@@ -2,13 +2,15 @@
 ghost use Rattle.std.specs.Prelude.{◌≡◌, List, ℕ, None, Some, map};
 ghost use Rattle.std.specs.String.{string_bytes};
 ghost use Rattle.probe_index.specs.Asked.{asked_of};
-ghost use Rattle.probe_index.specs.Session.{Delivers, Ends};
+ghost use Rattle.odb_program.specs.Session.{input_of, output_of};
+ghost use Rattle.probe_index.specs.Session.{Ends};
 
 use crate::asked::{Asked, asked_of};
 use crate::probe::{FILE_LIMIT, answer_file};
 use crate::status::Status;
 use odb_base::NoMemory;
-use odb_disk::{Failed, ReadError, Sink, Source, read_file, write_all};
+use odb_disk::{ReadError, Sink, Source, read_file};
+use odb_program::answer;
 use std::alloc::Global;
 
 /// What is written where the words ask nothing.
@@ -36,14 +38,8 @@ pub fn run<S: Source, K: Sink>(
 ) -> Status
     ensures ends { Ends (record {
       asked = asked_of (map (λ word. string_bytes word) words.now);
-      left = S.left source.old;
-      left' = S.left source.new;
-      held = K.held sink.old;
-      held' = K.held sink.new;
-      source_faults = S.faults source.old;
-      source_faults' = S.faults source.new;
-      sink_faults = K.faults sink.old;
-      sink_faults' = K.faults sink.new;
+      input = input_of S.left S.faults source.old source.new;
+      output = output_of K.held K.faults sink.old sink.new;
       usage = USAGE.now;
     }) result }
 
@@ -65,14 +61,8 @@ fn understood<S: Source, K: Sink>(
 ) -> Status
     ensures ends { Ends (record {
       asked = asked;
-      left = S.left source.old;
-      left' = S.left source.new;
-      held = K.held sink.old;
-      held' = K.held sink.new;
-      source_faults = S.faults source.old;
-      source_faults' = S.faults source.new;
-      sink_faults = K.faults sink.old;
-      sink_faults' = K.faults sink.new;
+      input = input_of S.left S.faults source.old source.new;
+      output = output_of K.held K.faults sink.old sink.new;
       usage = USAGE.now;
     }) result }
     ensures unread { asked ≡ None → source.new ≡ source.old }
@@ -87,14 +77,8 @@ fn understood<S: Source, K: Sink>(
 fn probe<S: Source, K: Sink>(alloc: Global, asked: &Asked, source: &mut S, sink: &mut K) -> Status
     ensures ends { (usage : List ℕ) → Ends (record {
       asked = Some asked.now;
-      left = S.left source.old;
-      left' = S.left source.new;
-      held = K.held sink.old;
-      held' = K.held sink.new;
-      source_faults = S.faults source.old;
-      source_faults' = S.faults source.new;
-      sink_faults = K.faults sink.old;
-      sink_faults' = K.faults sink.new;
+      input = input_of S.left S.faults source.old source.new;
+      output = output_of K.held K.faults sink.old sink.new;
       usage = usage;
     }) result }
 {
@@ -106,15 +90,5 @@ fn probe<S: Source, K: Sink>(alloc: Global, asked: &Asked, source: &mut S, sink:
     match answer_file(alloc, bytes, asked) {
         Ok((output, status)) => answer(sink, &output, status),
         Err(NoMemory) => Status::NoMemory,
-    }
-}
-
-/// Writes an output, and answers its status unless the sink fails.
-fn answer<K: Sink>(sink: &mut K, output: &[u8], status: Status) -> Status
-    ensures delivered { Delivers (K.held sink.old) (K.held sink.new) (K.faults sink.old) (K.faults sink.new) output.now status result }
-{
-    match write_all(sink, output) {
-        Ok(()) => status,
-        Err(Failed) => Status::WriteFault,
     }
 }

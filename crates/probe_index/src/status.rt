@@ -1,5 +1,5 @@
-ghost use Rattle.std.specs.Prelude.{◌≡◌};
-ghost use Rattle.probe_index.specs.Status.{code_of};
+//! How the program may end.
+use odb_program::SessionStatus;
 
 /// How the program ends.
 #[derive(Clone, Copy)]
@@ -18,11 +18,19 @@ pub enum Status {
     NoMemory = 5,
 }
 
-impl Status {
-    /// The exit status of the process.
-    pub fn code(self) -> u8
-        ensures { result ≡ code_of self }
-    {
+impl SessionStatus for Status {
+    ghost use Rattle.probe_index.specs.Status.{code_of};
+    ghost use Rattle.probe_index.specs.declared.status.Status.TheVariants.{WriteFault};
+
+    ghost exits_with = { code_of };
+
+    ghost failed_write = { WriteFault };
+
+    fn code(self) -> u8 {
         self as u8
+    }
+
+    fn write_fault() -> Status {
+        Status::WriteFault
     }
 }

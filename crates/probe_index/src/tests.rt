@@ -4,6 +4,7 @@ mod files;
 use crate::run::{USAGE, run};
 use files::file_of;
 use odb_disk::{MemSink, MemSource};
+use odb_program::SessionStatus;
 use std::alloc::{AllocError, Global};
 use std::str;
 use std::test::Fail;

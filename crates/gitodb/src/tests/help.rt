@@ -1,17 +1,14 @@
 //! The text of `--help`, beside the words that scripts are read by.
 use crate::run::HELP;
-use odb_script::{Question, Word, change_word_of, word_of};
+use odb_script::{ChangeWord, Question, Word, change_word_of, word_of};
 use std::test::Fail;
 
-/// Each word that is built, but for `do`, which stands before those of changes.
-const WORDS: [Word; 19] = [
+/// Each word of a line that is built, but for `do`, which stands before those of changes.
+const WORDS: [Word; 16] = [
     Word::Fail,
     Word::Mkdir,
     Word::Put,
     Word::Link,
-    Word::Rename,
-    Word::Remove,
-    Word::Time,
     Word::Steps,
     Word::Open,
     Word::Close,
@@ -26,16 +23,23 @@ const WORDS: [Word; 19] = [
     Word::Finish,
 ];
 
-/// How the lines of a word are spelled, with bars between them. A new word doesn't compile without an arm here.
+/// Each word behind `do`.
+const CHANGES: [ChangeWord; 6] = [
+    ChangeWord::Mkdir,
+    ChangeWord::Put,
+    ChangeWord::Link,
+    ChangeWord::Rename,
+    ChangeWord::Remove,
+    ChangeWord::Time,
+];
+
+/// How the lines of a word are spelled. A new word doesn't compile without an arm here.
 fn spelled(word: Word) -> &'static str {
     match word {
         Word::Fail => "fail N",
-        Word::Mkdir => "mkdir PATH|do mkdir PATH",
-        Word::Put => "put PATH TIME CONTENT|do put PATH TIME CONTENT",
-        Word::Link => "link PATH TARGET|do link PATH TARGET",
-        Word::Rename => "do rename PATH PATH",
-        Word::Remove => "do remove PATH",
-        Word::Time => "do time PATH TIME",
+        Word::Mkdir => "mkdir PATH",
+        Word::Put => "put PATH TIME CONTENT",
+        Word::Link => "link PATH TARGET",
         Word::Steps => "steps",
         Word::Open => "open H PATH slots=N",
         Word::Close => "close H",
@@ -52,19 +56,26 @@ fn spelled(word: Word) -> &'static str {
     }
 }
 
-/// The word of a line, behind `do` where it begins so.
-fn word_in(line: &str) -> Option<Word> {
-    let (word, rest) = line.split_once(' ').unwrap_or((line, ""));
-    if word == "do" {
-        change_word_of(rest.split_once(' ').unwrap_or((rest, "")).0)
-    } else {
-        word_of(word)
+/// How the lines of a word behind `do` are spelled, without `do `.
+fn spelled_behind_do(word: ChangeWord) -> &'static str {
+    match word {
+        ChangeWord::Mkdir => "mkdir PATH",
+        ChangeWord::Put => "put PATH TIME CONTENT",
+        ChangeWord::Link => "link PATH TARGET",
+        ChangeWord::Rename => "rename PATH PATH",
+        ChangeWord::Remove => "remove PATH",
+        ChangeWord::Time => "time PATH TIME",
     }
 }
 
-/// Whether a line of the text tells of lines that are spelled so.
-fn tells_of(line: &str, spelling: &str) -> bool {
-    match line.strip_prefix("  ") {
+/// The first field of a line.
+fn first_field(line: &str) -> &str {
+    line.split_once(' ').unwrap_or((line, "")).0
+}
+
+/// Whether a line of the text tells of lines that begin so and go on with a spelling.
+fn tells_of(line: &str, front: &str, spelling: &str) -> bool {
+    match line.strip_prefix(front) {
         Some(rest) => stands_alone(rest.strip_prefix(spelling)),
         None => false,
     }
@@ -78,21 +89,32 @@ fn stands_alone(rest: Option<&str>) -> bool {
     }
 }
 
-fn is_told(spelling: &str) -> bool {
+/// Whether the text tells of lines that begin so and go on with a spelling.
+fn is_told(front: &str, spelling: &str) -> bool {
     let mut is_told = false;
     for line in HELP.split('\n') {
-        is_told |= tells_of(line, spelling);
+        is_told |= tells_of(line, front, spelling);
     }
     is_told
 }
 
-fn check_word(word: Word) -> Result<(), Fail> {
-    for spelling in spelled(word).split('|') {
-        if word_in(spelling) != Some(word) || !is_told(spelling) {
-            return Err(Fail::new(format_args!("no line tells of {spelling}")));
-        }
+fn check(is_right: bool, spelling: &str) -> Result<(), Fail> {
+    if is_right {
+        return Ok(());
     }
-    Ok(())
+    Err(Fail::new(format_args!("no line tells of {spelling}")))
+}
+
+fn check_word(word: Word) -> Result<(), Fail> {
+    let spelling = spelled(word);
+    let is_read = word_of(first_field(spelling)) == Some(word);
+    check(is_read && is_told("  ", spelling), spelling)
+}
+
+fn check_change_word(word: ChangeWord) -> Result<(), Fail> {
+    let spelling = spelled_behind_do(word);
+    let is_read = change_word_of(first_field(spelling)) == Some(word);
+    check(is_read && is_told("  do ", spelling), spelling)
 }
 
 // A word that is understood and left out.
@@ -101,16 +123,33 @@ fn tells_of_each_word(_rt: HostRuntime) -> Result<(), Fail> {
     for word in WORDS {
         check_word(word)?;
     }
+    for word in CHANGES {
+        check_change_word(word)?;
+    }
     Ok(())
 }
 
 /// Whether a line of the text tells of a word that is built, or of none.
 fn is_known(line: &str) -> bool {
     match line.strip_prefix("  ") {
-        Some(rest) if !rest.starts_with(" ") => {
-            !matches!(word_in(rest), None | Some(Word::NotBuilt))
-        }
+        Some(rest) if !rest.starts_with(" ") => is_built(rest),
         _ => true,
+    }
+}
+
+/// Whether a line begins with a word that is built, and goes on with one where it begins with `do`.
+fn is_built(line: &str) -> bool {
+    match word_of(first_field(line)) {
+        Some(Word::Do) => is_change(line),
+        Some(Word::NotBuilt) | None => false,
+        Some(_) => true,
+    }
+}
+
+fn is_change(line: &str) -> bool {
+    match line.strip_prefix("do ") {
+        Some(rest) => change_word_of(first_field(rest)).is_some(),
+        None => false,
     }
 }
 

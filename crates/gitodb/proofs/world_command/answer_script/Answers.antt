@@ -6,12 +6,14 @@ use Rattle.gitodb.proofs.world_command.answer_script.Goals as goal
 
 pub returns : goal.returns
 returns c =
-    let reads = c.in_ok-read.ensures in
+    let reads = c.in_ok-read.ensures.reading in
     let disk = c.in_ok-disk.ensures.disk ∙ ap (λ (r : Reading). disk_of r.script) reads in
     let lines = c.in_ok-disk.ensures.lines ∙ ap (λ (r : Reading). lines_of r.script) reads in
     let ends = c.in_ok-disk.ensures.ending ∙ ap (λ (r : Reading). r.ending) reads in
     record {
-      ending = c.in_ok-disk.ending;
-      answers = c.in_ok-out.ensures _ disk lines ends;
-      status_is = c.status_of.ensures;
+      answered = record {
+        ending = c.in_ok-disk.ending;
+        answers = c.in_ok-out.ensures.answered _ (record { disk_is = disk; lines_are = lines; ends = ends });
+        status_is = c.status_of.ensures.status;
+      };
     }

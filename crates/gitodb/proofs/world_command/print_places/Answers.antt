@@ -9,4 +9,4 @@ loop-place-init c = printed_at-nothing _ _
 
 pub loop-place-preserved : goal.loop-place-preserved
 loop-place-preserved c =
-    printed_at-more _ _ _ _ _ _ c.loop-place-test.true c.loop-place.invariant (c.in_ok-print_line.ensures.ok ∙ ap (λ o. c.loop-place.out.items ++ line_of o) c.get.ensures)
+    printed_at-more _ _ _ _ _ _ c.loop-place-test.true c.loop-place.invariant (c.in_ok-print_line.ensures.ok ∙ ap (λ o. c.loop-place.out.items ++ line_of o) c.get.ensures.value)

@@ -1,4 +1,5 @@
 use Rattle.std.proofs.Common.{refl, Some}
+use Rattle.odb_program.specs.Session.{output_of}
 use Rattle.list_walk.proofs.SessionLemmas.{sorted_listed, unsorted_listed}
 use Rattle.list_walk.proofs.run.listed.Goals as goal
 
@@ -10,12 +11,9 @@ returns-then-choices-clause-ends g c = λ refusal.
       streams = g.D.Disk.streams c.args.disk.now;
       disk_faults = g.D.Disk.faults c.args.disk.now;
       disk_faults' = g.D.Disk.faults c.walked.new.disk;
-      held = g.K.Sink.held c.args.sink.now;
-      held' = g.K.Sink.held c.walked.new.sink;
-      faults = g.K.Sink.faults c.args.sink.now;
-      faults' = g.K.Sink.faults c.walked.new.sink;
+      output = output_of g.K.Sink.held g.K.Sink.faults c.args.sink.now c.walked.new.sink;
       refusal = refusal;
-    }) c.args.asked refl c.at.result c.chosen-walk.result c.at.ensures.root c.at.ensures.options c.chosen-walk.ensures _ c.walked.ensures.cause _ c.sort_by_file_name.result c.sort_by_file_name.ensures refl c.if-choices.true c.walked.ensures.ends
+    }) c.args.asked refl c.at.result c.chosen-walk.result c.at.ensures.root c.at.ensures.options c.chosen-walk.ensures.walk _ c.walked.ensures.cause _ c.sort_by_file_name.result c.sort_by_file_name.ensures.sorted refl c.if-choices.true c.walked.ensures.ends
 
 pub returns-else-choices-clause-ends : goal.returns-else-choices-clause-ends
 returns-else-choices-clause-ends g c = λ refusal.
@@ -25,9 +23,6 @@ returns-else-choices-clause-ends g c = λ refusal.
       streams = g.D.Disk.streams c.args.disk.now;
       disk_faults = g.D.Disk.faults c.args.disk.now;
       disk_faults' = g.D.Disk.faults c.walked-else-choices.new.disk;
-      held = g.K.Sink.held c.args.sink.now;
-      held' = g.K.Sink.held c.walked-else-choices.new.sink;
-      faults = g.K.Sink.faults c.args.sink.now;
-      faults' = g.K.Sink.faults c.walked-else-choices.new.sink;
+      output = output_of g.K.Sink.held g.K.Sink.faults c.args.sink.now c.walked-else-choices.new.sink;
       refusal = refusal;
-    }) c.args.asked refl c.at.result c.chosen-walk.result c.at.ensures.root c.at.ensures.options c.at.ensures.sorter c.chosen-walk.ensures _ c.walked-else-choices.ensures.cause c.if-choices.false c.walked-else-choices.ensures.ends
+    }) c.args.asked refl c.at.result c.chosen-walk.result c.at.ensures.root c.at.ensures.options c.at.ensures.sorter c.chosen-walk.ensures.walk _ c.walked-else-choices.ensures.cause c.if-choices.false c.walked-else-choices.ensures.ends

@@ -6,7 +6,7 @@ use Rattle.list_walk.proofs.run.written.Goals.{then-is_err, else-is_err}
 
 -- nothing is given yet
 pub items-init : goal.items-init
-items-init g c = record { own = c.requires; state = refl; name = refl; faults = omega arith; leaves = leaves_all _; so_far = begins _ _ _ _ _ c.new-lines.ensures }
+items-init g c = record { own = c.requires.own; state = refl; name = refl; faults = omega arith; leaves = leaves_all _; so_far = begins _ _ _ _ _ c.new-lines.ensures.empty }
 
 -- want of memory: the lines before it
 pub returns-then-is_want-clause-ends : goal.returns-then-is_want-clause-ends
@@ -24,7 +24,7 @@ items-preserved g c = record {
   faults = omega (arith, c.add.ensures.later, c.items.invariant.faults);
   leaves = leaves_more _ _ _ _ _ c.items.invariant.leaves c.in-Some.ensures.steps.1;
   so_far =
-      more _ _ _ _ _ _ _ _ _ _ _ c.items.invariant.so_far c.in-Some.item _ _ _ (step_at _ _ _ _ _ c.items.invariant.state c.in-Some.ensures.steps.1) c.in-Some.ensures.steps.2 (sym c.is_want.ensures ∙ c.if-is_want.false) c.in_ok-add.ensures.added
+      more _ _ _ _ _ _ _ _ _ _ _ c.items.invariant.so_far c.in-Some.item _ _ _ (step_at _ _ _ _ _ c.items.invariant.state c.in-Some.ensures.steps.1) c.in-Some.ensures.steps.2 (sym c.is_want.ensures.want ∙ c.if-is_want.false) c.in_ok-add.ensures.added
       (elim c.if-is_err.branch [
         | then-is_err w ↦ w.status-is ∙ ap (λ b. status_with b c.items.status) (sym w.if-is_err.true ∙ c.is_err.ensures.value)
         | else-is_err w ↦ w.status-is ∙ ap (λ b. status_with b c.items.status) (sym w.if-is_err.false ∙ c.is_err.ensures.value)

@@ -7,6 +7,8 @@ use Rattle.probe_index.proofs.probe.answer_file.Goals as goal
 
 pub returns-in-Some-Index : goal.returns-in-Some-Index
 returns-in-Some-Index c =
-    let format : format_of c.args.bytes.items ≡ Some Index = cc (c.in-Some-Index.ensures, c.in-Some-Index.field-0-is, c.deref.ensures.value) in
+    let format : format_of c.args.bytes.items ≡ Some Index = cc (c.in-Some-Index.ensures.format, c.in-Some-Index.field-0-is, c.deref.ensures.value) in
     let short : length c.args.bytes.items ≤ file_limit = omega arith in
-    answered-index c.answer_index.result (λ a. a.0.items) (λ a. a.1) c.args.asked.now c.args.bytes.items c.from_vec.result c.from_vec.ensures short format c.answer_index.ensures
+    record {
+      writes = answered-index c.answer_index.result (λ a. a.0.items) (λ a. a.1) c.args.asked.now c.args.bytes.items c.from_vec.result c.from_vec.ensures.bytes short format c.answer_index.ensures.writes;
+    }

@@ -1,12 +1,13 @@
 -- The usage ends as it is delivered.
 use Rattle.std.proofs.Common.{refl}
+use Rattle.probe_index.specs.declared.run.TheConstants.{USAGE}
 use Rattle.probe_index.proofs.SessionLemmas.{Ends-delivered}
 use Rattle.probe_index.proofs.run.understood.Goals as goal
 
 pub returns-in-Some : goal.returns-in-Some
 returns-in-Some g c =
     record {
-      ends = rw c.in-Some.is (c.probe.ensures.ends _);
+      ends = rw c.in-Some.is (c.probe.ensures.ends USAGE.now);
       unread = λ none. absurd (cc (c.in-Some.is, none));
     }
 

@@ -1,0 +1,9 @@
+use Rattle.std.proofs.lemmas.Iterator.Consumers.{map_from_collect}
+use Rattle.std.proofs.lemmas.Iterator.Splits.{YieldsList-from_str_split}
+use Rattle.odb_script.proofs.split.parts_of.Goals as goal
+
+pub returns : goal.returns
+returns c = record {
+  parts =
+      map_from_collect _ c.collect.ensures.ran (YieldsList-from_str_split c.args.separator c.args.text.now c.requires.ascii c.split.ensures.text c.split.ensures.has_more c.split.ensures.pattern);
+}

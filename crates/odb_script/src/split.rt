@@ -1,0 +1,47 @@
+//! How a line is split into fields, and a field into its parts.
+ghost use Rattle.std.specs.Prelude.{◌≡◌, ◌==◌, ◌<◌, IfOk};
+ghost use Rattle.std.specs.List.{slice_split};
+ghost use Rattle.odb_script.specs.Split.{after_colon, after_equals, before_colon, before_equals, fields_of, texts_of};
+
+use std::alloc::{AllocError, Global};
+
+/// The fields of a line, which are split by one space.
+pub fn fields_of<'a>(alloc: Global, line: &'a str) -> Result<Vec<&'a str>, AllocError>
+    ensures fields { IfOk result (λ fields. texts_of fields.items ≡ fields_of line.now) }
+{
+    parts_of(alloc, line, ' ')
+}
+
+/// What stands before the first colon, and what after it. All of a text without one stands before it.
+pub fn at_colon(text: &str) -> (&str, &str)
+    ensures before { result.0.now ≡ before_colon text.now }
+    ensures after { result.1.now ≡ after_colon text.now }
+{
+    match text.split_once(':') {
+        Some((before, after)) => (before, after),
+        None => (text, ""),
+    }
+}
+
+/// What stands before the first `=`, and what after it. All of a text without one stands before it.
+pub fn at_equals(text: &str) -> (&str, &str)
+    ensures before { result.0.now ≡ before_equals text.now }
+    ensures after { result.1.now ≡ after_equals text.now }
+{
+    match text.split_once('=') {
+        Some((before, after)) => (before, after),
+        None => (text, ""),
+    }
+}
+
+/// The parts of a text, which one ASCII character splits.
+pub fn parts_of<'a>(
+    alloc: Global,
+    text: &'a str,
+    separator: char,
+) -> Result<Vec<&'a str>, AllocError>
+    requires ascii { separator < 128 }
+    ensures parts { IfOk result (λ parts. texts_of parts.items ≡ slice_split (λ b. b == separator) text.now) }
+{
+    text.split(separator).collect(alloc)
+}
