@@ -114,7 +114,7 @@ struct Shaky {
 
 impl Shaky {
     fn serve(&mut self, len: usize) -> io::Result<usize>
-        ensures { IfOk result (λ n. n ≤ len) }
+        ensures within { IfOk result (λ n. n ≤ len) }
     {
         self.calls = self.calls.saturating_add(1);
         match self.calls {

@@ -21,7 +21,7 @@ pub fn store_at(
     hash: gix_hash::Kind,
     limit: Option<u64>,
 ) -> Result<Store, Fail>
-    ensures { IfOk result (λ store. store_hash store ≡ hash) }
+    ensures hash { IfOk result (λ store. store_hash store ≡ hash) }
 {
     let path = PathText::parse(alloc, path)?;
     let options = Options {

@@ -35,7 +35,7 @@ pub fn compare(text: &str, found: &str, want: &str) -> Result<(), Fail> {
 
 /// An id of the store's hash, by its hex digits.
 pub fn id_of(store: &Store, hex: &str) -> Result<ObjectId, Fail>
-    ensures { IfOk result (λ id. kind_of id ≡ store_hash store.now) }
+    ensures hash { IfOk result (λ id. kind_of id ≡ store_hash store.now) }
 {
     let id = ObjectId::from_hex(hex.as_bytes())?;
     if id.kind() == store.object_hash() {
