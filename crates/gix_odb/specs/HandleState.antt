@@ -9,7 +9,7 @@ use Rattle.gix_odb.specs.declared.query.Query.{Query}
 
 -- the id that replaces another
 abbrev pub replacement_of : HandleState → ObjectId → Option ObjectId
-replacement_of handle id = get id_cmp handle.replacements id
+replacement_of handle id = get id_cmp handle.store.value.replacements id
 
 -- the id that is sought in the place of another
 abbrev pub replaced_by : HandleState → ObjectId → ObjectId

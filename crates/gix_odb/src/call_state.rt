@@ -71,7 +71,7 @@ impl WriteState {
 impl CallState {
     /// A new call. It asks nothing of the disk yet.
     pub fn start(alloc: Global, handle: &HandleState, call: &Call) -> Result<CallState, NoMemory>
-        ensures begun { IfOk result (λ state. state ≡ started handle.now.objects handle.now.alloc_limit_bytes (sought_by handle.now) call.now) }
+        ensures begun { IfOk result (λ state. state ≡ started handle.now.store.value.objects handle.now.store.value.alloc_limit_bytes (sought_by handle.now) call.now) }
         ensures sized { HasSize call.now }
     {
         match call {
@@ -83,7 +83,7 @@ impl CallState {
                 size,
                 bytes,
                 id,
-            } => begun(alloc, &handle.objects, *kind, *size, bytes, *id),
+            } => begun(alloc, &handle.parts().objects, *kind, *size, bytes, *id),
         }
     }
 
@@ -105,7 +105,7 @@ impl CallState {
         handle: &HandleState,
         answer: DiskAnswer,
     ) -> Result<CallState, NoMemory>
-        ensures fed { IfOk result (λ state. state ≡ fed_with handle.now.folders handle.now.alloc_limit_bytes self answer) }
+        ensures fed { IfOk result (λ state. state ≡ fed_with handle.now.store.value.folders handle.now.store.value.alloc_limit_bytes self answer) }
     {
         match self {
             CallState::Looking(state) => {
@@ -132,7 +132,7 @@ impl CallState {
 }
 
 fn looking(alloc: Global, handle: &HandleState, query: Query) -> Result<CallState, NoMemory>
-    ensures begun { IfOk result (λ state. state ≡ CallState.Looking (looks.started handle.now.objects handle.now.alloc_limit_bytes query (sought_by handle.now query))) }
+    ensures begun { IfOk result (λ state. state ≡ CallState.Looking (looks.started handle.now.store.value.objects handle.now.store.value.alloc_limit_bytes query (sought_by handle.now query))) }
 {
     Ok(CallState::Looking(LookState::start(alloc, handle, query)?))
 }

@@ -1,29 +1,55 @@
-//! A handle on a store without its work.
-ghost use Rattle.std.specs.Prelude.{◌≡◌};
+//! A handle on a store without its work; the parts of the store, which handles share.
+ghost use Rattle.std.specs.Prelude.{◌≡◌, IfOk, false};
 ghost use Rattle.gix_odb.specs.HandleState.{replaced_by, sought_by};
 
 use crate::lists::PathList;
 use crate::query::Query;
 use gix_hash::ObjectId;
-use odb_base::PathText;
+use odb_base::{NoMemory, PathText};
+use std::alloc::Global;
 use std::collections::BTreeMap;
+use std::sync::Arc;
 
-/// A handle without its work: the parts of its store, and its mode.
+/// The parts of a store, one value for all handles on it.
 #[derive(Drop)]
-pub struct HandleState {
+pub struct StoreParts {
     /// The objects directory, which is the first folder of the store.
     pub objects: PathText,
     /// The other folders, in the order in which they are asked.
     pub folders: PathList,
     /// What is sought in the place of an id.
     pub replacements: BTreeMap<ObjectId, ObjectId>,
-    pub ignore_replacements: bool,
     /// The most bytes of data that an object may have to be found, if there is a limit.
     pub alloc_limit_bytes: Option<u64>,
     pub slots: u16,
 }
 
+/// A handle without its work: its store, and its mode.
+#[derive(Drop)]
+pub struct HandleState {
+    pub store: Arc<StoreParts, Global>,
+    pub ignore_replacements: bool,
+}
+
 impl HandleState {
+    /// A handle on a store of its own, which seeks what replaces an id.
+    pub fn new(alloc: Global, parts: StoreParts) -> Result<HandleState, NoMemory>
+        ensures parts { IfOk result (λ handle. handle.store.value ≡ parts) }
+        ensures mode { IfOk result (λ handle. handle.ignore_replacements ≡ false) }
+    {
+        Ok(HandleState {
+            store: Arc::new(alloc, parts)?,
+            ignore_replacements: false,
+        })
+    }
+
+    /// The parts of the handle's store.
+    pub fn parts(&self) -> &StoreParts
+        ensures parts { result.now ≡ self.now.store.value }
+    {
+        &self.store
+    }
+
     /// The id that a query seeks: the replacement of its own, where there is one and it isn't ignored. A test seeks
     /// its own.
     pub fn sought(&self, query: Query) -> ObjectId
@@ -42,7 +68,7 @@ impl HandleState {
         if self.ignore_replacements {
             return id;
         }
-        match self.replacements.get(&id) {
+        match self.parts().replacements.get(&id) {
             Some(other) => *other,
             None => id,
         }

@@ -25,7 +25,7 @@ pub mod write;
 
 pub use call::{Call, CallError, Reply};
 pub use call_state::{CallState, WriteState};
-pub use handle_state::HandleState;
+pub use handle_state::{HandleState, StoreParts};
 pub use init::{Options, Slots};
 pub use lists::{IdPairs, PathList, copy_of_pairs, copy_of_paths};
 pub use look_state::LookState;

@@ -80,11 +80,15 @@ pub enum Lead {
 impl LookState {
     /// A new call. It asks nothing of the disk yet.
     pub fn start(alloc: Global, handle: &HandleState, query: Query) -> Result<LookState, NoMemory>
-        ensures begun { IfOk result (λ state. state ≡ started handle.now.objects handle.now.alloc_limit_bytes query (sought_by handle.now query)) }
+        ensures begun { IfOk result (λ state. state ≡ started handle.now.store.value.objects handle.now.store.value.alloc_limit_bytes query (sought_by handle.now query)) }
     {
         let id = handle.sought(query);
         let head = Head { query, id };
-        let folder = head.asked(alloc, &handle.objects, handle.alloc_limit_bytes)?;
+        let folder = head.asked(
+            alloc,
+            &handle.parts().objects,
+            handle.parts().alloc_limit_bytes,
+        )?;
         let stage = Stage::Loose {
             next: 0,
             noted: None,
@@ -110,7 +114,7 @@ impl LookState {
         handle: &HandleState,
         answer: DiskAnswer,
     ) -> Result<LookState, NoMemory>
-        ensures fed { IfOk result (λ state. state ≡ fed_with handle.now.folders handle.now.alloc_limit_bytes self answer) }
+        ensures fed { IfOk result (λ state. state ≡ fed_with handle.now.store.value.folders handle.now.store.value.alloc_limit_bytes self answer) }
     {
         let LookState { head, stage } = self;
         let stage = head.next_stage(alloc, handle, stage, answer)?;
@@ -166,7 +170,7 @@ impl Head {
         stage: Stage,
         answer: DiskAnswer,
     ) -> Result<Stage, NoMemory>
-        ensures next { IfOk result (λ next. next ≡ stage_after handle.now.folders handle.now.alloc_limit_bytes self stage answer) }
+        ensures next { IfOk result (λ next. next ≡ stage_after handle.now.store.value.folders handle.now.store.value.alloc_limit_bytes self stage answer) }
     {
         match stage {
             Stage::Loose {
@@ -188,7 +192,7 @@ impl Head {
         folder: FolderLook,
         answer: DiskAnswer,
     ) -> Result<Stage, NoMemory>
-        ensures fed { IfOk result (λ stage. stage ≡ Rattle.gix_odb.specs.LookOrder.after_folder handle.now.folders handle.now.alloc_limit_bytes self next noted (loose_order.fed folder answer)) }
+        ensures fed { IfOk result (λ stage. stage ≡ Rattle.gix_odb.specs.LookOrder.after_folder handle.now.store.value.folders handle.now.store.value.alloc_limit_bytes self next noted (loose_order.fed folder answer)) }
     {
         let FolderLook { call } = folder;
         let call = folder::fed(call, alloc, answer)?;
@@ -205,7 +209,7 @@ impl Head {
         call: LooseCall,
     ) -> Result<Stage, NoMemory>
         requires finds { ¬ (loose_order.IsWriteStage call.stage) }
-        ensures after { IfOk result (λ stage. stage ≡ Rattle.gix_odb.specs.LookOrder.after_folder handle.now.folders handle.now.alloc_limit_bytes self next noted call) }
+        ensures after { IfOk result (λ stage. stage ≡ Rattle.gix_odb.specs.LookOrder.after_folder handle.now.store.value.folders handle.now.store.value.alloc_limit_bytes self next noted call) }
     {
         if !call.is_done() {
             let folder = FolderLook { call };
@@ -230,7 +234,7 @@ impl Head {
         noted: Option<gix_odb_loose::find::Error>,
         lead: Lead,
     ) -> Result<Stage, NoMemory>
-        ensures led { IfOk result (λ stage. stage ≡ led_to handle.now.folders handle.now.alloc_limit_bytes self next noted lead) }
+        ensures led { IfOk result (λ stage. stage ≡ led_to handle.now.store.value.folders handle.now.store.value.alloc_limit_bytes self next noted lead) }
     {
         match lead {
             Lead::Ends(reply) => Ok(Stage::Done(reply)),
@@ -247,11 +251,11 @@ impl Head {
         next: usize,
         noted: Option<gix_odb_loose::find::Error>,
     ) -> Result<Stage, NoMemory>
-        ensures next { IfOk result (λ stage. stage ≡ at_next handle.now.alloc_limit_bytes self next noted (slice_get handle.now.folders next)) }
+        ensures next { IfOk result (λ stage. stage ≡ at_next handle.now.store.value.alloc_limit_bytes self next noted (slice_get handle.now.store.value.folders next)) }
     {
-        let folders = handle.folders.as_slice();
+        let folders = handle.parts().folders.as_slice();
         if next < folders.len() {
-            let folder = self.asked(alloc, &folders[next], handle.alloc_limit_bytes)?;
+            let folder = self.asked(alloc, &folders[next], handle.parts().alloc_limit_bytes)?;
             let next = next + 1;
             Ok(Stage::Loose {
                 next,

@@ -24,11 +24,11 @@ pub enum OpenState {
 impl OpenState {
     /// The call of the disk that comes next; there is none where the opening is done.
     pub fn disk_ask(&self, alloc: Global, handle: &HandleState) -> Result<Option<DiskAsk>, NoMemory>
-        ensures asked { IfOk result (λ ask. ask ≡ ask_of handle.now.objects self.now) }
+        ensures asked { IfOk result (λ ask. ask ≡ ask_of handle.now.store.value.objects self.now) }
     {
         match self {
             OpenState::Looking => Ok(Some(DiskAsk::Look {
-                path: handle.objects.try_clone(alloc)?,
+                path: handle.parts().objects.try_clone(alloc)?,
                 follow: true,
             })),
             OpenState::Done(_) => Ok(None),

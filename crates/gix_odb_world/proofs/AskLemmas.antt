@@ -21,11 +21,13 @@ use Rattle.gix_odb.specs.declared.query.Query.{Query}
 use Rattle.gix_odb.specs.declared.query.Query.TheVariants.{Find, Header, Test}
 use Rattle.gix_odb_world.specs.Asks.{AppendsHeader, AppendsPiece, AsksInOrder, AsksToWrite, MakesDirectory, MakesFile, Removes, Renames}
 use Rattle.gix_odb.specs.Contents.{folder_list, sought}
-use Rattle.gix_odb_world.specs.Event.{Event, Store}
+use Rattle.gix_odb_world.specs.Event.{Event}
+use Rattle.gix_odb_world.specs.Status.{Running, Store, MakeCall, OpenStore}
 use Rattle.gix_odb.specs.LookOrder.{ask_at, asking}
 use Rattle.gix_odb.specs.OpenOrder as openings
-use Rattle.gix_odb_world.specs.Run.{FailedSince, MakeCall, OpenStore, tree_at}
-use Rattle.gix_odb_world.specs.Running.{IsWaiting, IsWriting, Seeks, StandsAt, call_of}
+use Rattle.gix_odb_world.specs.Run.{FailedSince, tree_at}
+use Rattle.gix_odb_world.specs.Running.Write.{IsWaiting, IsWriting, StandsAt}
+use Rattle.gix_odb_world.specs.Running.Query.{Seeks, call_of}
 use Rattle.gix_odb_world.specs.Writing.{ToWrite, call_to_write, head_to_write, name_to_write, to_write}
 use Rattle.gix_odb_world.proofs.WriteFive.{below, made_before}
 use Rattle.gix_odb_world.proofs.WriteGoes.{ask_at_stage}
@@ -48,10 +50,11 @@ module _ (first : Volume) (events : List Event) (handle : ℕ) (store : Store) (
       let same : asks.Look (loose_path folder id) true ≡ ask = cc e in record { folder = folder; place = place; is = sym same ∙ ap (λ i. asks.Look (loose_path folder i) true) is }
 
   -- a query asks the folder of its turn
-  pub in_order_query : (state : LookState) (ask : DiskAsk) → state.head.id ≡ sought store.parts ignoring state.head.query
-      → Seeks (tree_at first events) (FailedSince events handle begun) store begun (length events) turns state.head.query state.head.id state.stage → ask_at state.stage ≡ Some ask
+  pub in_order_query : (state : LookState) (ask : DiskAsk) (place : ℕ) → turns ≡ place → state.head.id ≡ sought store.parts ignoring state.head.query
+      → Seeks (tree_at first events) (FailedSince events handle begun) store begun (length events) place state.head.query state.head.id state.stage → ask_at state.stage ≡ Some ask
       → AsksInOrder first events handle store ignoring begun turns (MakeCall (call_of state.head.query)) ask
-  in_order_query state ask is seeks asked = by_query state.head.query state.head.id seeks.folder ask is seeks.place (ap ask_at (sym seeks.stage_is) ∙ asked)
+  in_order_query state ask place had is seeks asked =
+      by_query state.head.query state.head.id seeks.folder ask is (ap (slice_get (folder_list store.parts)) had ∙ seeks.there) (ap ask_at (sym seeks.stage_is) ∙ asked)
 
 module _ (first : Volume) (events : List Event) (handle begun turns : ℕ) (w : ToWrite) where
   abbrev Asks : DiskAsk → Type 0
@@ -78,9 +81,10 @@ module _ (first : Volume) (events : List Event) (handle begun turns : ℕ) (w : 
   at_stage (stages.Removing number refusal) more s = Removes number (made_before first events handle begun turns w (stages.Removing number refusal) number refl s)
 
 -- a running write asks in its turn
-pub in_order_write : (first : Volume) (events : List Event) (handle : ℕ) (store : Store) (ignoring : Bool) (begun turns : ℕ) (folder : LooseCall) (writes : IsWriting first events handle begun turns store.parts.objects folder)
-    → AsksInOrder first events handle store ignoring begun turns (MakeCall (call_to_write writes.write)) (ask_at_stage writes.write writes.stage)
-in_order_write first events handle store ignoring begun turns folder writes =
+pub in_order_write : (first : Volume) (events : List Event) (handle : ℕ) (running : Running) (folder : LooseCall) (writes : IsWriting first events handle running folder)
+    → AsksInOrder first events handle running.store running.ignoring running.begun running.turns (MakeCall (call_to_write writes.write)) (ask_at_stage writes.write writes.stage)
+in_order_write first events handle running folder writes =
     let w : ToWrite = writes.write in
-    subst (λ objects. AsksToWrite first events handle begun turns (to_write objects w.kind w.size w.bytes w.known) (ask_at_stage w writes.stage)) writes.into
-    (at_stage first events handle begun turns w writes.stage writes.more writes.stands)
+    subst (λ turns. AsksToWrite first events handle running.begun turns (to_write running.store.parts.objects w.kind w.size w.bytes w.known) (ask_at_stage w writes.stage)) (sym writes.turns)
+    (subst (λ objects. AsksToWrite first events handle running.begun writes.own (to_write objects w.kind w.size w.bytes w.known) (ask_at_stage w writes.stage)) writes.into
+    (at_stage first events handle running.begun writes.own w writes.stage writes.more writes.stands))

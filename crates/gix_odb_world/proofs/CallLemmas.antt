@@ -21,9 +21,9 @@ use Rattle.gix_odb.specs.declared.look_state.Stage.TheVariants as stages
 use Rattle.gix_odb.specs.LookOrder.{asking, at_next, by_reply, ended, first_of, led, led_by, next_stage, result_at}
 use Rattle.gix_odb_world.specs.Causes.{LooseCause}
 use Rattle.gix_odb.specs.Contents.{LooseFile, Contents, Shows, folder_list}
-use Rattle.gix_odb_world.specs.Event.{Store}
+use Rattle.gix_odb_world.specs.Status.{Store}
 use Rattle.gix_odb_world.specs.Promise.{Keeps, Misses, claim_of}
-use Rattle.gix_odb_world.specs.Running.{Passed, Leaves, Noted, Seeks}
+use Rattle.gix_odb_world.specs.Running.Query.{Passed, Leaves, Noted, Seeks}
 use Rattle.gix_odb_world.proofs.FolderLemmas.{LeadSays, ask_found, folder_says}
 
 -- ---- the folders ahead
@@ -57,15 +57,15 @@ nothing_in (x ∷ xs) y is c = absurd (cc is)
 shows_file : (tree : Tree) (folder : Path) (id : ObjectId) (contents : Contents) → Shows tree folder id contents → LeadsToFile tree (loose_path folder id)
 shows_file tree folder id (LooseFile bytes) shown = record { bytes = bytes; time = shown.0; given = shown.1; holds = tt }
 
-module _ (trees : ℕ → Tree) (Failed : Type 0) (store : Store) (begun now turns : ℕ) (later : begun ≤ now) (head : Head) where
+module _ (trees : ℕ → Tree) (Failed : Type 0) (store : Store) (begun now place : ℕ) (later : begun ≤ now) (head : Head) where
   abbrev ahead : List Path
-  ahead = drop turns store.parts.folders
+  ahead = drop place store.parts.folders
 
   -- what a turn comes to: a reply that keeps its promise, or a call that goes on and knows as much
   abbrev pub Comes : Result Reply LookState → Type 0
   Comes (Ok reply) = Keeps trees Failed store begun now head.query head.id (claim_of head.query reply)
   Comes (Err state) =
-      (state.head ≡ head) × (Seeks trees Failed store begun now (turns + 1) head.query head.id state.stage) × (turns + 1 < length (folder_list store.parts))
+      (state.head ≡ head) × (Seeks trees Failed store begun now (place + 1) head.query head.id state.stage) × (place + 1 < length (folder_list store.parts))
 
   -- what is known behind the asked folder
   abbrev Behind : Option loose.Error → Type 0
@@ -103,32 +103,32 @@ module _ (trees : ℕ → Tree) (Failed : Type 0) (store : Store) (begun now tur
 
   -- ---- the next folder
 
-  noted_next : (folder : Path) (noted : Option loose.Error) → ahead ≡ folder ∷ drop (turns + 1) store.parts.folders → Behind noted
-      → Noted trees Failed store begun now head.query head.id folder (drop (turns + 1) store.parts.folders) noted
+  noted_next : (folder : Path) (noted : Option loose.Error) → ahead ≡ folder ∷ drop (place + 1) store.parts.folders → Behind noted
+      → Noted trees Failed store begun now head.query head.id folder (drop (place + 1) store.parts.folders) noted
   noted_next folder (Some error) is behind = behind
   noted_next folder None is behind = (
     behind.0,
     λ other among.
         elim (behind.1 other among) [
           | inl passed ↦ inl passed
-          | inr more ↦ inr (first_or_later folder (drop (turns + 1) store.parts.folders) other (subst (λ folders. Contains folders other) is more))
+          | inr more ↦ inr (first_or_later folder (drop (place + 1) store.parts.folders) other (subst (λ folders. Contains folders other) is more))
         ],
   )
 
-  next_comes : (noted : Option loose.Error) (next : Option Path) → slice_get store.parts.folders turns ≡ next → Behind noted
-      → Comes (result_at head (at_next store.parts.limit head turns noted next))
-  next_comes noted None is behind = ended_keeps head.query noted refl (none_ahead store.parts.folders turns is) behind
+  next_comes : (noted : Option loose.Error) (next : Option Path) → slice_get store.parts.folders place ≡ next → Behind noted
+      → Comes (result_at head (at_next store.parts.limit head place noted next))
+  next_comes noted None is behind = ended_keeps head.query noted refl (none_ahead store.parts.folders place is) behind
   next_comes noted (Some folder) is behind = (
     refl,
     record {
       noted = noted;
       folder = folder;
-      among = later_too store.parts.objects store.parts.folders folder (found_at store.parts.folders turns folder is);
-      place = let next : suc turns ≡ turns + 1 = omega arith in subst (λ n. slice_get (folder_list store.parts) n ≡ Some folder) next is;
+      among = later_too store.parts.objects store.parts.folders folder (found_at store.parts.folders place folder is);
+      there = let next : suc place ≡ place + 1 = omega arith in subst (λ n. slice_get (folder_list store.parts) n ≡ Some folder) next is;
       stage_is = refl;
-      seen = noted_next folder noted (drop_here store.parts.folders turns folder is) behind;
+      seen = noted_next folder noted (drop_here store.parts.folders place folder is) behind;
     },
-    omega (arith, slice_get_within store.parts.folders turns folder is),
+    omega (arith, slice_get_within store.parts.folders place folder is),
   )
 
   -- ---- what the asked folder's reply leads to
@@ -160,16 +160,16 @@ module _ (trees : ℕ → Tree) (Failed : Type 0) (store : Store) (begun now tur
     behind_noted (Some first) error says carried = carried
     behind_noted None error says carried = says
 
-    led_comes : (noted : Option loose.Error) (lead : Lead) → Leads lead → Carried noted → Comes (result_at head (led store.parts.folders store.parts.limit head turns noted lead))
+    led_comes : (noted : Option loose.Error) (lead : Lead) → Leads lead → Carried noted → Comes (result_at head (led store.parts.folders store.parts.limit head place noted lead))
     led_comes noted (leads.Ends reply) says carried = says
-    led_comes noted leads.Misses says carried = next_comes noted (slice_get store.parts.folders turns) refl (behind_missed noted says carried)
-    led_comes noted (leads.Notes error) says carried = next_comes (first_of noted error) (slice_get store.parts.folders turns) refl (behind_noted noted error says carried)
+    led_comes noted leads.Misses says carried = next_comes noted (slice_get store.parts.folders place) refl (behind_missed noted says carried)
+    led_comes noted (leads.Notes error) says carried = next_comes (first_of noted error) (slice_get store.parts.folders place) refl (behind_noted noted error says carried)
 
     -- the whole turn of a call that asks a folder
     pub turn_comes : (fails : next_fails disk ≡ true → Failed) (among : Contains (folder_list store.parts) asked) (noted : Option loose.Error) → Carried noted
-        → Comes (result_at head (next_stage store.parts.folders store.parts.limit head (stages.Loose turns noted (asking store.parts.limit head.query head.id asked))
+        → Comes (result_at head (next_stage store.parts.folders store.parts.limit head (stages.Loose place noted (asking store.parts.limit head.query head.id asked))
         (answer_now disk (ask_found store.parts.limit head.query head.id asked).0)))
     turn_comes fails among noted carried =
         let says = folder_says trees Failed store begun now later disk shown fails head.id asked among head.query in
         let folder = loose_order.fed (asking store.parts.limit head.query head.id asked) (answer_now disk (ask_found store.parts.limit head.query head.id asked).0) in
-        subst (λ (reply : Option LooseReply). Comes (result_at head (by_reply store.parts.folders store.parts.limit head turns noted folder reply))) (sym says.1) (led_comes noted (led_by says.0) says.2 carried)
+        subst (λ (reply : Option LooseReply). Comes (result_at head (by_reply store.parts.folders store.parts.limit head place noted folder reply))) (sym says.1) (led_comes noted (led_by says.0) says.2 carried)

@@ -1,25 +1,15 @@
 -- Temporary files whose way was cut off in an undisturbed run: each stands where it was made, as long as other programs leave
+pub mod Spot
 -- it and the way to its spot alone.
-use Rattle.std.proofs.Common.{◌≡◌, ◌≢◌, ◌⊎◌, inl, inr, ℕ, zero, suc, ◌+◌, ◌<◌, ◌≤◌, Bool, true, false, List, [], ◌∷◌, ◌++◌, length, take, drop, Some, None, Ok, Err, refl, sym, ap, ◌∙◌, subst, arith}
-use Rattle.std.specs.Prelude.{if◌then◌else◌, slice_get, ◌==◌}
+use Rattle.std.proofs.Common.{◌≡◌, ◌≢◌, ◌⊎◌, inl, inr, ℕ, zero, suc, ◌+◌, ◌<◌, ◌≤◌, Bool, true, false, List, take, Some, None, refl, sym, ◌∙◌, subst, arith}
+use Rattle.std.specs.Prelude.{slice_get, ◌==◌}
 use Rattle.std.proofs.lemmas.Bool.{cases_lt, eqb-false, eqb-true}
-use Rattle.odb_base.specs.Path.{Name, Path}
-use Rattle.odb_base.specs.PathLaws.{parent_of-push}
+use Rattle.odb_base.specs.Path.{Path}
 use Rattle.odb_disk.specs.MemDisk.{Volume}
-use Rattle.odb_tree.specs.Tree.{IsTree, Tree, is_directory_content, node_at, tree_of}
-use Rattle.odb_tree.specs.Tree.Change.{changed}
-use Rattle.odb_tree.specs.Tree.Follow.{followed}
+use Rattle.odb_tree.specs.Tree.{IsTree, Tree, tree_of}
 use Rattle.odb_tree.specs.Tree.Way.{SameOnWay}
-use Rattle.odb_tree.specs.Tree.Write.{WrongKind, and_then, from_followed, in_directory, spot, spot_below, vacant}
-use Rattle.odb_tree.specs.declared.node.Content.TheVariants.{Dir, Link}
-use Rattle.odb_tree.specs.declared.node.Node.{Node}
-use Rattle.odb_tree.specs.declared.change.Change.{Change}
-use Rattle.odb_tree.specs.declared.change.Change.TheVariants.{Rename}
-use Rattle.odb_tree.proofs.OwnWayLaws.{IsOwnChange, OwnSpot, Stops, own_after, own_stops, stop_below_root, stops_kept}
-use Rattle.odb_tree.proofs.TreeLemmas.Follow.{IsDir-from, followed_reached, pass_to_other}
-use Rattle.odb_tree.proofs.TreeLemmas.Moved.{begins-own, behind-append}
-use Rattle.odb_tree.proofs.TreeLemmas.Write.{vacant_at}
-use Rattle.odb_tree.proofs.WayLaws.{file_here, own_on_way}
+use Rattle.odb_tree.specs.Tree.Write.{spot}
+use Rattle.odb_tree.proofs.OwnWayLaws.{Stops, stop_below_root, stops_kept}
 use Rattle.gix_odb_loose.specs.WriteOrder.{temp_name}
 use Rattle.gix_odb_loose.proofs.NameLaws.{IsTemporary}
 use Rattle.gix_odb_world.specs.Event.{Event}
@@ -27,42 +17,12 @@ use Rattle.gix_odb_world.specs.Headline.{IsLawful}
 use Rattle.gix_odb_world.specs.Run.{IsTurnOf, tree_at}
 use Rattle.gix_odb_world.specs.Running.{RunsThroughout}
 use Rattle.gix_odb_world.specs.Undisturbed.{CutsOff, HasMade, IsUndisturbed, OthersLeave}
-use Rattle.gix_odb_world.proofs.OwnFiles as files
+use Rattle.gix_odb_world.proofs.OwnFiles as along
+use Rattle.gix_odb_world.proofs.OwnFiles.Standing as files
+use Rattle.gix_odb_world.proofs.OwnFiles.Writer as writers
+use Rattle.gix_odb_world.proofs.OwnFiles.Turn as turns
 use Rattle.gix_odb_world.proofs.RunSteps.{Kind, Made, Quiet, Turned, event_or_end, kind_at}
-
--- ---- a file at its spot
-
--- what lies in a directory stands at its own path
-stands_at_itself : (t : Tree) → IsTree t → (front : Path) (name : Name) (n : Node) → node_at t (front ++ name ∷ []) ≡ Some n → spot t (front ++ name ∷ []) ≡ Ok (front ++ name ∷ [])
-unfolding spot
-stands_at_itself t is_tree front name n at =
-    let path = front ++ name ∷ [] in
-    let last = drop (length front) path in
-    let d = IsDir-from t front (is_tree.ways front name n at) in
-    let no_link : (target : Path) → d.node.content ≢ Link target = λ target link. (let both : Dir ≡ Link target = sym d.content ∙ link in absurd (cc both)) in
-    let leads : followed t true front ≡ Ok (record { path = front; node = d.node }) = followed_reached t true front 40 front d.node (pass_to_other t is_tree front d.node d.at true no_link) in
-    ap (spot_below t path) (parent_of-push front name)
-    ∙ ap (λ told. and_then (in_directory last) (from_followed told)) leads
-    ∙ ap (λ c. if is_directory_content c then Ok (front ++ last) else Err WrongKind) d.content
-    ∙ ap (λ r. Ok (front ++ r)) (behind-append front (name ∷ []))
-
--- the change of another writer leaves a file and the way to its spot alone, where it moves his file elsewhere
-spot_left : (t : Tree) → IsTree t → (front : Path) (name : Name) (s : Path) → s ≡ front ++ name ∷ [] → Stops t true s s → (other : Path) (change : Change) → IsOwnChange t other change → other ≢ s → ((p : Path) → change ≡ Rename other p → p ≢ s)
-    → SameOnWay t (changed t change) true s
-spot_left t is_tree front name s named stops other change his apart elsewhere =
-    let below : s ≢ [] = λ root. stop_below_root t is_tree true s s stops (sym root) in
-    let itself : spot t s ≡ Ok s = ap (spot t) named ∙ (stands_at_itself t is_tree front name stops.node (ap (node_at t) (sym named) ∙ stops.at) ∙ ap Ok (sym named)) in
-    let own : OwnSpot t s s = record { is = itself; leads = file_here t s s itself below stops.node stops.at stops.file } in
-    elim (own_after t is_tree front name s (subst (λ p. OwnSpot t p s) named own) other apart change his elsewhere) [
-      | inl same ↦ subst (SameOnWay t (changed t change) true) (sym named) same
-      | inr c ↦ c.file
-    ]
-
-spot_stops : (t : Tree) (path s : Path) → OwnSpot t path s → Stops t true s s
-spot_stops t path s own = let stops = own_stops t path s own in record { on = own_on_way t true s s (begins-own s); node = stops.node; at = stops.at; file = stops.file }
-
-not_vacant : (t : Tree) (s other q : Path) → Stops t true s s → vacant t other ≡ Ok q → q ≢ s
-not_vacant t s other q stops free same = let both : None ≡ Some stops.node = sym (vacant_at t other q free).absent ∙ (ap (node_at t) same ∙ stops.at) in cc
+use Rattle.gix_odb_world.proofs.CutFiles.Spot.{not_vacant, spot_left, spot_stops}
 
 module _ (first : Volume) (events : List Event) (start : IsTree (tree_of first.state)) (lawful : IsLawful first events) (throughout : RunsThroughout first events) where
   abbrev tree : ℕ → Tree
@@ -115,13 +75,13 @@ module _ (first : Volume) (events : List Event) (start : IsTree (tree_of first.s
 
   module _ (now : ℕ) (e : Event) (there : slice_get events now ≡ Some e) (all : Files now) (calm : IsUndisturbed first events (now + 1)) where
     -- the turn of another write leaves it alone
-    left_by_writer : (handle : ℕ) (s : Path) → IsTemporary s → Stands handle now s → (b : files.ByWriter first events start lawful throughout now e) → b.handle ≢ handle → Leaves s now
+    left_by_writer : (handle : ℕ) (s : Path) → IsTemporary s → Stands handle now s → (b : writers.ByWriter first events start lawful throughout now e) → b.handle ≢ handle → Leaves s now
     left_by_writer handle s temporary stands b differs =
         subst (λ u. SameOnWay (tree now) u true s) (sym (files.changed_to first events start lawful throughout now e there b.change b.is))
         (spot_left (tree now) is_tree temporary.0 (temp_name temporary.1) s temporary.2 stands.stops w.from b.change w.does_it.own another (λ p renames same. w.does_it.onto p renames (subst IsTemporary (sym same) temporary)))
       where
         is_tree : IsTree (tree now)
-        is_tree = files.is_tree first events start lawful throughout now
+        is_tree = writers.is_tree first events start lawful throughout now
 
         w : files.Wrote first events start lawful throughout now e there b
         w = files.wrote first events start lawful throughout now e there all b
@@ -142,33 +102,33 @@ module _ (first : Volume) (events : List Event) (start : IsTree (tree_of first.s
         stands : Stands handle now c.cut.own.spot
         stands = c.stands (λ place x later within at outside. leave place x later (omega (arith, within)) at outside)
 
-        by_writer : (b : files.ByWriter first events start lawful throughout now e) (same : Bool) → (b.handle == handle) ≡ same → Leaves c.cut.own.spot now
-        by_writer b true is = unchanged (files.lost_turn first events start lawful throughout now e there handle made path hm (subst (λ h. IsTurnOf h e.step) (eqb-true b.handle handle is) b.turn) c.lost)
+        by_writer : (b : writers.ByWriter first events start lawful throughout now e) (same : Bool) → (b.handle == handle) ≡ same → Leaves c.cut.own.spot now
+        by_writer b true is = unchanged (turns.lost_turn first events start lawful throughout now e there handle made path hm (subst (λ h. IsTurnOf h e.step) (eqb-true b.handle handle is) b.turn) c.lost)
         by_writer b false is = left_by_writer handle c.cut.own.spot c.cut.temporary stands b (eqb-false b.handle handle is)
 
         by_kind : Kind first (take now events) e → Leaves c.cut.own.spot now
         by_kind (Quiet q) = unchanged q.none
         by_kind (Made m) = let before = c.before in leave now e (omega (arith, before)) (omega arith) there m.outside
-        by_kind (Turned t) = elim (files.quiet_or_writer first events start lawful throughout now e there t) [ inl none ↦ unchanged none | inr b ↦ by_writer b (b.handle == handle) refl ]
+        by_kind (Turned t) = elim (writers.quiet_or_writer first events start lawful throughout now e there t) [ inl none ↦ unchanged none | inr b ↦ by_writer b (b.handle == handle) refl ]
 
     -- where it was left alone it stands there still
     stands_next : (handle : ℕ) (s : Path) → Leaves s now → Stands handle now s → Stands handle (now + 1) s
     stands_next handle s same stands = record { stops = stops_kept (tree now) (tree (now + 1)) true s s same stands.stops; apart = apart }
       where
         apart : (other last : ℕ) (twin : Path) → other ≢ handle → HasMade first events other last twin (now + 1) → (o : Own other last twin (now + 1)) → o.spot ≢ s
-        apart other last twin differs hm o = elim (files.old_or_new first events start lawful throughout now e there other last twin hm) [
+        apart other last twin differs hm o = elim (along.old_or_new first events start lawful throughout now e there other last twin hm) [
           | inl soon ↦
               let was = files.made_before first events start lawful throughout now e there other last twin hm soon in
-              let been = files.own_before first events start lawful throughout now e there all calm other last twin was o in
+              let been = along.own_before first events start lawful throughout now e there all calm other last twin was o in
               λ same. stands.apart other last twin differs was been.0 (been.1 ∙ same)
-          | inr is ↦ not_vacant (tree now) s twin o.spot stands.stops (files.new_vacant first events start lawful throughout now e there other last twin hm is o)
+          | inr is ↦ not_vacant (tree now) s twin o.spot stands.stops (along.new_vacant first events start lawful throughout now e there other last twin hm is o)
         ]
 
     cut_next : (handle made : ℕ) (path : Path) → HasMade first events handle made path now → CutOff handle made path now → CutOff handle made path (now + 1)
     cut_next handle made path hm c =
         let before = c.before in
         record {
-          lost = files.lost_next first events start lawful throughout now e there all calm handle made path hm c.lost;
+          lost = along.lost_next first events start lawful throughout now e there all calm handle made path hm c.lost;
           place = c.place;
           later = c.later;
           before = omega (arith, before);
@@ -202,14 +162,14 @@ module _ (first : Volume) (events : List Event) (start : IsTree (tree_of first.s
         }
 
     next : AllKept now → AllKept (now + 1)
-    next each handle made path hm = elim (files.old_or_new first events start lawful throughout now e there handle made path hm) [
+    next each handle made path hm = elim (along.old_or_new first events start lawful throughout now e there handle made path hm) [
       | inl soon ↦
           let was = files.made_before first events start lawful throughout now e there handle made path hm soon in
           elim (each handle made path was) [
-            | inl o ↦ elim (files.own_next first events start lawful throughout now e there all calm handle made path was hm o) [ inl own ↦ inl own | inr c ↦ inr (cut_now handle made path was o c) ]
+            | inl o ↦ elim (along.own_next first events start lawful throughout now e there all calm handle made path was hm o) [ inl own ↦ inl own | inr c ↦ inr (cut_now handle made path was o c) ]
             | inr c ↦ inr (cut_next handle made path was c)
           ]
-      | inr is ↦ inl (files.new_next first events start lawful throughout now e there handle made path hm is)
+      | inr is ↦ inl (along.new_next first events start lawful throughout now e there handle made path hm is)
     ]
 
   -- ---- along a run
@@ -219,15 +179,15 @@ module _ (first : Volume) (events : List Event) (start : IsTree (tree_of first.s
     over_leaves : (s : Path) → Leaves s now
     over_leaves s =
         let one : suc now ≡ now + 1 = omega arith in
-        files.same_tree_on_way (tree now) (tree (now + 1)) s (subst (λ n. tree n ≡ tree now) one (files.over_tree first events start lawful throughout now none))
+        writers.same_tree_on_way (tree now) (tree (now + 1)) s (subst (λ n. tree n ≡ tree now) one (along.over_tree first events start lawful throughout now none))
 
     over_stands : (handle : ℕ) (s : Path) → Stands handle now s → Stands handle (suc now) s
     over_stands handle s stands =
         record {
-          stops = subst (λ u. Stops u true s s) (sym (files.over_tree first events start lawful throughout now none)) stands.stops;
+          stops = subst (λ u. Stops u true s s) (sym (along.over_tree first events start lawful throughout now none)) stands.stops;
           apart = λ other last twin differs hm o same.
-              let was = files.over_made first events start lawful throughout now none other last twin hm in
-              let been = files.back_own first events start lawful throughout now none other last twin o in
+              let was = along.over_made first events start lawful throughout now none other last twin hm in
+              let been = along.back_own first events start lawful throughout now none other last twin o in
               stands.apart other last twin differs was been.0 (been.1 ∙ same);
         }
 
@@ -235,7 +195,7 @@ module _ (first : Volume) (events : List Event) (start : IsTree (tree_of first.s
     over_cut handle made path c =
         let before = c.before in
         record {
-          lost = files.over_lost first events start lawful throughout now none path c.lost;
+          lost = along.over_lost first events start lawful throughout now none path c.lost;
           place = c.place;
           later = c.later;
           before = omega (arith, before);
@@ -251,8 +211,8 @@ module _ (first : Volume) (events : List Event) (start : IsTree (tree_of first.s
         ]
 
     over : AllKept now → AllKept (suc now)
-    over each handle made path hm = elim (each handle made path (files.over_made first events start lawful throughout now none handle made path hm)) [
-      | inl o ↦ inl (files.over_own first events start lawful throughout now none handle made path o)
+    over each handle made path hm = elim (each handle made path (along.over_made first events start lawful throughout now none handle made path hm)) [
+      | inl o ↦ inl (along.over_own first events start lawful throughout now none handle made path o)
       | inr c ↦ inr (over_cut handle made path c)
     ]
 
@@ -266,6 +226,6 @@ module _ (first : Volume) (events : List Event) (start : IsTree (tree_of first.s
         | inl at ↦
             let one : now + 1 ≡ suc now = omega arith in
             let calm_after : IsUndisturbed first events (now + 1) = λ place e within there outside handle made path hm. calm place e (omega (arith, within)) there outside handle made path hm in
-            subst AllKept one (next now at.0 at.1 (files.files_at first events start lawful throughout now calm_before) calm_after each)
+            subst AllKept one (next now at.0 at.1 (along.files_at first events start lawful throughout now calm_before) calm_after each)
         | inr none ↦ over now none each
       ]

@@ -1,8 +1,7 @@
 -- What a writer changes in a turn, and what stands at the path of his temporary file when he has made it.
-use Rattle.std.proofs.Common.{◌≡◌, ℕ, ◌+◌, ◌<◌, Bool, true, false, List, [], take, Option, Some, None, Result, Ok, Err, refl, sym, ap, ◌∙◌, subst, arith}
-use Rattle.std.specs.Prelude.{if◌then◌else◌, ◌==◌}
+pub mod AtWrite
+use Rattle.std.proofs.Common.{◌≡◌, ℕ, ◌+◌, List, [], take, Some, None, Result, Ok, Err, sym, ap, ◌∙◌, subst}
 use Rattle.std.specs.Result.{result_ok}
-use Rattle.std.proofs.lemmas.Bool.{eqb-true}
 use Rattle.odb_base.specs.Path.{Path}
 use Rattle.odb_disk.specs.Ask.{change_of_ask, op_of}
 use Rattle.odb_disk.specs.MemDisk.{Volume, next_fails}
@@ -10,7 +9,6 @@ use Rattle.odb_tree.specs.Tree.{IsTree, Tree, tree_of}
 use Rattle.odb_tree.specs.Tree.Change.{changed}
 use Rattle.odb_tree.specs.Tree.Write as writing
 use Rattle.odb_tree.specs.Tree.Write.{change_of_append, change_of_make_dir, change_of_new_file, change_of_remove, change_of_rename, vacant}
-use Rattle.odb_disk.specs.declared.ask.DiskAnswer.{DiskAnswer}
 use Rattle.odb_disk.specs.declared.ask.DiskAnswer.TheVariants as answers
 use Rattle.odb_disk.specs.declared.ask.DiskAsk.{DiskAsk}
 use Rattle.odb_disk.specs.declared.ask.DiskAsk.TheVariants as asks
@@ -23,24 +21,12 @@ use Rattle.odb_tree.proofs.WayWriteLaws.{append_change, make_dir_change, new_fil
 use Rattle.gix_hash.specs.declared.object_id.ObjectId.{ObjectId}
 use Rattle.gix_odb_loose.specs.LooseFile.{loose_path}
 use Rattle.gix_odb_loose.specs.WriteOrder.{number_made, prefix_path, temp_path}
-use Rattle.gix_odb_loose.specs.declared.call.LooseCall.{LooseCall}
 use Rattle.gix_odb_loose.specs.declared.write_order.WriteStage.{WriteStage}
 use Rattle.gix_odb_loose.specs.declared.write_order.WriteStage.TheVariants as stages
 use Rattle.gix_odb_loose.proofs.NameLaws.{IsTemporary, object_spot, prefix_path-is, temp_path-is}
 use Rattle.gix_odb_world.specs.Recorded.{path_recorded}
-use Rattle.gix_odb.specs.declared.call.Call.{Call}
-use Rattle.gix_odb.specs.declared.call.CallError.TheVariants as call_errors
-use Rattle.gix_odb.specs.declared.call.Reply.{Reply}
-use Rattle.gix_odb.specs.declared.call.Reply.TheVariants as replies
-use Rattle.gix_odb.specs.declared.call_state.CallState.TheVariants.{Looking, Writing, Written}
 use Rattle.gix_odb_world.specs.declared.record.Did.TheVariants.{Nothing, Disk}
-use Rattle.gix_odb_world.specs.declared.step.Outcome.{Outcome}
-use Rattle.gix_odb_world.specs.declared.step.Outcome.TheVariants as outcomes
-use Rattle.gix_odb_world.specs.declared.step.Step.{Step}
-use Rattle.gix_odb_world.specs.declared.step.Step.TheVariants as steps
-use Rattle.gix_odb_world.specs.declared.work.Work.{Work}
-use Rattle.gix_odb_world.specs.declared.work.Work.TheVariants.{Opening, Calling}
-use Rattle.gix_odb_world.specs.Event.{Event, Free, Resting, Status, Store, Working, after_reply, ignoring_from, replied, started, status_after, turned, with_status}
+use Rattle.gix_odb_world.specs.Event.{Event}
 use Rattle.gix_odb_world.specs.Headline.{IsLawful}
 use Rattle.gix_odb_world.specs.Run.{change_by, disk_after, tree_at}
 use Rattle.gix_odb_world.specs.Writing.{AskedAt, ToWrite}
@@ -171,92 +157,3 @@ module _ (first : Volume) (events : List Event) (start : IsTree (tree_of first.s
         let after : tree_at first events (made + 1) ≡ changed before m.change = subst (IsLeft before (tree_at first events (made + 1))) makes (left_at first events start lawful made a.event a.there) in
         record { spot = n.0; put = makes ∙ ap Some n.1; free = n.2; own = subst (λ u. OwnSpot u path n.0) (sym after) n.3 }
   ]
-
--- ---- a handle that is at a write was at it before
-
--- a handle is at a write that it began at a step
-pub record AtWrite (store : Store) (ignoring : Bool) (begun : ℕ) (status : Status) : Type 0 where
-  pub turns : ℕ
-  pub folder : LooseCall
-  pub is : status ≡ Working store ignoring begun turns (Calling (Writing folder))
-
-module _ (store : Store) (ignoring : Bool) (begun : ℕ) where
-  abbrev Before : Status → Type 0
-  Before = AtWrite store ignoring begun
-
-  rests : (own : Store) (mode : Bool) (reply : Reply) → ¬ (Before (after_reply own mode reply))
-  rests own mode (replies.Refused (call_errors.Open error)) a = cc a.is
-  rests own mode (replies.Refused (call_errors.Find error)) a = cc a.is
-  rests own mode (replies.Refused (call_errors.Write error)) a = cc a.is
-  rests own mode (replies.Opened slots) a = cc a.is
-  rests own mode (replies.Found kind bytes) a = cc a.is
-  rests own mode (replies.Header header) a = cc a.is
-  rests own mode (replies.Tested there) a = cc a.is
-  rests own mode replies.NotFound a = cc a.is
-  rests own mode (replies.Wrote id) a = cc a.is
-
-  -- a reply ends it
-  pub ended : (reply : Reply) (status : Status) → ¬ (Before (replied reply status))
-  ended reply Free a = cc a.is
-  ended reply (Resting own mode) a = cc a.is
-  ended reply (Working own mode since turns work) a = rests own mode reply a
-
-  fed_before : (own : Store) (mode : Bool) (since turns : ℕ) (work : Work) (asked : DiskAsk × DiskAnswer) → Before (turned (Some asked) (Working own mode since turns work)) → Before (Working own mode since turns work)
-  fed_before own mode since turns (Opening state) asked a = absurd (cc a.is)
-  fed_before own mode since turns (Calling (Looking state)) asked a = absurd (cc a.is)
-  fed_before own mode since turns (Calling (Written reply)) asked a = absurd (cc a.is)
-  fed_before own mode since turns (Calling (Writing folder)) asked a =
-      let one : own ≡ store = cc a.is in
-      let two : mode ≡ ignoring = cc a.is in
-      let three : since ≡ begun = cc a.is in
-      record { turns = turns; folder = folder; is = ap (λ o. Working o mode since turns (Calling (Writing folder))) one ∙ ap (λ m. Working store m since turns (Calling (Writing folder))) two ∙ ap (λ b. Working store ignoring b turns (Calling (Writing folder))) three }
-
-  turned_before : (turn : Option (DiskAsk × DiskAnswer)) (status : Status) → Before (turned turn status) → Before status
-  turned_before None status a = a
-  turned_before (Some asked) Free a = absurd (cc a.is)
-  turned_before (Some asked) (Resting own mode) a = absurd (cc a.is)
-  turned_before (Some asked) (Working own mode since turns work) a = fed_before own mode since turns work asked a
-
-  ignoring_before : (status : Status) → Before (ignoring_from status) → Before status
-  ignoring_before Free a = a
-  ignoring_before (Resting own mode) a = absurd (cc a.is)
-  ignoring_before (Working own mode since turns work) a = a
-
-  started_before : (number : ℕ) (call : Call) (status : Status) → begun < number → Before (started number call status) → Before status
-  started_before number call Free soon a = a
-  started_before number call (Resting own mode) soon a = absurd (let same : number ≡ begun = cc a.is in omega (arith, same, soon))
-  started_before number call (Working own mode since turns work) soon a = a
-
-  module _ (table : ℕ → Status) (handle : ℕ) where
-    set_before : (number : ℕ) (status : Status) → (Before status → Before (table number)) → Before (with_status table number status handle) → Before (table handle)
-    set_before number status back = by_number (handle == number) refl
-      where
-        by_number : (same : Bool) → (handle == number) ≡ same → Before (if same then status else table handle) → Before (table handle)
-        by_number true is a = subst (λ n. Before (table n)) (sym (eqb-true handle number is)) (back a)
-        by_number false is a = a
-
-    pub write_before : (number : ℕ) (step : Step) (outcome : Outcome) (turn : Option (DiskAsk × DiskAnswer)) → begun < number → Before (status_after number step outcome turn table handle) → Before (table handle)
-    write_before number (steps.Open h path folders replacements options) outcomes.Applied turn soon a = set_before h _ (λ b. absurd (cc b.is)) a
-    write_before number (steps.Open h path folders replacements options) outcomes.Pending turn soon a = a
-    write_before number (steps.Open h path folders replacements options) (outcomes.Reply reply) turn soon a = a
-    write_before number (steps.Open h path folders replacements options) (outcomes.Misuse why) turn soon a = a
-    write_before number (steps.Close h) outcomes.Applied turn soon a = set_before h _ (λ b. absurd (cc b.is)) a
-    write_before number (steps.Close h) outcomes.Pending turn soon a = a
-    write_before number (steps.Close h) (outcomes.Reply reply) turn soon a = a
-    write_before number (steps.Close h) (outcomes.Misuse why) turn soon a = a
-    write_before number (steps.Ignore h) outcomes.Applied turn soon a = set_before h _ (ignoring_before (table h)) a
-    write_before number (steps.Ignore h) outcomes.Pending turn soon a = a
-    write_before number (steps.Ignore h) (outcomes.Reply reply) turn soon a = a
-    write_before number (steps.Ignore h) (outcomes.Misuse why) turn soon a = a
-    write_before number (steps.Start h call) outcomes.Applied turn soon a = set_before h _ (started_before number call (table h) soon) a
-    write_before number (steps.Start h call) outcomes.Pending turn soon a = a
-    write_before number (steps.Start h call) (outcomes.Reply reply) turn soon a = a
-    write_before number (steps.Start h call) (outcomes.Misuse why) turn soon a = a
-    write_before number (steps.Turn h) outcomes.Applied turn soon a = a
-    write_before number (steps.Turn h) outcomes.Pending turn soon a = set_before h _ (turned_before turn (table h)) a
-    write_before number (steps.Turn h) (outcomes.Reply reply) turn soon a = set_before h _ (λ b. absurd (ended reply (table h) b)) a
-    write_before number (steps.Turn h) (outcomes.Misuse why) turn soon a = a
-    write_before number (steps.Disk change) outcomes.Applied turn soon a = a
-    write_before number (steps.Disk change) outcomes.Pending turn soon a = a
-    write_before number (steps.Disk change) (outcomes.Reply reply) turn soon a = a
-    write_before number (steps.Disk change) (outcomes.Misuse why) turn soon a = a

@@ -33,7 +33,7 @@ use Rattle.gix_odb.specs.declared.find.Header.TheVariants as headers
 use Rattle.gix_odb.specs.LookOrder.{asking, job_of, led_by, loose_store}
 use Rattle.gix_odb_world.specs.Causes.{GaveSometime, LooseCause}
 use Rattle.gix_odb.specs.Contents.{Answer, Object, HeaderOf, Presence, LooseFile, Holds, folder_list}
-use Rattle.gix_odb_world.specs.Event.{Store}
+use Rattle.gix_odb_world.specs.Status.{Store}
 use Rattle.gix_odb.specs.Held.{Held}
 use Rattle.gix_odb_world.specs.Promise.{Keeps, claim_of}
 

@@ -1,3 +1,4 @@
+mod BegunLemmas
 mod BoundLemmas
 mod CallLemmas
 mod FailedLemmas
@@ -14,6 +15,11 @@ mod StandAlone
 mod NameSteps
 mod RunEnds
 mod RunningLemmas
+mod RunsLemmas
+mod MachineLaws
+mod LookMachine
+mod WriteMachine
+mod Machines
 mod StartLemmas
 mod StepLemmas
 mod TurnLaw

@@ -13,8 +13,6 @@ use Rattle.gix_odb_world.specs.declared.step.Outcome.TheVariants as outcomes
 use Rattle.gix_odb_world.specs.declared.step.Why.{Why}
 use Rattle.gix_odb_world.specs.declared.step.Why.TheVariants.{BadOpen}
 use Rattle.gix_odb.specs.declared.init.Options.{Options}
-use Rattle.gix_odb.specs.declared.init.Slots.{Slots}
-use Rattle.gix_odb.specs.declared.init.Slots.TheVariants.{Given}
 use Rattle.gix_odb.specs.declared.open_state.OpenState.TheVariants.{Looking}
 use Rattle.gix_odb_world.specs.declared.record.Did.TheVariants.{Nothing}
 use Rattle.gix_odb_world.specs.declared.handle.Handle.{Handle}
@@ -23,46 +21,25 @@ use Rattle.gix_odb_world.specs.declared.work.Work.{Work}
 use Rattle.gix_odb_world.specs.declared.work.Work.TheVariants.{Opening}
 use Rattle.gix_odb_world.specs.declared.world.World.{World}
 use Rattle.gix_hash.specs.ObjectId.{id_cmp}
-use Rattle.gix_odb_world.specs.Event.{Event, Store, Status, Free, Resting, Working, store_at, opening_at, ignoring_from}
-use Rattle.gix_odb.specs.OpenOrder.{given_slots}
+use Rattle.gix_odb_world.specs.Event.{Event}
+use Rattle.gix_odb_world.specs.Status.{Store, Status, Free, Resting, Working, store_at, opening_at, ignoring_from}
 use Rattle.gix_odb_world.specs.Handle.{IsHandleOf, IsOpened}
-use Rattle.gix_odb_world.specs.Run.{IsTurnOf, OpenedBy}
+use Rattle.gix_odb_world.specs.Run.{IsTurnOf}
 use Rattle.gix_odb_world.specs.Running.{Runs}
 use Rattle.gix_odb_world.specs.Valid.{Phase, NoneThere, Idle, Running, why_not_open, why_not_idle, are_distinct, are_good_folders, is_openable}
 use Rattle.gix_odb_world.specs.World.{Continues, Matches, handle_at}
 use Rattle.gix_odb_world.specs.Table.{SetsHandle, Notes, phase_of_handle, phase_of_work, why_not_now, with_ignoring}
 use Rattle.gix_odb_world.proofs.OpeningLemmas.{IsDistinct-by_count, ids_equal}
-use Rattle.gix_odb_world.proofs.RunLemmas.{none_failed_yet, slice_get-last}
+use Rattle.gix_odb_world.proofs.RunLemmas.{none_failed_yet}
 use Rattle.gix_odb_world.proofs.StepLemmas.{applied}
-use Rattle.gix_odb_world.proofs.RunningLemmas.{runs-push}
-use Rattle.gix_odb_world.proofs.WriteKept.{open_store_kept}
-
-given_as : (slots : Slots) → slots ≡ Given (given_slots slots)
-given_as (Given slots) = refl
+use Rattle.gix_odb_world.proofs.RunsLemmas.{runs-push}
 
 -- an opening that the event begins has seen nothing
-runs_opening : (first : Volume) (events : List Event) (e : Event) (handle : ℕ) (path : Path) (folders : List Path) (replacements : List (ObjectId × ObjectId)) (options : Options) → e.step ≡ steps.Open handle path folders replacements options
-    → Runs first (events ++ e ∷ []) handle (opening_at (length events + 1) (store_at (length events + 1) path folders replacements options))
-runs_opening first events e handle path folders replacements options opens =
-    let store : Store = store_at (length events + 1) path folders replacements options in
-    let whole : length (events ++ e ∷ []) ≡ length events + 1 = length-append events (e ∷ []) in
-    let opened : OpenedBy (events ++ e ∷ []) handle (length events + 1) store =
-    record {
-      place = length events;
-      number = refl;
-      event = e;
-      there = slice_get-last events e;
-      path = path;
-      folders = folders;
-      replacements = replacements;
-      options = options;
-      opens = opens;
-      slots = given_as options.slots;
-      parts = refl;
-    } in (
+runs_opening : (first : Volume) (events : List Event) (e : Event) (handle : ℕ) (store : Store) → Runs first (events ++ e ∷ []) handle (opening_at (length events + 1) store)
+runs_opening first events e handle store =
+    let whole : length (events ++ e ∷ []) ≡ length events + 1 = length-append events (e ∷ []) in (
       omega (arith, whole),
-      (opened, (refl, refl, none_failed_yet (events ++ e ∷ []) handle (length events + 1) (omega (arith, whole)))),
-      opened,
+      record { task_is = refl; place = 0; turns = refl; seen = (refl, refl, none_failed_yet (events ++ e ∷ []) handle (length events + 1) (omega (arith, whole))) },
     )
 
 -- each pair's first id is replaced by its second, where no id is replaced twice
@@ -86,9 +63,9 @@ pub opened : (old mid new : World) (number : ℕ) (path : Path) (folders : List 
 opened old mid new number path folders replacements options state free good begun sets notes =
     applied old mid new (steps.Open number path folders replacements options) number (Some (record { state = state; work = Some (Opening Looking) }))
     (λ n status. opening_at n (store_at n path folders replacements options))
-    (ap (why_not_open (phase_of_handle (handle_at old number))) good ∙ free) sets notes refl refl (λ other turn. cc) (λ n table. refl)
+    (ap (why_not_open (phase_of_handle (handle_at old number))) good ∙ free) sets notes (λ turn. turn, refl) refl (λ other turn. cc) (λ n table. refl)
     (λ n status match. (replacements_same path folders replacements options n state good begun, refl))
-    (λ first events e status opens no_turn runs. runs_opening first events e number path folders replacements options opens)
+    (λ first events e status opens no_turn runs. runs_opening first events e number (store_at (length events + 1) path folders replacements options))
 
 -- a bad opening is told where the number is free
 pub bad_open : (phase : Phase) (openable : Bool) → why_not_open phase true ≡ None → openable ≡ false → why_not_open phase openable ≡ Some BadOpen
@@ -106,7 +83,7 @@ pub closed : (old mid new : World) (number : ℕ) → why_not_now old (steps.Clo
     → SetsHandle old mid number None → Notes mid new outcomes.Applied Nothing None → Continues old (steps.Close number) new
 closed old mid new number reason sets notes =
     applied old mid new (steps.Close number) number None (λ n status. Free)
-    reason sets notes refl refl (λ other turn. cc) (λ n table. refl) (λ n status match. tt) (λ first events e status starts no_turn runs. tt)
+    reason sets notes (λ turn. turn, refl) refl (λ other turn. cc) (λ n table. refl) (λ n status match. tt) (λ first events e status starts no_turn runs. tt)
 
 -- ---- the mode of an idle handle
 
@@ -117,20 +94,20 @@ matches_ignoring Free (Some handle) idle match = absurd match
 matches_ignoring (Resting store ignoring) None idle match = absurd match
 matches_ignoring (Resting store ignoring) (Some handle) idle match =
     (record { objects = match.0.objects; folders = match.0.folders; replacements = match.0.replacements; mode = refl; limit = match.0.limit; slots = match.0.slots }, match.1)
-matches_ignoring (Working store ignoring begun turns work) None idle match = absurd match
-matches_ignoring (Working store ignoring begun turns work) (Some handle) idle match =
+matches_ignoring (Working running) None idle match = absurd match
+matches_ignoring (Working running) (Some handle) idle match =
     absurd (cc (subst (λ (w : Option Work). why_not_idle (phase_of_work w) ≡ None) match.1 idle))
 
 runs_ignoring : (number : ℕ) (first : Volume) (events : List Event) (e : Event) (status : Status) → ((other : ℕ) → ¬ IsTurnOf other e.step)
     → Runs first events number status → Runs first (events ++ e ∷ []) number (ignoring_from status)
 runs_ignoring number first events e Free no_turn runs = tt
-runs_ignoring number first events e (Resting store ignoring) no_turn runs = open_store_kept events e number store runs
-runs_ignoring number first events e (Working store ignoring begun turns work) no_turn runs = runs-push first events e number (Working store ignoring begun turns work) (no_turn number) runs
+runs_ignoring number first events e (Resting store ignoring) no_turn runs = tt
+runs_ignoring number first events e (Working running) no_turn runs = runs-push first events e number (Working running) (no_turn number) runs
 
 pub ignored : (old mid new : World) (number : ℕ) → why_not_now old (steps.Ignore number) ≡ None
     → SetsHandle old mid number (with_ignoring (handle_at old number)) → Notes mid new outcomes.Applied Nothing None → Continues old (steps.Ignore number) new
 ignored old mid new number reason sets notes =
     applied old mid new (steps.Ignore number) number (with_ignoring (handle_at old number)) (λ n status. ignoring_from status)
-    reason sets notes refl refl (λ other turn. cc) (λ n table. refl)
+    reason sets notes (λ turn. turn, refl) refl (λ other turn. cc) (λ n table. refl)
     (λ n status match. matches_ignoring status (handle_at old number) reason match)
     (λ first events e status starts. runs_ignoring number first events e status)

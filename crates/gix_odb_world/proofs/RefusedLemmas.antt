@@ -1,5 +1,5 @@
 -- What makes something is refused by a failure, or by its way.
-use Rattle.std.proofs.Common.{◌≡◌, ◌≢◌, ℕ, Bool, true, false, List, take, Some, Ok, Err, Result, refl, sym, ap, ◌∙◌, subst, inl, inr}
+use Rattle.std.proofs.Common.{◌≡◌, ◌≢◌, ℕ, Bool, true, false, List, take, Ok, Err, Result, refl, sym, ap, ◌∙◌, subst, inl, inr}
 use Rattle.std.specs.Prelude.{if◌then◌else◌}
 use Rattle.odb_disk.specs.Ask.{answer_of, write_answer}
 use Rattle.odb_disk.specs.MemDisk.{Volume, next_fails}
@@ -18,7 +18,7 @@ use Rattle.odb_tree.proofs.RefusalLaws.{append-never, full, make_dir-never, new_
 use Rattle.gix_odb_loose.proofs.CauseLaws.Write.{IsMaking}
 use Rattle.gix_odb_loose.specs.WriteHistory.Refused.{IsRefused}
 use Rattle.gix_odb_loose.specs.WriteRuns.RefusedAsks.{IsOnWay}
-use Rattle.gix_odb_world.specs.Event.{Event}
+use Rattle.gix_odb_world.specs.Event.{OfDisk, Event}
 use Rattle.gix_odb_world.specs.Run.{Fails, disk_after}
 use Rattle.gix_odb_world.specs.Writing.{AskedSince, RefusedSince}
 use Rattle.gix_odb_world.proofs.WriteAsk.{Told, told_append, told_make_dir, told_new_file, told_rename}
@@ -48,7 +48,7 @@ module _ (first : Volume) (events : List Event) (handle begun : ℕ) (ask : Disk
           asked = record {
             place = asked.place;
             later = asked.later;
-            at = record { event = asked.at.event; there = asked.at.there; turn = asked.at.turn; did = asked.at.did; asked = asked.at.asked ∙ ap (λ a. Some (ask, a)) e; given = sym e ∙ asked.at.given };
+            at = record { event = asked.at.event; there = asked.at.there; turn = asked.at.turn; did = asked.at.did; asked = asked.at.asked ∙ ap (OfDisk ask) e; given = sym e ∙ asked.at.given };
           };
           failed = subst Fails (sym asked.at.did) fails;
         })

@@ -7,7 +7,8 @@ use Rattle.std.proofs.Math.Seq.{take-append_seam, take-length}
 use Rattle.odb_tree.specs.Tree.{tree_of}
 use Rattle.odb_disk.specs.MemDisk.{Volume}
 use Rattle.std.proofs.lemmas.Option.{slice_get_within}
-use Rattle.gix_odb_world.specs.Event.{Event, Status, Free, status_of, status_after, statuses_from}
+use Rattle.gix_odb_world.specs.Event.{Event}
+use Rattle.gix_odb_world.specs.Status.{Status, Free, status_of, status_after, statuses_from}
 use Rattle.gix_odb_world.specs.Run.{disk_after, disk_after_event, tree_at, IsTurnOf, Fails, FailedSince}
 use Rattle.gix_odb_world.specs.Headline.{Law, IsLawful}
 
@@ -34,17 +35,17 @@ take-push xs x =
 
 -- ---- what the handles do, and the disk, after one more event
 
-statuses_from-push : (n : ℕ) (table : ℕ → Status) (events : List Event) (e : Event) → statuses_from n table (events ++ e ∷ []) ≡ status_after (n + length events) e.step e.outcome e.turn (statuses_from n table events)
+statuses_from-push : (n : ℕ) (table : ℕ → Status) (events : List Event) (e : Event) → statuses_from n table (events ++ e ∷ []) ≡ status_after (n + length events) e.step e.outcome e.asked (statuses_from n table events)
 unfolding statuses_from
-statuses_from-push n table [] e = let same : n ≡ n + 0 = omega arith in ap (λ m. status_after m e.step e.outcome e.turn table) same
+statuses_from-push n table [] e = let same : n ≡ n + 0 = omega arith in ap (λ m. status_after m e.step e.outcome e.asked table) same
 statuses_from-push n table (x ∷ events) e =
     let later : n + 1 + length events ≡ n + length (x ∷ events) = omega arith in
-    statuses_from-push (n + 1) (status_after n x.step x.outcome x.turn table) events e ∙ ap (λ m. status_after m e.step e.outcome e.turn (statuses_from (n + 1) (status_after n x.step x.outcome x.turn table) events)) later
+    statuses_from-push (n + 1) (status_after n x.step x.outcome x.asked table) events e ∙ ap (λ m. status_after m e.step e.outcome e.asked (statuses_from (n + 1) (status_after n x.step x.outcome x.asked table) events)) later
 
-pub status_of-push : (events : List Event) (e : Event) → status_of (events ++ e ∷ []) ≡ status_after (length events + 1) e.step e.outcome e.turn (status_of events)
+pub status_of-push : (events : List Event) (e : Event) → status_of (events ++ e ∷ []) ≡ status_after (length events + 1) e.step e.outcome e.asked (status_of events)
 status_of-push events e =
     let later : 1 + length events ≡ length events + 1 = omega arith in
-    statuses_from-push 1 (λ handle. Free) events e ∙ ap (λ m. status_after m e.step e.outcome e.turn (status_of events)) later
+    statuses_from-push 1 (λ handle. Free) events e ∙ ap (λ m. status_after m e.step e.outcome e.asked (status_of events)) later
 
 pub disk_after-push : (first : Volume) (events : List Event) (e : Event) → disk_after first (events ++ e ∷ []) ≡ disk_after_event (disk_after first events) e
 unfolding disk_after

@@ -6,7 +6,6 @@ use Rattle.odb_disk.specs.MemDisk.{Volume, after_outside_change, next_fails}
 use Rattle.odb_tree.specs.Tree.{IsTree, Tree, tree_of}
 use Rattle.odb_tree.specs.Tree.Change.{changed, is_possible}
 use Rattle.odb_tree.specs.Tree.Write.{written}
-use Rattle.odb_disk.specs.declared.ask.DiskAnswer.{DiskAnswer}
 use Rattle.odb_disk.specs.declared.ask.DiskAsk.{DiskAsk}
 use Rattle.odb_tree.specs.declared.change.Change.{Change}
 use Rattle.odb_tree.proofs.TreeLemmas.Changed.{IsTree-changed, after_change-tree, is_possible-tree_of}
@@ -18,10 +17,11 @@ use Rattle.gix_odb_world.specs.declared.step.Outcome.TheVariants as outcomes
 use Rattle.gix_odb_world.specs.declared.step.Step.{Step}
 use Rattle.gix_odb_world.specs.declared.step.Step.TheVariants as steps
 use Rattle.gix_odb_world.specs.declared.step.Why.{Why}
-use Rattle.gix_odb_world.specs.declared.work.Work.{Work}
-use Rattle.gix_odb_world.specs.Event.{Event, Free, Resting, Status, Store, Working, status_after, status_of}
-use Rattle.gix_odb_world.specs.Headline.{ChangesAs, IsLawful, Law, Suits, Turns, Works}
-use Rattle.gix_odb_world.specs.Run.{change_by, did_of_turn, disk_after, disk_after_event, disk_after_turn, tree_at}
+use Rattle.gix_odb_world.specs.Event.{Asked, OfNothing, OfDisk, OfCore, Event}
+use Rattle.gix_odb_world.specs.Status.{Running, Status, Free, Resting, Working, status_of, status_after}
+use Rattle.gix_odb_world.specs.Headline.{IsLawful, IsTurn, Law, Suits, Turns, Works}
+use Rattle.gix_odb_world.specs.Changes.{ChangesAs, change_applied}
+use Rattle.gix_odb_world.specs.Run.{change_by, did_of_asked, disk_after, disk_after_event, disk_after_asked, tree_at}
 use Rattle.gix_odb_world.specs.Undisturbed.{IsOutside}
 use Rattle.gix_odb_world.specs.Valid.{misuse_of, phase_of, why_not_after, why_not_running}
 use Rattle.gix_odb_world.proofs.RunLemmas.{disk_after-push, status_of-push}
@@ -88,13 +88,9 @@ length_take (z ∷ zs) (suc place) x is = ap (λ n. suc n) (length_take zs place
 -- a handle was turned, and made the call of the disk that its work names
 pub record IsTurned (first : Volume) (past : List Event) (e : Event) : Type 0 where
   pub handle : ℕ
-  pub store : Store
-  pub ignoring : Bool
-  pub begun : ℕ
-  pub turns : ℕ
-  pub work : Work
-  pub turn : Turns past e handle store ignoring begun turns work
-  pub works : Works first past handle store ignoring begun turns work e
+  pub running : Running
+  pub turn : Turns past e handle running
+  pub works : Works first past handle running e
 
 -- another program made a change, which was possible
 pub record IsMade (first : Volume) (past : List Event) (e : Event) : Type 0 where
@@ -102,76 +98,70 @@ pub record IsMade (first : Volume) (past : List Event) (e : Event) : Type 0 wher
   pub outside : IsOutside e
   pub makes : e.entry.change ≡ Some change
   pub did : e.entry.did ≡ Nothing
-  pub turn : e.turn ≡ None
+  pub asked : e.asked ≡ OfNothing
   pub possible : is_possible (disk_after first past).state change ≡ true
 
 -- nothing changed
 pub record IsQuiet (e : Event) : Type 0 where
   pub none : e.entry.change ≡ None
   pub did : e.entry.did ≡ Nothing
-  pub turn : e.turn ≡ None
+  pub asked : e.asked ≡ OfNothing
 
 pub data Kind (first : Volume) (past : List Event) (e : Event) : Type 0 where
   Turned : IsTurned first past e → Kind first past e
   Made : IsMade first past e → Kind first past e
   Quiet : IsQuiet e → Kind first past e
 
-pub record AtWork (status : Status) : Type 0 where
-  pub store : Store
-  pub ignoring : Bool
-  pub begun : ℕ
-  pub turns : ℕ
-  pub work : Work
-  pub is : status ≡ Working store ignoring begun turns work
-
-at_work : (status : Status) → None ≡ why_not_running (phase_of status) → AtWork status
+at_work : (status : Status) → None ≡ why_not_running (phase_of status) → (running : Running) × (status ≡ Working running)
 at_work Free valid = absurd (cc)
 at_work (Resting store ignoring) valid = absurd (cc)
-at_work (Working store ignoring begun turns work) valid = record { store = store; ignoring = ignoring; begun = begun; turns = turns; work = work; is = refl }
+at_work (Working running) valid = (running, refl)
 
 possible_by : (b : Bool) (why : Why) → None ≡ (if b then None else Some why) → b ≡ true
 possible_by true why valid = refl
 possible_by false why valid = absurd (cc)
 
-none_asked : (turn : Option (DiskAsk × DiskAnswer)) → Nothing ≡ did_of_turn turn → turn ≡ None
-none_asked None is = refl
-none_asked (Some asked) is = absurd (cc is)
+none_asked : (asked : Asked) → Nothing ≡ did_of_asked asked → asked ≡ OfNothing
+none_asked OfNothing is = refl
+none_asked (OfDisk ask answer) is = absurd (cc is)
+none_asked (OfCore event) is = absurd event
+
+turn_step : (step : Step) → IsTurn step → (handle : ℕ) × (step ≡ steps.Turn handle)
+turn_step (steps.Turn handle) turn = (handle, refl)
+turn_step (steps.Open handle path folders replacements options) turn = absurd turn
+turn_step (steps.Close handle) turn = absurd turn
+turn_step (steps.Ignore handle) turn = absurd turn
+turn_step (steps.Start handle call) turn = absurd turn
+turn_step (steps.Disk change) turn = absurd turn
 
 module _ (first : Volume) (past : List Event) (e : Event) (law : Law first past e) where
-  turned : (handle : ℕ) → e.step ≡ steps.Turn handle → None ≡ why_not_after first past (steps.Turn handle) → Kind first past e
-  turned handle step valid =
-      let a = at_work (status_of past handle) valid in
-      let turn : Turns past e handle a.store a.ignoring a.begun a.turns a.work = record { step = step; status = a.is } in
-      Turned (record { handle = handle; store = a.store; ignoring = a.ignoring; begun = a.begun; turns = a.turns; work = a.work; turn = turn; works = law.worked handle a.store a.ignoring a.begun a.turns a.work turn })
+  turned : IsTurn e.step → None ≡ why_not_after first past e.step → Kind first past e
+  turned is valid =
+      let t = turn_step e.step is in
+      let a = at_work (status_of past t.0) (subst (λ s. None ≡ why_not_after first past s) t.1 valid) in
+      let turn : Turns past e t.0 a.0 = record { step = t.1; status = a.1 } in
+      Turned (record { handle = t.0; running = a.0; turn = turn; works = law.worked t.0 a.0 turn })
 
-  kind_by : (step : Step) (outcome : Outcome) → e.step ≡ step → e.outcome ≡ outcome → Suits step outcome e.entry.did → ChangesAs step outcome e.entry.change → misuse_of outcome ≡ why_not_after first past step → Kind first past e
-  kind_by (steps.Turn handle) outcomes.Applied s o suits made valid = absurd suits
-  kind_by (steps.Turn handle) outcomes.Pending s o suits made valid = turned handle s valid
-  kind_by (steps.Turn handle) (outcomes.Reply reply) s o suits made valid = turned handle s valid
-  kind_by (steps.Turn handle) (outcomes.Misuse why) s o suits made valid = Quiet (record { none = made; did = suits; turn = none_asked e.turn (sym suits ∙ law.did) })
-  kind_by (steps.Disk change) outcomes.Applied s o suits made valid = Made (record { change = change; outside = (change, s, o); makes = made; did = suits; turn = none_asked e.turn (sym suits ∙ law.did); possible = possible_by _ _ valid })
-  kind_by (steps.Disk change) outcomes.Pending s o suits made valid = absurd suits
-  kind_by (steps.Disk change) (outcomes.Reply reply) s o suits made valid = absurd suits
-  kind_by (steps.Disk change) (outcomes.Misuse why) s o suits made valid = Quiet (record { none = made; did = suits; turn = none_asked e.turn (sym suits ∙ law.did) })
-  kind_by (steps.Open handle path folders replacements options) outcomes.Applied s o suits made valid = Quiet (record { none = made; did = suits; turn = none_asked e.turn (sym suits ∙ law.did) })
-  kind_by (steps.Open handle path folders replacements options) outcomes.Pending s o suits made valid = absurd suits
-  kind_by (steps.Open handle path folders replacements options) (outcomes.Reply reply) s o suits made valid = absurd suits
-  kind_by (steps.Open handle path folders replacements options) (outcomes.Misuse why) s o suits made valid = Quiet (record { none = made; did = suits; turn = none_asked e.turn (sym suits ∙ law.did) })
-  kind_by (steps.Close handle) outcomes.Applied s o suits made valid = Quiet (record { none = made; did = suits; turn = none_asked e.turn (sym suits ∙ law.did) })
-  kind_by (steps.Close handle) outcomes.Pending s o suits made valid = absurd suits
-  kind_by (steps.Close handle) (outcomes.Reply reply) s o suits made valid = absurd suits
-  kind_by (steps.Close handle) (outcomes.Misuse why) s o suits made valid = Quiet (record { none = made; did = suits; turn = none_asked e.turn (sym suits ∙ law.did) })
-  kind_by (steps.Ignore handle) outcomes.Applied s o suits made valid = Quiet (record { none = made; did = suits; turn = none_asked e.turn (sym suits ∙ law.did) })
-  kind_by (steps.Ignore handle) outcomes.Pending s o suits made valid = absurd suits
-  kind_by (steps.Ignore handle) (outcomes.Reply reply) s o suits made valid = absurd suits
-  kind_by (steps.Ignore handle) (outcomes.Misuse why) s o suits made valid = Quiet (record { none = made; did = suits; turn = none_asked e.turn (sym suits ∙ law.did) })
-  kind_by (steps.Start handle call) outcomes.Applied s o suits made valid = Quiet (record { none = made; did = suits; turn = none_asked e.turn (sym suits ∙ law.did) })
-  kind_by (steps.Start handle call) outcomes.Pending s o suits made valid = absurd suits
-  kind_by (steps.Start handle call) (outcomes.Reply reply) s o suits made valid = absurd suits
-  kind_by (steps.Start handle call) (outcomes.Misuse why) s o suits made valid = Quiet (record { none = made; did = suits; turn = none_asked e.turn (sym suits ∙ law.did) })
+  quiet : e.entry.change ≡ None → e.entry.did ≡ Nothing → Kind first past e
+  quiet none did = Quiet (record { none = none; did = did; asked = none_asked e.asked (sym did ∙ law.did) })
+
+  kind_applied : (step : Step) → e.step ≡ step → e.outcome ≡ outcomes.Applied → ¬ (IsTurn step) → e.entry.did ≡ Nothing → e.entry.change ≡ change_applied step → None ≡ why_not_after first past step → Kind first past e
+  kind_applied (steps.Turn handle) s o other did made valid = absurd (other tt)
+  kind_applied (steps.Disk change) s o other did made valid =
+      Made (record { change = change; outside = (change, s, o); makes = made; did = did; asked = none_asked e.asked (sym did ∙ law.did); possible = possible_by _ _ valid })
+  kind_applied (steps.Open handle path folders replacements options) s o other did made valid = quiet made did
+  kind_applied (steps.Close handle) s o other did made valid = quiet made did
+  kind_applied (steps.Ignore handle) s o other did made valid = quiet made did
+  kind_applied (steps.Start handle call) s o other did made valid = quiet made did
+
+  kind_by : (outcome : Outcome) → e.outcome ≡ outcome → Suits e.step outcome e.entry.did → ChangesAs e.step outcome e.entry.change → misuse_of outcome ≡ why_not_after first past e.step → Kind first past e
+  kind_by outcomes.Applied o suits made valid = kind_applied e.step refl o suits.0 suits.1 made valid
+  kind_by outcomes.Pending o suits made valid = turned suits.0 valid
+  kind_by (outcomes.Reply reply) o suits made valid = turned suits valid
+  kind_by (outcomes.Misuse why) o suits made valid = quiet made suits
 
   pub kind_of : Kind first past e
-  kind_of = kind_by e.step e.outcome refl refl law.suits law.change law.valid
+  kind_of = kind_by e.outcome refl law.suits law.change law.valid
 
 -- ---- what it does to the tree
 
@@ -187,22 +177,22 @@ module _ (first : Volume) (past : List Event) (e : Event) where
   abbrev pub after : Tree
   after = tree_of (disk_after_event disk e).state
 
-  after_by : (turn : Option (DiskAsk × DiskAnswer)) (change : Option Change) → e.turn ≡ turn → e.entry.change ≡ change → after ≡ tree_of (disk_after_turn disk turn change).state
-  after_by turn change turn_is change_is = ap (λ t. tree_of (disk_after_turn disk t e.entry.change).state) turn_is ∙ ap (λ c. tree_of (disk_after_turn disk turn c).state) change_is
+  after_by : (asked : Asked) (change : Option Change) → e.asked ≡ asked → e.entry.change ≡ change → after ≡ tree_of (disk_after_asked disk asked change).state
+  after_by asked change asked_is change_is = ap (λ a. tree_of (disk_after_asked disk a e.entry.change).state) asked_is ∙ ap (λ c. tree_of (disk_after_asked disk asked c).state) change_is
 
   quietly : IsQuiet e → after ≡ tree_of disk.state
-  quietly q = after_by None None q.turn q.none
+  quietly q = after_by OfNothing None q.asked q.none
 
   made_outside : (m : IsMade first past e) → after ≡ changed (tree_of disk.state) m.change
   unfolding after_outside_change
-  made_outside m = after_by None (Some m.change) m.turn m.makes ∙ after_change-tree disk.state m.change
+  made_outside m = after_by OfNothing (Some m.change) m.asked m.makes ∙ after_change-tree disk.state m.change
 
   left_by_turn : (change : Option Change) → after ≡ tree_of (written disk.state change) → IsLeft (tree_of disk.state) after change
   left_by_turn None is = is
   left_by_turn (Some change) is = is ∙ tree_of-written disk.state change
 
   pub turned_left : (t : IsTurned first past e) → IsLeft (tree_of disk.state) after e.entry.change
-  turned_left t = left_by_turn e.entry.change (ap (λ turn. tree_of (disk_after_turn disk turn e.entry.change).state) t.works.told)
+  turned_left t = left_by_turn e.entry.change (ap (λ asked. tree_of (disk_after_asked disk asked e.entry.change).state) t.works.told)
 
   pub left : Kind first past e → IsLeft (tree_of disk.state) after e.entry.change
   left (Turned t) = turned_left t
@@ -242,10 +232,10 @@ module _ (first : Volume) (events : List Event) (start : IsTree (tree_of first.s
   pub left_at : (place : ℕ) (e : Event) → slice_get events place ≡ Some e → IsLeft (tree_at first events place) (tree_at first events (place + 1)) e.entry.change
   left_at place e there = subst (λ u. IsLeft (tree_at first events place) u e.entry.change) (sym (tree_next place e there)) (left first (take place events) e (kind_at place e there))
 
-  pub status_next : (place : ℕ) (e : Event) → slice_get events place ≡ Some e → status_of (take (place + 1) events) ≡ status_after (place + 1) e.step e.outcome e.turn (status_of (take place events))
+  pub status_next : (place : ℕ) (e : Event) → slice_get events place ≡ Some e → status_of (take (place + 1) events) ≡ status_after (place + 1) e.step e.outcome e.asked (status_of (take place events))
   status_next place e there =
       ap status_of (take_next events place e there) ∙ status_of-push (take place events) e
-      ∙ ap (λ n. status_after (n + 1) e.step e.outcome e.turn (status_of (take place events))) (length_take events place e there)
+      ∙ ap (λ n. status_after (n + 1) e.step e.outcome e.asked (status_of (take place events))) (length_take events place e there)
 
   tree_zero : IsTree (tree_at first events 0)
   unfolding disk_after

@@ -1,7 +1,5 @@
 -- What a handle at work has seen stays seen.
-use Rattle.std.proofs.Common.{◌≡◌, ◌≢◌, ℕ, ◌≤◌, Bool, true, false, List, [], ◌∷◌, ◌++◌, length, drop, Some, None, Option, refl, sym, subst, arith, inl, inr}
-use Rattle.std.specs.Prelude.{if◌then◌else◌, ◌==◌}
-use Rattle.std.proofs.lemmas.Bool.{eqb-true, eqb-false}
+use Rattle.std.proofs.Common.{◌≡◌, ℕ, ◌≤◌, Bool, List, [], ◌∷◌, ◌++◌, length, drop, Some, None, Option, sym, subst, arith, inl, inr}
 use Rattle.std.proofs.lemmas.List.{length-append}
 use Rattle.odb_base.specs.Path.{Path}
 use Rattle.odb_tree.specs.Tree.{Tree}
@@ -18,10 +16,10 @@ use Rattle.gix_odb_world.specs.declared.work.Work.{Work}
 use Rattle.gix_odb_world.specs.declared.work.Work.TheVariants.{Opening, Calling}
 use Rattle.gix_odb.specs.LookOrder.{job_of}
 use Rattle.gix_odb_world.specs.Causes.{Sometime, GaveSometime, LooseCause}
-use Rattle.gix_odb_world.specs.Event.{Event, Store, Status, Free, Resting, Working, with_status}
+use Rattle.gix_odb_world.specs.Event.{Event}
+use Rattle.gix_odb_world.specs.Status.{Running, Store, Task}
 use Rattle.gix_odb_world.specs.Run.{tree_at, IsTurnOf, FailedSince}
-use Rattle.gix_odb_world.specs.Running.{call_of, Passed, Leaves, Noted, Seeks, Seen, Knows, Runs}
-use Rattle.gix_odb_world.proofs.WriteKept.{begun_kept, open_store_kept, opened_kept, writing_push}
+use Rattle.gix_odb_world.specs.Running.Query.{Looks, Passed, Leaves, Noted, Seeks, Seen}
 use Rattle.gix_odb_world.proofs.RunLemmas.{tree_at-before, failed-kept, failed_before}
 
 -- more moments of the same trees
@@ -58,56 +56,34 @@ module _ (trees wider : ℕ → Tree) (begun now later : ℕ) (le : now ≤ late
       noted_wider call id asked ahead None seen = (λ f. seen.0 (failed f), leaves_wider store id asked ahead seen.1)
       noted_wider call id asked ahead (Some error) seen = cause_wider call id error seen
 
-      seeks_wider : (turns : ℕ) (call : Query) (id : ObjectId) (stage : Stage) → Seeks trees Failed store begun now turns call id stage → Seeks wider Fails store begun later turns call id stage
-      seeks_wider turns call id stage s =
-          record { noted = s.noted; folder = s.folder; among = s.among; place = s.place; stage_is = s.stage_is; seen = noted_wider call id s.folder (drop turns store.parts.folders) s.noted s.seen }
+      seeks_wider : (place : ℕ) (call : Query) (id : ObjectId) (stage : Stage) → Seeks trees Failed store begun now place call id stage → Seeks wider Fails store begun later place call id stage
+      seeks_wider place call id stage s =
+          record { noted = s.noted; folder = s.folder; among = s.among; there = s.there; stage_is = s.stage_is; seen = noted_wider call id s.folder (drop place store.parts.folders) s.noted s.seen }
 
-      pub seen_wider : (ignoring : Bool) (turns : ℕ) (work : Work) → Seen trees Failed store ignoring begun now turns work → Seen wider Fails store ignoring begun later turns work
-      seen_wider ignoring turns (Opening state) seen = (seen.0, seen.1, λ f. seen.2 (failed f))
-      seen_wider ignoring turns (Calling (Looking state)) seen = (seen.0, seeks_wider turns state.head.query state.head.id state.stage seen.1)
-      seen_wider ignoring turns (Calling (Writing folder)) seen = absurd seen
-      seen_wider ignoring turns (Calling (Written reply)) seen = absurd seen
+      pub seen_wider : (ignoring : Bool) (place : ℕ) (work : Work) → Seen trees Failed store ignoring begun now place work → Seen wider Fails store ignoring begun later place work
+      seen_wider ignoring place (Opening state) seen = (seen.0, seen.1, λ f. seen.2 (failed f))
+      seen_wider ignoring place (Calling (Looking state)) seen = (seen.0, seeks_wider place state.head.query state.head.id state.stage seen.1)
+      seen_wider ignoring place (Calling (Writing folder)) seen = absurd seen
+      seen_wider ignoring place (Calling (Written reply)) seen = absurd seen
 
 -- ---- handles after one more event
 
--- an opening or a query knows as much over an event that isn't its turn
-look_push : (first : Volume) (events : List Event) (e : Event) (handle : ℕ) (store : Store) (ignoring : Bool) (begun turns : ℕ) (work : Work) → ¬ IsTurnOf handle e.step
-    → Seen (tree_at first events) (FailedSince events handle begun) store ignoring begun (length events) turns work
-    → Seen (tree_at first (events ++ e ∷ [])) (FailedSince (events ++ e ∷ []) handle begun) store ignoring begun (length (events ++ e ∷ [])) turns work
-look_push first events e handle store ignoring begun turns work other seen =
-    let longer : length events ≤ length (events ++ e ∷ []) = omega (arith, length-append events (e ∷ [])) in
-    seen_wider (tree_at first events) (tree_at first (events ++ e ∷ [])) begun (length events) (length (events ++ e ∷ [])) longer (tree_at-before first events e)
-    (FailedSince events handle begun) (FailedSince (events ++ e ∷ []) handle begun) store (failed-kept events e handle begun)
-    (failed_before events e handle begun (λ turn. absurd (other turn))) ignoring turns work seen
+module _ (first : Volume) (events : List Event) (e : Event) where
+  abbrev whole : List Event
+  whole = events ++ e ∷ []
 
-knows_push : (first : Volume) (events : List Event) (e : Event) (handle : ℕ) (store : Store) (ignoring : Bool) (begun turns : ℕ) (work : Work) → ¬ IsTurnOf handle e.step
-    → Knows first events handle store ignoring begun turns work → Knows first (events ++ e ∷ []) handle store ignoring begun turns work
-knows_push first events e handle store ignoring begun turns (Opening state) other knows = (opened_kept events e handle begun store knows.0, look_push first events e handle store ignoring begun turns (Opening state) other knows.1)
-knows_push first events e handle store ignoring begun turns (Calling (Looking state)) other knows =
-    (begun_kept events e handle begun (call_of state.head.query) knows.0, look_push first events e handle store ignoring begun turns (Calling (Looking state)) other knows.1)
-knows_push first events e handle store ignoring begun turns (Calling (Writing folder)) other knows = writing_push first events e handle begun turns store.parts.objects folder other knows
-knows_push first events e handle store ignoring begun turns (Calling (Written reply)) other knows = absurd knows
+  longer : length events ≤ length whole
+  longer = omega (arith, length-append events (e ∷ []))
 
--- a handle at work goes on as it is over an event that isn't its turn
-pub runs-push : (first : Volume) (events : List Event) (e : Event) (handle : ℕ) (status : Status) → ¬ IsTurnOf handle e.step → Runs first events handle status → Runs first (events ++ e ∷ []) handle status
-runs-push first events e handle Free other runs = tt
-runs-push first events e handle (Resting store ignoring) other runs = open_store_kept events e handle store runs
-runs-push first events e handle (Working store ignoring begun turns work) other runs =
-    let longer : length events ≤ length (events ++ e ∷ []) = omega (arith, length-append events (e ∷ [])) in (
-      omega (arith, longer, runs.0),
-      knows_push first events e handle store ignoring begun turns work other runs.1,
-      open_store_kept events e handle store runs.2,
-    )
-
-runs_either : (first : Volume) (events : List Event) (e : Event) (number : ℕ) (status : Status) (other : ℕ) (before : Status) (b : Bool) → (other == number) ≡ b
-    → Runs first (events ++ e ∷ []) number status → (other ≢ number → ¬ IsTurnOf other e.step) → Runs first events other before → Runs first (events ++ e ∷ []) other (if b then status else before)
-runs_either first events e number status other before true same here apart runs = rw (eqb-true other number same) here
-runs_either first events e number status other before false same here apart runs =
-    let differs : other ≢ number = eqb-false other number same in
-    runs-push first events e other before (apart differs) runs
-
-pub runs_set : (first : Volume) (events : List Event) (e : Event) (table : ℕ → Status) (number : ℕ) (status : Status)
-    → ((other : ℕ) → Runs first events other (table other)) → ((other : ℕ) → other ≢ number → ¬ IsTurnOf other e.step) → Runs first (events ++ e ∷ []) number status
-    → (other : ℕ) → Runs first (events ++ e ∷ []) other (with_status table number status other)
-runs_set first events e table number status before apart here other =
-    runs_either first events e number status other (table other) (other == number) refl here (apart other) (before other)
+  module _ (handle : ℕ) (other : ¬ IsTurnOf handle e.step) where
+    -- an opening or a query knows as much over an event that isn't its turn
+    pub looks_push : (running : Running) (task : Task) (work : Work) → Looks first events handle running task work → Looks first whole handle running task work
+    looks_push running task work l =
+        record {
+          task_is = l.task_is;
+          place = l.place;
+          turns = l.turns;
+          seen = seen_wider (tree_at first events) (tree_at first whole) running.begun (length events) (length whole) longer (tree_at-before first events e)
+              (FailedSince events handle running.begun) (FailedSince whole handle running.begun) running.store (failed-kept events e handle running.begun)
+              (failed_before events e handle running.begun (λ turn. absurd (other turn))) running.ignoring l.place work l.seen;
+        }

@@ -14,7 +14,11 @@ use Rattle.gix_odb_world.specs.Running.{RunsThroughout}
 use Rattle.gix_odb_world.specs.Undisturbed.{AreApart, CutsOff, HasMade, IsAloneAtRename, IsCutOff, IsKept, IsSpared, IsUndisturbed, StandsAlone, WritesStandAlone}
 use Rattle.gix_odb_world.specs.Writing.{IsRename}
 use Rattle.gix_odb_world.proofs.CutFiles as cuts
-use Rattle.gix_odb_world.proofs.OwnFiles as files
+use Rattle.gix_odb_world.proofs.OwnFiles as along
+use Rattle.gix_odb_world.proofs.OwnFiles.Standing as files
+use Rattle.gix_odb_world.proofs.OwnFiles.Writer as writers
+use Rattle.gix_odb_world.proofs.OwnFiles.Other as others
+use Rattle.gix_odb_world.proofs.OwnFiles.Turn as turns
 use Rattle.gix_odb_world.proofs.RunSteps.{Kind, Made, Quiet, Turned, kind_at}
 
 module _ (first : Volume) (events : List Event) (start : IsTree (tree_of first.state)) (lawful : IsLawful first events) (throughout : RunsThroughout first events) where
@@ -41,22 +45,22 @@ module _ (first : Volume) (events : List Event) (start : IsTree (tree_of first.s
     own_spared : (o : Own handle made path place) → Spared o.spot
     own_spared o = by_kind (kind_at first events start lawful place e there)
       where
-        by_writer : (b : files.ByWriter first events start lawful throughout place e) → Spared o.spot
+        by_writer : (b : writers.ByWriter first events start lawful throughout place e) → Spared o.spot
         by_writer b =
             let both : steps.Turn b.handle ≡ steps.Turn other = sym b.turn ∙ turn in
             let same : b.handle ≡ other = cc both in
-            elim (files.own_spared first events start lawful throughout place e there (files.files_at first events start lawful throughout place calm) handle made path hm b (λ h. apart (sym same ∙ h)) o) [ inl kept ↦ inl kept | inr c ↦ inr c.cuts ]
+            elim (others.own_spared first events start lawful throughout place e there (along.files_at first events start lawful throughout place calm) handle made path hm b (λ h. apart (sym same ∙ h)) o) [ inl kept ↦ inl kept | inr c ↦ inr c.cuts ]
 
         by_kind : Kind first (take place events) e → Spared o.spot
         by_kind (Quiet q) = inl (files.same_way first events start lawful throughout place e there path q.none)
         by_kind (Made m) = let both : steps.Turn other ≡ steps.Disk m.outside.0 = sym turn ∙ m.outside.1 in absurd (cc both)
-        by_kind (Turned t) = elim (files.quiet_or_writer first events start lawful throughout place e there t) [
+        by_kind (Turned t) = elim (writers.quiet_or_writer first events start lawful throughout place e there t) [
           | inl none ↦ inl (files.same_way first events start lawful throughout place e there path none)
           | inr b ↦ by_writer b
         ]
 
     spared_led : file_spot (tree place) path ≡ Ok s → Spared s
-    spared_led leads = elim ((files.files_at first events start lawful throughout place calm).each handle made path hm) [
+    spared_led leads = elim ((along.files_at first events start lawful throughout place calm).each handle made path hm) [
       | inl o ↦ subst Spared (led_twice place path o.spot s o.own.leads leads) (own_spared o)
       | inr l ↦ absurd (files.lost_no_file first events start lawful throughout place path l s leads)
     ]
@@ -69,7 +73,7 @@ module _ (first : Volume) (events : List Event) (start : IsTree (tree_of first.s
   stands_alone handle made now path o =
       record {
         spot = o.spot;
-        put = λ x there. ap (λ (y : Event). y.entry.change) (files.one_event events made x o.event there o.there) ∙ o.put;
+        put = λ x there. ap (λ (y : Event). y.entry.change) (writers.one_event events made x o.event there o.there) ∙ o.put;
         leads = o.own.leads;
         alone = o.alone;
       }
@@ -100,9 +104,9 @@ module _ (first : Volume) (events : List Event) (start : IsTree (tree_of first.s
 
   -- a write that renames has its file
   pub own_at_rename : (place : ℕ) (e : Event) (handle made : ℕ) (path : Path) → IsUndisturbed first events place → slice_get events place ≡ Some e → IsTurnOf handle e.step → IsRename e.entry.change → HasMade first events handle made path place → Own handle made path place
-  own_at_rename place e handle made path calm there turn renames hm = elim ((files.files_at first events start lawful throughout place calm).each handle made path hm) [
+  own_at_rename place e handle made path calm there turn renames hm = elim ((along.files_at first events start lawful throughout place calm).each handle made path hm) [
     | inl o ↦ o
-    | inr l ↦ absurd (subst IsRename (files.lost_turn first events start lawful throughout place e there handle made path hm turn l) renames)
+    | inr l ↦ absurd (subst IsRename (turns.lost_turn first events start lawful throughout place e there handle made path hm turn l) renames)
   ]
 
   renamed : IsAloneAtRename first events
@@ -112,7 +116,7 @@ module _ (first : Volume) (events : List Event) (start : IsTree (tree_of first.s
   are_apart handle other made last now path twin s r calm differs hm his leads led = by_files (at.each handle made path hm) (at.each other last twin his)
     where
       at : files.Files first events start lawful throughout now
-      at = files.files_at first events start lawful throughout now calm
+      at = along.files_at first events start lawful throughout now calm
 
       by_files : Own handle made path now ⊎ Lost path now → Own other last twin now ⊎ Lost twin now → s ≢ r
       by_files (inr l) p = absurd (files.lost_no_file first events start lawful throughout now path l s leads)

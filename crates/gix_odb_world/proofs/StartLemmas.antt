@@ -1,5 +1,5 @@
 -- The start of a call on an idle handle.
-use Rattle.std.proofs.Common.{◌≡◌, ℕ, ◌+◌, Bool, true, false, List, [], ◌∷◌, ◌++◌, length, Some, None, Option, refl, sym, ◌∙◌, ap, subst, arith, inr}
+use Rattle.std.proofs.Common.{◌≡◌, ℕ, ◌+◌, Bool, true, false, List, [], ◌∷◌, ◌++◌, length, Some, None, Option, refl, sym, ◌∙◌, ap, subst, arith}
 use Rattle.std.proofs.lemmas.List.{length-append}
 use Rattle.odb_disk.specs.MemDisk.{Volume}
 use Rattle.gix_hash.specs.declared.object_id.ObjectId.{ObjectId}
@@ -20,25 +20,24 @@ use Rattle.gix_odb_world.specs.declared.world.World.{World}
 use Rattle.gix_odb.specs.CallOrder as calls
 use Rattle.gix_odb.specs.CallOrder.{HasSize}
 use Rattle.gix_odb.specs.Contents.{or_itself, replaced, replacement_in, sought}
-use Rattle.gix_odb_world.specs.Event.{Event, Store, Status, Free, Resting, Working, started, call_started}
+use Rattle.gix_odb_world.specs.Event.{Event}
+use Rattle.gix_odb_world.specs.Status.{Store, Status, Free, Resting, Working, running_from, started, call_started}
 use Rattle.gix_odb_world.specs.Handle.{IsHandleOf}
 use Rattle.gix_odb.specs.HandleState.{replaced_by, replacement_of, sought_by}
-use Rattle.gix_odb_world.specs.Run.{BegunBy, IsOpenStore, IsTurnOf, FailedSince, tree_at}
-use Rattle.gix_odb_world.specs.Running.{Knows, Runs, Seen}
+use Rattle.gix_odb_world.specs.Run.{IsTurnOf}
+use Rattle.gix_odb_world.specs.Running.{Knows, Runs, at}
 use Rattle.gix_odb_world.specs.Valid.{why_not_idle}
 use Rattle.gix_odb_world.specs.World.{Continues, Matches, handle_at}
 use Rattle.gix_odb_world.specs.Table.{SetsHandle, Notes, phase_of_handle, phase_of_work, why_not_now, with_work}
-use Rattle.gix_odb_world.proofs.CallLemmas.{first_or_later}
-use Rattle.gix_odb_world.proofs.RunLemmas.{none_failed_yet, slice_get-last}
 use Rattle.gix_odb_world.proofs.StepLemmas.{applied}
-use Rattle.gix_odb_world.proofs.RunningLemmas.{runs-push}
-use Rattle.gix_odb_world.proofs.WriteKept.{open_store_kept, writing_begun}
+use Rattle.gix_odb_world.proofs.RunsLemmas.{runs-push}
+use Rattle.gix_odb_world.proofs.Machines.{laws_at}
 
 -- the call of the code is that of the store
 work_started : (store : Store) (ignoring : Bool) (state : HandleState) (call : Call) → IsHandleOf store ignoring state
-    → Calling (calls.started state.objects state.alloc_limit_bytes (sought_by state) call) ≡ call_started store ignoring call
+    → Calling (calls.started state.store.value.objects state.store.value.alloc_limit_bytes (sought_by state) call) ≡ call_started store ignoring call
 work_started store ignoring state call own =
-    ap (λ objects. Calling (calls.started objects state.alloc_limit_bytes (sought_by state) call)) own.objects
+    ap (λ objects. Calling (calls.started objects state.store.value.alloc_limit_bytes (sought_by state) call)) own.objects
     ∙ (ap (λ limit. Calling (calls.started store.parts.objects limit (sought_by state) call)) own.limit ∙ by_call call)
   where
     replaced_same : (store : Store) (ignoring : Bool) (state : HandleState) (id : ObjectId) → IsHandleOf store ignoring state → replaced_by state id ≡ replaced (replacement_in store.parts) ignoring id
@@ -64,61 +63,33 @@ work_started store ignoring state call own =
     by_call (call_kinds.Write kind size bytes id) = refl
 
 matches_started : (n : ℕ) (call : Call) (status : Status) (handle : Handle) (work : Work) → why_not_idle (phase_of_handle (Some handle)) ≡ None
-    → work ≡ Calling (calls.started handle.state.objects handle.state.alloc_limit_bytes (sought_by handle.state) call)
+    → work ≡ Calling (calls.started handle.state.store.value.objects handle.state.store.value.alloc_limit_bytes (sought_by handle.state) call)
     → Matches status (Some handle) → Matches (started n call status) (with_work (Some work) (Some handle))
 matches_started n call Free handle work idle is match = absurd match
 matches_started n call (Resting store ignoring) handle work idle is match = (match.0, ap Some (is ∙ work_started store ignoring handle.state call match.0))
-matches_started n call (Working store ignoring begun turns own) handle work idle is match =
+matches_started n call (Working running) handle work idle is match =
     absurd (cc (subst (λ (w : Option Work). why_not_idle (phase_of_work w) ≡ None) match.1 idle))
 
--- a query that the event begins asks the objects directory, and all folders are ahead
-seen_querying : (first : Volume) (events : List Event) (e : Event) (handle : ℕ) (store : Store) (ignoring : Bool) (query : Query)
-    → Seen (tree_at first (events ++ e ∷ [])) (FailedSince (events ++ e ∷ []) handle (length events + 1)) store ignoring (length events + 1) (length (events ++ e ∷ [])) 0 (Calling (Looking (looks.started store.parts.objects store.parts.limit query (sought store.parts ignoring query))))
-seen_querying first events e handle store ignoring query =
-    let whole : length (events ++ e ∷ []) ≡ length events + 1 = length-append events (e ∷ []) in (
-      refl,
-      record {
-        noted = None;
-        folder = store.parts.objects;
-        among = (0, omega arith, refl);
-        place = refl;
-        stage_is = refl;
-        seen = (
-          none_failed_yet (events ++ e ∷ []) handle (length events + 1) (omega (arith, whole)),
-          λ folder among. inr (first_or_later store.parts.objects store.parts.folders folder among),
-        );
-      },
-    )
-
-begun_here : (events : List Event) (e : Event) (handle : ℕ) (call : Call) → e.step ≡ steps.Start handle call → BegunBy (events ++ e ∷ []) handle (length events + 1) call
-begun_here events e handle call starts = record { place = length events; number = refl; event = e; there = slice_get-last events e; starts = starts }
-
 -- a call that the event begins knows so much
-knows_calling : (first : Volume) (events : List Event) (e : Event) (handle : ℕ) (store : Store) (ignoring : Bool) (call : Call) → HasSize call → e.step ≡ steps.Start handle call
-    → Knows first (events ++ e ∷ []) handle store ignoring (length events + 1) 0 (call_started store ignoring call)
-knows_calling first events e handle store ignoring (call_kinds.Find id) sized starts = (begun_here events e handle (call_kinds.Find id) starts, seen_querying first events e handle store ignoring (Find id))
-knows_calling first events e handle store ignoring (call_kinds.Header id) sized starts = (begun_here events e handle (call_kinds.Header id) starts, seen_querying first events e handle store ignoring (Header id))
-knows_calling first events e handle store ignoring (call_kinds.Test id) sized starts = (begun_here events e handle (call_kinds.Test id) starts, seen_querying first events e handle store ignoring (Test id))
-knows_calling first events e handle store ignoring (call_kinds.Write kind size bytes id) sized starts = writing_begun first events e handle store.parts.objects kind size bytes id sized starts
-
-runs_calling : (first : Volume) (events : List Event) (e : Event) (handle : ℕ) (store : Store) (ignoring : Bool) (call : Call) → IsOpenStore events handle store → HasSize call → e.step ≡ steps.Start handle call
-    → Runs first (events ++ e ∷ []) handle (Working store ignoring (length events + 1) 0 (call_started store ignoring call))
-runs_calling first events e handle store ignoring call of_step sized starts =
-    let whole : length (events ++ e ∷ []) ≡ length events + 1 = length-append events (e ∷ []) in
-    (omega (arith, whole), knows_calling first events e handle store ignoring call sized starts, open_store_kept events e handle store of_step)
+knows_calling : (first : Volume) (events : List Event) (e : Event) (handle : ℕ) (store : Store) (ignoring : Bool) (call : Call) → HasSize call
+    → Knows first (events ++ e ∷ []) handle (running_from (length events + 1) call store ignoring) (call_started store ignoring call)
+knows_calling first events e handle store ignoring call sized =
+    let work : Work = call_started store ignoring call in
+    (laws_at work).starts first events e handle store ignoring call (at work).state sized (sym (at work).is)
 
 runs_started : (number : ℕ) (call : Call) → HasSize call → (first : Volume) (events : List Event) (e : Event) (status : Status) → e.step ≡ steps.Start number call → ((other : ℕ) → ¬ IsTurnOf other e.step)
     → Runs first events number status → Runs first (events ++ e ∷ []) number (started (length events + 1) call status)
 runs_started number call sized first events e Free starts no_turn runs = tt
-runs_started number call sized first events e (Resting store ignoring) starts no_turn runs = runs_calling first events e number store ignoring call runs sized starts
-runs_started number call sized first events e (Working store ignoring begun turns work) starts no_turn runs = runs-push first events e number (Working store ignoring begun turns work) (no_turn number) runs
+runs_started number call sized first events e (Resting store ignoring) starts no_turn runs =
+    let whole : length (events ++ e ∷ []) ≡ length events + 1 = length-append events (e ∷ []) in (omega (arith, whole), knows_calling first events e number store ignoring call sized)
+runs_started number call sized first events e (Working running) starts no_turn runs = runs-push first events e number (Working running) (no_turn number) runs
 
 pub begun : (old mid new : World) (number : ℕ) (call : Call) (handle : Handle) (work : Work) → HasSize call → why_not_now old (steps.Start number call) ≡ None → handle_at old number ≡ Some handle
-    → work ≡ Calling (calls.started handle.state.objects handle.state.alloc_limit_bytes (sought_by handle.state) call)
+    → work ≡ Calling (calls.started handle.state.store.value.objects handle.state.store.value.alloc_limit_bytes (sought_by handle.state) call)
     → SetsHandle old mid number (with_work (Some work) (handle_at old number)) → Notes mid new outcomes.Applied Nothing None → Continues old (steps.Start number call) new
 begun old mid new number call handle work sized reason there is sets notes =
     applied old mid new (steps.Start number call) number (with_work (Some work) (handle_at old number)) (λ n status. started n call status)
-    reason sets notes refl refl (λ other turn. cc) (λ n table. refl)
+    reason sets notes (λ turn. turn, refl) refl (λ other turn. cc) (λ n table. refl)
     (λ n status match.
     subst (λ (h : Option Handle). Matches (started n call status) (with_work (Some work) h)) (sym there)
     (matches_started n call status handle work (subst (λ (h : Option Handle). why_not_idle (phase_of_handle h) ≡ None) there reason) is (subst (Matches status) there match)))

@@ -10,22 +10,24 @@ use Rattle.gix_odb_world.specs.declared.step.Step.TheVariants as steps
 use Rattle.gix_odb_world.specs.declared.step.Outcome.{Outcome}
 use Rattle.gix_odb_world.specs.declared.step.Outcome.TheVariants as outcomes
 use Rattle.gix_odb_world.specs.declared.step.Why.{Why}
+use Rattle.gix_odb_world.specs.declared.step.Why.TheVariants.{ImpossibleChange}
 use Rattle.gix_odb.specs.declared.call.Reply.{Reply}
 use Rattle.gix_odb_world.specs.declared.record.Did.{Did}
 use Rattle.gix_odb_world.specs.declared.record.Did.TheVariants.{Nothing}
 use Rattle.gix_odb_world.specs.declared.handle.Handle.{Handle}
 use Rattle.gix_odb_world.specs.declared.world.World.{World}
-use Rattle.gix_odb_world.specs.Event.{Event, Status, Free, Resting, Working, status_of, status_after, with_status}
+use Rattle.gix_odb_world.specs.Event.{OfNothing, Event}
+use Rattle.gix_odb_world.specs.Status.{Status, Free, Resting, Working, status_of, status_after, with_status}
 use Rattle.gix_odb_world.specs.Run.{disk_after, disk_after_event, disk_after_change, IsTurnOf}
 use Rattle.gix_odb_world.specs.Running.{Runs}
-use Rattle.gix_odb_world.specs.Valid.{phase_of, why_not, why_not_after, why_not_open, why_not_idle, why_not_running, misuse_of, is_openable}
-use Rattle.gix_odb_world.specs.Headline.{Law, Suits, ChangesAs}
+use Rattle.gix_odb_world.specs.Valid.{phase_of, phase_after, why_not_after, why_not_open, why_not_idle, why_not_running, misuse_of, is_openable}
+use Rattle.gix_odb_world.specs.Headline.{Law, Suits}
+use Rattle.gix_odb_world.specs.Changes.{ChangesAs}
 use Rattle.gix_odb_world.specs.World.{Explains, GoesOn, Continues, IsRunOf, Matches, handle_at}
-use Rattle.gix_odb_world.specs.Table.{SetsHandle, Notes, phase_of_handle, phase_of_work, why_not_now}
+use Rattle.gix_odb_world.specs.Table.{SetsHandle, Notes, phase_of_handle, phase_of_work, phase_now, why_not_now}
 use Rattle.gix_odb_world.proofs.RunLemmas.{status_of-push, disk_after-push, IsLawful-push}
-use Rattle.gix_odb_world.proofs.RunningLemmas.{runs-push, runs_set}
+use Rattle.gix_odb_world.proofs.RunsLemmas.{runs-push, runs_set}
 use Rattle.gix_odb_world.proofs.WorldLemmas.{matches_set, throughout-push}
-use Rattle.gix_odb_world.proofs.WriteKept.{open_store_kept}
 
 -- ---- the reason for misuse, by the history and by the world
 
@@ -34,25 +36,27 @@ phase_of-matched Free None match = refl
 phase_of-matched Free (Some handle) match = absurd match
 phase_of-matched (Resting store ignoring) None match = absurd match
 phase_of-matched (Resting store ignoring) (Some handle) match = ap phase_of_work (sym match.1)
-phase_of-matched (Working store ignoring begun turns work) None match = absurd match
-phase_of-matched (Working store ignoring begun turns work) (Some handle) match = ap phase_of_work (sym match.1)
+phase_of-matched (Working running) None match = absurd match
+phase_of-matched (Working running) (Some handle) match = ap phase_of_work (sym match.1)
+
+-- the phases of a handle by the history and by the world are the same
+phase_same : (first : Volume) (events : List Event) (world : World) (handle : ℕ) → Explains first events world → phase_after events handle ≡ phase_now world handle
+phase_same first events world handle explains = phase_of-matched (status_of events handle) (handle_at world handle) (explains.handles handle)
 
 pub why_not-same : (first : Volume) (events : List Event) (world : World) (step : Step) → Explains first events world → why_not_after first events step ≡ why_not_now world step
-why_not-same first events world (steps.Open handle path folders replacements options) explains =
-    ap (λ phase. why_not_open phase (is_openable path folders replacements)) (phase_of-matched (status_of events handle) (handle_at world handle) (explains.handles handle))
-why_not-same first events world (steps.Ignore handle) explains = ap why_not_idle (phase_of-matched (status_of events handle) (handle_at world handle) (explains.handles handle))
-why_not-same first events world (steps.Close handle) explains = ap why_not_idle (phase_of-matched (status_of events handle) (handle_at world handle) (explains.handles handle))
-why_not-same first events world (steps.Start handle call) explains = ap why_not_idle (phase_of-matched (status_of events handle) (handle_at world handle) (explains.handles handle))
-why_not-same first events world (steps.Turn handle) explains = ap why_not_running (phase_of-matched (status_of events handle) (handle_at world handle) (explains.handles handle))
-why_not-same first events world (steps.Disk change) explains =
-    ap (λ (disk : Volume). why_not (λ number. phase_of_handle (handle_at world number)) disk.state (steps.Disk change)) (sym explains.disk)
+why_not-same first events world (steps.Open handle path folders replacements options) explains = ap (λ phase. why_not_open phase (is_openable path folders replacements)) (phase_same first events world handle explains)
+why_not-same first events world (steps.Ignore handle) explains = ap why_not_idle (phase_same first events world handle explains)
+why_not-same first events world (steps.Close handle) explains = ap why_not_idle (phase_same first events world handle explains)
+why_not-same first events world (steps.Start handle call) explains = ap why_not_idle (phase_same first events world handle explains)
+why_not-same first events world (steps.Turn handle) explains = ap why_not_running (phase_same first events world handle explains)
+why_not-same first events world (steps.Disk change) explains = ap (λ (disk : Volume). if is_possible disk.state change then None else Some ImpossibleChange) (sym explains.disk)
 
 -- ---- one event more
 
 pub goes_on : (first : Volume) (events : List Event) (old new : World) (e : Event) → Explains first events old → Law first events e
     → new.outcomes ≡ old.outcomes ++ e.outcome ∷ [] → new.records ≡ old.records ++ e.entry ∷ [] → new.disk ≡ disk_after_event old.disk e
-    → ((handle : ℕ) → Matches (status_after (length events + 1) e.step e.outcome e.turn (status_of events) handle) (handle_at new handle))
-    → ((handle : ℕ) → Runs first (events ++ e ∷ []) handle (status_after (length events + 1) e.step e.outcome e.turn (status_of events) handle))
+    → ((handle : ℕ) → Matches (status_after (length events + 1) e.step e.outcome e.asked (status_of events) handle) (handle_at new handle))
+    → ((handle : ℕ) → Runs first (events ++ e ∷ []) handle (status_after (length events + 1) e.step e.outcome e.asked (status_of events) handle))
     → GoesOn first events e.step e.outcome new
 goes_on first events old new e explains law outcomes records disk handles running =
     record {
@@ -74,11 +78,11 @@ goes_on first events old new e explains law outcomes records disk handles runnin
 
 -- an event without a call of the disk
 abbrev quiet : Step → Outcome → Option Change → ℕ → Event
-quiet step outcome change faults = record { step = step; outcome = outcome; entry = record { did = Nothing; change = change; faults = faults }; turn = None }
+quiet step outcome change faults = record { step = step; outcome = outcome; entry = record { did = Nothing; change = change; faults = faults }; asked = OfNothing }
 
 -- a turn that is no misuse gives a reply, or its call goes on
 no_quiet_turn : (handle : ℕ) (outcome : Outcome) → Suits (steps.Turn handle) outcome Nothing → misuse_of outcome ≡ None → ((reply : Reply) → outcome ≢ outcomes.Reply reply) → outcome ≢ outcomes.Pending → ⊥
-no_quiet_turn handle outcomes.Applied suits valid no_reply not_pending = suits
+no_quiet_turn handle outcomes.Applied suits valid no_reply not_pending = suits.0 tt
 no_quiet_turn handle outcomes.Pending suits valid no_reply not_pending = not_pending refl
 no_quiet_turn handle (outcomes.Reply reply) suits valid no_reply not_pending = no_reply reply refl
 no_quiet_turn handle (outcomes.Misuse why) suits valid no_reply not_pending = cc
@@ -96,47 +100,22 @@ law_quiet first past step outcome change faults valid suits made counted no_repl
       failed = tt;
       faults = counted ∙ ap (λ (disk : Volume). disk.calls.faults) (sym (disk_after-push first past (quiet step outcome change faults)));
       did = refl;
-      worked = λ handle store ignoring begun turns work turn.
+      worked = λ handle running turn.
           let valid_turn : misuse_of outcome ≡ None =
           subst (λ s. misuse_of outcome ≡ why_not_after first past s) turn.step valid ∙ ap (λ s. why_not_running (phase_of s)) turn.status in
           absurd (no_quiet_turn handle outcome (subst (λ s. Suits s outcome Nothing) turn.step suits) valid_turn no_reply not_pending);
-      promise = λ handle store ignoring begun turns work task reply turn began is. absurd (no_reply reply is);
-      in_time = λ handle store ignoring begun turns work task entries turn began is most. absurd (not_pending is);
+      promise = λ handle running task reply turn began is. absurd (no_reply reply is);
+      in_time = λ handle running task entries turn began is most. absurd (not_pending is);
     }
 
 -- ---- a misused step
-
-suits_misused : (step : Step) (why : Why) → Suits step (outcomes.Misuse why) Nothing
-suits_misused (steps.Open handle path folders replacements options) why = refl
-suits_misused (steps.Close handle) why = refl
-suits_misused (steps.Ignore handle) why = refl
-suits_misused (steps.Start handle call) why = refl
-suits_misused (steps.Turn handle) why = refl
-suits_misused (steps.Disk change) why = refl
-
-changes_misused : (step : Step) (why : Why) → ChangesAs step (outcomes.Misuse why) None
-changes_misused (steps.Open handle path folders replacements options) why = refl
-changes_misused (steps.Close handle) why = refl
-changes_misused (steps.Ignore handle) why = refl
-changes_misused (steps.Start handle call) why = refl
-changes_misused (steps.Turn handle) why = refl
-changes_misused (steps.Disk change) why = refl
-
-status_after-misused : (number : ℕ) (step : Step) (why : Why) (table : ℕ → Status) → status_after number step (outcomes.Misuse why) None table ≡ table
-status_after-misused number (steps.Open handle path folders replacements options) why table = refl
-status_after-misused number (steps.Close handle) why table = refl
-status_after-misused number (steps.Ignore handle) why table = refl
-status_after-misused number (steps.Start handle call) why table = refl
-status_after-misused number (steps.Turn handle) why table = refl
-status_after-misused number (steps.Disk change) why table = refl
 
 -- a misused turn is none of a handle that runs a call
 runs_misused : (first : Volume) (events : List Event) (e : Event) (why : Why) (handle : ℕ) (status : Status) → e.outcome ≡ outcomes.Misuse why
     → (IsTurnOf handle e.step → why_not_running (phase_of status) ≡ Some why) → Runs first events handle status → Runs first (events ++ e ∷ []) handle status
 runs_misused first events e why handle Free is reason runs = tt
-runs_misused first events e why handle (Resting store ignoring) is reason runs = open_store_kept events e handle store runs
-runs_misused first events e why handle (Working store ignoring begun turns work) is reason runs =
-    runs-push first events e handle (Working store ignoring begun turns work) (λ turn. absurd (cc (reason turn))) runs
+runs_misused first events e why handle (Resting store ignoring) is reason runs = tt
+runs_misused first events e why handle (Working running) is reason runs = runs-push first events e handle (Working running) (λ turn. absurd (cc (reason turn))) runs
 
 pub misused : (old new : World) (step : Step) (why : Why) → why_not_now old step ≡ Some why → Notes old new (outcomes.Misuse why) Nothing None → Continues old step new
 misused old new step why reason notes first events explains =
@@ -144,11 +123,10 @@ misused old new step why reason notes first events explains =
     let e : Event = quiet step (outcomes.Misuse why) None old.disk.calls.faults in (
       outcomes.Misuse why,
       goes_on first events old new e explains
-          (law_quiet first events step (outcomes.Misuse why) None old.disk.calls.faults (sym same) (suits_misused step why) (changes_misused step why) (ap (λ (disk : Volume). disk.calls.faults) explains.disk) (λ reply is. cc) (λ is. cc))
+          (law_quiet first events step (outcomes.Misuse why) None old.disk.calls.faults (sym same) refl refl (ap (λ (disk : Volume). disk.calls.faults) explains.disk) (λ reply is. cc) (λ is. cc))
           notes.outcomes notes.records notes.disk
-          (λ handle. rw (status_after-misused (length events + 1) step why (status_of events)) (subst (λ handles. Matches (status_of events handle) (handle_at (record new { handles = handles }) handle)) (sym notes.handles) (explains.handles handle)))
-          (λ handle. rw (status_after-misused (length events + 1) step why (status_of events))
-          (runs_misused first events e why handle (status_of events handle) refl (λ turn. subst (λ (s : Step). why_not_after first events s ≡ Some why) turn same) (explains.running handle))),
+          (λ handle. subst (λ handles. Matches (status_of events handle) (handle_at (record new { handles = handles }) handle)) (sym notes.handles) (explains.handles handle))
+          (λ handle. runs_misused first events e why handle (status_of events handle) refl (λ turn. subst (λ (s : Step). why_not_after first events s ≡ Some why) turn same) (explains.running handle)),
     )
 
 -- ---- an applied step of one handle
@@ -163,7 +141,7 @@ table_noted old mid new number handle outcome did change sets notes other =
 pub applied : (old mid new : World) (step : Step) (number : ℕ) (handle : Option Handle) (next : ℕ → Status → Status)
     → why_not_now old step ≡ None → SetsHandle old mid number handle → Notes mid new outcomes.Applied Nothing None
     → Suits step outcomes.Applied Nothing → ChangesAs step outcomes.Applied None → ((other : ℕ) → ¬ IsTurnOf other step)
-    → ((n : ℕ) (table : ℕ → Status) → status_after n step outcomes.Applied None table ≡ with_status table number (next n (table number)))
+    → ((n : ℕ) (table : ℕ → Status) → status_after n step outcomes.Applied OfNothing table ≡ with_status table number (next n (table number)))
     → ((n : ℕ) (status : Status) → Matches status (handle_at old number) → Matches (next n status) handle)
     → ((first : Volume) (events : List Event) (e : Event) (status : Status) → e.step ≡ step → ((other : ℕ) → ¬ IsTurnOf other e.step) → Runs first events number status → Runs first (events ++ e ∷ []) number (next (length events + 1) status))
     → Continues old step new
@@ -197,7 +175,7 @@ changed old new disk change made possible after made_is notes first events expla
     let here : disk ≡ after_outside_change old.disk made = after ∙ ap (λ c. after_outside_change old.disk c) (sym made_is) in (
       outcomes.Applied,
       goes_on first events old new e explains
-          (law_quiet first events step outcomes.Applied (Some made) disk.calls.faults same refl (ap Some made_is) (ap (λ (d : Volume). d.calls.faults) now) (λ reply is. cc) (λ is. cc))
+          (law_quiet first events step outcomes.Applied (Some made) disk.calls.faults same (λ turn. turn, refl) (ap Some made_is) (ap (λ (d : Volume). d.calls.faults) now) (λ reply is. cc) (λ is. cc))
           notes.outcomes notes.records
           (notes.disk ∙ here)
           (λ handle. subst (λ handles. Matches (status_of events handle) (handle_at (record new { handles = handles }) handle)) (sym notes.handles) (explains.handles handle))

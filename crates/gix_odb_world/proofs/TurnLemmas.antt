@@ -7,7 +7,6 @@ use Rattle.odb_tree.specs.Tree.{IsTree, tree_of}
 use Rattle.odb_tree.specs.Tree.Write.{written}
 use Rattle.odb_tree.specs.declared.change.Change.{Change}
 use Rattle.odb_disk.specs.declared.ask.DiskAnswer.{DiskAnswer}
-use Rattle.odb_disk.specs.declared.ask.DiskAsk.{DiskAsk}
 use Rattle.gix_odb_world.specs.declared.step.Step.TheVariants as steps
 use Rattle.gix_odb_world.specs.declared.step.Outcome.{Outcome}
 use Rattle.gix_odb.specs.declared.call.Reply.{Reply}
@@ -16,36 +15,36 @@ use Rattle.gix_odb_world.specs.declared.handle.Handle.{Handle}
 use Rattle.gix_odb.specs.declared.handle_state.HandleState.{HandleState}
 use Rattle.gix_odb_world.specs.declared.work.Work.{Work}
 use Rattle.gix_odb_world.specs.declared.world.World.{World}
-use Rattle.gix_odb_world.specs.Event.{Event, Store, Status, Free, Resting, Working, status_of, replied, turned, fed_in}
-use Rattle.gix_odb_world.specs.Event as statuses
+use Rattle.gix_odb_world.specs.Event.{Asked, OfDisk, Event}
+use Rattle.gix_odb_world.specs.Status.{Running, Store, Status, Free, Resting, Working, fed_in, replied, status_of, turned}
+use Rattle.gix_odb_world.specs.Status as statuses
 use Rattle.gix_odb_world.specs.Handle.{IsHandleOf}
 use Rattle.gix_odb_world.specs.Running.{Runs}
 use Rattle.gix_odb_world.specs.Headline.{outcome_of}
 use Rattle.gix_odb_world.specs.WorkOrder.{ask_in, fed, result_in}
 use Rattle.gix_odb_world.specs.World.{Explains, Continues, GoesOn, Matches, handle_at}
 use Rattle.gix_odb_world.specs.Table.{SetsHandle, Notes, after_turn, change_now, did_now, disk_now, work_now}
-use Rattle.gix_odb_world.proofs.RunningLemmas.{runs_set}
+use Rattle.gix_odb_world.proofs.RunsLemmas.{runs_set}
 use Rattle.gix_odb_world.proofs.StepLemmas.{goes_on, table_noted}
 use Rattle.gix_odb_world.specs.Run.{change_by, did_of}
 use Rattle.gix_odb_world.proofs.FailedLemmas.{has_failed-now}
-use Rattle.gix_odb_world.proofs.WorkLemmas.{Acts, ask_in-still}
-use Rattle.gix_odb_world.proofs.WriteAsk.{after_ask-change}
+use Rattle.gix_odb_world.proofs.TurnLaw.Comes.{Names, ask_still}
+use Rattle.gix_odb_world.proofs.WriteAsk.Quiet.{after_ask-change}
 use Rattle.gix_odb_world.proofs.WorldLemmas.{matches_set}
 use Rattle.gix_odb_world.proofs.TurnLaw.{act, come, event, law, matches_next, runs_next}
 
 -- a status after a turn that left its work so
-abbrev next_from : DiskAsk × DiskAnswer → Status → Result Reply Work → Status
+abbrev next_from : Asked → Status → Result Reply Work → Status
 next_from asked status (Ok reply) = replied reply status
-next_from asked status (Err left) = turned (Some asked) status
+next_from asked status (Err left) = turned asked status
 
-status_after-turn : (n number : ℕ) (asked : DiskAsk × DiskAnswer) (result : Result Reply Work) (table : ℕ → Status)
-    → statuses.status_after n (steps.Turn number) (outcome_of result) (Some asked) table ≡ statuses.with_status table number (next_from asked (table number) result)
+status_after-turn : (n number : ℕ) (asked : Asked) (result : Result Reply Work) (table : ℕ → Status)
+    → statuses.status_after n (steps.Turn number) (outcome_of result) asked table ≡ statuses.with_status table number (next_from asked (table number) result)
 status_after-turn n number asked (Ok reply) table = refl
 status_after-turn n number asked (Err left) table = refl
 
-next_is : (asked : DiskAsk × DiskAnswer) (store : Store) (ignoring : Bool) (begun turns : ℕ) (work : Work) (status : Status) (result : Result Reply Work) → status ≡ Working store ignoring begun turns work
-    → next_from asked status result ≡ next_from asked (Working store ignoring begun turns work) result
-next_is asked store ignoring begun turns work status result is = ap (λ s. next_from asked s result) is
+next_is : (asked : Asked) (running : Running) (status : Status) (result : Result Reply Work) → status ≡ Working running → next_from asked status result ≡ next_from asked (Working running) result
+next_is asked running status result is = ap (λ s. next_from asked s result) is
 
 -- a handle that is taken out and put back
 set_twice : (b : Bool) (handle before : Option Handle) → (if b then handle else (if b then None else before)) ≡ (if b then handle else before)
@@ -56,11 +55,11 @@ set_twice false handle before = refl
 record Took (old took mid new : World) (disk : Volume) (number : ℕ) (state : HandleState) (work after : Work) (did : Did) (change : Option Change) (outcome : Outcome) (handle : Option Handle) : Type 0 where
   there : handle_at old number ≡ Some (record { state = state; work = Some work })
   takes : SetsHandle old took number None
-  did_is : did ≡ did_now took.disk (ask_in state.objects work)
-  change_is : change ≡ change_now took.disk (ask_in state.objects work)
+  did_is : did ≡ did_now took.disk (ask_in state.store.value.objects work)
+  change_is : change ≡ change_now took.disk (ask_in state.store.value.objects work)
   tree : IsTree (tree_of took.disk.state)
-  after_is : after ≡ work_now took.disk state work (ask_in state.objects work)
-  disk_is : disk ≡ disk_now took.disk (ask_in state.objects work)
+  after_is : after ≡ work_now took.disk state work (ask_in state.store.value.objects work)
+  disk_is : disk ≡ disk_now took.disk (ask_in state.store.value.objects work)
   outcome_is : outcome ≡ outcome_of (result_in after)
   handle_is : handle ≡ after_turn state (result_in after)
   sets : SetsHandle (record took { disk = disk }) mid number handle
@@ -69,48 +68,49 @@ record Took (old took mid new : World) (disk : Volume) (number : ℕ) (state : H
 module _ (old took mid new : World) (disk : Volume) (number : ℕ) (state : HandleState) (work left : Work) (did : Did) (change : Option Change) (outcome : Outcome) (handle : Option Handle)
     (took_it : Took old took mid new disk number state work left did change outcome handle) (first : Volume) (events : List Event) (explains : Explains first events old) where
   -- by the store of the handle, and the work that it is at
-  goes_at : (store : Store) (ignoring : Bool) (begun turns : ℕ) → status_of events number ≡ Working store ignoring begun turns work → IsHandleOf store ignoring state
-      → (o : Outcome) × GoesOn first events (steps.Turn number) o new
-  goes_at store ignoring begun turns status own =
-      let does : Acts store.parts.objects work = act first events old number store ignoring begun turns work explains status in
+  goes_at : (running : Running) → status_of events number ≡ Working running → running.work ≡ work → IsHandleOf running.store running.ignoring state → (o : Outcome) × GoesOn first events (steps.Turn number) o new
+  goes_at running status at own =
+      let store : Store = running.store in
+      let does : Names store.parts.objects running.work = act first events old number running explains status in
       let answer : DiskAnswer = answer_now old.disk does.ask in
-      let going : Work = fed_in store work answer in
+      let going : Work = fed_in store running.work answer in
       let same_disk : took.disk ≡ old.disk = took_it.takes.disk in
-      let asked : ask_in state.objects work ≡ Some does.ask = ap (λ objects. ask_in objects work) own.objects ∙ does.asks in
+      let asked : ask_in state.store.value.objects work ≡ Some does.ask = ap (λ objects. ask_in objects work) own.objects ∙ (ap (ask_in store.parts.objects) (sym at) ∙ does.asks) in
       let did_is : did ≡ did_of does.ask answer = took_it.did_is ∙ (ap (did_now took.disk) asked ∙ ap (λ d. did_now d (Some does.ask)) same_disk) in
       let left_is : left ≡ going =
       took_it.after_is ∙ (ap (work_now took.disk state work) asked ∙ (ap (λ d. work_now d state work (Some does.ask)) same_disk
-      ∙ (ap (λ slots. fed slots state.folders state.alloc_limit_bytes work answer) own.slots
-      ∙ (ap (λ folders. fed store.slots folders state.alloc_limit_bytes work answer) own.folders ∙ ap (λ limit. fed store.slots store.parts.folders limit work answer) own.limit)))) in
+      ∙ (ap (λ slots. fed slots state.store.value.folders state.store.value.alloc_limit_bytes work answer) own.slots
+      ∙ (ap (λ folders. fed store.slots folders state.store.value.alloc_limit_bytes work answer) own.folders
+      ∙ (ap (λ limit. fed store.slots store.parts.folders limit work answer) own.limit ∙ ap (λ w. fed_in store w answer) (sym at)))))) in
       let called : disk ≡ after_ask old.disk does.ask = took_it.disk_is ∙ (ap (disk_now took.disk) asked ∙ ap (λ d. after_ask d does.ask) same_disk) in
       let disk_is : disk ≡ record (after_ask old.disk does.ask) { state = written old.disk.state (change_by old.disk does.ask) } = called ∙ after_ask-change old.disk does.ask in
       let change_is : change ≡ change_by old.disk does.ask =
-      took_it.change_is ∙ (ap (change_now took.disk) asked ∙ (ap (λ d. change_now d (Some does.ask)) same_disk ∙ ap (λ b. if b then None else change_of_ask (tree_of old.disk.state) does.ask) (has_failed-now old.disk does.ask (ask_in-still store.parts.objects work does.ask does.asks)))) in
+      took_it.change_is ∙ (ap (change_now took.disk) asked ∙ (ap (λ d. change_now d (Some does.ask)) same_disk ∙ ap (λ b. if b then None else change_of_ask (tree_of old.disk.state) does.ask) (has_failed-now old.disk does.ask (ask_still store running.work does.ask does.asks)))) in
       let tree : IsTree (tree_of old.disk.state) = subst (λ (d : Volume). IsTree (tree_of d.state)) same_disk took_it.tree in
       let result : Result Reply Work = result_in going in
       let outcome_is : outcome ≡ outcome_of result = took_it.outcome_is ∙ ap (λ w. outcome_of (result_in w)) left_is in
       let handle_is : handle ≡ after_turn state result = took_it.handle_is ∙ ap (λ w. after_turn state (result_in w)) left_is in
       let counted : mid.disk.calls.faults ≡ (after_ask old.disk does.ask).calls.faults = ap (λ (d : Volume). d.calls.faults) (took_it.sets.disk ∙ called) in
-      let e : Event = event first events old number store ignoring begun turns work explains status tree mid.disk.calls.faults counted in
+      let e : Event = event first events old number running explains status tree mid.disk.calls.faults counted in
       let table : ℕ → Status = status_of events in
-      let told : DiskAsk × DiskAnswer = (does.ask, answer) in
+      let told : Asked = OfDisk does.ask answer in
       let next : Status = next_from told (table number) result in
-      let next_same : next ≡ next_from told (Working store ignoring begun turns work) result = next_is told store ignoring begun turns work (table number) result status in
+      let next_same : next ≡ next_from told (Working running) result = next_is told running (table number) result status in
       let put : (other : ℕ) → handle_at new other ≡ (if other == number then handle else handle_at old other) =
       λ other.
       table_noted (record took { disk = disk }) mid new number handle outcome did change took_it.sets took_it.notes other
       ∙ (ap (λ before. if other == number then handle else before) (took_it.takes.table other) ∙ set_twice (other == number) handle (handle_at old other)) in
       let here : Matches next handle =
       subst (λ s. Matches s handle) (sym next_same)
-      (subst (Matches (next_from told (Working store ignoring begun turns work) result)) (sym handle_is)
-      (matches_next first events old number store ignoring begun turns work explains status tree mid.disk.calls.faults counted state own result refl)) in
+      (subst (Matches (next_from told (Working running) result)) (sym handle_is)
+      (matches_next first events old number running explains status tree mid.disk.calls.faults counted state own result refl)) in
       let on : Runs first (events ++ e ∷ []) number next =
       subst (Runs first (events ++ e ∷ []) number) (sym next_same)
-      (runs_next first events old number store ignoring begun turns work explains status tree mid.disk.calls.faults counted result refl
-      (come first events old number store ignoring begun turns work explains status tree mid.disk.calls.faults counted)) in (
+      (runs_next first events old number running explains status tree mid.disk.calls.faults counted result refl
+      (come first events old number running explains status tree mid.disk.calls.faults counted)) in (
         outcome_of result,
         goes_on first events old new e explains
-            (law first events old number store ignoring begun turns work explains status tree mid.disk.calls.faults counted)
+            (law first events old number running explains status tree mid.disk.calls.faults counted)
             (took_it.notes.outcomes ∙ (ap (λ os. os ++ outcome ∷ []) (took_it.sets.outcomes ∙ took_it.takes.outcomes) ∙ ap (λ o. old.outcomes ++ o ∷ []) outcome_is))
             (took_it.notes.records
             ∙ (ap (λ rs. rs ++ record { did = did; change = change; faults = mid.disk.calls.faults } ∷ []) (took_it.sets.records ∙ took_it.takes.records)
@@ -124,13 +124,12 @@ module _ (old took mid new : World) (disk : Volume) (number : ℕ) (state : Hand
   by_status : (status : Status) → status_of events number ≡ status → Matches status (Some (record { state = state; work = Some work })) → (o : Outcome) × GoesOn first events (steps.Turn number) o new
   by_status Free is match = absurd match
   by_status (Resting store ignoring) is match = absurd (cc match.1)
-  by_status (Working store ignoring begun turns own) is match =
-      let same : own ≡ work = cc match.1 in goes_at store ignoring begun turns (is ∙ ap (Working store ignoring begun turns) same) match.0
+  by_status (Working running) is match = let both : Some work ≡ Some running.work = match.1 in goes_at running is (sym (cc both)) match.0
 
 -- each history goes on by the turn
 pub turned_on : (old took mid new : World) (disk : Volume) (number : ℕ) (state : HandleState) (work left : Work) (did : Did) (change : Option Change) (outcome : Outcome) (handle : Option Handle)
     → handle_at old number ≡ Some (record { state = state; work = Some work }) → SetsHandle old took number None
-    → did ≡ did_now took.disk (ask_in state.objects work) → change ≡ change_now took.disk (ask_in state.objects work) → IsTree (tree_of took.disk.state) → left ≡ work_now took.disk state work (ask_in state.objects work) → disk ≡ disk_now took.disk (ask_in state.objects work)
+    → did ≡ did_now took.disk (ask_in state.store.value.objects work) → change ≡ change_now took.disk (ask_in state.store.value.objects work) → IsTree (tree_of took.disk.state) → left ≡ work_now took.disk state work (ask_in state.store.value.objects work) → disk ≡ disk_now took.disk (ask_in state.store.value.objects work)
     → outcome ≡ outcome_of (result_in left) → handle ≡ after_turn state (result_in left)
     → SetsHandle (record took { disk = disk }) mid number handle → Notes mid new outcome did change → Continues old (steps.Turn number) new
 turned_on old took mid new disk number state work left did change outcome handle there takes did_is change_is tree left_is disk_is outcome_is handle_is sets notes first events explains =

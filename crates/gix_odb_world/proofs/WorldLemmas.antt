@@ -7,7 +7,8 @@ use Rattle.odb_disk.specs.MemDisk.{Volume}
 use Rattle.odb_tree.specs.Tree.{IsTree, tree_of}
 use Rattle.gix_odb_world.specs.declared.handle.Handle.{Handle}
 use Rattle.gix_odb_world.specs.declared.world.World.{World}
-use Rattle.gix_odb_world.specs.Event.{Event, Status, status_of, statuses_from, with_status}
+use Rattle.gix_odb_world.specs.Event.{Event}
+use Rattle.gix_odb_world.specs.Status.{Status, status_of, statuses_from, with_status}
 use Rattle.gix_odb_world.specs.Run.{disk_after}
 use Rattle.gix_odb_world.specs.Running.{Runs, RunsThroughout}
 use Rattle.gix_odb_world.specs.World.{Explains, Matches, handle_at}

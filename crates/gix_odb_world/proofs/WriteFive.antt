@@ -27,10 +27,11 @@ use Rattle.gix_odb_loose.specs.declared.write_order.WriteHead.{WriteHead}
 use Rattle.gix_odb_loose.specs.declared.write_order.WriteStage.{WriteStage}
 use Rattle.gix_odb_loose.specs.declared.write_order.WriteStage.TheVariants as stages
 use Rattle.gix_odb_loose.proofs.WriteMadeLaws.{history_makes}
-use Rattle.gix_odb_world.specs.Event.{Event, Store}
-use Rattle.gix_odb_world.specs.Headline.{ChangesInTask, ChangesInWrite, IsOneOfFive}
-use Rattle.gix_odb_world.specs.Run.{MakeCall, change_by, disk_after}
-use Rattle.gix_odb_world.specs.Running.{IsWriting, StandsAt}
+use Rattle.gix_odb_world.specs.Event.{Event}
+use Rattle.gix_odb_world.specs.Status.{MakeCall, Running}
+use Rattle.gix_odb_world.specs.Changes.{ChangesInTask, ChangesInWrite, IsOneOfFive}
+use Rattle.gix_odb_world.specs.Run.{change_by, disk_after}
+use Rattle.gix_odb_world.specs.Running.Write.{IsWriting, StandsAt}
 use Rattle.gix_odb_world.specs.Writing.{DoneSince, ToWrite, call_to_write, head_to_write, name_to_write, to_write}
 use Rattle.gix_odb_world.proofs.WriteAsk.{change_by-all, told_append, told_make_dir, told_new_file, told_remove, told_rename}
 use Rattle.gix_odb_world.proofs.WriteGoes.{ask_at_stage}
@@ -160,7 +161,7 @@ module _ (first : Volume) (events : List Event) (handle begun turns : ℕ) (w : 
   is_own (stages.Moving number id) s = inr (made_before (stages.Moving number id) number refl s)
   is_own (stages.Removing number refusal) s = inr (made_before (stages.Removing number refusal) number refl s)
 
-module _ (first : Volume) (events : List Event) (handle begun turns : ℕ) (store : Store) (folder : LooseCall) (writes : IsWriting first events handle begun turns store.parts.objects folder) where
+module _ (first : Volume) (events : List Event) (handle : ℕ) (running : Running) (folder : LooseCall) (writes : IsWriting first events handle running folder) where
   abbrev w : ToWrite
   w = writes.write
 
@@ -170,17 +171,17 @@ module _ (first : Volume) (events : List Event) (handle begun turns : ℕ) (stor
   abbrev now : Volume
   now = disk_after first events
 
-  by_change : (change : Option Change) → FiveAt first events handle begun turns now w stage change → ChangesInTask first events handle store begun (MakeCall (call_to_write w)) (ask_at_stage w stage) change
+  by_change : (change : Option Change) → FiveAt first events handle running.begun writes.own now w stage change → ChangesInTask first events handle running.store running.begun (MakeCall (call_to_write w)) (ask_at_stage w stage) change
   by_change None five = tt
   by_change (Some change) five =
-      subst (λ objects. ChangesInWrite first events handle begun (to_write objects w.kind w.size w.bytes w.known) (ask_at_stage w stage) change) writes.into
+      subst (λ objects. ChangesInWrite first events handle running.begun (to_write objects w.kind w.size w.bytes w.known) (ask_at_stage w stage) change) writes.into
       (record {
         number = number_at stage;
         below = below (head_to_write w) (λ id. id ≡ name_to_write w) (λ n. OtherLength (Some w.bytes) w.size n) stage writes.stands.appended writes.stands.past writes.stands.history;
-        own = is_own first events handle begun turns w stage writes.stands;
+        own = is_own first events handle running.begun writes.own w stage writes.stands;
         one = five;
       })
 
   -- so does a running write
-  pub five_written : ChangesInTask first events handle store begun (MakeCall (call_to_write w)) (ask_at_stage w stage) (change_by now (ask_at_stage w stage))
-  five_written = by_change (change_by now (ask_at_stage w stage)) (five_at first events handle begun turns now w stage writes.fits writes.stands)
+  pub five_written : ChangesInTask first events handle running.store running.begun (MakeCall (call_to_write w)) (ask_at_stage w stage) (change_by now (ask_at_stage w stage))
+  five_written = by_change (change_by now (ask_at_stage w stage)) (five_at first events handle running.begun writes.own now w stage writes.fits writes.stands)

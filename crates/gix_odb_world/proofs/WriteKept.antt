@@ -1,5 +1,5 @@
 -- What a write has done stays done over the steps of others.
-use Rattle.std.proofs.Common.{◌≡◌, ℕ, ◌+◌, ◌<◌, ◌≤◌, ◌^◌, List, [], ◌∷◌, ◌++◌, length, take, Contains, Some, None, Option, refl, sym, ap, ◌∙◌, subst, arith, inl, inr}
+use Rattle.std.proofs.Common.{◌≡◌, ℕ, ◌+◌, ◌<◌, ◌≤◌, ◌^◌, Bool, List, [], ◌∷◌, ◌++◌, length, take, Contains, Some, None, Option, refl, sym, ap, ◌∙◌, subst, arith, inl, inr}
 use Rattle.std.specs.Prelude.{true}
 use Rattle.std.proofs.lemmas.List.{length-append, take-append-le}
 use Rattle.std.proofs.lemmas.Option.{slice_get_within}
@@ -23,39 +23,16 @@ use Rattle.gix_odb_loose.specs.declared.write_order.WriteHead.{WriteHead}
 use Rattle.gix_odb_loose.specs.declared.write_order.WriteStage.TheVariants as write_stages
 use Rattle.gix_odb_world.specs.Recorded.{path_recorded}
 use Rattle.gix_odb.specs.CallOrder.{writing}
-use Rattle.gix_odb.specs.declared.call.Call.{Call}
 use Rattle.gix_odb.specs.declared.call.Call.TheVariants.{Write}
-use Rattle.gix_odb_world.specs.declared.step.Step.TheVariants as steps
 use Rattle.gix_odb_world.specs.declared.record.Did.TheVariants.{Disk}
-use Rattle.gix_odb_world.specs.Event.{Event, Store}
-use Rattle.gix_odb_world.specs.Run.{BegunBy, IsOpenStore, IsTurnOf, OpenedBy, disk_after, tree_at}
-use Rattle.gix_odb_world.specs.Running.{HoldsFile, Holds, IsUntouched, IsWriting, content_at}
+use Rattle.gix_odb_world.specs.Event.{OfDisk, Event}
+use Rattle.gix_odb_world.specs.Status.{Running, Store, running_from}
+use Rattle.gix_odb_world.specs.Run.{IsTurnOf, disk_after, tree_at}
+use Rattle.gix_odb_world.specs.Running.Write.{HoldsFile, Holds, IsUntouched, IsWriting, content_at}
 use Rattle.gix_odb_world.specs.Writing.{AskedAt, AskedSince, EachTurn, LeftAlone}
 use Rattle.gix_odb_world.proofs.RunLemmas.{slice_get-push, slice_get-last, slice_get-kept, tree_at-before}
 
 -- ---- one event more
-
-pub begun_kept : (events : List Event) (e : Event) (handle begun : ℕ) (call : Call) → BegunBy events handle begun call → BegunBy (events ++ e ∷ []) handle begun call
-begun_kept events e handle begun call b = record { place = b.place; number = b.number; event = b.event; there = slice_get-kept events e b.place b.event b.there; starts = b.starts }
-
-pub opened_kept : (events : List Event) (e : Event) (handle begun : ℕ) (store : Store) → OpenedBy events handle begun store → OpenedBy (events ++ e ∷ []) handle begun store
-opened_kept events e handle begun store o =
-    record {
-      place = o.place;
-      number = o.number;
-      event = o.event;
-      there = slice_get-kept events e o.place o.event o.there;
-      path = o.path;
-      folders = o.folders;
-      replacements = o.replacements;
-      options = o.options;
-      opens = o.opens;
-      slots = o.slots;
-      parts = o.parts;
-    }
-
-pub open_store_kept : (events : List Event) (e : Event) (handle : ℕ) (store : Store) → IsOpenStore events handle store → IsOpenStore (events ++ e ∷ []) handle store
-open_store_kept events e handle store is = opened_kept events e handle store.opened store is
 
 module _ (first : Volume) (events : List Event) (e : Event) where
   abbrev whole : List Event
@@ -82,7 +59,7 @@ module _ (first : Volume) (events : List Event) (e : Event) where
 
   -- the last event's own call
   pub asked_now : (handle : ℕ) (ask : DiskAsk) (answer : DiskAnswer) → IsTurnOf handle e.step → e.entry.did ≡ Disk (op_of ask) (path_recorded ask) (next_fails (disk_after first events))
-      → e.turn ≡ Some (ask, answer) → answer ≡ answer_now (disk_after first events) ask → AskedAt first whole handle (length events) ask answer
+      → e.asked ≡ OfDisk ask answer → answer ≡ answer_now (disk_after first events) ask → AskedAt first whole handle (length events) ask answer
   asked_now handle ask answer turn did asked given =
       let same : take (length events) whole ≡ events = take-append_seam events (e ∷ []) in
       record {
@@ -156,22 +133,24 @@ nothing_among : (x : Exchange) → ¬ (Contains [] x)
 nothing_among x (k, within, is) = omega (arith, within)
 
 -- a write that the event begins has done nothing
-pub writing_begun : (first : Volume) (events : List Event) (e : Event) (handle : ℕ) (objects : Path) (kind : Kind) (size : ℕ) (bytes : List ℕ) (known : Option ObjectId) → size < 2 ^ 64 → e.step ≡ steps.Start handle (Write kind size bytes known)
-    → IsWriting first (events ++ e ∷ []) handle (length events + 1) 0 objects (writing objects kind size bytes known)
-writing_begun first events e handle objects kind size bytes known fits starts =
+pub writing_begun : (first : Volume) (events : List Event) (e : Event) (handle : ℕ) (store : Store) (ignoring : Bool) (kind : Kind) (size : ℕ) (bytes : List ℕ) (known : Option ObjectId) → size < 2 ^ 64
+    → IsWriting first (events ++ e ∷ []) handle (running_from (length events + 1) (Write kind size bytes known) store ignoring) (writing store.parts.objects kind size bytes known)
+writing_begun first events e handle store ignoring kind size bytes known fits =
     let short : length (events ++ e ∷ []) ≤ length events + 1 = omega (arith, length-append events (e ∷ [])) in
     record {
-      write = record { objects = objects; kind = kind; size = size; bytes = bytes; known = known };
-      begins = record { place = length events; number = refl; event = e; there = slice_get-last events e; starts = starts };
+      write = record { objects = store.parts.objects; kind = kind; size = size; bytes = bytes; known = known };
+      task = refl;
       into = refl;
       fits = fits;
       stage = write_stages.Making 0;
       is = refl;
       more = tt;
+      own = 0;
+      turns = refl;
       stands = record {
         past = [];
         appended = [];
-        history = (omega arith, refl, no_tries (record { objects = objects; kind = kind; size = size }));
+        history = (omega arith, refl, no_tries (record { objects = store.parts.objects; kind = kind; size = size }));
         front = tt;
         asked = λ x among. absurd (nothing_among x among);
         unnamed = each_turn_none (events ++ e ∷ []) handle (length events + 1) _ short;
@@ -184,27 +163,29 @@ writing_begun first events e handle objects kind size bytes known fits starts =
     }
 
 -- a running write goes on as it is over an event that isn't its turn
-pub writing_push : (first : Volume) (events : List Event) (e : Event) (handle begun turns : ℕ) (objects : Path) (folder : LooseCall) → ¬ (IsTurnOf handle e.step)
-    → IsWriting first events handle begun turns objects folder → IsWriting first (events ++ e ∷ []) handle begun turns objects folder
-writing_push first events e handle begun turns objects folder other writes =
+pub writing_push : (first : Volume) (events : List Event) (e : Event) (handle : ℕ) (running : Running) (folder : LooseCall) → ¬ (IsTurnOf handle e.step)
+    → IsWriting first events handle running folder → IsWriting first (events ++ e ∷ []) handle running folder
+writing_push first events e handle running folder other writes =
     record {
       write = writes.write;
-      begins = begun_kept events e handle begun _ writes.begins;
+      task = writes.task;
       into = writes.into;
       fits = writes.fits;
       stage = writes.stage;
       is = writes.is;
       more = writes.more;
+      own = writes.own;
+      turns = writes.turns;
       stands = record {
         past = writes.stands.past;
         appended = writes.stands.appended;
         history = writes.stands.history;
         front = writes.stands.front;
-        asked = λ x among. asked_kept first events e handle begun x.ask x.answer (writes.stands.asked x among);
-        unnamed = each_turn_push events e handle begun _ writes.stands.unnamed (λ turn. absurd (other turn));
-        made = each_turn_push events e handle begun _ writes.stands.made (λ turn. absurd (other turn));
-        untouched = untouched_push events e handle begun (number_made writes.stage) other writes.stands.untouched;
-        holds = holds_push first events e handle begun writes.write.objects (number_made writes.stage) (content_at writes.write writes.stands.appended writes.stage) other writes.stands.holds;
+        asked = λ x among. asked_kept first events e handle running.begun x.ask x.answer (writes.stands.asked x among);
+        unnamed = each_turn_push events e handle running.begun _ writes.stands.unnamed (λ turn. absurd (other turn));
+        made = each_turn_push events e handle running.begun _ writes.stands.made (λ turn. absurd (other turn));
+        untouched = untouched_push events e handle running.begun (number_made writes.stage) other writes.stands.untouched;
+        holds = holds_push first events e handle running.begun writes.write.objects (number_made writes.stage) (content_at writes.write writes.stands.appended writes.stage) other writes.stands.holds;
         time = writes.stands.time;
         had = writes.stands.had;
       };

@@ -11,8 +11,8 @@ use Rattle.gix_odb_loose.specs.WriteOrder.{prefix_path, temp_path}
 use Rattle.gix_odb.specs.declared.call.Call.TheVariants as calls
 use Rattle.gix_odb.specs.declared.query.Query.TheVariants.{Find, Header, Test}
 use Rattle.gix_odb.specs.Contents.{folder_list, sought}
-use Rattle.gix_odb_world.specs.Event.{Event, Store}
-use Rattle.gix_odb_world.specs.Run.{MakeCall, OpenStore, Task}
+use Rattle.gix_odb_world.specs.Event.{Event}
+use Rattle.gix_odb_world.specs.Status.{Store, MakeCall, OpenStore, Task}
 use Rattle.gix_odb_world.specs.Writing.{DoneSince, ToWrite, name_to_write, to_write}
 
 -- In turn t of a query, counted from 0, the t-th folder of the store is asked.

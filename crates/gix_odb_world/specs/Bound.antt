@@ -8,8 +8,7 @@ use Rattle.gix_odb.specs.declared.call.Call.{Call}
 use Rattle.gix_odb.specs.declared.call.Call.TheVariants.{Write}
 use Rattle.gix_odb_loose.specs.WriteJobs.{pieces_of}
 use Rattle.gix_odb.specs.Contents.{StoreData, folder_list}
-use Rattle.gix_odb_world.specs.Event.{Store}
-use Rattle.gix_odb_world.specs.Run.{Task, OpenStore, MakeCall}
+use Rattle.gix_odb_world.specs.Status.{Store, Task, OpenStore, MakeCall}
 
 -- a write of n bytes has 40 turns more, and one for each begun 65,536 bytes
 abbrev pub turns_of_write : Option ℕ → ℕ

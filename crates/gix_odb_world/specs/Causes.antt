@@ -16,7 +16,7 @@ use Rattle.gix_odb.specs.declared.find.Error as finding
 use Rattle.gix_odb.specs.declared.find.Error.TheVariants as find_errors
 use Rattle.gix_odb.specs.LookOrder.{job_of}
 use Rattle.gix_odb.specs.Contents.{folder_list}
-use Rattle.gix_odb_world.specs.Event.{Store}
+use Rattle.gix_odb_world.specs.Status.{Store}
 use Rattle.gix_odb.specs.OpenOrder.{most_slots}
 
 -- something was so at some moment of a call

@@ -6,25 +6,25 @@ use Rattle.gix_hash.specs.declared.object_id.ObjectId.{ObjectId}
 use Rattle.gix_hash.specs.ObjectId.{id_cmp}
 use Rattle.gix_odb.specs.Contents.{replacement_in}
 use Rattle.gix_odb.specs.HandleState.{replacement_of}
-use Rattle.gix_odb_world.specs.Event.{Store}
+use Rattle.gix_odb_world.specs.Status.{Store}
 use Rattle.gix_odb.specs.OpenOrder.{given_slots}
 use Rattle.gix_odb.specs.declared.handle_state.HandleState.{HandleState}
 use Rattle.gix_odb.specs.declared.init.Options.{Options}
 
 -- the handle has what its open step was handed
 pub record IsOpened (objects : Path) (folders : List Path) (replacements : List (ObjectId × ObjectId)) (options : Options) (handle : HandleState) : Type 0 where
-  pub objects_are : handle.objects ≡ objects
-  pub folders_are : handle.folders ≡ folders
-  pub replacements_are : IsFromIterResult id_cmp replacements handle.replacements
+  pub objects_are : handle.store.value.objects ≡ objects
+  pub folders_are : handle.store.value.folders ≡ folders
+  pub replacements_are : IsFromIterResult id_cmp replacements handle.store.value.replacements
   pub ignoring : handle.ignore_replacements ≡ false
-  pub limit : handle.alloc_limit_bytes ≡ options.alloc_limit_bytes
-  pub slots : handle.slots ≡ given_slots options.slots
+  pub limit : handle.store.value.alloc_limit_bytes ≡ options.alloc_limit_bytes
+  pub slots : handle.store.value.slots ≡ given_slots options.slots
 
 -- the handle is one of the store, in a mode
 pub record IsHandleOf (store : Store) (ignoring : Bool) (handle : HandleState) : Type 0 where
-  pub objects : handle.objects ≡ store.parts.objects
-  pub folders : handle.folders ≡ store.parts.folders
+  pub objects : handle.store.value.objects ≡ store.parts.objects
+  pub folders : handle.store.value.folders ≡ store.parts.folders
   pub replacements : (id : ObjectId) → replacement_of handle id ≡ replacement_in store.parts id
   pub mode : handle.ignore_replacements ≡ ignoring
-  pub limit : handle.alloc_limit_bytes ≡ store.parts.limit
-  pub slots : handle.slots ≡ store.slots
+  pub limit : handle.store.value.alloc_limit_bytes ≡ store.parts.limit
+  pub slots : handle.store.value.slots ≡ store.slots

@@ -2,21 +2,11 @@
 -- what is found was held by the store's files, a not-found means that no sound object lay still, a write names its
 -- object last and changes nothing else of the tree than five changes tell, each call ends within its bound, and each
 -- error has its cause.
-use Rattle.std.specs.Prelude.{◌≡◌, ◌⊎◌, ℕ, ◌+◌, ◌<◌, ◌≤◌, Bool, List, [], ◌∷◌, ◌++◌, map, length, take, slice_get, Option, Some, None, Result, Ok, Err}
+use Rattle.std.specs.Prelude.{◌≡◌, ℕ, ◌+◌, ◌<◌, List, [], ◌∷◌, ◌++◌, map, length, take, slice_get, Some, Result, Ok, Err}
 use Rattle.odb_disk.specs.MemDisk.{Volume, next_fails}
 use Rattle.odb_disk.specs.Ask.{op_of, answer_now}
 use Rattle.odb_disk.specs.declared.ask.DiskAsk.{DiskAsk}
-use Rattle.odb_disk.specs.declared.ask.DiskAsk.TheVariants as asks
-use Rattle.odb_base.specs.Path.{Path}
-use Rattle.odb_tree.specs.Tree.{Tree, tree_of}
-use Rattle.odb_tree.specs.Tree.Write.{spot, file_spot}
-use Rattle.odb_tree.specs.declared.change.Change.{Change}
-use Rattle.odb_tree.specs.declared.change.Change.TheVariants.{PutFile, MakeDir, PutLink, Rename, Append, Remove, SetTime}
-use Rattle.gix_hash.specs.declared.object_id.ObjectId.{ObjectId}
-use Rattle.gix_odb_loose.specs.LooseFile.{loose_path}
-use Rattle.gix_odb_loose.specs.WriteOrder.{temp_path, prefix_path}
 use Rattle.gix_odb_world.specs.Recorded.{path_recorded}
-use Rattle.gix_odb.specs.declared.call.Call.TheVariants.{Write}
 use Rattle.gix_odb.specs.declared.call.Reply.{Reply}
 use Rattle.gix_odb_world.specs.declared.step.Step.{Step}
 use Rattle.gix_odb_world.specs.declared.step.Step.TheVariants as steps
@@ -26,8 +16,11 @@ use Rattle.gix_odb_world.specs.declared.record.Did.{Did}
 use Rattle.gix_odb_world.specs.declared.record.Did.TheVariants.{Nothing, Disk}
 use Rattle.gix_odb_world.specs.declared.record.Run.{Run}
 use Rattle.gix_odb_world.specs.declared.work.Work.{Work}
-use Rattle.gix_odb_world.specs.Event.{Event, Store, Working, fed_in, status_of}
-use Rattle.gix_odb_world.specs.Run.{BegunAs, IsOpenStore, MakeCall, Task, change_by, did_of_turn, disk_after, tree_at}
+use Rattle.gix_odb_world.specs.Event.{OfDisk, Event}
+use Rattle.gix_odb_world.specs.Status.{Running, Task, Working, fed_in, status_of}
+use Rattle.gix_odb_world.specs.Run.{change_by, did_of_asked, disk_after, tree_at}
+use Rattle.gix_odb_world.specs.Begun.{BegunAs, HoldsStore, IsTaskOf, NoneSince}
+use Rattle.gix_odb_world.specs.Changes.{ChangesAs, ChangesInTask}
 use Rattle.gix_odb_world.specs.Undisturbed.{WritesStandAlone}
 use Rattle.gix_odb_world.specs.WholeNames.{NamesStayWhole}
 use Rattle.gix_odb_world.specs.WorkOrder.{ask_in, result_in}
@@ -35,66 +28,34 @@ use Rattle.gix_odb_world.specs.Valid.{why_not_after, misuse_of}
 use Rattle.gix_odb_world.specs.Asks.{AsksInOrder}
 use Rattle.gix_odb_world.specs.Bound.{HasAtMost, bound_of_task}
 use Rattle.gix_odb_world.specs.Promise.{Promise}
-use Rattle.gix_odb_world.specs.Writing.{DoneSince, ToWrite, name_to_write, to_write}
+
+-- a turn; no other step takes a call on
+abbrev pub IsTurn : Step → Type 0
+IsTurn (steps.Turn handle) = Unit {0}
+IsTurn step = ⊥
+
+-- a record tells a call of the disk
+abbrev pub TellsCall : Did → Type 0
+TellsCall Nothing = ⊥
+TellsCall (Disk op path failed) = Unit {0}
 
 -- The outcomes that a step may have, and what its record did: a turn makes at most one call of the disk, and
 -- makes one where its call goes on; all other steps, and all misused ones, did nothing.
 abbrev pub Suits : Step → Outcome → Did → Type 0
-Suits (steps.Turn handle) outcomes.Applied did = ⊥
-Suits (steps.Turn handle) outcomes.Pending Nothing = ⊥
-Suits (steps.Turn handle) outcomes.Pending (Disk op path failed) = Unit {0}
-Suits (steps.Turn handle) (outcomes.Reply reply) did = Unit {0}
-Suits (steps.Turn handle) (outcomes.Misuse why) did = did ≡ Nothing
-Suits step outcomes.Applied did = did ≡ Nothing
-Suits step outcomes.Pending did = ⊥
-Suits step (outcomes.Reply reply) did = ⊥
+Suits step outcomes.Applied did = (¬ (IsTurn step)) × (did ≡ Nothing)
+Suits step outcomes.Pending did = IsTurn step × TellsCall did
+Suits step (outcomes.Reply reply) did = IsTurn step
 Suits step (outcomes.Misuse why) did = did ≡ Nothing
-
--- The change that a record has: that of an applied change, and in a turn that isn't misused that of its call of the disk,
--- which the order of work tells. All other steps make none.
-abbrev pub ChangesAs : Step → Outcome → Option Change → Type 0
-ChangesAs (steps.Turn handle) outcomes.Pending made = Unit {0}
-ChangesAs (steps.Turn handle) (outcomes.Reply reply) made = Unit {0}
-ChangesAs (steps.Disk change) outcomes.Applied made = made ≡ Some change
-ChangesAs step outcome made = made ≡ None
-
--- One of the five changes of a write into an objects directory, whose temporary path has a number, and whose object an id:
--- an empty file with time 0 at the spot of the temporary path; at most 65,536 bytes more in the file to which that path
--- leads; the directory of the object; a rename from the spot of the temporary path to that of the object's path; the
--- removal of the spot of the temporary path. No write puts a link or sets a time.
-abbrev pub IsOneOfFive : Tree → Path → (number : ℕ) → ObjectId → Change → Type 0
-IsOneOfFive tree objects number id (PutFile path time bytes) = (time ≡ 0) × (bytes ≡ []) × (spot tree (temp_path objects number) ≡ Ok path)
-IsOneOfFive tree objects number id (Append path bytes) = (length bytes ≤ 65536) × (file_spot tree (temp_path objects number) ≡ Ok path)
-IsOneOfFive tree objects number id (MakeDir path dev) = spot tree (prefix_path objects id) ≡ Ok path
-IsOneOfFive tree objects number id (Rename from to) = (spot tree (temp_path objects number) ≡ Ok from) × (spot tree (loose_path objects id) ≡ Ok to)
-IsOneOfFive tree objects number id (Remove path) = spot tree (temp_path objects number) ≡ Ok path
-IsOneOfFive tree objects number id (PutLink path target) = ⊥
-IsOneOfFive tree objects number id (SetTime path time) = ⊥
-
--- A write changes the tree by one of its five changes. Its temporary path has the number that this turn asks to make, or that
--- of the file that the write made before; its object has the id that the write names.
-pub record ChangesInWrite (first : Volume) (past : List Event) (handle begun : ℕ) (w : ToWrite) (ask : DiskAsk) (change : Change) : Type 0 where
-  pub number : ℕ
-  pub below : number < 16
-  pub own : (ask ≡ asks.NewFile (temp_path w.objects number)) ⊎ DoneSince first past handle begun (asks.NewFile (temp_path w.objects number))
-  pub one : IsOneOfFive (tree_of (disk_after first past).state) w.objects number (name_to_write w) change
-
--- a turn changes the tree in a write alone
-abbrev pub ChangesInTask : Volume → List Event → (handle : ℕ) → Store → (begun : ℕ) → Task → DiskAsk → Option Change → Type 0
-ChangesInTask first past handle store begun task ask None = Unit {0}
-ChangesInTask first past handle store begun (MakeCall (Write kind size bytes known)) ask (Some change) =
-    ChangesInWrite first past handle begun (to_write store.parts.objects kind size bytes known) ask change
-ChangesInTask first past handle store begun task ask (Some change) = ⊥
 
 -- a call of the disk fails exactly where its number is listed
 abbrev pub FailsAsListed : Volume → Did → Type 0
 FailsAsListed disk Nothing = Unit {0}
 FailsAsListed disk (Disk op path failed) = failed ≡ next_fails disk
 
--- the handle that the event turns, and the work that it was at
-pub record Turns (past : List Event) (e : Event) (handle : ℕ) (store : Store) (ignoring : Bool) (begun turns : ℕ) (work : Work) : Type 0 where
+-- the handle that the event turns, and what it was at
+pub record Turns (past : List Event) (e : Event) (handle : ℕ) (running : Running) : Type 0 where
   pub step : e.step ≡ steps.Turn handle
-  pub status : status_of past handle ≡ Working store ignoring begun turns work
+  pub status : status_of past handle ≡ Working running
 
 -- the outcome of a turn that left its work so
 abbrev pub outcome_of : Result Reply Work → Outcome
@@ -103,22 +64,23 @@ outcome_of (Err work) = outcomes.Pending
 
 -- A turn makes the one call of the disk that its work names at its stage. Its outcome is the reply where the work is
 -- done after the disk's answer, and else that the work goes on.
-pub record Works (first : Volume) (past : List Event) (handle : ℕ) (store : Store) (ignoring : Bool) (begun turns : ℕ) (work : Work) (e : Event) : Type 0 where
-  -- the step that began the work set its task, in the store of an open step of its handle
-  pub task : Task
-  pub begins : BegunAs past handle begun store task
-  pub opened : IsOpenStore past handle store
+pub record Works (first : Volume) (past : List Event) (handle : ℕ) (running : Running) (e : Event) : Type 0 where
+  -- the step that began the work set its task, and is the latest of its handle that set one
+  pub begins : BegunAs past handle running.begun running.store running.task
+  pub latest : NoneSince (IsTaskOf handle) past running.begun
+  -- in the store of the latest open step of its handle, and in the mode of the steps since
+  pub opened : HoldsStore past handle running.store running.ignoring
   -- the call of the disk, which the event tells with its answer
   pub ask : DiskAsk
-  pub asks : ask_in store.parts.objects work ≡ Some ask
+  pub asks : ask_in running.store.parts.objects running.work ≡ Some ask
   -- which is the one of this turn of the task: of turn t of a find, the read of the loose path in the t-th folder
-  pub in_order : AsksInOrder first past handle store ignoring begun turns task ask
+  pub in_order : AsksInOrder first past handle running.store running.ignoring running.begun running.turns running.task ask
   pub asked : e.entry.did ≡ Disk (op_of ask) (path_recorded ask) (next_fails (disk_after first past))
-  pub told : e.turn ≡ Some (ask, answer_now (disk_after first past) ask)
-  pub goes : e.outcome ≡ outcome_of (result_in (fed_in store work (answer_now (disk_after first past) ask)))
+  pub told : e.asked ≡ OfDisk ask (answer_now (disk_after first past) ask)
+  pub goes : e.outcome ≡ outcome_of (result_in (fed_in running.store running.work (answer_now (disk_after first past) ask)))
   -- the change of the record is that of the call
   pub changed : e.entry.change ≡ change_by (disk_after first past) ask
-  pub five : ChangesInTask first past handle store begun task ask e.entry.change
+  pub five : ChangesInTask first past handle running.store running.begun running.task ask e.entry.change
 
 -- What an event may be after those before it.
 pub record Law (first : Volume) (past : List Event) (e : Event) : Type 0 where
@@ -129,16 +91,16 @@ pub record Law (first : Volume) (past : List Event) (e : Event) : Type 0 where
   pub failed : FailsAsListed (disk_after first past) e.entry.did
   -- the record has the disk's count of faults after the step
   pub faults : e.entry.faults ≡ (disk_after first (past ++ e ∷ [])).calls.faults
-  -- the record tells the call of the disk that the event's turn made, and that no other event made one
-  pub did : e.entry.did ≡ did_of_turn e.turn
+  -- the record tells the call of the disk that the event made, and that no other event made one
+  pub did : e.entry.did ≡ did_of_asked e.asked
   -- a turn does what the order of work says
-  pub worked : (handle : ℕ) (store : Store) (ignoring : Bool) (begun turns : ℕ) (work : Work) → Turns past e handle store ignoring begun turns work → Works first past handle store ignoring begun turns work e
+  pub worked : (handle : ℕ) (running : Running) → Turns past e handle running → Works first past handle running e
   -- a reply keeps its promise, which is that of the task that the step `begun` set
-  pub promise : (handle : ℕ) (store : Store) (ignoring : Bool) (begun turns : ℕ) (work : Work) (task : Task) (reply : Reply) → Turns past e handle store ignoring begun turns work → BegunAs past handle begun store task
-      → e.outcome ≡ outcomes.Reply reply → Promise first (past ++ e ∷ []) handle store ignoring begun task reply
+  pub promise : (handle : ℕ) (running : Running) (task : Task) (reply : Reply) → Turns past e handle running → BegunAs past handle running.begun running.store task
+      → e.outcome ≡ outcomes.Reply reply → Promise first (past ++ e ∷ []) handle running.store running.ignoring running.begun task reply
   -- a call that goes on has had fewer turns than its bound
-  pub in_time : (handle : ℕ) (store : Store) (ignoring : Bool) (begun turns : ℕ) (work : Work) (task : Task) (entries : ℕ) → Turns past e handle store ignoring begun turns work → BegunAs past handle begun store task
-      → e.outcome ≡ outcomes.Pending → HasAtMost (tree_at first (past ++ e ∷ [])) store.parts begun (length past + 1) entries → turns + 1 < bound_of_task store task entries
+  pub in_time : (handle : ℕ) (running : Running) (task : Task) (entries : ℕ) → Turns past e handle running → BegunAs past handle running.begun running.store task
+      → e.outcome ≡ outcomes.Pending → HasAtMost (tree_at first (past ++ e ∷ [])) running.store.parts running.begun (length past + 1) entries → running.turns + 1 < bound_of_task running.store task entries
 
 -- each event is lawful after those before it
 abbrev pub IsLawful : Volume → List Event → Type 0

@@ -1,7 +1,9 @@
 pub mod WorkOrder
 pub mod Event
+pub mod Status
 pub mod Recorded
 pub mod Run
+pub mod Begun
 pub mod Valid
 pub mod Causes
 pub mod Writing
@@ -11,9 +13,11 @@ pub mod Undisturbed
 pub mod WholeNames
 pub mod Bound
 pub mod Promise
+pub mod Changes
 pub mod Headline
 pub mod Play
 pub mod Handle
+pub mod Machine
 pub mod Running
 pub mod World
 pub mod Table

@@ -12,8 +12,9 @@ use Rattle.gix_odb.specs.declared.find.Error as finding
 use Rattle.gix_odb.specs.declared.call.Call.TheVariants as calls
 use Rattle.gix_odb.specs.Contents.{Answer, Object, HeaderOf, Presence, sought}
 use Rattle.gix_odb.specs.Held.{Held, Still}
-use Rattle.gix_odb_world.specs.Event.{Event, Store}
-use Rattle.gix_odb_world.specs.Run.{Task, OpenStore, MakeCall, tree_at, FailedSince}
+use Rattle.gix_odb_world.specs.Event.{Event}
+use Rattle.gix_odb_world.specs.Status.{Store, Task, OpenStore, MakeCall}
+use Rattle.gix_odb_world.specs.Run.{tree_at, FailedSince}
 use Rattle.gix_odb_world.specs.Writing.{to_write}
 use Rattle.gix_odb_world.specs.Written.{PromiseOfWrite}
 use Rattle.gix_odb_world.specs.Causes.{Sometime, ShowsDirectory, OpeningCause, FindCause}

@@ -1,6 +1,5 @@
 -- The disk and its states over a run: state 0 is the handed-in one, and each event takes the disk one step on.
-use Rattle.std.specs.Prelude.{◌≡◌, ℕ, ◌+◌, ◌≤◌, Bool, true, false, List, fold, take, slice_get, Option, Some, None, if◌then◌else◌}
-use Rattle.odb_base.specs.Path.{Path}
+use Rattle.std.specs.Prelude.{◌≡◌, ℕ, ◌≤◌, Bool, true, false, List, fold, take, slice_get, Option, Some, None, if◌then◌else◌}
 use Rattle.odb_tree.specs.Tree.{Tree, tree_of}
 use Rattle.odb_tree.specs.Tree.Write.{written}
 use Rattle.odb_disk.specs.Ask.{after_ask, change_of_ask, op_of}
@@ -10,29 +9,27 @@ use Rattle.odb_disk.specs.declared.ask.DiskAnswer.TheVariants as answers
 use Rattle.odb_disk.specs.declared.ask.DiskAsk.{DiskAsk}
 use Rattle.odb_tree.specs.declared.change.Change.{Change}
 use Rattle.odb_tree.specs.declared.disk_error.DiskError.TheVariants as disk_errors
-use Rattle.gix_hash.specs.declared.object_id.ObjectId.{ObjectId}
 use Rattle.gix_odb_world.specs.Recorded.{path_recorded}
-use Rattle.gix_odb.specs.declared.call.Call.{Call}
-use Rattle.gix_odb.specs.declared.init.Options.{Options}
-use Rattle.gix_odb.specs.declared.init.Slots.TheVariants.{Given}
 use Rattle.gix_odb_world.specs.declared.record.Did.{Did}
 use Rattle.gix_odb_world.specs.declared.record.Did.TheVariants.{Nothing, Disk}
 use Rattle.gix_odb_world.specs.declared.step.Step.{Step}
 use Rattle.gix_odb_world.specs.declared.step.Step.TheVariants as steps
-use Rattle.gix_odb_world.specs.Event.{Event, Store}
+use Rattle.gix_odb_world.specs.Event.{Asked, OfNothing, OfDisk, OfCore, Event}
 
 abbrev pub disk_after_change : Volume → Option Change → Volume
 disk_after_change disk None = disk
 disk_after_change disk (Some change) = after_outside_change disk change
 
--- A turn's call of the disk leaves it as the call does, with the change. A change without a call is another program's.
-abbrev pub disk_after_turn : Volume → Option (DiskAsk × DiskAnswer) → Option Change → Volume
-disk_after_turn disk None change = disk_after_change disk change
-disk_after_turn disk (Some asked) change = record (after_ask disk asked.0) { state = written disk.state change }
+-- A call of the disk leaves it as the call does, its counts and its streams too, with the change. A change without a call is
+-- another program's.
+abbrev pub disk_after_asked : Volume → Asked → Option Change → Volume
+disk_after_asked disk OfNothing change = disk_after_change disk change
+disk_after_asked disk (OfDisk ask answer) change = record (after_ask disk ask) { state = written disk.state change }
+disk_after_asked disk (OfCore event) change = disk_after_change disk change
 
--- the disk after an event: after its turn's call, with the change of its record
+-- the disk after an event: after what it asked, with the change of its record
 abbrev pub disk_after_event : Volume → Event → Volume
-disk_after_event disk e = disk_after_turn disk e.turn e.entry.change
+disk_after_event disk e = disk_after_asked disk e.asked e.entry.change
 
 -- the change that a call of the disk makes: none where it fails or is refused
 abbrev pub change_by : Volume → DiskAsk → Option Change
@@ -47,10 +44,11 @@ has_failed answer = false
 abbrev pub did_of : DiskAsk → DiskAnswer → Did
 did_of ask answer = Disk (op_of ask) (path_recorded ask) (has_failed answer)
 
--- the record of a turn that asked so; a step that asked nothing did nothing
-abbrev pub did_of_turn : Option (DiskAsk × DiskAnswer) → Did
-did_of_turn None = Nothing
-did_of_turn (Some asked) = did_of asked.0 asked.1
+-- the record of an event that asked so: only a call of the disk is told
+abbrev pub did_of_asked : Asked → Did
+did_of_asked OfNothing = Nothing
+did_of_asked (OfDisk ask answer) = did_of ask answer
+did_of_asked (OfCore event) = Nothing
 
 -- the disk after all events
 unfoldable pub disk_after : Volume → List Event → Volume
@@ -62,43 +60,6 @@ tree_at first events number = tree_of (disk_after first (take number events)).st
 
 abbrev pub IsTurnOf : ℕ → Step → Type 0
 IsTurnOf handle step = step ≡ steps.Turn handle
-
--- the event that has the number `begun` started a call on a handle
-pub record BegunBy (events : List Event) (handle begun : ℕ) (call : Call) : Type 0 where
-  pub place : ℕ
-  pub number : begun ≡ place + 1
-  pub event : Event
-  pub there : slice_get events place ≡ Some event
-  pub starts : event.step ≡ steps.Start handle call
-
--- the event that has the number `begun` is the open step of a store under a handle's number
-pub record OpenedBy (events : List Event) (handle begun : ℕ) (store : Store) : Type 0 where
-  pub place : ℕ
-  pub number : begun ≡ place + 1
-  pub event : Event
-  pub there : slice_get events place ≡ Some event
-  pub path : Path
-  pub folders : List Path
-  pub replacements : List (ObjectId × ObjectId)
-  pub options : Options
-  pub opens : event.step ≡ steps.Open handle path folders replacements options
-  -- the store has what the step handed in
-  pub slots : options.slots ≡ Given store.slots
-  pub parts : store.parts ≡ record { objects = path; folders = folders; replacements = replacements; limit = options.alloc_limit_bytes }
-
--- a store is that of an open step of this handle
-abbrev pub IsOpenStore : List Event → ℕ → Store → Type 0
-IsOpenStore events handle store = OpenedBy events handle store.opened store
-
--- what a handle at work is to do: to open its store, or to make a call
-pub data Task : Type 0 where
-  OpenStore : Task
-  MakeCall : (call : Call) → Task
-
--- The event that has the number `begun` set a task: it is the open step of the store, or the start of the call.
-abbrev pub BegunAs : List Event → (handle begun : ℕ) → Store → Task → Type 0
-BegunAs events handle begun store OpenStore = OpenedBy events handle begun store
-BegunAs events handle begun store (MakeCall call) = BegunBy events handle begun call
 
 abbrev pub Fails : Did → Type 0
 Fails Nothing = ⊥

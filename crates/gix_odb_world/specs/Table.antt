@@ -20,7 +20,10 @@ use Rattle.gix_odb_world.specs.Run.{did_of, has_failed}
 use Rattle.gix_odb_world.specs.WorkOrder.{fed}
 use Rattle.gix_odb_world.specs.declared.world.World.{World}
 use Rattle.gix_odb_world.specs.World.{handle_at}
-use Rattle.gix_odb_world.specs.Valid.{Phase, NoneThere, Idle, Running, why_not}
+use Rattle.odb_tree.specs.Tree.Change.{is_possible}
+use Rattle.gix_odb_world.specs.declared.step.Step.TheVariants as steps
+use Rattle.gix_odb_world.specs.declared.step.Why.TheVariants.{ImpossibleChange}
+use Rattle.gix_odb_world.specs.Valid.{Phase, NoneThere, Idle, Running, is_openable, why_not_idle, why_not_open, why_not_running}
 
 abbrev pub phase_of_work : Option Work → Phase
 phase_of_work None = Idle
@@ -31,9 +34,18 @@ abbrev pub phase_of_handle : Option Handle → Phase
 phase_of_handle None = NoneThere
 phase_of_handle (Some handle) = phase_of_work handle.work
 
+-- what counts for validity of the handle of a world that has a number
+abbrev pub phase_now : World → (number : ℕ) → Phase
+phase_now world number = phase_of_handle (handle_at world number)
+
 -- the first reason why a step isn't valid, by the world's own table and disk
 abbrev pub why_not_now : World → Step → Option Why
-why_not_now world step = why_not (λ number. phase_of_handle (handle_at world number)) world.disk.state step
+why_not_now world (steps.Open number path folders replacements options) = why_not_open (phase_now world number) (is_openable path folders replacements)
+why_not_now world (steps.Close number) = why_not_idle (phase_now world number)
+why_not_now world (steps.Ignore number) = why_not_idle (phase_now world number)
+why_not_now world (steps.Start number call) = why_not_idle (phase_now world number)
+why_not_now world (steps.Turn number) = why_not_running (phase_now world number)
+why_not_now world (steps.Disk change) = if is_possible world.disk.state change then None else Some ImpossibleChange
 
 -- a handle with other work
 abbrev pub with_work : Option Work → Option Handle → Option Handle
@@ -92,7 +104,7 @@ change_now disk (Some ask) = if has_failed (answer_now disk ask) then None else 
 -- the work of a handle after a turn in which it asked so
 abbrev pub work_now : Volume → HandleState → Work → Option DiskAsk → Work
 work_now disk state work None = work
-work_now disk state work (Some ask) = fed state.slots state.folders state.alloc_limit_bytes work (answer_now disk ask)
+work_now disk state work (Some ask) = fed state.store.value.slots state.store.value.folders state.store.value.alloc_limit_bytes work (answer_now disk ask)
 
 -- the disk after a turn in which it was asked so
 abbrev pub disk_now : Volume → Option DiskAsk → Volume

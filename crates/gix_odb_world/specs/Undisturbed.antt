@@ -1,5 +1,5 @@
 -- Runs in which other programs leave the temporary files of writes alone, and what writes leave alone of one another there.
-use Rattle.std.specs.Prelude.{◌≡◌, ◌≢◌, ◌⊎◌, ℕ, ◌+◌, ◌<◌, ◌≤◌, Bool, true, List, [], take, slice_get, Some, Ok}
+use Rattle.std.specs.Prelude.{◌≡◌, ◌≢◌, ◌⊎◌, ℕ, ◌+◌, ◌<◌, ◌≤◌, true, List, [], take, slice_get, Some, Ok}
 use Rattle.odb_base.specs.Path.{Path}
 use Rattle.odb_disk.specs.MemDisk.{Volume}
 use Rattle.odb_tree.specs.Tree.{Tree}
@@ -11,11 +11,10 @@ use Rattle.odb_tree.specs.declared.change.Change.{Change}
 use Rattle.odb_tree.specs.declared.change.Change.TheVariants.{PutFile, Rename}
 use Rattle.gix_odb_loose.specs.WriteOrder.{temp_path}
 use Rattle.gix_odb_loose.specs.declared.call.LooseCall.{LooseCall}
-use Rattle.gix_odb.specs.declared.call_state.CallState.TheVariants.{Writing}
 use Rattle.gix_odb_world.specs.declared.step.Step.TheVariants as steps
 use Rattle.gix_odb_world.specs.declared.step.Outcome.TheVariants as outcomes
-use Rattle.gix_odb_world.specs.declared.work.Work.TheVariants.{Calling}
-use Rattle.gix_odb_world.specs.Event.{Event, Store, Working, status_of}
+use Rattle.gix_odb_world.specs.Event.{Event}
+use Rattle.gix_odb_world.specs.Status.{IsAtWrite, Running, status_of}
 use Rattle.gix_odb_world.specs.Run.{IsTurnOf, tree_at}
 use Rattle.gix_odb_world.specs.Writing.{AskedAt, IsRename, LeftAlone}
 
@@ -24,16 +23,13 @@ use Rattle.gix_odb_world.specs.Writing.{AskedAt, IsRename, LeftAlone}
 -- After the first so many events a handle runs a write, which made its temporary file at this path in the event at the
 -- place `made`.
 pub record HasMade (first : Volume) (events : List Event) (handle made : ℕ) (path : Path) (now : ℕ) : Type 0 where
-  pub store : Store
-  pub ignoring : Bool
-  pub begun : ℕ
-  pub turns : ℕ
+  pub running : Running
   pub folder : LooseCall
-  pub status : status_of (take now events) handle ≡ Working store ignoring begun turns (Calling (Writing folder))
-  pub later : begun ≤ made
+  pub at : IsAtWrite (status_of (take now events) handle) running folder
+  pub later : running.begun ≤ made
   pub before : made < now
   pub number : ℕ
-  pub named : path ≡ temp_path store.parts.objects number
+  pub named : path ≡ temp_path running.store.parts.objects number
   pub makes : AskedAt first events handle made (asks.NewFile path) answers.Done
 
 -- a change that another program made

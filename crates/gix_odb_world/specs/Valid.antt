@@ -7,7 +7,6 @@ use Rattle.std.specs.declared.cmp.Ordering.{Ordering}
 use Rattle.odb_base.specs.Path.{Path, path_cmp}
 use Rattle.gix_hash.specs.declared.object_id.ObjectId.{ObjectId}
 use Rattle.gix_hash.specs.ObjectId.{id_cmp}
-use Rattle.odb_tree.specs.Tree.{State}
 use Rattle.odb_disk.specs.MemDisk.{Volume}
 use Rattle.odb_tree.specs.Tree.Change.{is_possible}
 use Rattle.gix_odb_world.specs.declared.step.Step.{Step}
@@ -16,7 +15,8 @@ use Rattle.gix_odb_world.specs.declared.step.Outcome.{Outcome}
 use Rattle.gix_odb_world.specs.declared.step.Outcome.TheVariants as outcomes
 use Rattle.gix_odb_world.specs.declared.step.Why.{Why}
 use Rattle.gix_odb_world.specs.declared.step.Why.TheVariants.{HandleTaken, BadOpen, NoHandle, NotRunning, Busy, ImpossibleChange}
-use Rattle.gix_odb_world.specs.Event.{Event, Status, Free, Resting, Working, status_of}
+use Rattle.gix_odb_world.specs.Event.{Event}
+use Rattle.gix_odb_world.specs.Status.{Status, Free, Resting, Working, status_of}
 use Rattle.gix_odb_world.specs.Run.{disk_after}
 
 -- what counts of a handle for validity
@@ -28,7 +28,7 @@ pub data Phase : Type 0 where
 abbrev pub phase_of : Status → Phase
 phase_of Free = NoneThere
 phase_of (Resting store ignoring) = Idle
-phase_of (Working store ignoring begun turns work) = Running
+phase_of (Working running) = Running
 
 -- no two items of a list are equal by an order
 abbrev pub are_distinct : {A : Type 0} → (A → A → Ordering) → List A → Bool
@@ -64,18 +64,18 @@ why_not_running NoneThere = Some NoHandle
 why_not_running Idle = Some NotRunning
 why_not_running Running = None
 
--- the first reason why a step isn't valid, or nothing where it is, by the phases of all handles and the disk's state
-abbrev pub why_not : (ℕ → Phase) → State → Step → Option Why
-why_not phases state (steps.Open handle path folders replacements options) = why_not_open (phases handle) (is_openable path folders replacements)
-why_not phases state (steps.Close handle) = why_not_idle (phases handle)
-why_not phases state (steps.Ignore handle) = why_not_idle (phases handle)
-why_not phases state (steps.Start handle call) = why_not_idle (phases handle)
-why_not phases state (steps.Turn handle) = why_not_running (phases handle)
-why_not phases state (steps.Disk change) = if is_possible state change then None else Some ImpossibleChange
+-- what counts of a handle for validity after the events of a run
+abbrev pub phase_after : List Event → (handle : ℕ) → Phase
+phase_after events handle = phase_of (status_of events handle)
 
--- the same after a run
+-- the first reason why a step isn't valid after the events of a run, or nothing where it is
 abbrev pub why_not_after : Volume → List Event → Step → Option Why
-why_not_after first events step = why_not (λ handle. phase_of (status_of events handle)) (disk_after first events).state step
+why_not_after first events (steps.Open handle path folders replacements options) = why_not_open (phase_after events handle) (is_openable path folders replacements)
+why_not_after first events (steps.Close handle) = why_not_idle (phase_after events handle)
+why_not_after first events (steps.Ignore handle) = why_not_idle (phase_after events handle)
+why_not_after first events (steps.Start handle call) = why_not_idle (phase_after events handle)
+why_not_after first events (steps.Turn handle) = why_not_running (phase_after events handle)
+why_not_after first events (steps.Disk change) = if is_possible (disk_after first events).state change then None else Some ImpossibleChange
 
 -- the reason that an outcome gives
 abbrev pub misuse_of : Outcome → Option Why

@@ -1,5 +1,5 @@
 -- How long the name of an object that a write made holds a whole encoding.
-use Rattle.std.specs.Prelude.{◌≡◌, ◌⊎◌, ℕ, ◌+◌, ◌<◌, ◌≤◌, Bool, false, true, List, ◌++◌, length, take, slice_get, Some, Ok}
+use Rattle.std.specs.Prelude.{◌≡◌, ◌⊎◌, ℕ, ◌+◌, ◌<◌, ◌≤◌, false, true, List, ◌++◌, length, take, slice_get, Some, Ok}
 use Rattle.odb_base.specs.Path.{Path}
 use Rattle.odb_disk.specs.MemDisk.{Volume}
 use Rattle.odb_tree.specs.Tree.Follow.{read_of}
@@ -9,10 +9,10 @@ use Rattle.odb_tree.specs.declared.change.Change.TheVariants.{Rename}
 use Rattle.gix_object.specs.Loose.{header_of}
 use Rattle.gix_odb_loose.specs.LooseFile.{loose_path}
 use Rattle.gix_odb_loose.specs.declared.call.LooseCall.{LooseCall}
-use Rattle.gix_odb.specs.declared.call_state.CallState.TheVariants.{Writing}
-use Rattle.gix_odb_world.specs.declared.work.Work.TheVariants.{Calling}
-use Rattle.gix_odb_world.specs.Event.{Event, Store, Working, status_of}
-use Rattle.gix_odb_world.specs.Run.{BegunBy, IsTurnOf, tree_at}
+use Rattle.gix_odb_world.specs.Event.{Event}
+use Rattle.gix_odb_world.specs.Status.{IsAtWrite, Running, status_of}
+use Rattle.gix_odb_world.specs.Run.{IsTurnOf, tree_at}
+use Rattle.gix_odb_world.specs.Begun.{BegunBy}
 use Rattle.gix_odb_world.specs.Undisturbed.{IsUndisturbed}
 use Rattle.gix_odb_world.specs.Writing.{ToWrite, call_to_write, name_to_write}
 
@@ -26,14 +26,11 @@ pub record GivesName (events : List Event) (place : ℕ) (w : ToWrite) (to : Pat
   pub there : slice_get events place ≡ Some event
   pub handle : ℕ
   pub turn : IsTurnOf handle event.step
-  pub store : Store
-  pub ignoring : Bool
-  pub begun : ℕ
-  pub turns : ℕ
+  pub running : Running
   pub folder : LooseCall
-  pub status : status_of (take place events) handle ≡ Working store ignoring begun turns (Calling (Writing folder))
-  pub begins : BegunBy (take place events) handle begun (call_to_write w)
-  pub into : w.objects ≡ store.parts.objects
+  pub at : IsAtWrite (status_of (take place events) handle) running folder
+  pub begins : BegunBy (take place events) handle running.begun (call_to_write w)
+  pub into : w.objects ≡ running.store.parts.objects
   pub from : Path
   pub moves : event.entry.change ≡ Some (Rename from to)
 

@@ -8,7 +8,8 @@ use Rattle.gix_odb_world.specs.declared.step.Step.{Step}
 use Rattle.gix_odb_world.specs.declared.step.Outcome.{Outcome}
 use Rattle.gix_odb_world.specs.declared.handle.Handle.{Handle}
 use Rattle.gix_odb_world.specs.declared.world.World.{World}
-use Rattle.gix_odb_world.specs.Event.{Event, Status, Free, Resting, Working, status_of}
+use Rattle.gix_odb_world.specs.Event.{Event}
+use Rattle.gix_odb_world.specs.Status.{Status, Free, Resting, Working, status_of}
 use Rattle.gix_odb_world.specs.Handle.{IsHandleOf}
 use Rattle.gix_odb_world.specs.Run.{disk_after}
 use Rattle.gix_odb_world.specs.Running.{Runs, RunsThroughout}
@@ -24,8 +25,8 @@ Matches Free None = Unit {0}
 Matches Free (Some handle) = ⊥
 Matches (Resting store ignoring) None = ⊥
 Matches (Resting store ignoring) (Some handle) = IsHandleOf store ignoring handle.state × (handle.work ≡ None)
-Matches (Working store ignoring begun turns work) None = ⊥
-Matches (Working store ignoring begun turns work) (Some handle) = IsHandleOf store ignoring handle.state × (handle.work ≡ Some work)
+Matches (Working running) None = ⊥
+Matches (Working running) (Some handle) = IsHandleOf running.store running.ignoring handle.state × (handle.work ≡ Some running.work)
 
 -- these events from this first disk lead to the world
 pub record Explains (first : Volume) (events : List Event) (world : World) : Type 0 where

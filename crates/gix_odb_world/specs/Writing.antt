@@ -23,7 +23,7 @@ use Rattle.gix_odb_loose.specs.declared.write.Error as loose_write
 use Rattle.gix_odb_loose.specs.declared.write_order.WriteHead.{WriteHead}
 use Rattle.gix_odb_world.specs.Recorded.{path_recorded}
 use Rattle.gix_odb.specs.CallOrder.{hash_to_write}
-use Rattle.gix_odb_world.specs.Event.{Event}
+use Rattle.gix_odb_world.specs.Event.{OfDisk, Event}
 use Rattle.gix_odb_world.specs.Run.{Fails, IsTurnOf, disk_after, tree_at}
 use Rattle.gix_odb.specs.declared.call.Call.{Call}
 use Rattle.gix_odb.specs.declared.call.Call.TheVariants.{Write}
@@ -62,7 +62,7 @@ pub record AskedAt (first : Volume) (events : List Event) (handle place : ℕ) (
   pub there : slice_get events place ≡ Some event
   pub turn : IsTurnOf handle event.step
   pub did : event.entry.did ≡ Disk (op_of ask) (path_recorded ask) (next_fails (disk_after first (take place events)))
-  pub asked : event.turn ≡ Some (ask, answer)
+  pub asked : event.asked ≡ OfDisk ask answer
   pub given : answer ≡ answer_now (disk_after first (take place events)) ask
 
 -- the same in some turn of the handle since its call began. (Events are numbered from 1, so the events from place

@@ -8,7 +8,7 @@ ghost use Rattle.gix_odb_world.specs.Handle.{IsOpened};
 ghost use Rattle.gix_odb_world.specs.Valid.{are_distinct, is_openable};
 
 use gix_hash::ObjectId;
-use gix_odb::{HandleState, IdPairs, Options, PathList, copy_of_paths};
+use gix_odb::{HandleState, IdPairs, Options, PathList, StoreParts, copy_of_paths};
 use odb_base::{NoMemory, PathText};
 use std::alloc::Global;
 use std::collections::{BTreeMap, BTreeSet};
@@ -33,14 +33,14 @@ pub fn begun(
     let Some(replacements) = replacement_map(alloc, replacements)? else {
         return Ok(None);
     };
-    Ok(Some(HandleState {
+    let parts = StoreParts {
         objects: path.try_clone(alloc)?,
         folders: copy_of_paths(alloc, folders)?,
         replacements,
-        ignore_replacements: false,
         alloc_limit_bytes: options.alloc_limit_bytes,
         slots: options.slots.count(),
-    }))
+    };
+    Ok(Some(HandleState::new(alloc, parts)?))
 }
 
 /// Whether the conditions of opening hold.

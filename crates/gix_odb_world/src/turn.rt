@@ -25,10 +25,10 @@ pub fn carried_out(
     state: &HandleState,
     work: Work,
 ) -> Result<(Did, Option<Change>, Work), NoMemory>
-    ensures did { IfOk result (λ done. done.0 ≡ did_now disk.old (ask_in state.now.objects work)) }
-    ensures change { IfOk result (λ done. done.1 ≡ change_now disk.old (ask_in state.now.objects work)) }
-    ensures work { IfOk result (λ done. done.2 ≡ work_now disk.old state.now work (ask_in state.now.objects work)) }
-    ensures left { OnOk result (disk.new ≡ disk_now disk.old (ask_in state.now.objects work)) }
+    ensures did { IfOk result (λ done. done.0 ≡ did_now disk.old (ask_in state.now.store.value.objects work)) }
+    ensures change { IfOk result (λ done. done.1 ≡ change_now disk.old (ask_in state.now.store.value.objects work)) }
+    ensures work { IfOk result (λ done. done.2 ≡ work_now disk.old state.now work (ask_in state.now.store.value.objects work)) }
+    ensures left { OnOk result (disk.new ≡ disk_now disk.old (ask_in state.now.store.value.objects work)) }
 {
     match work.disk_ask(alloc, state) {
         Ok(Some(ask)) => asked(alloc, disk, state, work, &ask),
@@ -73,7 +73,7 @@ fn fed(
 ) -> Result<(Did, Option<Change>, Work), NoMemory>
     ensures did { IfOk result (λ done. done.0 ≡ did) }
     ensures change { IfOk result (λ done. done.1 ≡ change) }
-    ensures work { IfOk result (λ done. done.2 ≡ fed_with state.now.slots state.now.folders state.now.alloc_limit_bytes work answer) }
+    ensures work { IfOk result (λ done. done.2 ≡ fed_with state.now.store.value.slots state.now.store.value.folders state.now.store.value.alloc_limit_bytes work answer) }
 {
     let work = work.feed(alloc, state, answer)?;
     Ok((did, change, work))

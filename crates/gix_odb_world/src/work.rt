@@ -18,7 +18,7 @@ pub enum Work {
 impl Work {
     /// The call of the disk that comes next; there is none where the work is done.
     pub fn disk_ask(&self, alloc: Global, handle: &HandleState) -> Result<Option<DiskAsk>, NoMemory>
-        ensures asked { IfOk result (λ ask. ask ≡ ask_in handle.now.objects self.now) }
+        ensures asked { IfOk result (λ ask. ask ≡ ask_in handle.now.store.value.objects self.now) }
     {
         match self {
             Work::Opening(state) => state.disk_ask(alloc, handle),
@@ -33,10 +33,10 @@ impl Work {
         handle: &HandleState,
         answer: DiskAnswer,
     ) -> Result<Work, NoMemory>
-        ensures fed { IfOk result (λ work. work ≡ fed_with handle.now.slots handle.now.folders handle.now.alloc_limit_bytes self answer) }
+        ensures fed { IfOk result (λ work. work ≡ fed_with handle.now.store.value.slots handle.now.store.value.folders handle.now.store.value.alloc_limit_bytes self answer) }
     {
         match self {
-            Work::Opening(state) => Ok(Work::Opening(state.feed(handle.slots, &answer))),
+            Work::Opening(state) => Ok(Work::Opening(state.feed(handle.parts().slots, &answer))),
             Work::Calling(state) => Ok(Work::Calling(state.feed(alloc, handle, answer)?)),
         }
     }

@@ -1,0 +1,113 @@
+-- From which steps a handle has its task, its store and its mode, after each event of a lawful run.
+pub mod OneEvent
+use Rattle.std.proofs.Common.{◌≡◌, ◌≢◌, ℕ, zero, suc, ◌+◌, ◌≤◌, Bool, true, false, List, [], ◌∷◌, ◌++◌, length, take, Some, None, refl, sym, subst, arith, inl, inr}
+use Rattle.std.specs.Prelude.{slice_get, ◌==◌, if◌then◌else◌}
+use Rattle.std.proofs.lemmas.Bool.{eqb-true, eqb-false}
+use Rattle.std.proofs.Math.Seq.{take-length}
+use Rattle.odb_base.specs.Path.{Path}
+use Rattle.odb_disk.specs.MemDisk.{Volume}
+use Rattle.gix_hash.specs.declared.object_id.ObjectId.{ObjectId}
+use Rattle.gix_odb.specs.declared.call.Reply.{Reply}
+use Rattle.gix_odb.specs.declared.init.Options.{Options}
+use Rattle.gix_odb_world.specs.declared.step.Step.{Step}
+use Rattle.gix_odb_world.specs.declared.step.Step.TheVariants as steps
+use Rattle.gix_odb_world.specs.declared.step.Outcome.{Outcome}
+use Rattle.gix_odb_world.specs.declared.step.Outcome.TheVariants as outcomes
+use Rattle.gix_odb_world.specs.Event.{Event}
+use Rattle.gix_odb_world.specs.Status.{Status, Store, Free, after_turn_of, ignoring_from, replied, started, status_after, status_of, statuses_from, store_at, turned, with_status}
+use Rattle.gix_odb_world.specs.Begun.{IsIgnoreOf, IsTaskOf, OpenedBy}
+use Rattle.gix_odb_world.specs.Valid.{misuse_of, why_not_after}
+use Rattle.gix_odb_world.specs.Headline.{IsLawful}
+use Rattle.gix_odb_world.proofs.RunLemmas.{status_of-push}
+use Rattle.gix_odb_world.proofs.RunSteps.{event_or_end, none_beyond, take_next}
+use Rattle.gix_odb_world.proofs.BegunLemmas.OneEvent.{Stems, holds_opened, none_after, opened_now, stems_ignoring, stems_kept, stems_replied, stems_started, stems_turned}
+
+-- ---- what an event makes of all handles
+
+module _ (events : List Event) (table : ℕ → Status) where
+  stems_set : (number : ℕ) (status : Status) (handle : ℕ) → Stems events number status → (handle ≢ number → Stems events handle (table handle)) → Stems events handle (with_status table number status handle)
+  stems_set number status handle here others = by_number (handle == number) refl
+    where
+      by_number : (same : Bool) → (handle == number) ≡ same → Stems events handle (if same then status else table handle)
+      by_number true is = subst (λ h. Stems events h status) (sym (eqb-true handle number is)) here
+      by_number false is = others (eqb-false handle number is)
+
+  stems_after_turn : (step : Step) (next : Status → Status) → ((handle : ℕ) → Stems events handle (next (table handle))) → ((handle : ℕ) → Stems events handle (table handle)) → (handle : ℕ) → Stems events handle (after_turn_of step next table handle)
+  stems_after_turn (steps.Turn number) next goes_on kept handle = stems_set number (next (table number)) handle (goes_on number) (λ apart. kept handle)
+  stems_after_turn (steps.Open number path folders replacements options) next goes_on kept handle = kept handle
+  stems_after_turn (steps.Close number) next goes_on kept handle = kept handle
+  stems_after_turn (steps.Ignore number) next goes_on kept handle = kept handle
+  stems_after_turn (steps.Start number call) next goes_on kept handle = kept handle
+  stems_after_turn (steps.Disk change) next goes_on kept handle = kept handle
+
+module _ (first : Volume) (past : List Event) (e : Event) (before : (handle : ℕ) → Stems past handle (status_of past handle)) where
+  abbrev now : List Event
+  now = past ++ e ∷ []
+
+  abbrev table : ℕ → Status
+  table = status_of past
+
+  -- a handle that the step isn't of keeps its steps
+  others : (step : Step) → e.step ≡ step → (handle : ℕ) → ¬ (IsTaskOf handle step) → ¬ (IsIgnoreOf handle step) → Stems now handle (table handle)
+  others step is handle no_task no_ignore = stems_kept past e handle (table handle) (λ _ t. no_task (subst (IsTaskOf handle) is t)) (λ _ i. no_ignore (subst (IsIgnoreOf handle) is i)) (before handle)
+
+  -- and so does each handle where no step was applied
+  unapplied : e.outcome ≢ outcomes.Applied → (handle : ℕ) → Stems now handle (table handle)
+  unapplied other handle = stems_kept past e handle (table handle) (λ applied. absurd (other applied)) (λ applied. absurd (other applied)) (before handle)
+
+  stems_opened : (number : ℕ) (path : Path) (folders : List Path) (replacements : List (ObjectId × ObjectId)) (options : Options) → e.step ≡ steps.Open number path folders replacements options
+      → (handle : ℕ) → Stems now handle (status_after (length past + 1) (steps.Open number path folders replacements options) outcomes.Applied e.asked table handle)
+  stems_opened number path folders replacements options step handle =
+      let store : Store = store_at (length past + 1) path folders replacements options in
+      let opened : OpenedBy now number (length past + 1) store = opened_now past e number path folders replacements options step in
+      stems_set now table number _ handle
+      (holds_opened past e number store refl opened, record { begins = opened; latest = none_after past e (IsTaskOf number) })
+      (λ apart. others (steps.Open number path folders replacements options) step handle (λ same. apart (sym same)) (λ never. never))
+
+  stems_applied : (step : Step) → e.step ≡ step → e.outcome ≡ outcomes.Applied → None ≡ why_not_after first past step → (handle : ℕ) → Stems now handle (status_after (length past + 1) step outcomes.Applied e.asked table handle)
+  stems_applied (steps.Open number path folders replacements options) step applied valid handle = stems_opened number path folders replacements options step handle
+  stems_applied (steps.Close number) step applied valid handle = stems_set now table number Free handle tt (λ apart. others (steps.Close number) step handle (λ never. never) (λ never. never))
+  stems_applied (steps.Ignore number) step applied valid handle =
+      stems_set now table number (ignoring_from (table number)) handle (stems_ignoring past e number (table number) valid step applied (before number))
+      (λ apart. others (steps.Ignore number) step handle (λ never. never) (λ same. apart (sym same)))
+  stems_applied (steps.Start number call) step applied valid handle =
+      stems_set now table number (started (length past + 1) call (table number)) handle (stems_started past e number call (table number) valid step (before number))
+      (λ apart. others (steps.Start number call) step handle (λ same. apart (sym same)) (λ never. never))
+  stems_applied (steps.Turn number) step applied valid handle = others (steps.Turn number) step handle (λ never. never) (λ never. never)
+  stems_applied (steps.Disk change) step applied valid handle = others (steps.Disk change) step handle (λ never. never) (λ never. never)
+
+  stems_by : (outcome : Outcome) → e.outcome ≡ outcome → misuse_of outcome ≡ why_not_after first past e.step → (handle : ℕ) → Stems now handle (status_after (length past + 1) e.step outcome e.asked table handle)
+  stems_by outcomes.Applied is valid handle = stems_applied e.step refl is valid handle
+  stems_by outcomes.Pending is valid handle =
+      let kept = unapplied (λ applied. cc (is, applied)) in
+      stems_after_turn now table e.step (turned e.asked) (λ h. stems_turned now h e.asked (table h) (kept h)) kept handle
+  stems_by (outcomes.Reply reply) is valid handle =
+      let kept = unapplied (λ applied. cc (is, applied)) in
+      stems_after_turn now table e.step (replied reply) (λ h. stems_replied now h reply (table h) (kept h)) kept handle
+  stems_by (outcomes.Misuse why) is valid handle = unapplied (λ applied. cc (is, applied)) handle
+
+-- ---- along a run
+
+stems_none : (handle : ℕ) → Stems [] handle (status_of [] handle)
+unfolding statuses_from
+stems_none handle = tt
+
+module _ (first : Volume) (events : List Event) (lawful : IsLawful first events) where
+  stems_next : (place : ℕ) (e : Event) → slice_get events place ≡ Some e → ((handle : ℕ) → Stems (take place events) handle (status_of (take place events) handle)) → (handle : ℕ) → Stems (take (place + 1) events) handle (status_of (take (place + 1) events) handle)
+  stems_next place e there before handle =
+      let past : List Event = take place events in
+      subst (λ es. Stems es handle (status_of es handle)) (sym (take_next events place e there))
+      (subst (λ (table : ℕ → Status). Stems (past ++ e ∷ []) handle (table handle)) (sym (status_of-push past e))
+      (stems_by first past e before e.outcome refl (lawful place e there).valid handle))
+
+  stems_at : (place : ℕ) → place ≤ length events → (handle : ℕ) → Stems (take place events) handle (status_of (take place events) handle)
+  stems_at zero within handle = stems_none handle
+  stems_at (suc place) within handle = elim (event_or_end events place) [
+    | inl at ↦
+        let next : place + 1 ≡ suc place = omega arith in
+        subst (λ n. Stems (take n events) handle (status_of (take n events) handle)) next (stems_next place at.0 at.1 (stems_at place (omega (arith, within))) handle)
+    | inr none ↦ let beyond = none_beyond events place none in absurd (omega (arith, within, beyond))
+  ]
+
+  pub stems_now : (handle : ℕ) → Stems events handle (status_of events handle)
+  stems_now handle = subst (λ es. Stems es handle (status_of es handle)) (take-length events) (stems_at (length events) (omega arith) handle)

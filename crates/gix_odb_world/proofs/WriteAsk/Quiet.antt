@@ -1,0 +1,132 @@
+-- No answer of a disk is for want of memory; which calls change nothing, and what a call leaves of the disk.
+use Rattle.std.proofs.Common.{◌≡◌, ◌≢◌, ℕ, Bool, true, false, List, [], ◌∷◌, Option, Some, None, Result, Ok, Err, refl, sym, ap, ◌∙◌}
+use Rattle.std.specs.Prelude.{if◌then◌else◌, ◌&&◌}
+use Rattle.odb_disk.specs.Ask.{answer_in, answer_now, answer_of, change_of_ask, after_ask, dir_answer, entry_answer, error_of, fails_now, file_answer, is_counted, meta_answer, ran_out, write_answer}
+use Rattle.odb_disk.specs.StreamAsks.{least_closed}
+use Rattle.odb_disk.specs.Streams.{Streams, still_gives}
+use Rattle.odb_tree.specs.Entries.{opened}
+use Rattle.odb_disk.specs.MemDisk.{Volume, next_fails}
+use Rattle.odb_tree.specs.Tree.{Tree, State, tree_of}
+use Rattle.odb_tree.specs.Tree.Follow.{Refusal, Absent, WrongKind, LinkLoop, looked, read_of}
+use Rattle.odb_tree.specs.Tree.Write as writing
+use Rattle.odb_tree.specs.Tree.Write.{change_of_append, change_of_make_dir, change_of_new_file, change_of_remove, change_of_rename, written}
+use Rattle.odb_disk.specs.declared.ask.DiskAnswer.{DiskAnswer}
+use Rattle.odb_disk.specs.declared.ask.DiskAnswer.TheVariants as answers
+use Rattle.odb_disk.specs.declared.ask.DiskAsk.{DiskAsk}
+use Rattle.odb_disk.specs.declared.ask.DiskAsk.TheVariants as asks
+use Rattle.odb_tree.specs.declared.change.Change.{Change}
+use Rattle.odb_tree.specs.declared.disk_error.DiskError.TheVariants as disk_errors
+use Rattle.odb_tree.specs.declared.entry.Entry.{Entry}
+use Rattle.odb_tree.specs.declared.meta.Meta.{Meta}
+use Rattle.gix_odb_world.specs.Run.{change_by}
+
+-- ---- no answer is for want of memory
+
+ran_out-error : (refusal : Refusal) → ran_out (answers.Refused (error_of refusal)) ≡ false
+ran_out-error Absent = refl
+ran_out-error WrongKind = refl
+ran_out-error LinkLoop = refl
+
+ran_out-meta : (told : Result Meta Refusal) → ran_out (meta_answer told) ≡ false
+ran_out-meta (Ok found) = refl
+ran_out-meta (Err refusal) = ran_out-error refusal
+
+ran_out-file : (told : Result (List ℕ × ℕ) Refusal) → ran_out (file_answer told) ≡ false
+ran_out-file (Ok file) = refl
+ran_out-file (Err refusal) = ran_out-error refusal
+
+ran_out-write : (told : Result Change writing.Refusal) → ran_out (write_answer told) ≡ false
+ran_out-write (Ok change) = refl
+ran_out-write (Err writing.Absent) = refl
+ran_out-write (Err writing.WrongKind) = refl
+ran_out-write (Err writing.LinkLoop) = refl
+ran_out-write (Err writing.Exists) = refl
+ran_out-write (Err writing.NotEmpty) = refl
+
+ran_out-dir : (dir : ℕ) (told : Result (List Entry) Refusal) → ran_out (dir_answer dir told) ≡ false
+ran_out-dir dir (Ok entries) = refl
+ran_out-dir dir (Err refusal) = ran_out-error refusal
+
+ran_out-entry : (left : Option (List Entry)) → ran_out (entry_answer left) ≡ false
+ran_out-entry (Some (entry ∷ rest)) = refl
+ran_out-entry (Some []) = refl
+ran_out-entry None = refl
+
+ran_out-told : (tree : Tree) (ask : DiskAsk) → ran_out (answer_of tree ask) ≡ false
+unfolding answer_of
+ran_out-told tree (asks.Look path follow) = ran_out-meta (looked tree path follow)
+ran_out-told tree (asks.Read path) = ran_out-file (read_of tree path)
+ran_out-told tree (asks.OpenDir path) = ran_out-dir 0 (opened tree path)
+ran_out-told tree (asks.NextEntry dir) = refl
+ran_out-told tree (asks.CloseDir dir) = refl
+ran_out-told tree (asks.MakeDir path) = ran_out-write (change_of_make_dir tree path)
+ran_out-told tree (asks.NewFile path) = ran_out-write (change_of_new_file tree path)
+ran_out-told tree (asks.Append path bytes) = ran_out-write (change_of_append tree path bytes)
+ran_out-told tree (asks.Rename from to) = ran_out-write (change_of_rename tree from to)
+ran_out-told tree (asks.Remove path) = ran_out-write (change_of_remove tree path)
+
+ran_out-in : (tree : Tree) (streams : Streams) (ask : DiskAsk) → ran_out (answer_in tree streams ask) ≡ false
+ran_out-in tree streams (asks.Look path follow) = ran_out-told tree (asks.Look path follow)
+ran_out-in tree streams (asks.Read path) = ran_out-told tree (asks.Read path)
+ran_out-in tree streams (asks.OpenDir path) = ran_out-dir (least_closed streams) (opened tree path)
+ran_out-in tree streams (asks.NextEntry dir) = ran_out-entry (still_gives streams dir)
+ran_out-in tree streams (asks.CloseDir dir) = ran_out-told tree (asks.CloseDir dir)
+ran_out-in tree streams (asks.MakeDir path) = ran_out-told tree (asks.MakeDir path)
+ran_out-in tree streams (asks.NewFile path) = ran_out-told tree (asks.NewFile path)
+ran_out-in tree streams (asks.Append path bytes) = ran_out-told tree (asks.Append path bytes)
+ran_out-in tree streams (asks.Rename from to) = ran_out-told tree (asks.Rename from to)
+ran_out-in tree streams (asks.Remove path) = ran_out-told tree (asks.Remove path)
+
+ran_out-either : (fails : Bool) (answer : DiskAnswer) → ran_out answer ≡ false → ran_out (if fails then answers.Refused disk_errors.Failed else answer) ≡ false
+ran_out-either true answer told = refl
+ran_out-either false answer told = told
+
+pub never_wants : (disk : Volume) (ask : DiskAsk) → answers.Refused disk_errors.NoMemory ≢ answer_now disk ask
+never_wants disk ask e =
+    let none : ran_out (answer_now disk ask) ≡ false = ran_out-either (fails_now disk ask) (answer_in (tree_of disk.state) disk.streams ask) (ran_out-in (tree_of disk.state) disk.streams ask) in
+    let some : true ≡ ran_out (answer_now disk ask) = ap ran_out e in
+    cc (none, some)
+
+-- ---- the disk after a call
+
+after_either : (disk : Volume) (change : Option Change) (fails : Bool) → written disk.state (if fails then None else change) ≡ (if fails then disk.state else written disk.state change)
+after_either disk change true = refl
+after_either disk change false = refl
+
+-- a call that makes no change in the tree
+pub change_by-quiet : (disk : Volume) (ask : DiskAsk) → change_of_ask (tree_of disk.state) ask ≡ None → change_by disk ask ≡ None
+change_by-quiet disk ask quiet = by_failing (next_fails disk)
+  where
+    by_failing : (fails : Bool) → (if fails then None else change_of_ask (tree_of disk.state) ask) ≡ None
+    by_failing true = refl
+    by_failing false = quiet
+
+-- a close of a stream, which isn't counted and never fails, has no change to make
+uncounted_quiet : (tree : Tree) (ask : DiskAsk) → is_counted ask ≡ false → change_of_ask tree ask ≡ None
+unfolding change_of_ask
+uncounted_quiet tree (asks.Look path follow) is = absurd (cc)
+uncounted_quiet tree (asks.Read path) is = absurd (cc)
+uncounted_quiet tree (asks.OpenDir path) is = absurd (cc)
+uncounted_quiet tree (asks.NextEntry dir) is = absurd (cc)
+uncounted_quiet tree (asks.CloseDir dir) is = refl
+uncounted_quiet tree (asks.MakeDir path) is = absurd (cc)
+uncounted_quiet tree (asks.NewFile path) is = absurd (cc)
+uncounted_quiet tree (asks.Append path bytes) is = absurd (cc)
+uncounted_quiet tree (asks.Rename from to) is = absurd (cc)
+uncounted_quiet tree (asks.Remove path) is = absurd (cc)
+
+-- a call that fails makes no change
+module _ (disk : Volume) (ask : DiskAsk) where
+  state_by_counted : (counted : Bool) → is_counted ask ≡ counted → (if counted && next_fails disk then disk.state else written disk.state (change_of_ask (tree_of disk.state) ask)) ≡ written disk.state (change_by disk ask)
+  state_by_counted true is = sym (after_either disk (change_of_ask (tree_of disk.state) ask) (next_fails disk))
+  state_by_counted false is =
+      let quiet = uncounted_quiet (tree_of disk.state) ask is in
+      ap (λ (change : Option Change). written disk.state change) (quiet ∙ sym (change_by-quiet disk ask quiet))
+
+  state_by : (if fails_now disk ask then disk.state else written disk.state (change_of_ask (tree_of disk.state) ask)) ≡ written disk.state (change_by disk ask)
+  state_by = state_by_counted (is_counted ask) refl
+
+-- the record of a call takes the disk on as the call did
+pub after_ask-change : (disk : Volume) (ask : DiskAsk) → after_ask disk ask ≡ record (after_ask disk ask) { state = written disk.state (change_by disk ask) }
+unfolding after_ask
+after_ask-change disk ask = ap (λ (s : State). record (after_ask disk ask) { state = s }) (state_by disk ask)

@@ -1,0 +1,251 @@
+-- What is common to all turns of a write: what was asked, what stands in its file, and what its end or its next stage needs.
+use Rattle.std.proofs.Common.{◌≡◌, ℕ, ◌+◌, ◌≤◌, List, [], ◌∷◌, ◌++◌, length, take, Contains, Option, Some, None, Ok, Err, sym, ap, ◌∙◌, subst, zero, suc, ◌⊎◌, arith, inl, inr}
+use Rattle.std.proofs.lemmas.List.Elements.{Contains-append_cases}
+use Rattle.std.proofs.Math.Seq.{take-length}
+use Rattle.odb_base.specs.Path.{Path}
+use Rattle.odb_disk.specs.Ask.{answer_now, op_of}
+use Rattle.odb_disk.specs.MemDisk.{Volume, next_fails}
+use Rattle.odb_tree.specs.Tree.{IsTree, Tree, tree_of}
+use Rattle.odb_tree.specs.Tree.Change.{changed}
+use Rattle.odb_tree.specs.Tree.Write.{change_of_append, change_of_make_dir, change_of_new_file, written}
+use Rattle.odb_disk.specs.declared.ask.DiskAnswer.{DiskAnswer}
+use Rattle.odb_disk.specs.declared.ask.DiskAnswer.TheVariants as answers
+use Rattle.odb_disk.specs.declared.ask.DiskAsk.{DiskAsk}
+use Rattle.odb_disk.specs.declared.ask.DiskAsk.TheVariants as asks
+use Rattle.odb_tree.specs.declared.change.Change.{Change}
+use Rattle.odb_tree.specs.declared.change.Change.TheVariants.{MakeDir}
+use Rattle.odb_tree.specs.declared.disk_error.DiskError.TheVariants as disk_errors
+use Rattle.odb_tree.specs.OwnFile.{HasFile}
+use Rattle.odb_tree.proofs.OwnFileLaws.{has_file_kept, has_more, has_new_file, kept_by_make_dir}
+use Rattle.odb_tree.proofs.WayWriteLaws.{make_dir_change}
+use Rattle.odb_tree.proofs.WriteLaws.{tree_of-written}
+use Rattle.gix_hash.specs.declared.object_id.ObjectId.{ObjectId}
+use Rattle.gix_odb_loose.proofs.CauseLaws.Write.{WriteCause-wider}
+use Rattle.gix_odb_loose.specs.Exchanges.{Exchange, exchanged}
+use Rattle.gix_odb_loose.specs.WriteHistory.Refused.{DoneIn, HasCauseIn, RefusedIn, TakenIn, WantedIn}
+use Rattle.gix_odb_loose.specs.WriteHistory.{IsHistoryOnward, IsStopped}
+use Rattle.gix_odb_loose.proofs.WriteCauseLaws.{refused_cause}
+use Rattle.gix_odb_loose.specs.WriteJobs.{pieces_of}
+use Rattle.gix_odb_loose.specs.WritePieces.{IsInPieces}
+use Rattle.gix_odb_loose.specs.WriteOrder.{error_from, number_made, temp_path}
+use Rattle.gix_odb_loose.specs.WriteStreams.{OtherLength}
+use Rattle.gix_odb_loose.specs.declared.write.Error.TheVariants as loose_errors
+use Rattle.gix_odb_loose.specs.declared.write.Message.TheVariants as messages
+use Rattle.gix_odb_loose.specs.declared.write_order.Onward.{Onward}
+use Rattle.gix_odb_loose.specs.declared.write_order.Onward.TheVariants.{Stage, End}
+use Rattle.gix_odb_loose.specs.declared.write_order.Refusal.{Refusal}
+use Rattle.gix_odb_loose.specs.declared.write_order.Refusal.TheVariants as refusals
+use Rattle.gix_odb_loose.specs.declared.write_order.WriteHead.{WriteHead}
+use Rattle.gix_odb_loose.specs.declared.write_order.WriteStage.TheVariants as stages
+use Rattle.gix_odb_world.specs.Recorded.{path_recorded}
+use Rattle.gix_odb_world.specs.declared.record.Did.TheVariants.{Disk}
+use Rattle.gix_odb_world.specs.Event.{OfDisk, Event}
+use Rattle.gix_odb_world.specs.Run.{IsTurnOf, change_by, disk_after, disk_after_asked, tree_at}
+use Rattle.gix_odb_world.specs.Running.Write.{HadTurns, Holds, HoldsFile, IsFront, IsUntouched, StandsAt, content_at, turns_left}
+use Rattle.gix_odb_world.specs.Writing.{AskedAt, AskedSince, CauseOfWrite, ChangedNothing, DoneSince, IsNewFile, IsRename, MadeOnly, RefusedSince, RenamedNothing, TakenSince, ToWrite, head_to_write, name_to_write}
+use Rattle.gix_odb_world.specs.Written.{HasWritten, WasRefused}
+use Rattle.gix_odb_world.proofs.RunLemmas.{tree_at-now}
+use Rattle.gix_odb_world.proofs.RefusedLemmas.{refused_on_way}
+use Rattle.gix_odb_world.proofs.WriteAsk.{Made}
+use Rattle.gix_odb_world.proofs.WriteAsk.Quiet.{never_wants}
+use Rattle.gix_odb_world.proofs.WriteKept.{alone_before, asked_at_kept, asked_kept, asked_now, each_turn_push, whole_length}
+
+-- a write that is to remove its file was not refused the making of it
+pub made_before_removal : (head : WriteHead) (Named : ObjectId → Type 0) (Counted : ℕ → Type 0) (number : ℕ) (refusal : Refusal) (past : List Exchange) (at : Path) → IsStopped head Named ⊥ Counted number refusal past
+    → error_from head refusal ≡ loose_errors.Io messages.CreateTempFile at → (P : Type 0) → P
+made_before_removal head Named Counted number (refusals.Io messages.CreateTempFile) past at stopped same P = absurd stopped
+made_before_removal head Named Counted number (refusals.Io messages.WriteHeader) past at stopped same P = absurd (cc same)
+made_before_removal head Named Counted number (refusals.Io messages.StreamData) past at stopped same P = absurd (cc same)
+made_before_removal head Named Counted number refusals.IoRaw past at stopped same P = absurd (cc same)
+made_before_removal head Named Counted number (refusals.Persist id) past at stopped same P = absurd (cc same)
+made_before_removal head Named Counted number (refusals.SizeMismatch actual) past at stopped same P = absurd (cc same)
+made_before_removal head Named Counted number refusals.NoMemory past at stopped same P = absurd (cc same)
+
+-- one piece more has one turn more
+pub piece_had : {turns written : ℕ} (number piece : ℕ) → IsInPieces written → 1 ≤ piece → piece ≤ 65536 → turns ≡ number + 2 + pieces_of written → turns + 1 ≡ number + 2 + pieces_of (written + piece)
+piece_had number piece pieces some few had = omega (arith, pieces.1, some, few, had)
+
+-- the last event is a turn of the handle that made this call of the disk
+pub record IsTurnWith (first : Volume) (events : List Event) (e : Event) (handle : ℕ) (ask : DiskAsk) : Type 0 where
+  pub turn : IsTurnOf handle e.step
+  pub did : e.entry.did ≡ Disk (op_of ask) (path_recorded ask) (next_fails (disk_after first events))
+  pub asked : e.asked ≡ OfDisk ask (answer_now (disk_after first events) ask)
+  pub change : e.entry.change ≡ change_by (disk_after first events) ask
+  pub tree : IsTree (tree_of (disk_after first events).state)
+
+module _ (first : Volume) (events : List Event) (e : Event) (handle begun turns : ℕ) (w : ToWrite) (since : begun ≤ length events) where
+  abbrev whole : List Event
+  whole = events ++ e ∷ []
+
+  abbrev disk : Volume
+  disk = disk_after first events
+
+  abbrev before : Tree
+  before = tree_at first events (length events)
+
+  abbrev now : Tree
+  now = tree_at first whole (length events + 1)
+
+  abbrev head : WriteHead
+  head = head_to_write w
+
+  abbrev Named : ObjectId → Type 0
+  Named id = id ≡ name_to_write w
+
+  abbrev Counted : ℕ → Type 0
+  Counted n = OtherLength (Some w.bytes) w.size n
+
+  pub before_is : tree_of disk.state ≡ before
+  before_is = ap (λ es. tree_of (disk_after first es).state) (sym (take-length events))
+
+  -- ---- what is common to all turns
+
+  module _ (ask : DiskAsk) (is : IsTurnWith first events e handle ask) (answer : DiskAnswer) (given : answer ≡ answer_now disk ask) where
+    pub is_tree : IsTree before
+    is_tree = subst IsTree before_is is.tree
+
+    pub now_is : now ≡ tree_of (written disk.state (change_by disk ask))
+    now_is =
+        tree_at-now first events e
+        ∙ (ap (λ asked. tree_of (disk_after_asked disk asked e.entry.change).state) is.asked ∙ ap (λ change. tree_of (written disk.state change)) is.change)
+
+    pub now_changed : (change : Change) → change_by disk ask ≡ Some change → now ≡ changed before change
+    now_changed change made = now_is ∙ (ap (λ c. tree_of (written disk.state c)) made ∙ (tree_of-written disk.state change ∙ ap (λ t. changed t change) before_is))
+
+    pub now_same : change_by disk ask ≡ None → now ≡ before
+    now_same none = now_is ∙ (ap (λ c. tree_of (written disk.state c)) none ∙ before_is)
+
+    pub own : AskedAt first whole handle (length events) ask answer
+    own = asked_now first events e handle ask answer is.turn is.did (is.asked ∙ ap (OfDisk ask) (sym given)) given
+
+    pub asked_since : AskedSince first whole handle begun ask answer
+    asked_since = record { place = length events; later = since; at = own }
+
+    module _ (past : List Exchange) (asked : (x : Exchange) → Contains past x → AskedSince first events handle begun x.ask x.answer) where
+      abbrev longer : List Exchange
+      longer = past ++ exchanged ask answer ∷ []
+
+      one : (x : Exchange) → Contains (exchanged ask answer ∷ []) x → exchanged ask answer ≡ x
+      one x (zero, within, e) = e
+      one x (suc k, within, e) = absurd (omega (arith, within))
+
+      all_asked : (x : Exchange) → Contains longer x → AskedSince first whole handle begun x.ask x.answer
+      all_asked x among =
+          elim (Contains-append_cases past (exchanged ask answer ∷ []) x among) [
+            | inl old ↦ asked_kept first events e handle begun x.ask x.answer (asked x old)
+            | inr last ↦ subst (λ (y : Exchange). AskedSince first whole handle begun y.ask y.answer) (one x last) asked_since
+          ]
+
+      cause_now : (refusal : Refusal) → HasCauseIn head Named ⊥ Counted longer (error_from head refusal) → CauseOfWrite first whole handle begun w (error_from head refusal)
+      cause_now refusal h =
+          WriteCause-wider head (RefusedIn longer) (RefusedSince first whole handle begun) (TakenIn longer) (TakenSince first whole handle begun) (DoneIn longer) (DoneSince first whole handle begun)
+          (λ a making r. refused_on_way first whole handle begun a making r.0 (all_asked (exchanged a r.0) r.1) r.2) (λ a t. all_asked (exchanged a (answers.Refused disk_errors.Exists)) t) (λ a d. all_asked (exchanged a answers.Done) d) ⊥ ⊥ (λ f. f)
+          Named Named (λ id n. n) (WantedIn longer) ⊥ (λ m. let a = all_asked (exchanged m.0 (answers.Refused disk_errors.NoMemory)) m.1 in absurd (never_wants (disk_after first (take a.place whole)) m.0 a.at.given))
+          Counted Counted (λ n k. k) (error_from head refusal) h
+
+      -- what a turn comes to
+      abbrev pub Goes : Onward → Type 0
+      Goes (Stage stage) = StandsAt first whole handle begun (turns + 1) w stage
+      Goes (End (Ok id)) = HasWritten first whole handle begun w id
+      Goes (End (Err refusal)) = WasRefused first whole handle begun w (error_from head refusal)
+
+      -- where no temporary file could be made, nothing was changed
+      abbrev IsUntouchedAt : Refusal → Type 0
+      IsUntouchedAt refusal = (at : Path) → error_from head refusal ≡ loose_errors.Io messages.CreateTempFile at → ChangedNothing whole handle begun
+
+      -- what is to be shown of it, beside its history
+      abbrev pub Parts : List ℕ → Onward → Type 0
+      Parts appended (Stage stage) =
+          IsFront w appended stage × (¬ (IsRename e.entry.change)) × MadeOnly whole handle begun w.objects (number_made stage)
+          × Holds first whole handle begun w.objects (number_made stage) (content_at w appended stage) × (turns + 1 + turns_left w stage ≤ 21 + pieces_of (length w.bytes))
+          × IsUntouched whole handle begun (number_made stage) × HadTurns w (turns + 1) stage
+      Parts appended (End (Ok id)) = HasWritten first whole handle begun w id
+      Parts appended (End (Err refusal)) =
+          (¬ (IsRename e.entry.change)) × IsUntouchedAt refusal × ((made : Option ℕ) × MadeOnly whole handle begun w.objects made
+          × ((made ≡ None) ⊎ ((number : ℕ) × (place : ℕ) × (made ≡ Some number) × (length whole ≡ place + 1) × ((a : DiskAnswer) × AskedAt first whole handle place (asks.Remove (temp_path w.objects number)) a))))
+
+      pub goes : RenamedNothing events handle begun → (appended : List ℕ) (onward : Onward) → IsHistoryOnward head Named ⊥ Counted appended onward longer → Parts appended onward → Goes onward
+      goes unnamed appended (Stage stage) history parts =
+          record {
+            past = longer;
+            appended = appended;
+            history = history;
+            front = parts.0;
+            asked = all_asked;
+            unnamed = each_turn_push events e handle begun _ unnamed (λ turn. parts.1);
+            made = parts.2;
+            holds = parts.3;
+            time = parts.4;
+            untouched = parts.5;
+            had = parts.6;
+          }
+      goes unnamed appended (End (Ok id)) history parts = parts
+      goes unnamed appended (End (Err refusal)) history parts =
+          record {
+            unnamed = each_turn_push events e handle begun _ unnamed (λ turn. parts.0);
+            untouched = parts.1;
+            made = parts.2.0;
+            makes = parts.2.1;
+            cleared = parts.2.2;
+            cause = cause_now refusal (refused_cause head Named ⊥ Counted refusal longer history);
+          }
+
+    -- a file of the write's own after its own call
+    pub own_holds : (path : Path) (bytes more : List ℕ) → ((s : Path) → HasFile before path s bytes 0 → HasFile now path s more 0) → HoldsFile first events handle begun path bytes → HoldsFile first whole handle begun path more
+    own_holds path bytes more step h =
+        record {
+          made = h.made;
+          later = h.later;
+          makes = asked_at_kept first events e handle h.made _ _ h.makes;
+          holds = λ alone.
+              let old = h.holds (alone_before first events e handle path (h.made + 1) (length whole) (omega (arith, whole_length first events e)) alone) in
+              (old.0, subst (λ n. HasFile (tree_at first whole n) path old.0 more 0) (sym (whole_length first events e)) (step old.0 old.1));
+        }
+
+    -- an append to it
+    pub appended_holds : (path : Path) (bytes more : List ℕ) → Made disk ask (change_of_append (tree_of disk.state) path more) → HoldsFile first events handle begun path bytes → HoldsFile first whole handle begun path (bytes ++ more)
+    appended_holds path bytes more m =
+        own_holds path bytes (bytes ++ more)
+        (λ s has. subst (λ t. HasFile t path s (bytes ++ more) 0) (sym (now_changed m.change m.made)) (has_more before is_tree path s bytes 0 has more m.change (subst (λ t. change_of_append t path more ≡ Ok m.change) before_is m.is)))
+
+    -- a directory that is made
+    pub foldered_holds : (path folder : Path) (bytes : List ℕ) → Made disk ask (change_of_make_dir (tree_of disk.state) folder) → HoldsFile first events handle begun path bytes → HoldsFile first whole handle begun path bytes
+    foldered_holds path folder bytes m =
+        own_holds path bytes bytes
+        (λ s has.
+        let c = make_dir_change before folder m.change (subst (λ t. change_of_make_dir t folder ≡ Ok m.change) before_is m.is) in
+        subst (λ t. HasFile t path s bytes 0) (sym (now_changed m.change m.made))
+        (subst (λ d. HasFile (changed before d) path s bytes 0) (sym c.2)
+        (has_file_kept before (changed before (MakeDir c.0 _)) path s bytes 0 (kept_by_make_dir before is_tree path s bytes 0 has folder c.0 _ c.1) has)))
+
+    -- a call that changed nothing
+    pub same_holds : (path : Path) (bytes : List ℕ) → change_by disk ask ≡ None → HoldsFile first events handle begun path bytes → HoldsFile first whole handle begun path bytes
+    same_holds path bytes none = own_holds path bytes bytes (λ s has. subst (λ t. HasFile t path s bytes 0) (sym (now_same none)) has)
+
+    -- the making of it
+    pub new_holds : (path : Path) → ask ≡ asks.NewFile path → answer ≡ answers.Done → Made disk ask (change_of_new_file (tree_of disk.state) path) → HoldsFile first whole handle begun path []
+    new_holds path asks_it done m =
+        record {
+          made = length events;
+          later = since;
+          makes = subst (λ a. AskedAt first whole handle (length events) a answers.Done) asks_it (subst (λ a. AskedAt first whole handle (length events) ask a) done own);
+          holds = λ alone.
+              let new = has_new_file before is_tree path m.change (subst (λ t. change_of_new_file t path ≡ Ok m.change) before_is m.is) in
+              (new.0, subst (λ n. HasFile (tree_at first whole n) path new.0 [] 0) (sym (whole_length first events e)) (subst (λ t. HasFile t path new.0 [] 0) (sym (now_changed m.change m.made)) new.1));
+        }
+
+    -- a change that is none is no rename and makes no file
+    pub no_rename : change_by disk ask ≡ None → ¬ (IsRename e.entry.change)
+    no_rename none renames = subst IsRename (is.change ∙ none) renames
+
+    pub no_file : change_by disk ask ≡ None → ¬ (IsNewFile e.entry.change)
+    no_file none makes = subst IsNewFile (is.change ∙ none) makes
+
+    pub made_same : (number : Option ℕ) → ¬ (IsNewFile e.entry.change) → MadeOnly events handle begun w.objects number → MadeOnly whole handle begun w.objects number
+    made_same number none old = each_turn_push events e handle begun _ old (λ turn makes. absurd (none makes))
+
+  -- what is left where the file is to be removed
+  pub cleared : (ask : DiskAsk) (is : IsTurnWith first events e handle ask) (answer : DiskAnswer) (given : answer ≡ answer_now disk ask) (past : List Exchange) (asked : (x : Exchange) → Contains past x → AskedSince first events handle begun x.ask x.answer)
+      → (appended : List ℕ) (number : ℕ) (refusal : Refusal) → ¬ (IsRename e.entry.change) → ¬ (IsNewFile e.entry.change) → MadeOnly events handle begun w.objects (Some number) → turns + 2 ≤ 21 + pieces_of (length w.bytes)
+      → Parts ask is answer given past asked appended (Stage (stages.Removing number refusal))
+  cleared ask is answer given past asked appended number refusal unmoved unmade made time = (tt, unmoved, made_same ask is answer given (Some number) unmade made, tt, omega (arith, time), tt, tt)

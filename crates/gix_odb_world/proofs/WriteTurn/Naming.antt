@@ -1,0 +1,190 @@
+-- The turns in which a write makes the directory of its object, gives the name, or removes its file.
+use Rattle.std.proofs.Common.{◌≡◌, ◌≢◌, ℕ, ◌+◌, ◌≤◌, false, List, [], ◌∷◌, ◌++◌, length, Option, Some, None, Ok, Err, refl, sym, ap, ◌∙◌, subst, arith, inr}
+use Rattle.odb_base.specs.Path.{Path}
+use Rattle.odb_disk.specs.Ask.{answer_now}
+use Rattle.odb_disk.specs.MemDisk.{Volume}
+use Rattle.odb_tree.specs.Tree.{Tree, tree_of}
+use Rattle.odb_tree.specs.Tree.Change.{changed}
+use Rattle.odb_tree.specs.Tree.Follow.{read_of}
+use Rattle.odb_tree.specs.Tree.Way.{crosses}
+use Rattle.odb_tree.specs.Tree.Write.{change_of_make_dir, change_of_remove, change_of_rename}
+use Rattle.odb_disk.specs.declared.ask.DiskAnswer.{DiskAnswer}
+use Rattle.odb_disk.specs.declared.ask.DiskAnswer.TheVariants as answers
+use Rattle.odb_disk.specs.declared.ask.DiskAsk.{DiskAsk}
+use Rattle.odb_disk.specs.declared.ask.DiskAsk.TheVariants as asks
+use Rattle.odb_tree.specs.declared.change.Change.{Change}
+use Rattle.odb_tree.specs.declared.change.Change.TheVariants.{MakeDir, Rename, Remove}
+use Rattle.odb_tree.specs.declared.disk_error.DiskError.TheVariants as disk_errors
+use Rattle.odb_tree.proofs.OwnFileLaws.{moved_reads, moves_file}
+use Rattle.odb_tree.proofs.WayWriteLaws.{make_dir_change, remove_change, rename_change}
+use Rattle.gix_hash.specs.declared.object_id.ObjectId.{ObjectId}
+use Rattle.gix_object.specs.Loose.{header_of}
+use Rattle.gix_odb_loose.specs.LooseFile.{loose_path}
+use Rattle.gix_odb_loose.specs.WriteOrder.{next_write, prefix_path, refused_by, temp_path}
+use Rattle.gix_odb_loose.specs.WriteStreams.{OtherLength}
+use Rattle.gix_odb_loose.specs.declared.write_order.Onward.{Onward}
+use Rattle.gix_odb_loose.specs.declared.write_order.Onward.TheVariants.{Stage, End}
+use Rattle.gix_odb_loose.specs.declared.write_order.Refusal.{Refusal}
+use Rattle.gix_odb_loose.specs.declared.write_order.Refusal.TheVariants as refusals
+use Rattle.gix_odb_loose.specs.declared.write_order.WriteHead.{WriteHead}
+use Rattle.gix_odb_loose.specs.declared.write_order.WriteStage.TheVariants as stages
+use Rattle.gix_odb_world.specs.Event.{Event}
+use Rattle.gix_odb_world.specs.Run.{change_by, disk_after, tree_at}
+use Rattle.gix_odb_world.specs.Running.Write.{StandsAt}
+use Rattle.gix_odb_world.specs.Writing.{ChangedNothing, IsNewFile, IsRename, ToWrite, head_to_write, name_to_write}
+use Rattle.gix_odb_world.specs.Written.{HasWritten}
+use Rattle.gix_odb_world.proofs.RunLemmas.{tree_at-before}
+use Rattle.gix_odb_world.proofs.WriteAsk.{change_by-all, done_made, told_make_dir, told_remove, told_rename, undone_made}
+use Rattle.gix_odb_world.proofs.WriteKept.{alone_before, asked_at_kept, whole_length}
+use Rattle.gix_odb_world.proofs.WriteTurn.Common.{IsTurnWith, made_before_removal, before_is, is_tree, now_changed, own, Parts, foldered_holds, same_holds, no_rename, no_file, made_same, cleared}
+
+module _ (first : Volume) (events : List Event) (e : Event) (handle begun turns : ℕ) (w : ToWrite) (since : begun ≤ length events) where
+  abbrev whole : List Event
+  whole = events ++ e ∷ []
+
+  abbrev disk : Volume
+  disk = disk_after first events
+
+  abbrev before : Tree
+  before = tree_at first events (length events)
+
+  abbrev head : WriteHead
+  head = head_to_write w
+
+  abbrev Named : ObjectId → Type 0
+  Named id = id ≡ name_to_write w
+
+  abbrev Counted : ℕ → Type 0
+  Counted n = OtherLength (Some w.bytes) w.size n
+
+  module _ (number : ℕ) where
+    abbrev path : Path
+    path = temp_path w.objects number
+
+    module _ (id : ObjectId) where
+      abbrev folder : Path
+      folder = prefix_path w.objects id
+
+      -- the directory of the object
+      module _ (s : StandsAt first events handle begun turns w (stages.Foldering number id)) (is : IsTurnWith first events e handle (asks.MakeDir folder)) where
+        abbrev FolderingParts : (answer : DiskAnswer) → answer ≡ answer_now disk (asks.MakeDir folder) → Onward → Type 0
+        FolderingParts answer given onward = Parts first events e handle begun turns w since (asks.MakeDir folder) is answer given s.past s.asked s.appended onward
+
+        unfolded : answers.Done ≢ answer_now disk (asks.MakeDir folder) → change_by disk (asks.MakeDir folder) ≡ None
+        unfolded undone = undone_made disk (asks.MakeDir folder) (change_of_make_dir (tree_of disk.state) folder) (told_make_dir (tree_of disk.state) folder) undone
+
+        unfoldered : (answer : DiskAnswer) (given : answer ≡ answer_now disk (asks.MakeDir folder)) (refusal : Refusal) → answers.Done ≢ answer → FolderingParts answer given (Stage (stages.Removing number refusal))
+        unfoldered answer given refusal undone =
+            let none = unfolded (λ d. undone (d ∙ sym given)) in
+            cleared first events e handle begun turns w since (asks.MakeDir folder) is answer given s.past s.asked s.appended number refusal (no_rename first events e handle begun turns w since (asks.MakeDir folder) is answer given none) (no_file first events e handle begun turns w since (asks.MakeDir folder) is answer given none) s.made (omega (arith, s.time))
+
+        pub foldering : (answer : DiskAnswer) (given : answer ≡ answer_now disk (asks.MakeDir folder)) → FolderingParts answer given (next_write head.size 0 (stages.Foldering number id) answer)
+        foldering answers.Done given =
+            let m = done_made disk (asks.MakeDir folder) (change_of_make_dir (tree_of disk.state) folder) (told_make_dir (tree_of disk.state) folder) given in
+            let c = make_dir_change (tree_of disk.state) folder m.change m.is in
+            let change_is : e.entry.change ≡ Some (MakeDir c.0 _) = is.change ∙ (m.made ∙ ap Some c.2) in (
+              s.front,
+              λ renames. subst IsRename change_is renames,
+              made_same first events e handle begun turns w since (asks.MakeDir folder) is answers.Done given (Some number) (λ makes. subst IsNewFile change_is makes) s.made,
+              foldered_holds first events e handle begun turns w since (asks.MakeDir folder) is answers.Done given path folder (header_of w.kind w.size ++ s.appended) m s.holds,
+              omega (arith, s.time),
+              tt,
+              omega (arith, s.had),
+            )
+        foldering (answers.Refused disk_errors.Exists) given =
+            let none = unfolded (λ d. cc (d, given)) in (
+              s.front,
+              no_rename first events e handle begun turns w since (asks.MakeDir folder) is _ given none,
+              made_same first events e handle begun turns w since (asks.MakeDir folder) is _ given (Some number) (no_file first events e handle begun turns w since (asks.MakeDir folder) is _ given none) s.made,
+              same_holds first events e handle begun turns w since (asks.MakeDir folder) is _ given path (header_of w.kind w.size ++ s.appended) none s.holds,
+              omega (arith, s.time),
+              tt,
+              omega (arith, s.had),
+            )
+        foldering (answers.Meta meta) given = unfoldered (answers.Meta meta) given refusals.IoRaw (λ d. cc d)
+        foldering (answers.Dir dir) given = unfoldered (answers.Dir dir) given refusals.IoRaw (λ d. cc d)
+        foldering (answers.Entry entry) given = unfoldered (answers.Entry entry) given refusals.IoRaw (λ d. cc d)
+        foldering answers.End given = unfoldered answers.End given refusals.IoRaw (λ d. cc d)
+        foldering (answers.File bytes time) given = unfoldered (answers.File bytes time) given refusals.IoRaw (λ d. cc d)
+        foldering (answers.Refused disk_errors.Absent) given = unfoldered (answers.Refused disk_errors.Absent) given refusals.IoRaw (λ d. cc d)
+        foldering (answers.Refused disk_errors.WrongKind) given = unfoldered (answers.Refused disk_errors.WrongKind) given refusals.IoRaw (λ d. cc d)
+        foldering (answers.Refused disk_errors.LinkLoop) given = unfoldered (answers.Refused disk_errors.LinkLoop) given refusals.IoRaw (λ d. cc d)
+        foldering (answers.Refused disk_errors.NotEmpty) given = unfoldered (answers.Refused disk_errors.NotEmpty) given refusals.IoRaw (λ d. cc d)
+        foldering (answers.Refused disk_errors.Failed) given = unfoldered (answers.Refused disk_errors.Failed) given refusals.IoRaw (λ d. cc d)
+        foldering (answers.Refused disk_errors.NoMemory) given = unfoldered (answers.Refused disk_errors.NoMemory) given refusals.NoMemory (λ d. cc d)
+
+      -- the name of the object
+      abbrev name_path : Path
+      name_path = loose_path w.objects id
+
+      module _ (s : StandsAt first events handle begun turns w (stages.Moving number id)) (is : IsTurnWith first events e handle (asks.Rename path name_path)) where
+        abbrev MovingParts : (answer : DiskAnswer) → answer ≡ answer_now disk (asks.Rename path name_path) → Onward → Type 0
+        MovingParts answer given onward = Parts first events e handle begun turns w since (asks.Rename path name_path) is answer given s.past s.asked s.appended onward
+
+        unmoved : (answer : DiskAnswer) (given : answer ≡ answer_now disk (asks.Rename path name_path)) (refusal : Refusal) → answers.Done ≢ answer → MovingParts answer given (Stage (stages.Removing number refusal))
+        unmoved answer given refusal undone =
+            let none = undone_made disk (asks.Rename path name_path) (change_of_rename (tree_of disk.state) path name_path) (told_rename (tree_of disk.state) path name_path) (λ d. undone (d ∙ sym given)) in
+            cleared first events e handle begun turns w since (asks.Rename path name_path) is answer given s.past s.asked s.appended number refusal (no_rename first events e handle begun turns w since (asks.Rename path name_path) is answer given none) (no_file first events e handle begun turns w since (asks.Rename path name_path) is answer given none) s.made (omega (arith, s.time))
+
+        moved : (given : answers.Done ≡ answer_now disk (asks.Rename path name_path)) → HasWritten first whole handle begun w id
+        moved given =
+            let ask : DiskAsk = asks.Rename path name_path in
+            let m = done_made disk ask (change_of_rename (tree_of disk.state) path name_path) (told_rename (tree_of disk.state) path name_path) given in
+            let done : change_of_rename before path name_path ≡ Ok m.change = subst (λ t. change_of_rename t path name_path ≡ Ok m.change) (before_is first events e handle begun turns w since) m.is in
+            let c = rename_change before path m.change name_path done in
+            let h = s.holds in
+            let content : header_of w.kind w.size ++ s.appended ≡ header_of w.kind w.size ++ w.bytes = ap (λ xs. header_of w.kind w.size ++ xs) s.front in
+            let there : before ≡ tree_at first whole (length events) = sym (tree_at-before first events e (length events) (omega arith)) in
+            record {
+              size = ap length (sym s.front) ∙ s.history.0;
+              name = s.history.1;
+              past = events;
+              last = e;
+              is = refl;
+              number = number;
+              made = h.made;
+              later = h.later;
+              makes = asked_at_kept first events e handle h.made _ _ h.makes;
+              source = c.0;
+              target = c.1;
+              renames = subst (λ t. change_of_rename t path name_path ≡ Ok (Rename c.0 c.1)) there (done ∙ ap Ok c.4);
+              change = is.change ∙ (m.made ∙ ap Some c.4);
+              only = s.unnamed;
+              reads = λ alone free.
+                  let has = h.holds (alone_before first events e handle path (h.made + 1) (length events) (omega arith) alone) in
+                  let f = moves_file before (is_tree first events e handle begun turns w since ask is answers.Done given) path has.0 (header_of w.kind w.size ++ s.appended) 0 has.1 name_path m.change done in
+                  let both : Rename has.0 f.0 ≡ Rename c.0 c.1 = sym f.2 ∙ c.4 in
+                  let target : f.0 ≡ c.1 = cc both in
+                  let free_here : crosses before name_path f.0 ≡ false = subst (λ t. crosses t name_path f.0 ≡ false) (sym there) (subst (λ p. crosses (tree_at first whole (length events)) name_path p ≡ false) (sym target) free) in
+                  let reads = moved_reads before (is_tree first events e handle begun turns w since ask is answers.Done given) path has.0 (header_of w.kind w.size ++ s.appended) 0 has.1 name_path f.0 (done ∙ ap Ok f.2) free_here in
+                  subst (λ t. read_of t name_path ≡ Ok (header_of w.kind w.size ++ w.bytes, 0)) (sym (now_changed first events e handle begun turns w since ask is answers.Done given m.change m.made))
+                  (subst (λ d. read_of (changed before d) name_path ≡ Ok (header_of w.kind w.size ++ w.bytes, 0)) (sym f.2)
+                  (reads ∙ ap (λ xs. Ok (xs, 0)) content));
+            }
+
+        pub moving : (answer : DiskAnswer) (given : answer ≡ answer_now disk (asks.Rename path name_path)) → MovingParts answer given (next_write head.size 0 (stages.Moving number id) answer)
+        moving answers.Done given = moved given
+        moving (answers.Meta meta) given = unmoved (answers.Meta meta) given (refusals.Persist id) (λ d. cc d)
+        moving (answers.Dir dir) given = unmoved (answers.Dir dir) given (refusals.Persist id) (λ d. cc d)
+        moving (answers.Entry entry) given = unmoved (answers.Entry entry) given (refusals.Persist id) (λ d. cc d)
+        moving answers.End given = unmoved answers.End given (refusals.Persist id) (λ d. cc d)
+        moving (answers.File bytes time) given = unmoved (answers.File bytes time) given (refusals.Persist id) (λ d. cc d)
+        moving (answers.Refused error) given = unmoved (answers.Refused error) given (refused_by (refusals.Persist id) (answers.Refused error)) (λ d. cc d)
+
+    -- the removal
+    pub removing : (refusal : Refusal) (s : StandsAt first events handle begun turns w (stages.Removing number refusal)) (is : IsTurnWith first events e handle (asks.Remove path)) (answer : DiskAnswer) (given : answer ≡ answer_now disk (asks.Remove path))
+        → Parts first events e handle begun turns w since (asks.Remove path) is answer given s.past s.asked s.appended (End (Err refusal))
+    removing refusal s is answer given =
+        let never : (P : Option Change → Type 0) → P None → ((s' : Path) → P (Some (Remove s'))) → P e.entry.change =
+        λ P none some.
+        subst P (sym is.change)
+        (change_by-all disk (asks.Remove path) (change_of_remove (tree_of disk.state) path) (told_remove (tree_of disk.state) path) P none
+        (λ change told. let c = remove_change (tree_of disk.state) path change told in subst (λ d. P (Some d)) (sym c.2) (some c.0))) in (
+          never (λ c. ¬ (IsRename c)) (λ r. r) (λ s' r. r),
+          λ at same. made_before_removal head Named Counted number refusal s.past at s.history same (ChangedNothing whole handle begun),
+          (
+            Some number,
+            made_same first events e handle begun turns w since (asks.Remove path) is answer given (Some number) (never (λ c. ¬ (IsNewFile c)) (λ r. r) (λ s' r. r)) s.made,
+            inr (number, length events, refl, whole_length first events e, (answer, own first events e handle begun turns w since (asks.Remove path) is answer given)),
+          ),
+        )

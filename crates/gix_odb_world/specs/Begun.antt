@@ -1,0 +1,79 @@
+-- From which steps a handle has its task, its store and its mode.
+use Rattle.std.specs.Prelude.{◌≡◌, ◌↔◌, ℕ, ◌+◌, ◌≤◌, Bool, true, List, slice_get, Some}
+use Rattle.odb_base.specs.Path.{Path}
+use Rattle.gix_hash.specs.declared.object_id.ObjectId.{ObjectId}
+use Rattle.gix_odb.specs.declared.call.Call.{Call}
+use Rattle.gix_odb.specs.declared.init.Options.{Options}
+use Rattle.gix_odb.specs.declared.init.Slots.TheVariants.{Given}
+use Rattle.gix_odb_world.specs.declared.step.Step.{Step}
+use Rattle.gix_odb_world.specs.declared.step.Step.TheVariants as steps
+use Rattle.gix_odb_world.specs.declared.step.Outcome.TheVariants as outcomes
+use Rattle.gix_odb_world.specs.Event.{Event}
+use Rattle.gix_odb_world.specs.Status.{MakeCall, OpenStore, Store, Task}
+
+-- the event that has the number `begun` started a call on a handle
+pub record BegunBy (events : List Event) (handle begun : ℕ) (call : Call) : Type 0 where
+  pub place : ℕ
+  pub number : begun ≡ place + 1
+  pub event : Event
+  pub there : slice_get events place ≡ Some event
+  pub starts : event.step ≡ steps.Start handle call
+
+-- the event that has the number `begun` is the open step of a store under a handle's number
+pub record OpenedBy (events : List Event) (handle begun : ℕ) (store : Store) : Type 0 where
+  pub place : ℕ
+  pub number : begun ≡ place + 1
+  pub event : Event
+  pub there : slice_get events place ≡ Some event
+  pub path : Path
+  pub folders : List Path
+  pub replacements : List (ObjectId × ObjectId)
+  pub options : Options
+  pub opens : event.step ≡ steps.Open handle path folders replacements options
+  -- the store has what the step handed in
+  pub slots : options.slots ≡ Given store.slots
+  pub parts : store.parts ≡ record { objects = path; folders = folders; replacements = replacements; limit = options.alloc_limit_bytes }
+
+-- a store is that of an open step of this handle
+abbrev pub IsOpenStore : List Event → ℕ → Store → Type 0
+IsOpenStore events handle store = OpenedBy events handle store.opened store
+
+-- The event that has the number `begun` set a task: it is the open step of the store, or the start of the call.
+abbrev pub BegunAs : List Event → (handle begun : ℕ) → Store → Task → Type 0
+BegunAs events handle begun store OpenStore = OpenedBy events handle begun store
+BegunAs events handle begun store (MakeCall call) = BegunBy events handle begun call
+
+-- ---- the latest steps of a handle
+
+abbrev pub IsOpenOf : (handle : ℕ) → Step → Type 0
+IsOpenOf handle (steps.Open other path folders replacements options) = other ≡ handle
+IsOpenOf handle step = ⊥
+
+-- a step that sets a task of a handle: it opens a store, or starts a call
+abbrev pub IsTaskOf : (handle : ℕ) → Step → Type 0
+IsTaskOf handle (steps.Open other path folders replacements options) = other ≡ handle
+IsTaskOf handle (steps.Start other call) = other ≡ handle
+IsTaskOf handle step = ⊥
+
+abbrev pub IsIgnoreOf : (handle : ℕ) → Step → Type 0
+IsIgnoreOf handle (steps.Ignore other) = other ≡ handle
+IsIgnoreOf handle step = ⊥
+
+-- No such step was applied after the event that has a number. (Events are numbered from 1.)
+abbrev pub NoneSince : (Step → Type 0) → List Event → (number : ℕ) → Type 0
+NoneSince P events number = (place : ℕ) (e : Event) → number ≤ place → slice_get events place ≡ Some e → e.outcome ≡ outcomes.Applied → ¬ (P e.step)
+
+-- such a step was applied after the event that has a number
+pub record AppliedSince (P : Step → Type 0) (events : List Event) (number : ℕ) : Type 0 where
+  pub place : ℕ
+  pub later : number ≤ place
+  pub event : Event
+  pub there : slice_get events place ≡ Some event
+  pub applied : event.outcome ≡ outcomes.Applied
+  pub step : P event.step
+
+-- A store is that of the latest open step of a handle, and the mode is that of the `Ignore` steps since.
+pub record HoldsStore (events : List Event) (handle : ℕ) (store : Store) (ignoring : Bool) : Type 0 where
+  pub step : IsOpenStore events handle store
+  pub latest : NoneSince (IsOpenOf handle) events store.opened
+  pub mode : (ignoring ≡ true) ↔ AppliedSince (IsIgnoreOf handle) events store.opened
