@@ -102,11 +102,14 @@ fn told_by_disk(alloc: Global, meta: Meta) -> Result<String, AllocError> {
     told(alloc, meta.dev, meta.ino, meta.time)
 }
 
+/// How many nanoseconds a second has.
+const NANOSECONDS_IN_SECOND: u64 = 1_000_000_000;
+
 fn told_by_std(alloc: Global, metadata: &Metadata) -> Result<String, Fail> {
     let seconds = u64::try_from(metadata.mtime())?;
     let nanoseconds = u64::try_from(metadata.mtime_nsec())?;
     let time = seconds
-        .saturating_mul(1_000_000_000)
+        .saturating_mul(NANOSECONDS_IN_SECOND)
         .saturating_add(nanoseconds);
     Ok(told(alloc, metadata.dev(), metadata.ino(), time)?)
 }

@@ -1,3 +1,4 @@
+-- Lemmas of this crate; callers may cite those that are public.
 mod PathLemmas
 mod JoinedPathLemmas
 mod PathHeadLemmas

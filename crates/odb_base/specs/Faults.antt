@@ -1,9 +1,13 @@
--- Counts of faults, and what an answer says of them. A count is kept in 64 bits, and stands still at the greatest.
+-- Counts of faults, and what an answer says of them. A count stands still at its greatest value.
 use Rattle.std.specs.Prelude.{ℕ, ◌+◌, ◌-◌, ◌^◌, ◌≤◌, min, Result, OnErr}
+
+-- the greatest count, since one is kept in 64 bits
+abbrev pub greatest_count : ℕ
+greatest_count = 2 ^ 64 - 1
 
 -- the count after one fault more
 abbrev pub risen : ℕ → ℕ
-risen count = min (count + 1) (2 ^ 64 - 1)
+risen count = min (count + 1) greatest_count
 
 -- the count rose in between, or stands at its greatest value
 abbrev pub Rose : ℕ → ℕ → Type 0

@@ -2,15 +2,15 @@
 use Rattle.std.specs.Prelude.{◌≡◌, ℕ, ◌==◌, true, false, List, ◌∷◌, ◌++◌, drop, Option, Some, None, if◌then◌else◌, map}
 use Rattle.std.specs.List.{slice_split, list_all, flat_map, starts_with}
 use Rattle.std.specs.Int.{w64, from_be_bytes}
-use Rattle.odb_base.specs.Path.{Path, is_name, same_name}
+use Rattle.odb_base.specs.Path.{Path, is_name, nul, same_name, slash}
 
 -- the text of a path's names
 unfoldable pub joined : Path → List ℕ
-joined path = flat_map (λ name. 0 ∷ name) path
+joined path = flat_map (λ name. nul ∷ name) path
 
 -- the names in a text
 unfoldable pub names_joined : List ℕ → Path
-names_joined text = drop 1 (slice_split (λ b. b == 0) text)
+names_joined text = drop 1 (slice_split (λ b. b == nul) text)
 
 -- a text that is a path's
 pub record IsJoined (text : List ℕ) : Type 0 where
@@ -23,7 +23,7 @@ head_of text = from_be_bytes w64 text
 
 -- a text with a slash in the place of each NUL
 unfoldable pub slashed : List ℕ → List ℕ
-slashed text = map (λ b. if b == 0 then 47 else b) text
+slashed text = map (λ b. if b == nul then slash else b) text
 
 -- what stands in a path's text behind that of another: the text of the names that the other lacks
 abbrev pub IsBehind : Path → Path → Option (List ℕ) → Type 0

@@ -13,6 +13,18 @@ Name = List ℕ
 abbrev pub Path : Type 0
 Path = List Name
 
+-- the byte before each name in a path's text: `/`
+abbrev pub slash : ℕ
+slash = 47
+
+-- the byte before an extension: `.`
+abbrev pub dot : ℕ
+dot = 46
+
+-- the byte that ends a text of the system, so that no name has it
+abbrev pub nul : ℕ
+nul = 0
+
 -- whether two names have the same bytes
 abbrev pub same_name : Name → Name → Bool
 same_name = pointwise nat_eq
@@ -20,7 +32,7 @@ same_name = pointwise nat_eq
 -- whether bytes are a name: not empty, not `.` or `..`, and without NUL and `/`
 unfoldable pub is_name : Name → Bool
 is_name name =
-    not (same_name name [] || same_name name (codes ".") || same_name name (codes "..") || list_any (λ b. b == 0) name || list_any (λ b. b == 47) name)
+    not (same_name name [] || same_name name (codes ".") || same_name name (codes "..") || list_any (λ b. b == nul) name || list_any (λ b. b == slash) name)
 
 -- the order of names, by their bytes; that of paths, name by name
 abbrev pub name_cmp : Name → Name → Ordering
@@ -32,7 +44,7 @@ path_cmp = slice_cmp name_cmp
 -- the text of a path: a slash before each name, and `/` for the root
 unfoldable pub text_of : Path → List ℕ
 text_of [] = codes "/"
-text_of (name ∷ names) = flat_map (λ n. 47 ∷ n) (name ∷ names)
+text_of (name ∷ names) = flat_map (λ n. slash ∷ n) (name ∷ names)
 
 -- the names that stand between slashes after the first one; nothing after it is the root
 unfoldable pub named : List Name → Option Path
@@ -48,7 +60,7 @@ rooted ((b ∷ bytes) ∷ names) = None
 
 -- the path that a text spells, if it spells one
 unfoldable pub path_of : List ℕ → Option Path
-path_of text = rooted (slice_split (λ b. b == 47) text)
+path_of text = rooted (slice_split (λ b. b == slash) text)
 
 -- the directory that a path lies in, by its names; the root lies in none
 unfoldable pub parent_of : Path → Option Path
@@ -63,11 +75,11 @@ last_name (name ∷ other ∷ names) = last_name (other ∷ names)
 -- whether a dot stands behind the first byte
 unfoldable pub has_extension : Name → Bool
 has_extension [] = false
-has_extension (first ∷ rest) = list_any (λ b. b == 46) rest
+has_extension (first ∷ rest) = list_any (λ b. b == dot) rest
 
 -- what follows the last dot, unless there is none or the only one comes first
 unfoldable pub extension_of : Name → Option (List ℕ)
-extension_of name = if has_extension name then Some (after_last (λ b. b == 46) name) else None
+extension_of name = if has_extension name then Some (after_last (λ b. b == dot) name) else None
 
 -- both lists of names go on with this one, or don't go on alike
 abbrev pub HasSameFirst : List Name → List Name → Option Name → Type 0

@@ -1,8 +1,9 @@
+//! The error of texts that are no paths.
 ghost use Rattle.std.specs.Prelude.{◌≡◌};
 ghost use Rattle.odb_base.specs.declared.bad_path.BadPath.TheVariants.{NoMemory as out_of_memory};
 
 use crate::NoMemory;
-use std::alloc::{AllocError, AllocFailed};
+use std::alloc::AllocError;
 use thiserror::Error;
 
 /// Why a text is no path.
@@ -27,14 +28,6 @@ impl From<AllocError> for BadPath {
     ghost from_gives = { λ _ e. e ≡ out_of_memory };
 
     fn from(_: AllocError) -> Self {
-        BadPath::NoMemory
-    }
-}
-
-impl<T: Drop> From<AllocFailed<T>> for BadPath {
-    ghost from_gives = { λ _ e. e ≡ out_of_memory };
-
-    fn from(_: AllocFailed<T>) -> Self {
         BadPath::NoMemory
     }
 }

@@ -1,3 +1,4 @@
+//! Lists of bytes.
 ghost use Rattle.std.specs.Prelude.{◌≡◌, ◌==◌, ◌↔◌, List, ℕ, [], ◌∷◌, ◌++◌, length, IfOk, OnOk, OnErr, IsTrue, nat_eq, slice_get};
 ghost use Rattle.std.specs.Cmp.Lexicographic.{nat_list_eq_equiv};
 ghost use Rattle.std.specs.Cmp.{partial_equiv_from_equiv};

@@ -1,3 +1,4 @@
+//! Decimal numbers, read of texts.
 ghost use Rattle.std.specs.Prelude.{◌≡◌, ◌&&◌, ◌==◌, ◌^◌, ◌<◌, ℕ, IfSome, Some, not, slice_index};
 ghost use Rattle.std.specs.Fmt.{decimal};
 ghost use Rattle.odb_base.specs.Decimal.{has_no_leading_zero, number_of};
@@ -15,7 +16,7 @@ pub fn parse_decimal(text: &str) -> Option<u64>
     }
 }
 
-// Whether a text has neither a plus nor a leading zero, which `parse` takes too.
+/// Whether a text has neither a plus nor a leading zero, which `parse` takes too.
 fn is_plain(text: &[u8]) -> bool
     ensures plain { result ≡ (has_no_leading_zero text.now && not (slice_index text.now 0 == 43)) }
 {

@@ -1,3 +1,4 @@
+//! The error for want of memory.
 use std::alloc::{AllocError, AllocFailed};
 use thiserror::Error;
 

@@ -1,8 +1,9 @@
+//! Paths: how they are read, written, joined, taken apart and ordered.
 ghost use Rattle.std.specs.Prelude.{◌≡◌, ◌↔◌, ◌==◌, false, map, drop, [], ◌∷◌, ◌++◌, IfOk, OnOk, IfSome, IsTrue, IsErrOf, None, Some};
 ghost use Rattle.std.specs.Option.{option_copied};
 ghost use Rattle.std.specs.List.{slice_split, list_all, starts_with};
 ghost use Rattle.std.specs.String.{string_bytes};
-ghost use Rattle.odb_base.specs.Path.{HasSameFirst};
+ghost use Rattle.odb_base.specs.Path.{HasSameFirst, nul, slash};
 ghost use Rattle.odb_base.specs.JoinedPath.{joined, slashed, head_of};
 
 use crate::path_name::{extension_in, is_name};
@@ -329,7 +330,7 @@ fn head_of(text: &str) -> u64
 
 /// Puts a name behind the text of a path.
 fn push_name(joined: &mut String, name: &str) -> Result<(), AllocError>
-    ensures pushed { OnOk result (string_bytes joined.new ≡ string_bytes joined.old ++ 0 ∷ name.now) }
+    ensures pushed { OnOk result (string_bytes joined.new ≡ string_bytes joined.old ++ nul ∷ name.now) }
 {
     joined.push('\0')?;
     joined.push_str(name)
@@ -337,14 +338,14 @@ fn push_name(joined: &mut String, name: &str) -> Result<(), AllocError>
 
 /// The parts of a text between slashes.
 fn parts_of<'a>(alloc: Global, text: &'a str) -> Result<Vec<&'a str>, AllocError>
-    ensures parts { IfOk result (λ parts. map (λ part. part.now) parts.items ≡ slice_split (λ b. b == 47) text.now) }
+    ensures parts { IfOk result (λ parts. map (λ part. part.now) parts.items ≡ slice_split (λ b. b == slash) text.now) }
 {
     text.split('/').collect(alloc)
 }
 
 /// The names of a text in which NULs stand between them.
 fn names_in<'a>(alloc: Global, text: &'a str) -> Result<Vec<&'a str>, AllocError>
-    ensures names { IfOk result (λ names. map (λ name. name.now) names.items ≡ slice_split (λ b. b == 0) text.now) }
+    ensures names { IfOk result (λ names. map (λ name. name.now) names.items ≡ slice_split (λ b. b == nul) text.now) }
 {
     text.split('\0').collect(alloc)
 }

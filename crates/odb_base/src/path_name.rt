@@ -1,3 +1,4 @@
+//! Names of paths.
 ghost use Rattle.std.specs.Prelude.{◌≡◌, IfOk};
 ghost use Rattle.std.specs.Option.{option_copied};
 ghost use Rattle.odb_base.specs.Path.{is_name, extension_of};

@@ -1,3 +1,4 @@
+//! Lists of items.
 ghost use Rattle.std.specs.Prelude.{◌≡◌, ◌↔◌, List, [], ◌∷◌, ◌++◌, length, slice_get, OnOk, OnErr, IfErr, IsTrue};
 ghost use Rattle.std.specs.Option.{option_copied};
 

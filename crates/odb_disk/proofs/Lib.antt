@@ -1,3 +1,4 @@
+-- Lemmas of this crate; callers may cite those that are public.
 pub mod MemDiskLemmas
 mod AskLemmas
 mod StreamAsksLemmas

@@ -51,7 +51,7 @@ pub record Written (before now : Option (List ℕ)) (bytes rest : List ℕ) : Ty
   pub added : Adds before now front
 
 Adds-nothing : (held : Option (List ℕ)) → Adds held held []
-Adds-nothing None = tt
+Adds-nothing None = refl
 Adds-nothing (Some held) = ap Some (sym (append-nil held))
 
 pub Written-nothing : (held : Option (List ℕ)) (bytes : List ℕ) → Written held held bytes bytes
@@ -59,13 +59,15 @@ Written-nothing held bytes = record { front = []; whole = refl; added = Adds-not
 
 -- a write that follows
 Adds-more : (before now next : Option (List ℕ)) (front rest : List ℕ) (n : ℕ) → Adds before now front → Writes now next rest (Ok n) → Adds before next (front ++ take n rest)
-Adds-more None now next front rest n added writes = tt
+Adds-more None now next front rest n added writes =
+    let P : Option (List ℕ) → Type 0 = λ o. Writes o next rest (Ok n) in subst P added writes
 Adds-more (Some held) now next front rest n added writes =
     let P : Option (List ℕ) → Type 0 = λ o. Writes o next rest (Ok n) in
     subst P added writes ∙ ap Some (append_assoc held front (take n rest))
 
 Adds-failed : (before now next : Option (List ℕ)) (front rest : List ℕ) (e : Failed) → Adds before now front → Writes now next rest (Err e) → Adds before next front
-Adds-failed None now next front rest e added writes = tt
+Adds-failed None now next front rest e added writes =
+    let P : Option (List ℕ) → Type 0 = λ o. Writes o next rest (Err e) in subst P added writes
 Adds-failed (Some held) now next front rest e added writes =
     let P : Option (List ℕ) → Type 0 = λ o. Writes o next rest (Err e) in subst P added writes
 

@@ -1,3 +1,4 @@
+-- What calls of a disk answer and do to its streams, on any disk and on one in memory; then sources and sinks.
 pub use Rattle.odb_base.specs.Faults
 pub mod Disk
 pub mod Streams

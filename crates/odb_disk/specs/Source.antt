@@ -23,12 +23,12 @@ Writes None now bytes result = now ≡ None
 Writes (Some held) now bytes (Ok n) = now ≡ Some (held ++ take n bytes)
 Writes (Some held) now bytes (Err failed) = now ≡ Some held
 
--- a sink that tells has these bytes behind what it held
+-- a sink has these bytes behind what it held, where it tells that; one that doesn't tell goes on not telling
 abbrev pub Adds : Option (List ℕ) → Option (List ℕ) → List ℕ → Type 0
-Adds None now bytes = Unit {0}
+Adds None now bytes = now ≡ None
 Adds (Some held) now bytes = now ≡ Some (held ++ bytes)
 
--- how many bytes of a file are asked for at a time
+-- How many bytes of a file are asked for at a time: as many as Linux's pipes hold, and few enough for the stack.
 abbrev pub piece_length : ℕ
 piece_length = 65_536
 

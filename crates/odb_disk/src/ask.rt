@@ -1,3 +1,4 @@
+//! Calls of a disk as values, and their answers.
 ghost use Rattle.std.specs.Prelude.{◌≡◌, ◌≤◌, false, Result, IfOk, IfSome};
 ghost use Rattle.std.specs.Option.{option_map};
 ghost use Rattle.std.specs.Result.{result_ok};

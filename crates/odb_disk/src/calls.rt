@@ -1,3 +1,4 @@
+//! How calls in memory are counted, and which of them fail.
 use crate::NoMemory;
 use std::alloc::Global;
 use std::collections::BTreeSet;

@@ -1,3 +1,4 @@
+//! The trait of a disk.
 ghost use Rattle.std.specs.Prelude.{◌≡◌, ℕ, Option, IfOk, IfSome, OnOk, OnErr};
 ghost use Rattle.odb_tree.specs.Tree.{IsTree, State, tree_of};
 ghost use Rattle.odb_tree.specs.Tree.Follow.{looked, read_of};

@@ -1,3 +1,4 @@
+//! A disk in memory.
 use crate::ask::{DiskAsk, change_of};
 use crate::calls::Calls;
 use crate::{

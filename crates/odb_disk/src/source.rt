@@ -1,3 +1,4 @@
+//! Sources and sinks: bytes that come in and go out, and both in memory.
 ghost use Rattle.std.specs.Prelude.{◌≡◌, ℕ, ◌≤◌, List, Option, length, take, IfOk, OnOk, OnErr, IsErrOf};
 ghost use Rattle.odb_base.specs.Faults.{HasCause, Rose};
 ghost use Rattle.odb_disk.specs.Source.{Reads, Writes, ReadsFile, Adds};
@@ -22,7 +23,7 @@ pub enum ReadError {
     NoMemory,
 }
 
-/// How many bytes are asked for at a time.
+/// How many bytes are asked for at a time: `piece_length` of `specs/Source.antt`.
 const PIECE: usize = 65_536;
 
 /// Bytes that come in. A source takes no memory.

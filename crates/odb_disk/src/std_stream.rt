@@ -1,11 +1,13 @@
+//! Sources and sinks over readers and writers of std.
 ghost use Rattle.std.specs.Prelude.{◌≡◌, ◌≤◌, length, None, IfOk, OnOk};
-ghost use Rattle.std.specs.Io.KnownBytes.{ReadConsumes};
-ghost use Rattle.odb_base.specs.Faults.{HasCause};
+ghost use Rattle.std.specs.Io.KnownBytes.{ReadConsumes, WriteAppends};
+ghost use Rattle.odb_base.specs.Faults.{HasCause, Rose};
 
 use crate::{Failed, Sink, Source};
 use std::io::{ErrorKind, Read, Write};
 
-/// How often a read or a write is tried that is interrupted each time.
+/// How often a read or a write is tried that is interrupted each time. One that is interrupted still fails, so that none
+/// goes on for ever.
 const TRIES: u32 = 1_000_000;
 
 /// A source over a reader of std. It doesn't tell its bytes; where the reader does, a read gives them in order, and
@@ -63,7 +65,7 @@ impl<R: Read> Source for StdSource<R> {
     }
 }
 
-/// A sink over a writer of std. It doesn't tell its bytes.
+/// A sink over a writer of std. It doesn't tell its bytes; where the writer does, a write adds what it takes at their end.
 #[derive(Drop)]
 pub struct StdSink<W> {
     inner: W,
@@ -92,6 +94,16 @@ impl<W: Write> StdSink<W> {
     {
         self.faults
     }
+
+    /// Counts a write that failed.
+    fn fault(&mut self) -> Failed
+        ensures inner { self.new.inner ≡ self.old.inner }
+        ensures later { self.old.faults ≤ self.new.faults }
+        ensures rose { Rose self.old.faults self.new.faults }
+    {
+        self.faults = self.faults.saturating_add(1);
+        Failed
+    }
 }
 
 impl<W: Write> Sink for StdSink<W> {
@@ -99,16 +111,20 @@ impl<W: Write> Sink for StdSink<W> {
 
     ghost faults = { λ s. s.faults };
 
-    fn write(&mut self, bytes: &[u8]) -> Result<usize, Failed> {
+    fn write(&mut self, bytes: &[u8]) -> Result<usize, Failed>
+        ensures count { IfOk result (λ n. n ≤ length bytes.now) }
+        ensures some { IfOk result (λ n. n ≡ 0 → length bytes.now ≡ 0) }
+        ensures known { WriteAppends (W.contents self.old.inner) (W.contents self.new.inner) result bytes.now }
+        ensures cause { HasCause self.old.faults self.new.faults result }
+    {
         for _ in 0..TRIES {
             match self.inner.write(bytes) {
-                Ok(0) if !bytes.is_empty() => break,
+                Ok(0) if !bytes.is_empty() => return Err(self.fault()),
                 Ok(count) => return Ok(count),
                 Err(e) if e.kind() == ErrorKind::Interrupted => {}
-                Err(_) => break,
+                Err(_) => return Err(self.fault()),
             }
         }
-        self.faults = self.faults.saturating_add(1);
-        Err(Failed)
+        Err(self.fault())
     }
 }

@@ -16,6 +16,14 @@ use Rattle.odb_tree.specs.declared.disk_error.DiskError.TheVariants as errors
 use Rattle.odb_disk.specs.declared.source.ReadError.{ReadError}
 use Rattle.odb_disk.specs.declared.source.ReadError.TheVariants as read_errors
 
+-- The most bytes that are read of one file, and the most entries of one directory. Both are held in memory whole, so
+-- what is larger is a fault: 4 GiB, and 2 ^ 24 names.
+abbrev pub longest_file : ℕ
+longest_file = 4_294_967_296
+
+abbrev pub most_entries : ℕ
+most_entries = 16_777_216
+
 -- the refusal that an error of the system is. The disk failed where it is another error than these
 abbrev pub refusal_of : ErrorKind → DiskError
 refusal_of NotFound = errors.Absent
@@ -26,10 +34,19 @@ refusal_of AlreadyExists = errors.Exists
 refusal_of DirectoryNotEmpty = errors.NotEmpty
 refusal_of kind = errors.Failed
 
--- the kind of node that a type of the system is (Linux's `S_IFREG`, `S_IFDIR` and `S_IFLNK`), if it is one of the three
+-- the types of the system's nodes: Linux's `S_IFREG`, `S_IFDIR` and `S_IFLNK`
+abbrev pub file_bits : ℕ
+file_bits = 0o100000
+
+abbrev pub directory_bits : ℕ
+directory_bits = 0o040000
+
+abbrev pub link_bits : ℕ
+link_bits = 0o120000
+
+-- the kind of node that a type of the system is, if it is one of the three
 abbrev pub kind_of : FileType → Option Kind
-kind_of t =
-    if t.bits == 0o100000 then Some File else (if t.bits == 0o040000 then Some Dir else (if t.bits == 0o120000 then Some Link else None))
+kind_of t = if t.bits == file_bits then Some File else (if t.bits == directory_bits then Some Dir else (if t.bits == link_bits then Some Link else None))
 
 -- What a look tells of a node of a kind, with these numbers, this length and this time. A directory and a link have no
 -- length and no time, and what is no file, directory or link is a fault.
@@ -51,15 +68,34 @@ only_file File = Ok tt
 only_file Dir = Err errors.WrongKind
 only_file Link = Err errors.Failed
 
+-- whether a rename goes on, by what stands at its source
+abbrev pub no_directory : Kind → Result (Unit {0}) DiskError
+no_directory File = Ok tt
+no_directory Dir = Err errors.WrongKind
+no_directory Link = Ok tt
+
+-- and by what a look at its target told, where nothing need stand
+abbrev pub replaceable : Result Meta DiskError → Result (Unit {0}) DiskError
+replaceable (Ok meta) = no_directory meta.kind
+replaceable (Err errors.Absent) = Ok tt
+replaceable (Err error) = Err error
+
 -- the refusal that a read is which didn't come to its end
 abbrev pub read_refusal : ReadError → DiskError
 read_refusal read_errors.Failed = errors.Failed
 read_refusal read_errors.NoMemory = errors.NoMemory
 
--- nanoseconds since 1970, from seconds and the nanoseconds of the last one. An earlier time is 0, and one that
--- doesn't fit 64 bits is the greatest that does
+abbrev pub nanoseconds_in_second : ℕ
+nanoseconds_in_second = 1_000_000_000
+
+-- the latest time, since one is kept in 64 bits: a day in July 2554
+abbrev pub latest_time : ℕ
+latest_time = 2 ^ 64 - 1
+
+-- nanoseconds since 1970, from seconds and the nanoseconds of the last one. An earlier time is 0, and a later one than
+-- the latest is that
 abbrev pub time_of : ℤ → ℤ → ℕ
-time_of (pos seconds) (pos nanoseconds) = min (seconds * 1_000_000_000 + nanoseconds) (2 ^ 64 - 1)
+time_of (pos seconds) (pos nanoseconds) = min (seconds * nanoseconds_in_second + nanoseconds) latest_time
 time_of seconds nanoseconds = 0
 
 -- the entry of a name that was read in a directory, by what a look at it told. What is no name has none

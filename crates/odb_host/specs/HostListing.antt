@@ -1,11 +1,12 @@
 -- What a real disk makes of what it reads of a directory.
-use Rattle.std.specs.Prelude.{◌≡◌, ◌≢◌, ◌<◌, ◌≤◌, ◌++◌, ◌||◌, ℕ, true, false, fold, length, List, [], Option, Result, Ok, Err, OnOk, IfErr, MatchResult}
+use Rattle.std.specs.Prelude.{◌≡◌, ◌≢◌, ◌<◌, ◌≤◌, ◌++◌, ◌||◌, ℕ, Bool, true, false, fold, length, List, [], Option, Some, Result, Ok, Err, OnOk, IfErr, MatchResult}
 use Rattle.std.specs.Iterator.{Drains, Yields}
 use Rattle.std.specs.List.{All, AllZip, cons_option}
 use Rattle.std.specs.Fs.{dir_entry_name}
 use Rattle.std.specs.declared.fs.DirEntry.{DirEntry}
 use Rattle.std.specs.declared.io.Error.{Error}
 use Rattle.odb_host.specs.HostDisk.{found_entry, is_odd}
+use Rattle.odb_tree.specs.declared.entry.Entry.{Entry}
 use Rattle.odb_tree.specs.declared.disk_error.DiskError.{DiskError}
 use Rattle.odb_tree.specs.declared.disk_error.DiskError.TheVariants as errors
 use Rattle.odb_host.specs.declared.host_listing.Found.{Found}
@@ -54,6 +55,14 @@ pub record ListsAll {S R A F D : Type 0} (next_gives : S → Option (Result (Dir
   pub all : Drains next_gives names read
   pub each : AllZip IsFoundIn read found
   pub is : IsListing most found listing
+
+-- what a stream gives, and whether it owes a failure: all that is read of an opened directory, and one where something
+-- was passed over
+pub record GivesAll {S R A F D : Type 0} (next_gives : S → Option (Result (DirEntry R A F D) Error) → S → Type 0) (names : S) (most : ℕ) (gives : Option (List Entry)) (owes : Bool) : Type 0 where
+  pub listing : Listing
+  pub lists : ListsAll next_gives names most listing
+  pub entries : gives ≡ Some listing.entries
+  pub owed : owes ≡ listing.passed_over
 
 -- why an opened directory has none, after some of it was read
 pub record ListsNone {S R A F D : Type 0} (next_gives : S → Option (Result (DirEntry R A F D) Error) → S → Type 0) (names : S) (most : ℕ) (error : DiskError) : Type 0 where

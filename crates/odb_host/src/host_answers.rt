@@ -2,7 +2,7 @@
 ghost use Rattle.std.specs.Prelude.{◌≡◌, length, nat_le, Ok, Err, IfOk, IfErr, if◌then◌else◌};
 ghost use Rattle.std.specs.Result.{result_map_both};
 ghost use Rattle.std.specs.IoError.{error_kind};
-ghost use Rattle.odb_host.specs.HostDisk.{MetaOf, refusal_of, read_refusal, only_file, kind_of, meta_from, time_of};
+ghost use Rattle.odb_host.specs.HostDisk.{MetaOf, refusal_of, read_refusal, no_directory, only_file, replaceable, kind_of, meta_from, time_of};
 
 use odb_disk::{ByteList, DiskError, Kind, Meta, ReadError};
 use std::fs::{FileType, Metadata};
@@ -39,6 +39,27 @@ pub(crate) fn only_file(meta: Meta) -> Result<(), DiskError>
         Kind::File => Ok(()),
         Kind::Dir => Err(DiskError::WrongKind),
         Kind::Link => Err(DiskError::Failed),
+    }
+}
+
+/// What a rename makes of what stands at its source.
+pub(crate) fn no_directory(meta: Meta) -> Result<(), DiskError>
+    ensures no_directory { result ≡ no_directory meta.kind }
+{
+    match meta.kind {
+        Kind::Dir => Err(DiskError::WrongKind),
+        Kind::File | Kind::Link => Ok(()),
+    }
+}
+
+/// What a rename makes of what a look at its target told. Nothing need stand there.
+pub(crate) fn replaceable(seen: Result<Meta, DiskError>) -> Result<(), DiskError>
+    ensures replaceable { result ≡ replaceable seen }
+{
+    match seen {
+        Ok(meta) => no_directory(meta),
+        Err(DiskError::Absent) => Ok(()),
+        Err(e) => Err(e),
     }
 }
 
@@ -115,13 +136,16 @@ fn kind_of(kind: FileType) -> Option<Kind>
     }
 }
 
+/// How many nanoseconds a second has.
+const NANOSECONDS_IN_SECOND: u64 = 1_000_000_000;
+
 /// Nanoseconds since 1970, from seconds and the nanoseconds of the last one. An earlier time is 0.
 fn time_of(seconds: i64, nanoseconds: i64) -> u64
     ensures time { result ≡ time_of seconds nanoseconds }
 {
     match (u64::try_from(seconds), u64::try_from(nanoseconds)) {
         (Ok(seconds), Ok(nanoseconds)) => seconds
-            .saturating_mul(1_000_000_000)
+            .saturating_mul(NANOSECONDS_IN_SECOND)
             .saturating_add(nanoseconds),
         _ => 0,
     }

@@ -1,7 +1,9 @@
 //! Calls of the system that a real disk makes, each with its refusal.
 ghost use Rattle.std.specs.Prelude.{◌≡◌, ◌≢◌, ◌≤◌, length, IfOk, IfErr};
 
-use crate::host_answers::{answered, only_file, refusal_of, told_of, within};
+use crate::host_answers::{
+    answered, no_directory, only_file, refusal_of, replaceable, told_of, within,
+};
 use odb_disk::{ByteList, DiskError, Failed, Kind, Meta, StdSink, StdSource, read_file, write_all};
 use std::alloc::Global;
 use std::fs::{self, File, OpenFile, OpenOptions};
@@ -56,14 +58,8 @@ fn need_file<R: Files>(rt: &R, path: &str) -> Result<(), DiskError> {
 
 /// Moves a file or a link. The kinds of both ends are looked at first, since the system would move a directory.
 pub(crate) fn rename_at<R: Files>(rt: &R, from: &str, to: &str) -> Result<(), DiskError> {
-    if look_at(rt, from, false)?.kind == Kind::Dir {
-        return Err(DiskError::WrongKind);
-    }
-    match look_at(rt, to, false) {
-        Ok(meta) if meta.kind == Kind::Dir => return Err(DiskError::WrongKind),
-        Ok(_) | Err(DiskError::Absent) => {}
-        Err(e) => return Err(e),
-    }
+    no_directory(look_at(rt, from, false)?)?;
+    replaceable(look_at(rt, to, false))?;
     answered(fs::rename(rt, from, to))
 }
 

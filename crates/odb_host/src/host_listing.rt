@@ -9,7 +9,7 @@ ghost use Rattle.odb_host.specs.HostListing.{IsFoundIn, ListsAll, ListsNone, Tak
 use crate::host_answers::{refusal_of, told_of};
 use odb_disk::{DiskError, Entry, EntryQueue, Meta, NoMemory, PathName};
 use std::alloc::{Allocator, Global};
-use std::fs::{self, DirEntry};
+use std::fs::DirEntry;
 use std::io;
 use std::rt::Files;
 
@@ -97,20 +97,8 @@ impl Listing {
     }
 }
 
-/// Reads the entries of a directory of at most `most` of them, links followed.
-pub(crate) fn list_at<R: Files + Alloc + Clone + Drop>(
-    rt: &R,
-    alloc: Global,
-    path: &str,
-    most: usize,
-) -> Result<Listing, DiskError>
-    ensures few { IfOk result (λ listing. length listing.entries ≤ most) }
-{
-    list_opened(alloc, fs::read_dir(rt, path), most)
-}
-
-/// The listing of a directory, if it was opened.
-fn list_opened<
+/// The listing of a directory, if it was opened. There is none of more than `most` entries.
+pub(crate) fn list_opened<
     R: Files + Drop,
     A: Allocator + Drop,
     I: Iterator<Item = io::Result<DirEntry<R, A>>>,
@@ -118,6 +106,7 @@ fn list_opened<
     requires can_next { IfOk opened (λ names. I.can_next names × IsFinite (I.remaining names)) }
     ensures listed { IfOk opened (λ names. IfOk result (λ listing. ListsAll I.next_gives names most listing)) }
     ensures unlisted { IfOk opened (λ names. IfErr result (λ e. ListsNone I.next_gives names most e)) }
+    ensures few { IfOk result (λ listing. length listing.entries ≤ most) }
     ensures refused { IfErr opened (λ e. result ≡ Err (refusal_of (error_kind e))) }
 {
     match opened {

@@ -7,7 +7,7 @@ use Rattle.std.proofs.lemmas.Bool.{and_right}
 use Rattle.odb_base.specs.Path.{Name, Path, same_name}
 use Rattle.odb_base.specs.PathLaws.{parent_of-push}
 use Rattle.odb_tree.specs.Tree.{Tree, node_at, is_directory, is_directory_content}
-use Rattle.odb_tree.specs.Tree.Follow.{Refusal, LinkLoop, Pass, Reached, Place, arrives, pass, followed_within}
+use Rattle.odb_tree.specs.Tree.Follow.{Refusal, LinkLoop, Pass, Reached, Place, arrives, pass, followed_within, most_links}
 use Rattle.odb_tree.specs.Tree.Way.{led_on, ways_within, is_front_of_one, on_way, on_way_to, is_link, crosses}
 use Rattle.odb_tree.specs.Tree.Write as writing
 use Rattle.odb_tree.specs.Tree.Write.{and_then, from_followed, in_directory, spot_below, spot, replaceable}
@@ -30,7 +30,7 @@ module _ (t : Tree) (front : Path) (plain : StandsPlain t front) where
       by_links zero = ap (arrives (λ _. Err LinkLoop)) plain.1
       by_links (suc less) = ap (arrives (followed_within less t true)) plain.1
 
-  one_way : ways_within 40 t true front ≡ front ∷ []
+  one_way : ways_within most_links t true front ≡ front ∷ []
   unfolding ways_within
   one_way = ap (λ (p : Pass). front ∷ led_on (ways_within 39 t true) p) plain.1
 
@@ -43,7 +43,7 @@ module _ (t : Tree) (front : Path) (plain : StandsPlain t front) where
     unfolding spot
     own_spot p e =
         in_place (is_directory_content plain.0.content) p
-        (sym (ap (spot_below t (front ++ name ∷ [])) (parent_of-push front name) ∙ ap (λ (r : Result Place Refusal). and_then (in_directory (drop (length front) (front ++ name ∷ []))) (from_followed r)) (leads_there 40)) ∙ e)
+        (sym (ap (spot_below t (front ++ name ∷ [])) (parent_of-push front name) ∙ ap (λ (r : Result Place Refusal). and_then (in_directory (drop (length front) (front ++ name ∷ []))) (from_followed r)) (leads_there most_links)) ∙ e)
 
     -- nothing that stands in it is crossed on the way of its path
     pub crosses_plain : (p : Path) → spot t (front ++ name ∷ []) ≡ Ok p → crosses t (front ++ name ∷ []) p ≡ false

@@ -4,7 +4,7 @@ use Rattle.std.specs.FinMap.{find}
 use Rattle.odb_base.specs.Path.{Name, Path, path_cmp}
 use Rattle.odb_tree.specs.Tree.{Tree, node_at, tree_of_entries}
 use Rattle.odb_tree.specs.Tree.Nodes.{node_at-tree_of_entries}
-use Rattle.odb_tree.specs.Tree.Follow.{Pass, Place, Refusal, Absent, WrongKind, LinkLoop, pass, beyond, ending, arrives, followed_within, looked, read_of, meta_of_place, file_of_place}
+use Rattle.odb_tree.specs.Tree.Follow.{Pass, Place, Refusal, Absent, WrongKind, LinkLoop, pass, beyond, ending, arrives, followed_within, looked, read_of, meta_of_place, file_of_place, most_links}
 use Rattle.odb_tree.specs.declared.node.Node.{Node}
 use Rattle.odb_tree.specs.declared.node.Content.{Content}
 use Rattle.odb_tree.specs.declared.node.Content.TheVariants.{File, Dir, Link}
@@ -34,13 +34,13 @@ module _ (es : List (Path × Node)) where
   pub at_entries : node_at (tree_of_entries es) ≡ (λ q. find path_cmp q es)
   at_entries = λ i q. node_at-tree_of_entries es q i
 
-  looked_over : (path : Path) (follow : Bool) → looked (tree_of_entries es) path follow ≡ meta_of_place (followed_over 40 (λ q. find path_cmp q es) follow path)
+  looked_over : (path : Path) (follow : Bool) → looked (tree_of_entries es) path follow ≡ meta_of_place (followed_over most_links (λ q. find path_cmp q es) follow path)
   unfolding looked
-  looked_over path follow = ap meta_of_place (followed-over 40 (tree_of_entries es) follow path ∙ ap (λ at. followed_over 40 at follow path) at_entries)
+  looked_over path follow = ap meta_of_place (followed-over most_links (tree_of_entries es) follow path ∙ ap (λ at. followed_over most_links at follow path) at_entries)
 
-  read_over : (path : Path) → read_of (tree_of_entries es) path ≡ file_of_place (followed_over 40 (λ q. find path_cmp q es) true path)
+  read_over : (path : Path) → read_of (tree_of_entries es) path ≡ file_of_place (followed_over most_links (λ q. find path_cmp q es) true path)
   unfolding read_of
-  read_over path = ap file_of_place (followed-over 40 (tree_of_entries es) true path ∙ ap (λ at. followed_over 40 at true path) at_entries)
+  read_over path = ap file_of_place (followed-over most_links (tree_of_entries es) true path ∙ ap (λ at. followed_over most_links at true path) at_entries)
 
 -- ---- a tree with a folder, a file and links
 

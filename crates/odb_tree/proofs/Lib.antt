@@ -1,3 +1,4 @@
+-- Lemmas of this crate; callers may cite those that are public.
 pub mod TreeLemmas
 mod TreeNumbersLemmas
 mod TreeCallsLemmas

@@ -61,6 +61,13 @@ module _ (t t1 t2 : Tree) (from to : Path) (others : (q : Path) → q ≢ to →
   pub nothing_moved : None ≡ node_at t1 from → (node : Node) → node_at t from ≡ Some node → from ≢ to → ⊥
   nothing_moved none node at apart = let both : None ≡ Some node = none ∙ others from apart ∙ at in cc
 
+-- a node put where room was made
+pub put_in_room : (t u : Tree) (p : Path) (n : Node) → ((q : Path) → q ≢ p → node_at u q ≡ node_at t q) → with_node u p n ≡ with_node t p n
+put_in_room t u p n others = same_tree _ _ (λ q. elim (cases_path q p) [
+  | inl is ↦ ap (node_at (with_node u p n)) is ∙ node_at-put u p n ∙ sym (ap (node_at (with_node t p n)) is ∙ node_at-put t p n)
+  | inr other ↦ node_at-put_other u p n q other ∙ others q other ∙ sym (node_at-put_other t p n q other)
+])
+
 -- a node put where it stands changes nothing
 pub put_same : (t : Tree) (p : Path) (n : Node) → node_at t p ≡ Some n → with_node t p n ≡ t
 put_same t p n at = same_tree _ _ (λ q. elim (cases_path q p) [

@@ -2,7 +2,7 @@
 use Rattle.std.proofs.Common.{◌≡◌, ℕ, Bool, true, [], Result, Ok, Err, ap}
 use Rattle.odb_base.specs.Path.{Path}
 use Rattle.odb_tree.specs.Tree.{Tree}
-use Rattle.odb_tree.specs.Tree.Follow.{Place, Refusal, pass, followed_within, meta_of, meta_of_place, file_of, file_of_place, looked, read_of}
+use Rattle.odb_tree.specs.Tree.Follow.{Place, Refusal, pass, followed_within, meta_of, meta_of_place, file_of, file_of_place, looked, read_of, most_links}
 use Rattle.odb_tree.specs.Answers.{Answers}
 use Rattle.odb_tree.specs.TreeCalls.{Ends, Leads, node_of_place}
 use Rattle.odb_tree.specs.declared.node.Node.{Node}
@@ -29,11 +29,11 @@ file_of_node (Ok place) n is = let same : place.node ≡ n = cc in ap (λ m. fil
 file_of_node (Err refusal) n is = cc
 
 module _ (t : Tree) (path : Path) where
-  pub looked_node : (follow : Bool) (n : Node) → node_of_place (followed_within 40 t follow path) ≡ Ok n → looked t path follow ≡ Ok (meta_of n)
+  pub looked_node : (follow : Bool) (n : Node) → node_of_place (followed_within most_links t follow path) ≡ Ok n → looked t path follow ≡ Ok (meta_of n)
   unfolding looked
   looked_node follow n is = meta_of_node _ n is
 
-  pub looked_refused : (follow : Bool) (e : DiskError) → Leads (Err e) (followed_within 40 t follow path) → Answers (Err e) (looked t path follow)
+  pub looked_refused : (follow : Bool) (e : DiskError) → Leads (Err e) (followed_within most_links t follow path) → Answers (Err e) (looked t path follow)
   unfolding looked
   looked_refused follow errors.Absent is = ap meta_of_place is
   looked_refused follow errors.WrongKind is = ap meta_of_place is
@@ -43,11 +43,11 @@ module _ (t : Tree) (path : Path) where
   looked_refused follow errors.Failed is = tt
   looked_refused follow errors.NoMemory is = tt
 
-  pub read_node : (n : Node) → node_of_place (followed_within 40 t true path) ≡ Ok n → read_of t path ≡ file_of n.content
+  pub read_node : (n : Node) → node_of_place (followed_within most_links t true path) ≡ Ok n → read_of t path ≡ file_of n.content
   unfolding read_of
   read_node n is = file_of_node _ n is
 
-  pub read_refused : (e : DiskError) → Leads (Err e) (followed_within 40 t true path) → Answers (Err e) (read_of t path)
+  pub read_refused : (e : DiskError) → Leads (Err e) (followed_within most_links t true path) → Answers (Err e) (read_of t path)
   unfolding read_of
   read_refused errors.Absent is = ap file_of_place is
   read_refused errors.WrongKind is = ap file_of_place is

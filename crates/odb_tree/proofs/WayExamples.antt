@@ -4,7 +4,7 @@ use Rattle.std.specs.FinMap.{find}
 use Rattle.odb_base.specs.Path.{Name, Path, path_cmp}
 use Rattle.odb_base.specs.PathLaws.{parent_of-push}
 use Rattle.odb_tree.specs.Tree.{Tree, node_at, tree_of_entries, is_directory}
-use Rattle.odb_tree.specs.Tree.Follow.{WrongKind, read_of, file_of_place}
+use Rattle.odb_tree.specs.Tree.Follow.{WrongKind, read_of, file_of_place, most_links}
 use Rattle.odb_tree.specs.Tree.Change.{changed}
 use Rattle.odb_tree.specs.Tree.Write as writing
 use Rattle.odb_tree.specs.Tree.Write.{from_followed, and_then, in_directory, spot_below, spot, movable_spot, movable, replaceable, change_of_rename}
@@ -31,25 +31,25 @@ module _ (es : List (Path × Node)) where
   abbrev seen : Path → Option Node
   seen q = find path_cmp q es
 
-  ways_seen : (follow : Bool) (path : Path) → ways_within 40 (tree_of_entries es) follow path ≡ ways_over 40 seen follow path
-  ways_seen follow path = ways-over 40 (tree_of_entries es) follow path ∙ ap (λ at. ways_over 40 at follow path) (at_entries es)
+  ways_seen : (follow : Bool) (path : Path) → ways_within most_links (tree_of_entries es) follow path ≡ ways_over most_links seen follow path
+  ways_seen follow path = ways-over most_links (tree_of_entries es) follow path ∙ ap (λ at. ways_over most_links at follow path) (at_entries es)
 
-  on_way_seen : (follow : Bool) (path q : Path) → on_way (tree_of_entries es) follow path q ≡ is_front_of_one (ways_over 40 seen follow path) q
+  on_way_seen : (follow : Bool) (path q : Path) → on_way (tree_of_entries es) follow path q ≡ is_front_of_one (ways_over most_links seen follow path) q
   unfolding on_way
   on_way_seen follow path q = ap (λ ways. is_front_of_one ways q) (ways_seen follow path)
 
-  crosses_seen : (front : Path) (name : Name) (q : Path) → crosses (tree_of_entries es) (front ++ name ∷ []) q ≡ (is_link (seen q) && is_front_of_one (ways_over 40 seen true front) q)
+  crosses_seen : (front : Path) (name : Name) (q : Path) → crosses (tree_of_entries es) (front ++ name ∷ []) q ≡ (is_link (seen q) && is_front_of_one (ways_over most_links seen true front) q)
   unfolding crosses
   crosses_seen front name q =
       ap (λ o. is_link (node_at (tree_of_entries es) q) && on_way_to (tree_of_entries es) o q) (parent_of-push front name)
       ∙ ap (λ at. is_link (at q) && on_way (tree_of_entries es) true front q) (at_entries es)
       ∙ ap (λ b. is_link (seen q) && b) (on_way_seen true front q)
 
-  spot_seen : (front : Path) (name : Name) → spot (tree_of_entries es) (front ++ name ∷ []) ≡ and_then (in_directory (drop (length front) (front ++ name ∷ []))) (from_followed (followed_over 40 seen true front))
+  spot_seen : (front : Path) (name : Name) → spot (tree_of_entries es) (front ++ name ∷ []) ≡ and_then (in_directory (drop (length front) (front ++ name ∷ []))) (from_followed (followed_over most_links seen true front))
   unfolding spot
   spot_seen front name =
       ap (spot_below (tree_of_entries es) (front ++ name ∷ [])) (parent_of-push front name)
-      ∙ ap (λ told. and_then (in_directory (drop (length front) (front ++ name ∷ []))) (from_followed told)) (followed-over 40 (tree_of_entries es) true front ∙ ap (λ at. followed_over 40 at true front) (at_entries es))
+      ∙ ap (λ told. and_then (in_directory (drop (length front) (front ++ name ∷ []))) (from_followed told)) (followed-over most_links (tree_of_entries es) true front ∙ ap (λ at. followed_over most_links at true front) (at_entries es))
 
   -- what stands at each path after a rename
   abbrev moved : Path → Path → Path → Option Node
@@ -60,15 +60,15 @@ module _ (es : List (Path × Node)) where
       (ap (λ u. node_at u q) (made-rename (tree_of_entries es) from to) ∙ node_at-with_moved (tree_of_entries es) from to q
       ∙ ap (λ at. moved_at (begins q to) (begins q from) (at (from ++ drop (length to) q)) (at q)) (at_entries es)) i
 
-  read_moved : (from to path : Path) → read_of (changed (tree_of_entries es) (Rename from to)) path ≡ file_of_place (followed_over 40 (moved from to) true path)
+  read_moved : (from to path : Path) → read_of (changed (tree_of_entries es) (Rename from to)) path ≡ file_of_place (followed_over most_links (moved from to) true path)
   unfolding read_of
   read_moved from to path =
-      ap file_of_place (followed-over 40 (changed (tree_of_entries es) (Rename from to)) true path ∙ ap (λ at. followed_over 40 at true path) (at_moved from to))
+      ap file_of_place (followed-over most_links (changed (tree_of_entries es) (Rename from to)) true path ∙ ap (λ at. followed_over most_links at true path) (at_moved from to))
 
 -- ---- a folder, a file and links
 
 -- a link in the middle: the way goes on where it leads
-way_through_a_link : ways_within 40 tree true (codes "d" ∷ f ∷ []) ≡ (codes "d" ∷ f ∷ []) ∷ (a ∷ f ∷ []) ∷ []
+way_through_a_link : ways_within most_links tree true (codes "d" ∷ f ∷ []) ≡ (codes "d" ∷ f ∷ []) ∷ (a ∷ f ∷ []) ∷ []
 way_through_a_link = ways_seen entries true (codes "d" ∷ f ∷ [])
 
 link_in_the_middle_is_crossed : crosses tree (codes "d" ∷ f ∷ []) (codes "d" ∷ []) ≡ true
@@ -81,10 +81,10 @@ other_link_is_off_the_way : on_way tree true (codes "d" ∷ f ∷ []) (codes "n"
 other_link_is_off_the_way = on_way_seen entries true (codes "d" ∷ f ∷ []) (codes "n" ∷ [])
 
 -- a link in the last place
-way_of_a_last_link : ways_within 40 tree true (l ∷ []) ≡ (l ∷ []) ∷ (a ∷ f ∷ []) ∷ []
+way_of_a_last_link : ways_within most_links tree true (l ∷ []) ≡ (l ∷ []) ∷ (a ∷ f ∷ []) ∷ []
 way_of_a_last_link = ways_seen entries true (l ∷ [])
 
-way_of_a_last_link_not_followed : ways_within 40 tree false (l ∷ []) ≡ (l ∷ []) ∷ []
+way_of_a_last_link_not_followed : ways_within most_links tree false (l ∷ []) ≡ (l ∷ []) ∷ []
 way_of_a_last_link_not_followed = ways_seen entries false (l ∷ [])
 
 last_link_is_not_crossed : crosses tree (l ∷ []) (l ∷ []) ≡ false

@@ -5,7 +5,7 @@ use Rattle.std.specs.Ordering.{eq_by_cmp}
 use Rattle.std.proofs.lemmas.Bool.{false≢true, false_from_ne_true, or_from}
 use Rattle.odb_base.specs.Path.{Name, Path, path_cmp, parent_of}
 use Rattle.odb_tree.specs.Tree.{Tree, IsTree, node_at, is_directory, is_directory_content}
-use Rattle.odb_tree.specs.Tree.Follow.{Place, Onward, pass, followed, file_of, file_of_place, read_of}
+use Rattle.odb_tree.specs.Tree.Follow.{Place, Onward, pass, followed, file_of, file_of_place, read_of, most_links}
 use Rattle.odb_tree.specs.Tree.Change.{changed, lies_in_directory, is_nil, is_file_content}
 use Rattle.odb_tree.specs.Tree.Write.{WrongKind, NotEmpty, from_followed, and_then, spot, vacant, movable_spot, movable, removable_spot, removable, file_path, file_spot}
 use Rattle.odb_tree.specs.Tree.Way.{on_way, is_link, SameOnWay}
@@ -42,7 +42,7 @@ module _ (t u : Tree) (follow : Bool) (path : Path) (same : SameOnWay t u follow
   -- the path leads to the same place
   pub followed_kept : followed u follow path ≡ followed t follow path
   followed_kept =
-      same_place t u (followed u follow path) (followed t follow path) (places_alike t u follow path same_outlines) (λ place is. same place.path (place_on_way t follow path place is)) (place_stands u 40 follow path) (place_stands t 40 follow path)
+      same_place t u (followed u follow path) (followed t follow path) (places_alike t u follow path same_outlines) (λ place is. same place.path (place_on_way t follow path place is)) (place_stands u most_links follow path) (place_stands t most_links follow path)
 
 module _ (t u : Tree) (path : Path) (same : SameOnWay t u true path) where
   -- a read of the path gives the same
@@ -106,7 +106,7 @@ module _ (t : Tree) (is_tree : IsTree t) (follow : Bool) (path : Path) (place : 
   -- a directory, a link, the place itself, or what lies in no directory
   pub trod_on_way : (q : Path) → on_way t follow path q ≡ true → Trod t place.path q
   unfolding on_way
-  trod_on_way q on = followed_trod t is_tree follow place 40 path leads q on
+  trod_on_way q on = followed_trod t is_tree follow place most_links path leads q on
 
   -- so what lies in a directory, and is neither a directory nor the place, is on the way only as a link
   pub link_on_way : (q : Path) → lies_in_directory t q ≡ true → is_directory (node_at t q) ≡ false → q ≢ place.path → on_way t follow path q ≡ true → is_link (node_at t q) ≡ true
@@ -127,7 +127,7 @@ module _ (t : Tree) (is_tree : IsTree t) (follow : Bool) (path : Path) (place : 
       let v = vacant_at t other s is in
       let directory = ap is_directory v.absent in
       off_way s (spot_lies t is_tree other s v.is directory) directory (ap is_link v.absent)
-      (λ same. let both : None ≡ Some place.node = sym v.absent ∙ ap (node_at t) same ∙ place_stands t 40 follow path place leads in cc)
+      (λ same. let both : None ≡ Some place.node = sym v.absent ∙ ap (node_at t) same ∙ place_stands t most_links follow path place leads in cc)
 
 -- the same of a path that leads to a file
 module _ (t : Tree) (is_tree : IsTree t) (path r : Path) (is : file_spot t path ≡ Ok r) where

@@ -4,7 +4,7 @@ use Rattle.std.proofs.lemmas.Bool.{false≢true, false_from_ne_true, and_from, a
 use Rattle.odb_base.specs.Path.{Path, parent_of}
 use Rattle.odb_tree.specs.Tree.{Tree, IsTree, node_at, is_directory}
 use Rattle.odb_tree.specs.Tree.Follow as following
-use Rattle.odb_tree.specs.Tree.Follow.{Place, followed, meta_of_place, looked, read_of}
+use Rattle.odb_tree.specs.Tree.Follow.{Place, followed, meta_of_place, looked, read_of, most_links}
 use Rattle.odb_tree.specs.Tree.Change.{changed, lies_in_directory, parent_node, device_of, is_file_content, least_free, new_node, put_node, with_longer, longer}
 use Rattle.odb_tree.specs.Tree.Write.{and_then, spot, vacant, movable, replaceable, removable, file_spot, change_of_make_dir, change_of_new_file, change_of_append, change_of_rename, change_of_remove}
 use Rattle.odb_tree.specs.Tree.Way.{on_way, on_way_to, is_link, crosses, SameOnWay}
@@ -46,7 +46,7 @@ module _ (t : Tree) (is_tree : IsTree t) (path s : Path) (is : spot t path ≡ O
   off_front : (q : Path) → lies_in_directory t q ≡ true → is_directory (node_at t q) ≡ false → crosses t path q ≡ false → on_way t true front q ≡ false
   off_front q q_lies other free =
       let i = (named_in t path s is (below_root t s lies)).spot_in in
-      let there : is_directory (node_at t i.place.path) ≡ true = ap is_directory (place_stands t 40 true i.front i.place i.leads) ∙ i.directory in
+      let there : is_directory (node_at t i.place.path) ≡ true = ap is_directory (place_stands t most_links true i.front i.place i.leads) ∙ i.directory in
       false_from_ne_true _ (λ on.
       let link = link_on_way t is_tree true i.front i.place i.leads q q_lies other (λ same. false≢true (sym other ∙ ap (λ p. is_directory (node_at t p)) same ∙ there)) on in
       false≢true (sym free ∙ crosses_on_way t path i.front q i.parent link on))
@@ -166,7 +166,7 @@ module _ (t : Tree) (other : Path) (more : List ℕ) where
   longer_alike (Err refusal) stands q = refl
 
   append_alike : (q : Path) → outline (node_at (changed t (Append other more)) q) ≡ outline (node_at t q)
-  append_alike q = ap (λ u. outline (node_at u q)) (made-append t other more) ∙ longer_alike (followed t true other) (place_stands t 40 true other) q
+  append_alike q = ap (λ u. outline (node_at u q)) (made-append t other more) ∙ longer_alike (followed t true other) (place_stands t most_links true other) q
 
   module _ (path : Path) where
     -- each path leads to the file that it led to

@@ -5,7 +5,7 @@ use Rattle.std.specs.List.{starts_with}
 use Rattle.std.proofs.lemmas.Bool.{false≢true, or_parts, false_from_ne_true}
 use Rattle.odb_base.specs.Path.{Path, path_cmp, same_name}
 use Rattle.odb_tree.specs.Tree.{Tree, State, IsTree, tree_of, node_at}
-use Rattle.odb_tree.specs.Tree.Follow.{Place, Refusal, followed, file_of, file_of_place, read_of}
+use Rattle.odb_tree.specs.Tree.Follow.{Place, Refusal, followed, file_of, file_of_place, read_of, most_links}
 use Rattle.odb_tree.specs.Tree.Change.{changed, is_possible_in, is_file_content, with_longer, longer, with_time}
 use Rattle.odb_tree.specs.Tree.Write.{file_spot, written}
 use Rattle.odb_tree.specs.declared.node.Node.{Node}
@@ -34,7 +34,7 @@ tree_of-written s change = after_write-tree s change
 module _ (t : Tree) (is_tree : IsTree t) (path : Path) (n : Node) (at : node_at t path ≡ Some n) (plain : (target : Path) → n.content ≢ Link target) where
   pub read_at : read_of t path ≡ file_of n.content
   unfolding read_of
-  read_at = ap file_of_place (followed_reached t true path 40 path n (pass_to_other t is_tree path n at true plain))
+  read_at = ap file_of_place (followed_reached t true path most_links path n (pass_to_other t is_tree path n at true plain))
 
 -- ---- the frame: a change leaves what it doesn't touch
 

@@ -1,3 +1,4 @@
+-- What a tree is, what it lists, and what its calls answer; from TreeNumbers on, what only this crate's own proofs cite.
 pub mod Node
 pub mod Tree
 pub mod Entries

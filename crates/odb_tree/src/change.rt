@@ -1,8 +1,9 @@
+//! Changes of a disk, and why one isn't made.
 ghost use Rattle.std.specs.Prelude.{◌≡◌, IfOk};
 ghost use Rattle.odb_tree.specs.declared.change.Impossible.TheVariants.{NoMemory as out_of_memory};
 
 use crate::{ByteList, NoMemory, PathText};
-use std::alloc::{AllocError, AllocFailed, Global};
+use std::alloc::Global;
 use thiserror::Error;
 
 /// A change that another program makes to a disk.
@@ -120,22 +121,6 @@ impl From<NoMemory> for Impossible {
     ghost from_gives = { λ _ e. e ≡ out_of_memory };
 
     fn from(_: NoMemory) -> Self {
-        Impossible::NoMemory
-    }
-}
-
-impl From<AllocError> for Impossible {
-    ghost from_gives = { λ _ e. e ≡ out_of_memory };
-
-    fn from(_: AllocError) -> Self {
-        Impossible::NoMemory
-    }
-}
-
-impl<T: Drop> From<AllocFailed<T>> for Impossible {
-    ghost from_gives = { λ _ e. e ≡ out_of_memory };
-
-    fn from(_: AllocFailed<T>) -> Self {
         Impossible::NoMemory
     }
 }

@@ -1,8 +1,8 @@
+//! Why a call of a disk is refused.
 ghost use Rattle.std.specs.Prelude.{◌≡◌};
 ghost use Rattle.odb_tree.specs.declared.disk_error.DiskError.TheVariants.{NoMemory as out_of_memory};
 
 use crate::NoMemory;
-use std::alloc::{AllocError, AllocFailed};
 use thiserror::Error;
 
 /// Why a call of a disk was refused.
@@ -14,7 +14,7 @@ pub enum DiskError {
     /// A part of the way is no directory, or what is there is of another kind than the call needs.
     #[error("WrongKind")]
     WrongKind,
-    /// More than 40 links on the way.
+    /// More links on the way than are followed: 40 in a tree, on a real disk as many as the system follows.
     #[error("LinkLoop")]
     LinkLoop,
     /// Something is there already.
@@ -34,22 +34,6 @@ impl From<NoMemory> for DiskError {
     ghost from_gives = { λ _ e. e ≡ out_of_memory };
 
     fn from(_: NoMemory) -> Self {
-        DiskError::NoMemory
-    }
-}
-
-impl From<AllocError> for DiskError {
-    ghost from_gives = { λ _ e. e ≡ out_of_memory };
-
-    fn from(_: AllocError) -> Self {
-        DiskError::NoMemory
-    }
-}
-
-impl<T: Drop> From<AllocFailed<T>> for DiskError {
-    ghost from_gives = { λ _ e. e ≡ out_of_memory };
-
-    fn from(_: AllocFailed<T>) -> Self {
         DiskError::NoMemory
     }
 }

@@ -1,3 +1,4 @@
+//! What a look tells.
 /// What stands at a path.
 #[derive(Clone, Copy, Debug, PartialEq, Eq)]
 pub enum Kind {

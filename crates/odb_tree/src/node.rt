@@ -1,3 +1,4 @@
+//! What stands at a path: files, directories and links.
 use crate::meta::{Kind, Meta};
 use crate::{ByteList, NoMemory, PathText};
 use std::alloc::Global;

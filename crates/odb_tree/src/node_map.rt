@@ -1,11 +1,11 @@
 //! The nodes of a tree by their paths, and its free inode numbers.
-ghost use Rattle.std.specs.Prelude.{◌≡◌, ◌≢◌, ◌↔◌, ◌==◌, ◌&&◌, ◌||◌, ◌+◌, ◌-◌, ◌^◌, ◌<◌, ℕ, true, false, not, IfOk, OnOk, OnErr, IsTrue, IsSome, Some, None, if◌then◌else◌};
+ghost use Rattle.std.specs.Prelude.{◌≡◌, ◌≢◌, ◌↔◌, ◌==◌, ◌&&◌, ◌+◌, ◌-◌, ◌^◌, ◌<◌, ℕ, true, false, not, IfOk, OnOk, OnErr, IsTrue, IsSome, Some, None, if◌then◌else◌};
 ghost use Rattle.odb_base.specs.Path.{Path};
 ghost use Rattle.odb_tree.specs.Tree.{node_at, tree_of_entries, with_node, without, IsTree, names_in};
 ghost use Rattle.std.specs.Option.{option_copied};
 ghost use Rattle.odb_tree.specs.Tree.Change.{is_nil, longer, with_time};
 ghost use Rattle.odb_tree.specs.TreeCalls.{IsLastBefore};
-ghost use Rattle.odb_tree.specs.TreeNumbers.{is_listed, has_number, IsLeastFree};
+ghost use Rattle.odb_tree.specs.TreeNumbers.{is_listed, last_number, Frees, IsLeastFree};
 ghost use Rattle.odb_tree.specs.declared.node.Node.{Node as NodeValue};
 
 use crate::node::{Content, Node};
@@ -106,6 +106,23 @@ fn make_room(
     put(nodes, path.try_clone(alloc)?, room)
 }
 
+/// Puts a node at a path, over what stands there. A refused call changes nothing, and comes only where nothing
+/// stands there.
+pub(crate) fn put_over(
+    alloc: Global,
+    nodes: &mut BTreeMap<PathText, Node>,
+    path: &PathText,
+    node: Node,
+) -> Result<(), NoMemory>
+    ensures made { OnOk result (tree_of_entries nodes.new.entries ≡ with_node (tree_of_entries nodes.old.entries) path.now node) }
+    ensures kept { OnErr result (tree_of_entries nodes.new.entries ≡ tree_of_entries nodes.old.entries) }
+    ensures absent { OnErr result (node_at (tree_of_entries nodes.old.entries) path.now ≡ None) }
+{
+    make_room(alloc, nodes, path)?;
+    put_node(nodes, path, node);
+    Ok(())
+}
+
 /// Puts a node over the one at a path.
 fn put_node(nodes: &mut BTreeMap<PathText, Node>, path: &PathText, node: Node)
     ensures made { IsSome (node_at (tree_of_entries nodes.old.entries) path.now)
@@ -153,8 +170,25 @@ pub(crate) fn path_before<'a>(
     }
 }
 
+/// The number of a new node at a path: the least that is free. The number of the node that stands there is free from
+/// now on. A refused call changes nothing.
+pub(crate) fn number_for(
+    nodes: &BTreeMap<PathText, Node>,
+    path: &PathText,
+    free: &mut BTreeSet<u64>,
+    next: u64,
+) -> Result<u64, NoMemory>
+    ensures least { IfOk result (IsLeastFree free.old.keys next) }
+    ensures freed { OnOk result (Frees (node_at (tree_of_entries nodes.now.entries) path.now) free.old.keys free.new.keys) }
+    ensures kept { OnErr result (free.new.keys ≡ free.old.keys) }
+{
+    let number = least_number(free, next)?;
+    free_number(nodes, path, free)?;
+    Ok(number)
+}
+
 /// The least number that is free: the least of `free`, else `next`, unless no number can come after it.
-pub(crate) fn least_number(free: &BTreeSet<u64>, next: u64) -> Result<u64, NoMemory>
+fn least_number(free: &BTreeSet<u64>, next: u64) -> Result<u64, NoMemory>
     ensures least { IfOk result (IsLeastFree free.now.keys next) }
 {
     match free.first() {
@@ -170,7 +204,7 @@ pub(crate) fn free_number(
     path: &PathText,
     free: &mut BTreeSet<u64>,
 ) -> Result<(), NoMemory>
-    ensures freed { OnOk result ((n : ℕ) → is_listed free.new.keys n ≡ (has_number (node_at (tree_of_entries nodes.now.entries) path.now) n || is_listed free.old.keys n)) }
+    ensures freed { OnOk result (Frees (node_at (tree_of_entries nodes.now.entries) path.now) free.old.keys free.new.keys) }
     ensures kept { OnErr result (free.new.keys ≡ free.old.keys) }
 {
     if let Some(node) = nodes.get(path) {
@@ -181,7 +215,7 @@ pub(crate) fn free_number(
 
 /// Takes a number that is free, so that it is a node's from now on.
 pub(crate) fn use_number(number: u64, free: &mut BTreeSet<u64>, next: &mut u64)
-    requires room { number ≡ next.old → next.old < 2 ^ 64 - 1 }
+    requires room { number ≡ next.old → next.old < last_number }
     ensures next { next.new ≡ (if number == next.old then next.old + 1 else next.old) }
     ensures used { (n : ℕ) → is_listed free.new.keys n ≡ (if number == next.old then is_listed free.old.keys n else not (number == n) && is_listed free.old.keys n) }
 {

@@ -1,6 +1,7 @@
+//! The tree of a disk in memory: its nodes, and what stands at a path by its names alone.
 use crate::node::{Content, Node};
 use crate::node_map::{
-    append, copied, copied_numbers, free_number, least_number, put, put_content, use_number,
+    append, copied, copied_numbers, number_for, put_content, put_over, use_number,
 };
 use crate::{NoMemory, PathText};
 use std::alloc::Global;
@@ -38,7 +39,7 @@ impl Model for Tree {
     ghost invariant = { IsWellKept };
 }
 
-/// Links that a path is followed through.
+/// The most links that are followed on the way of a path: as many as Linux follows (`MAXSYMLINKS`).
 const MAX_LINKS: u8 = 40;
 
 impl Tree {
@@ -151,10 +152,8 @@ impl Tree {
         ensures made { OnOk result (self.new ≡ with_node self.old path.now (record { dev = dev; ino = least_free self.old; content = content })) }
         ensures kept { OnErr result (self.new ≡ self.old) }
     {
-        let key = path.try_clone(alloc)?;
-        let ino = least_number(&self.free_inos, self.next_ino)?;
-        free_number(&self.nodes, path, &mut self.free_inos)?;
-        put(&mut self.nodes, key, Node { dev, ino, content })?;
+        let ino = number_for(&self.nodes, path, &mut self.free_inos, self.next_ino)?;
+        put_over(alloc, &mut self.nodes, path, Node { dev, ino, content })?;
         use_number(ino, &mut self.free_inos, &mut self.next_ino);
         Ok(())
     }

@@ -59,8 +59,12 @@ abbrev pub TakesLeast : Streams → DiskAnswer → Type 0
 TakesLeast streams (answers.Dir dir) = IsLeastClosed streams.open_dirs dir
 TakesLeast streams answer = Unit {0}
 
--- each call but a close is counted, and fails exactly where its number is listed
+-- A disk in memory was asked, gave an answer and is another one afterwards: the call is counted, it fails exactly where
+-- its number is listed, and a stream that it opens has the least number.
 pub record IsCounted (old : Volume) (ask : DiskAsk) (answer : DiskAnswer) (new : Volume) : Type 0 where
+  -- the calls are one more, and the failed ones too if it failed; a close has no number
   pub counted : new.calls ≡ (after_count old ask).calls
+  -- a close never fails
   pub failed : (answer ≡ answers.Refused errors.Failed) ↔ (fails_now old ask ≡ true)
+  -- so what the number is can be told before the call
   pub least : TakesLeast old.streams answer

@@ -6,7 +6,7 @@ use Rattle.odb_base.specs.Path.{Name, Path}
 use Rattle.odb_base.specs.PathLaws.{parent_of-push}
 use Rattle.odb_tree.specs.Tree.{Tree, IsTree, node_at, is_directory, is_directory_content}
 use Rattle.odb_tree.specs.Tree.Follow as following
-use Rattle.odb_tree.specs.Tree.Follow.{followed, read_of}
+use Rattle.odb_tree.specs.Tree.Follow.{followed, read_of, most_links}
 use Rattle.odb_tree.specs.Tree.Change.{changed, is_file_content}
 use Rattle.odb_tree.specs.Tree.Write.{WrongKind, from_followed, in_directory, and_then, file_path, spot, spot_below, movable, replaceable, file_spot, change_of_make_dir, change_of_append, change_of_rename, change_of_remove}
 use Rattle.odb_tree.specs.Tree.Write as writing
@@ -43,7 +43,7 @@ module _ (Apart : Path → Type 0) (t : Tree) (is_tree : IsTree t) (front : Path
   pub cut_no_file : (s : Path) → file_spot t within ≢ Ok s
   unfolding on_way file_spot
   cut_no_file s is =
-      let leads : followed t true within ≡ Err following.WrongKind = stopped t is_tree cut.stop cut.stops.node cut.stops.at cut.stops.file true name 40 front cut.stops.on in
+      let leads : followed t true within ≡ Err following.WrongKind = stopped t is_tree cut.stop cut.stops.node cut.stops.at cut.stops.file true name most_links front cut.stops.on in
       let both : Err writing.WrongKind ≡ Ok s = sym (ap (λ told. and_then file_path (from_followed told)) leads) ∙ is in cc
 
   pub cut_no_spot : (s : Path) → spot t within ≢ Ok s
@@ -54,7 +54,7 @@ module _ (Apart : Path → Type 0) (t : Tree) (is_tree : IsTree t) (front : Path
       by_place found =
           let leads = followed_found (followed t true front) found.first found.is in
           let placed = if_ok (is_directory_content found.first.node.content) (found.first.path ++ drop (length front) within) s WrongKind found.then in
-          let directory : is_directory (node_at t found.first.path) ≡ true = ap is_directory (place_stands t 40 true front found.first leads) ∙ placed.0 in
+          let directory : is_directory (node_at t found.first.path) ≡ true = ap is_directory (place_stands t most_links true front found.first leads) ∙ placed.0 in
           let plain = file_no_directory t cut.stop cut.stops.node cut.stops.at cut.stops.file in
           elim (trod_on_way t is_tree true front found.first leads cut.stop cut.stops.on) [
             | Passed there ↦ false≢true (sym plain ∙ there)
@@ -109,7 +109,7 @@ module _ (t : Tree) (is_tree : IsTree t) (front : Path) (name : Name) (s : Path)
         let tails : n.name ∷ [] ≡ name ∷ [] = append_cancel_left i.front _ _ names in
         let there : node_at t (i.place.path ++ name ∷ []) ≡ Some f.node = ap (λ l. node_at t (i.place.path ++ l)) (sym tails) ∙ ap (node_at t) n.is ∙ f.at in
         let leads : followed t true front ≡ Ok i.place = ap (followed t true) (sym fronts) ∙ i.leads in
-        link_on_front t is_tree name i.place f.node there f.file 40 front p leads link on
+        link_on_front t is_tree name i.place f.node there f.file most_links front p leads link on
       where
         file_below_root : s ≢ []
         file_below_root root =
@@ -119,7 +119,7 @@ module _ (t : Tree) (is_tree : IsTree t) (front : Path) (name : Name) (s : Path)
     still_on_front : on_way (changed t (Rename other p)) true front p ≡ true
     unfolding on_way
     still_on_front =
-        still_reached t (changed t (Rename other p)) true p 40 front
+        still_reached t (changed t (Rename other p)) true p most_links front
         (λ q in_front away. ap outline (same_others q (unfollowed_on_way t mine q (directory_on_way t front name q in_front)) away)) on_front
 
     file_same : SameOnWay t (changed t (Rename other p)) true s
@@ -130,7 +130,7 @@ module _ (t : Tree) (is_tree : IsTree t) (front : Path) (name : Name) (s : Path)
         elim (same_or_replaces t is_tree true s s itself other (Rename other p) his apart) [
           | inl same ↦ same
           | inr r ↦ elim r.over [
-            | inl over ↦ absurd (false≢true (sym (own_way_plain t is_tree s stops.node stops.at stops.file 40 r.to r.on) ∙ over))
+            | inl over ↦ absurd (false≢true (sym (own_way_plain t is_tree s stops.node stops.at stops.file most_links r.to r.on) ∙ over))
             | inr same ↦ let target : Rename other p ≡ Rename other r.to = r.is in absurd (elsewhere (cc target ∙ same))
           ]
         ]

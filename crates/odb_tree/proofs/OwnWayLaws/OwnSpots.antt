@@ -4,7 +4,7 @@ use Rattle.std.proofs.lemmas.Bool.{false≢true, false_from_ne_true, or_from}
 use Rattle.odb_base.specs.Path.{Name, Path}
 use Rattle.odb_base.specs.PathLaws.{parent_of-push}
 use Rattle.odb_tree.specs.Tree.{Tree, IsTree, node_at, is_directory, is_directory_content}
-use Rattle.odb_tree.specs.Tree.Follow.{followed}
+use Rattle.odb_tree.specs.Tree.Follow.{followed, most_links}
 use Rattle.odb_tree.specs.Tree.Change.{changed, is_file_content, lies_in_directory}
 use Rattle.odb_tree.specs.Tree.Write.{WrongKind, from_followed, in_directory, spot, spot_below, vacant, replaceable, file_spot, change_of_make_dir, change_of_new_file, change_of_append, change_of_rename, change_of_remove}
 use Rattle.odb_tree.specs.Tree.Way.{on_way, is_link, SameOnWay}
@@ -52,7 +52,7 @@ pub record Replaces (t : Tree) (follow : Bool) (path stop s : Path) (change : Ch
 module _ (t : Tree) (is_tree : IsTree t) (follow : Bool) (path stop : Path) (stops : Stops t follow path stop) where
   trod : (q : Path) → on_way t follow path q ≡ true → Trod t stop q
   unfolding on_way
-  trod q on = stop_trod t is_tree stop stops.node stops.at stops.file follow 40 path stops.on q on
+  trod q on = stop_trod t is_tree stop stops.node stops.at stops.file follow most_links path stops.on q on
 
   -- what lies in a directory, and is neither a directory nor that file, is on the way only as a link
   link_or_stop : (q : Path) → lies_in_directory t q ≡ true → is_directory (node_at t q) ≡ false → on_way t follow path q ≡ true → (is_link (node_at t q) ≡ true) ⊎ (q ≡ stop)
@@ -121,7 +121,7 @@ module _ (t : Tree) (is_tree : IsTree t) (follow : Bool) (path stop : Path) (sto
 
     still_on : on_way (changed t (Rename s p)) follow path p ≡ true
     unfolding on_way
-    still_on = still_reached t (changed t (Rename s p)) follow p 40 path (λ q front other. ap outline (others_same q front other)) on
+    still_on = still_reached t (changed t (Rename s p)) follow p most_links path (λ q front other. ap outline (others_same q front other)) on
 
     pub stops_after : Stops (changed t (Rename s p)) follow path p
     stops_after =

@@ -3,7 +3,7 @@ use Rattle.std.proofs.Common.{◌≡◌, ℕ, true, false, List, Option, Some, N
 use Rattle.std.proofs.lemmas.Bool.{false≢true, and_parts, not-true}
 use Rattle.odb_base.specs.Path.{Path}
 use Rattle.odb_tree.specs.Tree.{Tree, State, IsTree, tree_of, state_of, node_at, with_node, without, names_in, is_directory}
-use Rattle.odb_tree.specs.Tree.Follow.{Place, Refusal, followed}
+use Rattle.odb_tree.specs.Tree.Follow.{Place, Refusal, followed, most_links}
 use Rattle.odb_tree.specs.Tree.Change.{parent_node, lies_in_directory, is_nil, is_file_place, is_possible_in, is_possible, changed, after_change, least_free, put_node, put_over, link_node, link_over, device_of, with_moved, with_longer, longer, is_file, with_time, timed}
 use Rattle.odb_tree.specs.Tree.Write.{after_write}
 use Rattle.odb_tree.specs.declared.node.Node.{Node}
@@ -83,7 +83,7 @@ IsTree-changed t (PutLink p target) is_tree possible =
     let parts = and_parts _ _ possible in IsTree-link_node t is_tree p target parts.0 (not-true _ parts.1)
 IsTree-changed t (Rename from to) is_tree possible =
     let parts = and_parts _ _ possible in IsTree-can_move t is_tree from to parts.0 parts.1
-IsTree-changed t (Append path bytes) is_tree possible = IsTree-longer t is_tree bytes (followed t true path) possible (place_stands t 40 true path)
+IsTree-changed t (Append path bytes) is_tree possible = IsTree-longer t is_tree bytes (followed t true path) possible (place_stands t most_links true path)
 IsTree-changed t (Remove p) is_tree possible =
     let parts = and_parts _ _ possible in let more = and_parts _ _ parts.0 in IsTree-remove t is_tree p more.0 parts.1
 IsTree-changed t (SetTime p time) is_tree possible = IsTree-timed t is_tree p time possible

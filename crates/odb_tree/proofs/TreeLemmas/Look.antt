@@ -2,7 +2,7 @@
 use Rattle.std.proofs.Common.{◌≡◌, ◌≢◌, ℕ, true, List, length, Option, Some, None, Result, Ok, Err, refl, sym, ap, ◌∙◌}
 use Rattle.odb_base.specs.Path.{Path}
 use Rattle.odb_tree.specs.Tree.{Tree, IsTree, node_at}
-use Rattle.odb_tree.specs.Tree.Follow.{Place, Refusal, WrongKind, followed, meta_of, meta_with, meta_of_place, file_of, file_of_place, looked, read_of}
+use Rattle.odb_tree.specs.Tree.Follow.{Place, Refusal, WrongKind, followed, meta_of, meta_with, meta_of_place, file_of, file_of_place, looked, read_of, most_links}
 use Rattle.odb_tree.specs.Tree.Change.{is_possible_in, changed, put_node, put_over}
 use Rattle.odb_tree.specs.declared.node.Node.{Node}
 use Rattle.odb_tree.specs.declared.node.Content.{Content}
@@ -113,4 +113,4 @@ read_of-put_file t is_tree p time bytes possible =
     let content : m.content ≡ File bytes time = put_node-content t p (File bytes time) (node_at t p) in
     let at : node_at u p ≡ Some m = ap (λ v. node_at v p) (made-put_file t p time bytes) ∙ node_at-put t p m in
     let reached = pass_to_other u (IsTree-changed t (PutFile p time bytes) is_tree possible) p m at true (λ target e. let both : File bytes time ≡ Link target = sym content ∙ e in cc) in
-    ap file_of_place (followed_reached u true p 40 p m reached) ∙ ap file_of content
+    ap file_of_place (followed_reached u true p most_links p m reached) ∙ ap file_of content

@@ -6,7 +6,7 @@ use Rattle.odb_base.specs.Path.{Path, parent_of, same_name}
 use Rattle.odb_base.specs.PathLaws.{parent_of-some}
 use Rattle.odb_tree.specs.Tree.{Tree, IsTree, node_at, names_in, is_directory, is_directory_content}
 use Rattle.odb_tree.specs.Tree.Follow as following
-use Rattle.odb_tree.specs.Tree.Follow.{Place, followed}
+use Rattle.odb_tree.specs.Tree.Follow.{Place, followed, most_links}
 use Rattle.odb_tree.specs.Tree.Change.{is_nil, parent_node, device_of, lies_in_directory, is_file_content, is_file_place, can_move, is_possible_in}
 use Rattle.odb_tree.specs.Tree.Write.{Refusal, WrongKind, NotEmpty, from_followed, and_then, in_directory, spot_below, spot, vacant_spot, vacant, movable_spot, movable, replaceable, removable_spot, removable, file_path, file_spot, change_of_make_dir, change_of_new_file, change_of_append, change_of_rename, change_of_remove}
 use Rattle.odb_tree.specs.declared.node.Node.{Node}
@@ -69,7 +69,7 @@ spot_lies t is_tree path s is other =
     let last = parent_of-some path i.front i.parent in
     let behind : drop (length i.front) path ≡ last.0 ∷ [] = ap (drop (length i.front)) last.1 ∙ behind-append i.front (last.0 ∷ []) in
     let whole : i.place.path ++ last.0 ∷ [] ≡ s = ap (λ r. i.place.path ++ r) (sym behind) ∙ i.is in
-    ap (lies_in_directory t) (sym whole) ∙ lies_in-push t i.place.path last.0 ∙ ap is_directory (place_stands t 40 true i.front i.place i.leads) ∙ i.directory
+    ap (lies_in_directory t) (sym whole) ∙ lies_in-push t i.place.path last.0 ∙ ap is_directory (place_stands t most_links true i.front i.place i.leads) ∙ i.directory
 
 -- ---- what stands at a spot
 
@@ -157,14 +157,14 @@ file_at t path s is =
     record {
       node = f.first.node;
       leads = leads ∙ ap (λ q. Ok (record { path = q; node = f.first.node })) e.1;
-      at = ap (node_at t) (sym e.1) ∙ place_stands t 40 true path f.first leads;
+      at = ap (node_at t) (sym e.1) ∙ place_stands t most_links true path f.first leads;
       file = e.0;
     }
 
 -- a file's own path leads to it
 pub leads_to_itself : (t : Tree) → IsTree t → (s : Path) (n : Node) → node_at t s ≡ Some n → is_file_content n.content ≡ true → followed t true s ≡ Ok (record { path = s; node = n })
 leads_to_itself t is_tree s n at file =
-    followed_reached t true s 40 s n (pass_to_other t is_tree s n at true (λ target link. false≢true (sym (ap is_file_content link) ∙ file)))
+    followed_reached t true s most_links s n (pass_to_other t is_tree s n at true (λ target link. false≢true (sym (ap is_file_content link) ∙ file)))
 
 -- ---- the change of a call is possible
 

@@ -5,7 +5,7 @@ use Rattle.odb_base.specs.Path.{Name, Path, parent_of}
 use Rattle.odb_base.specs.PathLaws.{parent_of-some}
 use Rattle.odb_tree.specs.Tree.{Tree, node_at, is_directory_content}
 use Rattle.odb_tree.specs.Tree.Follow as following
-use Rattle.odb_tree.specs.Tree.Follow.{Reached, Place, pass, ending, at_last, arrives, followed}
+use Rattle.odb_tree.specs.Tree.Follow.{Reached, Place, pass, ending, at_last, arrives, followed, most_links}
 use Rattle.odb_tree.specs.Tree.Change.{is_file_content}
 use Rattle.odb_tree.specs.Tree.Write.{WrongKind, from_followed, and_then, in_directory, spot_below, spot, file_path, file_spot}
 use Rattle.odb_tree.specs.Tree.Way.{led_on, ways_within, is_front_of_one, on_way, is_link_content}
@@ -22,19 +22,19 @@ use Rattle.odb_tree.proofs.WayLemmas.Further.{front_of_front, front_of_more, fro
 module _ (t : Tree) where
   pub front_on_way : (follow : Bool) (path q s : Path) → begins q s ≡ true → on_way t follow path q ≡ true → on_way t follow path s ≡ true
   unfolding on_way
-  front_on_way follow path q s front on = front_of_front (ways_within 40 t follow path) q s front on
+  front_on_way follow path q s front on = front_of_front (ways_within most_links t follow path) q s front on
 
   pub unfollowed_on_way : (path q : Path) → on_way t false path q ≡ true → on_way t true path q ≡ true
   unfolding on_way
-  unfollowed_on_way path q on = unfollowed_front t 40 path q on
+  unfollowed_on_way path q on = unfollowed_front t most_links path q on
 
   pub directory_on_way : (front : Path) (name : Name) (q : Path) → on_way t true front q ≡ true → on_way t false (front ++ name ∷ []) q ≡ true
   unfolding on_way
-  directory_on_way front name q on = ap (λ ways. is_front_of_one ways q) (ways_by t name 40 front) ∙ front_of_more (ways_within 40 t true front) name q on
+  directory_on_way front name q on = ap (λ ways. is_front_of_one ways q) (ways_by t name most_links front) ∙ front_of_more (ways_within most_links t true front) name q on
 
   pub place_on_way : (follow : Bool) (path : Path) (place : Place) → followed t follow path ≡ Ok place → on_way t follow path place.path ≡ true
   unfolding on_way
-  place_on_way follow path place is = front_of_own (ways_within 40 t follow path) place.path (ends_way t follow 40 path place is)
+  place_on_way follow path place is = front_of_own (ways_within most_links t follow path) place.path (ends_way t follow most_links path place is)
 
   own_front : (follow : Bool) (links : ℕ) (path q : Path) → begins path q ≡ true → is_front_of_one (ways_within links t follow path) q ≡ true
   unfolding ways_within
@@ -43,7 +43,7 @@ module _ (t : Tree) where
 
   pub own_on_way : (follow : Bool) (path q : Path) → begins path q ≡ true → on_way t follow path q ≡ true
   unfolding on_way
-  own_on_way follow path q front = own_front follow 40 path q front
+  own_on_way follow path q front = own_front follow most_links path q front
 
 -- a spot, as a name in the directory where the path's leads
 pub record NamedIn (t : Tree) (path s : Path) : Type 0 where
@@ -82,7 +82,7 @@ leads_to_spot t path s is below node at plain follow =
     ap (λ p. arrives further (ending follow p (node_at t p))) n.is
     ∙ ap (λ o. arrives further (ending follow s o)) at
     ∙ ap (arrives further) (stays follow s node node.content plain) in
-    ap (followed t follow) n.path_is ∙ followed_by t n.name follow i.place (Ok (record { path = s; node = node })) (is_Dir i.place.node.content i.directory) says 40 i.front i.leads
+    ap (followed t follow) n.path_is ∙ followed_by t n.name follow i.place (Ok (record { path = s; node = node })) (is_Dir i.place.node.content i.directory) says most_links i.front i.leads
 
 -- ---- the kind of a node by its outline
 
@@ -116,16 +116,16 @@ abbrev pub AlikeOnWay : Tree → Tree → Bool → Path → Type 0
 AlikeOnWay t u follow path = (q : Path) → on_way t follow path q ≡ true → outline (node_at u q) ≡ outline (node_at t q)
 
 module _ (t u : Tree) where
-  alike_fronts : (follow : Bool) (path : Path) → AlikeOnWay t u follow path → Alike t u (ways_within 40 t follow path)
+  alike_fronts : (follow : Bool) (path : Path) → AlikeOnWay t u follow path → Alike t u (ways_within most_links t follow path)
   unfolding on_way
   alike_fronts follow path alike q front = alike q front
 
   pub places_alike : (follow : Bool) (path : Path) → AlikeOnWay t u follow path → outline_place (followed u follow path) ≡ outline_place (followed t follow path)
-  places_alike follow path alike = followed_alike t u follow 40 path (alike_fronts follow path alike)
+  places_alike follow path alike = followed_alike t u follow most_links path (alike_fronts follow path alike)
 
   pub on_way_alike : (follow : Bool) (path : Path) → AlikeOnWay t u follow path → (q : Path) → on_way u follow path q ≡ on_way t follow path q
   unfolding on_way
-  on_way_alike follow path alike q = ap (λ ways. is_front_of_one ways q) (ways_alike t u follow 40 path (alike_fronts follow path alike))
+  on_way_alike follow path alike q = ap (λ ways. is_front_of_one ways q) (ways_alike t u follow most_links path (alike_fronts follow path alike))
 
   pub file_spot_alike : (path : Path) → AlikeOnWay t u true path → file_spot u path ≡ file_spot t path
   unfolding file_spot

@@ -54,9 +54,17 @@ module _ (t : Tree) (path s : Path) where
     unfolding change_of_make_dir
     change_of_make_dir-is = ap (and_then (λ place. Ok (MakeDir place (device_of (parent_node t place))))) is
 
+    -- with the device of its directory
+    pub make_dir_told : (dev : ℕ) → dev ≡ device_of (parent_node t s) → change_of_make_dir t path ≡ Ok (MakeDir s dev)
+    make_dir_told dev same = change_of_make_dir-is ∙ ap (λ d. Ok (MakeDir s d)) (sym same)
+
     pub change_of_new_file-is : change_of_new_file t path ≡ Ok (PutFile s 0 [])
     unfolding change_of_new_file
     change_of_new_file-is = ap (and_then (λ place. Ok (PutFile place 0 []))) is
+
+    -- with no bytes
+    pub new_file_told : (bytes : List ℕ) → bytes ≡ [] → change_of_new_file t path ≡ Ok (PutFile s 0 bytes)
+    new_file_told bytes none = change_of_new_file-is ∙ ap (λ b. Ok (PutFile s 0 b)) (sym none)
 
     -- where nothing stands, a path lies in a directory
     pub vacant_lies : IsTree t → lies_in_directory t s ≡ true

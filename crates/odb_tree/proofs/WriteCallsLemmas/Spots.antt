@@ -3,7 +3,7 @@ use Rattle.std.proofs.Common.{◌≡◌, ◌≢◌, ℕ, Bool, true, false, [], 
 use Rattle.odb_base.specs.Path.{Path, parent_of}
 use Rattle.odb_tree.specs.Tree.{Tree, node_at, names_in, is_directory}
 use Rattle.odb_tree.specs.Tree.Follow as following
-use Rattle.odb_tree.specs.Tree.Follow.{Place, pass, followed, followed_within}
+use Rattle.odb_tree.specs.Tree.Follow.{Place, pass, followed, followed_within, most_links}
 use Rattle.odb_tree.specs.Tree.Change.{is_nil, is_file_content}
 use Rattle.odb_tree.specs.Tree.Write.{Refusal, Absent, WrongKind, Exists, NotEmpty, from_followed, and_then, in_directory, spot_below, spot, vacant_spot, vacant, movable_spot, movable, replaceable, removable_spot, removable, file_path, file_spot}
 use Rattle.odb_tree.specs.TreeCalls.{Ends, path_of_place}
@@ -61,7 +61,7 @@ pub record LedTo (t : Tree) (path p : Path) : Type 0 where
 pub led_to : (t : Tree) (path p : Path) → from_followed (path_of_place (followed t true path)) ≡ Ok p → LedTo t path p
 led_to t path p is =
     elim (followed t true path) as (λ told. followed t true path ≡ told → from_followed (path_of_place told) ≡ Ok p → LedTo t path p) [
-      | Ok place ↦ λ leads e. let same : place.path ≡ p = cc in record { place = place; is = leads; path_is = same; at = ap (node_at t) (sym same) ∙ place_stands t 40 true path place leads }
+      | Ok place ↦ λ leads e. let same : place.path ≡ p = cc in record { place = place; is = leads; path_is = same; at = ap (node_at t) (sym same) ∙ place_stands t most_links true path place leads }
       | Err refusal ↦ λ _ e. absurd (cc)
     ] refl is
 

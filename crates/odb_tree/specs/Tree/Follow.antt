@@ -1,4 +1,4 @@
--- Where a path leads: links followed, at most 40 of them on the way.
+-- Where a path leads, links on its way followed.
 use Rattle.std.specs.Prelude.{ℕ, zero, suc, Bool, true, List, [], ◌∷◌, ◌++◌, length, Option, Some, None, Result, Ok, Err}
 use Rattle.odb_base.specs.Path.{Path, Name}
 use Rattle.odb_tree.specs.Tree.{Tree, node_at, names_in}
@@ -9,7 +9,7 @@ use Rattle.odb_tree.specs.declared.meta.Meta.{Meta}
 use Rattle.odb_tree.specs.declared.meta.Kind.TheVariants as kinds
 
 -- Why a path leads to nothing that serves: nothing is there; a part of the way is no directory, or what is
--- there is of another kind; more than 40 links. A tree says nothing else, and so never that a call failed.
+-- there is of another kind; more links than are followed. A tree says nothing else, and so never that a call failed.
 pub data Refusal : Type 0 where
   Absent : Refusal
   WrongKind : Refusal
@@ -63,9 +63,13 @@ unfoldable pub followed_within : ℕ → Tree → Bool → Path → Result Place
 followed_within zero tree follow path = arrives (λ _. Err LinkLoop) (pass tree follow [] path)
 followed_within (suc links) tree follow path = arrives (followed_within links tree follow) (pass tree follow [] path)
 
+-- the most links that are followed on the way of a path: as many as Linux follows (`MAXSYMLINKS`)
+abbrev pub most_links : ℕ
+most_links = 40
+
 -- where a path leads. `follow` says whether a link in the last place is followed
 abbrev pub followed : Tree → Bool → Path → Result Place Refusal
-followed = followed_within 40
+followed = followed_within most_links
 
 -- what a look at a node tells: a directory and a link have length 0 and time 0
 abbrev pub meta_with : ℕ → ℕ → Content → Meta

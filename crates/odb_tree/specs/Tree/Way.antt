@@ -3,7 +3,7 @@ use Rattle.std.specs.Prelude.{◌≡◌, ℕ, zero, suc, Bool, true, false, ◌&
 use Rattle.std.specs.List.{list_any, starts_with}
 use Rattle.odb_base.specs.Path.{Path, parent_of, same_name}
 use Rattle.odb_tree.specs.Tree.{Tree, node_at}
-use Rattle.odb_tree.specs.Tree.Follow.{Pass, Reached, Onward, Missing, Blocked, pass}
+use Rattle.odb_tree.specs.Tree.Follow.{Pass, Reached, Onward, Missing, Blocked, most_links, pass}
 use Rattle.odb_tree.specs.declared.node.Node.{Node}
 use Rattle.odb_tree.specs.declared.node.Content.{Content}
 use Rattle.odb_tree.specs.declared.node.Content.TheVariants.{File, Dir, Link}
@@ -28,7 +28,7 @@ is_front_of_one ways q = list_any (λ way. starts_with same_name way q) ways
 -- Whether q is on the way of a path: what is put, taken or moved there can change where the path leads. `follow` says
 -- whether a link in the last place is followed.
 unfoldable pub on_way : Tree → Bool → Path → Path → Bool
-on_way tree follow path q = is_front_of_one (ways_within 40 tree follow path) q
+on_way tree follow path q = is_front_of_one (ways_within most_links tree follow path) q
 
 -- the same for the directory that a path lies in; the root lies in none
 abbrev pub on_way_to : Tree → Option Path → Path → Bool

@@ -27,7 +27,7 @@ impl Tree {
     }
 
     /// Makes a change that is possible. A refused call changes nothing.
-    pub(super) fn apply(&mut self, alloc: Global, change: &Change) -> Result<(), NoMemory>
+    fn apply(&mut self, alloc: Global, change: &Change) -> Result<(), NoMemory>
         requires possible { is_possible_in self.old change.now ≡ true }
         ensures made { OnOk result (self.new ≡ changed self.old change.now) }
         ensures kept { OnErr result (self.new ≡ self.old) }
@@ -48,7 +48,8 @@ impl Tree {
         }
     }
 
-    fn apply_put_file(
+    /// Puts a file. A refused call changes nothing.
+    pub(super) fn apply_put_file(
         &mut self,
         alloc: Global,
         path: &PathText,
@@ -68,7 +69,13 @@ impl Tree {
         self.put_new_node(alloc, path, content)
     }
 
-    fn apply_make_dir(&mut self, alloc: Global, path: &PathText, dev: u64) -> Result<(), NoMemory>
+    /// Makes a directory. A refused call changes nothing.
+    pub(super) fn apply_make_dir(
+        &mut self,
+        alloc: Global,
+        path: &PathText,
+        dev: u64,
+    ) -> Result<(), NoMemory>
         requires possible { is_possible_in self.old (Change.MakeDir path.now dev) ≡ true }
         ensures made { OnOk result (self.new ≡ changed self.old (Change.MakeDir path.now dev)) }
         ensures kept { OnErr result (self.new ≡ self.old) }
@@ -76,6 +83,7 @@ impl Tree {
         self.put_new(alloc, path, dev, Content::Dir)
     }
 
+    /// Puts a link. A refused call changes nothing.
     fn apply_put_link(
         &mut self,
         alloc: Global,
@@ -112,7 +120,8 @@ impl Tree {
         self.put_new(alloc, path, dev, content)
     }
 
-    fn apply_rename(
+    /// Moves what stands at a path. A refused call changes nothing.
+    pub(super) fn apply_rename(
         &mut self,
         alloc: Global,
         from: &PathText,
@@ -159,6 +168,7 @@ impl Tree {
         Ok(())
     }
 
+    /// Adds bytes to the file that a path leads to. A refused call changes nothing.
     pub(super) fn apply_append(
         &mut self,
         alloc: Global,
@@ -173,7 +183,8 @@ impl Tree {
         self.append_at(&place, bytes)
     }
 
-    fn apply_remove(&mut self, path: &PathText) -> Result<(), NoMemory>
+    /// Removes what stands at a path. A refused call changes nothing.
+    pub(super) fn apply_remove(&mut self, path: &PathText) -> Result<(), NoMemory>
         requires possible { is_possible_in self.old (Change.Remove path.now) ≡ true }
         ensures made { OnOk result (self.new ≡ changed self.old (Change.Remove path.now)) }
         ensures kept { OnErr result (self.new ≡ self.old) }
@@ -183,6 +194,7 @@ impl Tree {
         Ok(())
     }
 
+    /// Sets the time of a file.
     fn apply_set_time(&mut self, path: &PathText, time: u64)
         requires possible { is_possible_in self.old (Change.SetTime path.now time) ≡ true }
         ensures made { self.new ≡ changed self.old (Change.SetTime path.now time) }

@@ -1,5 +1,6 @@
-//! The calls of a disk that write, on its tree.
-ghost use Rattle.std.specs.Prelude.{◌≡◌, true, Result, IfOk, OnOk, OnErr};
+//! The calls of a disk that write, on its tree. Each finds the spots of its paths and makes its change there; the function
+//! of its name with `change_of_` before it tells the change alone.
+ghost use Rattle.std.specs.Prelude.{◌≡◌, true, IfOk, OnOk, OnErr};
 ghost use Rattle.std.specs.Result.{result_ok};
 ghost use Rattle.odb_tree.specs.Answers.{Tells};
 
@@ -16,9 +17,8 @@ impl Tree {
     ghost use Rattle.odb_tree.specs.Tree.{IsTree};
     ghost use Rattle.odb_tree.specs.Tree.Follow.{followed_within};
     ghost use Rattle.odb_tree.specs.Tree.Change.{is_possible_in};
-    ghost use Rattle.odb_tree.specs.Tree.Write.{Refusal, from_followed, spot, vacant, movable, replaceable, removable, file_spot, change_of_make_dir, change_of_new_file, change_of_append, change_of_rename, change_of_remove, done, changed_by};
+    ghost use Rattle.odb_tree.specs.Tree.Write.{from_followed, spot, vacant, movable, replaceable, removable, file_spot, change_of_make_dir, change_of_new_file, change_of_append, change_of_rename, change_of_remove, done, changed_by};
     ghost use Rattle.odb_tree.specs.TreeCalls.{path_of_place};
-    ghost use Rattle.odb_tree.specs.declared.change.Change.{Change as ChangeValue};
 
     /// Makes a directory where nothing stands. A refused call changes nothing.
     pub fn make_dir(&mut self, alloc: Global, path: &PathText) -> Result<(), DiskError>
@@ -26,8 +26,10 @@ impl Tree {
         ensures made { OnOk result (self.new ≡ changed_by self.old (result_ok (change_of_make_dir self.old path.now))) }
         ensures kept { OnErr result (self.new ≡ self.old) }
     {
-        let told = self.change_of_make_dir(alloc, path);
-        self.apply_told(alloc, told)
+        let place = self.vacant(alloc, path)?;
+        let dev = self.device_above(alloc, &place)?;
+        self.apply_make_dir(alloc, &place, dev)?;
+        Ok(())
     }
 
     /// Makes an empty file with time 0 where nothing stands. A refused call changes nothing.
@@ -36,8 +38,10 @@ impl Tree {
         ensures made { OnOk result (self.new ≡ changed_by self.old (result_ok (change_of_new_file self.old path.now))) }
         ensures kept { OnErr result (self.new ≡ self.old) }
     {
-        let told = self.change_of_new_file(alloc, path);
-        self.apply_told(alloc, told)
+        let place = self.vacant(alloc, path)?;
+        let bytes = ByteList::new(alloc);
+        self.apply_put_file(alloc, &place, 0, &bytes)?;
+        Ok(())
     }
 
     /// Adds bytes at the end of a file, links followed. A refused call changes nothing.
@@ -58,8 +62,10 @@ impl Tree {
         ensures made { OnOk result (self.new ≡ changed_by self.old (result_ok (change_of_rename self.old from.now to.now))) }
         ensures kept { OnErr result (self.new ≡ self.old) }
     {
-        let told = self.change_of_rename(alloc, from, to);
-        self.apply_told(alloc, told)
+        let source = self.movable(alloc, from)?;
+        let target = self.replaceable(alloc, to)?;
+        self.apply_rename(alloc, &source, &target)?;
+        Ok(())
     }
 
     /// Removes a file, a link or an empty directory. A refused call changes nothing.
@@ -68,25 +74,9 @@ impl Tree {
         ensures made { OnOk result (self.new ≡ changed_by self.old (result_ok (change_of_remove self.old path.now))) }
         ensures kept { OnErr result (self.new ≡ self.old) }
     {
-        let told = self.change_of_remove(alloc, path);
-        self.apply_told(alloc, told)
-    }
-
-    /// Makes the change that a call is told, or refuses the call as it is told. A refused call changes nothing.
-    fn apply_told(
-        &mut self,
-        alloc: Global,
-        told: Result<Change, DiskError>,
-    ) -> Result<(), DiskError>
-        requires possible { IfOk told (λ change. is_possible_in self.old change ≡ true) }
-        ensures told { (word : Result ChangeValue Refusal) → Tells told word → Tells result (done word) }
-        ensures made { (word : Result ChangeValue Refusal) → Tells told word → OnOk result (self.new ≡ changed_by self.old (result_ok word)) }
-        ensures kept { OnErr result (self.new ≡ self.old) }
-    {
-        match told {
-            Ok(change) => Ok(self.apply(alloc, &change)?),
-            Err(error) => Err(error),
-        }
+        let place = self.removable(alloc, path)?;
+        self.apply_remove(&place)?;
+        Ok(())
     }
 
     /// The change that `make_dir` would make, or why it would be refused.

@@ -1,8 +1,6 @@
-use Rattle.std.proofs.Common.{Ok, ap, sym, ◌∙◌}
 use Rattle.std.proofs.lemmas.Result.{err_from_is_err_and}
-use Rattle.odb_tree.specs.declared.change.Change.TheVariants.{MakeDir}
 use Rattle.odb_tree.proofs.TreeLemmas.Write.{make_dir_possible}
-use Rattle.odb_tree.proofs.WriteCallsLemmas.Changes.{make_dir_unmade, vacant_lies, change_of_make_dir-is}
+use Rattle.odb_tree.proofs.WriteCallsLemmas.Changes.{make_dir_unmade, make_dir_told, vacant_lies}
 use Rattle.odb_tree.proofs.tree.Tree.change_of_make_dir.Goals as goal
 
 pub returns-in_err-path-clause-told : goal.returns-in_err-path-clause-told
@@ -14,9 +12,7 @@ pub device_above-requires : goal.device_above-requires
 device_above-requires c = record { lies = vacant_lies c.args.self.now c.args.path.now c.in_ok-path.path c.in_ok-path.ensures.told c.in_ok-path.ensures.is_tree }
 
 pub returns-clause-told : goal.returns-clause-told
-returns-clause-told c =
-    change_of_make_dir-is c.args.self.now c.args.path.now c.in_ok-path.path c.in_ok-path.ensures.told
-    ∙ ap (λ dev. Ok (MakeDir c.in_ok-path.path dev)) (sym c.in_ok-dev.ensures.device)
+returns-clause-told c = make_dir_told c.args.self.now c.args.path.now c.in_ok-path.path c.in_ok-path.ensures.told c.in_ok-dev.dev c.in_ok-dev.ensures.device
 
 pub returns-clause-possible : goal.returns-clause-possible
 returns-clause-possible c = make_dir_possible c.args.self.now c.in_ok-path.ensures.is_tree c.args.path.now _ (returns-clause-told c)

@@ -1,8 +1,6 @@
-use Rattle.std.proofs.Common.{Ok, ap, sym, ◌∙◌}
 use Rattle.std.proofs.lemmas.Result.{err_from_is_err_and}
-use Rattle.odb_tree.specs.declared.change.Change.TheVariants.{PutFile}
 use Rattle.odb_tree.proofs.TreeLemmas.Write.{new_file_possible}
-use Rattle.odb_tree.proofs.WriteCallsLemmas.Changes.{new_file_unmade, change_of_new_file-is}
+use Rattle.odb_tree.proofs.WriteCallsLemmas.Changes.{new_file_unmade, new_file_told}
 use Rattle.odb_tree.proofs.tree.Tree.change_of_new_file.Goals as goal
 
 pub returns-in_err-path-clause-told : goal.returns-in_err-path-clause-told
@@ -11,9 +9,7 @@ returns-in_err-path-clause-told c =
     rw (p.1, p.2) (new_file_unmade c.args.self.now c.args.path.now _ c.in_err-path.ensures.told)
 
 pub returns-clause-told : goal.returns-clause-told
-returns-clause-told c =
-    change_of_new_file-is c.args.self.now c.args.path.now c.in_ok-path.path c.in_ok-path.ensures.told
-    ∙ ap (λ bytes. Ok (PutFile c.in_ok-path.path 0 bytes)) (sym c.new-bytes.ensures.empty)
+returns-clause-told c = new_file_told c.args.self.now c.args.path.now c.in_ok-path.path c.in_ok-path.ensures.told _ c.new-bytes.ensures.empty
 
 pub returns-clause-possible : goal.returns-clause-possible
 returns-clause-possible c = new_file_possible c.args.self.now c.in_ok-path.ensures.is_tree c.args.path.now _ (returns-clause-told c)
