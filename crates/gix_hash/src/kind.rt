@@ -1,13 +1,14 @@
+//! The kinds of hash, and the lengths of their ids.
 ghost use Rattle.std.specs.Prelude.{◌≡◌, Some};
 ghost use Rattle.gix_hash.specs.Kind.{digits_in, len_in_bytes_of, name_of};
 
 use std::fmt;
 
 /// The bytes of a digest of SHA-1, which has 160 bits (FIPS 180-4).
-pub(crate) const SHA1_LEN: usize = 20;
+pub const SHA1_LEN: usize = 20;
 
 /// The bytes of a digest of SHA-256, which has 256 bits (FIPS 180-4).
-pub(crate) const SHA256_LEN: usize = 32;
+pub const SHA256_LEN: usize = 32;
 
 /// The hex digits of an id of SHA-1, two for each byte.
 pub(crate) const SHA1_DIGITS: usize = 2 * SHA1_LEN;

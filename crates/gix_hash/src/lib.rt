@@ -16,6 +16,6 @@ mod object_id;
 mod prefix;
 
 pub use hasher::Hasher;
-pub use kind::Kind;
+pub use kind::{Kind, SHA1_LEN, SHA256_LEN};
 pub use object_id::{HexError, ObjectId};
 pub use prefix::{Prefix, PrefixError};

@@ -1,3 +1,4 @@
+//! Ids of objects: read from their hex text, written as it, and put in order.
 ghost use Rattle.std.specs.Prelude.{◌≡◌, ◌*◌, ◌↔◌, length, replicate, IfOk, IfErr, IsErr, IsErrOf, IsFalse, IsOk, IsTrue, MatchOption, Some};
 ghost use Rattle.std.specs.String.{string_bytes};
 ghost use Rattle.hex.specs.Hex.{decode_of, IsBytes};

@@ -10,7 +10,8 @@ use Rattle.gix_hash.specs.declared.kind.Kind.TheVariants.{Sha1, Sha256}
 use Rattle.gix_pack_tables.specs.Bytes.{long_number_at, part, same, table}
 use Rattle.gix_multi_index.specs.MultiIndex.Chunks.{Chunk, ChunkRow, chunk_at, chunk_row, chunk_rows, chunks_in, ends_at, has_room, hash_of_number, kind_in, named, the_one}
 use Rattle.gix_multi_index.specs.MultiIndex.{at_most_one}
-use Rattle.gix_multi_index.specs.MultiIndexLayout.{chunks_left, named_left, rows_left, span_of, with_found}
+use Rattle.gix_multi_index.specs.ChunkTable.{chunks_left, named_left, rows_left}
+use Rattle.gix_multi_index.specs.MultiIndexLayout.{span_of, with_found}
 use Rattle.gix_multi_index.specs.declared.layout.Span.{Span}
 
 -- ---- a row

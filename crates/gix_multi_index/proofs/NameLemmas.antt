@@ -21,9 +21,7 @@ false_after false = refl
 
 long_enough : (name : List ℕ) → is_index_name name ≡ true → nat_lt 4 (length name) ≡ true
 unfolding is_index_name
-long_enough name named =
-    let front : Bool = is_utf8 name && not (list_any (λ b. b == 0) name) && not (list_any (λ b. b == 47) name) in
-    (and_parts front (nat_lt 4 (length name)) (and_parts (front && nat_lt 4 (length name)) (ends_with nat_eq name (codes ".idx")) named).0).1
+long_enough name named = (and_parts _ _ (and_parts _ _ (and_parts _ _ named).1).0).1
 
 -- a name has bytes, so it comes behind no bytes at all
 above_nothing : (name : List ℕ) → is_index_name name ≡ true → is_lt (name_cmp [] name) ≡ true
@@ -214,11 +212,3 @@ not_utf8 bytes other = by_test bytes (is_utf8 bytes) refl other
 
 pub utf8 : (bytes : List ℕ) → IsUtf8 bytes → is_utf8 bytes ≡ true
 utf8 bytes is = is_utf8-from_IsUtf8 bytes is
-
-regroup : (text nul slash long ending : Bool) → (text && nul && slash && long && ending) ≡ (text && (nul && slash && long && ending))
-regroup true nul slash long ending = refl
-regroup false nul slash long ending = refl
-
-pub by_form : (name : List ℕ) → is_index_name name ≡ (is_utf8 name && (not (list_any (λ b. b == 0) name) && not (list_any (λ b. b == 47) name) && nat_lt 4 (length name) && ends_with nat_eq name (codes ".idx")))
-unfolding is_index_name
-by_form name = regroup (is_utf8 name) (not (list_any (λ b. b == 0) name)) (not (list_any (λ b. b == 47) name)) (nat_lt 4 (length name)) (ends_with nat_eq name (codes ".idx"))

@@ -15,17 +15,12 @@ use Rattle.gix_multi_index.specs.MultiIndex.{pack_row}
 use Rattle.gix_multi_index.specs.MultiIndexLayout.{ids_at, offset_rows_at, rows_at, span_of, wides_at, IsIn, IsLaidOut}
 use Rattle.gix_multi_index.specs.declared.layout.Layout.{Layout}
 use Rattle.gix_multi_index.specs.declared.layout.Span.{Span}
-use Rattle.gix_pack_tables.proofs.ListLemmas.{zip_get}
+use Rattle.gix_pack_tables.proofs.ListLemmas.{of_row, zip_get}
 use Rattle.gix_pack_tables.proofs.RowsLemmas.{length-table, slice_get-table}
 use Rattle.gix_pack_tables.proofs.SearchLemmas.{length-ids_of, row_fits, row_id}
+use Rattle.gix_pack_tables.proofs.OffsetLaws.{named_below, offset_in-wide}
 
 -- ---- an offset
-
-in_wide : (wides : List ℕ) (narrow : ℕ) → 2 ^ 31 ≤ narrow → offset_in wides narrow ≡ slice_index wides (narrow - 2 ^ 31)
-in_wide wides narrow high = grind arith
-
-below_wides : (n narrow : ℕ) → is_named_below n narrow ≡ true → 2 ^ 31 ≤ narrow → narrow - 2 ^ 31 < n
-below_wides n narrow named high = grind arith
 
 wide_number : (n : ℕ) (bytes : List ℕ) (row : ℕ) → row < n → slice_index (long_numbers n bytes) row ≡ long_number_at (row * 8) bytes
 wide_number n bytes row h =
@@ -34,7 +29,7 @@ wide_number n bytes row h =
 
 pub wide_offset : (wides : List ℕ) (narrow : ℕ) → 2 ^ 31 ≤ narrow → has_offset (Some wides) narrow ≡ true → long_number_at ((narrow - 2 ^ 31) * 8) wides ≡ offset_of_bytes (Some wides) narrow
 wide_offset wides narrow high named =
-    sym (in_wide (long_numbers (length wides / 8) wides) narrow high ∙ wide_number (length wides / 8) wides (narrow - 2 ^ 31) (below_wides (length wides / 8) narrow named high))
+    sym (offset_in-wide (long_numbers (length wides / 8) wides) narrow high ∙ wide_number (length wides / 8) wides (narrow - 2 ^ 31) (named_below (length wides / 8) narrow named high))
 
 -- ---- a row
 
@@ -98,12 +93,6 @@ module _ (kind : Kind) (places : Layout) (bytes : List ℕ) where
 
 pub length_span : (bytes : List ℕ) (place : Span) → IsIn bytes place → length (span_of bytes place) ≡ place.len
 length_span bytes place within = omega (arith, length-take place.len (drop place.start bytes), length-drop place.start bytes)
-
--- what holds of each row holds of one
-of_row : {X : Type 0} (test : X → Bool) (rows : List X) (n : ℕ) (row : X) → list_all test rows ≡ true → slice_get rows n ≡ Some row → test row ≡ true
-of_row test [] n row all h = cc h
-of_row test (x ∷ rows) zero row all h = ap test (sym (same_Some x row h)) ∙ (and_parts (test x) (list_all test rows) all).0
-of_row test (x ∷ rows) (suc n) row all h = of_row test rows n row (and_parts (test x) (list_all test rows) all).1 h
 
 module _ (kind : Kind) (places : Layout) (bytes : List ℕ) (laid : IsLaidOut kind places bytes) where
   pub ids_room : places.count * len_in_bytes_of kind ≤ length (span_of bytes places.ids)

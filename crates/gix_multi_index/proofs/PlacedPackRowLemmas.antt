@@ -1,5 +1,6 @@
 -- The rows of several packs as the encoder of multi-pack indices keeps them.
 use Rattle.std.proofs.Common.{◌≡◌, ℕ, ◌+◌, List, [], ◌∷◌, ◌++◌, length, map, length-append, refl, ap, ◌∙◌, arith}
+use Rattle.std.proofs.lemmas.List.{map-append}
 use Rattle.std.specs.List.{enumerate_from, flat_map, sum_by}
 use Rattle.std.proofs.lemmas.List.Sums.{sum_by-cons}
 use Rattle.gix_hash.specs.declared.kind.Kind.{Kind}
@@ -7,7 +8,7 @@ use Rattle.gix_object.specs.Data.{Object}
 use Rattle.gix_pack_tables.specs.PlacedRow.{placed_from, row_of}
 use Rattle.gix_pack_tables.specs.Rows.{PackRow}
 use Rattle.gix_pack_tables.specs.WrittenPack.{entry_of, id_of_object, rows_in_order}
-use Rattle.gix_pack_tables.proofs.PlacedLemmas.{length-placed_from, map_append, rows_placed}
+use Rattle.gix_pack_tables.proofs.PlacedLemmas.{length-placed_from, rows_placed}
 use Rattle.gix_multi_index.specs.PlacedPackRow.{pack_row_of, placed_in}
 use Rattle.gix_multi_index.specs.WrittenMultiIndex.{Named, in_pack, rows_in_pack, rows_in_packs}
 
@@ -19,7 +20,7 @@ pack_rows_from hash pack place (object ∷ objects) =
 pack_rows : (hash : Kind) (number : ℕ) (packs : List Named) → map pack_row_of (placed_in hash number packs) ≡ flat_map (rows_in_pack hash) (enumerate_from number packs)
 pack_rows hash number [] = refl
 pack_rows hash number (pack ∷ packs) =
-    map_append pack_row_of (placed_from hash number 12 pack.objects) (placed_in hash (number + 1) packs)
+    map-append pack_row_of (placed_from hash number 12 pack.objects) (placed_in hash (number + 1) packs)
     ∙ ap (λ (rows : List PackRow). rows ++ map pack_row_of (placed_in hash (number + 1) packs)) (pack_rows_from hash number 12 pack.objects ∙ ap (map (in_pack number)) (rows_placed hash number pack.objects))
     ∙ ap (λ (rows : List PackRow). map (in_pack number) (rows_in_order hash pack.objects) ++ rows) (pack_rows hash (number + 1) packs)
 

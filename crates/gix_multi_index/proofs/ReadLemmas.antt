@@ -1,12 +1,13 @@
 -- What a multi-pack index that was read tells.
 use Rattle.std.proofs.Common.{◌≡◌, ℕ, ◌+◌, ◌≤◌, Bool, true, false, List, [], ◌∷◌, length, drop, slice_get, Option, Some, None, Ok, Err, option_map, ok_or, unwrap_or, cond, sym, ap, ◌∙◌}
+use Rattle.std.proofs.lemmas.List.{drop_all}
 use Rattle.std.proofs.lemmas.Option.{same_Some}
 use Rattle.gix_hash.specs.declared.kind.Kind.{Kind}
 use Rattle.gix_hash.specs.declared.kind.Kind.TheVariants.{Sha1}
 use Rattle.gix_hash.specs.declared.object_id.ObjectId.{ObjectId}
 use Rattle.gix_pack_tables.specs.Bytes.{is_within}
 use Rattle.gix_pack_tables.specs.Rows.{PackRow}
-use Rattle.gix_pack_tables.proofs.ListLemmas.{drop_at, drop_past}
+use Rattle.gix_pack_tables.proofs.ListLemmas.{drop_at}
 use Rattle.gix_multi_index.specs.MultiIndex.{MultiIndex, multi_index_of, read_of, told}
 use Rattle.gix_multi_index.specs.MultiIndexLayout.{rows_at, IsRead}
 use Rattle.gix_multi_index.specs.declared.file.Error.TheVariants.{AboveLimit, BadMultiIndex}
@@ -62,7 +63,7 @@ rows_more rows n row own = drop_at rows n row own
 
 -- behind the last row there is none
 pub rows_end : (rows : List PackRow) (n : ℕ) → length rows ≤ n → drop n rows ≡ []
-rows_end rows n past = drop_past rows n past
+rows_end rows n past = drop_all n rows past
 
 by_parts : (found : Option PackRow) (id : ObjectId) (pack offset : ℕ) → option_map (λ (row : PackRow). row.id) found ≡ Some id → option_map (λ (row : PackRow). row.pack) found ≡ Some pack
     → option_map (λ (row : PackRow). row.offset) found ≡ Some offset → found ≡ Some (record { id = id; pack = pack; offset = offset })

@@ -1,5 +1,6 @@
 -- Multi-pack indices as they are written are read back as a whole.
 use Rattle.std.proofs.Common.{◌≡◌, ℕ, suc, ◌+◌, ◌-◌, ◌*◌, ◌^◌, ◌<◌, ◌≤◌, ◌==◌, ◌&&◌, nat_eq, nat_le, Bool, true, false, cond, List, [], ◌∷◌, ◌++◌, length, map, drop, slice_index, codes, Option, Some, None, unwrap_or, is_some, append_assoc, length-append, refl, sym, ap, subst, ◌∙◌, arith}
+use Rattle.std.proofs.lemmas.Bool.{le-leb}
 use Rattle.std.specs.Prelude.{option_and_then}
 use Rattle.std.specs.List.{AllByRecursion, filter, flat_map, starts_with, zip}
 use Rattle.std.specs.Int.{w32, to_be_bytes}
@@ -33,9 +34,6 @@ use Rattle.gix_pack_tables.proofs.WrittenTableLemmas.{length-hash_of, number_bac
 number_hash : (hash : Kind) → hash_of_number (hash_number hash) ≡ Some hash
 number_hash Sha1 = refl
 number_hash Sha256 = refl
-
-le_true : (a b : ℕ) → a ≤ b → nat_le a b ≡ true
-le_true a b h = grind arith
 
 all_three : (a b c : Bool) → a ≡ true → b ≡ true → c ≡ true → (a && b && c) ≡ true
 all_three a b c x y z = rw (x, y, z) refl
@@ -91,7 +89,7 @@ module _ (hash : Kind) (packs : ℕ) (chunks : List Chunk) (own : List ℕ) (hav
   room_fits =
       let size : len_in_bytes_of (kind_in bytes) ≡ len_in_bytes_of hash = ap len_in_bytes_of kind_is in
       let all = long in
-      le_true (12 + 12 * (chunks_in bytes + 1) + len_in_bytes_of (kind_in bytes)) (length bytes) (omega arith)
+      le-leb (12 + 12 * (chunks_in bytes + 1) + len_in_bytes_of (kind_in bytes)) (length bytes) (omega arith)
 
   rows_are : chunk_rows bytes ≡ rows_from place chunks
   rows_are =

@@ -2,7 +2,7 @@
 use Rattle.std.proofs.Common.{◌≡◌, ℕ, zero, suc, ◌+◌, ◌-◌, ◌*◌, ◌^◌, ◌<◌, ◌≤◌, ◌==◌, nat_le, nat_lt, true, false, List, [], ◌∷◌, ◌++◌, length, map, take, drop, replicate, append_assoc, length-append, refl, sym, ap, ◌∙◌, arith, eq-eqb}
 use Rattle.std.specs.List.{AllByRecursion, flat_map, list_all, list_any, zip}
 use Rattle.std.specs.Int.{w64, from_be_bytes, to_be_bytes}
-use Rattle.std.proofs.lemmas.Bool.{and_parts, not-true}
+use Rattle.std.proofs.lemmas.Bool.{and_parts, not-true, le-leb, lt-ltb}
 use Rattle.std.proofs.lemmas.List.{append-nil, drop_at, take_at}
 use Rattle.std.proofs.lemmas.List.Splits.{slice_split_at}
 use Rattle.std.proofs.lemmas.Nat.{from_be_bytes-to_be_bytes_8}
@@ -69,9 +69,6 @@ length-chunk_table place (chunk ∷ chunks) names =
     let rest = length-chunk_table (place + length chunk.bytes) chunks names.1 in
     omega arith
 
-le_true : (a b : ℕ) → a ≤ b → nat_le a b ≡ true
-le_true a b h = grind arith
-
 -- the places never fall, and the last one is the end
 pub ends_back : (place end : ℕ) (chunks : List Chunk) → end ≡ place + length (whole chunks) → ends_at end (rows_from place chunks) ≡ true
 unfolding ends_at
@@ -80,12 +77,12 @@ ends_back place end [] is =
     rw here refl
 ends_back place end (chunk ∷ []) is =
     let both = length-append chunk.bytes (whole []) in
-    let up : nat_le place (place + length chunk.bytes) ≡ true = le_true place (place + length chunk.bytes) (omega arith) in
+    let up : nat_le place (place + length chunk.bytes) ≡ true = le-leb place (place + length chunk.bytes) (omega arith) in
     let rest : ends_at end (rows_from (place + length chunk.bytes) []) ≡ true = ends_back (place + length chunk.bytes) end [] (omega arith) in
     rw (up, rest) refl
 ends_back place end (chunk ∷ next ∷ chunks) is =
     let both = length-append chunk.bytes (whole (next ∷ chunks)) in
-    let up : nat_le place (place + length chunk.bytes) ≡ true = le_true place (place + length chunk.bytes) (omega arith) in
+    let up : nat_le place (place + length chunk.bytes) ≡ true = le-leb place (place + length chunk.bytes) (omega arith) in
     let rest : ends_at end (rows_from (place + length chunk.bytes) (next ∷ chunks)) ≡ true = ends_back (place + length chunk.bytes) end (next ∷ chunks) (omega arith) in
     rw (up, rest) refl
 
@@ -123,7 +120,7 @@ chunks_back front (chunk ∷ next ∷ chunks) rest bytes place is long =
 no_nul : (name : List ℕ) → is_index_name name ≡ true → list_any (λ b. b == 0) name ≡ false
 unfolding is_index_name
 no_nul name h =
-    not-true _ (and_parts _ _ (and_parts _ _ (and_parts _ _ (and_parts _ _ h).0).0).0).1
+    not-true _ (and_parts _ _ (and_parts _ _ (and_parts _ _ (and_parts _ _ h).1).0).0).0
 
 pub parts_back : (names : List (List ℕ)) (rest : List ℕ) → list_all is_index_name names ≡ true → name_parts (name_bytes names ++ rest) ≡ names ++ name_parts rest
 parts_back [] rest all = refl
@@ -142,9 +139,6 @@ all_empty : (n : ℕ) → list_all (λ (rest : List ℕ). length rest == 0) (rep
 all_empty zero = refl
 all_empty (suc n) = all_empty n
 
-lt_true : (a b : ℕ) → a < b → nat_lt a b ≡ true
-lt_true a b h = grind arith
-
 -- the names are read back, with any number of NULs behind them
 pub names_held : (names : List (List ℕ)) (n : ℕ) → are_names names ≡ true → holds_names (length names) (name_bytes names ++ replicate n 0) ≡ true
 unfolding holds_names
@@ -152,7 +146,7 @@ names_held names n are =
     let apart = and_parts (list_all is_index_name names) (names_rise names) are in
     let parts : name_parts (name_bytes names ++ replicate n 0) ≡ names ++ [] ∷ replicate n [] = parts_back names (replicate n 0) apart.0 ∙ ap (λ (rest : List (List ℕ)). names ++ rest) (nuls_back n) in
     let many = length-append names ([] ∷ replicate n []) in
-    let more : nat_lt (length names) (length (names ++ [] ∷ replicate n [])) ≡ true = lt_true (length names) (length (names ++ [] ∷ replicate n [])) (omega arith) in
+    let more : nat_lt (length names) (length (names ++ [] ∷ replicate n [])) ≡ true = lt-ltb (length names) (length (names ++ [] ∷ replicate n [])) (omega arith) in
     let first : take (length names) (names ++ [] ∷ replicate n []) ≡ names = take_at names ([] ∷ replicate n []) (length names) refl in
     let others : drop (length names) (names ++ [] ∷ replicate n []) ≡ [] ∷ replicate n [] = drop_at names ([] ∷ replicate n []) (length names) refl in
     rw (parts, more, first, others, are, all_empty n) refl

@@ -1,6 +1,7 @@
 -- Multi-pack indices as they are written: their chunks, and the table of these.
 pub mod Loops
 use Rattle.std.proofs.Common.{◌≡◌, ℕ, ◌+◌, ◌-◌, ◌*◌, ◌^◌, ◌<◌, ◌≤◌, ◌&&◌, Bool, true, false, List, [], ◌∷◌, ◌++◌, length, map, drop, get_or, codes, refl, sym, ap, subst, ◌∙◌, arith}
+use Rattle.std.proofs.lemmas.Simd.{map-map}
 use Rattle.std.specs.List.{AllByRecursion, flat_map, list_all, sum_by}
 use Rattle.std.specs.Int.{w32, to_be_bytes}
 use Rattle.std.proofs.lemmas.List.{drop_all, drop_more, length-map}
@@ -22,7 +23,6 @@ use Rattle.gix_multi_index.specs.declared.writing.Chunk as kept
 use Rattle.gix_multi_index.specs.declared.named_pack.NamedPack as given
 use Rattle.gix_pack_tables.specs.declared.write.rows.Placed.{Placed}
 use Rattle.gix_multi_index.proofs.PlacedPackRowLemmas.{length-placed_in, pack_rows_placed}
-use Rattle.gix_pack_tables.proofs.PlacedLemmas.{map_map}
 use Rattle.gix_pack_tables.proofs.TableLemmas.{each_of_table, is_table, length-table_of, rising-table_of}
 use Rattle.gix_pack_tables.proofs.TableLemmas.Seen.{map-table_of}
 
@@ -43,9 +43,9 @@ pub chunks_seen : (names : List (List ℕ)) (rows : List Placed) → chunks_writ
     ∷ record { name = codes "OIDL"; bytes = flat_map bytes_of (map id_of rows) } ∷ offset_chunks (map pack_of rows) (map offset_of rows)
 unfolding chunks_written
 chunks_seen names rows =
-    let ids : map id_seen (map pack_row_of rows) ≡ map id_of rows = map_map id_seen pack_row_of rows in
-    let offsets : map offset_seen (map pack_row_of rows) ≡ map offset_of rows = map_map offset_seen pack_row_of rows in
-    let packs : map pack_seen (map pack_row_of rows) ≡ map pack_of rows = map_map pack_seen pack_row_of rows in
+    let ids : map id_seen (map pack_row_of rows) ≡ map id_of rows = map-map id_seen pack_row_of rows in
+    let offsets : map offset_seen (map pack_row_of rows) ≡ map offset_of rows = map-map offset_seen pack_row_of rows in
+    let packs : map pack_seen (map pack_row_of rows) ≡ map pack_of rows = map-map pack_seen pack_row_of rows in
     rw (ids, offsets, packs) refl
 
 pub multi_table_seen : (hash : Kind) (packs : List Named) → map pack_row_of (multi_placed hash packs) ≡ table_of id_seen (rows_in_packs hash packs)

@@ -11,17 +11,18 @@
 -- The places never fall. The last row has the name 0, and the place where the trailing hash begins.
 pub mod Chunks
 pub mod Held
-use Rattle.std.specs.Prelude.{ℕ, ◌-◌, ◌*◌, ◌%◌, ◌==◌, ◌&&◌, Bool, List, [], ◌∷◌, length, take, map, codes, nat_lt, Option, Some, None, Result, Err, ok_or, option_and_then, unwrap_or, if◌then◌else◌}
+use Rattle.std.specs.Prelude.{◌≡◌, ◌⊎◌, ℕ, ◌-◌, ◌*◌, ◌%◌, ◌==◌, ◌&&◌, Bool, true, List, [], ◌∷◌, length, take, map, codes, nat_lt, Option, Some, None, Result, Err, ok_or, option_and_then, unwrap_or, if◌then◌else◌}
 use Rattle.std.specs.List.{list_all, zip}
 use Rattle.gix_hash.specs.Kind.{len_in_bytes_of}
 use Rattle.gix_hash.specs.declared.kind.Kind.{Kind}
 use Rattle.gix_hash.specs.declared.kind.Kind.TheVariants.{Sha1}
 use Rattle.gix_hash.specs.declared.object_id.ObjectId.{ObjectId}
 use Rattle.gix_multi_index.specs.declared.file.Error.{Error}
-use Rattle.gix_multi_index.specs.declared.file.Error.TheVariants.{AboveLimit, BadMultiIndex}
+use Rattle.gix_multi_index.specs.declared.file.Error.TheVariants.{AboveLimit, BadMultiIndex, NoMemory}
 use Rattle.gix_pack_tables.specs.Bytes.{is_within, same, table, number_at, numbers}
-use Rattle.gix_pack_tables.specs.Rows.{PackRow, ids_of, is_rising, counts_of}
-use Rattle.gix_multi_index.specs.MultiIndex.Chunks.{Chunk, chunk, chunk_rows, counts_len, ends_at, has_header, has_room, kind_in, last_count_place, named, packs_in, trailer_place}
+use Rattle.gix_pack_tables.specs.Rows.{PackRow, counts_len, ids_of, is_rising, counts_of, wide_len}
+use Rattle.gix_multi_index.specs.MultiIndex.Chunks.{Chunk, chunk, chunk_rows, ends_at, has_header, has_room, kind_in, last_count_place, named, packs_in, trailer_place}
+pub use Rattle.gix_multi_index.specs.MultiIndex.Chunks.{multi_index_start}
 pub use Rattle.gix_multi_index.specs.MultiIndex.Held.{are_names}
 use Rattle.gix_multi_index.specs.MultiIndex.Held.{has_offset, holds_names, name_parts, offset_of_bytes}
 
@@ -63,21 +64,32 @@ objects_in parts = number_at last_count_place parts.counts
 abbrev pub part_ids : Kind → Parts → List ObjectId
 part_ids kind parts = ids_of kind (objects_in parts) parts.ids
 
--- a row of the offsets: the number of a pack, and four bytes of offset
+-- how long a row of the offsets is: the number of a pack, and an offset, of four bytes each
+abbrev pub offset_row_len : ℕ
+offset_row_len = 8
+
+-- what stands in such a row: the pack first, and the offset behind it
+abbrev pub pack_in : List ℕ → ℕ
+pack_in row = number_at 0 row
+
+abbrev pub narrow_in : List ℕ → ℕ
+narrow_in row = number_at 4 row
+
 abbrev pub offset_rows : Parts → List (List ℕ)
-offset_rows parts = table 8 (objects_in parts) parts.offsets
+offset_rows parts = table offset_row_len (objects_in parts) parts.offsets
 
 -- whether the chunks have their lengths
 abbrev pub have_lengths : Kind → Parts → Bool
 have_lengths kind parts =
-    length parts.counts == counts_len && length parts.ids == objects_in parts * len_in_bytes_of kind && length parts.offsets == objects_in parts * 8
-    && length (unwrap_or parts.wides []) % 8 == 0
+    length parts.counts == counts_len && length parts.ids == objects_in parts * len_in_bytes_of kind
+    && length parts.offsets == objects_in parts * offset_row_len && length (unwrap_or parts.wides []) % wide_len == 0
 
 -- whether the parts agree: names and ids that rise strictly, the counts of the ids, packs that are named, and offsets
 unfoldable pub are_parts : Kind → ℕ → Parts → Bool
 are_parts kind packs parts =
-    have_lengths kind parts && holds_names packs parts.names && is_rising (part_ids kind parts) && same (numbers 256 parts.counts) (counts_of (part_ids kind parts))
-    && list_all (λ row. nat_lt (number_at 0 row) packs && has_offset parts.wides (number_at 4 row)) (offset_rows parts)
+    have_lengths kind parts && holds_names packs parts.names && is_rising (part_ids kind parts)
+    && same (numbers 256 parts.counts) (counts_of (part_ids kind parts))
+    && list_all (λ row. nat_lt (pack_in row) packs && has_offset parts.wides (narrow_in row)) (offset_rows parts)
 
 -- what a multi-index tells: its hash, the names of its packs, and its rows
 pub record MultiIndex : Type 0 where
@@ -86,13 +98,17 @@ pub record MultiIndex : Type 0 where
   pub rows : List PackRow
 
 abbrev pub pack_row : Option (List ℕ) → ObjectId × List ℕ → PackRow
-pack_row wides row = record { id = row.0; pack = number_at 0 row.1; offset = offset_of_bytes wides (number_at 4 row.1) }
+pack_row wides row = record { id = row.0; pack = pack_in row.1; offset = offset_of_bytes wides (narrow_in row.1) }
+
+-- the rows that the parts tell
+abbrev pub rows_of : Kind → Parts → List PackRow
+rows_of kind parts = map (pack_row parts.wides) (zip (part_ids kind parts) (offset_rows parts))
 
 -- what the parts tell, if they agree
 unfoldable pub multi_index_from : Kind → ℕ → Parts → Option MultiIndex
 multi_index_from kind packs parts =
     if are_parts kind packs parts
-    then Some (record { kind = kind; names = take packs (name_parts parts.names); rows = map (pack_row parts.wides) (zip (part_ids kind parts) (offset_rows parts)) })
+    then Some (record { kind = kind; names = take packs (name_parts parts.names); rows = rows_of kind parts })
     else None
 
 -- what bytes tell as a multi-index, if they are one
@@ -111,3 +127,7 @@ told bytes = unwrap_or (multi_index_of bytes) (record { kind = Sha1; names = [];
 -- what reading answers: the limit is tested first
 abbrev pub read_of : Option ℕ → List ℕ → Result MultiIndex Error
 read_of limit bytes = if is_within limit (length bytes) then ok_or (multi_index_of bytes) BadMultiIndex else Err AboveLimit
+
+-- why reading fails: for what it answers of the bytes, or for want of memory, and that only within the limit
+abbrev pub IsRefusal : Option ℕ → List ℕ → Error → Type 0
+IsRefusal limit bytes error = (read_of limit bytes ≡ Err error) ⊎ ((error ≡ NoMemory) × (is_within limit (length bytes) ≡ true))

@@ -1,31 +1,17 @@
 -- Where the parts of a multi-pack index stand in its bytes, as a parsed one keeps that. No public clause cites this module.
-use Rattle.std.specs.Prelude.{◌≡◌, ℕ, suc, drop, ◌*◌, ◌/◌, ◌+◌, ◌^◌, ◌<◌, ◌≤◌, ◌&&◌, Bool, true, nat_lt, List, [], ◌∷◌, length, map, Option, Some, None, option_map}
-use Rattle.std.specs.List.{list_all, zip, filter}
+use Rattle.std.specs.Prelude.{◌≡◌, ℕ, ◌*◌, ◌/◌, ◌%◌, ◌==◌, ◌+◌, ◌^◌, ◌<◌, ◌≤◌, ◌&&◌, Bool, true, nat_lt, List, [], ◌∷◌, length, map, slice_get, Option, Some, None, option_map}
+use Rattle.std.specs.List.{list_all, zip}
 use Rattle.gix_hash.specs.Kind.{len_in_bytes_of}
 use Rattle.gix_hash.specs.declared.kind.Kind.{Kind}
 use Rattle.gix_hash.specs.declared.object_id.ObjectId.{ObjectId}
-use Rattle.gix_pack_tables.specs.Bytes.{part, number_at, numbers, same, table}
-use Rattle.gix_multi_index.specs.MultiIndex.Chunks.{Chunk, ChunkRow, chunk_at, chunk_row, chunk_rows, ends_at, has_header, has_room, kind_in, packs_in, row_len, trailer_place}
-use Rattle.gix_multi_index.specs.MultiIndex.{Parts, at_most_one, parts_of, have_lengths, multi_index_of, objects_in, offset_rows, pack_row, part_ids}
+use Rattle.gix_pack_tables.specs.Bytes.{part, numbers, same, table}
+use Rattle.gix_multi_index.specs.MultiIndex.Chunks.{Chunk, chunk_rows, ends_at, has_header, has_room, kind_in, packs_in, trailer_place}
+use Rattle.gix_multi_index.specs.MultiIndex.{Parts, at_most_one, parts_of, have_lengths, multi_index_of, narrow_in, objects_in, offset_row_len, offset_rows, pack_in, pack_row, part_ids}
 use Rattle.gix_multi_index.specs.MultiIndex.Held.{has_offset}
-use Rattle.gix_pack_tables.specs.Rows.{PackRow, counts_of, ids_of, is_named_below, is_rising}
+use Rattle.gix_pack_tables.specs.Rows.{PackRow, counts_of, ids_of, is_named_below, is_rising, wide_len}
 use Rattle.gix_multi_index.specs.declared.layout.Layout as layout
 use Rattle.gix_multi_index.specs.declared.layout.Span as span
 use Rattle.gix_multi_index.specs.declared.layout.Spans as spans
-
--- ---- the chunk table, row by row
-
--- the rows that are left: those of so many chunks, and one more
-unfoldable pub rows_left : ℕ → List ℕ → List ChunkRow
-rows_left left rest = map chunk_row (table row_len (suc left) rest)
-
--- the chunks of those rows
-unfoldable pub chunks_left : List ℕ → ℕ → List ℕ → List Chunk
-chunks_left bytes left rest = map (chunk_at bytes) (zip (rows_left left rest) (drop 1 (rows_left left rest)))
-
--- those of a name
-unfoldable pub named_left : List ℕ → List ℕ → ℕ → List ℕ → List Chunk
-named_left name bytes left rest = filter (λ chunk. same chunk.name name) (chunks_left bytes left rest)
 
 -- ---- chunks that were found
 
@@ -77,11 +63,11 @@ is_offset (Some wides) narrow = is_named_below wides narrow
 
 -- whether a row names one of so many packs, and an offset
 abbrev pub is_row : ℕ → Option ℕ → List ℕ → Bool
-is_row packs wides row = nat_lt (number_at 0 row) packs && is_offset wides (number_at 4 row)
+is_row packs wides row = nat_lt (pack_in row) packs && is_offset wides (narrow_in row)
 
 -- how many wide offsets there are, if there is a chunk of them
 abbrev pub wides_in : Option (List ℕ) → Option ℕ
-wides_in wides = option_map (λ (chunk : List ℕ). length chunk / 8) wides
+wides_in wides = option_map (λ (chunk : List ℕ). length chunk / wide_len) wides
 
 -- whether the ids rise strictly, and the counts are theirs
 abbrev pub ids_agree : Kind → Parts → Bool
@@ -105,6 +91,12 @@ tables_agree kind packs parts = have_lengths kind parts && rows_agree kind packs
 abbrev pub layout_in : List ℕ → spans.Spans → layout.Layout
 layout_in bytes places = record { count = objects_in (parts_at bytes places); ids = places.ids; offsets = places.offsets; wides = places.wides }
 
+-- whether ids, offsets and wide offsets have the lengths of tables of so many rows
+abbrev pub spans_have_lengths : Kind → layout.Layout → Bool
+spans_have_lengths kind places =
+    places.ids.len == places.count * len_in_bytes_of kind && places.offsets.len == places.count * offset_row_len
+    && len_of places.wides % wide_len == 0
+
 -- the chunk of wide offsets, if there is one
 abbrev pub wides_at : layout.Layout → List ℕ → Option (List ℕ)
 wides_at places bytes = option_map (span_of bytes) places.wides
@@ -113,11 +105,19 @@ abbrev pub ids_at : Kind → layout.Layout → List ℕ → List ObjectId
 ids_at kind places bytes = ids_of kind places.count (span_of bytes places.ids)
 
 abbrev pub offset_rows_at : layout.Layout → List ℕ → List (List ℕ)
-offset_rows_at places bytes = table 8 places.count (span_of bytes places.offsets)
+offset_rows_at places bytes = table offset_row_len places.count (span_of bytes places.offsets)
 
 -- the rows that stand at these places
 unfoldable pub rows_at : Kind → layout.Layout → List ℕ → List PackRow
 rows_at kind places bytes = map (pack_row (wides_at places bytes)) (zip (ids_at kind places bytes) (offset_rows_at places bytes))
+
+-- their ids
+abbrev pub row_ids : Kind → layout.Layout → List ℕ → List ObjectId
+row_ids kind places bytes = map (λ (row : PackRow). row.id) (rows_at kind places bytes)
+
+-- what a row with this number tells by one of its parts
+abbrev pub told_by : {X : Type 0} → (PackRow → X) → Kind → layout.Layout → List ℕ → ℕ → Option X
+told_by part_of kind places bytes n = option_map part_of (slice_get (rows_at kind places bytes) n)
 
 -- the tables lie in the bytes, the ids rise strictly, and each offset that names a wide one names one of them
 pub record IsLaidOut (kind : Kind) (places : layout.Layout) (bytes : List ℕ) : Type 0 where
@@ -125,9 +125,9 @@ pub record IsLaidOut (kind : Kind) (places : layout.Layout) (bytes : List ℕ) :
   pub offsets_in : IsIn bytes places.offsets
   pub wides_in : IsInIfThere bytes places.wides
   pub ids_len : places.ids.len ≡ places.count * len_in_bytes_of kind
-  pub offsets_len : places.offsets.len ≡ places.count * 8
+  pub offsets_len : places.offsets.len ≡ places.count * offset_row_len
   pub rising : is_rising (ids_at kind places bytes) ≡ true
-  pub named : list_all (λ row. has_offset (wides_at places bytes) (number_at 4 row)) (offset_rows_at places bytes) ≡ true
+  pub named : list_all (λ row. has_offset (wides_at places bytes) (narrow_in row)) (offset_rows_at places bytes) ≡ true
 
 -- bytes tell a multi-index of this kind, with these names, and with the rows at these places
 pub record IsRead (kind : Kind) (names : List (List ℕ)) (places : layout.Layout) (bytes : List ℕ) : Type 0 where

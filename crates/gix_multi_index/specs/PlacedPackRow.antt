@@ -1,12 +1,13 @@
 -- No public clause cites this module: the rows of several packs as the encoder of multi-pack indices keeps them.
-use Rattle.std.specs.Prelude.{ℕ, ◌+◌, List, [], ◌∷◌, ◌++◌}
+use Rattle.std.specs.Prelude.{ℕ, ◌+◌, List, [], ◌∷◌, ◌++◌, map}
 use Rattle.gix_hash.specs.declared.kind.Kind.{Kind as HashKind}
 use Rattle.gix_pack_tables.specs.PlacedRow.{id_of, placed_from}
 use Rattle.gix_pack_tables.specs.Rows.{PackRow}
 use Rattle.gix_pack_tables.specs.WrittenPack.{entries_place}
 use Rattle.gix_pack_tables.specs.WrittenTables.{table_of}
 use Rattle.gix_pack_tables.specs.declared.write.rows.Placed.{Placed}
-use Rattle.gix_multi_index.specs.WrittenMultiIndex.{Named}
+use Rattle.gix_multi_index.specs.declared.named_pack.NamedPack as given
+use Rattle.gix_multi_index.specs.WrittenMultiIndex.{Named, named_seen}
 
 abbrev pub pack_row_of : Placed → PackRow
 pack_row_of row = record { id = row.id; pack = row.pack; offset = row.offset }
@@ -19,3 +20,7 @@ placed_in hash number (pack ∷ packs) = placed_from hash number entries_place p
 -- the rows of a multi-index of packs
 abbrev pub multi_placed : HashKind → List Named → List Placed
 multi_placed hash packs = table_of id_of (placed_in hash 0 packs)
+
+-- the rows of a multi-index of packs that are handed in
+abbrev pub rows_given : HashKind → List given.NamedPack → List PackRow
+rows_given hash packs = map pack_row_of (multi_placed hash (map named_seen packs))

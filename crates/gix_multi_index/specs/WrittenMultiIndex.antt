@@ -7,8 +7,8 @@ use Rattle.gix_hash.specs.ObjectId.{bytes_of}
 use Rattle.gix_hash.specs.declared.kind.Kind.{Kind as HashKind}
 use Rattle.gix_hash.specs.declared.kind.Kind.TheVariants.{Sha1, Sha256}
 use Rattle.gix_object.specs.Data.{Object}
-use Rattle.gix_pack_tables.specs.Rows.{Row, PackRow, counts_of}
-use Rattle.gix_multi_index.specs.MultiIndex.Chunks.{Chunk, header_len, row_len}
+use Rattle.gix_pack_tables.specs.Rows.{Row, PackRow, counts_of, rows_limit}
+use Rattle.gix_multi_index.specs.MultiIndex.Chunks.{Chunk, header_len, multi_index_start, name_len, row_len}
 use Rattle.gix_multi_index.specs.MultiIndex.Held.{are_names}
 use Rattle.gix_multi_index.specs.MultiIndex.{multi_index_of}
 use Rattle.gix_pack_tables.specs.WrittenPack.{object_seen, rows_in_order}
@@ -29,8 +29,8 @@ names_of packs = map (λ (pack : Named). pack.name) packs
 
 -- what the encoders take: fewer than 2^31 packs, with names that rise strictly, and fewer than 2^31 objects over all of them
 pub record CanBeWritten (packs : List Named) : Type 0 where
-  pub few_packs : length packs < 2 ^ 31
-  pub few_objects : sum_by (λ (pack : Named). length pack.objects) packs < 2 ^ 31
+  pub few_packs : length packs < rows_limit
+  pub few_objects : sum_by (λ (pack : Named). length pack.objects) packs < rows_limit
   pub names : are_names (names_of packs) ≡ true
 
 -- the rows of a pack, as rows of the pack with this number
@@ -54,9 +54,13 @@ hash_number Sha256 = 2
 abbrev pub name_bytes : List (List ℕ) → List ℕ
 name_bytes names = flat_map (λ name. name ++ 0 ∷ []) names
 
--- bytes, and as many NULs as make their number one that four divides
+-- the number that divides the length of the chunk of names, so that the next one is aligned
+abbrev pub alignment : ℕ
+alignment = 4
+
+-- bytes, and as many NULs as that takes
 abbrev pub padded : List ℕ → List ℕ
-padded bytes = bytes ++ replicate ((4 - length bytes % 4) % 4) 0
+padded bytes = bytes ++ replicate ((alignment - length bytes % alignment) % alignment) 0
 
 -- whether the chunk of wide offsets is needed: an offset does not fit four bytes
 abbrev pub needs_wide : List ℕ → Bool
@@ -85,7 +89,7 @@ chunks_written names rows =
 
 -- the chunk table: a name and a place for each chunk, the first of which stands at this place, and the place of their end
 unfoldable pub chunk_table : ℕ → List Chunk → List ℕ
-chunk_table place [] = replicate 4 0 ++ to_be_bytes w64 place
+chunk_table place [] = replicate name_len 0 ++ to_be_bytes w64 place
 chunk_table place (chunk ∷ chunks) = chunk.name ++ to_be_bytes w64 place ++ chunk_table (place + length chunk.bytes) chunks
 
 -- ---- the whole
@@ -97,8 +101,8 @@ chunks_place chunks = header_len + row_len * (chunks + 1)
 -- a multi-index without its hash
 unfoldable pub multi_front : HashKind → List (List ℕ) → List Chunk → List ℕ
 multi_front hash names chunks =
-    codes "MIDX" ++ 1 ∷ hash_number hash ∷ length chunks ∷ 0 ∷ to_be_bytes w32 (length names) ++ chunk_table (chunks_place (length chunks)) chunks
-    ++ flat_map (λ (chunk : Chunk). chunk.bytes) chunks
+    multi_index_start ++ 1 ∷ hash_number hash ∷ length chunks ∷ 0 ∷ to_be_bytes w32 (length names)
+    ++ chunk_table (chunks_place (length chunks)) chunks ++ flat_map (λ (chunk : Chunk). chunk.bytes) chunks
 
 unfoldable pub multi_bytes : HashKind → List (List ℕ) → List PackRow → List ℕ
 multi_bytes hash names rows =

@@ -1,9 +1,10 @@
 //! The chunk table of a multi-pack index: whether it is sound, and where a chunk stands.
-ghost use Rattle.std.specs.Prelude.{◌≡◌, ◌-◌, ◌≤◌, ◌&&◌, true, length, take, option_map, IfSome};
-ghost use Rattle.gix_pack_tables.specs.Bytes.{long_number_at, same};
+ghost use Rattle.std.specs.Prelude.{◌≡◌, ◌-◌, ◌+◌, ◌*◌, ◌≤◌, ◌&&◌, true, length, take, option_map, IfSome};
+ghost use Rattle.gix_pack_tables.specs.Bytes.{same};
 ghost use Rattle.gix_multi_index.specs.MultiIndex.{at_most_one as at_most_one_of, parts_of};
-ghost use Rattle.gix_multi_index.specs.MultiIndex.Chunks.{chunk_rows, ends_at, has_header as header_fits, has_room as room_fits, kind_in, named, the_one as the_one_of, trailer_place as end_of_chunks};
-ghost use Rattle.gix_multi_index.specs.MultiIndexLayout.{AreIn, IsIn, IsInIfThere, parts_at, rows_left, span_of};
+ghost use Rattle.gix_multi_index.specs.MultiIndex.Chunks.{chunk_rows, ends_at, header_len, name_len, row_len, has_header as header_fits, has_room as room_fits, kind_in, named, the_one as the_one_of, trailer_place as end_of_chunks};
+ghost use Rattle.gix_multi_index.specs.ChunkTable.{first_place, next_place, rows_left};
+ghost use Rattle.gix_multi_index.specs.MultiIndexLayout.{AreIn, IsIn, IsInIfThere, parts_at, span_of};
 
 use crate::layout::{Span, Spans};
 use gix_hash::Kind;
@@ -15,8 +16,26 @@ pub(crate) const HEADER_LEN: usize = 12;
 // How long a row of the chunk table is: a name of four bytes, and a place of eight.
 pub(crate) const ROW_LEN: usize = 12;
 
+/// Where the header tells the number of packs.
+pub(crate) const PACK_COUNT_PLACE: usize = 8;
+
+/// How long the name of a chunk is, which stands in front of the place in a row.
+pub(crate) const NAME_LEN: usize = 4;
+
+// Where the place of the next row stands.
+const NEXT_PLACE: usize = ROW_LEN + NAME_LEN;
+
+// Where the header names the hash.
+const HASH_PLACE: usize = 5;
+
+// Where it tells the number of chunks.
+const CHUNK_COUNT_PLACE: usize = 6;
+
+// Where it tells the number of base files.
+const BASE_COUNT_PLACE: usize = 7;
+
 // Whether bytes begin with a header (the magic, version 1, a hash, and no base file), and have room for the chunk table
-// and the trailing hash. Fewer than twelve bytes have no such room.
+// and the trailing hash. Fewer bytes than a header has have no such room.
 #[tactic(auto, using(crate::proofs::ChunkLemmas::short_front))]
 pub(crate) fn has_front(bytes: &[u8]) -> bool
     ensures front { result ≡ (header_fits bytes.now && room_fits bytes.now) }
@@ -26,25 +45,27 @@ pub(crate) fn has_front(bytes: &[u8]) -> bool
 
 #[tactic(auto, using(crate::proofs::ChunkLemmas::known_hash))]
 fn has_header(bytes: &[u8]) -> bool
-    requires room { 12 ≤ length bytes.now }
+    requires room { header_len ≤ length bytes.now }
     ensures header { result ≡ header_fits bytes.now }
 {
-    bytes.starts_with(b"MIDX\x01") && (bytes[5] == 1 || bytes[5] == 2) && bytes[7] == 0
+    let hash = bytes[HASH_PLACE];
+    bytes.starts_with(b"MIDX\x01") && (hash == 1 || hash == 2) && bytes[BASE_COUNT_PLACE] == 0
 }
 
 fn has_room(bytes: &[u8]) -> bool
-    requires room { 12 ≤ length bytes.now }
+    requires room { header_len ≤ length bytes.now }
     ensures room { result ≡ room_fits bytes.now }
 {
-    bytes.len() >= HEADER_LEN + ROW_LEN * (bytes[6] as usize + 1) + kind_of(bytes).len_in_bytes()
+    let chunks = bytes[CHUNK_COUNT_PLACE] as usize;
+    bytes.len() >= HEADER_LEN + ROW_LEN * (chunks + 1) + kind_of(bytes).len_in_bytes()
 }
 
 // The hash of the ids.
 pub(crate) fn kind_of(bytes: &[u8]) -> Kind
-    requires room { 12 ≤ length bytes.now }
+    requires room { header_len ≤ length bytes.now }
     ensures kind { result ≡ kind_in bytes.now }
 {
-    if bytes[5] == 2 {
+    if bytes[HASH_PLACE] == 2 {
         Kind::Sha256
     } else {
         Kind::Sha1
@@ -59,9 +80,9 @@ pub(crate) fn has_table(bytes: &[u8]) -> bool
 {
     let end = trailer_place(kind_of(bytes), bytes);
     let mut rest = behind_first(bytes, HEADER_LEN);
-    let mut left = bytes[6];
+    let mut left = bytes[CHUNK_COUNT_PLACE];
     while left > 0 {
-        if long_at(rest, 4) > long_at(rest, 16) {
+        if long_at(rest, NAME_LEN) > long_at(rest, NEXT_PLACE) {
             return false;
         }
         rest = behind_first(rest, ROW_LEN);
@@ -73,10 +94,10 @@ pub(crate) fn has_table(bytes: &[u8]) -> bool
 // Whether the first row is the end of the table, at a place.
 #[tactic(auto, using(crate::proofs::ChunkLemmas::ends_last))]
 fn is_end(rest: &[u8], end: usize) -> bool
-    requires room { 12 ≤ length rest.now }
+    requires room { row_len ≤ length rest.now }
     ensures end { result ≡ ends_at end (rows_left 0 rest.now) }
 {
-    part_of(rest, 0, 4) == b"\0\0\0\0".as_slice() && long_at(rest, 4) == end as u64
+    part_of(rest, 0, NAME_LEN) == b"\0\0\0\0".as_slice() && long_at(rest, NAME_LEN) == end as u64
 }
 
 // Where the chunk of a name stands, if there is one; nothing where there are more.
@@ -89,7 +110,7 @@ pub(crate) fn at_most_one(bytes: &[u8], name: &[u8; 4]) -> Option<Option<Span>>
 {
     let mut found = None;
     let mut rest = behind_first(bytes, HEADER_LEN);
-    let mut left = bytes[6];
+    let mut left = bytes[CHUNK_COUNT_PLACE];
     while left > 0 {
         if has_name(rest, name) {
             if found.is_some() {
@@ -104,20 +125,20 @@ pub(crate) fn at_most_one(bytes: &[u8], name: &[u8; 4]) -> Option<Option<Span>>
 }
 
 fn has_name(row: &[u8], name: &[u8; 4]) -> bool
-    requires room { 4 ≤ length row.now }
-    ensures name { result ≡ same (take 4 row.now) name.now }
+    requires room { name_len ≤ length row.now }
+    ensures name { result ≡ same (take name_len row.now) name.now }
 {
-    part_of(row, 0, 4) == name.as_slice()
+    part_of(row, 0, NAME_LEN) == name.as_slice()
 }
 
 // Where the chunk of the first row stands, which ends where that of the next row begins.
 fn span_at(rows: &[u8]) -> Span
-    requires room { 24 ≤ length rows.now }
-    requires order { long_number_at 4 rows.now ≤ long_number_at 16 rows.now }
-    ensures span { result ≡ record { start = long_number_at 4 rows.now; len = long_number_at 16 rows.now - long_number_at 4 rows.now } }
+    requires room { 2 * row_len ≤ length rows.now }
+    requires order { first_place rows.now ≤ next_place rows.now }
+    ensures span { result ≡ record { start = first_place rows.now; len = next_place rows.now - first_place rows.now } }
 {
-    let start = long_at(rows, 4) as usize;
-    let end = long_at(rows, 16) as usize;
+    let start = long_at(rows, NAME_LEN) as usize;
+    let end = long_at(rows, NEXT_PLACE) as usize;
     Span {
         start,
         len: end - start,

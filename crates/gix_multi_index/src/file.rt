@@ -1,7 +1,6 @@
 //! Multi-pack indices, read from their bytes and asked.
-ghost use Rattle.std.specs.Prelude.{◌≡◌, ◌⊎◌, ◌<◌, length, map, option_map, slice_get, true, Some, Err, Ok, IfOk, IfErr};
-ghost use Rattle.gix_pack_tables.specs.Bytes.{is_within as fits};
-ghost use Rattle.gix_multi_index.specs.MultiIndex.{multi_index_of, read_of, told};
+ghost use Rattle.std.specs.Prelude.{◌≡◌, ◌<◌, length, map, option_map, slice_get, Some, Ok, IfOk, IfErr};
+ghost use Rattle.gix_multi_index.specs.MultiIndex.{multi_index_of, read_of, told, IsRefusal};
 ghost use Rattle.gix_multi_index.specs.MultiIndexLayout.{rows_at, IsLaidOut};
 ghost use Rattle.gix_multi_index.specs.MultiIndexRows.{rows_left};
 ghost use Rattle.gix_pack_tables.specs.Rows.{PackRow, IsPrefixRun, IsRowOf};
@@ -79,7 +78,7 @@ impl File {
     pub fn parse(alloc: Global, bytes: ByteList, limit: Option<u64>) -> Result<File, Error>
         ensures kept { IfOk result (λ file. file ≡ bytes) }
         ensures usable { IfOk result (λ _. read_of limit bytes ≡ Ok (told bytes)) }
-        ensures refused { IfErr result (λ error. (read_of limit bytes ≡ Err error) ⊎ ((error ≡ Error.NoMemory) × (fits limit (length bytes) ≡ true))) }
+        ensures refused { IfErr result (IsRefusal limit bytes) }
     {
         if !is_within(limit, bytes.len() as u64) {
             return Err(Error::AboveLimit);

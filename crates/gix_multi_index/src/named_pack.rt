@@ -1,3 +1,4 @@
+//! A pack as the encoder of multi-pack indices is given it.
 use gix_pack_tables::Object;
 use odb_base::{PathName, Sequence};
 

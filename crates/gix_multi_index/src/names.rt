@@ -1,15 +1,18 @@
 //! The names of a multi-pack index, read from their chunk.
-ghost use Rattle.std.specs.Prelude.{◌≡◌, ◌==◌, ◌<◌, ◌≤◌, ℕ, List, ◌∷◌, ◌&&◌, length, take, not, codes, nat_eq, nat_lt, IfOk, IfSome, IfNone, false, true, is_some};
-ghost use Rattle.std.specs.List.{ends_with, list_all, list_any, position};
+ghost use Rattle.std.specs.Prelude.{◌≡◌, ◌==◌, ◌<◌, ◌≤◌, ℕ, List, ◌∷◌, length, take, IfOk, IfSome, IfNone, false, true, is_some};
+ghost use Rattle.std.specs.List.{list_all, position};
 ghost use Rattle.std.specs.Ordering.{is_lt};
 ghost use Rattle.std.specs.Str.{is_utf8};
 ghost use Rattle.odb_base.specs.Path.{name_cmp};
-ghost use Rattle.gix_multi_index.specs.MultiIndex.Held.{holds_names, is_index_name as name_fits, name_parts};
+ghost use Rattle.gix_multi_index.specs.MultiIndex.Held.{has_form as form_fits, holds_names, is_index_name as name_fits, name_parts};
 ghost use Rattle.gix_multi_index.specs.MultiIndexNames.{go_on};
 
 use gix_pack_tables::read::bytes::behind_first;
 use odb_base::{NoMemory, PathName, Sequence};
 use std::alloc::Global;
+
+// How long `.idx` is.
+const ENDING_LEN: usize = 4;
 
 // So many names, each ended by NUL, with NULs alone behind them; none where the chunk holds something else.
 #[tactic(auto, using(crate::proofs::NameLemmas::all_names, crate::proofs::NameLemmas::nuls_behind))]
@@ -79,7 +82,7 @@ fn are_nuls(bytes: &[u8]) -> bool
 }
 
 // The name of an index, as text.
-#[tactic(auto, using(crate::proofs::NameLemmas::by_form))]
+#[tactic(auto, unfolding(crate::specs::MultiIndex::Held::is_index_name))]
 fn index_name(name: &[u8]) -> Option<&str>
     ensures same { IfSome result (λ text. text.now ≡ name.now) }
     ensures exact { is_some result ≡ name_fits name.now }
@@ -104,9 +107,12 @@ fn text_of(bytes: &[u8]) -> Option<&str>
 
 // Whether a name holds no NUL and no slash, and ends in `.idx` with more before that.
 fn has_form(name: &[u8]) -> bool
-    ensures form { result ≡ (not (list_any (λ b. b == 0) name.now) && not (list_any (λ b. b == 47) name.now) && nat_lt 4 (length name.now) && ends_with nat_eq name.now (codes ".idx")) }
+    ensures form { result ≡ form_fits name.now }
 {
-    !name.contains(&0) && !name.contains(&b'/') && name.len() > 4 && name.ends_with(b".idx")
+    !name.contains(&0)
+        && !name.contains(&b'/')
+        && name.len() > ENDING_LEN
+        && name.ends_with(b".idx")
 }
 
 // Whether bytes are the name of an index.

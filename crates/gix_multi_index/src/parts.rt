@@ -3,25 +3,25 @@ ghost use Rattle.std.specs.Prelude.{◌≡◌, ◌*◌, ◌/◌, ◌%◌, ◌==�
 ghost use Rattle.std.specs.List.{list_all};
 ghost use Rattle.gix_hash.specs.Kind.{len_in_bytes_of};
 ghost use Rattle.gix_pack_tables.specs.Bytes.{table};
-ghost use Rattle.gix_multi_index.specs.MultiIndex.Chunks.{counts_len};
-ghost use Rattle.gix_multi_index.specs.MultiIndex.{have_lengths, multi_index_of, objects_in};
+ghost use Rattle.gix_pack_tables.specs.Rows.{counts_len, wide_len};
+ghost use Rattle.gix_multi_index.specs.MultiIndex.{have_lengths, multi_index_of, objects_in, offset_row_len};
 ghost use Rattle.gix_multi_index.specs.declared.layout.Span as span;
-ghost use Rattle.gix_multi_index.specs.MultiIndexLayout.{AreIn, AreTables, IsIn, IsRead, ids_agree, is_offset, is_row, layout_in, len_of, parts_at, rows_agree, rows_name, span_of, tables_agree};
+ghost use Rattle.gix_multi_index.specs.MultiIndexLayout.{AreIn, AreTables, IsIn, IsRead, ids_agree, is_offset, is_row, layout_in, len_of, parts_at, rows_agree, rows_name, span_of, spans_have_lengths, tables_agree};
 
-use crate::chunks::{has_front, has_table, kind_of, spans_of};
+use crate::chunks::{PACK_COUNT_PLACE, has_front, has_table, kind_of, spans_of};
 use crate::layout::{Layout, Span, Spans};
 use crate::names::names_in;
-use gix_hash::Kind;
+use gix_hash::{Kind, SHA1_LEN, SHA256_LEN};
 use gix_pack_tables::read::bytes::{behind_first, number_at, part_of};
-use gix_pack_tables::read::tables::{counts_agree, is_named, is_rising};
+use gix_pack_tables::read::tables::{COUNTS_LEN, WIDE_LEN, counts_agree, is_named, is_rising};
 use odb_base::{NoMemory, PathName, Sequence};
 use std::alloc::Global;
 
-// How long the counts are: 256 of four bytes each.
-const COUNTS_LEN: usize = 1024;
-
-// Where the last of them stands, which is the number of rows.
+// Where the last of the counts stands among them, which is the number of rows.
 const LAST_COUNT_PLACE: usize = 1020;
+
+/// How long a row of the offsets is: the number of a pack, and an offset, of four bytes each.
+pub(crate) const OFFSET_ROW_LEN: usize = 8;
 
 // What was read of a multi-index: the hash of its ids, the names of its packs, and where its rows stand.
 #[derive(Drop)]
@@ -40,7 +40,7 @@ pub(crate) fn read(alloc: Global, bytes: &[u8]) -> Result<Option<Found>, NoMemor
     let Some(tables) = tables_in(bytes) else {
         return Ok(None);
     };
-    let packs = number_at(bytes, 8);
+    let packs = number_at(bytes, PACK_COUNT_PLACE);
     match names_in(alloc, span_in(bytes, tables.0.names), packs)? {
         None => Ok(None),
         Some(names) => Ok(Some(Found {
@@ -61,7 +61,12 @@ fn tables_in(bytes: &[u8]) -> Option<(Spans, Layout)>
         return None;
     }
     let spans = spans_of(bytes)?;
-    if are_tables(bytes, kind_of(bytes), number_at(bytes, 8), spans) {
+    if are_tables(
+        bytes,
+        kind_of(bytes),
+        number_at(bytes, PACK_COUNT_PLACE),
+        spans,
+    ) {
         Some((spans, layout_of(bytes, spans)))
     } else {
         None
@@ -103,11 +108,11 @@ fn are_tables(bytes: &[u8], kind: Kind, packs: u32, spans: Spans) -> bool
 
 // Whether ids, offsets and wide offsets have the lengths of tables of so many rows.
 fn has_lengths(kind: Kind, layout: Layout) -> bool
-    ensures lengths { result ≡ (layout.ids.len == layout.count * len_in_bytes_of kind && layout.offsets.len == layout.count * 8 && len_of layout.wides % 8 == 0) }
+    ensures lengths { result ≡ spans_have_lengths kind layout }
 {
     layout.ids.len == ids_len(kind, layout.count)
-        && layout.offsets.len == layout.count as usize * 8
-        && wides_len(layout.wides) % 8 == 0
+        && layout.offsets.len == layout.count as usize * OFFSET_ROW_LEN
+        && wides_len(layout.wides) % WIDE_LEN == 0
 }
 
 // How many bytes so many ids have.
@@ -115,8 +120,8 @@ fn ids_len(kind: Kind, count: u32) -> usize
     ensures len { result ≡ count * len_in_bytes_of kind }
 {
     match kind {
-        Kind::Sha1 => count as usize * 20,
-        Kind::Sha256 => count as usize * 32,
+        Kind::Sha1 => count as usize * SHA1_LEN,
+        Kind::Sha256 => count as usize * SHA256_LEN,
     }
 }
 
@@ -157,7 +162,7 @@ fn are_ids(bytes: &[u8], kind: Kind, spans: Spans) -> bool
 fn name_packs(bytes: &[u8], packs: u32, spans: Spans) -> bool
     requires within { AreIn bytes.now spans }
     requires counts { spans.counts.len ≡ counts_len }
-    requires offsets { spans.offsets.len ≡ objects_in (parts_at bytes.now spans) * 8 }
+    requires offsets { spans.offsets.len ≡ objects_in (parts_at bytes.now spans) * offset_row_len }
     ensures named { result ≡ rows_name packs (parts_at bytes.now spans) }
 {
     let n = layout_of(bytes, spans).count as usize;
@@ -171,19 +176,19 @@ fn name_packs(bytes: &[u8], packs: u32, spans: Spans) -> bool
 
 // How many wide offsets there are, if there is a chunk of them.
 fn rows_of(wides: Option<Span>) -> Option<u64>
-    ensures count { result ≡ option_map (λ (place : span.Span). place.len / 8) wides }
+    ensures count { result ≡ option_map (λ (place : span.Span). place.len / wide_len) wides }
 {
     match wides {
         None => None,
-        Some(span) => Some((span.len / 8) as u64),
+        Some(span) => Some((span.len / WIDE_LEN) as u64),
     }
 }
 
 // Whether each of n rows names one of so many packs, and an offset.
 #[tactic(auto, using(crate::proofs::PartLemmas::rows_step, crate::proofs::PartLemmas::rows_none))]
 fn are_named(rows: &[u8], n: usize, packs: u32, wides: Option<u64>) -> bool
-    requires room { n * 8 ≤ length rows.now }
-    ensures named { result ≡ list_all (is_row packs wides) (table 8 n rows.now) }
+    requires room { n * offset_row_len ≤ length rows.now }
+    ensures named { result ≡ list_all (is_row packs wides) (table offset_row_len n rows.now) }
 {
     let mut rest = rows;
     let mut left = n;
@@ -191,7 +196,7 @@ fn are_named(rows: &[u8], n: usize, packs: u32, wides: Option<u64>) -> bool
         if !is_sound(rest, packs, wides) {
             return false;
         }
-        rest = behind_first(rest, 8);
+        rest = behind_first(rest, OFFSET_ROW_LEN);
         left -= 1;
     }
     true
@@ -200,8 +205,8 @@ fn are_named(rows: &[u8], n: usize, packs: u32, wides: Option<u64>) -> bool
 // Whether the first row names a pack, and an offset.
 #[tactic(auto, using(crate::proofs::PartLemmas::first_of))]
 fn is_sound(rows: &[u8], packs: u32, wides: Option<u64>) -> bool
-    requires room { 8 ≤ length rows.now }
-    ensures sound { result ≡ is_row packs wides (take 8 rows.now) }
+    requires room { offset_row_len ≤ length rows.now }
+    ensures sound { result ≡ is_row packs wides (take offset_row_len rows.now) }
 {
     number_at(rows, 0) < packs && has_offset(wides, number_at(rows, 4))
 }

@@ -1,14 +1,15 @@
 //! The rows of a multi-pack index, where they stand.
-ghost use Rattle.std.specs.Prelude.{◌≡◌, ◌<◌, length, map, option_map, slice_get, Some, true};
+ghost use Rattle.std.specs.Prelude.{◌≡◌, ◌<◌, option_map, Some, true};
 ghost use Rattle.gix_multi_index.specs.MultiIndex.Held.{has_offset, offset_of_bytes};
-ghost use Rattle.gix_multi_index.specs.MultiIndexLayout.{rows_at, span_of, IsInIfThere, IsLaidOut};
+ghost use Rattle.gix_multi_index.specs.MultiIndexLayout.{row_ids, span_of, told_by, IsInIfThere, IsLaidOut};
 ghost use Rattle.gix_pack_tables.specs.Rows.{PackRow, IsPrefixRun, IsRowOf};
 
 use crate::layout::{Layout, Span};
-use crate::parts::span_in;
+use crate::parts::{OFFSET_ROW_LEN, span_in};
 use gix_hash::{Kind, ObjectId, Prefix};
 use gix_pack_tables::read::bytes::{long_at, number_at, part_of};
 use gix_pack_tables::read::search;
+use gix_pack_tables::read::tables::{HIGH_BIT, WIDE_LEN};
 use std::ops::Range;
 
 // The rows of a multi-index in its bytes: the hash of their ids, and where they stand.
@@ -25,7 +26,7 @@ impl Rows<'_> {
     pub(crate) fn id_at(&self, n: u32) -> ObjectId
         requires laid_out { IsLaidOut self.now.kind self.now.layout self.now.bytes.now }
         requires row { n < self.now.layout.count }
-        ensures id { option_map (λ (row : PackRow). row.id) (slice_get (rows_at self.now.kind self.now.layout self.now.bytes.now) n) ≡ Some result }
+        ensures id { told_by (λ (row : PackRow). row.id) self.now.kind self.now.layout self.now.bytes.now n ≡ Some result }
     {
         search::id_at(span_in(self.bytes, self.layout.ids), self.kind, n)
     }
@@ -34,7 +35,7 @@ impl Rows<'_> {
     #[tactic(auto, using(crate::proofs::PackRowLemmas::ids_room, crate::proofs::PackRowLemmas::ids_in_rows))]
     pub(crate) fn row_of(&self, id: &ObjectId) -> Option<u32>
         requires laid_out { IsLaidOut self.now.kind self.now.layout self.now.bytes.now }
-        ensures row { IsRowOf (map (λ (row : PackRow). row.id) (rows_at self.now.kind self.now.layout self.now.bytes.now)) id.now result }
+        ensures row { IsRowOf (row_ids self.now.kind self.now.layout self.now.bytes.now) id.now result }
     {
         search::row_of(
             span_in(self.bytes, self.layout.ids),
@@ -48,7 +49,7 @@ impl Rows<'_> {
     #[tactic(auto, using(crate::proofs::PackRowLemmas::ids_room, crate::proofs::PackRowLemmas::ids_in_rows))]
     pub(crate) fn rows_of_prefix(&self, prefix: &Prefix) -> Range<u32>
         requires laid_out { IsLaidOut self.now.kind self.now.layout self.now.bytes.now }
-        ensures run { IsPrefixRun (map (λ (row : PackRow). row.id) (rows_at self.now.kind self.now.layout self.now.bytes.now)) prefix.now result.start result.end }
+        ensures run { IsPrefixRun (row_ids self.now.kind self.now.layout self.now.bytes.now) prefix.now result.start result.end }
     {
         search::rows_of_prefix(
             span_in(self.bytes, self.layout.ids),
@@ -63,10 +64,14 @@ impl Rows<'_> {
     pub(crate) fn place_at(&self, n: u32) -> (u32, u64)
         requires laid_out { IsLaidOut self.now.kind self.now.layout self.now.bytes.now }
         requires row { n < self.now.layout.count }
-        ensures pack { option_map (λ (row : PackRow). row.pack) (slice_get (rows_at self.now.kind self.now.layout self.now.bytes.now) n) ≡ Some result.0 }
-        ensures offset { option_map (λ (row : PackRow). row.offset) (slice_get (rows_at self.now.kind self.now.layout self.now.bytes.now) n) ≡ Some result.1 }
+        ensures pack { told_by (λ (row : PackRow). row.pack) self.now.kind self.now.layout self.now.bytes.now n ≡ Some result.0 }
+        ensures offset { told_by (λ (row : PackRow). row.offset) self.now.kind self.now.layout self.now.bytes.now n ≡ Some result.1 }
     {
-        let row = part_of(span_in(self.bytes, self.layout.offsets), n as usize * 8, 8);
+        let row = part_of(
+            span_in(self.bytes, self.layout.offsets),
+            n as usize * OFFSET_ROW_LEN,
+            OFFSET_ROW_LEN,
+        );
         (
             number_at(row, 0),
             offset_in(self.bytes, self.layout.wides, number_at(row, 4)),
@@ -81,9 +86,9 @@ fn offset_in(bytes: &[u8], wides: Option<Span>, narrow: u32) -> u64
     ensures offset { result ≡ offset_of_bytes (option_map (span_of bytes.now) wides) narrow }
 {
     match wides {
-        Some(span) if narrow >= 1 << 31 => {
-            let row = (narrow - (1 << 31)) as usize;
-            long_at(span_in(bytes, span), row * 8)
+        Some(span) if narrow >= HIGH_BIT => {
+            let row = (narrow - HIGH_BIT) as usize;
+            long_at(span_in(bytes, span), row * WIDE_LEN)
         }
         _ => narrow as u64,
     }

@@ -1,17 +1,17 @@
 //! Multi-pack indices written: the header, the chunk table, the chunks one behind another, and the hash.
 ghost use Rattle.std.specs.Prelude.{◌≡◌, ◌+◌, ◌*◌, ◌++◌, ◌∷◌, [], ◌^◌, ◌<◌, ◌≤◌, ◌↔◌, true, false, codes, length, map, IfOk, IsTrue, OnOk};
 ghost use Rattle.std.specs.Int.{w32, to_be_bytes};
-ghost use Rattle.std.specs.List.{filter, flat_map, zip, AllByRecursion};
+ghost use Rattle.std.specs.List.{flat_map, AllByRecursion};
 ghost use Rattle.gix_hash.specs.ObjectId.{bytes_of};
 ghost use Rattle.gix_multi_index.specs.MultiIndex.Held.{are_names};
-ghost use Rattle.gix_multi_index.specs.MultiIndexChunks.{below_first, bytes_over, chunk_seen, front_with, objects_over, offset_chunks, one_chunk};
+ghost use Rattle.gix_multi_index.specs.MultiIndexChunks.{below_first, bytes_over, chunk_seen, front_with, most_chunks, names_given, narrow_chunk, objects_over, offset_chunks, one_chunk, place_bytes, wide_rows_chunk, Gains};
 ghost use Rattle.gix_pack_tables.specs.PlacedRow.{id_of, offset_of, pack_of, ArePlaced, IsPlaced};
-ghost use Rattle.gix_multi_index.specs.PlacedPackRow.{multi_placed, pack_row_of, placed_in};
-ghost use Rattle.gix_pack_tables.specs.Rows.{counts_of, is_rising};
-ghost use Rattle.gix_pack_tables.specs.WrittenTables.{is_wide as offset_is_wide, long_number_bytes, narrow_from, number_bytes};
-ghost use Rattle.gix_multi_index.specs.WrittenMultiIndex.{chunk_table, chunks_place, chunks_written, hash_number, multi_index_of_packs, name_bytes, named_seen, names_of, needs_wide as need_wide, pack_and_offset, padded, CanBeWritten, IsMultiIndexOf, ReadsMultiIndex};
+ghost use Rattle.gix_multi_index.specs.PlacedPackRow.{pack_row_of, placed_in, rows_given};
+ghost use Rattle.gix_pack_tables.specs.Rows.{counts_of, is_rising, rows_limit};
+ghost use Rattle.gix_pack_tables.specs.WrittenTables.{narrow_from, number_bytes};
+ghost use Rattle.gix_multi_index.specs.WrittenMultiIndex.{chunk_table, chunks_place, chunks_written, hash_number, multi_index_of_packs, name_bytes, named_seen, needs_wide as need_wide, padded, CanBeWritten, IsMultiIndexOf, ReadsMultiIndex};
 
-use crate::chunks::{HEADER_LEN, ROW_LEN};
+use crate::chunks::{HEADER_LEN, NAME_LEN, ROW_LEN};
 use crate::named_pack::NamedPack;
 use crate::names::is_name;
 use gix_hash::Kind;
@@ -21,8 +21,11 @@ use gix_pack_tables::write::tables::{is_wide, narrow_of, put_counts, put_ids, pu
 use odb_base::{ByteList, NoMemory, PathName};
 use std::alloc::Global;
 
-// There are fewer packs than this, and fewer objects over all of them.
-const LIMIT: usize = 1 << 31;
+// There are fewer packs than this, and fewer objects over all of them: a row of the offsets names a wide one by 31 bits.
+const ROWS_LIMIT: usize = 1 << 31;
+
+// The number that divides the length of the chunk of names, so that the next one is aligned.
+const ALIGNMENT: usize = 4;
 
 // A chunk: its name, and its bytes.
 #[derive(Drop)]
@@ -36,15 +39,15 @@ struct Chunk {
 pub fn can_be_written(packs: &[NamedPack]) -> bool
     ensures exact { IsTrue result ↔ CanBeWritten (map named_seen packs.now) }
 {
-    packs.len() < LIMIT && have_few(packs) && have_names(packs)
+    packs.len() < ROWS_LIMIT && have_few(packs) && have_names(packs)
 }
 
 // Whether the packs have fewer than 2^31 objects over all.
 #[tactic(auto, using(crate::proofs::WrittenMultiIndexLemmas::left_on, crate::proofs::WrittenMultiIndexLemmas::left_over, crate::proofs::WrittenMultiIndexLemmas::left_all))]
 fn have_few(packs: &[NamedPack]) -> bool
-    ensures few { IsTrue result ↔ (objects_over (map named_seen packs.now) < 2 ^ 31) }
+    ensures few { IsTrue result ↔ (objects_over (map named_seen packs.now) < rows_limit) }
 {
-    let mut left = LIMIT - 1;
+    let mut left = ROWS_LIMIT - 1;
     for pack in packs {
         if pack.objects.len() > left {
             return false;
@@ -57,7 +60,7 @@ fn have_few(packs: &[NamedPack]) -> bool
 // Whether the names are those of indices, and rise.
 #[tactic(auto, using(crate::proofs::WrittenMultiIndexLemmas::Loops::names_bad, crate::proofs::WrittenMultiIndexLemmas::Loops::names_out, crate::proofs::WrittenMultiIndexLemmas::Loops::names_good, crate::proofs::WrittenMultiIndexLemmas::Loops::names_all))]
 fn have_names(packs: &[NamedPack]) -> bool
-    ensures names { result ≡ are_names (names_of (map named_seen packs.now)) }
+    ensures names { result ≡ are_names (names_given packs.now) }
 {
     for (i, pack) in packs.iter().enumerate() {
         if !is_name(pack.name.as_str().as_bytes()) {
@@ -73,7 +76,7 @@ fn have_names(packs: &[NamedPack]) -> bool
 
 // Whether a name is below that of the first of some packs, if there is one.
 fn is_below(name: &PathName, packs: &[NamedPack]) -> bool
-    ensures below { result ≡ below_first name.now (names_of (map named_seen packs.now)) }
+    ensures below { result ≡ below_first name.now (names_given packs.now) }
 {
     match packs {
         [] => true,
@@ -100,8 +103,8 @@ pub fn encode(alloc: Global, packs: &[NamedPack], kind: Kind) -> Result<ByteList
 // The chunks of a multi-index of some packs.
 fn chunks_of_packs(alloc: Global, packs: &[NamedPack], kind: Kind) -> Result<Vec<Chunk>, NoMemory>
     requires can { CanBeWritten (map named_seen packs.now) }
-    ensures chunks { IfOk result (λ chunks. map chunk_seen chunks.items ≡ chunks_written (names_of (map named_seen packs.now)) (map pack_row_of (multi_placed kind (map named_seen packs.now)))) }
-    ensures few { IfOk result (λ chunks. length chunks.items ≤ 5) }
+    ensures chunks { IfOk result (λ chunks. map chunk_seen chunks.items ≡ chunks_written (names_given packs.now) (rows_given kind packs.now)) }
+    ensures few { IfOk result (λ chunks. length chunks.items ≤ most_chunks) }
     ensures placed { IfOk result (λ _. AllByRecursion (IsPlaced kind) (placed_in kind 0 (map named_seen packs.now))) }
 {
     let rows = rows_of(alloc, packs, kind)?;
@@ -129,7 +132,7 @@ fn put_file(file: &mut ByteList, packs: u32, chunks: &[Chunk], kind: Kind) -> Re
 // The rows of all packs, in the order of the packs and of their objects.
 #[tactic(auto, using(crate::proofs::WrittenMultiIndexLemmas::Loops::packs_step, crate::proofs::WrittenMultiIndexLemmas::Loops::packs_end))]
 fn rows_of(alloc: Global, packs: &[NamedPack], kind: Kind) -> Result<Vec<Placed>, NoMemory>
-    requires few { length packs.now < 2 ^ 31 }
+    requires few { length packs.now < rows_limit }
     ensures rows { IfOk result (λ rows. rows.items ≡ placed_in kind 0 (map named_seen packs.now)) }
     ensures placed { IfOk result (λ rows. AllByRecursion (IsPlaced kind) rows.items) }
 {
@@ -174,18 +177,18 @@ fn put_table(file: &mut ByteList, chunks: &[Chunk]) -> Result<(), NoMemory>
         put_long(file, place)?;
         place = place.checked_add(chunk.bytes.len() as u64).ok_or(NoMemory)?;
     }
-    put_zeros(file, 4)?;
+    put_zeros(file, NAME_LEN)?;
     put_long(file, place)?;
     Ok(())
 }
 
 // The chunks.
 fn chunks_of(alloc: Global, packs: &[NamedPack], rows: &[Placed]) -> Result<Vec<Chunk>, NoMemory>
-    requires few { length rows.now < 2 ^ 31 }
+    requires few { length rows.now < rows_limit }
     requires rising { is_rising (map id_of rows.now) ≡ true }
     requires placed { ArePlaced rows.now }
-    ensures chunks { IfOk result (λ chunks. map chunk_seen chunks.items ≡ chunks_written (names_of (map named_seen packs.now)) (map pack_row_of rows.now)) }
-    ensures few { IfOk result (λ chunks. length chunks.items ≤ 5) }
+    ensures chunks { IfOk result (λ chunks. map chunk_seen chunks.items ≡ chunks_written (names_given packs.now) (map pack_row_of rows.now)) }
+    ensures few { IfOk result (λ chunks. length chunks.items ≤ most_chunks) }
 {
     let mut chunks = Vec::new(alloc);
     push_names(alloc, &mut chunks, packs)?;
@@ -197,7 +200,7 @@ fn chunks_of(alloc: Global, packs: &[NamedPack], rows: &[Placed]) -> Result<Vec<
 
 // A chunk behind others.
 fn push_chunk(chunks: &mut Vec<Chunk>, name: [u8; 4], bytes: ByteList) -> Result<(), NoMemory>
-    ensures chunk { OnOk result (map chunk_seen chunks.new.items ≡ map chunk_seen chunks.old.items ++ one_chunk name bytes) }
+    ensures chunk { OnOk result (Gains chunks.old.items chunks.new.items (one_chunk name bytes)) }
     ensures few { OnOk result (length chunks.new.items ≡ length chunks.old.items + 1) }
 {
     chunks.push(Chunk { name, bytes })?;
@@ -206,7 +209,7 @@ fn push_chunk(chunks: &mut Vec<Chunk>, name: [u8; 4], bytes: ByteList) -> Result
 
 // The chunk of the names.
 fn push_names(alloc: Global, chunks: &mut Vec<Chunk>, packs: &[NamedPack]) -> Result<(), NoMemory>
-    ensures chunk { OnOk result (map chunk_seen chunks.new.items ≡ map chunk_seen chunks.old.items ++ one_chunk (codes "PNAM") (padded (name_bytes (names_of (map named_seen packs.now))))) }
+    ensures chunk { OnOk result (Gains chunks.old.items chunks.new.items (one_chunk (codes "PNAM") (padded (name_bytes (names_given packs.now))))) }
     ensures few { OnOk result (length chunks.new.items ≡ length chunks.old.items + 1) }
 {
     let mut names = ByteList::new(alloc);
@@ -214,22 +217,22 @@ fn push_names(alloc: Global, chunks: &mut Vec<Chunk>, packs: &[NamedPack]) -> Re
     push_chunk(chunks, *b"PNAM", names)
 }
 
-// The names, and NULs behind them up to a length that four divides.
+// The names, and NULs behind them up to a length that is aligned.
 fn put_padded(names: &mut ByteList, packs: &[NamedPack]) -> Result<(), NoMemory>
     requires empty { names.old ≡ [] }
-    ensures put { OnOk result (names.new ≡ padded (name_bytes (names_of (map named_seen packs.now)))) }
+    ensures put { OnOk result (names.new ≡ padded (name_bytes (names_given packs.now))) }
 {
     put_names(names, packs)?;
-    let padding = (4 - names.len() % 4) % 4;
+    let padding = (ALIGNMENT - names.len() % ALIGNMENT) % ALIGNMENT;
     put_zeros(names, padding)
 }
 
 // The chunk of the 256 counts.
 fn push_counts(alloc: Global, chunks: &mut Vec<Chunk>, rows: &[Placed]) -> Result<(), NoMemory>
-    requires few { length rows.now < 2 ^ 31 }
+    requires few { length rows.now < rows_limit }
     requires rising { is_rising (map id_of rows.now) ≡ true }
     requires placed { ArePlaced rows.now }
-    ensures chunk { OnOk result (map chunk_seen chunks.new.items ≡ map chunk_seen chunks.old.items ++ one_chunk (codes "OIDF") (number_bytes (counts_of (map id_of rows.now)))) }
+    ensures chunk { OnOk result (Gains chunks.old.items chunks.new.items (one_chunk (codes "OIDF") (number_bytes (counts_of (map id_of rows.now))))) }
     ensures few { OnOk result (length chunks.new.items ≡ length chunks.old.items + 1) }
 {
     let mut counts = ByteList::new(alloc);
@@ -240,7 +243,7 @@ fn push_counts(alloc: Global, chunks: &mut Vec<Chunk>, rows: &[Placed]) -> Resul
 
 // The chunk of the ids.
 fn push_ids(alloc: Global, chunks: &mut Vec<Chunk>, rows: &[Placed]) -> Result<(), NoMemory>
-    ensures chunk { OnOk result (map chunk_seen chunks.new.items ≡ map chunk_seen chunks.old.items ++ one_chunk (codes "OIDL") (flat_map bytes_of (map id_of rows.now))) }
+    ensures chunk { OnOk result (Gains chunks.old.items chunks.new.items (one_chunk (codes "OIDL") (flat_map bytes_of (map id_of rows.now)))) }
     ensures few { OnOk result (length chunks.new.items ≡ length chunks.old.items + 1) }
 {
     let mut ids = ByteList::new(alloc);
@@ -251,7 +254,7 @@ fn push_ids(alloc: Global, chunks: &mut Vec<Chunk>, rows: &[Placed]) -> Result<(
 // The names, each ended by NUL.
 #[tactic(auto, using(crate::proofs::WrittenMultiIndexLemmas::Loops::names_step, crate::proofs::WrittenMultiIndexLemmas::Loops::names_end))]
 fn put_names(list: &mut ByteList, packs: &[NamedPack]) -> Result<(), NoMemory>
-    ensures put { OnOk result (list.new ≡ list.old ++ name_bytes (names_of (map named_seen packs.now))) }
+    ensures put { OnOk result (list.new ≡ list.old ++ name_bytes (names_given packs.now)) }
 {
     for pack in packs {
         list.extend_from_slice(pack.name.as_str().as_bytes())?;
@@ -262,8 +265,8 @@ fn put_names(list: &mut ByteList, packs: &[NamedPack]) -> Result<(), NoMemory>
 
 // The chunk of the packs and offsets, and that of the wide offsets where one is needed.
 fn push_offsets(alloc: Global, chunks: &mut Vec<Chunk>, rows: &[Placed]) -> Result<(), NoMemory>
-    requires few { length rows.now < 2 ^ 31 }
-    ensures chunks { OnOk result (map chunk_seen chunks.new.items ≡ map chunk_seen chunks.old.items ++ offset_chunks (map pack_of rows.now) (map offset_of rows.now)) }
+    requires few { length rows.now < rows_limit }
+    ensures chunks { OnOk result (Gains chunks.old.items chunks.new.items (offset_chunks (map pack_of rows.now) (map offset_of rows.now))) }
     ensures few { OnOk result (length chunks.new.items ≤ length chunks.old.items + 2) }
 {
     if needs_wide(rows) {
@@ -276,8 +279,8 @@ fn push_offsets(alloc: Global, chunks: &mut Vec<Chunk>, rows: &[Placed]) -> Resu
 
 // The chunk of packs and offsets where there are wide ones.
 fn push_narrow(alloc: Global, chunks: &mut Vec<Chunk>, rows: &[Placed]) -> Result<(), NoMemory>
-    requires few { length rows.now < 2 ^ 31 }
-    ensures chunk { OnOk result (map chunk_seen chunks.new.items ≡ map chunk_seen chunks.old.items ++ one_chunk (codes "OOFF") (flat_map pack_and_offset (zip (map pack_of rows.now) (narrow_from 0 (map offset_of rows.now))))) }
+    requires few { length rows.now < rows_limit }
+    ensures chunk { OnOk result (Gains chunks.old.items chunks.new.items (narrow_chunk rows.now)) }
     ensures few { OnOk result (length chunks.new.items ≡ length chunks.old.items + 1) }
 {
     let mut offsets = ByteList::new(alloc);
@@ -287,7 +290,7 @@ fn push_narrow(alloc: Global, chunks: &mut Vec<Chunk>, rows: &[Placed]) -> Resul
 
 // The chunk of the wide offsets.
 fn push_wide(alloc: Global, chunks: &mut Vec<Chunk>, rows: &[Placed]) -> Result<(), NoMemory>
-    ensures chunk { OnOk result (map chunk_seen chunks.new.items ≡ map chunk_seen chunks.old.items ++ one_chunk (codes "LOFF") (long_number_bytes (filter offset_is_wide (map offset_of rows.now)))) }
+    ensures chunk { OnOk result (Gains chunks.old.items chunks.new.items (wide_rows_chunk rows.now)) }
     ensures few { OnOk result (length chunks.new.items ≡ length chunks.old.items + 1) }
 {
     let mut wide = ByteList::new(alloc);
@@ -298,7 +301,7 @@ fn push_wide(alloc: Global, chunks: &mut Vec<Chunk>, rows: &[Placed]) -> Result<
 // The chunk of packs and offsets where none is wide.
 fn push_whole(alloc: Global, chunks: &mut Vec<Chunk>, rows: &[Placed]) -> Result<(), NoMemory>
     requires low { need_wide (map offset_of rows.now) ≡ false }
-    ensures chunk { OnOk result (map chunk_seen chunks.new.items ≡ map chunk_seen chunks.old.items ++ one_chunk (codes "OOFF") (flat_map pack_and_offset (zip (map pack_of rows.now) (map offset_of rows.now)))) }
+    ensures chunk { OnOk result (Gains chunks.old.items chunks.new.items (one_chunk (codes "OOFF") (place_bytes rows.now (map offset_of rows.now)))) }
     ensures few { OnOk result (length chunks.new.items ≡ length chunks.old.items + 1) }
 {
     let mut offsets = ByteList::new(alloc);
@@ -323,7 +326,7 @@ fn needs_wide(rows: &[Placed]) -> bool
 #[tactic(auto, using(crate::proofs::WrittenMultiIndexLemmas::Loops::fits_four))]
 fn put_whole(list: &mut ByteList, rows: &[Placed]) -> Result<(), NoMemory>
     requires low { need_wide (map offset_of rows.now) ≡ false }
-    ensures put { OnOk result (list.new ≡ list.old ++ flat_map pack_and_offset (zip (map pack_of rows.now) (map offset_of rows.now))) }
+    ensures put { OnOk result (list.new ≡ list.old ++ place_bytes rows.now (map offset_of rows.now)) }
 {
     for row in rows {
         put_number(list, row.pack)?;
@@ -334,8 +337,8 @@ fn put_whole(list: &mut ByteList, rows: &[Placed]) -> Result<(), NoMemory>
 
 // Packs and offsets: a wide one is the high bit and its number among the wide ones.
 fn put_narrow(list: &mut ByteList, rows: &[Placed]) -> Result<(), NoMemory>
-    requires few { length rows.now < 2 ^ 31 }
-    ensures put { OnOk result (list.new ≡ list.old ++ flat_map pack_and_offset (zip (map pack_of rows.now) (narrow_from 0 (map offset_of rows.now)))) }
+    requires few { length rows.now < rows_limit }
+    ensures put { OnOk result (list.new ≡ list.old ++ place_bytes rows.now (narrow_from 0 (map offset_of rows.now))) }
 {
     let mut wide = 0u32;
     for row in rows {

@@ -4,7 +4,7 @@ use Rattle.std.specs.Prelude.{option_and_then}
 use Rattle.std.specs.List.{list_all, position, position_or_len, before_first, after_first}
 use Rattle.std.specs.Fmt.{decimal}
 use Rattle.std.specs.Str.{IsAscii, IsUtf8}
-use Rattle.std.proofs.lemmas.Bool.{and_parts}
+use Rattle.std.proofs.lemmas.Bool.{and_parts, ltb-false, ltb-true}
 use Rattle.std.proofs.lemmas.Fmt.{IsAscii-decimal}
 use Rattle.std.proofs.lemmas.Str.{IsAscii-append, IsUtf8-from_ascii}
 use Rattle.std.proofs.lemmas.Str.Ascii.{IsAscii-nil, IsAscii-cons}
@@ -88,12 +88,6 @@ read-no_space header text same none rest = rw (← same) (no_space text none res
 
 -- ---- a file
 
-less : (m n : ℕ) → nat_lt m n ≡ true → m < n
-less m n h = grind (arith, h)
-
-more : (m n : ℕ) → nat_lt m n ≡ false → n ≤ m
-more m n h = grind (arith, h)
-
 chosen : (test : Bool) (place found : ℕ) → Some found ≡ cond test (Some place) None → (test ≡ true) × (found ≡ place)
 chosen true place found e = (refl, cc e)
 chosen false place found e = cc e
@@ -103,7 +97,7 @@ pub place_of : (bytes : List ℕ) (place : ℕ) → Some place ≡ position (λ 
 place_of bytes place e =
     let first = position_or_len (λ b. b == 0) (take header_room bytes) in
     let found = chosen (nat_lt first (length (take header_room bytes))) first place e in
-    rw found.1 (loose_of-place bytes (less _ _ found.0))
+    rw found.1 (loose_of-place bytes (ltb-true _ _ found.0))
 
 not_chosen : (test : Bool) (place : ℕ) → None ≡ cond test (Some place) None → test ≡ false
 not_chosen true place e = cc e
@@ -112,7 +106,7 @@ not_chosen false place e = refl
 pub no_place : (bytes : List ℕ) → None ≡ position (λ b. b == 0) (take header_room bytes) → loose_of bytes ≡ None
 no_place bytes e =
     let first = position_or_len (λ b. b == 0) (take header_room bytes) in
-    loose_of-no_place bytes (more _ _ (not_chosen (nat_lt first (length (take header_room bytes))) first e))
+    loose_of-no_place bytes (ltb-false _ _ (not_chosen (nat_lt first (length (take header_room bytes))) first e))
 
 -- ---- what reading a file's header tells
 

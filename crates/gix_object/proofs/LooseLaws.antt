@@ -5,7 +5,7 @@ use Rattle.std.specs.List.{position_or_len, before_first, after_first}
 use Rattle.std.specs.Str.{all_ascii_digits}
 use Rattle.std.specs.Char.{is_ascii_digit}
 use Rattle.std.specs.Fmt.{decimal}
-use Rattle.std.proofs.lemmas.Bool.{and_parts, cases_lt}
+use Rattle.std.proofs.lemmas.Bool.{and_parts, cases_lt, le-ltb, lt-ltb}
 use Rattle.std.proofs.lemmas.Grind.{common_steps}
 use Rattle.std.proofs.lemmas.Fmt.{digits_decimal, length-decimal-le}
 use Rattle.std.proofs.lemmas.List.{drop_all, length-append, length-take, length-take-le}
@@ -102,21 +102,15 @@ front-spelled front rest o h =
 
 -- ---- a file
 
-tested : (m n : ℕ) → m < n → nat_lt m n ≡ true
-tested m n h = grind (arith, h)
-
-not_tested : (m n : ℕ) → n ≤ m → nat_lt m n ≡ false
-not_tested m n h = grind (arith, h)
-
 -- the object of a file with a NUL where a header may end
 pub loose_of-place : (bytes : List ℕ) → position_or_len (λ b. b == 0) (take header_room bytes) < length (take header_room bytes)
     → loose_of bytes ≡ spelled (take (position_or_len (λ b. b == 0) (take header_room bytes)) bytes) (drop (position_or_len (λ b. b == 0) (take header_room bytes) + 1) bytes)
 unfolding loose_of
-loose_of-place bytes lt = rw (tested _ _ lt, place_in_take 0 header_room bytes lt) refl
+loose_of-place bytes lt = rw (lt-ltb _ _ lt, place_in_take 0 header_room bytes lt) refl
 
 pub loose_of-no_place : (bytes : List ℕ) → length (take header_room bytes) ≤ position_or_len (λ b. b == 0) (take header_room bytes) → loose_of bytes ≡ None
 unfolding loose_of
-loose_of-no_place bytes h = rw (not_tested (position_or_len (λ b. b == 0) (take header_room bytes)) (length (take header_room bytes)) h) refl
+loose_of-no_place bytes h = rw (le-ltb (position_or_len (λ b. b == 0) (take header_room bytes)) (length (take header_room bytes)) h) refl
 
 -- what is found is in the file
 pub IsLoose-loose_of : (bytes : List ℕ) (o : LooseObject) → loose_of bytes ≡ Some o → IsLoose bytes o.kind o.size o.rest

@@ -19,7 +19,7 @@ longest_header = 28
 unfoldable pub header_of : Kind → ℕ → List ℕ
 header_of kind size = kind_word kind ++ codes " " ++ decimal size ++ 0 ∷ []
 
--- the bytes begin with a header, which ends early enough; the data follow
+-- the bytes begin with the header of this kind and size, which ends in the first of them; the rest, of whatever length, stands behind it
 pub record IsLoose (bytes : List ℕ) (kind : Kind) (size : ℕ) (rest : List ℕ) : Type 0 where
   pub whole : bytes ≡ header_of kind size ++ rest
   pub fits : size < 2 ^ 64

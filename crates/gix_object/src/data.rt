@@ -1,3 +1,4 @@
+//! An object that was found.
 use crate::Kind;
 
 /// An object that was found: its kind and its data, without the header.

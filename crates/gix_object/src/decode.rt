@@ -7,8 +7,8 @@ use crate::Kind;
 use odb_base::parse_decimal;
 use thiserror::Error;
 
-/// In how many first bytes a header ends, with its NUL. The longest header is shorter.
-const LONGEST: usize = 64;
+// In how many first bytes of a file a header ends, with its NUL. The longest header has 28.
+const HEADER_ROOM: usize = 64;
 
 /// The bytes begin with no header of a loose object.
 #[derive(Clone, Copy, Debug, PartialEq, Eq, Error)]
@@ -45,7 +45,7 @@ fn place_of_nul(bytes: &[u8]) -> Option<usize>
     ensures first { result ≡ position (λ b. b == 0) (take header_room bytes.now) }
     ensures within { IfSome result (λ nul. nul < length bytes.now) }
 {
-    bytes.iter().take(LONGEST).position(|b| *b == 0)
+    bytes.iter().take(HEADER_ROOM).position(|b| *b == 0)
 }
 
 // The kind and the size of a header without its NUL.

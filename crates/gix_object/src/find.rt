@@ -1,3 +1,4 @@
+//! Databases that objects, their headers or their existence are asked of.
 ghost use Rattle.std.specs.Prelude.{◌≡◌, Option, Result, Bool, IfOk, IfSome};
 ghost use Rattle.gix_hash.specs.declared.kind.Kind.{Kind as hash_kind};
 ghost use Rattle.gix_hash.specs.declared.object_id.ObjectId.{ObjectId as object_id};

@@ -1,3 +1,4 @@
+//! Ids of objects, by their kind and data.
 ghost use Rattle.std.specs.Prelude.{◌≡◌, IfOk};
 ghost use Rattle.gix_hash.specs.ObjectId.{kind_of, IsId};
 ghost use Rattle.gix_object.specs.Id.{object_id};

@@ -1,3 +1,4 @@
+//! The four kinds of objects, and the words for them.
 ghost use Rattle.std.specs.Prelude.{◌≡◌, Some};
 ghost use Rattle.gix_object.specs.Kind.{kind_of_word, kind_word};
 

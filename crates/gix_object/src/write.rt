@@ -1,3 +1,4 @@
+//! Objects that give their data, and databases that objects are written to.
 ghost use Rattle.std.specs.Prelude.{◌≡◌, ℕ, List, Option, Result, length, IfOk, IfSome, Some, None};
 ghost use Rattle.odb_base.specs.Faults.{HasCause};
 ghost use Rattle.gix_hash.specs.declared.kind.Kind.{Kind as hash_kind};
@@ -10,7 +11,7 @@ ghost use Rattle.gix_object.specs.Stream.{stream_of, IsDrawn, IsWhole, Puts, Str
 
 use crate::{Data, Kind};
 use gix_hash::ObjectId;
-use odb_disk::{Failed, Sink, Source};
+use odb_disk::{Failed, Sink, Source, write_all};
 use std::alloc::Global;
 use std::sync::Wait;
 
@@ -142,21 +143,8 @@ impl WriteTo for Data<'_> {
         self.bytes.len() as u64
     }
 
+    #[tactic(auto, using(crate::proofs::SinkLemmas::puts_all))]
     fn write_to<K: Sink>(&self, out: &mut K) -> Result<(), Failed> {
         write_all(out, self.bytes)
     }
-}
-
-// Writes all of some bytes.
-fn write_all<K: Sink>(out: &mut K, bytes: &[u8]) -> Result<(), Failed>
-    ensures bytes { Puts bytes.now (K.held out.old) (K.held out.new) result }
-    ensures cause { HasCause (K.faults out.old) (K.faults out.new) result }
-{
-    let mut rest = bytes;
-    'writing: while !rest.is_empty() {
-        let count = out.write(rest)?;
-        let (_, after) = rest.split_at(count);
-        rest = after;
-    }
-    Ok(())
 }

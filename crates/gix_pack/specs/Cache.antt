@@ -12,6 +12,10 @@ pub record Put : Type 0 where
   pub id : ObjectId
   pub object : Object
 
+-- the same from its parts
+abbrev pub put_of : ObjectId → Kind → List ℕ → Put
+put_of id kind bytes = record { id = id; object = record { kind = kind; bytes = bytes } }
+
 -- the entries of a cache: a finite map, as a list in which the first entry of an id counts
 abbrev pub Entries : Type 0
 Entries = List Put

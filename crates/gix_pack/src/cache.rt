@@ -1,6 +1,6 @@
 //! Caches in front of packs and objects.
 ghost use Rattle.std.specs.Prelude.{◌≡◌, [], Option, None, IfOk, OnOk, OnErr};
-ghost use Rattle.gix_pack.specs.Cache.{entry_of, got, Entries, GainsAtMost, GainsNone, IsLast, KeepsAll, Put};
+ghost use Rattle.gix_pack.specs.Cache.{entry_of, got, put_of, Entries, GainsAtMost, GainsNone, IsLast, KeepsAll, Put};
 
 use gix_hash::ObjectId;
 use gix_object::Kind;
@@ -40,8 +40,8 @@ pub trait Object {
 
     /// Keeps an object, if it likes, and may let others go.
     fn put(&mut self, alloc: Global, id: ObjectId, kind: Kind, bytes: &[u8]) -> Result<(), NoMemory>
-        ensures kept { OnOk result (GainsAtMost (entries self.old) (record { id = id; object = record { kind = kind; bytes = bytes.now } }) (entries self.new)) }
-        ensures last { OnOk result (IsLast (last self.new) (record { id = id; object = record { kind = kind; bytes = bytes.now } })) }
+        ensures kept { OnOk result (GainsAtMost (entries self.old) (put_of id kind bytes.now) (entries self.new)) }
+        ensures last { OnOk result (IsLast (last self.new) (put_of id kind bytes.now)) }
         ensures refused { OnErr result (GainsNone (entries self.old) (entries self.new)) }
         ensures refused_last { OnErr result (last self.new ≡ last self.old) };
 

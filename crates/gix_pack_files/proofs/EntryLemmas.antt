@@ -1,6 +1,7 @@
 -- Entries of packs: how a header is read, where it stands, and the object behind it.
 pub mod Objects
 use Rattle.std.proofs.Common.{◌≡◌, ℕ, zero, suc, ◌+◌, ◌-◌, ◌*◌, ◌/◌, ◌%◌, ◌^◌, ◌<◌, ◌≤◌, ◌&&◌, nat_le, nat_lt, Bool, true, false, cond, List, length, take, drop, get_or, slice_index, Some, None, Ok, Err, length-take-le, refl, sym, ap, ◌∙◌, arith}
+use Rattle.std.proofs.lemmas.Bool.{le-leb, le-ltb, leb-true, lt-leb, lt-ltb, ltb-true, ltb-false}
 use Rattle.std.specs.List.{position, position_or_len}
 use Rattle.std.proofs.lemmas.List.{get_or-take}
 use Rattle.std.proofs.lemmas.Option.{same_Some}
@@ -14,27 +15,6 @@ use Rattle.gix_pack_files.specs.declared.data.Error.TheVariants.{BadEntry}
 
 -- ---- tests of numbers
 
-pub le_from : (a b : ℕ) → nat_le a b ≡ true → a ≤ b
-le_from a b h = grind arith
-
-is_le : (a b : ℕ) → a ≤ b → nat_le a b ≡ true
-is_le a b h = grind arith
-
-is_no_le : (a b : ℕ) → b < a → nat_le a b ≡ false
-is_no_le a b h = grind arith
-
-pub is_lt : (a b : ℕ) → a < b → nat_lt a b ≡ true
-is_lt a b h = grind arith
-
-pub is_no_lt : (a b : ℕ) → b ≤ a → nat_lt a b ≡ false
-is_no_lt a b h = grind arith
-
-lt_from : (a b : ℕ) → true ≡ nat_lt a b → a < b
-lt_from a b h = grind arith
-
-le_from_no_lt : (a b : ℕ) → false ≡ nat_lt a b → b ≤ a
-le_from_no_lt a b h = grind arith
-
 and_false : (b : Bool) → (b && false) ≡ false
 and_false true = refl
 and_false false = refl
@@ -47,13 +27,13 @@ place_none p len h = by (nat_lt p len) refl h
   where
     by : (b : Bool) → b ≡ nat_lt p len → cond b (Some p) None ≡ None → len ≤ p
     by true is none = cc none
-    by false is none = le_from_no_lt p len is
+    by false is none = ltb-false p len (sym is)
 
 place_some : (p len last : ℕ) → cond (nat_lt p len) (Some p) None ≡ Some last → (p ≡ last) × (p < len)
 place_some p len last h = by (nat_lt p len) refl h
   where
     by : (b : Bool) → b ≡ nat_lt p len → cond b (Some p) None ≡ Some last → (p ≡ last) × (p < len)
-    by true is some = (same_Some p last some, lt_from p len is)
+    by true is some = (same_Some p last some, ltb-true p len (sym is))
     by false is some = cc some
 
 abbrev place : List ℕ → ℕ
@@ -64,7 +44,7 @@ pub head_missing : (rest : List ℕ) → position (λ b. nat_lt b 128) rest ≡ 
 unfolding head_from
 head_missing rest none =
     let long : length rest ≤ place rest = place_none (place rest) (length rest) none in
-    let no : nat_le (header_len rest) (length rest) ≡ false = is_no_le (header_len rest) (length rest) (omega arith) in
+    let no : nat_le (header_len rest) (length rest) ≡ false = lt-leb (header_len rest) (length rest) (omega arith) in
     rw no refl
 
 -- it has more than ten bytes
@@ -74,7 +54,7 @@ head_long rest last found long =
     let places = place_some (place rest) (length rest) last found in
     let same : place rest ≡ last = places.0 in
     let within : place rest < length rest = places.1 in
-    let no : nat_le (header_len rest) 10 ≡ false = is_no_le (header_len rest) 10 (omega arith) in
+    let no : nat_le (header_len rest) 10 ≡ false = lt-leb (header_len rest) 10 (omega arith) in
     rw (no, and_false (nat_le (header_len rest) (length rest))) refl
 
 -- it ends with this byte
@@ -85,18 +65,18 @@ head_found rest last found short =
     let same : place rest ≡ last = places.0 in
     let within : place rest < length rest = places.1 in
     let whole : header_len rest ≡ last + 1 = omega arith in
-    let fits : nat_le (header_len rest) (length rest) ≡ true = is_le (header_len rest) (length rest) (omega arith) in
-    let ten : nat_le (header_len rest) 10 ≡ true = is_le (header_len rest) 10 (omega arith) in
+    let fits : nat_le (header_len rest) (length rest) ≡ true = le-leb (header_len rest) (length rest) (omega arith) in
+    let ten : nat_le (header_len rest) 10 ≡ true = le-leb (header_len rest) 10 (omega arith) in
     let code : code_of rest ≡ code_of (take (last + 1) rest) = ap (λ (b : ℕ). b / 16 % 8) (sym (get_or-take (last + 1) rest 0 0 (omega arith))) in
     let long : last + 1 ≡ length (take (last + 1) rest) = sym (length-take-le (last + 1) rest (omega arith)) in
     rw (fits, ten) (ap (λ (n : ℕ). sized (take n rest) (code_of rest) n) whole ∙ ap (λ (c : ℕ). sized (take (last + 1) rest) c (last + 1)) code
     ∙ ap (λ (n : ℕ). sized (take (last + 1) rest) (code_of (take (last + 1) rest)) n) long)
 
 large : (low high : ℕ) → 2 ^ 60 ≤ high → nat_lt (low % 16 + 16 * high) (2 ^ 64) ≡ false
-large low high h = is_no_lt (low % 16 + 16 * high) (2 ^ 64) (omega arith)
+large low high h = le-ltb (low % 16 + 16 * high) (2 ^ 64) (omega arith)
 
 small : (low high : ℕ) → high < 2 ^ 60 → nat_lt (low % 16 + 16 * high) (2 ^ 64) ≡ true
-small low high h = is_lt (low % 16 + 16 * high) (2 ^ 64) (omega arith)
+small low high h = lt-ltb (low % 16 + 16 * high) (2 ^ 64) (omega arith)
 
 -- its size is 2^64 or more
 pub head_too_large : (header : List ℕ) → 2 ^ 60 ≤ size_bits (drop 1 header) → head_whole header ≡ Err BadEntry
@@ -140,20 +120,20 @@ bits_fit len place value few some below =
 
 pub head_before : (kind : Kind) (bytes : List ℕ) (offset : ℕ) → offset < 12 → head_at kind bytes offset ≡ Err BadEntry
 unfolding head_at
-head_before kind bytes offset low = rw (is_no_le 12 offset low) refl
+head_before kind bytes offset low = rw (lt-leb 12 offset low) refl
 
 pub head_behind : (kind : Kind) (bytes : List ℕ) (offset : ℕ) → trailer_place kind bytes ≤ offset → head_at kind bytes offset ≡ Err BadEntry
 unfolding head_at
-head_behind kind bytes offset high = rw (is_no_lt offset (trailer_place kind bytes) high, and_false (nat_le 12 offset)) refl
+head_behind kind bytes offset high = rw (le-ltb offset (trailer_place kind bytes) high, and_false (nat_le 12 offset)) refl
 
 pub head_within : (kind : Kind) (bytes : List ℕ) (offset : ℕ) → 12 ≤ offset → offset < trailer_place kind bytes → head_at kind bytes offset ≡ head_from (rest_at kind bytes offset)
 unfolding head_at head_from
-head_within kind bytes offset low high = rw (is_le 12 offset low, is_lt offset (trailer_place kind bytes) high) refl
+head_within kind bytes offset low high = rw (le-leb 12 offset low, lt-ltb offset (trailer_place kind bytes) high) refl
 
 -- ---- so many bytes of entries
 
 pub slice_behind : (kind : Kind) (bytes : List ℕ) (offset size : ℕ) → trailer_place kind bytes < offset + size → slice_at kind bytes offset size ≡ None
-slice_behind kind bytes offset size high = rw (is_no_le (offset + size) (trailer_place kind bytes) high, and_false (nat_le 12 offset)) refl
+slice_behind kind bytes offset size high = rw (lt-leb (offset + size) (trailer_place kind bytes) high, and_false (nat_le 12 offset)) refl
 
 pub slice_within : (kind : Kind) (bytes : List ℕ) (offset size : ℕ) → 12 ≤ offset → offset + size ≤ trailer_place kind bytes → slice_at kind bytes offset size ≡ Some (part offset size bytes)
-slice_within kind bytes offset size low high = rw (is_le 12 offset low, is_le (offset + size) (trailer_place kind bytes) high) refl
+slice_within kind bytes offset size low high = rw (le-leb 12 offset low, le-leb (offset + size) (trailer_place kind bytes) high) refl

@@ -1,5 +1,6 @@
 -- Indices: the places of their tables, and the offset of a row.
 use Rattle.std.proofs.Common.{◌≡◌, ◌==◌, ℕ, zero, suc, ◌+◌, ◌-◌, ◌*◌, ◌^◌, ◌<◌, ◌≤◌, ◌&&◌, Bool, true, false, List, [], ◌∷◌, length, take, drop, slice_get, slice_index, Some, option_map, length-drop, refl, sym, ap, ◌∙◌, arith}
+use Rattle.gix_pack_tables.proofs.ListLemmas.{of_row}
 use Rattle.std.specs.List.{list_all}
 use Rattle.std.specs.Int.{w32, w64, from_be_bytes}
 use Rattle.std.proofs.lemmas.Bool.{and_parts, eqb-true}
@@ -12,6 +13,7 @@ use Rattle.gix_pack_tables.specs.Rows.{counts_of, ids_of, is_named_below, is_ris
 use Rattle.gix_pack_files.specs.Index.{has_length, index_ids, index_offsets, is_index, narrow_offsets, objects_in, offsets_place, tables_agree, wide_offsets, wides_in, wides_place}
 use Rattle.gix_pack_tables.proofs.RowsLemmas.{slice_get-table}
 use Rattle.gix_pack_tables.proofs.SearchLemmas.{row_fits}
+use Rattle.gix_pack_tables.proofs.OffsetLaws.{named_below, offset_in-low, offset_in-wide}
 
 -- ---- an index's length
 
@@ -158,21 +160,6 @@ wide_read kind bytes wide n place number n_is place_is read below =
     let own : number ≡ long_number_at (wides_place kind (objects_in bytes) + wide * 8) bytes = read ∙ ap (λ (p : ℕ). long_number_at (p + wide * 8) bytes) (place_is ∙ ap (wides_place kind) n_is) in
     row_wide kind bytes wide below ∙ ap (λ (x : ℕ). Some x) (sym own)
 
--- what holds of each row holds of one
-of_row : (test : ℕ → Bool) (numbers : List ℕ) (row number : ℕ) → list_all test numbers ≡ true → slice_get numbers row ≡ Some number → test number ≡ true
-of_row test [] row number all h = cc h
-of_row test (x ∷ numbers) zero number all h = ap test (sym (same_Some x number h)) ∙ (and_parts (test x) (list_all test numbers) all).0
-of_row test (x ∷ numbers) (suc row) number all h = of_row test numbers row number (and_parts (test x) (list_all test numbers) all).1 h
-
-below_wides : (n narrow : ℕ) → is_named_below n narrow ≡ true → 2 ^ 31 ≤ narrow → narrow - 2 ^ 31 < n
-below_wides n narrow named high = grind arith
-
-in_narrow : (wides : List ℕ) (narrow : ℕ) → narrow < 2 ^ 31 → offset_in wides narrow ≡ narrow
-in_narrow wides narrow low = grind arith
-
-in_wide : (wides : List ℕ) (narrow : ℕ) → 2 ^ 31 ≤ narrow → offset_in wides narrow ≡ slice_index wides (narrow - 2 ^ 31)
-in_wide wides narrow high = grind arith
-
 narrow_fits : (size n row room : ℕ) → row < n → 1032 + n * (size + 8) ≤ room → 1032 + n * (size + 4) + row * 4 + 4 ≤ room
 narrow_fits size n row room below fits = omega arith
 
@@ -195,16 +182,16 @@ wide_read_room kind bytes wide n place h below n_is place_is =
 -- the row of the wide offsets that a narrow one names is there
 pub wide_below : (kind : Kind) (bytes : List ℕ) (row narrow : ℕ) → is_index kind bytes ≡ true → slice_get (narrow_offsets kind bytes) row ≡ Some narrow → 2 ^ 31 ≤ narrow → narrow - 2 ^ 31 < wides_in kind bytes
 wide_below kind bytes row narrow h own high =
-    below_wides (wides_in kind bytes) narrow (of_row (is_named_below (wides_in kind bytes)) (narrow_offsets kind bytes) row narrow (offsets_named kind bytes h) own) high
+    named_below (wides_in kind bytes) narrow (of_row (is_named_below (wides_in kind bytes)) (narrow_offsets kind bytes) row narrow (offsets_named kind bytes h) own) high
 
 row_offset : (kind : Kind) (bytes : List ℕ) (row narrow : ℕ) → slice_get (narrow_offsets kind bytes) row ≡ Some narrow → slice_get (index_offsets kind bytes) row ≡ Some (offset_in (wide_offsets kind bytes) narrow)
 row_offset kind bytes row narrow own = slice_get-map (offset_in (wide_offsets kind bytes)) (narrow_offsets kind bytes) row ∙ ap (option_map (offset_in (wide_offsets kind bytes))) own
 
 pub narrow_offset : (kind : Kind) (bytes : List ℕ) (row narrow : ℕ) → slice_get (narrow_offsets kind bytes) row ≡ Some narrow → narrow < 2 ^ 31 → slice_get (index_offsets kind bytes) row ≡ Some narrow
-narrow_offset kind bytes row narrow own low = row_offset kind bytes row narrow own ∙ ap (λ (offset : ℕ). Some offset) (in_narrow (wide_offsets kind bytes) narrow low)
+narrow_offset kind bytes row narrow own low = row_offset kind bytes row narrow own ∙ ap (λ (offset : ℕ). Some offset) (offset_in-low (wide_offsets kind bytes) narrow low)
 
 pub wide_offset : (kind : Kind) (bytes : List ℕ) (row narrow offset : ℕ) → slice_get (narrow_offsets kind bytes) row ≡ Some narrow → 2 ^ 31 ≤ narrow
     → slice_get (wide_offsets kind bytes) (narrow - 2 ^ 31) ≡ Some offset → slice_get (index_offsets kind bytes) row ≡ Some offset
 wide_offset kind bytes row narrow offset own high named =
     row_offset kind bytes row narrow own
-    ∙ ap (λ (place : ℕ). Some place) (in_wide (wide_offsets kind bytes) narrow high ∙ get_or_from_slice_get (wide_offsets kind bytes) (narrow - 2 ^ 31) offset 0 named)
+    ∙ ap (λ (place : ℕ). Some place) (offset_in-wide (wide_offsets kind bytes) narrow high ∙ get_or_from_slice_get (wide_offsets kind bytes) (narrow - 2 ^ 31) offset 0 named)

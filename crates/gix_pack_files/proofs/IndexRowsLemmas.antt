@@ -1,5 +1,6 @@
 -- The rows of an index, one behind another.
 use Rattle.std.proofs.Common.{◌≡◌, ℕ, ◌+◌, ◌<◌, ◌≤◌, List, [], ◌∷◌, length, map, drop, slice_get, Some, None, option_map, ap, ◌∙◌, arith}
+use Rattle.std.proofs.lemmas.List.{length-map, drop_all}
 use Rattle.std.specs.List.{zip}
 use Rattle.std.proofs.lemmas.Option.{slice_get-map}
 use Rattle.gix_hash.specs.declared.kind.Kind.{Kind}
@@ -7,8 +8,8 @@ use Rattle.gix_hash.specs.declared.object_id.ObjectId.{ObjectId}
 use Rattle.gix_pack_files.specs.Index.{index_ids, index_offsets, index_rows, objects_in}
 use Rattle.gix_pack_files.specs.IndexRows.{unchecked}
 use Rattle.gix_pack_tables.specs.Rows.{Row}
-use Rattle.gix_pack_tables.proofs.ListLemmas.{drop_at, drop_past, zip_get}
-use Rattle.gix_pack_tables.proofs.SearchLemmas.{length-ids_of, length-map}
+use Rattle.gix_pack_tables.proofs.ListLemmas.{drop_at, zip_get}
+use Rattle.gix_pack_tables.proofs.SearchLemmas.{length-ids_of}
 
 length-zip : {X Y : Type 0} (xs : List X) (ys : List Y) → length (zip xs ys) ≤ length xs
 length-zip [] ys = omega arith
@@ -28,10 +29,10 @@ rows_more kind bytes row id offset its own =
 -- behind the last row there is none
 rows_end : (kind : Kind) (bytes : List ℕ) (row : ℕ) → objects_in bytes ≤ row → drop row (index_rows kind bytes) ≡ []
 rows_end kind bytes row past =
-    let whole = length-map row_of (zip (index_ids kind bytes) (index_offsets kind bytes)) in
+    let whole = length-map (zip (index_ids kind bytes) (index_offsets kind bytes)) row_of in
     let pairs = length-zip (index_ids kind bytes) (index_offsets kind bytes) in
     let ids : length (index_ids kind bytes) ≡ objects_in bytes = length-ids_of kind (objects_in bytes) (drop 1032 bytes) in
-    drop_past (index_rows kind bytes) row (omega arith)
+    drop_all row (index_rows kind bytes) (omega arith)
 
 -- behind the last row by a count that was read, nothing is handed out
 pub entries_end : (kind : Kind) (bytes : List ℕ) (row count : ℕ) → count ≡ objects_in bytes → count ≤ row → map unchecked (drop row (index_rows kind bytes)) ≡ []

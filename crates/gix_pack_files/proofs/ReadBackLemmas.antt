@@ -1,5 +1,6 @@
 -- Packs that were written, read back: the front, each entry at its place, and where the entries end.
 use Rattle.std.proofs.Common.{◌≡◌, ℕ, ◌+◌, ◌^◌, ◌<◌, ◌≤◌, nat_le, nat_lt, true, None, Ok, List, [], ◌∷◌, ◌++◌, length, take, drop, codes, append_assoc, length-append, subst, refl, sym, ap, ◌∙◌, arith}
+use Rattle.std.proofs.lemmas.Bool.{le-leb, lt-ltb}
 use Rattle.std.specs.List.{flat_map, zip, AllByRecursion}
 use Rattle.std.specs.Int.{w32, to_be_bytes}
 use Rattle.std.proofs.Math.Seq.{take-append_seam, drop-append_seam}
@@ -20,12 +21,6 @@ use Rattle.gix_hash.proofs.HashLemmas.{kind_of-hash_of}
 use Rattle.gix_pack_files.proofs.EntryLemmas.{head_within}
 use Rattle.gix_pack_files.proofs.EntryLemmas.Objects.{object_inside}
 use Rattle.gix_pack_files.proofs.ReadHeaderLemmas.{Tells, header_tells}
-
-is_le : (a b : ℕ) → a ≤ b → nat_le a b ≡ true
-is_le a b h = grind arith
-
-is_below : (a b : ℕ) → a < b → nat_lt a b ≡ true
-is_below a b h = grind arith
 
 -- ---- a header
 
@@ -51,10 +46,10 @@ head_is_read code size header behind tells fits =
     let whole : length (header ++ behind) ≡ length header + length behind = length-append header behind in
     let own : take (header_len (header ++ behind)) (header ++ behind) ≡ header = ap (λ (n : ℕ). take n (header ++ behind)) len ∙ take-append_seam header behind in
     let size_is : size_of (take (header_len (header ++ behind)) (header ++ behind)) ≡ size = ap size_of own ∙ tells.size_is in
-    let room : nat_le (header_len (header ++ behind)) (length (header ++ behind)) ≡ true = is_le (header_len (header ++ behind)) (length (header ++ behind)) (omega arith) in
+    let room : nat_le (header_len (header ++ behind)) (length (header ++ behind)) ≡ true = le-leb (header_len (header ++ behind)) (length (header ++ behind)) (omega arith) in
     let short : length header ≤ 10 = tells.short in
-    let ten : nat_le (header_len (header ++ behind)) 10 ≡ true = is_le (header_len (header ++ behind)) 10 (omega arith) in
-    let small : nat_lt (size_of (take (header_len (header ++ behind)) (header ++ behind))) (2 ^ 64) ≡ true = is_below (size_of (take (header_len (header ++ behind)) (header ++ behind))) (2 ^ 64) (omega arith) in
+    let ten : nat_le (header_len (header ++ behind)) 10 ≡ true = le-leb (header_len (header ++ behind)) 10 (omega arith) in
+    let small : nat_lt (size_of (take (header_len (header ++ behind)) (header ++ behind))) (2 ^ 64) ≡ true = lt-ltb (size_of (take (header_len (header ++ behind)) (header ++ behind))) (2 ^ 64) (omega arith) in
     rw (room, ten, small)
     (ap (λ (c : ℕ). Ok (record { code = c; size = size_of (take (header_len (header ++ behind)) (header ++ behind)); header_len = header_len (header ++ behind) })) (tells.code_is behind)
     ∙ ap (λ (s : ℕ). Ok (record { code = code; size = s; header_len = header_len (header ++ behind) })) size_is
@@ -150,7 +145,7 @@ begins_as_pack : (hash : HashKind) (count : ℕ) (rest : List ℕ) → len_in_by
 unfolding is_pack
 begins_as_pack hash count rest room =
     let whole : length (magic_and_numbers count ++ rest) ≡ 12 + length rest = length-append (magic_and_numbers count) rest in
-    let fits : nat_le (12 + len_in_bytes_of hash) (length (magic_and_numbers count ++ rest)) ≡ true = is_le (12 + len_in_bytes_of hash) (length (magic_and_numbers count ++ rest)) (omega arith) in
+    let fits : nat_le (12 + len_in_bytes_of hash) (length (magic_and_numbers count ++ rest)) ≡ true = le-leb (12 + len_in_bytes_of hash) (length (magic_and_numbers count ++ rest)) (omega arith) in
     rw fits refl
 
 -- the pack of some objects is read as their pack. Its hash is as long as its kind says, as that of each id is

@@ -1,9 +1,10 @@
 -- The header of an entry that was written is read back.
 use Rattle.std.proofs.Common.{◌≡◌, ℕ, zero, suc, ◌+◌, ◌*◌, ◌/◌, ◌%◌, ◌^◌, ◌<◌, ◌≤◌, inl, inr, nat_lt, true, false, List, [], ◌∷◌, ◌++◌, length, drop, refl, arith}
+use Rattle.std.proofs.lemmas.Bool.{cases_lt, le-ltb, lt-ltb}
 use Rattle.std.specs.List.{position_or_len}
 use Rattle.gix_pack_files.specs.Pack.{code_of, size_bits, size_of}
 use Rattle.gix_pack_tables.specs.WrittenPack.{header_of, size_bytes}
-use Rattle.gix_pack_tables.proofs.WrittenPackLemmas.{below_or_not, is_below, is_not_below, length_of_size, one_byte_less}
+use Rattle.gix_pack_tables.proofs.WrittenPackLemmas.{length_of_size, one_byte_less}
 
 -- a number is read back from its bytes
 pub size_read_back : (m number : ℕ) → number < 128 ^ suc m → size_bits (size_bytes (suc m) number) ≡ number
@@ -11,14 +12,14 @@ unfolding size_bytes size_bits
 size_read_back zero number below =
     let small : number < 128 = omega arith in
     let own : number % 128 + 128 * 0 ≡ number = omega arith in
-    rw (is_below number 128 small) own
+    rw (lt-ltb number 128 small) own
 size_read_back (suc m) number below =
-    elim (below_or_not number 128) [
-      | inl low ↦ let own : number % 128 + 128 * 0 ≡ number = omega arith in rw (is_below number 128 low) own
+    elim (cases_lt number 128) [
+      | inl low ↦ let own : number % 128 + 128 * 0 ≡ number = omega arith in rw (lt-ltb number 128 low) own
       | inr high ↦
           let rest : size_bits (size_bytes (suc m) (number / 128)) ≡ number / 128 = size_read_back m (number / 128) (one_byte_less (suc m) number below) in
           let own : (128 + number % 128) % 128 + 128 * size_bits (size_bytes (suc m) (number / 128)) ≡ number = omega arith in
-          rw (is_not_below number 128 high) own
+          rw (le-ltb number 128 high) own
     ]
 
 abbrev place : List ℕ → ℕ
@@ -29,14 +30,14 @@ place_of_size : (m number : ℕ) (rest : List ℕ) → number < 128 ^ suc m → 
 unfolding size_bytes
 place_of_size zero number rest below =
     let small : number < 128 = omega arith in
-    rw (is_below number 128 small, is_below number 128 small) refl
+    rw (lt-ltb number 128 small, lt-ltb number 128 small) refl
 place_of_size (suc m) number rest below =
-    elim (below_or_not number 128) [
-      | inl low ↦ rw (is_below number 128 low, is_below number 128 low) refl
+    elim (cases_lt number 128) [
+      | inl low ↦ rw (lt-ltb number 128 low, lt-ltb number 128 low) refl
       | inr high ↦
           let more : place (size_bytes (suc m) (number / 128) ++ rest) + 1 ≡ length (size_bytes (suc m) (number / 128)) = place_of_size m (number / 128) rest (one_byte_less (suc m) number below) in
-          let first : nat_lt (128 + number % 128) 128 ≡ false = is_not_below (128 + number % 128) 128 (omega arith) in
-          rw (is_not_below number 128 high, first) (omega arith)
+          let first : nat_lt (128 + number % 128) 128 ≡ false = le-ltb (128 + number % 128) 128 (omega arith) in
+          rw (le-ltb number 128 high, first) (omega arith)
     ]
 
 -- what a written header tells, whatever stands behind it
@@ -50,7 +51,7 @@ tells_short : (code size : ℕ) → code < 8 → size < 16 → Tells code size (
 unfolding size_bits
 tells_short code size kind small =
     let none : size_bits (drop 1 ((16 * code + size) ∷ [])) ≡ 0 = refl in
-    let below : nat_lt (16 * code + size) 128 ≡ true = is_below (16 * code + size) 128 (omega arith) in
+    let below : nat_lt (16 * code + size) 128 ≡ true = lt-ltb (16 * code + size) 128 (omega arith) in
     record {
       code_is = λ rest. omega arith;
       size_is = omega arith;
@@ -65,7 +66,7 @@ tells_long code size kind large fits =
     let rest_read : size_bits (size_bytes 9 (size / 16)) ≡ size / 16 = size_read_back 8 (size / 16) less in
     let read : size_bits (drop 1 ((128 + 16 * code + size % 16) ∷ size_bytes 9 (size / 16))) ≡ size / 16 = rest_read in
     let rest_short = length_of_size 8 (size / 16) in
-    let more : nat_lt (128 + 16 * code + size % 16) 128 ≡ false = is_not_below (128 + 16 * code + size % 16) 128 (omega arith) in
+    let more : nat_lt (128 + 16 * code + size % 16) 128 ≡ false = le-ltb (128 + 16 * code + size % 16) 128 (omega arith) in
     record {
       code_is = λ rest. omega arith;
       size_is = omega arith;
@@ -76,7 +77,7 @@ tells_long code size kind large fits =
 pub header_tells : (code size : ℕ) → code < 8 → size < 2 ^ 64 → Tells code size (header_of code size)
 unfolding header_of
 header_tells code size kind fits =
-    elim (below_or_not size 16) [
-      | inl small ↦ rw (is_below size 16 small) (tells_short code size kind small)
-      | inr large ↦ rw (is_not_below size 16 large) (tells_long code size kind large fits)
+    elim (cases_lt size 16) [
+      | inl small ↦ rw (lt-ltb size 16 small) (tells_short code size kind small)
+      | inr large ↦ rw (le-ltb size 16 large) (tells_long code size kind large fits)
     ]

@@ -10,17 +10,21 @@
 --     the pack's trailing hash, the index's own   2 * h
 --
 -- Here h is the length of an id. A part's place is the sum of the parts before it.
-use Rattle.std.specs.Prelude.{ℕ, ◌+◌, ◌-◌, ◌*◌, ◌/◌, ◌==◌, ◌&&◌, Bool, List, [], ◌∷◌, length, drop, map, nat_eq, Option, Some, None, if◌then◌else◌}
+use Rattle.std.specs.Prelude.{ℕ, ◌+◌, ◌-◌, ◌*◌, ◌/◌, ◌==◌, ◌&&◌, Bool, List, [], ◌∷◌, ◌++◌, length, drop, map, nat_eq, Option, Some, None, if◌then◌else◌}
 use Rattle.std.specs.List.{list_all, starts_with, zip}
 use Rattle.gix_hash.specs.Kind.{len_in_bytes_of}
 use Rattle.gix_hash.specs.declared.kind.Kind.{Kind}
 use Rattle.gix_hash.specs.declared.object_id.ObjectId.{ObjectId}
 use Rattle.gix_pack_tables.specs.Bytes.{same, number_at, numbers, long_numbers}
-use Rattle.gix_pack_tables.specs.Rows.{Row, ids_of, is_rising, counts_of, offset_in, is_named_below}
+use Rattle.gix_pack_tables.specs.Rows.{Row, ids_of, is_rising, counts_of, offset_in, is_named_below, wide_len}
+
+-- what an index that has a version begins with
+abbrev pub index_start : List ℕ
+index_start = 255 ∷ 116 ∷ 79 ∷ 99 ∷ []
 
 -- what each version 2 index begins with
 abbrev pub signature : List ℕ
-signature = 255 ∷ 116 ∷ 79 ∷ 99 ∷ 0 ∷ 0 ∷ 0 ∷ 2 ∷ []
+signature = index_start ++ 0 ∷ 0 ∷ 0 ∷ 2 ∷ []
 
 -- where the 256 counts begin: behind the signature
 abbrev pub counts_place : ℕ
@@ -47,7 +51,7 @@ wides_place kind n = ids_place + n * (len_in_bytes_of kind + 8)
 
 -- w: how many wide offsets the length leaves room for
 abbrev pub wides_in : Kind → List ℕ → ℕ
-wides_in kind bytes = (length bytes - (wides_place kind (objects_in bytes) + 2 * len_in_bytes_of kind)) / 8
+wides_in kind bytes = (length bytes - (wides_place kind (objects_in bytes) + 2 * len_in_bytes_of kind)) / wide_len
 
 -- the ids
 abbrev pub index_ids : Kind → List ℕ → List ObjectId
@@ -63,7 +67,7 @@ wide_offsets kind bytes = long_numbers (wides_in kind bytes) (drop (wides_place 
 
 -- whether the length is that of so many objects and wide offsets, and no other
 abbrev pub has_length : Kind → List ℕ → Bool
-has_length kind bytes = length bytes == wides_place kind (objects_in bytes) + 8 * wides_in kind bytes + 2 * len_in_bytes_of kind
+has_length kind bytes = length bytes == wides_place kind (objects_in bytes) + wide_len * wides_in kind bytes + 2 * len_in_bytes_of kind
 
 -- whether the ids rise strictly, the counts are theirs, and each offset that names a row of the wide ones names one of them
 unfoldable pub tables_agree : Kind → List ℕ → Bool

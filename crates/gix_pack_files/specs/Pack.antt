@@ -15,25 +15,33 @@ use Rattle.gix_hash.specs.declared.kind.Kind.{Kind as HashKind}
 use Rattle.gix_object.specs.declared.kind.Kind.{Kind}
 use Rattle.gix_object.specs.declared.kind.Kind.TheVariants.{Commit, Tree, Blob, Tag}
 use Rattle.gix_pack_tables.specs.Bytes.{is_within, part, number_at, trailer_place}
-use Rattle.gix_pack_tables.specs.WrittenPack.{entries_place}
+use Rattle.gix_pack_tables.specs.WrittenPack.{entries_place, longest_header}
 use Rattle.gix_pack_files.specs.declared.data.entry.Header.{Header}
 use Rattle.gix_pack_files.specs.declared.data.entry.Entry as found
 use Rattle.gix_pack_files.specs.declared.data.Error.{Error}
 use Rattle.gix_pack_files.specs.declared.data.Error.TheVariants.{BadEntry, DeltaEntry, OutOfMemory, EntryType}
 
--- the version stands behind `PACK`, and the number of objects behind the version
+-- where the version stands: behind `PACK`
+abbrev pub version_place : ℕ
+version_place = 4
+
+-- where the number of objects stands: behind the version
+abbrev pub count_place : ℕ
+count_place = 8
+
 abbrev pub version_in : List ℕ → ℕ
-version_in bytes = number_at 4 bytes
+version_in bytes = number_at version_place bytes
 
 abbrev pub objects_in : List ℕ → ℕ
-objects_in bytes = number_at 8 bytes
+objects_in bytes = number_at count_place bytes
 
 abbrev pub is_version : ℕ → Bool
 is_version number = number == 2 || number == 3
 
 -- whether bytes are a pack: they begin as one, have room for a header and a trailing hash, and a version that is read
 unfoldable pub is_pack : HashKind → List ℕ → Bool
-is_pack kind bytes = starts_with nat_eq bytes (codes "PACK") && nat_le (entries_place + len_in_bytes_of kind) (length bytes) && is_version (version_in bytes)
+is_pack kind bytes =
+    starts_with nat_eq bytes (codes "PACK") && nat_le (entries_place + len_in_bytes_of kind) (length bytes) && is_version (version_in bytes)
 
 -- what stands from a place on, up to the trailing hash
 abbrev pub rest_at : HashKind → List ℕ → ℕ → List ℕ
@@ -64,9 +72,10 @@ pub record Head : Type 0 where
   pub size : ℕ
   pub header_len : ℕ
 
--- whether bytes begin with a header: it ends among them, has ten bytes at most, and a size below 2^64
+-- whether bytes begin with a header: it ends among them, is not longer than the longest, and has a size below 2^64
 abbrev pub begins_with_header : List ℕ → Bool
-begins_with_header rest = nat_le (header_len rest) (length rest) && nat_le (header_len rest) 10 && nat_lt (size_of (take (header_len rest) rest)) (2 ^ 64)
+begins_with_header rest =
+    nat_le (header_len rest) (length rest) && nat_le (header_len rest) longest_header && nat_lt (size_of (take (header_len rest) rest)) (2 ^ 64)
 
 abbrev pub head_of : List ℕ → Head
 head_of rest = record { code = code_of rest; size = size_of (take (header_len rest) rest); header_len = header_len rest }
@@ -109,12 +118,16 @@ header_at kind bytes offset = do
   object ← kind_of_code head.code
   Ok (record { kind = object; size = head.size; header_len = head.header_len })
 
+-- the data of the entry at an offset, behind its header
+abbrev pub data_behind : List ℕ → ℕ → Header → List ℕ
+data_behind bytes offset header = part (offset + header.header_len) header.size bytes
+
 -- the object whose header was read at an offset: the limit is tested first, and then whether the data end before the trailing hash
 unfoldable pub object_behind : HashKind → List ℕ → ℕ → Option ℕ → Header → Result Entry Error
 object_behind kind bytes offset limit header =
     if not (is_within limit header.size) then Err (OutOfMemory header.size)
     else if nat_lt (trailer_place kind bytes) (offset + header.header_len + header.size) then Err BadEntry
-    else Ok (record { kind = header.kind; size = header.size; header_len = header.header_len; bytes = part (offset + header.header_len) header.size bytes })
+    else Ok (record { kind = header.kind; size = header.size; header_len = header.header_len; bytes = data_behind bytes offset header })
 
 -- the object at an offset: its header is read first
 unfoldable pub entry_at : HashKind → List ℕ → ℕ → Option ℕ → Result Entry Error
@@ -124,7 +137,8 @@ entry_at kind bytes offset limit = do
 
 -- so many bytes of entries from an offset on, or nothing where they leave the entries
 abbrev pub slice_at : HashKind → List ℕ → ℕ → ℕ → Option (List ℕ)
-slice_at kind bytes offset size = if nat_le entries_place offset && nat_le (offset + size) (trailer_place kind bytes) then Some (part offset size bytes) else None
+slice_at kind bytes offset size =
+    if nat_le entries_place offset && nat_le (offset + size) (trailer_place kind bytes) then Some (part offset size bytes) else None
 
 -- an entry as it is seen, with its data in the place of where they lie in memory
 abbrev pub entry_seen : Result found.Entry Error → Result Entry Error

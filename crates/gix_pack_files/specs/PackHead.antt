@@ -15,7 +15,8 @@ head_from rest = if begins_with_header rest then Ok (head_of rest) else Err BadE
 
 -- a header of these bytes, with a code and a length
 abbrev pub sized : List ℕ → ℕ → ℕ → Result Head Error
-sized header code len = if nat_lt (size_of header) (2 ^ 64) then Ok (record { code = code; size = size_of header; header_len = len }) else Err BadEntry
+sized header code len =
+    if nat_lt (size_of header) (2 ^ 64) then Ok (record { code = code; size = size_of header; header_len = len }) else Err BadEntry
 
 -- the header that bytes are, which end where it does
 unfoldable pub head_whole : List ℕ → Result Head Error

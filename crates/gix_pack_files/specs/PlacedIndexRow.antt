@@ -18,5 +18,5 @@ index_placed hash objects = table_of id_of (placed_from hash 0 entries_place obj
 -- an index without its own hash, as it is written of rows
 abbrev pub front_of_rows : List Placed → List ℕ → List ℕ
 front_of_rows rows pack =
-    signature ++ number_bytes (counts_of (map id_of rows)) ++ flat_map bytes_of (map id_of rows) ++ replicate (4 * length rows) 0 ++ number_bytes (narrow_from 0 (map offset_of rows))
-    ++ long_number_bytes (filter is_wide (map offset_of rows)) ++ pack
+    signature ++ number_bytes (counts_of (map id_of rows)) ++ flat_map bytes_of (map id_of rows) ++ replicate (4 * length rows) 0
+    ++ number_bytes (narrow_from 0 (map offset_of rows)) ++ long_number_bytes (filter is_wide (map offset_of rows)) ++ pack

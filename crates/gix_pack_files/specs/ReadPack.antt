@@ -10,7 +10,8 @@ use Rattle.gix_pack_files.specs.Pack.{is_pack, objects_in, version_in, entry_at,
 -- the entry that is read of an object
 abbrev pub read_entry : Object → Entry
 read_entry object =
-    record { kind = object.kind; size = length object.bytes; header_len = length (header_of (code_of_kind object.kind) (length object.bytes)); bytes = object.bytes }
+    let header = header_of (code_of_kind object.kind) (length object.bytes) in
+    record { kind = object.kind; size = length object.bytes; header_len = length header; bytes = object.bytes }
 
 -- at the object's place in the bytes of a pack its entry is read
 abbrev pub IsReadAt : HashKind → List ℕ → Object × ℕ → Type 0

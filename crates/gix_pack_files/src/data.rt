@@ -154,7 +154,7 @@ fn is_version(number: u32) -> bool
 
 // The version of a pack.
 fn version_of(file: &FileBytes<'_>) -> u32
-    requires room { 8 ≤ length file.now.bytes.now }
+    requires room { entries_place ≤ length file.now.bytes.now }
     ensures version { result ≡ version_in file.now.bytes.now }
 {
     file.number_at(VERSION_PLACE)

@@ -8,8 +8,9 @@ mod walk;
 mod writing;
 
 use crate::file_bytes::FileBytes;
-use gix_hash::{Kind, ObjectId, Prefix};
-use gix_pack_tables::read::{search, tables};
+use gix_hash::{Kind, ObjectId, Prefix, SHA1_LEN, SHA256_LEN};
+use gix_pack_tables::read::search;
+use gix_pack_tables::read::tables::{self, HIGH_BIT, WIDE_LEN};
 use odb_base::ByteList;
 use std::marker::Model;
 use std::ops::Range;
@@ -28,6 +29,12 @@ const LAST_COUNT_PLACE: usize = 1028;
 
 // Where the ids begin: behind the mark, the version and the counts.
 const IDS_PLACE: usize = 1032;
+
+// How long a CRC value is.
+const CHECK_LEN: usize = 4;
+
+// How long an offset is that isn't wide.
+const OFFSET_LEN: usize = 4;
 
 /// The bytes are no pack index of version 2.
 #[derive(Clone, Copy, Debug, Error)]
@@ -159,7 +166,7 @@ fn has_length(file: &FileBytes<'_>) -> bool
     ensures length { result ≡ length_fits file.now.kind file.now.bytes.now }
 {
     let fixed = wides_place_of(file.kind, count_of(file)) + 2 * file.hash_len();
-    file.len() == fixed + 8 * wides_of(file)
+    file.len() == fixed + WIDE_LEN * wides_of(file)
 }
 
 // Whether the tables of an index of the right length agree with each other.
@@ -191,28 +198,28 @@ fn wides_of(file: &FileBytes<'_>) -> usize
     ensures wides { result ≡ wides_in file.now.kind file.now.bytes.now }
 {
     let fixed = wides_place_of(file.kind, count_of(file)) + 2 * file.hash_len();
-    file.len().saturating_sub(fixed) / 8
+    file.len().saturating_sub(fixed) / WIDE_LEN
 }
 
-// Where the offsets of so many objects begin.
+// Where the offsets of so many objects begin: behind the ids and the CRC values.
 fn offsets_place_of(kind: Kind, count: u32) -> usize
     ensures place { result ≡ offsets_place kind count }
     ensures small { result < 2 ^ 40 }
 {
     match kind {
-        Kind::Sha1 => IDS_PLACE + count as usize * 24,
-        Kind::Sha256 => IDS_PLACE + count as usize * 36,
+        Kind::Sha1 => IDS_PLACE + count as usize * (SHA1_LEN + CHECK_LEN),
+        Kind::Sha256 => IDS_PLACE + count as usize * (SHA256_LEN + CHECK_LEN),
     }
 }
 
-// Where the wide offsets of so many objects begin.
+// Where the wide offsets of so many objects begin: behind the offsets.
 fn wides_place_of(kind: Kind, count: u32) -> usize
     ensures place { result ≡ wides_place kind count }
     ensures small { result < 2 ^ 40 }
 {
     match kind {
-        Kind::Sha1 => IDS_PLACE + count as usize * 28,
-        Kind::Sha256 => IDS_PLACE + count as usize * 40,
+        Kind::Sha1 => IDS_PLACE + count as usize * (SHA1_LEN + CHECK_LEN + OFFSET_LEN),
+        Kind::Sha256 => IDS_PLACE + count as usize * (SHA256_LEN + CHECK_LEN + OFFSET_LEN),
     }
 }
 
@@ -252,10 +259,10 @@ fn offset_at(file: &FileBytes<'_>, row: u32) -> u64
     ensures offset { slice_get (index_offsets file.now.kind file.now.bytes.now) row ≡ Some result }
 {
     let narrow = narrow_at(file, row);
-    if narrow < 1 << 31 {
+    if narrow < HIGH_BIT {
         return narrow as u64;
     }
-    wide_at(file, narrow - (1 << 31))
+    wide_at(file, narrow - HIGH_BIT)
 }
 
 // The offset of a row, as its four bytes tell it.
@@ -265,7 +272,7 @@ fn narrow_at(file: &FileBytes<'_>, row: u32) -> u32
     requires row { row < objects_in file.now.bytes.now }
     ensures offset { slice_get (narrow_offsets file.now.kind file.now.bytes.now) row ≡ Some result }
 {
-    file.number_at(offsets_place_of(file.kind, count_of(file)) + row as usize * 4)
+    file.number_at(offsets_place_of(file.kind, count_of(file)) + row as usize * OFFSET_LEN)
 }
 
 // A row of the wide offsets.
@@ -275,5 +282,5 @@ fn wide_at(file: &FileBytes<'_>, wide: u32) -> u64
     requires wide { wide < wides_in file.now.kind file.now.bytes.now }
     ensures offset { slice_get (wide_offsets file.now.kind file.now.bytes.now) wide ≡ Some result }
 {
-    file.long_at(wides_place_of(file.kind, count_of(file)) + wide as usize * 8)
+    file.long_at(wides_place_of(file.kind, count_of(file)) + wide as usize * WIDE_LEN)
 }

@@ -1,6 +1,8 @@
 pub mod ListLemmas
 pub mod RowsLemmas
+pub mod OffsetLaws
 pub mod SearchLemmas
+mod RisingLemmas
 mod PrefixRunLemmas
 pub mod WrittenPackLemmas
 pub mod PlacedLemmas

@@ -1,6 +1,7 @@
--- Lists row by row: pairs of two lists, and what is left from a row on.
-use Rattle.std.proofs.Common.{◌≡◌, ℕ, zero, suc, ◌+◌, ◌≤◌, List, [], ◌∷◌, length, drop, slice_get, Some, refl, ap, arith}
-use Rattle.std.specs.List.{zip}
+-- Lists row by row: pairs of two lists, what is left from a row on, and what holds of each row.
+use Rattle.std.proofs.Common.{◌≡◌, ℕ, zero, suc, ◌+◌, Bool, true, List, [], ◌∷◌, drop, slice_get, Some, refl, sym, ap, ◌∙◌, arith}
+use Rattle.std.specs.List.{list_all, zip}
+use Rattle.std.proofs.lemmas.Bool.{and_parts}
 use Rattle.std.proofs.lemmas.Option.{same_Some}
 
 pub zip_get : {X Y : Type 0} (xs : List X) (ys : List Y) (i : ℕ) (x : X) (y : Y) → slice_get xs i ≡ Some x → slice_get ys i ≡ Some y → slice_get (zip xs ys) i ≡ Some (x, y)
@@ -14,8 +15,8 @@ drop_at [] i x h = cc h
 drop_at {X} (a ∷ xs) zero x h = ap (λ (y : X). y ∷ xs) (same_Some a x h)
 drop_at (a ∷ xs) (suc i) x h = let next : suc i + 1 ≡ suc (i + 1) = omega arith in rw next (drop_at xs i x h)
 
-pub drop_past : {X : Type 0} (xs : List X) (i : ℕ) → length xs ≤ i → drop i xs ≡ []
-drop_past [] zero h = refl
-drop_past [] (suc i) h = refl
-drop_past (a ∷ xs) zero h = absurd (omega arith)
-drop_past (a ∷ xs) (suc i) h = drop_past xs i (omega arith)
+-- what holds of each row holds of one
+pub of_row : {X : Type 0} (test : X → Bool) (rows : List X) (n : ℕ) (row : X) → list_all test rows ≡ true → slice_get rows n ≡ Some row → test row ≡ true
+of_row test [] n row all h = cc h
+of_row test (x ∷ rows) zero row all h = ap test (sym (same_Some x row h)) ∙ (and_parts (test x) (list_all test rows) all).0
+of_row test (x ∷ rows) (suc n) row all h = of_row test rows n row (and_parts (test x) (list_all test rows) all).1 h

@@ -13,14 +13,6 @@ use Rattle.gix_pack_tables.specs.declared.object.Object as given
 
 -- ---- lists
 
-pub map_map : {A B C : Type 0} (g : B → C) (f : A → B) (xs : List A) → map g (map f xs) ≡ map (λ (x : A). g (f x)) xs
-map_map g f [] = refl
-map_map g f (x ∷ xs) = ap (λ ys. g (f x) ∷ ys) (map_map g f xs)
-
-pub map_append : {A B : Type 0} (f : A → B) (xs ys : List A) → map f (xs ++ ys) ≡ map f xs ++ map f ys
-map_append f [] ys = refl
-map_append f (x ∷ xs) ys = ap (λ zs. f x ∷ zs) (map_append f xs ys)
-
 pub each_append : {A : Type 0} (P : A → Type 0) (xs ys : List A) → AllByRecursion P xs → AllByRecursion P ys → AllByRecursion P (xs ++ ys)
 each_append P [] ys first rest = rest
 each_append P (x ∷ xs) ys first rest = (first.0, each_append P xs ys first.1 rest)

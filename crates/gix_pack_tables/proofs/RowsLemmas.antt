@@ -4,7 +4,7 @@ use Rattle.std.specs.List.{list_all, range_with_len}
 use Rattle.std.specs.Ordering.{is_lt, nat_cmp, ordering_then}
 use Rattle.std.specs.Cmp.{ranked}
 use Rattle.std.specs.Cmp.Lexicographic.{slice_cmp}
-use Rattle.std.proofs.lemmas.Bool.{and_parts}
+use Rattle.std.proofs.lemmas.Bool.{and_parts, eq-eqb, le-leb, lt-leb, ne_eqb}
 use Rattle.std.proofs.lemmas.List.{drop-drop}
 use Rattle.std.proofs.lemmas.List.Sums.{sum_by-cons}
 use Rattle.gix_hash.specs.Kind.{len_in_bytes_of}
@@ -88,18 +88,12 @@ counts_first kind m rest later =
     sum_by-cons (λ (id : ObjectId). cond (nat_le (slice_index (bytes_of id) 0) later) 1 0) (id_from kind (take (size_of kind) rest)) (ids_of kind m (drop (size_of kind) rest))
     ∙ ap (λ (b : ℕ). cond (nat_le b later) 1 0 + count_to (ids_of kind m (drop (size_of kind) rest)) later) (first_byte kind rest)
 
-le_is : (a b : ℕ) → a ≤ b → nat_le a b ≡ true
-le_is a b h = grind arith
-
-le_is_not : (a b : ℕ) → b < a → nat_le a b ≡ false
-le_is_not a b h = grind arith
-
 pub one_more : (kind : Kind) (left : ℕ) (rest : List ℕ) (later : ℕ) → 0 < left → slice_index rest 0 ≤ later
     → count_to (ids_of kind left rest) later ≡ 1 + count_to (ids_of kind (left - 1) (drop (len_in_bytes_of kind) rest)) later
 one_more kind zero rest later h low = absurd (omega arith)
 one_more kind (suc m) rest later h low =
     let less : suc m - 1 ≡ m = omega arith in
-    rw less (counts_first kind m rest later ∙ ap (λ (b : Bool). cond b 1 0 + count_to (ids_of kind m (drop (size_of kind) rest)) later) (le_is _ _ low))
+    rw less (counts_first kind m rest later ∙ ap (λ (b : Bool). cond b 1 0 + count_to (ids_of kind m (drop (size_of kind) rest)) later) (le-leb _ _ low))
 
 by_first : (o p : Ordering) (x y : ℕ) → o ≡ nat_cmp x y → is_lt (ordering_then o p) ≡ true → x ≤ y
 by_first Less p x y is h = let below = ranked x y Less is in omega arith
@@ -192,12 +186,6 @@ room_rest Sha1 left rest some fits = omega (arith, length-drop 20 rest)
 room_rest Sha256 left rest some fits = omega (arith, length-drop 32 rest)
 
 -- a count that is another than that of the ids
-differs : (a b : ℕ) → (a ≡ b → ⊥) → (a == b) ≡ false
-differs a b other = grind arith
-
-agrees : (a b : ℕ) → a ≡ b → (a == b) ≡ true
-agrees a b is = grind arith
-
 false_first : (b c : Bool) → b ≡ false → false ≡ (b && c)
 false_first true c h = cc h
 false_first false c h = refl
@@ -209,10 +197,10 @@ true_first false c h = cc h
 pub wrong_count : (ids : List ObjectId) (first : ℕ) (rest : List ℕ) (whole : Bool) (count : ℕ) → first < 256
     → whole ≡ same (numbers (256 - first) rest) (map (count_to ids) (range_with_len first (256 - first))) → count ≡ number_at 0 rest → (count ≡ count_to ids first → ⊥) → false ≡ whole
 wrong_count ids first rest whole count below is count_is other =
-    false_first _ _ (differs (number_at 0 rest) (count_to ids first) (λ h. other (count_is ∙ h))) ∙ sym (is ∙ counts_next ids first rest below)
+    false_first _ _ (ne_eqb (number_at 0 rest) (count_to ids first) (λ h. other (count_is ∙ h))) ∙ sym (is ∙ counts_next ids first rest below)
 
 pub right_count : (ids : List ObjectId) (first : ℕ) (rest : List ℕ) (whole : Bool) (count : ℕ) → first < 256
     → whole ≡ same (numbers (256 - first) rest) (map (count_to ids) (range_with_len first (256 - first))) → count ≡ number_at 0 rest → count ≡ count_to ids first
     → whole ≡ same (numbers (256 - (first + 1)) (drop 4 rest)) (map (count_to ids) (range_with_len (first + 1) (256 - (first + 1))))
 right_count ids first rest whole count below is count_is own =
-    is ∙ counts_next ids first rest below ∙ true_first _ _ (agrees (number_at 0 rest) (count_to ids first) (sym count_is ∙ own))
+    is ∙ counts_next ids first rest below ∙ true_first _ _ (eq-eqb (number_at 0 rest) (count_to ids first) (sym count_is ∙ own))

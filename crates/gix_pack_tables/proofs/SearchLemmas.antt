@@ -1,5 +1,6 @@
 -- The ids of a table by their rows, as a search goes through them.
 use Rattle.std.proofs.Common.{◌≡◌, ℕ, ◌+◌, ◌*◌, ◌<◌, ◌≤◌, ◌⊎◌, inl, inr, List, [], ◌∷◌, length, map, slice_get, Contains, Some, option_map, subst, refl, sym, ap, ◌∙◌, arith}
+use Rattle.std.proofs.lemmas.List.{length-map}
 use Rattle.std.proofs.lemmas.Option.{same_Some, slice_get-get_or, slice_get-map}
 use Rattle.gix_hash.specs.Kind.{len_in_bytes_of}
 use Rattle.gix_hash.specs.declared.kind.Kind.{Kind}
@@ -9,12 +10,8 @@ use Rattle.gix_pack_tables.specs.Bytes.{part, table}
 use Rattle.gix_pack_tables.specs.Rows.{id_from, ids_of}
 use Rattle.gix_pack_tables.proofs.RowsLemmas.{length-table, slice_get-table}
 
-pub length-map : {A B : Type 0} (f : A → B) (xs : List A) → length (map f xs) ≡ length xs
-length-map f [] = refl
-length-map f (x ∷ xs) = let less = length-map f xs in omega arith
-
 pub length-ids_of : (kind : Kind) (n : ℕ) (bytes : List ℕ) → length (ids_of kind n bytes) ≡ n
-length-ids_of kind n bytes = length-map (id_from kind) (table (len_in_bytes_of kind) n bytes) ∙ length-table (len_in_bytes_of kind) n bytes
+length-ids_of kind n bytes = length-map (table (len_in_bytes_of kind) n bytes) (id_from kind) ∙ length-table (len_in_bytes_of kind) n bytes
 
 -- a row of ids
 pub row_id : (kind : Kind) (n : ℕ) (bytes : List ℕ) (row : ℕ) → row < n → slice_get (ids_of kind n bytes) row ≡ Some (id_from kind (part (row * len_in_bytes_of kind) (len_in_bytes_of kind) bytes))

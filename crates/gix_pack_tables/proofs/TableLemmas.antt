@@ -1,24 +1,20 @@
 -- Tables of rows: their ids rise, each id that was given is there, and of rows with one id the first is taken.
-pub mod Order
+pub mod Inserted
 pub mod Seen
 use Rattle.std.proofs.Common.{◌≡◌, ℕ, zero, suc, ◌<◌, ◌≤◌, ◌⊎◌, inl, inr, true, false, List, [], ◌∷◌, ◌++◌, length, map, Some, Ordering, Less, Equal, Greater, refl, sym, ap, subst, ◌∙◌, arith}
 use Rattle.std.specs.Prelude.{slice_index_or}
 use Rattle.std.specs.List.{All, AllByRecursion, Contains, find}
-use Rattle.std.specs.Ordering.{is_eq, is_lt, match_ordering}
-use Rattle.std.proofs.lemmas.Bool.{and_parts}
+use Rattle.std.specs.Ordering.{is_eq, match_ordering}
 use Rattle.std.proofs.lemmas.Cmp.{tied_itself}
-use Rattle.std.proofs.lemmas.List.Elements.{All-cons, All-nil, All-weaker}
+use Rattle.std.proofs.lemmas.List.Elements.{All-cons, All-nil, All-weaker, All-from_recursion}
 use Rattle.gix_hash.specs.ObjectId.{id_cmp}
 use Rattle.gix_hash.specs.declared.object_id.ObjectId.{ObjectId}
+use Rattle.gix_hash.proofs.IdOrderLaws.{id_order, same_id}
 use Rattle.gix_pack_tables.specs.Rows.{is_rising}
 use Rattle.gix_pack_tables.specs.WrittenTables.{put_all, put_row, table_of, IsTableOf}
-use Rattle.gix_pack_tables.proofs.TableLemmas.Order.{back, id_order, less, same_id}
+use Rattle.gix_pack_tables.proofs.RisingLemmas.{back, none_rise, rising_apart, rising_one, rising_pair}
 
 -- ---- laws of tables
-
-all_from : {X : Type 0} (P : X → Type 0) (xs : List X) → AllByRecursion P xs → All P xs
-all_from P [] h = All-nil P
-all_from P (x ∷ xs) h = All-cons P x xs h.0 (all_from P xs h.1)
 
 module _ {X : Type 0} where
   contains_first : (x : X) (xs : List X) → Contains (x ∷ xs) x
@@ -77,20 +73,6 @@ module _ {R : Type 0} (id_in : R → ObjectId) where
 
   -- ---- the ids rise
 
-  rising_pair : (a b : ObjectId) (more : List ObjectId) → id_cmp a b ≡ Less → is_rising (b ∷ more) ≡ true → is_rising (a ∷ b ∷ more) ≡ true
-  unfolding is_rising
-  rising_pair a b more below rising = rw (below, rising) refl
-
-  rising_one : (a : ObjectId) → is_rising (a ∷ []) ≡ true
-  unfolding is_rising
-  rising_one a = refl
-
-  rising_apart : (a b : ObjectId) (more : List ObjectId) → is_rising (a ∷ b ∷ more) ≡ true → (id_cmp a b ≡ Less) × (is_rising (b ∷ more) ≡ true)
-  unfolding is_rising
-  rising_apart a b more h =
-      let parts = and_parts (is_lt (id_cmp a b)) (is_rising (b ∷ more)) h in
-      (less a b parts.0, parts.1)
-
   rising_by : (o : Ordering) (id : ObjectId) (row other : R) (rows rest : List R) → id_cmp (id_in row) (id_in other) ≡ o
       → id_cmp id (id_in row) ≡ Less → is_rising (id ∷ ids (other ∷ rows)) ≡ true
       → (id_cmp (id_in other) (id_in row) ≡ Less → is_rising (id_in other ∷ ids rest) ≡ true)
@@ -121,10 +103,6 @@ module _ {R : Type 0} (id_in : R → ObjectId) where
   rising_first row [] rising = rising_one (id_in row)
   rising_first row (other ∷ rows) rising =
       first_by (id_cmp (id_in row) (id_in other)) row other rows (put_row id_in row rows) refl rising (λ up. rising_put (id_in other) row rows up rising)
-
-  none_rise : is_rising [] ≡ true
-  unfolding is_rising
-  none_rise = refl
 
   pub rising-table_of : (given : List R) → is_rising (ids (table_of id_in given)) ≡ true
   rising-table_of [] = none_rise
@@ -225,5 +203,5 @@ module _ {R : Type 0} (id_in : R → ObjectId) where
       record {
         rising = rising-table_of given;
         each = has_each given;
-        first = all_from (λ (r : R). find (λ (other : R). is_eq (id_cmp (id_in other) (id_in r))) given ≡ Some r) (table_of id_in given) (firsts given);
+        first = All-from_recursion (λ (r : R). find (λ (other : R). is_eq (id_cmp (id_in other) (id_in r))) given ≡ Some r) (table_of id_in given) (firsts given);
       }

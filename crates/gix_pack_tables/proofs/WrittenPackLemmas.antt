@@ -1,19 +1,11 @@
 -- Packs as they are written: sizes by seven bits, headers, and entries one behind another.
 use Rattle.std.proofs.Common.{◌≡◌, ℕ, zero, suc, ◌+◌, ◌*◌, ◌/◌, ◌%◌, ◌^◌, ◌<◌, ◌≤◌, ◌⊎◌, inl, inr, nat_lt, true, false, List, [], ◌∷◌, ◌++◌, length, length-append, drop, append_assoc, refl, sym, ap, ◌∙◌, arith}
+use Rattle.std.proofs.lemmas.Bool.{cases_lt, le-ltb, lt-ltb}
 use Rattle.std.proofs.Math.Nat.{pow-suc}
 use Rattle.gix_object.specs.Data.{Object}
 use Rattle.gix_pack_tables.specs.WrittenPack.{code_of_kind, entry_of, header_of, size_bytes}
 
 -- ---- sizes
-
-pub below_or_not : (a b : ℕ) → (a < b) ⊎ (b ≤ a)
-below_or_not a b = grind arith
-
-pub is_below : (a b : ℕ) → a < b → nat_lt a b ≡ true
-is_below a b h = grind arith
-
-pub is_not_below : (a b : ℕ) → b ≤ a → nat_lt a b ≡ false
-is_not_below a b h = grind arith
 
 -- seven bits less leave room for a byte less
 pub one_byte_less : (m number : ℕ) → number < 128 ^ suc m → number / 128 < 128 ^ m
@@ -24,19 +16,19 @@ size_bytes_same : (m number : ℕ) → number < 128 ^ suc m → size_bytes (suc 
 unfolding size_bytes
 size_bytes_same zero number below =
     let small : number < 128 = omega arith in
-    rw (is_below number 128 small) refl
+    rw (lt-ltb number 128 small) refl
 size_bytes_same (suc m) number below =
-    elim (below_or_not number 128) [
-      | inl low ↦ rw (is_below number 128 low) refl
+    elim (cases_lt number 128) [
+      | inl low ↦ rw (lt-ltb number 128 low) refl
       | inr high ↦
-          rw (is_not_below number 128 high)
+          rw (le-ltb number 128 high)
           (ap (λ (bytes : List ℕ). (128 + number % 128) ∷ bytes) (size_bytes_same m (number / 128) (one_byte_less (suc m) number below)))
     ]
 
 size_step : (m number : ℕ) → 128 ≤ number → number < 128 ^ suc (suc m) → size_bytes (suc (suc m)) number ≡ (128 + number % 128) ∷ size_bytes (suc (suc m)) (number / 128)
 unfolding size_bytes
 size_step m number high below =
-    rw (is_not_below number 128 high) (ap (λ (bytes : List ℕ). (128 + number % 128) ∷ bytes) (size_bytes_same m (number / 128) (one_byte_less (suc m) number below)))
+    rw (le-ltb number 128 high) (ap (λ (bytes : List ℕ). (128 + number % 128) ∷ bytes) (size_bytes_same m (number / 128) (one_byte_less (suc m) number below)))
 
 -- the lowest seven bits, and the others
 pub size_more : (number : ℕ) → 128 ≤ number → number < 2 ^ 60 → size_bytes 9 number ≡ (128 + number % 128) ∷ size_bytes 9 (number / 128)
@@ -44,7 +36,7 @@ size_more number high below = let room : 128 ^ 9 ≡ 2 ^ 63 = refl in size_step 
 
 pub size_last : (number : ℕ) → number < 128 → size_bytes 9 number ≡ number ∷ []
 unfolding size_bytes
-size_last number low = rw (is_below number 128 low) refl
+size_last number low = rw (lt-ltb number 128 low) refl
 
 -- a byte more is written
 pub size_written : (front list : List ℕ) (number left : ℕ) → front ++ size_bytes 9 number ≡ list ++ size_bytes 9 left → 128 ≤ left → left < 2 ^ 60
@@ -55,14 +47,14 @@ size_written front list number left so_far high below =
 pub length_of_size : (m number : ℕ) → length (size_bytes (suc m) number) ≤ suc m
 unfolding size_bytes
 length_of_size zero number =
-    elim (below_or_not number 128) [
-      | inl low ↦ rw (is_below number 128 low) (omega arith)
-      | inr high ↦ rw (is_not_below number 128 high) (omega arith)
+    elim (cases_lt number 128) [
+      | inl low ↦ rw (lt-ltb number 128 low) (omega arith)
+      | inr high ↦ rw (le-ltb number 128 high) (omega arith)
     ]
 length_of_size (suc m) number =
-    elim (below_or_not number 128) [
-      | inl low ↦ rw (is_below number 128 low) (omega arith)
-      | inr high ↦ let less = length_of_size m (number / 128) in rw (is_not_below number 128 high) (omega arith)
+    elim (cases_lt number 128) [
+      | inl low ↦ rw (lt-ltb number 128 low) (omega arith)
+      | inr high ↦ let less = length_of_size m (number / 128) in rw (le-ltb number 128 high) (omega arith)
     ]
 
 -- ---- the length of a header
@@ -78,11 +70,11 @@ len_at_most number = length_of_size 8 number
 
 pub len_of_short : (code size : ℕ) → size < 16 → length (header_of code size) ≡ 1
 unfolding header_of
-len_of_short code size small = rw (is_below size 16 small) refl
+len_of_short code size small = rw (lt-ltb size 16 small) refl
 
 pub len_of_long : (code size : ℕ) → 16 ≤ size → length (header_of code size) ≡ 1 + length (size_bytes 9 (size / 16))
 unfolding header_of
-len_of_long code size large = rw (is_not_below size 16 large) (omega arith)
+len_of_long code size large = rw (le-ltb size 16 large) (omega arith)
 
 -- and of an entry, whose header has the same length for each type
 pub len_of_entry : (object : Object) (len : ℕ) → ((code : ℕ) → len ≡ length (header_of code (length object.bytes))) → len + length object.bytes ≡ length (entry_of object)

@@ -18,6 +18,7 @@ use Rattle.gix_pack_tables.specs.Rows.{count_to, counts_of, id_from, ids_of, is_
 use Rattle.gix_pack_tables.specs.WrittenTables.{is_wide, long_number_bytes, narrow_from, number_bytes}
 use Rattle.gix_pack_tables.specs.declared.write.rows.Placed.{Placed}
 use Rattle.gix_pack_tables.proofs.PlacedLemmas.Counts.{counts_all, counts_within}
+use Rattle.gix_pack_tables.proofs.OffsetLaws.{offset_in-low, wide_or_low}
 
 -- ---- lists
 
@@ -153,14 +154,11 @@ last_count hash front rows rest place placed few long =
 
 -- ---- offsets
 
-low_or_wide : (offset : ℕ) → ((is_wide offset ≡ true) × (2 ^ 31 ≤ offset)) ⊎ ((is_wide offset ≡ false) × (offset < 2 ^ 31))
-low_or_wide offset = grind arith
-
 pub length-narrow_from : (wide : ℕ) (offsets : List ℕ) → length (narrow_from wide offsets) ≡ length offsets
 unfolding narrow_from
 length-narrow_from wide [] = refl
 length-narrow_from wide (offset ∷ offsets) =
-    elim (low_or_wide offset) [
+    elim (wide_or_low offset) [
       | inl is ↦ rw is.0 (ap (λ (n : ℕ). suc n) (length-narrow_from (wide + 1) offsets))
       | inr is ↦ rw is.0 (ap (λ (n : ℕ). suc n) (length-narrow_from wide offsets))
     ]
@@ -169,7 +167,7 @@ pub narrow_small : (wide : ℕ) (offsets : List ℕ) → wide + length offsets �
 unfolding narrow_from
 narrow_small wide [] few = tt
 narrow_small wide (offset ∷ offsets) few =
-    elim (low_or_wide offset) [
+    elim (wide_or_low offset) [
       | inl is ↦ rw is.0 (omega arith, narrow_small (wide + 1) offsets (omega arith))
       | inr is ↦ rw is.0 (omega arith, narrow_small wide offsets (omega arith))
     ]
@@ -185,7 +183,7 @@ pub narrow_named : (n wide : ℕ) (offsets : List ℕ) → wide + length (filter
 unfolding narrow_from
 narrow_named n wide [] room = refl
 narrow_named n wide (offset ∷ offsets) room =
-    elim (low_or_wide offset) [
+    elim (wide_or_low offset) [
       | inl is ↦
           let counted : wide + suc (length (filter is_wide offsets)) ≤ n = rw is.0 at room in
           rw (is.0, named_wide n wide (omega arith), narrow_named n (wide + 1) offsets (omega arith)) refl
@@ -200,21 +198,18 @@ offset_wide front offset rest wide long =
     let place : (2 ^ 31 + wide) - 2 ^ 31 ≡ wide = omega arith in
     rw high (ap (slice_index (front ++ offset ∷ rest)) place ∙ get_or_at front offset rest 0 wide long)
 
-offset_low : (wides : List ℕ) (offset : ℕ) → offset < 2 ^ 31 → offset_in wides offset ≡ offset
-offset_low wides offset low = grind arith
-
 -- the offsets are read back from the narrow and the wide ones
 pub offsets_back : (front : List ℕ) (wide : ℕ) (offsets : List ℕ) → length front ≡ wide → map (offset_in (front ++ filter is_wide offsets)) (narrow_from wide offsets) ≡ offsets
 unfolding narrow_from
 offsets_back front wide [] long = refl
 offsets_back front wide (offset ∷ offsets) long =
-    elim (low_or_wide offset) [
+    elim (wide_or_low offset) [
       | inl is ↦
           let longer : length (front ++ offset ∷ []) ≡ wide + 1 = length-append front (offset ∷ []) ∙ omega arith in
           let moved : front ++ offset ∷ filter is_wide offsets ≡ (front ++ offset ∷ []) ++ filter is_wide offsets = sym (append_assoc front (offset ∷ []) (filter is_wide offsets)) in
           let rest : map (offset_in (front ++ offset ∷ filter is_wide offsets)) (narrow_from (wide + 1) offsets) ≡ offsets = rw moved (offsets_back (front ++ offset ∷ []) (wide + 1) offsets longer) in
           rw (is.0, offset_wide front offset (filter is_wide offsets) wide long, rest) refl
-      | inr is ↦ rw (is.0, offset_low (front ++ filter is_wide offsets) offset is.1, offsets_back front wide offsets long) refl
+      | inr is ↦ rw (is.0, offset_in-low (front ++ filter is_wide offsets) offset is.1, offsets_back front wide offsets long) refl
     ]
 
 -- ---- hashes

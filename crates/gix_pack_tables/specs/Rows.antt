@@ -41,17 +41,33 @@ is_rising (id ∷ next ∷ ids) = is_lt (id_cmp id next) && is_rising (next ∷ 
 abbrev pub count_to : List ObjectId → ℕ → ℕ
 count_to ids first = count_by (λ id. nat_le (slice_index (bytes_of id) 0) first) ids
 
+-- how long the counts are in a file: 256 of four bytes each
+abbrev pub counts_len : ℕ
+counts_len = 1024
+
 -- the 256 cumulative counts of ids, by their first byte
 abbrev pub counts_of : List ObjectId → List ℕ
 counts_of ids = map (count_to ids) (range_with_len 0 256)
 
+-- how long a wide offset is in its table
+abbrev pub wide_len : ℕ
+wide_len = 8
+
+-- the high bit of four bytes: it marks those that name a wide offset
+abbrev pub high_bit : ℕ
+high_bit = 2 ^ 31
+
+-- an index has fewer rows than this, so that what is left of four bytes beside the high bit names each of its wide offsets
+abbrev pub rows_limit : ℕ
+rows_limit = 2 ^ 31
+
 -- the offset that four bytes tell where there is a table of wide ones: with the high bit set, the other 31 bits are a row of that table
 abbrev pub offset_in : List ℕ → ℕ → ℕ
-offset_in wides narrow = if nat_lt narrow (2 ^ 31) then narrow else slice_index wides (narrow - 2 ^ 31)
+offset_in wides narrow = if nat_lt narrow high_bit then narrow else slice_index wides (narrow - high_bit)
 
 -- whether the row of the table of wide offsets that four bytes name, if they name one, is one of its first n
 abbrev pub is_named_below : ℕ → ℕ → Bool
-is_named_below n narrow = nat_lt narrow (2 ^ 31) || nat_lt (narrow - 2 ^ 31) n
+is_named_below n narrow = nat_lt narrow high_bit || nat_lt (narrow - high_bit) n
 
 -- ---- what is asked
 

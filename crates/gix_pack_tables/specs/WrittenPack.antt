@@ -24,6 +24,14 @@ code_of_kind Tree = 2
 code_of_kind Blob = 3
 code_of_kind Tag = 4
 
+-- in how many bytes of seven bits a size is written at most: four of its 64 bits stand in the first byte of the header, and 60 are left
+abbrev pub most_size_bytes : ℕ
+most_size_bytes = 9
+
+-- how long a header is at most: its first byte, and those
+abbrev pub longest_header : ℕ
+longest_header = 10
+
 -- a number as bytes of seven bits, the lowest first, in as few bytes as it needs, and so many at most
 unfoldable pub size_bytes : ℕ → ℕ → List ℕ
 size_bytes zero number = []
@@ -31,7 +39,7 @@ size_bytes (suc most) number = if nat_lt number 128 then number ∷ [] else (128
 
 -- the shortest header of a type and a size below 2^64
 unfoldable pub header_of : ℕ → ℕ → List ℕ
-header_of code size = if nat_lt size 16 then (16 * code + size) ∷ [] else (128 + 16 * code + size % 16) ∷ size_bytes 9 (size / 16)
+header_of code size = if nat_lt size 16 then (16 * code + size) ∷ [] else (128 + 16 * code + size % 16) ∷ size_bytes most_size_bytes (size / 16)
 
 -- the entry of an object
 abbrev pub entry_of : Object → List ℕ

@@ -1,3 +1,4 @@
+//! An object as the encoders of packs and indices are given it.
 use gix_object::Kind;
 use odb_base::ByteList;
 

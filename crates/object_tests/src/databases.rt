@@ -277,7 +277,7 @@ const ROWS: &[Row] = &[
         HELLO,
     ),
     (
-        "none known",
+        "no data under a known id",
         Call::Stream(Some(GIVEN), Kind::Tree, 0, 0, ""),
         GIVEN,
     ),

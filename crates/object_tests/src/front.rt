@@ -1,3 +1,4 @@
+//! A layer in front of a database, through which the tests ask it.
 ghost use Rattle.std.specs.Prelude.{◌≡◌};
 
 use gix_hash::ObjectId;

@@ -1,3 +1,4 @@
+//! Hashes of bytes in pieces, and ids, their order and their prefixes, as text.
 ghost use Rattle.std.specs.Prelude.{◌<◌};
 
 use crate::words::{Row, compare, first_word};

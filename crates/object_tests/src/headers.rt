@@ -1,3 +1,4 @@
+//! Headers of loose objects, read and written.
 use crate::words::compare;
 use gix_object::{Kind, decode, encode};
 use std::alloc::{AllocError, Global};

@@ -1,3 +1,4 @@
+//! Ids of objects, beside those that Git tells.
 use crate::words::compare;
 use gix_object::{Kind, compute_hash};
 use std::alloc::Global;

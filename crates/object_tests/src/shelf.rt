@@ -1,3 +1,4 @@
+//! A database of at most one object.
 ghost use Rattle.std.specs.Prelude.{◌≡◌, ◌↔◌, length, false, IfNone, IfOk, IfSome, IsSome, IsTrue, Some};
 ghost use Rattle.gix_object.specs.Stream.{stream_of, IsDrawn, IsWhole};
 

@@ -1,3 +1,4 @@
+//! What the tests share: comparisons, and the words of a question.
 use std::test::Fail;
 
 /// A question and the text of its answer.

@@ -1,3 +1,4 @@
+//! Indices and multi-pack indices that are written, beside those that Git makes of the same packs.
 use crate::words::{compare_bytes, joined, put_counts};
 use gix_hash::Kind;
 use gix_pack::{NamedPack, Object, index, multi_index};

@@ -1,3 +1,4 @@
+//! What is read of indices: those that Git made, and cut, changed and lengthened ones.
 use crate::words::{changed, compare, joined, put_counts, rows_in};
 use gix_hash::{Kind, ObjectId, Prefix};
 use gix_pack::index::{Entry, File};

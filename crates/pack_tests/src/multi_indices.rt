@@ -1,3 +1,4 @@
+//! What is read of multi-pack indices: those that Git made, and ones with other chunks, changes and lengths.
 use crate::git_multi_indices::{
     NAMES, Parts, SHA1, SHA1_WIDE, SHA256, SHOWN_SHA1, SHOWN_SHA256, SHOWN_TWO, SHOWN_WIDE, TWO,
 };

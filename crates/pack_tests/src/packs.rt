@@ -1,3 +1,4 @@
+//! What is read of packs, the headers of their entries and their objects: Git's, written ones, and damaged ones.
 use crate::git_packs::{GIT_SHA1, GIT_SHA256, HEADERS_SHA1, HEADERS_SHA256, Headers};
 use crate::words::{changed, compare, joined};
 use gix_hash::Kind;

@@ -1,3 +1,4 @@
+//! What the tests share: comparisons, and bytes that are joined, changed and counted.
 ghost use Rattle.std.specs.Prelude.{◌≤◌, length};
 
 use odb_base::{ByteList, NoMemory};

@@ -1,6 +1,6 @@
 -- The order of the first digits of two ids' texts is that of their bytes, with half a byte where the number of digits is odd.
 use Rattle.std.proofs.Common.{◌≡◌, ℕ, zero, suc, ◌+◌, ◌*◌, ◌/◌, ◌%◌, ◌<◌, ◌≤◌, ◌==◌, ◌⊎◌, inl, inr, nat_lt, true, List, [], ◌∷◌, length, take, slice_index, cond, Ordering, Less, Equal, Greater, refl, sym, ap, ◌∙◌, arith}
-use Rattle.std.proofs.lemmas.Bool.{agree_below_at, eqb-true}
+use Rattle.std.proofs.lemmas.Bool.{agree_below_at, cases_order, eqb-true}
 use Rattle.std.specs.Ordering.{nat_cmp, ordering_then}
 use Rattle.std.specs.Cmp.{nat_cmp_is, ranked}
 use Rattle.std.specs.Cmp.Lexicographic.{slice_cmp}
@@ -27,9 +27,6 @@ digit-rises v w below fits =
     let first : v < 16 = omega arith in
     rw (digit-by_value v first, digit-by_value w fits) (digit_by_value-rises v w below)
 
-apart : (v w : ℕ) → (v < w) ⊎ (v ≡ w) ⊎ (w < v)
-apart v w = grind arith
-
 less : (v w : ℕ) → v < w → nat_cmp v w ≡ Less
 less v w below = sym (nat_cmp_is v w Less below)
 
@@ -42,23 +39,23 @@ greater v w above = sym (nat_cmp_is v w Greater above)
 -- digits are in the order of their values
 nat_cmp-digit : (v w : ℕ) → v < 16 → w < 16 → nat_cmp (digit v) (digit w) ≡ nat_cmp v w
 nat_cmp-digit v w first second =
-    elim (apart v w) [
-      | inl below ↦ less _ _ (digit-rises v w below second) ∙ sym (less v w below)
-      | inr (inl is) ↦ same _ _ (ap digit is) ∙ sym (same v w is)
+    elim (cases_order v w) [
+      | inl is ↦ same _ _ (ap digit is) ∙ sym (same v w is)
+      | inr (inl below) ↦ less _ _ (digit-rises v w below second) ∙ sym (less v w below)
       | inr (inr above) ↦ greater _ _ (digit-rises w v above first) ∙ sym (greater v w above)
     ]
 
 -- bytes are in the order of their halves, the higher ones first
 halves : (a b : ℕ) (rest : Ordering) → ordering_then (nat_cmp (a / 16) (b / 16)) (ordering_then (nat_cmp (a % 16) (b % 16)) rest) ≡ ordering_then (nat_cmp a b) rest
 halves a b rest =
-    elim (apart (a / 16) (b / 16)) [
-      | inl below ↦ rw (less _ _ below, less a b (omega arith)) refl
-      | inr (inl high) ↦
-          elim (apart (a % 16) (b % 16)) [
-            | inl below ↦ rw (same _ _ high, less _ _ below, less a b (omega arith)) refl
-            | inr (inl low) ↦ rw (same _ _ high, same _ _ low, same a b (omega arith)) refl
+    elim (cases_order (a / 16) (b / 16)) [
+      | inl high ↦
+          elim (cases_order (a % 16) (b % 16)) [
+            | inl low ↦ rw (same _ _ high, same _ _ low, same a b (omega arith)) refl
+            | inr (inl below) ↦ rw (same _ _ high, less _ _ below, less a b (omega arith)) refl
             | inr (inr above) ↦ rw (same _ _ high, greater _ _ above, greater a b (omega arith)) refl
           ]
+      | inr (inl below) ↦ rw (less _ _ below, less a b (omega arith)) refl
       | inr (inr above) ↦ rw (greater _ _ above, greater a b (omega arith)) refl
     ]
 

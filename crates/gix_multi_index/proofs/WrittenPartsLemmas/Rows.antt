@@ -1,5 +1,6 @@
 -- Rows of packs and offsets as they are written are read back.
 use Rattle.std.proofs.Common.{◌≡◌, ℕ, suc, ◌*◌, ◌^◌, ◌<◌, ◌&&◌, nat_lt, Bool, true, false, List, [], ◌∷◌, length, map, take, Option, refl, sym, ap, ◌∙◌, arith}
+use Rattle.std.proofs.lemmas.Bool.{lt-ltb}
 use Rattle.std.specs.List.{AllByRecursion, flat_map, list_all, zip}
 use Rattle.std.specs.Int.{w32, from_be_bytes, to_be_bytes}
 use Rattle.std.proofs.lemmas.List.{append-nil, drop_at, take_at}
@@ -46,9 +47,6 @@ length-zip [] offs same_length = refl
 length-zip (row ∷ rows) [] same_length = absurd (omega arith)
 length-zip (row ∷ rows) (off ∷ offs) same_length = ap (λ (n : ℕ). suc n) (length-zip rows offs (omega arith))
 
-lt_true : (a b : ℕ) → a < b → nat_lt a b ≡ true
-lt_true a b h = grind arith
-
 -- what is known of a row: its pack is one of so many
 pub record IsInPack (packs : ℕ) (row : Placed) : Type 0 where
   pub known : row.pack < packs
@@ -64,7 +62,7 @@ module _ (packs : ℕ) (wides : Option (List ℕ)) where
       let apart = test_apart (has_offset wides off) (list_all (has_offset wides) offs) named in
       let pack = first_number (row.pack, off) placed.0.pack in
       let offset = second_number (row.pack, off) small.0 in
-      let one : nat_lt (number_at 0 (pack_and_offset (row.pack, off))) packs ≡ true = ap (λ (n : ℕ). nat_lt n packs) pack ∙ lt_true row.pack packs known.0.known in
+      let one : nat_lt (number_at 0 (pack_and_offset (row.pack, off))) packs ≡ true = ap (λ (n : ℕ). nat_lt n packs) pack ∙ lt-ltb row.pack packs known.0.known in
       let two : has_offset wides (number_at 4 (pack_and_offset (row.pack, off))) ≡ true = ap (has_offset wides) offset ∙ apart.0 in
       let rest = rows_named hash rows offs (omega arith) placed.1 known.1 small.1 apart.1 in
       rw (one, two, rest) refl

@@ -17,13 +17,33 @@ header_len = 12
 abbrev pub row_len : ℕ
 row_len = 12
 
--- how long the counts are: 256 of four bytes each
-abbrev pub counts_len : ℕ
-counts_len = 1024
+-- how long the name of a chunk is, which stands in front of the place in a row
+abbrev pub name_len : ℕ
+name_len = 4
 
--- where the last of them stands
+-- where the last of the counts stands among them: behind 255 of four bytes each
 abbrev pub last_count_place : ℕ
 last_count_place = 1020
+
+-- where the header names the hash
+abbrev pub hash_place : ℕ
+hash_place = 5
+
+-- where it tells the number of chunks
+abbrev pub chunk_count_place : ℕ
+chunk_count_place = 6
+
+-- where it tells the number of base files
+abbrev pub base_count_place : ℕ
+base_count_place = 7
+
+-- where it tells the number of packs
+abbrev pub pack_count_place : ℕ
+pack_count_place = 8
+
+-- what each version 1 multi-pack index begins with
+abbrev pub multi_index_start : List ℕ
+multi_index_start = codes "MIDX"
 
 -- the kind of hash that a number stands for
 abbrev pub hash_of_number : ℕ → Option Kind
@@ -31,20 +51,20 @@ hash_of_number number = if number == 1 then Some Sha1 else if number == 2 then S
 
 -- the hash that the header names
 abbrev pub hash_in : List ℕ → Option Kind
-hash_in bytes = hash_of_number (slice_index bytes 5)
+hash_in bytes = hash_of_number (slice_index bytes hash_place)
 
 -- the same where it is known to name one
 abbrev pub kind_in : List ℕ → Kind
 kind_in bytes = unwrap_or (hash_in bytes) Sha1
 
 abbrev pub chunks_in : List ℕ → ℕ
-chunks_in bytes = slice_index bytes 6
+chunks_in bytes = slice_index bytes chunk_count_place
 
 abbrev pub packs_in : List ℕ → ℕ
-packs_in bytes = number_at 8 bytes
+packs_in bytes = number_at pack_count_place bytes
 
 abbrev pub has_header : List ℕ → Bool
-has_header bytes = starts_with nat_eq bytes (codes "MIDX" ++ 1 ∷ []) && is_some (hash_in bytes) && slice_index bytes 7 == 0
+has_header bytes = starts_with nat_eq bytes (multi_index_start ++ 1 ∷ []) && is_some (hash_in bytes) && slice_index bytes base_count_place == 0
 
 -- ---- the chunks
 
@@ -54,7 +74,7 @@ pub record ChunkRow : Type 0 where
   pub place : ℕ
 
 abbrev pub chunk_row : List ℕ → ChunkRow
-chunk_row row = record { name = take 4 row; place = from_be_bytes w64 (drop 4 row) }
+chunk_row row = record { name = take name_len row; place = from_be_bytes w64 (drop name_len row) }
 
 abbrev pub chunk_rows : List ℕ → List ChunkRow
 chunk_rows bytes = map chunk_row (table row_len (chunks_in bytes + 1) (drop header_len bytes))

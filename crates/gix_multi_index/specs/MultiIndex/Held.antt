@@ -5,7 +5,7 @@ use Rattle.std.specs.Ordering.{is_lt}
 use Rattle.std.specs.Str.{is_utf8}
 use Rattle.odb_base.specs.Path.{name_cmp}
 use Rattle.gix_pack_tables.specs.Bytes.{long_numbers}
-use Rattle.gix_pack_tables.specs.Rows.{offset_in, is_named_below}
+use Rattle.gix_pack_tables.specs.Rows.{offset_in, is_named_below, wide_len}
 
 -- ---- what a chunk holds
 
@@ -13,9 +13,19 @@ use Rattle.gix_pack_tables.specs.Rows.{offset_in, is_named_below}
 abbrev pub name_parts : List ℕ → List (List ℕ)
 name_parts names = slice_split (λ b. b == 0) names
 
--- whether bytes are the name of an index: text without a slash and without NUL that ends in `.idx`, with more before that
+-- what the name of an index ends in
+abbrev pub index_ending : List ℕ
+index_ending = codes ".idx"
+
+-- whether bytes hold neither NUL nor a slash, and end as the name of an index, with more before that
+abbrev pub has_form : List ℕ → Bool
+has_form name =
+    not (list_any (λ b. b == 0) name) && not (list_any (λ b. b == 47) name)
+    && nat_lt (length index_ending) (length name) && ends_with nat_eq name index_ending
+
+-- whether bytes are the name of an index: text of that form
 unfoldable pub is_index_name : List ℕ → Bool
-is_index_name name = is_utf8 name && not (list_any (λ b. b == 0) name) && not (list_any (λ b. b == 47) name) && nat_lt 4 (length name) && ends_with nat_eq name (codes ".idx")
+is_index_name name = is_utf8 name && has_form name
 
 -- whether each name is below the next, by their bytes
 unfoldable pub names_rise : List (List ℕ) → Bool
@@ -36,9 +46,9 @@ holds_names p names =
 -- whether four bytes are an offset: where there are wide ones, those with the high bit name one of them
 abbrev pub has_offset : Option (List ℕ) → ℕ → Bool
 has_offset None narrow = true
-has_offset (Some wides) narrow = is_named_below (length wides / 8) narrow
+has_offset (Some wides) narrow = is_named_below (length wides / wide_len) narrow
 
 -- the offset that four bytes are
 abbrev pub offset_of_bytes : Option (List ℕ) → ℕ → ℕ
 offset_of_bytes None narrow = narrow
-offset_of_bytes (Some wides) narrow = offset_in (long_numbers (length wides / 8) wides) narrow
+offset_of_bytes (Some wides) narrow = offset_in (long_numbers (length wides / wide_len) wides) narrow

@@ -1,6 +1,6 @@
 -- The object behind a header.
 use Rattle.std.proofs.Common.{◌≡◌, ℕ, ◌+◌, ◌-◌, ◌<◌, ◌≤◌, ◌⊎◌, inl, inr, Bool, true, false, List, length, take, Option, Some, None, Result, Ok, Err, if◌then◌else◌, length-drop, length-take-le, subst, refl, sym, ap, ◌∙◌, arith}
-use Rattle.std.proofs.lemmas.Bool.{and_parts}
+use Rattle.std.proofs.lemmas.Bool.{and_parts, cases_lt, le-ltb, leb-true, lt-ltb}
 use Rattle.std.proofs.lemmas.Option.{same_Some}
 use Rattle.gix_hash.specs.declared.kind.Kind.{Kind}
 use Rattle.gix_pack_tables.specs.Bytes.{is_within, part, trailer_place}
@@ -10,7 +10,7 @@ use Rattle.gix_pack_files.specs.PackHead.{head_from}
 use Rattle.gix_pack_files.specs.declared.data.Error.{Error}
 use Rattle.gix_pack_files.specs.declared.data.Error.TheVariants.{BadEntry, OutOfMemory}
 use Rattle.gix_pack_files.specs.declared.data.entry.Header.{Header}
-use Rattle.gix_pack_files.proofs.EntryLemmas.{head_before, head_behind, head_within, is_lt, is_no_lt, le_from, slice_behind, slice_within}
+use Rattle.gix_pack_files.proofs.EntryLemmas.{head_before, head_behind, head_within, slice_behind, slice_within}
 
 -- ---- the object behind a header
 
@@ -28,9 +28,6 @@ abbrev len_of_header : Result Header Error → ℕ
 len_of_header (Ok header) = header.header_len
 len_of_header (Err error) = 0
 
-below_or_not : (a b : ℕ) → (a < b) ⊎ (b ≤ a)
-below_or_not a b = grind arith
-
 head_from_Ok : (rest : List ℕ) (head : Head) → head_from rest ≡ Ok head → head.header_len ≤ length rest
 unfolding head_from
 head_from_Ok rest head h = by (begins_with_header rest) refl
@@ -43,15 +40,15 @@ head_from_Ok rest head h = by (begins_with_header rest) refl
     by true is =
         let own : head_from rest ≡ Ok (head_of rest) = chosen true is in
         let len : header_len rest ≡ head.header_len = ap len_of_head (sym own ∙ h) in
-        let fits : header_len rest ≤ length rest = le_from (header_len rest) (length rest) (and_parts _ _ (and_parts _ _ (sym is)).0).0 in
+        let fits : header_len rest ≤ length rest = leb-true (header_len rest) (length rest) (and_parts _ _ (and_parts _ _ (sym is)).0).0 in
         omega arith
 
 head_stands : (kind : Kind) (bytes : List ℕ) (offset : ℕ) (head : Head) → head_at kind bytes offset ≡ Ok head → Stands kind bytes offset head.header_len
 head_stands kind bytes offset head h =
-    elim (below_or_not offset 12) [
+    elim (cases_lt offset 12) [
       | inl low ↦ let none = head_before kind bytes offset low in absurd (cc (none, h))
       | inr behind ↦
-          elim (below_or_not offset (trailer_place kind bytes)) [
+          elim (cases_lt offset (trailer_place kind bytes)) [
             | inr high ↦ let none = head_behind kind bytes offset high in absurd (cc (none, h))
             | inl before ↦ record {
               behind_front = behind;
@@ -97,13 +94,13 @@ module _ (kind : Kind) (bytes : List ℕ) (offset : ℕ) (limit : Option ℕ) (h
 
   object_past : is_within limit header.size ≡ true → trailer_place kind bytes < offset + header.header_len + header.size → object_behind kind bytes offset limit header ≡ Err BadEntry
   unfolding object_behind
-  object_past within past = rw (within, is_lt (trailer_place kind bytes) (offset + header.header_len + header.size) past) refl
+  object_past within past = rw (within, lt-ltb (trailer_place kind bytes) (offset + header.header_len + header.size) past) refl
 
   pub object_inside : is_within limit header.size ≡ true → offset + header.header_len + header.size ≤ trailer_place kind bytes
       → object_behind kind bytes offset limit header
       ≡ Ok (record { kind = header.kind; size = header.size; header_len = header.header_len; bytes = part (offset + header.header_len) header.size bytes })
   unfolding object_behind
-  object_inside within inside = rw (within, is_no_lt (trailer_place kind bytes) (offset + header.header_len + header.size) inside) refl
+  object_inside within inside = rw (within, le-ltb (trailer_place kind bytes) (offset + header.header_len + header.size) inside) refl
 
   -- its data leave the entries
   pub object_beyond : header_at kind bytes offset ≡ Ok header → is_within limit header.size ≡ true → slice_at kind bytes (offset + header.header_len) header.size ≡ None
@@ -111,7 +108,7 @@ module _ (kind : Kind) (bytes : List ℕ) (offset : ℕ) (limit : Option ℕ) (h
   object_beyond read within none =
       let ends = header_ends kind bytes offset header read in
       let low : 12 ≤ offset + header.header_len = let first : 12 ≤ offset = ends.0 in omega arith in
-      elim (below_or_not (trailer_place kind bytes) (offset + header.header_len + header.size)) [
+      elim (cases_lt (trailer_place kind bytes) (offset + header.header_len + header.size)) [
         | inl past ↦ object_past within past
         | inr inside ↦ let some = slice_within kind bytes (offset + header.header_len) header.size low inside in absurd (cc (some, none))
       ]
@@ -122,7 +119,7 @@ module _ (kind : Kind) (bytes : List ℕ) (offset : ℕ) (limit : Option ℕ) (h
   object_within found read within some =
       let ends = header_ends kind bytes offset header read in
       let low : 12 ≤ offset + header.header_len = let first : 12 ≤ offset = ends.0 in omega arith in
-      elim (below_or_not (trailer_place kind bytes) (offset + header.header_len + header.size)) [
+      elim (cases_lt (trailer_place kind bytes) (offset + header.header_len + header.size)) [
         | inl past ↦ let none = slice_behind kind bytes (offset + header.header_len) header.size past in absurd (cc (some, none))
         | inr inside ↦
             let own : part (offset + header.header_len) header.size bytes ≡ found = same_Some _ found (sym (slice_within kind bytes (offset + header.header_len) header.size low inside) ∙ some) in

@@ -1,5 +1,6 @@
 -- The index that is written is that of its objects, and is read back.
 use Rattle.std.proofs.Common.{◌≡◌, ℕ, ◌*◌, ◌^◌, ◌<◌, true, List, [], ◌++◌, length, map, replicate, Some, refl, sym, ap, subst, ◌∙◌, arith}
+use Rattle.std.proofs.lemmas.Simd.{map-map}
 use Rattle.std.specs.List.{AllByRecursion, filter, flat_map}
 use Rattle.std.proofs.lemmas.List.{length-map}
 use Rattle.gix_hash.specs.Hash.{hash_of}
@@ -15,7 +16,7 @@ use Rattle.gix_pack_files.specs.WrittenIndex.{index_bytes, index_front, index_of
 use Rattle.gix_pack_tables.specs.WrittenTables.{is_wide, long_number_bytes, narrow_from, number_bytes, table_of}
 use Rattle.gix_pack_tables.specs.WrittenPack.{pack_front, pack_hash, rows_in_order}
 use Rattle.gix_pack_tables.specs.declared.write.rows.Placed.{Placed}
-use Rattle.gix_pack_tables.proofs.PlacedLemmas.{length-placed_from, map_map, rows_placed}
+use Rattle.gix_pack_tables.proofs.PlacedLemmas.{length-placed_from, rows_placed}
 use Rattle.gix_pack_tables.proofs.TableLemmas.{each_of_table, is_table, length-table_of, rising-table_of}
 use Rattle.gix_pack_tables.proofs.TableLemmas.Seen.{map-table_of}
 use Rattle.gix_pack_tables.proofs.WrittenTableLemmas.{length-hash_of}
@@ -32,8 +33,8 @@ offset_seen row = row.offset
 front_seen : (rows : List Placed) (pack : List ℕ) → index_front (map id_seen (map row_of rows)) (map offset_seen (map row_of rows)) pack ≡ front_of_rows rows pack
 unfolding index_front
 front_seen rows pack =
-    let ids : map id_seen (map row_of rows) ≡ map id_of rows = map_map id_seen row_of rows in
-    let offsets : map offset_seen (map row_of rows) ≡ map offset_of rows = map_map offset_seen row_of rows in
+    let ids : map id_seen (map row_of rows) ≡ map id_of rows = map-map id_seen row_of rows in
+    let offsets : map offset_seen (map row_of rows) ≡ map offset_of rows = map-map offset_seen row_of rows in
     ap (λ (i : List ObjectId). index_front i (map offset_seen (map row_of rows)) pack) ids ∙ ap (λ (o : List ℕ). index_front (map id_of rows) o pack) offsets
     ∙ ap (λ (k : ℕ). signature ++ number_bytes (counts_of (map id_of rows)) ++ flat_map bytes_of (map id_of rows) ++ replicate (4 * k) 0 ++ number_bytes (narrow_from 0 (map offset_of rows))
     ++ long_number_bytes (filter is_wide (map offset_of rows)) ++ pack) (length-map rows id_of)

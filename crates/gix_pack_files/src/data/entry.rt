@@ -1,3 +1,4 @@
+//! What is read of an entry: its header, the object behind it, and where it stands.
 use gix_object::Kind;
 
 /// What the header of an entry tells: kind, size, and its own length.

@@ -1,11 +1,16 @@
 //! The header of an entry, read from the bytes that begin with it.
 ghost use Rattle.std.specs.Prelude.{◌≡◌, ◌<◌, ◌≤◌, length, nat_lt, IfSome};
 ghost use Rattle.std.specs.List.{position};
+ghost use Rattle.gix_pack_tables.specs.WrittenPack.{longest_header, most_size_bytes};
 ghost use Rattle.gix_pack_files.specs.Pack.{size_bits};
 ghost use Rattle.gix_pack_files.specs.PackHead.{head_from, head_seen, head_whole};
 
 use super::Error;
 use gix_pack_tables::read::bytes::{behind_first, part_of};
+use gix_pack_tables::write::entries::LONGEST_HEADER;
+
+// A size below 2^64 has four bits in the first byte, and a number below this in the others.
+const HIGH_LIMIT: u64 = 1 << 60;
 
 // What the header of an entry holds, whatever its type is.
 #[derive(Clone, Copy)]
@@ -15,7 +20,7 @@ pub(super) struct Head {
     pub(super) header_len: usize,
 }
 
-// The header that bytes begin with: ten bytes at most, whose last one alone has bit 7 clear.
+// The header that bytes begin with, whose last byte alone has bit 7 clear.
 #[tactic(auto, using(crate::proofs::EntryLemmas::head_missing, crate::proofs::EntryLemmas::head_long, crate::proofs::EntryLemmas::head_found))]
 pub(super) fn read_head(rest: &[u8]) -> Result<Head, Error>
     ensures head { head_seen result ≡ head_from rest.now }
@@ -23,7 +28,7 @@ pub(super) fn read_head(rest: &[u8]) -> Result<Head, Error>
     let Some(last) = place_of_last(rest) else {
         return Err(Error::BadEntry);
     };
-    if last >= 10 {
+    if last >= LONGEST_HEADER {
         return Err(Error::BadEntry);
     }
     head_in(part_of(rest, 0, last + 1))
@@ -37,16 +42,16 @@ fn place_of_last(rest: &[u8]) -> Option<usize>
     rest.iter().position(|byte| *byte < 128)
 }
 
-// A header of at most ten bytes.
+// A header that is not longer than the longest.
 #[tactic(auto, using(crate::proofs::EntryLemmas::head_too_large, crate::proofs::EntryLemmas::head_that_fits))]
 fn head_in(header: &[u8]) -> Result<Head, Error>
     requires some { 0 < length header.now }
-    requires short { length header.now ≤ 10 }
+    requires short { length header.now ≤ longest_header }
     ensures head { head_seen result ≡ head_whole header.now }
 {
     let first = header[0];
     let high = size_bits_in(behind_first(header, 1));
-    if high >= 1 << 60 {
+    if high >= HIGH_LIMIT {
         return Err(Error::BadEntry);
     }
     Ok(Head {
@@ -56,10 +61,10 @@ fn head_in(header: &[u8]) -> Result<Head, Error>
     })
 }
 
-// The number that at most nine bytes of seven bits are, the lowest first.
+// The number that bytes of seven bits are, the lowest first.
 #[tactic(auto, using(crate::proofs::EntryLemmas::bits_none, crate::proofs::EntryLemmas::bits_before, crate::proofs::EntryLemmas::bits_small, crate::proofs::EntryLemmas::bits_fit))]
 fn size_bits_in(bytes: &[u8]) -> u64
-    requires short { length bytes.now ≤ 9 }
+    requires short { length bytes.now ≤ most_size_bytes }
     ensures size { result ≡ size_bits bytes.now }
 {
     let mut value = 0;

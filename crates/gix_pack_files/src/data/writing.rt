@@ -1,5 +1,6 @@
 //! Packs written: the objects in their order, with the shortest headers, and a hash.
-ghost use Rattle.std.specs.Prelude.{◌≡◌, ◌^◌, ◌<◌, length, map, IfOk};
+ghost use Rattle.std.specs.Prelude.{◌≡◌, ◌<◌, length, map, IfOk};
+ghost use Rattle.gix_pack_tables.specs.Rows.{rows_limit};
 ghost use Rattle.gix_pack_tables.specs.WrittenPack.{object_seen, pack_of};
 ghost use Rattle.gix_pack_files.specs.ReadPack.{ReadsPack};
 
@@ -12,7 +13,7 @@ use std::alloc::Global;
 /// The pack of some objects, in their order: version 2, with no deltas.
 #[tactic(auto, unfolding(gix_pack_tables::specs::WrittenPack::pack_of))]
 pub fn encode(alloc: Global, objects: &[Object], kind: gix_hash::Kind) -> Result<ByteList, NoMemory>
-    requires few { length objects.now < 2 ^ 31 }
+    requires few { length objects.now < rows_limit }
     ensures pack { IfOk result (λ pack. pack ≡ pack_of kind (map object_seen objects.now)) }
     ensures read_back { IfOk result (λ pack. ReadsPack kind (map object_seen objects.now) pack) }
 {

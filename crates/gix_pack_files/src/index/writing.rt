@@ -1,11 +1,11 @@
 //! Indices written: the tables one behind another, and the two hashes.
-ghost use Rattle.std.specs.Prelude.{◌≡◌, [], ◌++◌, ◌^◌, ◌<◌, true, length, map, IfOk, OnOk};
+ghost use Rattle.std.specs.Prelude.{◌≡◌, [], ◌++◌, ◌<◌, true, length, map, IfOk, OnOk};
 ghost use Rattle.std.specs.List.{AllByRecursion};
 ghost use Rattle.gix_hash.specs.Hash.{hash_of};
 ghost use Rattle.gix_hash.specs.ObjectId.{bytes_of, IsId};
 ghost use Rattle.gix_pack_files.specs.PlacedIndexRow.{front_of_rows, index_placed};
 ghost use Rattle.gix_pack_tables.specs.PlacedRow.{id_of, offset_of, placed_from, ArePlaced, IsPlaced};
-ghost use Rattle.gix_pack_tables.specs.Rows.{is_rising};
+ghost use Rattle.gix_pack_tables.specs.Rows.{is_rising, rows_limit};
 ghost use Rattle.gix_pack_files.specs.WrittenIndex.{index_of, IsIndexOf, ReadsIndex};
 ghost use Rattle.gix_pack_tables.specs.WrittenTables.{narrow_from, number_bytes};
 ghost use Rattle.gix_pack_tables.specs.WrittenPack.{entries_place, object_seen, pack_front};
@@ -24,7 +24,7 @@ use std::alloc::Global;
 ///
 /// CRC values are zeros. The only error is want of memory.
 pub fn encode(alloc: Global, objects: &[Object], kind: Kind) -> Result<ByteList, NoMemory>
-    requires few { length objects.now < 2 ^ 31 }
+    requires few { length objects.now < rows_limit }
     ensures written { IfOk result (λ index. index ≡ index_of kind (map object_seen objects.now)) }
     ensures table { IfOk result (IsIndexOf kind (map object_seen objects.now)) }
     ensures read_back { IfOk result (ReadsIndex kind (map object_seen objects.now)) }
@@ -39,7 +39,7 @@ pub fn encode(alloc: Global, objects: &[Object], kind: Kind) -> Result<ByteList,
 
 // The hash that the pack of some objects ends with.
 fn hash_of_pack(alloc: Global, objects: &[Object], kind: Kind) -> Result<ObjectId, NoMemory>
-    requires few { length objects.now < 2 ^ 31 }
+    requires few { length objects.now < rows_limit }
     ensures hash { IfOk result (λ hash. hash ≡ hash_of kind (pack_front (map object_seen objects.now))) }
 {
     let pack = front_of(alloc, objects)?;
@@ -60,7 +60,7 @@ fn rows_of(alloc: Global, objects: &[Object], kind: Kind) -> Result<Vec<Placed>,
 // An index of some rows without its own hash, for a pack with this hash.
 fn put_front(index: &mut ByteList, rows: &[Placed], pack: &ObjectId) -> Result<(), NoMemory>
     requires empty { index.old ≡ [] }
-    requires few { length rows.now < 2 ^ 31 }
+    requires few { length rows.now < rows_limit }
     requires rising { is_rising (map id_of rows.now) ≡ true }
     requires placed { ArePlaced rows.now }
     ensures front { OnOk result (index.new ≡ front_of_rows rows.now (bytes_of pack.now)) }
@@ -79,7 +79,7 @@ fn put_front(index: &mut ByteList, rows: &[Placed], pack: &ObjectId) -> Result<(
 
 // The offsets as four bytes tell them: a wide one is the high bit and its number among the wide ones.
 fn put_narrow(list: &mut ByteList, rows: &[Placed]) -> Result<(), NoMemory>
-    requires few { length rows.now < 2 ^ 31 }
+    requires few { length rows.now < rows_limit }
     ensures put { OnOk result (list.new ≡ list.old ++ number_bytes (narrow_from 0 (map offset_of rows.now))) }
 {
     let mut wide = 0u32;

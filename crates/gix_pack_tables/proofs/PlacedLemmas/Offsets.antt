@@ -6,11 +6,9 @@ use Rattle.std.proofs.lemmas.List.{append-nil, drop_all, drop_more}
 use Rattle.gix_pack_tables.specs.PlacedRow.{offset_of}
 use Rattle.gix_pack_tables.specs.WrittenTables.{is_wide, narrow_from, number_bytes, long_number_bytes}
 use Rattle.gix_pack_tables.specs.declared.write.rows.Placed.{Placed}
+use Rattle.gix_pack_tables.proofs.OffsetLaws.{wide_or_low}
 
 -- ---- wide offsets
-
-wide_cases : (offset : ℕ) → (is_wide offset ≡ true) × (2 ^ 31 ≤ offset) ⊎ ((is_wide offset ≡ false) × (offset < 2 ^ 31))
-wide_cases offset = grind arith
 
 -- what is written of wide offsets, one row on
 abbrev pub wides : List Placed → List ℕ

@@ -1,7 +1,7 @@
 //! What is asked of a table of ids: the row of an id, and the rows of a prefix.
 ghost use Rattle.std.specs.Prelude.{◌≡◌, ℕ, ◌+◌, ◌*◌, ◌<◌, ◌≤◌, ◌↔◌, true, length, slice_get, IsTrue, Some};
 ghost use Rattle.gix_hash.specs.Kind.{len_in_bytes_of};
-ghost use Rattle.gix_hash.specs.Prefix.{prefix_cmp, HasPrefix};
+ghost use Rattle.gix_hash.specs.Prefix.{prefix_cmp};
 ghost use Rattle.gix_pack_tables.specs.Rows.{ids_of, is_rising, IsPrefixRun, IsRowOf};
 
 use crate::read::bytes::{id_of, part_of};
@@ -51,7 +51,6 @@ fn other_row(ids: &[u8], kind: Kind, n: u32, prefix: &Prefix, from: u32, order: 
     ensures before { from ≤ result }
     ensures within { result ≤ n }
     ensures passed { (row : ℕ) (id : ObjectId) → from ≤ row → row < result → slice_get (ids_of kind n ids.now) row ≡ Some id → prefix_cmp prefix.now id ≡ order }
-    ensures has { (row : ℕ) (id : ObjectId) → from ≤ row → row < result → slice_get (ids_of kind n ids.now) row ≡ Some id → order ≡ Ordering.Equal → HasPrefix prefix.now id }
     ensures other { (id : ObjectId) → slice_get (ids_of kind n ids.now) result ≡ Some id → prefix_cmp prefix.now id ≡ order → ⊥ }
 {
     for row in from..n {
@@ -72,7 +71,6 @@ fn is_same(a: &ObjectId, b: &ObjectId) -> bool
 // Whether a prefix compares with an id in this way.
 fn compares(prefix: &Prefix, id: &ObjectId, order: Ordering) -> bool
     ensures compared { IsTrue result ↔ (prefix_cmp prefix.now id.now ≡ order) }
-    ensures has { IsTrue result → order ≡ Ordering.Equal → HasPrefix prefix.now id.now }
 {
     prefix.cmp_oid(id) == order
 }

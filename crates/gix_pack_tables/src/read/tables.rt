@@ -3,10 +3,19 @@ ghost use Rattle.std.specs.Prelude.{◌≡◌, ℕ, ◌+◌, ◌*◌, ◌≤◌,
 ghost use Rattle.std.specs.List.{list_all};
 ghost use Rattle.gix_hash.specs.Kind.{len_in_bytes_of};
 ghost use Rattle.gix_pack_tables.specs.Bytes.{numbers, same};
-ghost use Rattle.gix_pack_tables.specs.Rows.{count_to, counts_of, ids_of, is_named_below, is_rising as ids_rise};
+ghost use Rattle.gix_pack_tables.specs.Rows.{count_to, counts_len, counts_of, ids_of, is_named_below, is_rising as ids_rise};
 
 use crate::read::bytes::{behind_first, number_at};
 use gix_hash::Kind;
+
+/// The high bit of four bytes: it marks those that name a wide offset.
+pub const HIGH_BIT: u32 = 1 << 31;
+
+/// How many bytes a wide offset has in its table.
+pub const WIDE_LEN: usize = 8;
+
+/// How many bytes the 256 counts have, of four each.
+pub const COUNTS_LEN: usize = 1024;
 
 /// Whether each of n ids is below the next.
 #[tactic(auto, using(crate::proofs::RowsLemmas::rising_step, crate::proofs::RowsLemmas::rising_short))]
@@ -50,7 +59,7 @@ pub fn are_named(n: usize, offsets: &[u8], wides: u64) -> bool
 pub fn is_named(narrow: u32, wides: u64) -> bool
     ensures named { result ≡ is_named_below wides narrow }
 {
-    narrow < 1 << 31 || ((narrow - (1 << 31)) as u64) < wides
+    narrow < HIGH_BIT || ((narrow - HIGH_BIT) as u64) < wides
 }
 
 // Of n ids that rise, those that begin above a byte: how many they are, and their table. They come last.
@@ -76,7 +85,7 @@ fn behind(ids: &[u8], kind: Kind, n: usize, first: usize) -> (usize, &[u8])
 /// Whether the 256 counts are those of n ids that rise.
 #[tactic(auto, using(crate::proofs::RowsLemmas::counts_next, crate::proofs::RowsLemmas::counts_done))]
 pub fn counts_agree(counts: &[u8], kind: Kind, n: usize, ids: &[u8]) -> bool
-    requires counts { 1024 ≤ length counts.now }
+    requires counts { counts_len ≤ length counts.now }
     requires ids { n * len_in_bytes_of kind ≤ length ids.now }
     requires rising { ids_rise (ids_of kind n ids.now) ≡ true }
     ensures agree { result ≡ same (numbers 256 counts.now) (counts_of (ids_of kind n ids.now)) }

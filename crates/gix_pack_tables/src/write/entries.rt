@@ -1,6 +1,7 @@
 //! Entries of packs written, with the shortest headers, and a pack of them up to its hash.
 ghost use Rattle.std.specs.Prelude.{◌≡◌, ℕ, ◌++◌, ◌^◌, ◌<◌, ◌≤◌, length, map, IfOk, OnOk};
-ghost use Rattle.gix_pack_tables.specs.WrittenPack.{code_of_kind, entry_of, header_of as header_bytes, object_seen, pack_front, size_bytes};
+ghost use Rattle.gix_pack_tables.specs.Rows.{rows_limit};
+ghost use Rattle.gix_pack_tables.specs.WrittenPack.{code_of_kind, entry_of, header_of as header_bytes, longest_header, most_size_bytes, object_seen, pack_front, size_bytes};
 
 use crate::Object;
 use crate::write::bytes::put_number;
@@ -10,13 +11,16 @@ use std::alloc::Global;
 /// Where the entries of a pack begin: behind `PACK`, the version and the number of objects, of four bytes each.
 pub const ENTRIES_PLACE: u64 = 12;
 
+/// How long a header is at most: a first byte with four bits of the size, and nine with seven each.
+pub const LONGEST_HEADER: usize = 10;
+
 // The version of packs that is written.
 const VERSION: u32 = 2;
 
 /// The pack of some objects without its hash.
 #[tactic(auto, unfolding(crate::specs::WrittenPack::pack_front))]
 pub fn front_of(alloc: Global, objects: &[Object]) -> Result<ByteList, NoMemory>
-    requires few { length objects.now < 2 ^ 31 }
+    requires few { length objects.now < rows_limit }
     ensures front { IfOk result (λ front. front ≡ pack_front (map object_seen objects.now)) }
 {
     let mut front = ByteList::new(alloc);
@@ -50,7 +54,7 @@ pub fn entry_len(object: &Object) -> u64
 #[tactic(auto, using(crate::proofs::WrittenPackLemmas::len_of_more, crate::proofs::WrittenPackLemmas::len_of_last, crate::proofs::WrittenPackLemmas::len_at_most, crate::proofs::WrittenPackLemmas::len_of_short, crate::proofs::WrittenPackLemmas::len_of_long))]
 fn header_len(size: u64) -> u64
     ensures exact { (code : ℕ) → result ≡ length (header_bytes code size) }
-    ensures small { result ≤ 10 }
+    ensures small { result ≤ longest_header }
 {
     if size < 16 {
         return 1;
@@ -95,7 +99,7 @@ fn put_header(pack: &mut ByteList, code: u8, size: u64) -> Result<(), NoMemory>
 #[tactic(auto, using(crate::proofs::WrittenPackLemmas::size_written, crate::proofs::WrittenPackLemmas::size_last))]
 fn put_size(pack: &mut ByteList, number: u64) -> Result<(), NoMemory>
     requires small { number < 2 ^ 60 }
-    ensures put { OnOk result (pack.new ≡ pack.old ++ size_bytes 9 number) }
+    ensures put { OnOk result (pack.new ≡ pack.old ++ size_bytes most_size_bytes number) }
 {
     let mut left = number;
     while left >= 128 {

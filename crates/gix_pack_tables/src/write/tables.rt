@@ -1,18 +1,19 @@
 //! The tables of an index that are told by its rows, put at the end of a list of bytes.
-ghost use Rattle.std.specs.Prelude.{◌≡◌, ◌+◌, ◌++◌, ◌^◌, ◌<◌, ◌≤◌, true, false, length, map, OnOk};
+ghost use Rattle.std.specs.Prelude.{◌≡◌, ◌+◌, ◌++◌, ◌<◌, ◌≤◌, true, false, length, map, OnOk};
 ghost use Rattle.std.specs.List.{filter, flat_map};
 ghost use Rattle.gix_hash.specs.ObjectId.{bytes_of};
 ghost use Rattle.gix_pack_tables.specs.PlacedRow.{id_of, offset_of, ArePlaced};
-ghost use Rattle.gix_pack_tables.specs.Rows.{count_to, counts_of, is_rising};
+ghost use Rattle.gix_pack_tables.specs.Rows.{count_to, counts_of, high_bit, is_rising, rows_limit};
 ghost use Rattle.gix_pack_tables.specs.WrittenTables.{is_wide as offset_is_wide, long_number_bytes, number_bytes};
 
+use crate::read::tables::HIGH_BIT;
 use crate::write::bytes::{put_id, put_long, put_number};
 use crate::write::rows::Placed;
 use odb_base::{ByteList, NoMemory};
 
 /// The 256 cumulative counts of the ids, which rise.
 pub fn put_counts(list: &mut ByteList, rows: &[Placed]) -> Result<(), NoMemory>
-    requires few { length rows.now < 2 ^ 31 }
+    requires few { length rows.now < rows_limit }
     requires rising { is_rising (map id_of rows.now) ≡ true }
     requires placed { ArePlaced rows.now }
     ensures put { OnOk result (list.new ≡ list.old ++ number_bytes (counts_of (map id_of rows.now))) }
@@ -65,17 +66,17 @@ pub fn put_wide(list: &mut ByteList, rows: &[Placed]) -> Result<(), NoMemory>
 pub fn is_wide(offset: u64) -> bool
     ensures wide { result ≡ offset_is_wide offset }
 {
-    offset >= 1 << 31
+    offset >= HIGH_BIT as u64
 }
 
 /// An offset as four bytes tell it, behind so many wide ones: a wide one is the high bit and its number among them.
 pub fn narrow_of(offset: u64, wide: u32) -> u32
-    requires few { wide < 2 ^ 31 }
-    ensures wide { offset_is_wide offset ≡ true → result ≡ 2 ^ 31 + wide }
+    requires few { wide < rows_limit }
+    ensures wide { offset_is_wide offset ≡ true → result ≡ high_bit + wide }
     ensures low { offset_is_wide offset ≡ false → result ≡ offset }
 {
     if is_wide(offset) {
-        (1 << 31) + wide
+        HIGH_BIT + wide
     } else {
         offset as u32
     }

@@ -1,7 +1,8 @@
 use Rattle.std.proofs.Common.{◌≡◌, ◌+◌, ◌*◌, ◌≤◌, true, length}
 use Rattle.gix_multi_index.specs.MultiIndex.{at_most_one}
 use Rattle.gix_multi_index.specs.MultiIndex.Chunks.{ends_at, named, trailer_place}
-use Rattle.gix_multi_index.specs.MultiIndexLayout.{named_left, rows_left, with_found, IsInIfThere}
+use Rattle.gix_multi_index.specs.ChunkTable.{named_left, rows_left}
+use Rattle.gix_multi_index.specs.MultiIndexLayout.{with_found, IsInIfThere}
 use Rattle.gix_multi_index.proofs.chunks.at_most_one.Given as goal
 
 abbrev pub invariant-loop-left : goal.invariant-loop-left

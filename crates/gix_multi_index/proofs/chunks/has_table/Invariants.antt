@@ -1,6 +1,6 @@
 use Rattle.std.proofs.Common.{◌≡◌, ◌+◌, ◌*◌, ◌≤◌, length}
 use Rattle.gix_multi_index.specs.MultiIndex.Chunks.{chunk_rows, ends_at, trailer_place}
-use Rattle.gix_multi_index.specs.MultiIndexLayout.{rows_left}
+use Rattle.gix_multi_index.specs.ChunkTable.{rows_left}
 use Rattle.gix_multi_index.proofs.chunks.has_table.Given as goal
 
 abbrev pub invariant-loop-left : goal.invariant-loop-left

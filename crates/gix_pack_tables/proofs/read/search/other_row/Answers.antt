@@ -1,5 +1,5 @@
-use Rattle.std.proofs.Common.{◌≡◌, Equal, arith}
-use Rattle.gix_hash.specs.Prefix.{prefix_cmp, HasPrefix}
+use Rattle.std.proofs.Common.{◌≡◌, arith}
+use Rattle.gix_hash.specs.Prefix.{prefix_cmp}
 use Rattle.gix_pack_tables.specs.Rows.{ids_of}
 use Rattle.std.proofs.lemmas.Option.{slice_get_within}
 use Rattle.gix_pack_tables.proofs.SearchLemmas.{length-ids_of, one_row_more}
@@ -9,13 +9,9 @@ use Rattle.gix_pack_tables.proofs.read.search.other_row.Goals as goal
 pub loop-row-preserved : goal.loop-row-preserved
 loop-row-preserved c =
     let ids = ids_of c.args.kind c.args.n c.args.ids.now in
-    let its = c.compares.ensures in
     let at = c.id_at.ensures.id c.args.n (omega arith) in
-    record {
-      passed = one_row_more ids c.args.from c.loop-row.row c.id_at.result (λ id. prefix_cmp c.args.prefix.now id ≡ c.args.order) c.loop-row.invariant.passed at (its.compared.0 (grind arith));
-      has = one_row_more ids c.args.from c.loop-row.row c.id_at.result (λ id. c.args.order ≡ Equal → HasPrefix c.args.prefix.now id)
-          (λ row id low below get is. c.loop-row.invariant.has row id low below get is) at (its.has (grind arith));
-    }
+    one_row_more ids c.args.from c.loop-row.row c.id_at.result (λ id. prefix_cmp c.args.prefix.now id ≡ c.args.order) c.loop-row.invariant at
+    (c.compares.ensures.compared.0 (grind arith))
 
 -- behind the last row there is none
 pub returns-clause-other : goal.returns-clause-other

@@ -3,7 +3,7 @@ use Rattle.std.proofs.Common.{List, map, sym, ap, ◌∙◌}
 use Rattle.gix_pack_tables.specs.PlacedRow.{id_of, placed_of}
 use Rattle.gix_pack_tables.specs.WrittenTables.{put_all}
 use Rattle.gix_pack_tables.specs.declared.write.rows.Placed.{Placed}
-use Rattle.gix_pack_tables.proofs.TableLemmas.Order.{inserted}
+use Rattle.gix_pack_tables.proofs.TableLemmas.Inserted.{inserted}
 use Rattle.gix_pack_tables.proofs.TableLemmas.{put_all_push}
 use Rattle.gix_pack_tables.proofs.write.rows.places_of.Goals as goal
 

@@ -1,36 +1,15 @@
--- The order of ids, and a row put into a map by them.
-use Rattle.std.proofs.Common.{◌≡◌, ℕ, true, List, [], ◌∷◌, map, Ordering, Less, Equal, Greater, refl, sym, ap, ◌∙◌}
+-- A row put into a map by its id.
+use Rattle.std.proofs.Common.{◌≡◌, ℕ, List, [], ◌∷◌, map, Ordering, Less, Equal, Greater, refl, sym, ap, ◌∙◌}
 use Rattle.std.specs.BTreeMap.{insert_entry}
-use Rattle.std.specs.Cmp.{IsTotalOrder}
-use Rattle.std.specs.Cmp.Lexicographic.{slice_cmp}
-use Rattle.std.specs.FinMap.{IsAntisymmetric, nat_cmp-IsAntisymmetric, slice_cmp-IsAntisymmetric}
-use Rattle.std.specs.Ordering.{is_lt, match_ordering, nat_cmp, ordering_reverse}
-use Rattle.std.proofs.lemmas.Cmp.{nat_cmp_total, nat_list_cmp_total, on_total, then_total}
-use Rattle.gix_hash.specs.ObjectId.{bytes_of, id_cmp, kind_of, rank_of}
+use Rattle.std.specs.Ordering.{match_ordering}
+use Rattle.gix_hash.specs.ObjectId.{id_cmp}
 use Rattle.gix_hash.specs.contracts.object_id.ObjectIdOrd.TheImpl as order
 use Rattle.gix_hash.specs.declared.object_id.ObjectId.{ObjectId}
 use Rattle.gix_hash.specs.declared.object_id.ObjectId.TheVariants.{Sha1, Sha256}
+use Rattle.gix_hash.proofs.IdOrderLaws.{same_id}
 use Rattle.gix_pack_tables.specs.PlacedRow.{id_of, placed_of}
 use Rattle.gix_pack_tables.specs.WrittenTables.{put_row}
 use Rattle.gix_pack_tables.specs.declared.write.rows.Placed.{Placed}
-
--- ---- the order of ids
-
-abbrev rank : ObjectId → ℕ
-rank id = rank_of (kind_of id)
-
-pub id_order : IsTotalOrder id_cmp
-id_order = then_total (on_total rank nat_cmp_total) (on_total bytes_of nat_list_cmp_total)
-
-same_bytes : IsAntisymmetric (slice_cmp nat_cmp)
-same_bytes = slice_cmp-IsAntisymmetric nat_cmp-IsAntisymmetric
-
--- ids at one place in the order are one id
-pub same_id : (a b : ObjectId) → id_cmp a b ≡ Equal → a ≡ b
-same_id (Sha1 a) (Sha1 b) h = ap Sha1 (same_bytes a b h)
-same_id (Sha1 a) (Sha256 b) h = cc h
-same_id (Sha256 a) (Sha1 b) h = cc h
-same_id (Sha256 a) (Sha256 b) h = ap Sha256 (same_bytes a b h)
 
 -- the order of a map's keys
 abbrev pub key_cmp : ObjectId → ObjectId → Ordering
@@ -42,19 +21,7 @@ keys_as_ids (Sha1 a) (Sha256 b) = refl
 keys_as_ids (Sha256 a) (Sha1 b) = refl
 keys_as_ids (Sha256 a) (Sha256 b) = refl
 
-pub back : (a b : ObjectId) → id_cmp a b ≡ Greater → id_cmp b a ≡ Less
-back a b h = id_order.antisymm b a ∙ ap ordering_reverse h
-
-pub less : (a b : ObjectId) → is_lt (id_cmp a b) ≡ true → id_cmp a b ≡ Less
-less a b h = by_test (id_cmp a b) h
-  where
-    by_test : (o : Ordering) → is_lt o ≡ true → o ≡ Less
-    by_test Less h = refl
-    by_test Equal h = cc h
-    by_test Greater h = cc h
-
--- ---- a row put into a map
-
+-- an entry of the map
 abbrev Entry : Type 0
 Entry = ObjectId × (ℕ × ℕ)
 
