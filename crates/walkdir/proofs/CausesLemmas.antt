@@ -32,7 +32,8 @@ pub lost_call : (error : Error) → is_no_memory error ≡ true → is_of_call e
 lost_call error is = lost_inner error.inner is
 
 -- what a stream is refused by
-pub stream_call : (depth : ℕ) (old new : Streams) (dir : ℕ) (error : DiskError) → Gives old new dir (Err error) → is_of_call (stream_failed depth error) ≡ true
+pub stream_call : (depth : ℕ) (old new : Streams) (dir : ℕ) (error : DiskError) → Gives old new dir (Err error)
+    → is_of_call (stream_failed depth error) ≡ true
 stream_call depth old new dir refusals.Absent gives = refl
 stream_call depth old new dir refusals.WrongKind gives = absurd gives
 stream_call depth old new dir refusals.LinkLoop gives = absurd gives
@@ -52,7 +53,8 @@ caused_by_call options above error is = call_inner options above error.inner is
 
 -- ---- an error that tells of a loop
 
-found_if : (b : Bool) (test : Ancestor → Bool) (first : Ancestor) (above : List Ancestor) (ancestor : Ancestor) → (find test above ≡ Some ancestor → Contains above ancestor)
+found_if : (b : Bool) (test : Ancestor → Bool) (first : Ancestor) (above : List Ancestor) (ancestor : Ancestor)
+    → (find test above ≡ Some ancestor → Contains above ancestor)
     → (if b then Some first else find test above) ≡ Some ancestor → Contains (first ∷ above) ancestor
 found_if true test first above ancestor more is = let same : first ≡ ancestor = cc in (0, omega arith, same)
 found_if false test first above ancestor more is = let at = more is in (suc at.0, omega arith, at.2)
@@ -61,11 +63,14 @@ found_among : (test : Ancestor → Bool) (above : List Ancestor) (ancestor : Anc
 found_among test [] ancestor is = absurd cc
 found_among test (first ∷ above) ancestor is = found_if (test first) test first above ancestor (found_among test above ancestor) is
 
-pub caused_by_loop : (options : Options) (above : List Ancestor) (place : Place) (depth : ℕ) (child : Path) (error : Error) → options.follow_links ≡ true
+pub caused_by_loop : (options : Options) (above : List Ancestor) (place : Place) (depth : ℕ) (child : Path) (error : Error)
+    → options.follow_links ≡ true
     → ChecksLoop depth child (standing_at above place) (Err error) → IsCausedAmong options above error
 caused_by_loop options above place depth child error follows (ancestor, found, inl is) =
-    subst (λ (e : Error). IsCausedAmong options above e) (sym is) (follows, (ancestor, found_among (λ (a : Ancestor). same_place place a.place) above ancestor found, refl))
-caused_by_loop options above place depth child error follows (ancestor, found, inr is) = subst (λ (e : Error). IsCausedAmong options above e) (sym is) tt
+    subst (λ (e : Error). IsCausedAmong options above e) (sym is)
+    (follows, (ancestor, found_among (λ (a : Ancestor). same_place place a.place) above ancestor found, refl))
+caused_by_loop options above place depth child error follows (ancestor, found, inr is) =
+    subst (λ (e : Error). IsCausedAmong options above e) (sym is) tt
 
 -- ---- what a turn comes to
 
@@ -73,6 +78,7 @@ pub caused_given : (at : Progress) (entry : Option DirEntry) → CausedWithin at
 caused_given at None = tt
 caused_given at (Some entry) = tt
 
-pub caused_turn : (at : Progress) (result : Result (Option DirEntry) Error) → IfErr result (λ e. IsCausedAmong at.options (ancestors at.stack) e) → CausedWithin at (item_of (turn_of result))
+pub caused_turn : (at : Progress) (result : Result (Option DirEntry) Error) → IfErr result (λ e. IsCausedAmong at.options (ancestors at.stack) e)
+    → CausedWithin at (item_of (turn_of result))
 caused_turn at (Ok entry) caused = caused_given at entry
 caused_turn at (Err error) caused = caused

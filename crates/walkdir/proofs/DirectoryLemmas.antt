@@ -10,7 +10,7 @@ use Rattle.walkdir.specs.Directory.{held, is_skipped, left_in, stream_in}
 use Rattle.walkdir.specs.Stack.{own_streams, weight, work_in}
 use Rattle.walkdir.specs.Turns.{GoesOn, TakesWork}
 use Rattle.walkdir.specs.Turns.Drawn.{IsDrawn, left_of}
-use Rattle.walkdir.specs.Turns.Lists.{Puts}
+use Rattle.walkdir.specs.Turns.AtIndex.{Puts}
 use Rattle.walkdir.specs.declared.directory.DirList.{DirList}
 use Rattle.walkdir.specs.declared.directory.Items.{Items}
 use Rattle.walkdir.specs.declared.directory.Items.TheVariants.{Opened, Closed, Skipped}
@@ -38,28 +38,37 @@ failures_held (Closed items) = refl
 failures_held Skipped = refl
 
 -- the directory at an index is the one that is read there
-put_list : (old new : List DirList) (index : ℕ) (items : Items) (list : DirList) (puts : Puts old new index items) → list ≡ get_or old index list → puts.list ≡ list
+put_list : (old new : List DirList) (index : ℕ) (items : Items) (list : DirList) (puts : Puts old new index items) → list ≡ get_or old index list
+    → puts.list ≡ list
 put_list old new index items list puts is =
-    sym (is ∙ ap (λ l. get_or l index list) puts.was ∙ ap (λ n. get_or (puts.outer ++ puts.list ∷ puts.inner) n list) (sym puts.at) ∙ get_or-append_seam puts.outer puts.list puts.inner list)
+    sym (is ∙ ap (λ l. get_or l index list) puts.was ∙ ap (λ n. get_or (puts.outer ++ puts.list ∷ puts.inner) n list) (sym puts.at)
+    ∙ get_or-append_seam puts.outer puts.list puts.inner list)
 
 -- ---- a child is taken from the innermost directory
 
 weigh_less : (a b w x y : ℕ) → a + 1 ≤ b → x ≤ y → (a + 1) * w + x + w ≤ (b + 1) * w + y
 weigh_less a b w x y le more = let p : (a + 1 + 1) * w ≤ (b + 1) * w = mul-le-mul_right w (omega arith) in omega arith
 
-pub takes_work : (old new : Progress) (list other : DirList) (outer : List DirList) (index : ℕ) (streams : Streams) → Same old new → old.stack ≡ list ∷ outer → new.stack ≡ other ∷ outer
-    → length outer ≡ index → Keeps streams old → LeftLess old.streams new.streams → left_in new.streams other.items + 1 ≤ left_in old.streams list.items → TakesWork old new index
+pub takes_work : (old new : Progress) (list other : DirList) (outer : List DirList) (index : ℕ) (streams : Streams) → Same old new
+    → old.stack ≡ list ∷ outer → new.stack ≡ other ∷ outer
+    → length outer ≡ index → Keeps streams old → LeftLess old.streams new.streams
+    → left_in new.streams other.items + 1 ≤ left_in old.streams list.items → TakesWork old new index
 unfolding work_in
 takes_work old new list other outer index streams same was is at keeps less left =
     let opened : AllOpen (own_streams outer) old.streams.open_dirs =
-    open_behind (stream_in list.items) (own_streams outer) old.streams.open_dirs (subst (λ s. AllOpen (own_streams s) old.streams.open_dirs) was (keeps_open streams old keeps)) in
-    let le : work_in old.options.max_depth new.streams outer ≤ work_in old.options.max_depth old.streams outer = work_less old.options.max_depth old.streams new.streams outer opened less in
-    let there : work_in old.options.max_depth old.streams old.stack ≡ (left_in old.streams list.items + 1) * weight old.options.max_depth (length outer) + work_in old.options.max_depth old.streams outer =
+    open_behind (stream_in list.items) (own_streams outer) old.streams.open_dirs (subst (λ s. AllOpen (own_streams s) old.streams.open_dirs) was
+    (keeps_open streams old keeps)) in
+    let le : work_in old.options.max_depth new.streams outer ≤ work_in old.options.max_depth old.streams outer =
+    work_less old.options.max_depth old.streams new.streams outer opened less in
+    let there : work_in old.options.max_depth old.streams old.stack
+    ≡ (left_in old.streams list.items + 1) * weight old.options.max_depth (length outer) + work_in old.options.max_depth old.streams outer =
     ap (work_in old.options.max_depth old.streams) was in
-    let here : work_in new.options.max_depth new.streams new.stack ≡ (left_in new.streams other.items + 1) * weight old.options.max_depth (length outer) + work_in old.options.max_depth new.streams outer =
+    let here : work_in new.options.max_depth new.streams new.stack
+    ≡ (left_in new.streams other.items + 1) * weight old.options.max_depth (length outer) + work_in old.options.max_depth new.streams outer =
     ap (λ o. work_in o.max_depth new.streams new.stack) same.options ∙ ap (work_in old.options.max_depth new.streams) is in
     let depth : weight old.options.max_depth (length outer) ≡ weight old.options.max_depth index = ap (weight old.options.max_depth) at in
-    let p = weigh_less (left_in new.streams other.items) (left_in old.streams list.items) (weight old.options.max_depth (length outer)) (work_in old.options.max_depth new.streams outer)
+    let p = weigh_less (left_in new.streams other.items) (left_in old.streams list.items) (weight old.options.max_depth (length outer))
+    (work_in old.options.max_depth new.streams outer)
     (work_in old.options.max_depth old.streams outer) left le in
     omega arith
 
@@ -69,7 +78,8 @@ no_more : (xs : List DirList) → length xs ≡ 0 → xs ≡ []
 no_more [] is = refl
 no_more (x ∷ xs) is = absurd (omega arith)
 
-module _ (old new : Progress) (before_lists after_lists : List DirList) (index : ℕ) (items : Items) (list : DirList) (same : Same old new) (was : old.stack ≡ reverse before_lists)
+module _ (old new : Progress) (before_lists after_lists : List DirList) (index : ℕ) (items : Items) (list : DirList) (same : Same old new)
+    (was : old.stack ≡ reverse before_lists)
     (is : new.stack ≡ reverse after_lists) (puts : Puts before_lists after_lists index items) (at : list ≡ get_or before_lists index list) where
   inner : List DirList
   inner = reverse puts.inner
@@ -92,8 +102,10 @@ module _ (old new : Progress) (before_lists after_lists : List DirList) (index :
   same_items = ap (λ (l : DirList). l.items) (put_list before_lists after_lists index items list puts at)
 
   -- its stream is read on and closed
-  pub goes_closed : (dir : ℕ) (mid : Streams) (count given before now : ℕ) → stream_in list.items ≡ Some dir → stream_in items ≡ None → IsDrawn old.streams dir mid
-      → new.streams ≡ with_closed mid dir → length (held items) ≤ left_of old.streams dir + 1 → given + failures_left items ≤ count → Costs count before now
+  pub goes_closed : (dir : ℕ) (mid : Streams) (count given before now : ℕ) → stream_in list.items ≡ Some dir → stream_in items ≡ None
+      → IsDrawn old.streams dir mid
+      → new.streams ≡ with_closed mid dir → length (held items) ≤ left_of old.streams dir + 1 → given + failures_left items ≤ count
+      → Costs count before now
       → is_skipped items ≡ false → GoesOn old before given 0 new now
   unfolding other
   goes_closed dir mid count given before now own none drawn closed few fails costs unskipped =
@@ -106,8 +118,10 @@ module _ (old new : Progress) (before_lists after_lists : List DirList) (index :
       (λ skipped. absurd (let no : true ≡ false = sym skipped ∙ unskipped in cc))
 
   -- it has no stream
-  pub goes_held : (given before now : ℕ) → stream_in list.items ≡ None → stream_in items ≡ None → new.streams ≡ old.streams → length (held items) ≤ length (held list.items)
-      → given + failures_left items ≤ failures_left list.items → Costs 0 before now → is_skipped items ≡ is_skipped list.items → GoesOn old before given 0 new now
+  pub goes_held : (given before now : ℕ) → stream_in list.items ≡ None → stream_in items ≡ None → new.streams ≡ old.streams
+      → length (held items) ≤ length (held list.items)
+      → given + failures_left items ≤ failures_left list.items → Costs 0 before now → is_skipped items ≡ is_skipped list.items
+      → GoesOn old before given 0 new now
   unfolding other
   goes_held given before now own none streams few fails costs skips =
       let own_at : stream_in puts.list.items ≡ None = ap stream_in same_items ∙ own in
@@ -121,13 +135,16 @@ module _ (old new : Progress) (before_lists after_lists : List DirList) (index :
       (λ skipped. ap is_skipped same_items ∙ sym skips ∙ skipped)
 
   -- it is the innermost one, and has one less left
-  pub put_takes : (streams : Streams) → index + 1 ≡ length before_lists → Keeps streams old → LeftLess old.streams new.streams → left_in new.streams items + 1 ≤ left_in old.streams list.items
+  pub put_takes : (streams : Streams) → index + 1 ≡ length before_lists → Keeps streams old → LeftLess old.streams new.streams
+      → left_in new.streams items + 1 ≤ left_in old.streams list.items
       → TakesWork old new index
   unfolding inner outer other
   put_takes streams last keeps less left =
-      let long : length before_lists ≡ length puts.outer + length (puts.list ∷ puts.inner) = ap length puts.was ∙ length-append puts.outer (puts.list ∷ puts.inner) in
+      let long : length before_lists ≡ length puts.outer + length (puts.list ∷ puts.inner) = ap length puts.was
+      ∙ length-append puts.outer (puts.list ∷ puts.inner) in
       let front : length puts.outer ≡ index = puts.at in
       let none : reverse puts.inner ≡ [] = ap reverse (no_more puts.inner (omega arith)) in
       let same_left : left_in old.streams puts.list.items ≡ left_in old.streams list.items = ap (left_in old.streams) same_items in
-      takes_work old new puts.list other outer index streams same (was_at ∙ ap (λ i. i ++ puts.list ∷ outer) none) (is_at ∙ ap (λ i. i ++ other ∷ outer) none)
+      takes_work old new puts.list other outer index streams same (was_at ∙ ap (λ i. i ++ puts.list ∷ outer) none)
+      (is_at ∙ ap (λ i. i ++ other ∷ outer) none)
       (length-reverse puts.outer ∙ puts.at) keeps less (omega arith)

@@ -22,18 +22,23 @@ not_a_link File dir = absurd cc
 not_a_link Dir dir = refl
 not_a_link Link dir = absurd cc
 
-unlooked : (follow same link dir top root : Bool) → (follow || same) ≡ false → link ≡ false → ((follow && link) || (((follow || same) && dir) || ((link && top) && root))) ≡ false
+unlooked : (follow same link dir top root : Bool) → (follow || same) ≡ false → link ≡ false
+    → ((follow && link) || (((follow || same) && dir) || ((link && top) && root))) ≡ false
 unlooked true same link dir top root off plain = absurd cc
 unlooked false true link dir top root off plain = absurd cc
 unlooked false false true dir top root off plain = absurd cc
 unlooked false false false dir top root off plain = refl
 
 -- Where devices and loops don't matter, a directory is given with its contents, whatever fails there.
-pub directory_given : (walk : Walking) {above : List Ancestor} {entry : DirEntry} {items : List Item} → (walk.options.follow_links || walk.options.same_file_system) ≡ false → is_dir entry ≡ true
+pub directory_given : (walk : Walking) {above : List Ancestor} {entry : DirEntry} {items : List Item}
+    → (walk.options.follow_links || walk.options.same_file_system) ≡ false → is_dir entry ≡ true
     → WalkOf walk above entry items → Within walk above entry None items
 directory_given walk {above} {entry} off dir walked =
     let options = walk.options in
-    let taken : taken_for walk above entry ≡ Ok entry = not_followed walk above entry (ap (λ b. b && is_link entry) (neither options.follow_links options.same_file_system off)) in
-    let enters : entering walk entry ≡ Ok (Enters None) = dir_is walk entry dir ∙ ap (λ b. cond b (enters_at walk entry (looked walk.tree entry.path true)) (Ok (Enters None))) off in
+    let taken : taken_for walk above entry ≡ Ok entry =
+    not_followed walk above entry (ap (λ b. b && is_link entry) (neither options.follow_links options.same_file_system off)) in
+    let enters : entering walk entry ≡ Ok (Enters None) = dir_is walk entry dir
+    ∙ ap (λ b. cond b (enters_at walk entry (looked walk.tree entry.path true)) (Ok (Enters None))) off in
     as_unlooked walk taken enters
-    (unlooked options.follow_links options.same_file_system (is_link entry) (is_dir entry) (entry.depth == 0) options.follow_root_links off (not_a_link entry.kind dir)) walked
+    (unlooked options.follow_links options.same_file_system (is_link entry) (is_dir entry) (entry.depth == 0) options.follow_root_links off
+    (not_a_link entry.kind dir)) walked

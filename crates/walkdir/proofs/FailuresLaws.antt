@@ -54,7 +54,8 @@ pub costs_as : (count first last before now : ℕ) → first ≡ before → now 
 costs_as count first last before now is same costs = subst (λ n. Costs count n now) is (subst (Costs count first) (sym same) costs)
 
 -- what the error of an answer cost, the answer cost
-pub costs_of_error : {A : Type 0} (result : Result A Error) (error : Error) (before now : ℕ) → IsErrAnd result (λ e. e ≡ error) → Costs (failures error) before now → Costs (failures_of result) before now
+pub costs_of_error : {A : Type 0} (result : Result A Error) (error : Error) (before now : ℕ) → IsErrAnd result (λ e. e ≡ error)
+    → Costs (failures error) before now → Costs (failures_of result) before now
 costs_of_error (Ok x) error before now is costs = absurd is
 costs_of_error (Err e) error before now is costs = subst (λ (e : Error). Costs (failures e) before now) (sym is) costs
 
@@ -108,17 +109,20 @@ fails_none at count = record {
     sum : (left given : ℕ) → given + left ≡ given + 0 + left
     sum left given = omega arith
 
-pub fails_then : (old mid new : Progress) (x y z first more : ℕ) → FailsByFault old x first mid y → FailsByFault mid y more new z → FailsByFault old x (first + more) new z
+pub fails_then : (old mid new : Progress) (x y z first more : ℕ) → FailsByFault old x first mid y → FailsByFault mid y more new z
+    → FailsByFault old x (first + more) new z
 fails_then old mid new x y z first more one next = record {
   later = (let low : x ≤ y = one.later in let high : y ≤ z = next.later in omega arith);
-  rose = λ start given rose. subst (λ n. RoseBy n start z) (sum given (waiting new.stack)) (next.rose start (given + first) (one.rose start given rose));
+  rose = λ start given rose. subst (λ n. RoseBy n start z) (sum given (waiting new.stack))
+      (next.rose start (given + first) (one.rose start given rose));
 }
   where
     sum : (given left : ℕ) → given + first + more + left ≡ given + (first + more) + left
     sum given left = omega arith
 
 -- nothing failed so far
-pub fails_next : (old mid new : Progress) (x y z more : ℕ) → FailsByFault old x 0 mid y → FailsByFault mid y more new z → FailsByFault old x more new z
+pub fails_next : (old mid new : Progress) (x y z more : ℕ) → FailsByFault old x 0 mid y → FailsByFault mid y more new z
+    → FailsByFault old x more new z
 fails_next old mid new x y z more one next =
     let same : 0 + more ≡ more = omega arith in
     subst (λ n. FailsByFault old x n new z) same (fails_then old mid new x y z 0 more one next)
@@ -165,11 +169,13 @@ module _ (first at new : Progress) (x y z : ℕ) (items : List Item) (so_far : F
   -- with an item more
   pub fails_more : (item : Item) → FailsByFault at y (failures_of item) new z → FailsByFault first x (failures_among (items ++ item ∷ [])) new z
   fails_more item step =
-      subst (λ n. FailsByFault first x n new z) (sym (failures-push items item)) (fails_then first at new x y z (failures_among items) (failures_of item) so_far step)
+      subst (λ n. FailsByFault first x n new z) (sym (failures-push items item))
+      (fails_then first at new x y z (failures_among items) (failures_of item) so_far step)
 
   -- at the end
   pub fails_end : FailsByFault at y 0 new z → FailsByFault first x (failures_among items) new z
-  fails_end step = subst (λ n. FailsByFault first x n new z) (nothing (failures_among items)) (fails_then first at new x y z (failures_among items) 0 so_far step)
+  fails_end step = subst (λ n. FailsByFault first x n new z) (nothing (failures_among items))
+      (fails_then first at new x y z (failures_among items) 0 so_far step)
     where
       nothing : (given : ℕ) → given + 0 ≡ given
       nothing given = omega arith

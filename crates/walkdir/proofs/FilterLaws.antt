@@ -9,12 +9,15 @@ use Rattle.walkdir.specs.declared.dent.DirEntry.{DirEntry}
 use Rattle.walkdir.specs.declared.error.Error.{Error}
 
 -- a walk that ended stays ended, also where the disk was changed meanwhile
-pub stays_ended : (state later : Option State) (old mid new : Progress) (item : Option (Result DirEntry Error)) → Steps state old None mid → Steps later mid item new → item ≡ None
+pub stays_ended : (state later : Option State) (old mid new : Progress) (item : Option (Result DirEntry Error)) → Steps state old None mid
+    → Steps later mid item new → item ≡ None
 stays_ended state later old mid new item first second = let ended = first.ended refl in second.over ended.0 ended.1
 
-module _ {S F : Type 0} (steps : S → Option (Result DirEntry Error) → S → Type 0) (skips : S → S → Type 0) (entered : S → Bool) (accepts : Mut F (Bor DirEntry × Unit {0}) Bool) where
+module _ {S F : Type 0} (steps : S → Option (Result DirEntry Error) → S → Type 0) (skips : S → S → Type 0) (entered : S → Bool)
+    (accepts : Mut F (Bor DirEntry × Unit {0}) Bool) where
   -- a filter gives no more only where its walk does
-  ended_walk : (s : S) (f : F) (item : Option (Result DirEntry Error)) (t : S) (g : F) → Filters steps skips entered accepts s f item t g → item ≡ None → (m : S) × steps m None t
+  ended_walk : (s : S) (f : F) (item : Option (Result DirEntry Error)) (t : S) (g : F) → Filters steps skips entered accepts s f item t g
+      → item ≡ None → (m : S) × steps m None t
   ended_walk s f item t g (Ends step) none = (s, step)
   ended_walk s f item t g (Errs step) none = absurd cc
   ended_walk s f item t g (Accepts step called) none = absurd cc

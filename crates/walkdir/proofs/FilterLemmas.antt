@@ -7,16 +7,19 @@ use Rattle.walkdir.specs.Filter.{AfterRejected, Filters}
 use Rattle.walkdir.specs.declared.dent.DirEntry.{DirEntry}
 use Rattle.walkdir.specs.declared.error.Error.{Error}
 
-module _ {S F : Type 0} (steps : S → Option (Result DirEntry Error) → S → Type 0) (skips : S → S → Type 0) (entered : S → Bool) (accepts : Mut F (Bor DirEntry × Unit {0}) Bool) where
+module _ {S F : Type 0} (steps : S → Option (Result DirEntry Error) → S → Type 0) (skips : S → S → Type 0) (entered : S → Bool)
+    (accepts : Mut F (Bor DirEntry × Unit {0}) Bool) where
   -- what is given from the second state on is given from the first on
   pub record PassesOn (first : S) (called : F) (s : S) (f : F) : Type 0 where
-    pub then : (item : Option (Result DirEntry Error)) (t : S) (h : F) → Filters steps skips entered accepts s f item t h → Filters steps skips entered accepts first called item t h
+    pub then : (item : Option (Result DirEntry Error)) (t : S) (h : F) → Filters steps skips entered accepts s f item t h
+        → Filters steps skips entered accepts first called item t h
 
   pub passes_first : (s : S) (f : F) → PassesOn s f s f
   passes_first s f = record { then = λ item t h given. given }
 
   -- an entry that was rejected is passed over: a directory that was entered is skipped
-  pub passes_rejected : (first : S) (called : F) (s m n : S) (f g : F) (entry : DirEntry) → PassesOn first called s f → steps s (Some (Ok entry)) m → CalledAt accepts f entry false g
+  pub passes_rejected : (first : S) (called : F) (s m n : S) (f g : F) (entry : DirEntry) → PassesOn first called s f → steps s (Some (Ok entry)) m
+      → CalledAt accepts f entry false g
       → AfterRejected steps skips entered accepts m n → PassesOn first called n g
   passes_rejected first called s m n f g entry before step rejected after = record {
     then = λ item t h given. before.then item t h (Filters.Rejects m n g entry step rejected after given);

@@ -1,4 +1,5 @@
 -- Laws of what a filter leaves of what is still to come.
+pub mod Calls
 use Rattle.std.proofs.Common.{◌≡◌, ℕ, ◌+◌, inl, inr, append_assoc, arith, Bool, true, false, List, [], ◌∷◌, ◌++◌, Option, Some, None, Ok, refl, sym, ap, subst, ◌∙◌}
 use Rattle.std.specs.Prelude.{◌==◌, IfSome, MatchBool, if◌then◌else◌, length}
 use Rattle.std.proofs.lemmas.Bool.Decides.{nat_tests}
@@ -29,14 +30,16 @@ use Rattle.walkdir.specs.declared.directory.Place.{Place}
 -- ---- what a skip drops right after a directory was entered
 
 dropped_first : (b : Bool) (outer : List Item) (Further Own Stood : List Item → Type 0) (items : List Item) → b ≡ false
-    → StoodFor (if b then outer else []) (λ dropped. MatchBool b (Further dropped) (Own dropped)) Stood items → (dropped : List Item) × Own dropped × Stood (dropped ++ items)
+    → StoodFor (if b then outer else []) (λ dropped. MatchBool b (Further dropped) (Own dropped)) Stood items → (dropped : List Item) × Own dropped
+    × Stood (dropped ++ items)
 dropped_first true outer Further Own Stood items whole stood = absurd (let no : true ≡ false = whole in cc)
 dropped_first false outer Further Own Stood items whole stood =
     let some = stood.some in
     (some.0, some.1, subst (λ behind. Stood (some.0 ++ behind)) (sym stood.is) (stood.stood some.0 some.1))
 
 -- these items are an entered directory's contents, and then others
-pub record ContentsFirst (walk : Walking) (entry : DirEntry) (place : Option Place) (streams : Streams) (stack : List DirList) (items : List Item) : Type 0 where
+pub record ContentsFirst (walk : Walking) (entry : DirEntry) (place : Option Place) (streams : Streams) (stack : List DirList)
+    (items : List Item) : Type 0 where
   pub above : List Ancestor
   pub are : AreAbove walk entry.path entry.depth above
   pub contents : List Item
@@ -44,7 +47,8 @@ pub record ContentsFirst (walk : Walking) (entry : DirEntry) (place : Option Pla
   pub stands : StandsFor walk streams stack (contents ++ items)
 
 -- the directories above an entry that is innermost
-head_above : (walk : Walking) (entry : DirEntry) (list : DirList) (outer : List DirList) → IsHead entry.path entry.depth (list ∷ outer) → AreEntered walk (ancestors (list ∷ outer))
+head_above : (walk : Walking) (entry : DirEntry) (list : DirList) (outer : List DirList) → IsHead entry.path entry.depth (list ∷ outer)
+    → AreEntered walk (ancestors (list ∷ outer))
     → AreAbove walk entry.path entry.depth (ancestors outer)
 head_above walk entry list outer head entered =
     let d = entered.directory in
@@ -52,20 +56,31 @@ head_above walk entry list outer head entered =
     subst (λ (n : ℕ). AreAbove walk entry.path n (ancestors outer)) deep
     (subst (λ (p : Path). AreAbove walk p d.depth (ancestors outer)) (entered.path ∙ head.1) entered.rest)
 
-dropped_contents : (walk : Walking) (entry : DirEntry) (place : Option Place) (streams : Streams) (stack : List DirList) (items : List Item) → HoldsContents walk entry place streams stack
-    → IsHead entry.path entry.depth stack → AreEntered walk (ancestors stack) → StoodFor (own_first walk.options stack) (IsDropped walk streams stack) (StandsFor walk streams stack) items → ContentsFirst walk entry place streams stack items
+dropped_contents : (walk : Walking) (entry : DirEntry) (place : Option Place) (streams : Streams) (stack : List DirList) (items : List Item)
+    → HoldsContents walk entry place streams stack
+    → IsHead entry.path entry.depth stack → AreEntered walk (ancestors stack) → StoodFor (own_first walk.options stack) (IsDropped walk streams stack)
+    (StandsFor walk streams stack) items → ContentsFirst walk entry place streams stack items
 dropped_contents walk entry place streams [] items holds head entered stood = absurd holds
 dropped_contents walk entry place streams (list ∷ outer) items holds head entered stood =
-    let parts = dropped_first (is_skipped list.items) (own_entry walk.options list.after ++ own_first walk.options outer) (IsDropped walk streams outer) (AreLeft walk streams list outer)
+    let parts = dropped_first (is_skipped list.items) (own_entry walk.options list.after ++ own_first walk.options outer)
+    (IsDropped walk streams outer) (AreLeft walk streams list outer)
     (StandsFor walk streams (list ∷ outer)) items holds.0 stood in
     let left = parts.1 in
-    record { above = ancestors outer; are = head_above walk entry list outer head entered; contents = parts.0; contains = holds.1 left.children parts.0 left.left left.walks; stands = parts.2 }
+    record {
+      above = ancestors outer;
+      are = head_above walk entry list outer head entered;
+      contents = parts.0;
+      contains = holds.1 left.children parts.0 left.left left.walks;
+      stands = parts.2;
+    }
 
 -- a directory that was entered just now
-pub innermost_dir : (at : Progress) (entry : DirEntry) → at.entered ≡ is_innermost at.stack (Some (Ok entry)) → at.entered ≡ true → is_dir entry ≡ true
+pub innermost_dir : (at : Progress) (entry : DirEntry) → at.entered ≡ is_innermost at.stack (Some (Ok entry)) → at.entered ≡ true
+    → is_dir entry ≡ true
 innermost_dir at entry is entered = (both (is_dir entry) (entry.depth + 1 == length at.stack) (sym is ∙ entered)).0
 
-head_at : (options : Options) (entry : DirEntry) (stack : List DirList) → IsAfterEntry options entry stack → (entry.depth + 1 == length stack) ≡ true → IsHead entry.path entry.depth stack
+head_at : (options : Options) (entry : DirEntry) (stack : List DirList) → IsAfterEntry options entry stack → (entry.depth + 1 == length stack) ≡ true
+    → IsHead entry.path entry.depth stack
 head_at options entry stack (inl within) deep = within.head
 head_at options entry stack (inr behind) deep = absurd (not_deeper (length stack) entry.depth behind.beside.long deep)
   where
@@ -73,9 +88,11 @@ head_at options entry stack (inr behind) deep = absurd (not_deeper (length stack
     not_deeper long depth is deep = grind (arith, nat_tests)
 
 -- and it is the head
-pub innermost_head : (at : Progress) (entry : DirEntry) → at.entered ≡ is_innermost at.stack (Some (Ok entry)) → at.entered ≡ true → IsAfter at.options (Some (Ok entry)) at.stack
+pub innermost_head : (at : Progress) (entry : DirEntry) → at.entered ≡ is_innermost at.stack (Some (Ok entry)) → at.entered ≡ true
+    → IsAfter at.options (Some (Ok entry)) at.stack
     → IsHead entry.path entry.depth at.stack
-innermost_head at entry is entered after = head_at at.options entry at.stack after (both (is_dir entry) (entry.depth + 1 == length at.stack) (sym is ∙ entered)).1
+innermost_head at entry is entered after =
+    head_at at.options entry at.stack after (both (is_dir entry) (entry.depth + 1 == length at.stack) (sym is ∙ entered)).1
 
 -- ---- a walk after a skip
 
@@ -102,10 +119,12 @@ skip_is_of walk old new skips of = record {
   device = λ some same. of.device (λ empty. some (skips.stack ∙ skipped_empty old.stack empty)) same ∙ ap Some (sym skips.device);
 }
 
-stands_begun : (walk : Walking) (at : Progress) (items : List Item) → at.start ≡ None → StillGives walk at items → StandsFor walk at.streams at.stack items
+stands_begun : (walk : Walking) (at : Progress) (items : List Item) → at.start ≡ None → StillGives walk at items
+    → StandsFor walk at.streams at.stack items
 stands_begun walk at items none left = subst (λ s. still_to_come walk at s items) none left
 
-pub gives_begun : (walk : Walking) (at : Progress) (items : List Item) → at.start ≡ None → StandsFor walk at.streams at.stack items → StillGives walk at items
+pub gives_begun : (walk : Walking) (at : Progress) (items : List Item) → at.start ≡ None → StandsFor walk at.streams at.stack items
+    → StillGives walk at items
 gives_begun walk at items none stands = subst (λ s. still_to_come walk at s items) (sym none) stands
 
 -- ---- a walk that hasn't begun
@@ -129,31 +148,41 @@ unbegun_gives walk at items begun left = subst (λ s. still_to_come walk at s it
 
 -- ---- what is still to come, and what a filter leaves of it, with others behind it
 
-pub record StillLeaves (walk : Walking) (accepts : DirEntry → Bool) (at : Progress) (rest given : List Item) : Type 0 where
+pub record StillLeaves {F : Type 0} (walk : Walking) (asked : F → DirEntry → Bool → F → Type 0) (at : Progress) (f : F) (rest given : List Item)
+    (h : F) : Type 0 where
   pub items : List Item
   pub gives : StillGives walk at (items ++ rest)
-  pub leaves : LeavesOut walk accepts items given
+  pub leaves : LeavesOut walk asked f items given h
 
 -- an entry was rejected that stands alone
-pub left_alone : (walk : Walking) (accepts : DirEntry → Bool) (old new : Progress) (entry : DirEntry) (last given : List Item) → accepts entry ≡ false → StaysOut walk entry
-    → ((rest : List Item) → StillGives walk new rest → StillGives walk old (Ok entry ∷ rest)) → StillLeaves walk accepts new last given → StillLeaves walk accepts old last given
-left_alone walk accepts old new entry last given rejected out back left = record {
+pub left_alone : {F : Type 0} (walk : Walking) (asked : F → DirEntry → Bool → F → Type 0) (old new : Progress) (entry : DirEntry)
+    (last given : List Item) (f g h : F) → asked f entry false g → StaysOut walk entry
+    → ((rest : List Item) → StillGives walk new rest → StillGives walk old (Ok entry ∷ rest)) → StillLeaves walk asked new g last given h
+    → StillLeaves walk asked old f last given h
+left_alone walk asked old new entry last given f g h rejected out back left = record {
   items = Ok entry ∷ left.items;
   gives = back (left.items ++ last) left.gives;
-  leaves = LeavesOut.Alone rejected out left.leaves;
+  leaves = LeavesOut.Alone g rejected out left.leaves;
 }
 
 -- a directory was rejected that was entered, and then skipped
-pub left_below : (walk : Walking) (accepts : DirEntry → Bool) (before : Streams) (old mid new : Progress) (entry : DirEntry) (last given : List Item) → accepts entry ≡ false → is_dir entry ≡ true
-    → IsEntered walk entry mid.start mid.streams mid.stack → IsHead entry.path entry.depth mid.stack → AreEntered walk (ancestors mid.stack) → Keeps before mid → Skips mid new
-    → ((rest : List Item) → StillGives walk mid rest → StillGives walk old (Ok entry ∷ rest)) → StillLeaves walk accepts new last given → StillLeaves walk accepts old last given
-left_below walk accepts before old mid new entry last given rejected dir entered head above keeps skips back left =
-    let stood = skip_drops walk before mid new keeps skips (left.items ++ last) (stands_begun walk new (left.items ++ last) (skips.start ∙ entered.begun) left.gives) in
+pub left_below : {F : Type 0} (walk : Walking) (asked : F → DirEntry → Bool → F → Type 0) (before : Streams) (old mid new : Progress)
+    (entry : DirEntry) (last given : List Item) (f g h : F) → asked f entry false g → is_dir entry ≡ true
+    → IsEntered walk entry mid.start mid.streams mid.stack → IsHead entry.path entry.depth mid.stack → AreEntered walk (ancestors mid.stack)
+    → Keeps before mid → Skips mid new
+    → ((rest : List Item) → StillGives walk mid rest → StillGives walk old (Ok entry ∷ rest)) → StillLeaves walk asked new g last given h
+    → StillLeaves walk asked old f last given h
+left_below walk asked before old mid new entry last given f g h rejected dir entered head above keeps skips back left =
+    let stood = skip_drops walk before mid new keeps skips (left.items ++ last)
+    (stands_begun walk new (left.items ++ last) (skips.start ∙ entered.begun) left.gives) in
     let first = dropped_contents walk entry entered.place mid.streams mid.stack (left.items ++ last) entered.holds head above stood in
-    let joined_up : first.contents ++ (left.items ++ last) ≡ (first.contents ++ left.items) ++ last = sym (append_assoc first.contents left.items last) in
+    let joined_up : first.contents ++ (left.items ++ last) ≡ (first.contents ++ left.items) ++ last =
+    sym (append_assoc first.contents left.items last) in
     record {
       items = Ok entry ∷ first.contents ++ left.items;
       gives = back ((first.contents ++ left.items) ++ last)
-          (gives_begun walk mid ((first.contents ++ left.items) ++ last) entered.begun (subst (StandsFor walk mid.streams mid.stack) joined_up first.stands));
-      leaves = LeavesOut.WithContents entered.place first.above first.contents left.items rejected dir entered.first entered.enters first.are first.contains refl left.leaves;
+          (gives_begun walk mid ((first.contents ++ left.items) ++ last) entered.begun
+          (subst (StandsFor walk mid.streams mid.stack) joined_up first.stands));
+      leaves = LeavesOut.WithContents g entered.place first.above first.contents left.items rejected dir entered.first entered.enters first.are
+          first.contains refl left.leaves;
     }

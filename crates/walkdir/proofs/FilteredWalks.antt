@@ -27,13 +27,15 @@ use Rattle.walkdir.specs.declared.dent.DirEntry.{DirEntry}
 use Rattle.walkdir.specs.declared.filter.FilterEntry.{FilterEntry}
 use Rattle.walkdir.specs.declared.iter.OnDisk.{OnDisk}
 
-module _ {D W : Type 0} (state : D → Option State) (streams : D → Streams) (faults : D → ℕ) (answered : D → DiskAsk → DiskAnswer → D → Type 0) (progress : W → Streams → Progress) where
+module _ {D W : Type 0} (state : D → Option State) (streams : D → Streams) (faults : D → ℕ) (answered : D → DiskAsk → DiskAnswer → D → Type 0)
+    (progress : W → Streams → Progress) where
   -- what stays as it was
   pub record Kept (s t : OnDisk D W) : Type 0 where
     pub tells : state t.disk.now ≡ state s.disk.now
     pub disk : t.disk.ghost_name ≡ s.disk.ghost_name
     pub options : (at_walk state streams faults answered progress t).options ≡ (at_walk state streams faults answered progress s).options
-    pub keeps : (before : Streams) → Keeps before (at_walk state streams faults answered progress s) → Keeps before (at_walk state streams faults answered progress t)
+    pub keeps : (before : Streams) → Keeps before (at_walk state streams faults answered progress s)
+        → Keeps before (at_walk state streams faults answered progress t)
 
   pub kept_first : (s : OnDisk D W) → Kept s s
   kept_first s = record { tells = refl; disk = refl; options = refl; keeps = λ before keeps. keeps }
@@ -54,16 +56,20 @@ module _ {D W : Type 0} (state : D → Option State) (streams : D → Streams) (
   kept_after false s t is = subst (Kept s) (sym is) (kept_first s)
 
   -- what a filtered walk leaves that is dropped
-  pub filtered_back : {T : Type 0} (order : T → Order) (built : Built T) (before now : Streams) (s u : OnDisk D W) → at_walk state streams faults answered progress s ≡ begun order built before → Kept s u
-      → ((other : Streams) → Keeps other (at_walk state streams faults answered progress u) → AreBack other (at_walk state streams faults answered progress u).options.max_open now)
+  pub filtered_back : {T : Type 0} (order : T → Order) (built : Built T) (before now : Streams) (s u : OnDisk D W)
+      → at_walk state streams faults answered progress s ≡ begun order built before → Kept s u
+      → ((other : Streams) → Keeps other (at_walk state streams faults answered progress u)
+      → AreBack other (at_walk state streams faults answered progress u).options.max_open now)
       → AreBack before built.options.max_open now
   filtered_back order built before now s u is kept dropped =
       let keeps = subst (Keeps before) (sym is) (begun_keeps order built before) in
-      subst (λ (o : Options). AreBack before o.max_open now) (kept.options ∙ ap (λ (p : Progress). p.options) is) (dropped before (kept.keeps before keeps))
+      subst (λ (o : Options). AreBack before o.max_open now) (kept.options ∙ ap (λ (p : Progress). p.options) is)
+      (dropped before (kept.keeps before keeps))
 
   -- what a filtered walk gives there, part by part
   abbrev pub FiltersOn : {F : Type 0} → Mut F (Bor DirEntry × Unit {0}) Bool → OnDisk D W → F → Option Item → OnDisk D W → F → Type 0
-  FiltersOn accepts s f item t h = Filters (NextOn state streams faults answered progress) (SkipsOn state streams faults answered progress) (λ x. (at_walk state streams faults answered progress x).entered) accepts s f item t h
+  FiltersOn accepts s f item t h = Filters (NextOn state streams faults answered progress) (SkipsOn state streams faults answered progress)
+      (λ x. (at_walk state streams faults answered progress x).entered) accepts s f item t h
 
   module _ {F : Type 0} {accepts : Mut F (Bor DirEntry × Unit {0}) Bool} where
     pub kept_filters : {s t : OnDisk D W} {f h : F} {item : Option Item} → FiltersOn accepts s f item t h → Kept s t
@@ -71,10 +77,12 @@ module _ {D W : Type 0} (state : D → Option State) (streams : D → Streams) (
     kept_filters {s} {t} {item = item} (Errs step) = kept_step s item t step
     kept_filters {s} {t} {item = item} (Accepts step called) = kept_step s item t step
     kept_filters {s} {t} (Rejects m n g entry step called after rest) =
-        kept_then s m t (kept_step s (Some (Ok entry)) m step) (kept_then m n t (kept_after (at_walk state streams faults answered progress m).entered m n after) (kept_filters rest))
+        kept_then s m t (kept_step s (Some (Ok entry)) m step)
+        (kept_then m n t (kept_after (at_walk state streams faults answered progress m).entered m n after) (kept_filters rest))
 
     -- an entry that is given was accepted
-    pub accepted : {s t : OnDisk D W} {f h : F} {item : Option Item} (entry : DirEntry) → item ≡ Some (Ok entry) → FiltersOn accepts s f item t h → (g : F) × (k : F) × CalledAt accepts g entry true k
+    pub accepted : {s t : OnDisk D W} {f h : F} {item : Option Item} (entry : DirEntry) → item ≡ Some (Ok entry) → FiltersOn accepts s f item t h
+        → (g : F) × (k : F) × CalledAt accepts g entry true k
     accepted entry is (Ends step) = absurd cc
     accepted entry is (Errs step) = absurd cc
     accepted entry is (Accepts {f = f} {h = h} {entry = other} step called) =
@@ -83,7 +91,8 @@ module _ {D W : Type 0} (state : D → Option State) (streams : D → Streams) (
     accepted entry is (Rejects m n g other step called after rest) = accepted entry is rest
 
     -- what holds of each entry that was accepted holds of all that are given
-    pub all_accepted : (Holds : DirEntry → Type 0) → ((g k : F) (entry : DirEntry) → CalledAt accepts g entry true k → Holds entry) → (entries : List DirEntry) (s t : FilterEntry (OnDisk D W) F)
+    pub all_accepted : (Holds : DirEntry → Type 0) → ((g k : F) (entry : DirEntry) → CalledAt accepts g entry true k → Holds entry)
+        → (entries : List DirEntry) (s t : FilterEntry (OnDisk D W) F)
         → Yields (λ from item to. FiltersOn accepts from.walk from.predicate item to.walk to.predicate) s (map Ok entries) t → All Holds entries
     all_accepted Holds each [] s t along = All-nil Holds
     all_accepted Holds each (entry ∷ entries) s t along =
@@ -93,27 +102,35 @@ module _ {D W : Type 0} (state : D → Option State) (streams : D → Streams) (
   -- ---- what calls of the walk told
 
   tells_after : (entered : Bool) (m n : OnDisk D W) → MatchBool entered (SkipsOn state streams faults answered progress m n) (n ≡ m)
-      → TellsOn answered m.disk.now (at_walk state streams faults answered progress m).stack None n.disk.now (at_walk state streams faults answered progress n).stack
+      → TellsOn answered m.disk.now (at_walk state streams faults answered progress m).stack None n.disk.now
+      (at_walk state streams faults answered progress n).stack
   tells_after true m n skip = skip.4
   tells_after false m n is =
-      subst (λ (x : OnDisk D W). TellsOn answered m.disk.now (at_walk state streams faults answered progress m).stack None x.disk.now (at_walk state streams faults answered progress x).stack) (sym is)
-      (tells_still answered m.disk.now (at_walk state streams faults answered progress m).stack (at_walk state streams faults answered progress m).stack refl)
+      subst (λ (x : OnDisk D W). TellsOn answered m.disk.now (at_walk state streams faults answered progress m).stack None x.disk.now
+      (at_walk state streams faults answered progress x).stack) (sym is)
+      (tells_still answered m.disk.now (at_walk state streams faults answered progress m).stack
+      (at_walk state streams faults answered progress m).stack refl)
 
   module _ {F : Type 0} {accepts : Mut F (Bor DirEntry × Unit {0}) Bool} where
     pub tells_filters : {s t : OnDisk D W} {f h : F} {item : Option Item} → FiltersOn accepts s f item t h
-        → TellsOn answered s.disk.now (at_walk state streams faults answered progress s).stack item t.disk.now (at_walk state streams faults answered progress t).stack
+        → TellsOn answered s.disk.now (at_walk state streams faults answered progress s).stack item t.disk.now
+        (at_walk state streams faults answered progress t).stack
     tells_filters (Ends step) = step.5
     tells_filters (Errs step) = step.5
     tells_filters (Accepts step called) = step.5
     tells_filters {s} {t} {item = item} (Rejects m n g entry step called after rest) =
         let at = λ (x : OnDisk D W). (at_walk state streams faults answered progress x).stack in
         tells_then answered s.disk.now m.disk.now t.disk.now (at s) (at m) (at t) (Some (Ok entry)) item step.5
-        (tells_then answered m.disk.now n.disk.now t.disk.now (at m) (at n) (at t) None item (tells_after (at_walk state streams faults answered progress m).entered m n after) (tells_filters rest))
+        (tells_then answered m.disk.now n.disk.now t.disk.now (at m) (at n) (at t) None item
+        (tells_after (at_walk state streams faults answered progress m).entered m n after) (tells_filters rest))
 
-  pub tells_along : {F : Type 0} (accepts : Mut F (Bor DirEntry × Unit {0}) Bool) (s : FilterEntry (OnDisk D W) F) (items : List Item) (t : FilterEntry (OnDisk D W) F)
+  pub tells_along : {F : Type 0} (accepts : Mut F (Bor DirEntry × Unit {0}) Bool) (s : FilterEntry (OnDisk D W) F) (items : List Item)
+      (t : FilterEntry (OnDisk D W) F)
       → Yields (FilteredOn state streams faults answered progress accepts) s items t
-      → Leads answered s.walk.disk.now t.walk.disk.now × ((first : D) → IsStackTold answered first s.walk.disk.now (at_walk state streams faults answered progress s.walk).stack
-      → IsStackTold answered first t.walk.disk.now (at_walk state streams faults answered progress t.walk).stack × AreTold answered first t.walk.disk.now items)
+      → Leads answered s.walk.disk.now t.walk.disk.now
+      × ((first : D) → IsStackTold answered first s.walk.disk.now (at_walk state streams faults answered progress s.walk).stack
+      → IsStackTold answered first t.walk.disk.now (at_walk state streams faults answered progress t.walk).stack
+      × AreTold answered first t.walk.disk.now items)
   tells_along accepts s [] t is =
       subst (λ (x : FilterEntry (OnDisk D W) _). Leads answered s.walk.disk.now x.walk.disk.now
       × ((first : D) → IsStackTold answered first s.walk.disk.now (at_walk state streams faults answered progress s.walk).stack
@@ -131,7 +148,9 @@ module _ {D W : Type 0} (state : D → Option State) (streams : D → Streams) (
       )
 
   -- the same after many items
-  pub kept_along : {F : Type 0} (accepts : Mut F (Bor DirEntry × Unit {0}) Bool) (s : FilterEntry (OnDisk D W) F) (items : List Item) (t : FilterEntry (OnDisk D W) F)
+  pub kept_along : {F : Type 0} (accepts : Mut F (Bor DirEntry × Unit {0}) Bool) (s : FilterEntry (OnDisk D W) F) (items : List Item)
+      (t : FilterEntry (OnDisk D W) F)
       → Yields (λ from item to. FiltersOn accepts from.walk from.predicate item to.walk to.predicate) s items t → Kept s.walk t.walk
   kept_along accepts s [] t is = subst (λ x. Kept s.walk x.walk) is (kept_first s.walk)
-  kept_along accepts s (item ∷ items) t along = kept_then s.walk along.0.walk t.walk (kept_filters along.1) (kept_along accepts along.0 items t along.2)
+  kept_along accepts s (item ∷ items) t along =
+      kept_then s.walk along.0.walk t.walk (kept_filters along.1) (kept_along accepts along.0 items t along.2)

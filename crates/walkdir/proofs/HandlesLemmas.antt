@@ -37,7 +37,8 @@ not_lost error some lost = let no : true ≡ false = sym (ap is_no_memory lost) 
 -- ---- what a call tells
 
 -- an error in place of one thing is the error in place of another
-pub passed_on : {A B : Type 0} (depth : ℕ) (path : Path) (error : Error) (told : Result A Error) (more : Result B Error) → (told ≡ Err error → more ≡ Err error)
+pub passed_on : {A B : Type 0} (depth : ℕ) (path : Path) (error : Error) (told : Result A Error) (more : Result B Error)
+    → (told ≡ Err error → more ≡ Err error)
     → Tells depth path (Err error) told → Tells depth path (Err error) more
 passed_on depth path error told more pass (inl lost) = inl lost
 passed_on depth path error told more pass (inr (inl failed)) = inr (inl failed)
@@ -49,7 +50,9 @@ told_is depth path meta (Err refusal) is = absurd cc
 
 -- ---- streams that stay
 
-pub keeps_alike : (old mid : Progress) → mid.options ≡ old.options → mid.stack ≡ old.stack → mid.streams ≡ old.streams → (before : Streams) → Keeps before old → Keeps before mid
+pub keeps_alike : (old mid : Progress) → mid.options ≡ old.options → mid.stack ≡ old.stack → mid.streams ≡ old.streams → (before : Streams)
+    → Keeps before old → Keeps before mid
 keeps_alike old mid options stack streams before keeps =
     subst (λ (o : Options). Owns before o.max_open (own_streams mid.stack) mid.streams) (sym options)
-    (subst (λ s. Owns before old.options.max_open (own_streams s) mid.streams) (sym stack) (subst (λ s. Owns before old.options.max_open (own_streams old.stack) s) (sym streams) keeps))
+    (subst (λ s. Owns before old.options.max_open (own_streams s) mid.streams) (sym stack)
+    (subst (λ s. Owns before old.options.max_open (own_streams old.stack) s) (sym streams) keeps))

@@ -11,7 +11,8 @@ pub held_closed : (old : Items) (item : Option Item) (new : Items) → TakesHeld
 held_closed old None new takes = takes.1.no_stream
 held_closed old (Some item) new takes = takes.1
 
-pub held_rest_at : (path : Path) (depth : ℕ) (old : Items) (item : Option Item) (new : Items) → TakesHeld old item new → AreAt path depth (held old) → AreAt path depth (held new)
+pub held_rest_at : (path : Path) (depth : ℕ) (old : Items) (item : Option Item) (new : Items) → TakesHeld old item new → AreAt path depth (held old)
+    → AreAt path depth (held new)
 held_rest_at path depth old None new takes all = subst (AreAt path depth) (sym takes.1.nothing) tt
 held_rest_at path depth old (Some item) new takes all = let both : AreAt path depth (item ∷ held new) = subst (AreAt path depth) takes.0 all in both.1
 
@@ -19,7 +20,8 @@ held_rest_at path depth old (Some item) new takes all = let both : AreAt path de
 pub held_item_at : (path : Path) (depth : ℕ) (old : Items) (item : Option Item) (new : Items) → TakesHeld old item new → AreAt path depth (held old)
     → IfSome item (λ i. (is_skipped new ≡ false) × IsAt path depth i)
 held_item_at path depth old None new takes all = tt
-held_item_at path depth old (Some item) new takes all = let both : AreAt path depth (item ∷ held new) = subst (AreAt path depth) takes.0 all in (takes.3, both.0)
+held_item_at path depth old (Some item) new takes all =
+    let both : AreAt path depth (item ∷ held new) = subst (AreAt path depth) takes.0 all in (takes.3, both.0)
 
 -- a closed list stays one
 pub held_skips : (old : Items) (item : Option Item) (new : Items) → TakesHeld old item new → is_skipped new ≡ is_skipped old
@@ -30,7 +32,8 @@ pub held_none : (old : Items) (item : Option Item) (new : Items) → TakesHeld o
 held_none old None new takes is = takes.1.nothing
 held_none old (Some item) new takes is = let no : item ∷ held new ≡ [] = sym takes.0 ∙ is in cc
 
-pub held_fails : (old : Items) (item : Option Item) (new : Items) → TakesHeld old item new → failures_given item + failures_left new ≤ failures_left old
+pub held_fails : (old : Items) (item : Option Item) (new : Items) → TakesHeld old item new
+    → failures_given item + failures_left new ≤ failures_left old
 held_fails old None new takes = let none : failures_left new ≡ 0 = failures_held new ∙ ap failures_among takes.1.nothing in omega arith
 held_fails old (Some item) new takes =
     let was : failures_left old ≡ failures_of item + failures_among (held new) = failures_held old ∙ ap failures_among takes.0 in
@@ -42,6 +45,7 @@ held_few old None new takes = let none : length (held new) ≡ 0 = ap length tak
 held_few old (Some item) new takes = let was : length (held old) ≡ suc (length (held new)) = ap length takes.0 in omega arith
 
 -- something follows where one was taken
-pub if_taken : (old : Items) (item : Option Item) (new : Items) (X : Type 0) → TakesHeld old item new → ((first : Item) → held old ≡ first ∷ held new → X) → IfSome item (λ _. X)
+pub if_taken : (old : Items) (item : Option Item) (new : Items) (X : Type 0) → TakesHeld old item new → ((first : Item) → held old ≡ first ∷ held new
+    → X) → IfSome item (λ _. X)
 if_taken old None new X takes then_so = tt
 if_taken old (Some item) new X takes then_so = then_so item takes.0

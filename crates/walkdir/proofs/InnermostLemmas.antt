@@ -56,15 +56,18 @@ pub beside_as : (path at : Path) (depth own : ℕ) (stack : List DirList) → at
 beside_as path at depth own stack same_path same_depth beside =
     subst (λ n. IsBeside at n stack) (sym same_depth) (subst (λ (p : Path). IsBeside p depth stack) (sym same_path) beside)
 
-entry_error_in : (options : Options) (path : Path) (depth own : ℕ) (inner : ErrorInner) (stack : List DirList) → IsOfEntryIn path depth own inner → IsBeside path depth stack
+entry_error_in : (options : Options) (path : Path) (depth own : ℕ) (inner : ErrorInner) (stack : List DirList) → IsOfEntryIn path depth own inner
+    → IsBeside path depth stack
     → is_head_skipped stack ≡ false → may_look options depth ≡ true → IsAfterErrorIn options own inner stack
 entry_error_in options path depth own (Io (Some at) error) stack is beside unskipped looks =
     (unskipped, inr (beside_as path at depth own stack is.0 is.1 beside, ap (may_look options) is.1 ∙ looks))
 entry_error_in options path depth own (Io None error) stack is beside unskipped looks = absurd is
-entry_error_in options path depth own (Loop ancestor child) stack is beside unskipped looks = (beside_as path child depth own stack is.0 is.1 beside, unskipped)
+entry_error_in options path depth own (Loop ancestor child) stack is beside unskipped looks =
+    (beside_as path child depth own stack is.0 is.1 beside, unskipped)
 entry_error_in options path depth own NoMemory stack is beside unskipped looks = tt
 
-pub after_entry_error : (options : Options) (path : Path) (depth : ℕ) (error : Error) (stack : List DirList) → IsOfEntry path depth error → depth ≡ length stack → LiesIn path stack
+pub after_entry_error : (options : Options) (path : Path) (depth : ℕ) (error : Error) (stack : List DirList) → IsOfEntry path depth error
+    → depth ≡ length stack → LiesIn path stack
     → is_head_skipped stack ≡ false → may_look options depth ≡ true → IsAfterError options error stack
 after_entry_error options path depth error stack is long parent unskipped looks =
     entry_error_in options path depth error.depth error.inner stack is (record { long = sym long; parent = parent }) unskipped looks
@@ -86,15 +89,18 @@ lies_nowhere path stack empty = subst (λ (s : List DirList). LiesIn path s) (sy
 pub open_nowhere : (stack : List DirList) → stack ≡ [] → is_head_skipped stack ≡ false
 open_nowhere stack empty = ap is_head_skipped empty
 
-pub after_root_error : (options : Options) (root : Path) (error : Error) (stack : List DirList) → stack ≡ [] → IsOnPath root 0 error → IsAfterError options error stack
+pub after_root_error : (options : Options) (root : Path) (error : Error) (stack : List DirList) → stack ≡ [] → IsOnPath root 0 error
+    → IsAfterError options error stack
 after_root_error options root error stack empty is =
-    after_entry_error options root 0 error stack (on_entry root 0 error is) (sym (ap length empty)) (lies_nowhere root stack empty) (open_nowhere stack empty) (root_looked options)
+    after_entry_error options root 0 error stack (on_entry root 0 error is) (sym (ap length empty)) (lies_nowhere root stack empty)
+    (open_nowhere stack empty) (root_looked options)
 
 -- ---- an error of the innermost directory
 
 head_error_in : (options : Options) (own : ℕ) (inner : ErrorInner) (list : DirList) (outer : List DirList) → is_skipped list.items ≡ false
     → IsOfDirectory list.path (length outer + 1) own inner → IsAfterErrorIn options own inner (list ∷ outer)
-head_error_in options own (Io (Some at) error) list outer unskipped is = let own_depth : own ≡ length outer = omega arith in (unskipped, inl (own_depth, sym is.0))
+head_error_in options own (Io (Some at) error) list outer unskipped is =
+    let own_depth : own ≡ length outer = omega arith in (unskipped, inl (own_depth, sym is.0))
 head_error_in options own (Io None error) list outer unskipped is = (is.0, unskipped)
 head_error_in options own (Loop ancestor child) list outer unskipped is = absurd is
 head_error_in options own NoMemory list outer unskipped is = tt
@@ -103,7 +109,8 @@ pub after_head_error : (options : Options) (error : Error) (stack : List DirList
 after_head_error options error [] from = absurd from
 after_head_error options error (list ∷ outer) from = head_error_in options error.depth error.inner list outer from.0 from.1
 
-lost_in : (options : Options) (own : ℕ) (inner : ErrorInner) (stack : List DirList) → is_no_memory_inner inner ≡ true → IsAfterErrorIn options own inner stack
+lost_in : (options : Options) (own : ℕ) (inner : ErrorInner) (stack : List DirList) → is_no_memory_inner inner ≡ true
+    → IsAfterErrorIn options own inner stack
 lost_in options own (Io path error) stack is = absurd cc
 lost_in options own (Loop ancestor child) stack is = absurd cc
 lost_in options own NoMemory stack is = tt
@@ -133,7 +140,8 @@ pub from_open : (stack : List DirList) (item : Item) → IsFromHead stack item �
 from_open [] item from = absurd from
 from_open (list ∷ outer) item from = from.0
 
-pub from_top : (stack : List DirList) (list : DirList) (outer : List DirList) (index : ℕ) (item : Option Item) → stack ≡ list ∷ outer → length outer ≡ index
+pub from_top : (stack : List DirList) (list : DirList) (outer : List DirList) (index : ℕ) (item : Option Item) → stack ≡ list ∷ outer
+    → length outer ≡ index
     → IfSome item (λ i. (is_skipped list.items ≡ false) × IsAt list.path (index + 1) i) → IfSome item (λ i. IsFromHead stack i)
 from_top stack list outer index None is at from = tt
 from_top stack list outer index (Some item) is at from =
@@ -142,34 +150,45 @@ from_top stack list outer index (Some item) is at from =
 -- ---- an entry
 
 -- one that wasn't entered
-pub after_shown : (b : Bool) (options : Options) (entry : DirEntry) (given : Option DirEntry) (stack : List DirList) → given ≡ given_if b entry → entry.depth ≡ length stack
+pub after_shown : (b : Bool) (options : Options) (entry : DirEntry) (given : Option DirEntry) (stack : List DirList) → given ≡ given_if b entry
+    → entry.depth ≡ length stack
     → LiesIn entry.path stack → is_head_skipped stack ≡ false → IsAfter options (handed (Ok given)) stack
 after_shown true options entry given stack is long parent unskipped =
-    subst (λ (g : Option DirEntry). IsAfter options (handed (Ok g)) stack) (sym is) (inr (record { beside = record { long = sym long; parent = parent }; unskipped = λ _. unskipped }))
-after_shown false options entry given stack is long parent unskipped = subst (λ (g : Option DirEntry). IsAfter options (handed (Ok g)) stack) (sym is) tt
+    subst (λ (g : Option DirEntry). IsAfter options (handed (Ok g)) stack) (sym is)
+    (inr (record { beside = record { long = sym long; parent = parent }; unskipped = λ _. unskipped }))
+after_shown false options entry given stack is long parent unskipped =
+    subst (λ (g : Option DirEntry). IsAfter options (handed (Ok g)) stack) (sym is) tt
 
-pub head_pushed : (stack : List DirList) (list : DirList) (outer : List DirList) (depth : ℕ) → stack ≡ list ∷ outer → depth ≡ length outer → is_skipped list.items ≡ false
+pub head_pushed : (stack : List DirList) (list : DirList) (outer : List DirList) (depth : ℕ) → stack ≡ list ∷ outer → depth ≡ length outer
+    → is_skipped list.items ≡ false
     → IsHead list.path depth stack × (is_head_skipped stack ≡ false)
 head_pushed stack list outer depth is deep unskipped =
     subst (λ (s : List DirList). IsHead list.path depth s × (is_head_skipped s ≡ false)) (sym is) ((deep, refl), unskipped)
 
 -- one that was
-pub after_entered : (b : Bool) (options : Options) (entry : DirEntry) (given : Option DirEntry) (stack : List DirList) → given ≡ given_if b entry → IsHead entry.path entry.depth stack
-    → is_head_skipped stack ≡ false → (is_dir entry || is_root_link entry) ≡ true → (options.contents_first && is_dir entry) ≡ false → IsAfter options (handed (Ok given)) stack
+pub after_entered : (b : Bool) (options : Options) (entry : DirEntry) (given : Option DirEntry) (stack : List DirList) → given ≡ given_if b entry
+    → IsHead entry.path entry.depth stack
+    → is_head_skipped stack ≡ false → (is_dir entry || is_root_link entry) ≡ true → (options.contents_first && is_dir entry) ≡ false
+    → IsAfter options (handed (Ok given)) stack
 after_entered true options entry given stack is head unskipped kind first =
-    subst (λ (g : Option DirEntry). IsAfter options (handed (Ok g)) stack) (sym is) (inl (record { head = head; unskipped = unskipped; kind = kind; first = first }))
-after_entered false options entry given stack is head unskipped kind first = subst (λ (g : Option DirEntry). IsAfter options (handed (Ok g)) stack) (sym is) tt
+    subst (λ (g : Option DirEntry). IsAfter options (handed (Ok g)) stack) (sym is)
+    (inl (record { head = head; unskipped = unskipped; kind = kind; first = first }))
+after_entered false options entry given stack is head unskipped kind first =
+    subst (λ (g : Option DirEntry). IsAfter options (handed (Ok g)) stack) (sym is) tt
 
 -- a directory behind its contents
-pub after_left : (options : Options) (given : Option DirEntry) (stack : List DirList) → IfSome given (λ e. e.depth ≡ length stack) → IfSome given (λ e. (is_dir e ≡ true) × LiesIn e.path stack)
+pub after_left : (options : Options) (given : Option DirEntry) (stack : List DirList) → IfSome given (λ e. e.depth ≡ length stack)
+    → IfSome given (λ e. (is_dir e ≡ true) × LiesIn e.path stack)
     → IfSome given (λ _. options.contents_first ≡ true) → IsAfter options (item_of (turn_given given)) stack
 after_left options None stack long own first = tt
 after_left options (Some entry) stack long own first = inr (record {
   beside = record { long = sym long; parent = own.1 };
-  unskipped = λ before. absurd (let no : (options.contents_first && is_dir entry) ≡ true = ap (λ b. b && is_dir entry) first ∙ own.0 in let wrong : true ≡ false = sym no ∙ before in cc);
+  unskipped = λ before. absurd (let no : (options.contents_first && is_dir entry) ≡ true = ap (λ b. b && is_dir entry) first ∙ own.0 in
+      let wrong : true ≡ false = sym no ∙ before in cc);
 })
 
-pub after_turn : (options : Options) (r : Result (Option DirEntry) Error) (stack : List DirList) → IsAfter options (handed r) stack → IsAfter options (item_of (turn_of r)) stack
+pub after_turn : (options : Options) (r : Result (Option DirEntry) Error) (stack : List DirList) → IsAfter options (handed r) stack
+    → IsAfter options (item_of (turn_of r)) stack
 after_turn options r stack after = subst (λ (i : Option Item). IsAfter options i stack) (sym (item_turn r)) after
 
 -- ---- what is entered

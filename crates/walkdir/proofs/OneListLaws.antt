@@ -31,34 +31,43 @@ shown_by : (given : Bool) (entry : DirEntry) → failures_among (cond given (Ok 
 shown_by true entry = refl
 shown_by false entry = refl
 
-around_by : (after : Bool) (own contents : List Item) → failures_among own ≡ 0 → failures_among (cond after (contents ++ own) (own ++ contents)) ≡ failures_among contents
+around_by : (after : Bool) (own contents : List Item) → failures_among own ≡ 0 → failures_among (cond after (contents ++ own) (own ++ contents))
+    ≡ failures_among contents
 around_by true own contents still = let parts = failures-append contents own in omega arith
 around_by false own contents still = let parts = failures-append own contents in omega arith
 
 -- an entry of its own is no failure
-around_failures : (options : Options) (entry : DirEntry) (contents : List Item) → failures_among (around options entry contents) ≡ failures_among contents
-around_failures options entry contents = around_by (comes_after options entry) (shown options entry) contents (shown_by (is_given options entry.depth) entry)
+around_failures : (options : Options) (entry : DirEntry) (contents : List Item) → failures_among (around options entry contents)
+    ≡ failures_among contents
+around_failures options entry contents =
+    around_by (comes_after options entry) (shown options entry) contents (shown_by (is_given options entry.depth) entry)
 
 -- ---- the children of a directory
 
 -- a stream without failures gives all entries
-all_streamed : {depth : ℕ} {entries : List DirEntry} {given : List Item} → IsStreamed depth entries given → failures_among given ≡ 0 → given ≡ map Ok entries
+all_streamed : {depth : ℕ} {entries : List DirEntry} {given : List Item} → IsStreamed depth entries given → failures_among given ≡ 0
+    → given ≡ map Ok entries
 all_streamed Ended sound = refl
 all_streamed Broken sound = absurd (omega arith)
-all_streamed (Next {entry = entry} {items = items} more) sound = ap (λ rest. Ok entry ∷ rest) (all_streamed more (rest_sound (Ok entry ∷ items) (Ok entry ∷ []) items refl sound))
+all_streamed (Next {entry = entry} {items = items} more) sound =
+    ap (λ rest. Ok entry ∷ rest) (all_streamed more (rest_sound (Ok entry ∷ items) (Ok entry ∷ []) items refl sound))
 
-same_failures : (order : Option (DirEntry → DirEntry → Ordering)) (given children : List Item) → AreChildren order given children → failures_among children ≡ failures_among given
+same_failures : (order : Option (DirEntry → DirEntry → Ordering)) (given children : List Item) → AreChildren order given children
+    → failures_among children ≡ failures_among given
 same_failures None given children are = ap failures_among are
 same_failures (Some order) given children are = ordered_failures order given children are
 
-in_order_once : (order : Option (DirEntry → DirEntry → Ordering)) → IfSome order IsTotalOrder → (given children others : List Item) → AreChildren order given children → AreChildren order given others → children ≡ others
+in_order_once : (order : Option (DirEntry → DirEntry → Ordering)) → IfSome order IsTotalOrder → (given children others : List Item)
+    → AreChildren order given children → AreChildren order given others → children ≡ others
 in_order_once None total given children others first second = first ∙ sym second
 in_order_once (Some order) total given children others first second =
     first.is ∙ ap (λ entries. filter_map error_in given ++ map Ok entries)
-    (stable_once order total (filter_map result_ok given) first.entries second.entries first.sorted.rises first.sorted.stable second.sorted.rises second.sorted.stable)
+    (stable_once order total (filter_map result_ok given) first.entries second.entries first.sorted.rises first.sorted.stable second.sorted.rises
+    second.sorted.stable)
     ∙ sym second.is
 
-children_once : (walk : Walking) → IfSome walk.order IsTotalOrder → (directory : DirEntry) (entries : List Entry) (children others : List Item) → ChildrenOf walk directory entries children
+children_once : (walk : Walking) → IfSome walk.order IsTotalOrder → (directory : DirEntry) (entries : List Entry) (children others : List Item)
+    → ChildrenOf walk directory entries children
     → ChildrenOf walk directory entries others → failures_among children ≡ 0 → failures_among others ≡ 0 → children ≡ others
 children_once walk total directory entries children others first second sound still =
     let all = map (child_of directory.path (directory.depth + 1)) entries in
@@ -67,16 +76,19 @@ children_once walk total directory entries children others first second sound st
     in_order_once walk.order total first.given children others first.are (subst (λ g. AreChildren walk.order g others) (other ∙ sym given) second.are)
 
 -- the failures among children are failures of their walks
-children_sound : (walk : Walking) {above : List Ancestor} {children items : List Item} → WalksOf walk above children items → failures_among items ≡ 0 → failures_among children ≡ 0
+children_sound : (walk : Walking) {above : List Ancestor} {children items : List Item} → WalksOf walk above children items → failures_among items ≡ 0
+    → failures_among children ≡ 0
 children_sound walk Nothing sound = refl
 children_sound walk (Lost walks) sound = let rest = children_sound walk walks (omega arith) in omega arith
-children_sound walk (Child {items = items} first others walked walks is) sound = let rest = children_sound walk walks (rest_sound items first others is sound) in omega arith
+children_sound walk (Child {items = items} first others walked walks is) sound =
+    let rest = children_sound walk walks (rest_sound items first others is sound) in omega arith
 
 -- ---- one list
 
 module _ (walk : Walking) (total : IfSome walk.order IsTotalOrder) where
   mutual
-    walk_once : {above : List Ancestor} {entry : DirEntry} {items others : List Item} → WalkOf walk above entry items → WalkOf walk above entry others → failures_among items ≡ 0
+    walk_once : {above : List Ancestor} {entry : DirEntry} {items others : List Item} → WalkOf walk above entry items → WalkOf walk above entry others
+        → failures_among items ≡ 0
         → failures_among others ≡ 0 → items ≡ others
     walk_once (Failed looks) second sound still = absurd (omega arith)
     walk_once (Wrong {error = error} is) second sound still = sym (as_wrong walk error is second still)
@@ -88,7 +100,8 @@ module _ (walk : Walking) (total : IfSome walk.order IsTotalOrder) where
         let other_sound = sym (around_failures walk.options taken other.contents) ∙ sym (ap failures_among other.is) ∙ still in
         all ∙ ap (around walk.options taken) (contents_once inside other.inside first_sound other_sound) ∙ sym other.is
 
-    contents_once : {above : List Ancestor} {directory : DirEntry} {items others : List Item} → ContentsOf walk above directory items → ContentsOf walk above directory others
+    contents_once : {above : List Ancestor} {directory : DirEntry} {items others : List Item} → ContentsOf walk above directory items
+        → ContentsOf walk above directory others
         → failures_among items ≡ 0 → failures_among others ≡ 0 → items ≡ others
     contents_once (Deepest deep) second sound still = sym (as_deepest walk deep second)
     contents_once {directory = directory} (Unopened error below refused) second sound still =
@@ -97,20 +110,25 @@ module _ (walk : Walking) (total : IfSome walk.order IsTotalOrder) where
     contents_once {above} {directory} {items} {others} (Opened entries children below told are walks) second sound still =
         let other = as_opened walk directory entries below told second still in
         let same : children ≡ other.children =
-        children_once walk total directory entries children other.children are other.are (children_sound walk walks sound) (children_sound walk other.walks still) in
+        children_once walk total directory entries children other.children are other.are (children_sound walk walks sound)
+        (children_sound walk other.walks still) in
         walks_once walks (subst (λ c. WalksOf walk above c others) (sym same) other.walks) sound still
 
-    walks_once : {above : List Ancestor} {children items others : List Item} → WalksOf walk above children items → WalksOf walk above children others → failures_among items ≡ 0
+    walks_once : {above : List Ancestor} {children items others : List Item} → WalksOf walk above children items → WalksOf walk above children others
+        → failures_among items ≡ 0
         → failures_among others ≡ 0 → items ≡ others
     walks_once Nothing second sound still = sym (as_nothing walk refl second)
     walks_once {others = others} (Lost {error = error} {children = children} {items = items} walks) second sound still =
         let other = as_lost walk error children refl second in
-        let same = walks_once walks other.walks (rest_sound (Err error ∷ items) (Err error ∷ []) items refl sound) (rest_sound others (Err error ∷ []) other.others other.is still) in
+        let same = walks_once walks other.walks (rest_sound (Err error ∷ items) (Err error ∷ []) items refl sound)
+        (rest_sound others (Err error ∷ []) other.others other.is still) in
         ap (λ rest. Err error ∷ rest) same ∙ sym other.is
     walks_once {items = items} {others = others} (Child {entry = entry} {children = children} first rest walked walks all) second sound still =
         let other = as_child walk entry children refl second in
-        let same_first : first ≡ other.first = walk_once walked other.walked (front_sound items first rest all sound) (front_sound others other.first other.others other.is still) in
-        let same_rest : rest ≡ other.others = walks_once walks other.walks (rest_sound items first rest all sound) (rest_sound others other.first other.others other.is still) in
+        let same_first : first ≡ other.first = walk_once walked other.walked (front_sound items first rest all sound)
+        (front_sound others other.first other.others other.is still) in
+        let same_rest : rest ≡ other.others = walks_once walks other.walks (rest_sound items first rest all sound)
+        (rest_sound others other.first other.others other.is still) in
         all ∙ ap (λ f. f ++ rest) same_first ∙ ap (λ r. other.first ++ r) same_rest ∙ sym other.is
 
 pub gives_one_list : (walk : Walking) → GivesOneList walk

@@ -5,7 +5,8 @@ use lib.Seq.{append_snoc}
 use Rattle.walkdir.specs.Walk.{Item}
 use Rattle.walkdir.specs.declared.dent.DirEntry.{DirEntry}
 
-module _ {Y : Type 0} (f : Item → Option Y) (all : List Item) (done : List Y) (rest more : List Item) (child : Item) (so_far : filter_map f all ≡ done ++ filter_map f rest) (is : rest ≡ child ∷ more) where
+module _ {Y : Type 0} (f : Item → Option Y) (all : List Item) (done : List Y) (rest more : List Item) (child : Item)
+    (so_far : filter_map f all ≡ done ++ filter_map f rest) (is : rest ≡ child ∷ more) where
   pub one_found : (y : Y) (new : List Y) → f child ≡ Some y → new ≡ done ++ y ∷ [] → filter_map f all ≡ new ++ filter_map f more
   one_found y new found push =
       so_far ∙ ap (λ r. done ++ filter_map f r) is ∙ ap (λ o. done ++ cons_option o (filter_map f more)) found
@@ -14,10 +15,12 @@ module _ {Y : Type 0} (f : Item → Option Y) (all : List Item) (done : List Y) 
   pub one_passed : f child ≡ None → filter_map f all ≡ done ++ filter_map f more
   one_passed passed = so_far ∙ ap (λ r. done ++ filter_map f r) is ∙ ap (λ o. done ++ cons_option o (filter_map f more)) passed
 
-pub all_found : {Y : Type 0} (f : Item → Option Y) (all : List Item) (done : List Y) (rest : List Item) → filter_map f all ≡ done ++ filter_map f rest → rest ≡ [] → filter_map f all ≡ done
+pub all_found : {Y : Type 0} (f : Item → Option Y) (all : List Item) (done : List Y) (rest : List Item) → filter_map f all ≡ done ++ filter_map f rest
+    → rest ≡ [] → filter_map f all ≡ done
 all_found f all done rest so_far none = so_far ∙ ap (λ r. done ++ filter_map f r) none ∙ append-nil done
 
-pub one_behind : (all old new : List Item) (rest more : List DirEntry) (entry : DirEntry) → old ++ map Ok rest ≡ all → rest ≡ entry ∷ more → new ≡ old ++ Ok entry ∷ [] → new ++ map Ok more ≡ all
+pub one_behind : (all old new : List Item) (rest more : List DirEntry) (entry : DirEntry) → old ++ map Ok rest ≡ all → rest ≡ entry ∷ more
+    → new ≡ old ++ Ok entry ∷ [] → new ++ map Ok more ≡ all
 one_behind all old new rest more entry so_far is push =
     ap (λ n. n ++ map Ok more) push ∙ append_snoc old (Ok entry) (map Ok more) ∙ ap (λ r. old ++ map Ok r) (sym is) ∙ so_far
 

@@ -56,16 +56,19 @@ remove_new m d es free = alike _ _ (λ q.
 
 pub remove_again : (m : OpenDirs) (d : ℕ) (es : List Entry) → finite.remove (finite.insert m d es) d ≡ finite.remove m d
 remove_again m d es = alike _ _ (λ q.
-    at_remove (finite.insert m d es) d q ∙ ap (cond (tied q d) None) (at_insert m d es q) ∙ hidden (tied q d) (finite.get m q) ∙ sym (at_remove m d q))
+    at_remove (finite.insert m d es) d q ∙ ap (cond (tied q d) None) (at_insert m d es q) ∙ hidden (tied q d) (finite.get m q)
+    ∙ sym (at_remove m d q))
   where
     hidden : (b : Bool) (o : Option (List Entry)) → cond b None (cond b (Some es) o) ≡ cond b None o
     hidden true o = refl
     hidden false o = refl
 
-remove_other : (m : OpenDirs) (h d : ℕ) (es : List Entry) → tied d h ≡ false → finite.remove (finite.insert m d es) h ≡ finite.insert (finite.remove m h) d es
+remove_other : (m : OpenDirs) (h d : ℕ) (es : List Entry) → tied d h ≡ false → finite.remove (finite.insert m d es) h
+    ≡ finite.insert (finite.remove m h) d es
 remove_other m h d es apart = alike _ _ (λ q.
     at_remove (finite.insert m d es) h q ∙ ap (cond (tied q h) None) (at_insert m d es q)
-    ∙ elim (tied q d) as (λ b. tied q d ≡ b → cond (tied q h) None (cond b (Some es) (finite.get m q)) ≡ cond b (Some es) (cond (tied q h) None (finite.get m q))) [
+    ∙ elim (tied q d) as (λ b. tied q d ≡ b → cond (tied q h) None (cond b (Some es) (finite.get m q))
+    ≡ cond b (Some es) (cond (tied q h) None (finite.get m q))) [
       | true ↦ λ t. ap (λ b. cond b None (Some es)) (ap (λ n. tied n h) (same_number q d t) ∙ apart)
       | false ↦ λ _. refl
     ] refl
@@ -73,7 +76,8 @@ remove_other m h d es apart = alike _ _ (λ q.
 
 pub insert_again : (m : OpenDirs) (d : ℕ) (es fs : List Entry) → finite.insert (finite.insert m d es) d fs ≡ finite.insert m d fs
 insert_again m d es fs = alike _ _ (λ q.
-    at_insert (finite.insert m d es) d fs q ∙ ap (cond (tied q d) (Some fs)) (at_insert m d es q) ∙ hidden (tied q d) (finite.get m q) ∙ sym (at_insert m d fs q))
+    at_insert (finite.insert m d es) d fs q ∙ ap (cond (tied q d) (Some fs)) (at_insert m d es q) ∙ hidden (tied q d) (finite.get m q)
+    ∙ sym (at_insert m d fs q))
   where
     hidden : (b : Bool) (o : Option (List Entry)) → cond b (Some fs) (cond b (Some es) o) ≡ cond b (Some fs) o
     hidden true o = refl
@@ -98,17 +102,20 @@ open_before m h d opened =
 still_open : (m : OpenDirs) (h d : ℕ) → tied h d ≡ false → finite.contains_key m h ≡ true → finite.contains_key (finite.remove m d) h ≡ true
 still_open m h d apart opened = ap is_some (at_remove m d h ∙ ap (λ b. cond b None (finite.get m h)) apart) ∙ opened
 
-kept_open : (m : OpenDirs) (h d : ℕ) (es : List Entry) → tied h d ≡ false → finite.contains_key m h ≡ true → finite.contains_key (finite.insert m d es) h ≡ true
+kept_open : (m : OpenDirs) (h d : ℕ) (es : List Entry) → tied h d ≡ false → finite.contains_key m h ≡ true
+    → finite.contains_key (finite.insert m d es) h ≡ true
 kept_open m h d es apart opened = ap is_some (at_insert m d es h ∙ ap (λ b. cond b (Some es) (finite.get m h)) apart) ∙ opened
 
 -- ---- streams beside others
 
-pub own_is_open : (others : OpenDirs) (inner : List ℕ) (d : ℕ) (outer : List ℕ) (now : OpenDirs) → AreBeside others (inner ++ d ∷ outer) now → finite.contains_key now d ≡ true
+pub own_is_open : (others : OpenDirs) (inner : List ℕ) (d : ℕ) (outer : List ℕ) (now : OpenDirs) → AreBeside others (inner ++ d ∷ outer) now
+    → finite.contains_key now d ≡ true
 unfolding AreBeside
 own_is_open others [] d outer now beside = beside.0
 own_is_open others (h ∷ inner) d outer now beside = open_before now h d (own_is_open others inner d outer (finite.remove now h) beside.1)
 
-apart_from : (others : OpenDirs) (h : ℕ) (inner : List ℕ) (d : ℕ) (outer : List ℕ) (now : OpenDirs) → AreBeside others (inner ++ d ∷ outer) (finite.remove now h) → tied d h ≡ false
+apart_from : (others : OpenDirs) (h : ℕ) (inner : List ℕ) (d : ℕ) (outer : List ℕ) (now : OpenDirs) → AreBeside others (inner ++ d ∷ outer)
+    (finite.remove now h) → tied d h ≡ false
 apart_from others h inner d outer now beside = open_apart now h d (own_is_open others inner d outer (finite.remove now h) beside)
 
 -- one of its own is closed
@@ -117,25 +124,32 @@ pub one_closed : (others : OpenDirs) (inner : List ℕ) (d : ℕ) (outer : List 
 unfolding AreBeside
 one_closed others [] d outer now beside = beside.1
 one_closed others (h ∷ inner) d outer now beside =
-    let apart : tied h d ≡ false = turned d h (apart_from others h inner d outer now beside.1) in
-    (still_open now h d apart beside.0, subst (AreBeside others (inner ++ outer)) (remove_remove now h d) (one_closed others inner d outer (finite.remove now h) beside.1))
+    let apart : tied h d ≡ false = turned d h (apart_from others h inner d outer now beside.1) in (
+      still_open now h d apart beside.0,
+      subst (AreBeside others (inner ++ outer)) (remove_remove now h d)
+          (one_closed others inner d outer (finite.remove now h) beside.1),
+    )
 
 -- one of its own gives less
-pub one_drawn : (others : OpenDirs) (inner : List ℕ) (d : ℕ) (outer : List ℕ) (now : OpenDirs) (es : List Entry) → AreBeside others (inner ++ d ∷ outer) now
+pub one_drawn : (others : OpenDirs) (inner : List ℕ) (d : ℕ) (outer : List ℕ) (now : OpenDirs) (es : List Entry)
+    → AreBeside others (inner ++ d ∷ outer) now
     → AreBeside others (inner ++ d ∷ outer) (finite.insert now d es)
 unfolding AreBeside
-one_drawn others [] d outer now es beside = (ap is_some (has_inserted now d es), subst (AreBeside others outer) (sym (remove_again now d es)) beside.1)
+one_drawn others [] d outer now es beside =
+    (ap is_some (has_inserted now d es), subst (AreBeside others outer) (sym (remove_again now d es)) beside.1)
 one_drawn others (h ∷ inner) d outer now es beside =
     let apart : tied d h ≡ false = apart_from others h inner d outer now beside.1 in (
       kept_open now h d es (turned d h apart) beside.0,
-      subst (AreBeside others (inner ++ d ∷ outer)) (sym (remove_other now h d es apart)) (one_drawn others inner d outer (finite.remove now h) es beside.1),
+      subst (AreBeside others (inner ++ d ∷ outer)) (sym (remove_other now h d es apart))
+          (one_drawn others inner d outer (finite.remove now h) es beside.1),
     )
 
 -- one more is opened
 pub one_opened : (others : OpenDirs) (own : List ℕ) (d : ℕ) (now : OpenDirs) (es : List Entry) → finite.get now d ≡ None → AreBeside others own now
     → AreBeside others (d ∷ own) (finite.insert now d es)
 unfolding AreBeside
-one_opened others own d now es free beside = (ap is_some (has_inserted now d es), subst (AreBeside others own) (sym (remove_new now d es free)) beside)
+one_opened others own d now es free beside =
+    (ap is_some (has_inserted now d es), subst (AreBeside others own) (sym (remove_new now d es free)) beside)
 
 -- how many are open
 some_open : (m : OpenDirs) (d n : ℕ) → finite.len m ≡ n → finite.contains_key m d ≡ true → 1 ≤ finite.len m
@@ -150,7 +164,8 @@ unfolding AreBeside
 count_open others [] now beside = let e : finite.len now ≡ finite.len others = ap finite.len beside in omega arith
 count_open others (d ∷ own) now beside =
     let less : finite.len (finite.remove now d) ≡ finite.len others + length own = count_open others own (finite.remove now d) beside.1 in
-    let one : finite.len (finite.remove now d) ≡ finite.len now - 1 = len-remove nat_cmp_total now d ∙ ap (λ b. cond b (finite.len now - 1) (finite.len now)) beside.0 in
+    let one : finite.len (finite.remove now d) ≡ finite.len now - 1 = len-remove nat_cmp_total now d
+    ∙ ap (λ b. cond b (finite.len now - 1) (finite.len now)) beside.0 in
     let some : 1 ≤ finite.len now = some_open now d (finite.len now) refl beside.0 in
     omega arith
 
@@ -164,7 +179,8 @@ owns_closed before most inner d outer now owns few = record {
   peak = owns.peak;
 }
 
-pub owns_drawn : (before : Streams) (most : ℕ) (inner : List ℕ) (d : ℕ) (outer : List ℕ) (now : Streams) (es : List Entry) → Owns before most (inner ++ d ∷ outer) now
+pub owns_drawn : (before : Streams) (most : ℕ) (inner : List ℕ) (d : ℕ) (outer : List ℕ) (now : Streams) (es : List Entry)
+    → Owns before most (inner ++ d ∷ outer) now
     → Owns before most (inner ++ d ∷ outer) (record now { open_dirs = finite.insert now.open_dirs d es })
 owns_drawn before most inner d outer now es owns = record {
   beside = one_drawn before.open_dirs inner d outer now.open_dirs es owns.beside;
@@ -180,8 +196,10 @@ peak_within before most own now peak owns room more =
     let was : now.peak ≤ max before.peak (open_count before + most) = owns.peak in
     omega arith
 
-pub owns_opened : (before : Streams) (most : ℕ) (own : List ℕ) (d : ℕ) (now new : Streams) (es : List Entry) → Owns before most own now → length own + 1 ≤ most
-    → finite.get now.open_dirs d ≡ None → new.open_dirs ≡ finite.insert now.open_dirs d es → new.peak ≤ max now.peak (open_count now + 1) → Owns before most (d ∷ own) new
+pub owns_opened : (before : Streams) (most : ℕ) (own : List ℕ) (d : ℕ) (now new : Streams) (es : List Entry) → Owns before most own now
+    → length own + 1 ≤ most
+    → finite.get now.open_dirs d ≡ None → new.open_dirs ≡ finite.insert now.open_dirs d es → new.peak ≤ max now.peak (open_count now + 1)
+    → Owns before most (d ∷ own) new
 owns_opened before most own d now new es owns room free is more = record {
   beside = subst (AreBeside before.open_dirs (d ∷ own)) (sym is) (one_opened before.open_dirs own d now.open_dirs es free owns.beside);
   few = omega (arith, add-one (length own));

@@ -61,9 +61,11 @@ pub has_streams : (before : Streams) (at : Progress) → Keeps before at → has
 unfolding has_its_streams
 has_streams before at keeps =
     joined (nat_le (length (own_streams at.stack)) at.options.max_open) (are_apart (own_streams at.stack) at.streams.open_dirs)
-    (true_le (length (own_streams at.stack)) at.options.max_open keeps.few) (beside_apart before.open_dirs (own_streams at.stack) at.streams.open_dirs keeps.beside)
+    (true_le (length (own_streams at.stack)) at.options.max_open keeps.few)
+    (beside_apart before.open_dirs (own_streams at.stack) at.streams.open_dirs keeps.beside)
 
-pub still_has_streams : (old new : Progress) → has_its_streams old ≡ true → ((before : Streams) → Keeps before old → Keeps before new) → has_its_streams new ≡ true
+pub still_has_streams : (old new : Progress) → has_its_streams old ≡ true → ((before : Streams) → Keeps before old → Keeps before new)
+    → has_its_streams new ≡ true
 still_has_streams old new own keeps = let begun = begun_with old own in has_streams begun.0 new (keeps begun.0 begun.1)
 
 -- ---- weights
@@ -75,7 +77,8 @@ weight-less most depth less =
     ap (λ n. many ^ n) e ∙ pow-suc many (most - (depth + 1))
 
 -- a child that is taken outweighs the directory that it may be
-pub outweighs : (most depth old mid new : ℕ) → depth < most → mid + weight most depth ≤ old → new ≤ mid + fresh most (depth + 1) → 1 ≤ weight most (depth + 1) → new < old
+pub outweighs : (most depth old mid new : ℕ) → depth < most → mid + weight most depth ≤ old → new ≤ mid + fresh most (depth + 1)
+    → 1 ≤ weight most (depth + 1) → new < old
 outweighs most depth old mid new less taken put some = let e = weight-less most depth less in omega arith
 
 -- ---- turns
@@ -95,14 +98,18 @@ item_turn (Ok (Some entry)) = refl
 item_turn (Err error) = refl
 
 -- a child that is taken from a directory, and then handled, leaves less to do
-pub handled_less : (old mid new : Progress) (index deep before now : ℕ) → old.start ≡ None → new.start ≡ None → mid.options ≡ old.options → new.options ≡ mid.options → index < old.options.max_depth
+pub handled_less : (old mid new : Progress) (index deep before now : ℕ) → old.start ≡ None → new.start ≡ None → mid.options ≡ old.options
+    → new.options ≡ mid.options → index < old.options.max_depth
     → deep ≡ index + 1 → TakesWork old mid index
-    → work_in new.options.max_depth new.streams new.stack ≤ work_in mid.options.max_depth mid.streams mid.stack + fresh mid.options.max_depth deep → work_left new < work_left old
+    → work_in new.options.max_depth new.streams new.stack ≤ work_in mid.options.max_depth mid.streams mid.stack + fresh mid.options.max_depth deep
+    → work_left new < work_left old
 handled_less old mid new index deep before now first last same also within at takes put =
     let was = work_started old first in
     let is = work_started new last in
-    let e : fresh mid.options.max_depth deep ≡ fresh old.options.max_depth (index + 1) = ap (λ o. fresh o.max_depth deep) same ∙ ap (fresh old.options.max_depth) at in
-    let less = outweighs old.options.max_depth index (work_in old.options.max_depth old.streams old.stack) (work_in mid.options.max_depth mid.streams mid.stack) (work_in new.options.max_depth new.streams new.stack)
+    let e : fresh mid.options.max_depth deep ≡ fresh old.options.max_depth (index + 1) = ap (λ o. fresh o.max_depth deep) same
+    ∙ ap (fresh old.options.max_depth) at in
+    let less = outweighs old.options.max_depth index (work_in old.options.max_depth old.streams old.stack)
+    (work_in mid.options.max_depth mid.streams mid.stack) (work_in new.options.max_depth new.streams new.stack)
     within takes (omega arith) (weight_some old.options.max_depth (index + 1)) in
     omega arith
 
@@ -122,7 +129,8 @@ left_less old mid new first last less put =
 
 -- the root leaves less to do
 pub begun_less : (old mid new : Progress) (root : Path) → old.start ≡ Some root → new.start ≡ None → mid.options ≡ old.options → mid.stack ≡ []
-    → work_in new.options.max_depth new.streams new.stack ≤ work_in mid.options.max_depth mid.streams mid.stack + fresh mid.options.max_depth 0 → work_left new < work_left old
+    → work_in new.options.max_depth new.streams new.stack ≤ work_in mid.options.max_depth mid.streams mid.stack + fresh mid.options.max_depth 0
+    → work_left new < work_left old
 unfolding work_left work_in
 begun_less old mid new root first last same empty put =
     let was : work_left old ≡ many * weight old.options.max_depth 0 = ap (work_of old) first in
@@ -139,6 +147,8 @@ and_false : (a b : Bool) → b ≡ false → (a && b) ≡ false
 and_false true b is = is
 and_false false b is = refl
 
-pub not_innermost : (lists : List DirList) (entry : Option DirEntry) → IfSome entry (λ e. e.depth ≡ length lists) → is_innermost (reverse lists) (item_of (turn_given entry)) ≡ false
+pub not_innermost : (lists : List DirList) (entry : Option DirEntry) → IfSome entry (λ e. e.depth ≡ length lists) → is_innermost (reverse lists)
+    (item_of (turn_given entry)) ≡ false
 not_innermost lists None at = refl
-not_innermost lists (Some entry) at = and_false (is_dir entry) (entry.depth + 1 == length (reverse lists)) (apart entry.depth (length (reverse lists)) (at ∙ sym (length-reverse lists)))
+not_innermost lists (Some entry) at = and_false (is_dir entry) (entry.depth + 1 == length (reverse lists))
+    (apart entry.depth (length (reverse lists)) (at ∙ sym (length-reverse lists)))

@@ -28,7 +28,8 @@ use Rattle.walkdir.proofs.OwnStreamsLemmas.{has_inserted, insert_again, remove_a
 
 -- ---- looks
 
-pub tells_refused : {A : Type 0} (depth : ℕ) (path : Path) (refusal : DiskError) (error : Error) (told : Result A Refusal) → Answers (Err refusal) told
+pub tells_refused : {A : Type 0} (depth : ℕ) (path : Path) (refusal : DiskError) (error : Error) (told : Result A Refusal)
+    → Answers (Err refusal) told
     → IsFromPath depth path refusal error → Tells depth path (Err error) (told_at depth path told)
 tells_refused depth path refusals.Absent error told answer (inl is) = inr (inr (ap (told_at depth path) answer ∙ ap Err (sym is)))
 tells_refused depth path refusals.Absent error told answer (inr lost) = inl lost
@@ -45,24 +46,31 @@ tells_refused depth path refusals.NoMemory error told answer from = inl from
 no_cost : (error other : Error) (before now : ℕ) → error ≡ other → failures other ≡ 0 → before ≤ now → Costs (failures error) before now
 no_cost error other before now is none later = subst (λ n. Costs n before now) (sym (ap failures is ∙ none)) (costs_none before now later)
 
-pub costs_refused : {A : Type 0} (depth : ℕ) (path : Path) (refusal : DiskError) (error : Error) (before now : ℕ) → FailsOnlyByFault {A = A} before now (Err refusal)
+pub costs_refused : {A : Type 0} (depth : ℕ) (path : Path) (refusal : DiskError) (error : Error) (before now : ℕ)
+    → FailsOnlyByFault {A = A} before now (Err refusal)
     → IsFromPath depth path refusal error → Costs (failures error) before now
-costs_refused depth path refusals.Absent error before now cause (inl is) = no_cost error (io_error depth path refusals.Absent) before now is refl cause.later
+costs_refused depth path refusals.Absent error before now cause (inl is) =
+    no_cost error (io_error depth path refusals.Absent) before now is refl cause.later
 costs_refused depth path refusals.Absent error before now cause (inr lost) = no_cost error no_memory before now lost refl cause.later
-costs_refused depth path refusals.WrongKind error before now cause (inl is) = no_cost error (io_error depth path refusals.WrongKind) before now is refl cause.later
+costs_refused depth path refusals.WrongKind error before now cause (inl is) =
+    no_cost error (io_error depth path refusals.WrongKind) before now is refl cause.later
 costs_refused depth path refusals.WrongKind error before now cause (inr lost) = no_cost error no_memory before now lost refl cause.later
-costs_refused depth path refusals.LinkLoop error before now cause (inl is) = no_cost error (io_error depth path refusals.LinkLoop) before now is refl cause.later
+costs_refused depth path refusals.LinkLoop error before now cause (inl is) =
+    no_cost error (io_error depth path refusals.LinkLoop) before now is refl cause.later
 costs_refused depth path refusals.LinkLoop error before now cause (inr lost) = no_cost error no_memory before now lost refl cause.later
-costs_refused depth path refusals.Exists error before now cause (inl is) = no_cost error (io_error depth path refusals.Exists) before now is refl cause.later
+costs_refused depth path refusals.Exists error before now cause (inl is) =
+    no_cost error (io_error depth path refusals.Exists) before now is refl cause.later
 costs_refused depth path refusals.Exists error before now cause (inr lost) = no_cost error no_memory before now lost refl cause.later
-costs_refused depth path refusals.NotEmpty error before now cause (inl is) = no_cost error (io_error depth path refusals.NotEmpty) before now is refl cause.later
+costs_refused depth path refusals.NotEmpty error before now cause (inl is) =
+    no_cost error (io_error depth path refusals.NotEmpty) before now is refl cause.later
 costs_refused depth path refusals.NotEmpty error before now cause (inr lost) = no_cost error no_memory before now lost refl cause.later
 costs_refused depth path refusals.Failed error before now cause (inl is) =
     subst (λ n. Costs n before now) (sym (ap failures is)) (record { later = cause.later; rose = cause.failed refl })
 costs_refused depth path refusals.Failed error before now cause (inr lost) = no_cost error no_memory before now lost refl cause.later
 costs_refused depth path refusals.NoMemory error before now cause from = no_cost error no_memory before now from refl cause.later
 
-pub told_found : (state : Option State) (depth : ℕ) (path : Path) (follow : Bool) (meta : Meta) → IfSome state (λ s. Answers (Ok meta) (looked (tree_of s) path follow))
+pub told_found : (state : Option State) (depth : ℕ) (path : Path) (follow : Bool) (meta : Meta)
+    → IfSome state (λ s. Answers (Ok meta) (looked (tree_of s) path follow))
     → IfSome state (λ s. Tells depth path (Ok meta) (told_at depth path (looked (tree_of s) path follow)))
 told_found None depth path follow meta answer = tt
 told_found (Some s) depth path follow meta answer = ap (told_at depth path) answer
@@ -71,7 +79,8 @@ pub told_refused : (state : Option State) (depth : ℕ) (path : Path) (follow : 
     → IfSome state (λ s. Answers {A = Meta} (Err refusal) (looked (tree_of s) path follow)) → IsFromPath depth path refusal error
     → IfSome state (λ s. Tells {A = Meta} depth path (Err error) (told_at depth path (looked (tree_of s) path follow)))
 told_refused None depth path follow refusal error answer from = tt
-told_refused (Some s) depth path follow refusal error answer from = tells_refused depth path refusal error (looked (tree_of s) path follow) answer from
+told_refused (Some s) depth path follow refusal error answer from =
+    tells_refused depth path refusal error (looked (tree_of s) path follow) answer from
 
 -- ---- streams
 
@@ -95,15 +104,19 @@ draws_broken depth path old new dir refusals.NotEmpty gives = absurd gives
 draws_broken depth path old new dir refusals.Failed gives = (inr (inl refl), inl gives)
 draws_broken depth path old new dir refusals.NoMemory gives = (inl refl, inl gives)
 
-still_left : (streams : Streams) (dir : ℕ) (entries : List Entry) → finite.get streams.open_dirs dir ≡ Some entries → left_of streams dir ≡ length entries
+still_left : (streams : Streams) (dir : ℕ) (entries : List Entry) → finite.get streams.open_dirs dir ≡ Some entries
+    → left_of streams dir ≡ length entries
 still_left streams dir entries is = ap (λ (o : Option (List Entry)). unwrap_or (option_map length o) 0) is
 
-pub draws_first : (depth : ℕ) (path : Path) (old new : Streams) (dir : ℕ) (entry : Entry) (child : DirEntry) → GivesFirst old new dir entry → child ≡ child_of path depth entry
+pub draws_first : (depth : ℕ) (path : Path) (old new : Streams) (dir : ℕ) (entry : Entry) (child : DirEntry) → GivesFirst old new dir entry
+    → child ≡ child_of path depth entry
     → Draws depth path old dir (Some (Ok child)) new
-draws_first depth path old new dir entry child gives is = record { entry = entry; rest = gives.rest; gave = gives.first; child_is = is; streams = gives.left }
+draws_first depth path old new dir entry child gives is =
+    record { entry = entry; rest = gives.rest; gave = gives.first; child_is = is; streams = gives.left }
 
 -- the child could not be made: the entry is gone
-pub draws_lost : (depth : ℕ) (path : Path) (old new : Streams) (dir : ℕ) (entry : Entry) (error : Error) → GivesFirst old new dir entry → error ≡ no_memory
+pub draws_lost : (depth : ℕ) (path : Path) (old new : Streams) (dir : ℕ) (entry : Entry) (error : Error) → GivesFirst old new dir entry
+    → error ≡ no_memory
     → Draws depth path old dir (Some (Err error)) new
 draws_lost depth path old new dir entry error gives lost =
     let left : left_of old dir ≡ suc (length gives.rest) = still_left old dir (entry ∷ gives.rest) gives.first in
@@ -130,7 +143,8 @@ entry_left depth path old dir child new draws =
     let is : left_of new dir ≡ length draws.rest = ap (λ (s : Streams). left_of s dir) draws.streams ∙ with_left old dir draws.rest in
     omega arith
 
-entry_drawn : (old : Streams) (dir : ℕ) (entry : Entry) (rest : List Entry) (new : Streams) → finite.get old.open_dirs dir ≡ Some (entry ∷ rest) → new ≡ with_stream old dir rest
+entry_drawn : (old : Streams) (dir : ℕ) (entry : Entry) (rest : List Entry) (new : Streams) → finite.get old.open_dirs dir ≡ Some (entry ∷ rest)
+    → new ≡ with_stream old dir rest
     → IsDrawn old dir new
 entry_drawn old dir entry rest new gave is =
     let left : left_of old dir ≡ suc (length rest) = still_left old dir (entry ∷ rest) gave in
@@ -149,17 +163,21 @@ drawn_on old dir mid new (inr drawn) (inr more) =
       more.0,
       drawn.1,
       few,
-      more.3 ∙ ap (λ (s : Streams). with_stream s dir more.0) drawn.3 ∙ ap (λ (m : OpenDirs). record old { open_dirs = m }) (insert_again old.open_dirs dir drawn.0 more.0),
+      more.3 ∙ ap (λ (s : Streams). with_stream s dir more.0) drawn.3 ∙ ap (λ (m : OpenDirs). record old { open_dirs = m })
+          (insert_again old.open_dirs dir drawn.0 more.0),
     )
 
-pub draws_drawn : (depth : ℕ) (path : Path) (old : Streams) (dir : ℕ) (child : DirEntry) (new : Streams) → DrawsEntry depth path old dir child new → IsDrawn old dir new
+pub draws_drawn : (depth : ℕ) (path : Path) (old : Streams) (dir : ℕ) (child : DirEntry) (new : Streams) → DrawsEntry depth path old dir child new
+    → IsDrawn old dir new
 draws_drawn depth path old dir child new draws = entry_drawn old dir draws.entry draws.rest new draws.gave draws.streams
 
-pub child_at : (depth : ℕ) (path : Path) (old : Streams) (dir : ℕ) (child : DirEntry) (new : Streams) → DrawsEntry depth path old dir child new → IsAt path depth (Ok child)
+pub child_at : (depth : ℕ) (path : Path) (old : Streams) (dir : ℕ) (child : DirEntry) (new : Streams) → DrawsEntry depth path old dir child new
+    → IsAt path depth (Ok child)
 child_at depth path old dir child new draws =
     (ap (λ (entry : DirEntry). entry.depth) draws.child_is, (draws.entry.name, ap (λ (entry : DirEntry). entry.path) draws.child_is))
 
-pub at-push : (path : Path) (depth : ℕ) (items : List Item) (item : Item) → AreAt path depth items → IsAt path depth item → AreAt path depth (items ++ item ∷ [])
+pub at-push : (path : Path) (depth : ℕ) (items : List Item) (item : Item) → AreAt path depth items → IsAt path depth item
+    → AreAt path depth (items ++ item ∷ [])
 at-push path depth [] item all last = (last, tt)
 at-push path depth (first ∷ items) item all last = (all.0, at-push path depth items item all.1 last)
 
@@ -191,25 +209,32 @@ opens_one state path old new dir opens =
 pub opens_bounded : (state : Option State) (path : Path) (old new : Streams) (dir : ℕ) → Opens state path old new dir → left_of new dir + 1 ≤ 2 ^ 64
 opens_bounded state path old new dir opens =
     let is : left_of new dir ≡ length opens.entries =
-    still_left new dir opens.entries (ap (λ (s : Streams). finite.get s.open_dirs dir) opens.streams ∙ has_inserted old.open_dirs dir opens.entries) in
+    still_left new dir opens.entries (ap (λ (s : Streams). finite.get s.open_dirs dir) opens.streams
+    ∙ has_inserted old.open_dirs dir opens.entries) in
     let few : length opens.entries < 2 ^ 64 = opens.few in
     omega arith
 
 -- it was read and closed again
-pub opens_closed : (state : Option State) (path : Path) (old mid new : Streams) (dir : ℕ) → Opens state path old mid dir → new.open_dirs ≡ finite.remove mid.open_dirs dir
+pub opens_closed : (state : Option State) (path : Path) (old mid new : Streams) (dir : ℕ) → Opens state path old mid dir
+    → new.open_dirs ≡ finite.remove mid.open_dirs dir
     → new.peak ≡ mid.peak → OpensAtMost old None new
 opens_closed state path old mid new dir opens closed same =
     let one = opens_one state path old mid dir opens in
     let le : mid.peak ≤ max old.peak (open_count old + 1) = one.peak in
-    record { dirs = closed ∙ ap (λ (m : OpenDirs). finite.remove m dir) one.dirs.3 ∙ remove_new old.open_dirs dir one.dirs.0 one.dirs.1; peak = omega arith }
+    record {
+      dirs = closed ∙ ap (λ (m : OpenDirs). finite.remove m dir) one.dirs.3 ∙ remove_new old.open_dirs dir one.dirs.0 one.dirs.1;
+      peak = omega arith;
+    }
 
 -- ---- whatever a stream gives
 
-pub draws_moved : (depth : ℕ) (path : Path) (old : Streams) (dir : ℕ) (item : Option Item) (new : Streams) → Draws depth path old dir item new → IsDrawn old dir new
+pub draws_moved : (depth : ℕ) (path : Path) (old : Streams) (dir : ℕ) (item : Option Item) (new : Streams) → Draws depth path old dir item new
+    → IsDrawn old dir new
 draws_moved depth path old dir None new draws = inl draws.1
 draws_moved depth path old dir (Some (Ok child)) new draws = draws_drawn depth path old dir child new draws
 draws_moved depth path old dir (Some (Err error)) new draws = draws.1
 
-pub drawn_removed : (old : Streams) (dir : ℕ) (mid : Streams) → IsDrawn old dir mid → finite.remove mid.open_dirs dir ≡ finite.remove old.open_dirs dir
+pub drawn_removed : (old : Streams) (dir : ℕ) (mid : Streams) → IsDrawn old dir mid
+    → finite.remove mid.open_dirs dir ≡ finite.remove old.open_dirs dir
 drawn_removed old dir mid (inl same) = ap (λ (s : Streams). finite.remove s.open_dirs dir) same
 drawn_removed old dir mid (inr drawn) = ap (λ (s : Streams). finite.remove s.open_dirs dir) drawn.3 ∙ remove_again old.open_dirs dir drawn.0

@@ -28,7 +28,8 @@ use Rattle.walkdir.specs.declared.iter.OnDisk.{OnDisk}
 abbrev pub opening : {T : Type 0} → Built T → ℕ → Built T
 opening built most = record built { options = record built.options { max_open = most } }
 
-total_where_sorted : {T : Type 0} (order : T → Order) → ((sorter : T) → IsTotalOrder (order sorter)) → (sorter : Option T) → IfSome (option_map order sorter) IsTotalOrder
+total_where_sorted : {T : Type 0} (order : T → Order) → ((sorter : T) → IsTotalOrder (order sorter)) → (sorter : Option T)
+    → IfSome (option_map order sorter) IsTotalOrder
 total_where_sorted order total None = tt
 total_where_sorted order total (Some sorter) = total sorter
 
@@ -45,15 +46,19 @@ entries_all [] = refl
 entries_all (entry ∷ entries) = ap (λ rest. entry ∷ rest) (entries_all entries)
 
 -- Where a walk gives entries alone, no other entries are those of it, however many directories may be open.
-pub only_entries : {T : Type 0} (order : T → Order) → ((sorter : T) → IsTotalOrder (order sorter)) → (tree : Tree) (built : Built T) (entries : List DirEntry)
-    → IsWalk (walking order tree built) (map Ok entries) → (most : ℕ) (others : List DirEntry) → IsWalk (with_most (walking order tree built) most) (map Ok others) → others ≡ entries
+pub only_entries : {T : Type 0} (order : T → Order) → ((sorter : T) → IsTotalOrder (order sorter)) → (tree : Tree) (built : Built T)
+    (entries : List DirEntry)
+    → IsWalk (walking order tree built) (map Ok entries) → (most : ℕ) (others : List DirEntry) → IsWalk (with_most (walking order tree built) most)
+    (map Ok others) → others ≡ entries
 only_entries order total tree built entries first most others second =
     let walk = walking order tree built in
     let same : map Ok others ≡ map Ok entries =
-    walk_is_one walk (total_where_sorted order total built.sorter) most most (map Ok others) (map Ok entries) second (same_walk walk most (map Ok entries) first) (entries_sound others) (entries_sound entries) in
+    walk_is_one walk (total_where_sorted order total built.sorter) most most (map Ok others)
+    (map Ok entries) second (same_walk walk most (map Ok entries) first) (entries_sound others) (entries_sound entries) in
     sym (entries_all others) ∙ ap entries_among same ∙ entries_all entries
 
-module _ {D W : Type 0} (state : D → Option State) (streams : D → Streams) (faults : D → ℕ) (answered : D → DiskAsk → DiskAnswer → D → Type 0) (progress : W → Streams → Progress) where
+module _ {D W : Type 0} (state : D → Option State) (streams : D → Streams) (faults : D → ℕ) (answered : D → DiskAsk → DiskAnswer → D → Type 0)
+    (progress : W → Streams → Progress) where
   -- a walk that was run to its end gave these items, none of them want of memory
   pub record Gave {T : Type 0} (order : T → Order) (built : Built T) (told : State) (items : List Item) : Type 0 where
     pub before : Streams
@@ -66,32 +71,41 @@ module _ {D W : Type 0} (state : D → Option State) (streams : D → Streams) (
     pub ends : NextOn state streams faults answered progress last None over
     pub kept : NoneLost items
 
-  gave_walk : {T : Type 0} (order : T → Order) (built : Built T) (most : ℕ) (told : State) (items : List Item) → Gave order (opening built most) told items
+  gave_walk : {T : Type 0} (order : T → Order) (built : Built T) (most : ℕ) (told : State) (items : List Item)
+      → Gave order (opening built most) told items
       → IsWalk (with_most (walking order (tree_of told) built) most) items
   unfolding with_most
   gave_walk order built most told items gave =
-      whole_on_disk state streams faults answered progress order (opening built most) gave.before told gave.first items gave.last gave.over gave.begins gave.tells gave.along gave.ends gave.kept
+      whole_on_disk state streams faults answered progress order (opening built most) gave.before told gave.first items gave.last gave.over
+      gave.begins gave.tells gave.along gave.ends gave.kept
 
   -- Two such runs gave the same items, where none of these is a failure of the disk.
-  pub same_items : {T : Type 0} (order : T → Order) → ((sorter : T) → IsTotalOrder (order sorter)) → (built : Built T) (most other : ℕ) (told : State) (items others : List Item)
-      → Gave order (opening built most) told items → Gave order (opening built other) told others → failures_among items ≡ 0 → failures_among others ≡ 0 → items ≡ others
+  pub same_items : {T : Type 0} (order : T → Order) → ((sorter : T) → IsTotalOrder (order sorter)) → (built : Built T) (most other : ℕ) (told : State)
+      (items others : List Item)
+      → Gave order (opening built most) told items → Gave order (opening built other) told others → failures_among items ≡ 0
+      → failures_among others ≡ 0 → items ≡ others
   same_items order total built most other told items others first second sound still =
-      walk_is_one (walking order (tree_of told) built) (total_where_sorted order total built.sorter) most other items others (gave_walk order built most told items first)
+      walk_is_one (walking order (tree_of told) built) (total_where_sorted order total built.sorter) most other items others
+      (gave_walk order built most told items first)
       (gave_walk order built other told others second) sound still
 
   -- the count of faults didn't rise while a walk ran
   abbrev pub HadNoFault : {T : Type 0} (order : T → Order) (built : Built T) (told : State) (items : List Item) → Gave order built told items → Type 0
   HadNoFault order built told items gave = Rose (faults gave.first.disk.now) (faults gave.over.disk.now) → ⊥
 
-  pub gave_no_failure : {T : Type 0} (order : T → Order) (built : Built T) (told : State) (items : List Item) (gave : Gave order built told items) → HadNoFault order built told items gave
+  pub gave_no_failure : {T : Type 0} (order : T → Order) (built : Built T) (told : State) (items : List Item) (gave : Gave order built told items)
+      → HadNoFault order built told items gave
       → failures_among items ≡ 0
   gave_no_failure order built told items gave still =
       none_without_fault (failures_among items) (faults gave.first.disk.now) (faults gave.over.disk.now)
-      (failures_on_disk state streams faults answered progress order built gave.before gave.first items gave.last gave.over gave.begins gave.along gave.ends) still
+      (failures_on_disk state streams faults answered progress order built gave.before gave.first items gave.last gave.over gave.begins gave.along
+      gave.ends) still
 
   -- Two such runs gave the same items, where the disk had no fault in either.
-  pub same_without_faults : {T : Type 0} (order : T → Order) → ((sorter : T) → IsTotalOrder (order sorter)) → (built : Built T) (most other : ℕ) (told : State) (items others : List Item)
-      → (first : Gave order (opening built most) told items) (second : Gave order (opening built other) told others) → HadNoFault order (opening built most) told items first
+  pub same_without_faults : {T : Type 0} (order : T → Order) → ((sorter : T) → IsTotalOrder (order sorter)) → (built : Built T) (most other : ℕ)
+      (told : State) (items others : List Item)
+      → (first : Gave order (opening built most) told items) (second : Gave order (opening built other) told others)
+      → HadNoFault order (opening built most) told items first
       → HadNoFault order (opening built other) told others second → items ≡ others
   same_without_faults order total built most other told items others first second still quiet =
       same_items order total built most other told items others first second (gave_no_failure order (opening built most) told items first still)

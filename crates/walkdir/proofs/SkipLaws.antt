@@ -28,7 +28,8 @@ skipped_none (Opened dir) is = cc
 skipped_none (Closed items) is = refl
 skipped_none Skipped is = refl
 
-skipped_empty : (streams : Streams) (depth : ℕ) (path : Path) (items : Items) (children : List Item) → is_skipped items ≡ true → HasLeft streams depth path items children → children ≡ []
+skipped_empty : (streams : Streams) (depth : ℕ) (path : Path) (items : Items) (children : List Item) → is_skipped items ≡ true
+    → HasLeft streams depth path items children → children ≡ []
 skipped_empty streams depth path (Opened dir) children is left = cc
 skipped_empty streams depth path (Closed items) children is left = cc
 skipped_empty streams depth path Skipped children is left = left
@@ -45,14 +46,16 @@ none_walked walk above (Ok entry ∷ children) here (WalksOf.Child first others 
 
 -- ---- the streams that a skip leaves give what they gave
 
-same_without : (others : OpenDirs) (o : Option ℕ) (own : List ℕ) (now : Streams) → AreBeside others (cons_option o own) now.open_dirs → SameGiven own now (without_stream o now)
+same_without : (others : OpenDirs) (o : Option ℕ) (own : List ℕ) (now : Streams) → AreBeside others (cons_option o own) now.open_dirs
+    → SameGiven own now (without_stream o now)
 same_without others None own now beside = same-all own now
 same_without others (Some dir) own now beside = same-closed own now dir (others_open others [] dir own now.open_dirs beside)
 
 same_if : (b : Bool) (others : OpenDirs) (now : Streams) (list : DirList) (outer : List DirList) → is_skipped list.items ≡ b
     → (AreBeside others (own_streams outer) now.open_dirs → SameGiven (own_streams (skipped outer)) now (without_stream (skipped_stream outer) now))
     → AreBeside others (own_streams (list ∷ outer)) now.open_dirs
-    → SameGiven (own_streams (if b then list ∷ skipped outer else (record list { items = Skipped }) ∷ outer)) now (without_stream (if b then skipped_stream outer else stream_in list.items) now)
+    → SameGiven (own_streams (if b then list ∷ skipped outer else (record list { items = Skipped }) ∷ outer)) now
+    (without_stream (if b then skipped_stream outer else stream_in list.items) now)
 same_if true others now list outer is further beside =
     let none : stream_in list.items ≡ None = skipped_none list.items is in
     subst (λ (o : Option ℕ). SameGiven (cons_option o (own_streams (skipped outer))) now (without_stream (skipped_stream outer) now)) (sym none)
@@ -74,7 +77,8 @@ some_streamed : (depth : ℕ) (entries : List DirEntry) → (items : List Item) 
 some_streamed depth [] = ([], IsStreamed.Ended)
 some_streamed depth (entry ∷ entries) = let more = some_streamed depth entries in (Ok entry ∷ more.0, IsStreamed.Next more.1)
 
-has_left : (streams : Streams) (depth : ℕ) (path : Path) (items : Items) (own : List ℕ) → AllOpen (cons_option (stream_in items) own) streams.open_dirs
+has_left : (streams : Streams) (depth : ℕ) (path : Path) (items : Items) (own : List ℕ)
+    → AllOpen (cons_option (stream_in items) own) streams.open_dirs
     → (children : List Item) × HasLeft streams depth path items children
 unfolding AllOpen
 has_left streams depth path (Opened dir) own opened =
@@ -84,7 +88,8 @@ has_left streams depth path (Opened dir) own opened =
 has_left streams depth path (Closed items) own opened = (items.items, refl)
 has_left streams depth path Skipped own opened = ([], refl)
 
-some_left : (walk : Walking) (streams : Streams) (list : DirList) (outer : List DirList) → AllOpen (own_streams (list ∷ outer)) streams.open_dirs → (items : List Item) × AreLeft walk streams list outer items
+some_left : (walk : Walking) (streams : Streams) (list : DirList) (outer : List DirList) → AllOpen (own_streams (list ∷ outer)) streams.open_dirs
+    → (items : List Item) × AreLeft walk streams list outer items
 some_left walk streams list outer opened =
     let has = has_left streams (length outer + 1) list.path list.items (own_streams outer) opened in
     let more = walks_left walk (ancestors (list ∷ outer)) has.0 in
@@ -96,10 +101,13 @@ joined a b c d = simp append_assoc
 -- ---- from what a skip leaves to what was there before
 
 stood_if : (b : Bool) (walk : Walking) (old new : Streams) (list : DirList) (outer : List DirList) (rest : List Item) → is_skipped list.items ≡ b
-    → ((others : List Item) → SameGiven (own_streams (skipped outer)) old new → StandsFor walk new (skipped outer) others → StoodFor (own_first walk.options outer) (IsDropped walk old outer) (StandsFor walk old outer) others)
-    → AllOpen (own_streams (list ∷ outer)) old.open_dirs → SameGiven (own_streams (if b then list ∷ skipped outer else (record list { items = Skipped }) ∷ outer)) old new
+    → ((others : List Item) → SameGiven (own_streams (skipped outer)) old new → StandsFor walk new (skipped outer) others
+    → StoodFor (own_first walk.options outer) (IsDropped walk old outer) (StandsFor walk old outer) others)
+    → AllOpen (own_streams (list ∷ outer)) old.open_dirs
+    → SameGiven (own_streams (if b then list ∷ skipped outer else (record list { items = Skipped }) ∷ outer)) old new
     → StandsFor walk new (if b then list ∷ skipped outer else (record list { items = Skipped }) ∷ outer) rest
-    → StoodFor (if b then own_entry walk.options list.after ++ own_first walk.options outer else []) (λ dropped. MatchBool b (IsDropped walk old outer dropped) (AreLeft walk old list outer dropped))
+    → StoodFor (if b then own_entry walk.options list.after ++ own_first walk.options outer else [])
+    (λ dropped. MatchBool b (IsDropped walk old outer dropped) (AreLeft walk old list outer dropped))
     (StandsFor walk old (list ∷ outer)) rest
 stood_if true walk old new list outer rest skip further opened same (Within children here others left walks behind is) =
     let own = own_entry walk.options list.after in
@@ -113,7 +121,8 @@ stood_if true walk old new list outer rest skip further opened same (Within chil
       is = is ∙ ap (λ h. h ++ own ++ others) nothing ∙ ap (λ o. own ++ o) more.is ∙ sym (append_assoc own first more.behind);
       some = more.some;
       stood = λ dropped drops.
-          Within [] [] (first ++ dropped ++ more.behind) (skipped_left old (length outer + 1) list.path list.items skip) WalksOf.Nothing (more.stood dropped drops)
+          Within [] [] (first ++ dropped ++ more.behind) (skipped_left old (length outer + 1) list.path list.items skip) WalksOf.Nothing
+          (more.stood dropped drops)
           (joined own first dropped more.behind);
     }
 stood_if false walk old new list outer rest skip further opened same (Within children here others left walks behind is) =
@@ -123,10 +132,12 @@ stood_if false walk old new list outer rest skip further opened same (Within chi
       behind = own ++ others;
       is = is ∙ ap (λ h. h ++ own ++ others) nothing;
       some = some_left walk old list outer opened;
-      stood = λ dropped drops. Within drops.children dropped others drops.left drops.walks (stands_same walk old new outer others same behind) (sym (append_assoc dropped own others));
+      stood = λ dropped drops. Within drops.children dropped others drops.left drops.walks (stands_same walk old new outer others same behind)
+          (sym (append_assoc dropped own others));
     }
 
-stood_skipped : (walk : Walking) (old new : Streams) (stack : List DirList) (rest : List Item) → AllOpen (own_streams stack) old.open_dirs → SameGiven (own_streams (skipped stack)) old new
+stood_skipped : (walk : Walking) (old new : Streams) (stack : List DirList) (rest : List Item) → AllOpen (own_streams stack) old.open_dirs
+    → SameGiven (own_streams (skipped stack)) old new
     → StandsFor walk new (skipped stack) rest → StoodFor (own_first walk.options stack) (IsDropped walk old stack) (StandsFor walk old stack) rest
 stood_skipped walk old new [] rest opened same Nothing = record {
   behind = [];
@@ -136,14 +147,18 @@ stood_skipped walk old new [] rest opened same Nothing = record {
 }
 stood_skipped walk old new (list ∷ outer) rest opened same stands =
     stood_if (is_skipped list.items) walk old new list outer rest refl
-    (λ others among left. stood_skipped walk old new outer others (open_behind (stream_in list.items) (own_streams outer) old.open_dirs opened) among left) opened same stands
+    (λ others among left. stood_skipped walk old new outer others (open_behind (stream_in list.items) (own_streams outer) old.open_dirs opened)
+    among left) opened same stands
 
 -- ---- from what was there before a skip to what it leaves
 
 leaves_if : (b : Bool) (walk : Walking) (old new : Streams) (list : DirList) (outer : List DirList) (items : List Item) → is_skipped list.items ≡ b
-    → ((others : List Item) → SameGiven (own_streams (skipped outer)) new old → StandsFor walk old outer others → LeavesAll (own_first walk.options outer) (IsDropped walk old outer) (StandsFor walk new (skipped outer)) others)
-    → SameGiven (own_streams (if b then list ∷ skipped outer else (record list { items = Skipped }) ∷ outer)) new old → StandsFor walk old (list ∷ outer) items
-    → LeavesAll (if b then own_entry walk.options list.after ++ own_first walk.options outer else []) (λ dropped. MatchBool b (IsDropped walk old outer dropped) (AreLeft walk old list outer dropped))
+    → ((others : List Item) → SameGiven (own_streams (skipped outer)) new old → StandsFor walk old outer others
+    → LeavesAll (own_first walk.options outer) (IsDropped walk old outer) (StandsFor walk new (skipped outer)) others)
+    → SameGiven (own_streams (if b then list ∷ skipped outer else (record list { items = Skipped }) ∷ outer)) new old
+    → StandsFor walk old (list ∷ outer) items
+    → LeavesAll (if b then own_entry walk.options list.after ++ own_first walk.options outer else [])
+    (λ dropped. MatchBool b (IsDropped walk old outer dropped) (AreLeft walk old list outer dropped))
     (StandsFor walk new (if b then list ∷ skipped outer else (record list { items = Skipped }) ∷ outer)) items
 leaves_if true walk old new list outer items skip further same (Within children here others left walks behind is) =
     let own = own_entry walk.options list.after in
@@ -157,7 +172,8 @@ leaves_if true walk old new list outer items skip further same (Within children 
       behind = more.behind;
       is = is ∙ ap (λ h. h ++ own ++ others) nothing ∙ ap (λ o. own ++ o) more.is ∙ sym (joined own first more.dropped more.behind);
       drops = more.drops;
-      stands = Within [] [] (first ++ more.behind) (skipped_left new (length (skipped outer) + 1) list.path list.items skip) WalksOf.Nothing more.stands
+      stands = Within [] [] (first ++ more.behind)
+          (skipped_left new (length (skipped outer) + 1) list.path list.items skip) WalksOf.Nothing more.stands
           (append_assoc own first more.behind);
     }
 leaves_if false walk old new list outer items skip further same (Within children here others left walks behind is) = record {
@@ -168,17 +184,21 @@ leaves_if false walk old new list outer items skip further same (Within children
   stands = Within [] [] others refl WalksOf.Nothing (stands_same walk new old outer others same behind) refl;
 }
 
-leaves_skipped : (walk : Walking) (old new : Streams) (stack : List DirList) (items : List Item) → SameGiven (own_streams (skipped stack)) new old → StandsFor walk old stack items
+leaves_skipped : (walk : Walking) (old new : Streams) (stack : List DirList) (items : List Item) → SameGiven (own_streams (skipped stack)) new old
+    → StandsFor walk old stack items
     → LeavesAll (own_first walk.options stack) (IsDropped walk old stack) (StandsFor walk new (skipped stack)) items
 leaves_skipped walk old new [] items same Nothing = record { dropped = []; behind = []; is = refl; drops = refl; stands = Nothing }
 leaves_skipped walk old new (list ∷ outer) items same stands =
-    leaves_if (is_skipped list.items) walk old new list outer items refl (λ others among left. leaves_skipped walk old new outer others among left) same stands
+    leaves_if (is_skipped list.items) walk old new list outer items refl (λ others among left. leaves_skipped walk old new outer others among left)
+    same stands
 
 -- ---- the laws
 
-same_kept : (before : Streams) (old new : Progress) → Keeps before old → Skips old new → SameGiven (own_streams (skipped old.stack)) old.streams new.streams
+same_kept : (before : Streams) (old new : Progress) → Keeps before old → Skips old new
+    → SameGiven (own_streams (skipped old.stack)) old.streams new.streams
 same_kept before old new keeps skips =
-    subst (λ s. SameGiven (own_streams (skipped old.stack)) old.streams s) (sym skips.streams) (same_skipped before.open_dirs old.streams old.stack keeps.beside)
+    subst (λ s. SameGiven (own_streams (skipped old.stack)) old.streams s) (sym skips.streams)
+    (same_skipped before.open_dirs old.streams old.stack keeps.beside)
 
 pub skip_drops : (walk : Walking) (before : Streams) (old new : Progress) → Keeps before old → Skips old new → SkipDrops walk old new
 skip_drops walk before old new keeps skips = λ rest stands.
@@ -187,5 +207,7 @@ skip_drops walk before old new keeps skips = λ rest stands.
 
 pub skip_leaves : (walk : Walking) (before : Streams) (old new : Progress) → Keeps before old → Skips old new → SkipLeaves walk old new
 skip_leaves walk before old new keeps skips = λ items stands.
-    subst (λ s. LeavesAll (own_first walk.options old.stack) (IsDropped walk old.streams old.stack) (StandsFor walk new.streams s) items) (sym skips.stack)
-    (leaves_skipped walk old.streams new.streams old.stack items (same-sym (own_streams (skipped old.stack)) old.streams new.streams (same_kept before old new keeps skips)) stands)
+    subst (λ s. LeavesAll (own_first walk.options old.stack) (IsDropped walk old.streams old.stack) (StandsFor walk new.streams s) items)
+    (sym skips.stack)
+    (leaves_skipped walk old.streams new.streams old.stack items (same-sym (own_streams (skipped old.stack)) old.streams new.streams
+    (same_kept before old new keeps skips)) stands)

@@ -28,16 +28,19 @@ unfolding IsSkippedAt
 skips_popped list old new was = λ path depth there. subst (λ (s : List DirList). IsSkippedAt path depth s) (sym was) (inr there)
 
 put_skips : (path : Path) (depth : ℕ) (inner : List DirList) (list other : DirList) (outer : List DirList) → other.path ≡ list.path
-    → (is_skipped other.items ≡ true → is_skipped list.items ≡ true) → IsSkippedAt path depth (inner ++ other ∷ outer) → IsSkippedAt path depth (inner ++ list ∷ outer)
+    → (is_skipped other.items ≡ true → is_skipped list.items ≡ true) → IsSkippedAt path depth (inner ++ other ∷ outer)
+    → IsSkippedAt path depth (inner ++ list ∷ outer)
 unfolding IsSkippedAt
 put_skips path depth [] list other outer same less (inl here) = inl (here.0, sym same ∙ here.1, less here.2)
 put_skips path depth [] list other outer same less (inr there) = inr there
 put_skips path depth (first ∷ inner) list other outer same less (inl here) =
-    let long : length (inner ++ other ∷ outer) ≡ length (inner ++ list ∷ outer) = length-append inner (other ∷ outer) ∙ sym (length-append inner (list ∷ outer)) in
+    let long : length (inner ++ other ∷ outer) ≡ length (inner ++ list ∷ outer) = length-append inner (other ∷ outer)
+    ∙ sym (length-append inner (list ∷ outer)) in
     inl (here.0 ∙ long, here.1, here.2)
 put_skips path depth (first ∷ inner) list other outer same less (inr there) = inr (put_skips path depth inner list other outer same less there)
 
-pub skips_put : (old new inner : List DirList) (list other : DirList) (outer : List DirList) → old ≡ inner ++ list ∷ outer → new ≡ inner ++ other ∷ outer → other.path ≡ list.path
+pub skips_put : (old new inner : List DirList) (list other : DirList) (outer : List DirList) → old ≡ inner ++ list ∷ outer
+    → new ≡ inner ++ other ∷ outer → other.path ≡ list.path
     → (is_skipped other.items ≡ true → is_skipped list.items ≡ true) → SkipsNone old new
 skips_put old new inner list other outer was is same less = λ path depth there.
     subst (λ (s : List DirList). IsSkippedAt path depth s) (sym was)

@@ -45,16 +45,20 @@ IsChildAt path depth entry = IsAt path depth (Ok entry)
 entries_at : (path : Path) (depth : ℕ) (given : List Item) → AreAt path depth given → All (IsChildAt path depth) (filter_map result_ok given)
 unfolding IsChildAt
 entries_at path depth [] all = All-nil (IsChildAt path depth)
-entries_at path depth (Ok entry ∷ given) all = All-cons (IsChildAt path depth) entry (filter_map result_ok given) all.0 (entries_at path depth given all.1)
+entries_at path depth (Ok entry ∷ given) all =
+    All-cons (IsChildAt path depth) entry (filter_map result_ok given) all.0 (entries_at path depth given all.1)
 entries_at path depth (Err error ∷ given) all = entries_at path depth given all.1
 
 all_at : (path : Path) (depth : ℕ) (entries : List DirEntry) → All (IsChildAt path depth) entries → AreAt path depth (map Ok entries)
 unfolding IsChildAt
 all_at path depth [] all = tt
-all_at path depth (entry ∷ entries) all = (All-head (IsChildAt path depth) entry entries all, all_at path depth entries (All-tail (IsChildAt path depth) entry entries all))
+all_at path depth (entry ∷ entries) all =
+    (All-head (IsChildAt path depth) entry entries all, all_at path depth entries (All-tail (IsChildAt path depth) entry entries all))
 
-pub ordered_at : (path : Path) (depth : ℕ) (order : Order) (given children : List Item) → IsInOrder order given children → AreAt path depth given → AreAt path depth children
+pub ordered_at : (path : Path) (depth : ℕ) (order : Order) (given children : List Item) → IsInOrder order given children → AreAt path depth given
+    → AreAt path depth children
 ordered_at path depth order given children ordered all =
     subst (AreAt path depth) (sym ordered.is)
     (at-append path depth (filter_map error_in given) (map Ok ordered.entries) (errors_at path depth given all)
-    (all_at path depth ordered.entries (All-permutation (IsChildAt path depth) (filter_map result_ok given) ordered.entries ordered.sorted.same (entries_at path depth given all))))
+    (all_at path depth ordered.entries (All-permutation (IsChildAt path depth) (filter_map result_ok given) ordered.entries ordered.sorted.same
+    (entries_at path depth given all))))

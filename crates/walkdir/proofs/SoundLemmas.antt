@@ -52,7 +52,8 @@ directory_of path depth own (Loop ancestor child) is = absurd cc
 directory_of path depth own NoMemory is = tt
 
 of_directory : (path : Path) (depth own : ℕ) (inner : ErrorInner) → IsOfDirectory path depth own inner → is_of_directory path depth own inner ≡ true
-of_directory path depth own (Io (Some at) error) is = joined (same_path at path) (own + 1 == depth) (path_tested at path is.0) (true_eq (own + 1) depth is.1)
+of_directory path depth own (Io (Some at) error) is =
+    joined (same_path at path) (own + 1 == depth) (path_tested at path is.0) (true_eq (own + 1) depth is.1)
 of_directory path depth own (Io None error) is = joined (own == depth) (is_stream_refusal error) (true_eq own depth is.0) is.1
 of_directory path depth own (Loop ancestor child) is = absurd is
 of_directory path depth own NoMemory is = refl
@@ -64,7 +65,8 @@ at_of path depth (Ok entry) is =
 at_of path depth (Err error) is = directory_of path depth error.depth error.inner is
 
 of_at : (path : Path) (depth : ℕ) (item : Item) → IsAt path depth item → is_at path depth item ≡ true
-of_at path depth (Ok entry) is = joined (entry.depth == depth) (is_child path entry.path) (true_eq entry.depth depth is.0) (child_tested path entry.path is.1)
+of_at path depth (Ok entry) is =
+    joined (entry.depth == depth) (is_child path entry.path) (true_eq entry.depth depth is.0) (child_tested path entry.path is.1)
 of_at path depth (Err error) is = of_directory path depth error.depth error.inner is
 
 all_at_of : (path : Path) (depth : ℕ) (items : List Item) → are_at path depth items ≡ true → AreAt path depth items
@@ -77,7 +79,8 @@ all_at_of path depth (item ∷ items) is =
 of_all_at : (path : Path) (depth : ℕ) (items : List Item) → AreAt path depth items → are_at path depth items ≡ true
 unfolding are_at
 of_all_at path depth [] all = refl
-of_all_at path depth (item ∷ items) all = joined (is_at path depth item) (are_at path depth items) (of_at path depth item all.0) (of_all_at path depth items all.1)
+of_all_at path depth (item ∷ items) all =
+    joined (is_at path depth item) (are_at path depth items) (of_at path depth item all.0) (of_all_at path depth items all.1)
 
 after_of : (options : Options) (depth : ℕ) (after : Option DirEntry) → is_after options depth after ≡ true
     → IfSome after (λ entry. (entry.depth ≡ depth) × (is_dir entry ≡ true) × (options.contents_first ≡ true))
@@ -91,7 +94,8 @@ of_after : (options : Options) (depth : ℕ) (after : Option DirEntry)
     → IfSome after (λ entry. (entry.depth ≡ depth) × (is_dir entry ≡ true) × (options.contents_first ≡ true)) → is_after options depth after ≡ true
 of_after options depth None is = refl
 of_after options depth (Some entry) is =
-    joined (entry.depth == depth) (is_dir entry && options.contents_first) (true_eq entry.depth depth is.0) (joined (is_dir entry) options.contents_first is.1 is.2)
+    joined (entry.depth == depth) (is_dir entry && options.contents_first) (true_eq entry.depth depth is.0)
+    (joined (is_dir entry) options.contents_first is.1 is.2)
 
 no_stream : (o : Option ℕ) → not (is_some o) ≡ true → o ≡ None
 no_stream None is = refl
@@ -104,7 +108,8 @@ nothing_of items is =
 
 of_nothing : (items : Items) → HasNothing items → has_nothing items ≡ true
 of_nothing items nothing =
-    joined (not (is_some (stream_in items))) (length (held items) == 0) (ap (λ o. not (is_some o)) nothing.no_stream) (true_eq (length (held items)) 0 (empty_length (held items) nothing.nothing))
+    joined (not (is_some (stream_in items))) (length (held items) == 0) (ap (λ o. not (is_some o)) nothing.no_stream)
+    (true_eq (length (held items)) 0 (empty_length (held items) nothing.nothing))
 
 deepest_of : (most depth : ℕ) (items : Items) → (nat_lt depth most || has_nothing items) ≡ true → most ≤ depth → HasNothing items
 deepest_of most depth items is deep = elim (nat_lt depth most) as (λ b. nat_lt depth most ≡ b → (b || has_nothing items) ≡ true → HasNothing items) [
@@ -120,7 +125,8 @@ of_deepest most depth items deepest = elim (nat_lt depth most) as (λ b. nat_lt 
 
 fit_of : (options : Options) (depth : ℕ) (list : DirList) → fits_at options depth list ≡ true → FitsAt options depth list
 fit_of options depth list is =
-    let after = both (is_after options depth list.after) (are_at list.path (depth + 1) (held list.items) && (nat_lt depth options.max_depth || has_nothing list.items)) is in
+    let after = both (is_after options depth list.after)
+    (are_at list.path (depth + 1) (held list.items) && (nat_lt depth options.max_depth || has_nothing list.items)) is in
     let children = both (are_at list.path (depth + 1) (held list.items)) (nat_lt depth options.max_depth || has_nothing list.items) after.1 in
     record {
       after = after_of options depth list.after after.0;
@@ -130,7 +136,8 @@ fit_of options depth list is =
 
 of_fit : (options : Options) (depth : ℕ) (list : DirList) → FitsAt options depth list → fits_at options depth list ≡ true
 of_fit options depth list fit =
-    joined (is_after options depth list.after) (are_at list.path (depth + 1) (held list.items) && (nat_lt depth options.max_depth || has_nothing list.items))
+    joined (is_after options depth list.after)
+    (are_at list.path (depth + 1) (held list.items) && (nat_lt depth options.max_depth || has_nothing list.items))
     (of_after options depth list.after fit.after)
     (joined (are_at list.path (depth + 1) (held list.items)) (nat_lt depth options.max_depth || has_nothing list.items)
     (of_all_at list.path (depth + 1) (held list.items) fit.children) (of_deepest options.max_depth depth list.items fit.deepest))
@@ -160,11 +167,13 @@ of_begun : (start : Option Path) (lists : List DirList) → IfSome start (λ _. 
 of_begun None lists is = refl
 of_begun (Some root) lists is = true_eq (length lists) 0 (empty_length lists is)
 
-pub sound_of : (options : Options) (start : Option Path) (lists : List DirList) (first_open : ℕ) → 1 ≤ options.max_open → first_open ≤ length lists → length lists ≤ first_open + options.max_open
+pub sound_of : (options : Options) (start : Option Path) (lists : List DirList) (first_open : ℕ) → 1 ≤ options.max_open → first_open ≤ length lists
+    → length lists ≤ first_open + options.max_open
     → is_sound options start lists first_open ≡ true → IsSound options start lists first_open
 unfolding is_sound
 sound_of options start lists first_open some in_range few is =
-    let parts = both (not (is_some start) || (length lists == 0)) ((length (own_streams (take first_open lists)) == 0) && all_fit options (reverse lists)) is in
+    let parts = both (not (is_some start) || (length lists == 0))
+    ((length (own_streams (take first_open lists)) == 0) && all_fit options (reverse lists)) is in
     let more = both (length (own_streams (take first_open lists)) == 0) (all_fit options (reverse lists)) parts.1 in
     record {
       begun = begun_of start lists parts.0;
@@ -175,24 +184,35 @@ sound_of options start lists first_open some in_range few is =
       fits = all_fits_of options (reverse lists) more.1;
     }
 
-pub is_sound_of : (options : Options) (start : Option Path) (lists : List DirList) (first_open : ℕ) → IsSound options start lists first_open → is_sound options start lists first_open ≡ true
+pub is_sound_of : (options : Options) (start : Option Path) (lists : List DirList) (first_open : ℕ) → IsSound options start lists first_open
+    → is_sound options start lists first_open ≡ true
 unfolding is_sound
 is_sound_of options start lists first_open sound =
-    joined (not (is_some start) || (length lists == 0)) ((length (own_streams (take first_open lists)) == 0) && all_fit options (reverse lists)) (of_begun start lists sound.begun)
+    joined (not (is_some start) || (length lists == 0)) ((length (own_streams (take first_open lists)) == 0) && all_fit options (reverse lists))
+    (of_begun start lists sound.begun)
     (joined (length (own_streams (take first_open lists)) == 0) (all_fit options (reverse lists))
     (true_eq (length (own_streams (take first_open lists))) 0 (empty_length (own_streams (take first_open lists)) sound.closed))
     (of_all_fits options (reverse lists) sound.fits))
 
 -- a walk that has begun
-pub is_sound_begun : (options : Options) (start begun : Option Path) (lists : List DirList) (first_open : ℕ) → begun ≡ None → 1 ≤ options.max_open → first_open ≤ length lists
+pub is_sound_begun : (options : Options) (start begun : Option Path) (lists : List DirList) (first_open : ℕ) → begun ≡ None → 1 ≤ options.max_open
+    → first_open ≤ length lists
     → length lists ≤ first_open + options.max_open → is_sound options start lists first_open ≡ true → is_sound options begun lists first_open ≡ true
 is_sound_begun options start begun lists first_open none some in_range few is =
     let sound = sound_of options start lists first_open some in_range few is in
     ap (λ s. is_sound options s lists first_open) none
-    ∙ is_sound_of options None lists first_open (record { begun = tt; some_open = some; in_range = in_range; few = few; closed = sound.closed; fits = sound.fits })
+    ∙ is_sound_of options None lists first_open (record {
+      begun = tt;
+      some_open = some;
+      in_range = in_range;
+      few = few;
+      closed = sound.closed;
+      fits = sound.fits;
+    })
 
 -- nothing is on the stack before a walk begins
-pub nothing_before : (options : Options) (start : Option Path) (root : Path) (lists : List DirList) (first_open : ℕ) → start ≡ Some root → 1 ≤ options.max_open → first_open ≤ length lists
+pub nothing_before : (options : Options) (start : Option Path) (root : Path) (lists : List DirList) (first_open : ℕ) → start ≡ Some root
+    → 1 ≤ options.max_open → first_open ≤ length lists
     → length lists ≤ first_open + options.max_open → is_sound options start lists first_open ≡ true → lists ≡ []
 nothing_before options start root lists first_open at some in_range few is =
     let sound = sound_of options start lists first_open some in_range few is in

@@ -32,7 +32,8 @@ module _ {X : Type 0} (lt : X → X → Bool) (weak : IsStrictWeakOrder lt) wher
   -- what ties with the first of one list is in the other
   has_first : (x : X) (xs others : List X) → filter (ties lt x) (x ∷ xs) ≡ filter (ties lt x) others → Contains others x
   has_first x xs others same =
-      filter_has (ties lt x) others x (subst (λ l. Contains l x) (sym (kept_first x xs) ∙ same) (Contains-get_or (x ∷ filter (ties lt x) xs) 0 x (omega arith)))
+      filter_has (ties lt x) others x (subst (λ l. Contains l x) (sym (kept_first x xs)
+      ∙ same) (Contains-get_or (x ∷ filter (ties lt x) xs) 0 x (omega arith)))
 
   first_least : (x : X) (xs : List X) (y : X) → IsSortedBy lt (x ∷ xs) → Contains (x ∷ xs) y → lt y x ≡ false
   first_least x xs y rises has = subst (λ w. lt w x ≡ false) has.2 (sorted_far lt weak (x ∷ xs) rises 0 has.0 y (omega arith) has.1)
@@ -63,6 +64,7 @@ module _ {X : Type 0} (lt : X → X → Bool) (weak : IsStrictWeakOrder lt) wher
       cc
 
 -- two stable sorts of one list are the same list
-pub stable_once : {X : Type 0} (order : X → X → Ordering) → IsTotalOrder order → (old xs ys : List X) → IsSorted order xs → IsStable order old xs → IsSorted order ys → IsStable order old ys → xs ≡ ys
+pub stable_once : {X : Type 0} (order : X → X → Ordering) → IsTotalOrder order → (old xs ys : List X) → IsSorted order xs → IsStable order old xs
+    → IsSorted order ys → IsStable order old ys → xs ≡ ys
 stable_once order total old xs ys rises stable also stably =
     sorted_once (λ x y. is_lt (order x y)) (ranks_by total (λ x. x)) xs ys rises also (λ x. stable x ∙ sym (stably x))

@@ -17,7 +17,8 @@ use Rattle.walkdir.specs.declared.directory.Items.{Items}
 
 -- ---- the innermost first
 
-pub reversed_at : (outer : List DirList) (list : DirList) (inner : List DirList) → reverse (outer ++ list ∷ inner) ≡ reverse inner ++ list ∷ reverse outer
+pub reversed_at : (outer : List DirList) (list : DirList) (inner : List DirList) → reverse (outer ++ list ∷ inner) ≡ reverse inner ++ list
+    ∷ reverse outer
 reversed_at outer list inner =
     reverse-append outer (list ∷ inner) ∙ ap (λ r. r ++ reverse outer) (reverse-cons list inner) ∙ append_snoc (reverse inner) list (reverse outer)
 
@@ -98,5 +99,7 @@ closed_less count zero lists more le within is = refl
 closed_less count (suc fewer) [] more le within is = refl
 closed_less zero (suc fewer) (first ∷ lists) more le within is = absurd (omega arith)
 closed_less (suc count) (suc fewer) (first ∷ lists) more le within is =
-    none_in (stream_in first.items) (own_streams (take fewer lists)) (none_before (stream_in first.items) (own_streams (take count (lists ++ more))) is)
-    (closed_less count fewer lists more (omega arith) (omega arith) (none_behind (stream_in first.items) (own_streams (take count (lists ++ more))) is))
+    none_in (stream_in first.items) (own_streams (take fewer lists))
+    (none_before (stream_in first.items) (own_streams (take count (lists ++ more))) is)
+    (closed_less count fewer lists more (omega arith) (omega arith)
+    (none_behind (stream_in first.items) (own_streams (take count (lists ++ more))) is))

@@ -37,31 +37,39 @@ first_off false b off is = refl
 
 -- ---- an entry that isn't looked at
 
-plain_taken : (walk : Walking) (above : List Ancestor) (entry : DirEntry) → (walk.options.follow_links && is_link entry) ≡ false → taken_for walk above entry ≡ Ok entry
+plain_taken : (walk : Walking) (above : List Ancestor) (entry : DirEntry) → (walk.options.follow_links && is_link entry) ≡ false
+    → taken_for walk above entry ≡ Ok entry
 unfolding taken_for
 plain_taken walk above entry off = ap (λ b. cond b (through_link above entry (looked walk.tree entry.path true)) (Ok entry)) off
 
-plain_directory : (walk : Walking) (entry : DirEntry) → is_dir entry ≡ true → (walk.options.follow_links || walk.options.same_file_system) ≡ false → entering walk entry ≡ Ok (Enters None)
+plain_directory : (walk : Walking) (entry : DirEntry) → is_dir entry ≡ true → (walk.options.follow_links || walk.options.same_file_system) ≡ false
+    → entering walk entry ≡ Ok (Enters None)
 unfolding entering
 plain_directory walk entry is off =
-    ap (λ b. cond b (enters_directory walk entry) (cond (is_root_link entry && walk.options.follow_root_links) (enters_root_link entry (looked walk.tree entry.path true)) (Ok Stays))) is
+    ap (λ b. cond b (enters_directory walk entry) (cond (is_root_link entry && walk.options.follow_root_links)
+    (enters_root_link entry (looked walk.tree entry.path true)) (Ok Stays))) is
     ∙ ap (λ b. cond b (enters_at walk entry (looked walk.tree entry.path true)) (Ok (Enters None))) off
 
-plain_other : (walk : Walking) (entry : DirEntry) → is_dir entry ≡ false → (is_root_link entry && walk.options.follow_root_links) ≡ false → entering walk entry ≡ Ok Stays
+plain_other : (walk : Walking) (entry : DirEntry) → is_dir entry ≡ false → (is_root_link entry && walk.options.follow_root_links) ≡ false
+    → entering walk entry ≡ Ok Stays
 unfolding entering
 plain_other walk entry is off =
-    ap (λ b. cond b (enters_directory walk entry) (cond (is_root_link entry && walk.options.follow_root_links) (enters_root_link entry (looked walk.tree entry.path true)) (Ok Stays))) is
+    ap (λ b. cond b (enters_directory walk entry) (cond (is_root_link entry && walk.options.follow_root_links)
+    (enters_root_link entry (looked walk.tree entry.path true)) (Ok Stays))) is
     ∙ ap (λ b. cond b (enters_root_link entry (looked walk.tree entry.path true)) (Ok Stays)) off
 
 -- what it contains may be a failure
-contents_failed : (walk : Walking) (above : List Ancestor) (directory : DirEntry) (below : Bool) → below_greatest walk directory ≡ below → (items : List Item) × ContentsOf walk above directory items
+contents_failed : (walk : Walking) (above : List Ancestor) (directory : DirEntry) (below : Bool) → below_greatest walk directory ≡ below
+    → (items : List Item) × ContentsOf walk above directory items
 contents_failed walk above directory true is = (Err (io_error directory.depth directory.path refusals.Failed) ∷ [], Unopened refusals.Failed is tt)
 contents_failed walk above directory false is = ([], Deepest is)
 
-entry_unlooked : (walk : Walking) (above : List Ancestor) (entry : DirEntry) (dir : Bool) → is_dir entry ≡ dir → is_looked_at walk.options entry ≡ false → (items : List Item) × WalkOf walk above entry items
+entry_unlooked : (walk : Walking) (above : List Ancestor) (entry : DirEntry) (dir : Bool) → is_dir entry ≡ dir
+    → is_looked_at walk.options entry ≡ false → (items : List Item) × WalkOf walk above entry items
 entry_unlooked walk above entry true is off =
     let options = walk.options in
-    let all = parts (options.follow_links && is_link entry) ((options.follow_links || options.same_file_system) && is_dir entry) (is_root_link entry && options.follow_root_links) off in
+    let all = parts (options.follow_links && is_link entry) ((options.follow_links || options.same_file_system) && is_dir entry)
+    (is_root_link entry && options.follow_root_links) off in
     let contents = contents_failed walk (enter entry None above) entry (below_greatest walk entry) refl in (
       around options entry contents.0,
       Entered entry None contents.0 (plain_taken walk above entry all.0)
@@ -69,10 +77,12 @@ entry_unlooked walk above entry true is off =
     )
 entry_unlooked walk above entry false is off =
     let options = walk.options in
-    let all = parts (options.follow_links && is_link entry) ((options.follow_links || options.same_file_system) && is_dir entry) (is_root_link entry && options.follow_root_links) off in
+    let all = parts (options.follow_links && is_link entry) ((options.follow_links || options.same_file_system) && is_dir entry)
+    (is_root_link entry && options.follow_root_links) off in
     (shown options entry, Alone entry (plain_taken walk above entry all.0) (plain_other walk entry is all.2) refl)
 
-entry_by_look : (walk : Walking) (above : List Ancestor) (entry : DirEntry) (looks : Bool) → is_looked_at walk.options entry ≡ looks → (items : List Item) × WalkOf walk above entry items
+entry_by_look : (walk : Walking) (above : List Ancestor) (entry : DirEntry) (looks : Bool) → is_looked_at walk.options entry ≡ looks
+    → (items : List Item) × WalkOf walk above entry items
 entry_by_look walk above entry true is = (Err (io_error entry.depth entry.path refusals.Failed) ∷ [], Failed is)
 entry_by_look walk above entry false is = entry_unlooked walk above entry (is_dir entry) refl is
 
@@ -90,9 +100,11 @@ some_in : {A : Type 0} (o : Option A) → is_some o ≡ true → (x : A) × (o �
 some_in None is = absurd cc
 some_in (Some x) is = (x, refl)
 
-children_left : (streams : Streams) (depth : ℕ) (path : Path) (items : Items) → IfSome (stream_in items) (λ dir. finite.contains_key streams.open_dirs dir ≡ true)
+children_left : (streams : Streams) (depth : ℕ) (path : Path) (items : Items) → IfSome (stream_in items)
+    (λ dir. finite.contains_key streams.open_dirs dir ≡ true)
     → (children : List Item) × HasLeft streams depth path items children
-children_left streams depth path (Opened dir) opened = let gives = some_in (still_gives streams dir) opened in (Err (stream_error depth refusals.Failed) ∷ [], (gives.0, gives.1, Broken))
+children_left streams depth path (Opened dir) opened =
+    let gives = some_in (still_gives streams dir) opened in (Err (stream_error depth refusals.Failed) ∷ [], (gives.0, gives.1, Broken))
 children_left streams depth path (Closed items) opened = (items.items, refl)
 children_left streams depth path Skipped opened = ([], refl)
 
@@ -101,10 +113,12 @@ unfolding AllOpen
 open_first None own now opened = tt
 open_first (Some dir) own now opened = opened.0
 
-stack_left : (walk : Walking) (streams : Streams) (stack : List DirList) → AllOpen (own_streams stack) streams.open_dirs → (items : List Item) × StandsFor walk streams stack items
+stack_left : (walk : Walking) (streams : Streams) (stack : List DirList) → AllOpen (own_streams stack) streams.open_dirs → (items : List Item)
+    × StandsFor walk streams stack items
 stack_left walk streams [] opened = ([], Nothing)
 stack_left walk streams (list ∷ outer) opened =
-    let children = children_left streams (length outer + 1) list.path list.items (open_first (stream_in list.items) (own_streams outer) streams.open_dirs opened) in
+    let children = children_left streams (length outer + 1) list.path list.items
+    (open_first (stream_in list.items) (own_streams outer) streams.open_dirs opened) in
     let here = walks_left walk (ancestors (list ∷ outer)) children.0 in
     let others = stack_left walk streams outer (open_behind (stream_in list.items) (own_streams outer) streams.open_dirs opened) in
     (here.0 ++ own_entry walk.options list.after ++ others.0, Within children.0 here.0 others.0 children.1 here.1 others.1 refl)
@@ -113,7 +127,8 @@ walk_failed : (walk : Walking) (stays : Bool) → walk.options.same_file_system 
 walk_failed walk true is = (Err (io_error 0 walk.root refusals.Failed) ∷ [], NoDevice refusals.Failed is tt)
 walk_failed walk false is = (Err (io_error 0 walk.root refusals.Failed) ∷ [], NoRoot refusals.Failed (λ stays. absurd cc) tt)
 
-left_from : (walk : Walking) (at : Progress) (start : Option Path) → AllOpen (own_streams at.stack) at.streams.open_dirs → (items : List Item) × still_to_come walk at start items
+left_from : (walk : Walking) (at : Progress) (start : Option Path) → AllOpen (own_streams at.stack) at.streams.open_dirs → (items : List Item)
+    × still_to_come walk at start items
 left_from walk at (Some root) opened = walk_failed walk walk.options.same_file_system refl
 left_from walk at None opened = stack_left walk at.streams at.stack opened
 

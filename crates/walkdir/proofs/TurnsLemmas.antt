@@ -25,15 +25,18 @@ gives_same walk old new items start streams stack left =
     come_same walk old new old.start items streams stack (subst (λ s. still_to_come walk new s items) start left)
 
 -- a walk that has begun stands for what its stack does
-pub stands_for : (walk : Walking) (at : Progress) (items : List Item) → at.start ≡ None → StillGives walk at items → StandsFor walk at.streams at.stack items
+pub stands_for : (walk : Walking) (at : Progress) (items : List Item) → at.start ≡ None → StillGives walk at items
+    → StandsFor walk at.streams at.stack items
 stands_for walk at items none left = subst (λ s. still_to_come walk at s items) none left
 
-pub still_gives : (walk : Walking) (at : Progress) (items : List Item) → at.start ≡ None → StandsFor walk at.streams at.stack items → StillGives walk at items
+pub still_gives : (walk : Walking) (at : Progress) (items : List Item) → at.start ≡ None → StandsFor walk at.streams at.stack items
+    → StillGives walk at items
 still_gives walk at items none left = subst (λ s. still_to_come walk at s items) (sym none) left
 
 -- ---- what is given by one turn and then another
 
-pub gives_then : (state : Option State) (old mid new : Progress) (item : Option Item) → GivesNext state old None mid → ((before : Streams) → Keeps before old → Keeps before mid)
+pub gives_then : (state : Option State) (old mid new : Progress) (item : Option Item) → GivesNext state old None mid
+    → ((before : Streams) → Keeps before old → Keeps before mid)
     → GivesNext state mid item new → GivesNext state old item new
 gives_then None old mid new item first keeps second = tt
 gives_then (Some s) old mid new item first keeps second = λ walk before tree of kept lost.
@@ -41,7 +44,8 @@ gives_then (Some s) old mid new item first keeps second = λ walk before tree of
     let two = second walk before tree one.0 (keeps before kept) lost in
     (two.0, λ rest left. one.1 (option_to_list item ++ rest) (two.1 rest left))
 
-pub gives_nothing : (state : Option State) (old new : Progress) → new.options ≡ old.options → new.order ≡ old.order → new.start ≡ old.start → new.device ≡ old.device
+pub gives_nothing : (state : Option State) (old new : Progress) → new.options ≡ old.options → new.order ≡ old.order → new.start ≡ old.start
+    → new.device ≡ old.device
     → new.streams ≡ old.streams → new.stack ≡ old.stack → GivesNext state old None new
 gives_nothing None old new options order start device streams stack = tt
 gives_nothing (Some s) old new options order start device streams stack = λ walk before tree of kept lost. (

@@ -82,6 +82,7 @@ lies_alike path (one ∷ more) (list ∷ outer) same lies =
     subst (λ (p : Path). IsChild p path) (ap (λ (a : Ancestor). a.path) head) lies
 
 -- of a directory that was put on the stack, one's own entry
-pub own_lies : (after : Option DirEntry) (path : Path) (outer : List DirList) → IfSome after (λ entry. entry.path ≡ path) → LiesIn path outer → IfSome after (λ entry. LiesIn entry.path outer)
+pub own_lies : (after : Option DirEntry) (path : Path) (outer : List DirList) → IfSome after (λ entry. entry.path ≡ path) → LiesIn path outer
+    → IfSome after (λ entry. LiesIn entry.path outer)
 own_lies None path outer own lies = tt
 own_lies (Some entry) path outer own lies = subst (λ (p : Path). LiesIn p outer) (sym own) lies

@@ -23,7 +23,8 @@ LeftLess old new = (dir : ℕ) → is_open old dir ≡ true → left_of new dir 
 
 pub less_same : (old new : Streams) → new.open_dirs ≡ old.open_dirs → LeftLess old new
 unfolding LeftLess
-less_same old new is dir opened = let e : left_of new dir ≡ left_of old dir = ap (λ (m : OpenDirs). unwrap_or (option_map length (finite.get m dir)) 0) is in omega arith
+less_same old new is dir opened =
+    let e : left_of new dir ≡ left_of old dir = ap (λ (m : OpenDirs). unwrap_or (option_map length (finite.get m dir)) 0) is in omega arith
 
 left_put : (b : Bool) (rest : List Entry) (o : Option (List Entry)) (n : ℕ) → length rest ≤ n → unwrap_or (option_map length o) 0 ≡ n
     → unwrap_or (option_map length (cond b (Some rest) o)) 0 ≤ n
@@ -45,7 +46,8 @@ less_drawn old dir new (inr drawn) = subst (LeftLess old) (sym drawn.3) (drawn_l
 
 closed_less : (old : Streams) (dir q : ℕ) → left_of (with_closed old dir) q ≤ left_of old q
 closed_less old dir q =
-    subst (λ o. unwrap_or (option_map length o) 0 ≤ left_of old q) (sym (at_remove old.open_dirs dir q)) (gone (tied q dir) (finite.get old.open_dirs q))
+    subst (λ o. unwrap_or (option_map length o) 0 ≤ left_of old q) (sym (at_remove old.open_dirs dir q))
+    (gone (tied q dir) (finite.get old.open_dirs q))
   where
     gone : (b : Bool) (o : Option (List Entry)) → unwrap_or (option_map length (cond b None o)) 0 ≤ unwrap_or (option_map length o) 0
     gone true o = omega arith
@@ -60,12 +62,14 @@ unfolding LeftLess
 less_without old None q opened = omega arith
 less_without old (Some dir) q opened = closed_less old dir q
 
-opened_less : (old new : Streams) (dir : ℕ) (entries : List Entry) → finite.get old.open_dirs dir ≡ None → new.open_dirs ≡ finite.insert old.open_dirs dir entries → LeftLess old new
+opened_less : (old new : Streams) (dir : ℕ) (entries : List Entry) → finite.get old.open_dirs dir ≡ None
+    → new.open_dirs ≡ finite.insert old.open_dirs dir entries → LeftLess old new
 unfolding LeftLess
 opened_less old new dir entries free is q opened =
     subst (λ (m : OpenDirs). unwrap_or (option_map length (finite.get m q)) 0 ≤ left_of old q) (sym is)
     (subst (λ o. unwrap_or (option_map length o) 0 ≤ left_of old q) (sym (at_insert old.open_dirs dir entries q))
-    (elim (tied q dir) as (λ b. tied q dir ≡ b → unwrap_or (option_map length (cond b (Some entries) (finite.get old.open_dirs q))) 0 ≤ left_of old q) [
+    (elim (tied q dir) as (λ b. tied q dir ≡ b
+    → unwrap_or (option_map length (cond b (Some entries) (finite.get old.open_dirs q))) 0 ≤ left_of old q) [
       | true ↦ λ t.
           let none : is_open old q ≡ false = ap is_some (ap (finite.get old.open_dirs) (same_number q dir t) ∙ free) in
           let no : false ≡ true = sym none ∙ opened in
@@ -117,7 +121,8 @@ unfolding NoneMore
 more_behind None own old new none = none
 more_behind (Some dir) own old new none = none.1
 
-left_less : (old new : Streams) (items : Items) (own : List ℕ) → NoneMore (cons_option (stream_in items) own) old new → left_in new items ≤ left_in old items
+left_less : (old new : Streams) (items : Items) (own : List ℕ) → NoneMore (cons_option (stream_in items) own) old new
+    → left_in new items ≤ left_in old items
 unfolding NoneMore
 left_less old new (Opened dir) own none = let le : left_of new dir ≤ left_of old dir = none.0 in omega arith
 left_less old new (Closed items) own none = omega arith
@@ -126,26 +131,33 @@ left_less old new Skipped own none = omega arith
 weigh : (a b w x y : ℕ) → a ≤ b → x ≤ y → (a + 1) * w + x ≤ (b + 1) * w + y
 weigh a b w x y le more = let p : (a + 1) * w ≤ (b + 1) * w = mul-le-mul_right w (omega arith) in omega arith
 
-pub work_none_more : (most : ℕ) (old new : Streams) (stack : List DirList) → NoneMore (own_streams stack) old new → work_in most new stack ≤ work_in most old stack
+pub work_none_more : (most : ℕ) (old new : Streams) (stack : List DirList) → NoneMore (own_streams stack) old new
+    → work_in most new stack ≤ work_in most old stack
 unfolding work_in
 work_none_more most old new [] none = omega arith
 work_none_more most old new (list ∷ outer) none =
     weigh (left_in new list.items) (left_in old list.items) (weight most (length outer)) (work_in most new outer) (work_in most old outer)
-    (left_less old new list.items (own_streams outer) none) (work_none_more most old new outer (more_behind (stream_in list.items) (own_streams outer) old new none))
+    (left_less old new list.items (own_streams outer) none)
+    (work_none_more most old new outer (more_behind (stream_in list.items) (own_streams outer) old new none))
 
-pub work_less : (most : ℕ) (old new : Streams) (stack : List DirList) → AllOpen (own_streams stack) old.open_dirs → LeftLess old new → work_in most new stack ≤ work_in most old stack
+pub work_less : (most : ℕ) (old new : Streams) (stack : List DirList) → AllOpen (own_streams stack) old.open_dirs → LeftLess old new
+    → work_in most new stack ≤ work_in most old stack
 work_less most old new stack opened less = work_none_more most old new stack (none_more (own_streams stack) old new opened less)
 
-pub work_put : (most : ℕ) (old new : Streams) (inner : List DirList) (list other : DirList) (outer : List DirList) → NoneMore (own_streams (inner ++ list ∷ outer)) old new
+pub work_put : (most : ℕ) (old new : Streams) (inner : List DirList) (list other : DirList) (outer : List DirList)
+    → NoneMore (own_streams (inner ++ list ∷ outer)) old new
     → left_in new other.items ≤ left_in old list.items → work_in most new (inner ++ other ∷ outer) ≤ work_in most old (inner ++ list ∷ outer)
 unfolding work_in
 work_put most old new [] list other outer none le =
     weigh (left_in new other.items) (left_in old list.items) (weight most (length outer)) (work_in most new outer) (work_in most old outer)
     le (work_none_more most old new outer (more_behind (stream_in list.items) (own_streams outer) old new none))
 work_put most old new (first ∷ inner) list other outer none le =
-    let same : length (inner ++ list ∷ outer) ≡ length (inner ++ other ∷ outer) = length-append inner (list ∷ outer) ∙ sym (length-append inner (other ∷ outer)) in
-    subst (λ n. (left_in new first.items + 1) * weight most n + work_in most new (inner ++ other ∷ outer) ≤ (left_in old first.items + 1) * weight most (length (inner ++ list ∷ outer)) + work_in most old (inner ++ list ∷ outer))
+    let same : length (inner ++ list ∷ outer) ≡ length (inner ++ other ∷ outer) = length-append inner (list ∷ outer)
+    ∙ sym (length-append inner (other ∷ outer)) in
+    subst (λ n. (left_in new first.items + 1) * weight most n + work_in most new (inner ++ other ∷ outer) ≤
+    (left_in old first.items + 1) * weight most (length (inner ++ list ∷ outer)) + work_in most old (inner ++ list ∷ outer))
     same
-    (weigh (left_in new first.items) (left_in old first.items) (weight most (length (inner ++ list ∷ outer))) (work_in most new (inner ++ other ∷ outer)) (work_in most old (inner ++ list ∷ outer))
+    (weigh (left_in new first.items) (left_in old first.items) (weight most (length (inner ++ list ∷ outer)))
+    (work_in most new (inner ++ other ∷ outer)) (work_in most old (inner ++ list ∷ outer))
     (left_less old new first.items (own_streams (inner ++ list ∷ outer)) none)
     (work_put most old new inner list other outer (more_behind (stream_in first.items) (own_streams (inner ++ list ∷ outer)) old new none) le))

@@ -25,7 +25,8 @@ pub record IsDirectory (walk : Walking) (directory : DirEntry) (place : Option P
 -- lies, and those above that.
 pub data AreAbove (walk : Walking) : Path → ℕ → List Ancestor → Type 0 where
   AtRoot : AreAbove walk walk.root 0 []
-  Below : {path : Path} {above : List Ancestor} (directory : DirEntry) (place : Option Place) → IsDirectory walk directory place → IsChild directory.path path
+  Below : {path : Path} {above : List Ancestor} (directory : DirEntry) (place : Option Place) → IsDirectory walk directory place
+      → IsChild directory.path path
       → AreAbove walk directory.path directory.depth above → AreAbove walk path (directory.depth + 1) (enter directory place above)
 
 -- one of them, with those above it

@@ -96,7 +96,8 @@ module _ {D : Type 0} (answered : D → DiskAsk → DiskAnswer → D → Type 0)
 
     -- What couldn't be looked at lies in the innermost directory. A directory whose opening was refused is innermost.
     abbrev pub IsRefusedIn : ℕ → ErrorInner → List DirList → Type 0
-    IsRefusedIn depth (Io (Some path) error) stack = (IsLookRefused path error × IsBeside path depth stack) ⊎ (IsOpeningRefused path error × IsHead path depth stack)
+    IsRefusedIn depth (Io (Some path) error) stack =
+        (IsLookRefused path error × IsBeside path depth stack) ⊎ (IsOpeningRefused path error × IsHead path depth stack)
     IsRefusedIn depth (Io None error) stack = Unit {0}
     IsRefusedIn depth (Loop ancestor child) stack = Unit {0}
     IsRefusedIn depth NoMemory stack = Unit {0}

@@ -74,7 +74,8 @@ module _ {D : Type 0} (answered : D → DiskAsk → DiskAnswer → D → Type 0)
 
   pub record TellsEntering (old : D) (found : Found) (result : Result Entering Error) (new : D) : Type 0 where
     pub leads : Leads answered old new
-    pub told : (first : D) → Leads answered first old → IsKnown first old found.entry.path found.place → IsEnteringTold first new found.entry.path result
+    pub told : (first : D) → Leads answered first old → IsKnown first old found.entry.path found.place
+        → IsEnteringTold first new found.entry.path result
 
   -- a directory with this path and place is put on the stack, or memory ran out
   pub record TellsPushed (old : D) (stack : List DirList) (path : Path) (place : Option Place) (new : D) (rest : List DirList) : Type 0 where

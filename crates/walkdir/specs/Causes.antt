@@ -12,7 +12,8 @@ use Rattle.walkdir.specs.declared.error.ErrorInner.TheVariants.{Io, Loop, NoMemo
 abbrev pub IsCausedIn : Options → List Ancestor → ErrorInner → Type 0
 IsCausedIn options above (Io (Some path) error) = Unit {0}
 IsCausedIn options above (Io None error) = is_stream_refusal error ≡ true
-IsCausedIn options above (Loop path child) = (options.follow_links ≡ true) × ((ancestor : Ancestor) × Contains above ancestor × (ancestor.path ≡ path))
+IsCausedIn options above (Loop path child) =
+    (options.follow_links ≡ true) × ((ancestor : Ancestor) × Contains above ancestor × (ancestor.path ≡ path))
 IsCausedIn options above NoMemory = Unit {0}
 
 abbrev pub IsCausedAmong : Options → List Ancestor → Error → Type 0

@@ -20,8 +20,9 @@ StaysOut walk entry = is_dir entry ≡ true → walk.options.contents_first ≡ 
 abbrev pub HoldsContents : Walking → DirEntry → Option Place → Streams → List DirList → Type 0
 HoldsContents walk entry place streams [] = ⊥
 HoldsContents walk entry place streams (list ∷ outer) =
-    (is_skipped list.items ≡ false) × ((children here : List Item) → HasLeft streams (length outer + 1) list.path list.items children → WalksOf walk (ancestors (list ∷ outer)) children here
-    → ContentsOf walk (enter entry place (ancestors outer)) entry here)
+    (is_skipped list.items ≡ false)
+    × ((children here : List Item) → HasLeft streams (length outer + 1) list.path list.items children
+    → WalksOf walk (ancestors (list ∷ outer)) children here → ContentsOf walk (enter entry place (ancestors outer)) entry here)
 
 -- An entry was entered and comes before its contents, which are still to come in full.
 pub record IsEntered (walk : Walking) (entry : DirEntry) (start : Option Path) (streams : Streams) (stack : List DirList) : Type 0 where

@@ -1,15 +1,12 @@
 -- Failures among what a walk gives, and how often the disk's count of faults rose for them.
-use Rattle.std.specs.Prelude.{ℕ, ◌+◌, ◌-◌, ◌^◌, ◌≤◌, min, List, [], ◌∷◌, Option, Some, None, Result, Ok, Err}
+use Rattle.std.specs.Prelude.{ℕ, ◌+◌, ◌≤◌, min, List, [], ◌∷◌, Option, Some, None, Result, Ok, Err}
+use Rattle.odb_base.specs.Faults.{greatest_count}
 use Rattle.walkdir.specs.Error.{failures}
 use Rattle.walkdir.specs.Walk.{Item}
 use Rattle.walkdir.specs.declared.error.Error.{Error}
 use Rattle.walkdir.specs.declared.directory.DirList.{DirList}
 use Rattle.walkdir.specs.declared.directory.Items.{Items}
 use Rattle.walkdir.specs.declared.directory.Items.TheVariants.{Opened, Closed, Skipped}
-
--- a disk keeps its count of faults in 64 bits, and stands still at the greatest
-abbrev pub greatest_count : ℕ
-greatest_count = 2 ^ 64 - 1
 
 -- the count of faults rose so often in between, or stands at its greatest value
 abbrev pub RoseBy : ℕ → ℕ → ℕ → Type 0

@@ -24,32 +24,49 @@ use Rattle.walkdir.specs.declared.iter.OnDisk.{OnDisk}
 use Rattle.walkdir.specs.declared.directory.Entering.TheVariants.{Enters}
 use Rattle.walkdir.specs.declared.directory.Place.{Place}
 
--- the items of a walk, and what a filter leaves of them
-pub data LeavesOut (walk : Walking) (accepts : DirEntry → Bool) : List Item → List Item → Type 0 where
-  Ended : LeavesOut walk accepts [] []
-  -- an error is given whatever the predicate is
-  Failed : {error : Error} {items given : List Item} → LeavesOut walk accepts items given → LeavesOut walk accepts (Err error ∷ items) (Err error ∷ given)
-  Accepted : {entry : DirEntry} {items given : List Item} → accepts entry ≡ true → LeavesOut walk accepts items given → LeavesOut walk accepts (Ok entry ∷ items) (Ok entry ∷ given)
+-- The items of a walk, and what a filter leaves of them. `asked` says what its predicate answers of an entry, and what the
+-- predicate is then; it is the first of the two before it is asked of the items, and the last behind them.
+pub data LeavesOut {F : Type 0} (walk : Walking) (asked : F → DirEntry → Bool → F → Type 0) : F → List Item → List Item → F → Type 0 where
+  Ended : {f : F} → LeavesOut walk asked f [] [] f
+  -- an error is given whatever the predicate is, which isn't asked
+  Failed : {f h : F} {error : Error} {items given : List Item} → LeavesOut walk asked f items given h
+      → LeavesOut walk asked f (Err error ∷ items) (Err error ∷ given) h
+  Accepted : {f h : F} {entry : DirEntry} {items given : List Item} (g : F) → asked f entry true g → LeavesOut walk asked g items given h
+      → LeavesOut walk asked f (Ok entry ∷ items) (Ok entry ∷ given) h
   -- a rejected entry alone: it is no directory, or it comes after its contents, or it isn't entered
-  Alone : {entry : DirEntry} {items given : List Item} → accepts entry ≡ false → StaysOut walk entry → LeavesOut walk accepts items given → LeavesOut walk accepts (Ok entry ∷ items) given
+  Alone : {f h : F} {entry : DirEntry} {items given : List Item} (g : F) → asked f entry false g → StaysOut walk entry
+      → LeavesOut walk asked g items given h → LeavesOut walk asked f (Ok entry ∷ items) given h
   -- a rejected directory that comes before its contents and was entered, with its contents below the directories above it
-  WithContents : {entry : DirEntry} {items given : List Item} (place : Option Place) (above : List Ancestor) (contents behind : List Item) → accepts entry ≡ false → is_dir entry ≡ true
-      → walk.options.contents_first ≡ false → entering walk entry ≡ Ok (Enters place) → AreAbove walk entry.path entry.depth above
+  WithContents : {f h : F} {entry : DirEntry} {items given : List Item} (g : F) (place : Option Place) (above : List Ancestor)
+      (contents behind : List Item) → asked f entry false g → is_dir entry ≡ true → walk.options.contents_first ≡ false
+      → entering walk entry ≡ Ok (Enters place) → AreAbove walk entry.path entry.depth above
       → ContentsOf walk (enter entry place above) entry contents → items ≡ contents ++ behind
-      → LeavesOut walk accepts behind given → LeavesOut walk accepts (Ok entry ∷ items) given
+      → LeavesOut walk asked g behind given h → LeavesOut walk asked f (Ok entry ∷ items) given h
 
 -- a walk without what a filter leaves out
-pub record IsFilteredWalk (walk : Walking) (accepts : DirEntry → Bool) (given : List Item) : Type 0 where
+pub record IsFilteredBy {F : Type 0} (walk : Walking) (asked : F → DirEntry → Bool → F → Type 0) (f : F) (given : List Item) (h : F) : Type 0 where
   pub items : List Item
   pub is : IsWalk walk items
-  pub leaves : LeavesOut walk accepts items given
+  pub leaves : LeavesOut walk asked f items given h
 
 -- What a walk gave first, and what a filter leaves of that. The walk goes on with others.
-pub record BeginsFiltered (walk : Walking) (accepts : DirEntry → Bool) (given : List Item) : Type 0 where
+pub record BeginsFilteredBy {F : Type 0} (walk : Walking) (asked : F → DirEntry → Bool → F → Type 0) (f : F) (given : List Item) (h : F)
+    : Type 0 where
   pub items : List Item
   pub rest : List Item
   pub is : IsWalk walk (items ++ rest)
-  pub leaves : LeavesOut walk accepts items given
+  pub leaves : LeavesOut walk asked f items given h
+
+-- ---- by a predicate that answers by the entry alone
+
+abbrev pub by_entry : (DirEntry → Bool) → Unit {0} → DirEntry → Bool → Unit {0} → Type 0
+by_entry accepts f entry answer g = accepts entry ≡ answer
+
+abbrev pub IsFilteredWalk : Walking → (DirEntry → Bool) → List Item → Type 0
+IsFilteredWalk walk accepts given = IsFilteredBy {F = Unit {0}} walk (by_entry accepts) tt given tt
+
+abbrev pub BeginsFiltered : Walking → (DirEntry → Bool) → List Item → Type 0
+BeginsFiltered walk accepts given = BeginsFilteredBy {F = Unit {0}} walk (by_entry accepts) tt given tt
 
 -- ---- a filtered walk on a disk
 
@@ -69,22 +86,40 @@ pub record HasNotBegun (walk : Walking) (at : Progress) : Type 0 where
 abbrev pub AnswersBy : {F : Type 0} → Mut F (Bor DirEntry × Unit {0}) Bool → (DirEntry → Bool) → Type 0
 AnswersBy {F} calls accepts = (f g : F) (entry : DirEntry) (answer : Bool) → CalledAt calls f entry answer g → answer ≡ accepts entry
 
-module _ {D W F : Type 0} (state : D → Option State) (streams : D → Streams) (faults : D → ℕ) (answered : D → DiskAsk → DiskAnswer → D → Type 0) (progress : W → Streams → Progress) (calls : Mut F (Bor DirEntry × Unit {0}) Bool) where
+module _ {D W F : Type 0} (state : D → Option State) (streams : D → Streams) (faults : D → ℕ) (answered : D → DiskAsk → DiskAnswer → D → Type 0)
+    (progress : W → Streams → Progress) (calls : Mut F (Bor DirEntry × Unit {0}) Bool) where
   -- what `next` of a filtered walk gives
   abbrev pub FilteredOn : FilterEntry (OnDisk D W) F → Option Item → FilterEntry (OnDisk D W) F → Type 0
   FilteredOn s item t =
-      Filters (NextOn state streams faults answered progress) (SkipsOn state streams faults answered progress) (λ x. (at_walk state streams faults answered progress x).entered) calls s.walk s.predicate item t.walk t.predicate
+      Filters (NextOn state streams faults answered progress) (SkipsOn state streams faults answered progress)
+      (λ x. (at_walk state streams faults answered progress x).entered) calls s.walk s.predicate item t.walk t.predicate
 
   -- on any disk: whatever is given, calls of the walk told it
   abbrev pub TellsFiltered : FilterEntry (OnDisk D W) F → Type 0
   TellsFiltered s =
-      (items : List Item) (t : FilterEntry (OnDisk D W) F) (first : D) → Yields FilteredOn s items t → IsStackTold answered first s.walk.disk.now (at_walk state streams faults answered progress s.walk).stack
-      → IsStackTold answered first t.walk.disk.now (at_walk state streams faults answered progress t.walk).stack × AreTold answered first t.walk.disk.now items
+      (items : List Item) (t : FilterEntry (OnDisk D W) F) (first : D) → Yields FilteredOn s items t
+      → IsStackTold answered first s.walk.disk.now (at_walk state streams faults answered progress s.walk).stack
+      → IsStackTold answered first t.walk.disk.now (at_walk state streams faults answered progress t.walk).stack
+      × AreTold answered first t.walk.disk.now items
 
   -- From a walk that hasn't begun, on a disk that tells its tree: whatever is given first, without want of memory, is what
-  -- the filter leaves of the first items of the walk; and at the end, of all.
+  -- the filter leaves of the first items of the walk; and at the end, of all. The predicate may change as it is asked.
+  pub record FiltersWalk (s : FilterEntry (OnDisk D W) F) : Type 0 where
+    pub begins : (walk : Walking) (told : State) (items : List Item) (t : FilterEntry (OnDisk D W) F) → walk.tree ≡ tree_of told
+        → state s.walk.disk.now ≡ Some told → HasNotBegun walk (at_walk state streams faults answered progress s.walk)
+        → Yields FilteredOn s items t → NoneLost items → BeginsFilteredBy walk (CalledAt calls) s.predicate items t.predicate
+    pub whole : (walk : Walking) (told : State) (items : List Item) (t u : FilterEntry (OnDisk D W) F) → walk.tree ≡ tree_of told
+        → state s.walk.disk.now ≡ Some told → HasNotBegun walk (at_walk state streams faults answered progress s.walk)
+        → Yields FilteredOn s items t → FilteredOn t None u → NoneLost items
+        → IsFilteredBy walk (CalledAt calls) s.predicate items u.predicate
+
+  -- the same by a predicate that answers by the entry alone
   pub record GivesFiltered (accepts : DirEntry → Bool) (s : FilterEntry (OnDisk D W) F) : Type 0 where
-    pub begins : (walk : Walking) (told : State) (items : List Item) (t : FilterEntry (OnDisk D W) F) → walk.tree ≡ tree_of told → state s.walk.disk.now ≡ Some told
-        → HasNotBegun walk (at_walk state streams faults answered progress s.walk) → Yields FilteredOn s items t → NoneLost items → BeginsFiltered walk accepts items
-    pub whole : (walk : Walking) (told : State) (items : List Item) (t u : FilterEntry (OnDisk D W) F) → walk.tree ≡ tree_of told → state s.walk.disk.now ≡ Some told
-        → HasNotBegun walk (at_walk state streams faults answered progress s.walk) → Yields FilteredOn s items t → FilteredOn t None u → NoneLost items → IsFilteredWalk walk accepts items
+    pub begins : (walk : Walking) (told : State) (items : List Item) (t : FilterEntry (OnDisk D W) F) → walk.tree ≡ tree_of told
+        → state s.walk.disk.now ≡ Some told
+        → HasNotBegun walk (at_walk state streams faults answered progress s.walk) → Yields FilteredOn s items t → NoneLost items
+        → BeginsFiltered walk accepts items
+    pub whole : (walk : Walking) (told : State) (items : List Item) (t u : FilterEntry (OnDisk D W) F) → walk.tree ≡ tree_of told
+        → state s.walk.disk.now ≡ Some told
+        → HasNotBegun walk (at_walk state streams faults answered progress s.walk) → Yields FilteredOn s items t → FilteredOn t None u
+        → NoneLost items → IsFilteredWalk walk accepts items

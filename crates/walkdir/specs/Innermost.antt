@@ -30,7 +30,7 @@ pub record IsBeside (path : Path) (depth : ℕ) (stack : List DirList) : Type 0 
   pub parent : LiesIn path stack
 
 -- an entry that was entered is innermost: a directory that comes before its contents, or a link at the root
-pub record IsWithin (options : Options) (entry : DirEntry) (stack : List DirList) : Type 0 where
+pub record IsInnermost (options : Options) (entry : DirEntry) (stack : List DirList) : Type 0 where
   pub head : IsHead entry.path entry.depth stack
   pub unskipped : is_head_skipped stack ≡ false
   pub kind : (is_dir entry || is_root_link entry) ≡ true
@@ -43,7 +43,7 @@ pub record IsBehind (options : Options) (entry : DirEntry) (stack : List DirList
   pub unskipped : (options.contents_first && is_dir entry) ≡ false → is_head_skipped stack ≡ false
 
 abbrev pub IsAfterEntry : Options → DirEntry → List DirList → Type 0
-IsAfterEntry options entry stack = IsWithin options entry stack ⊎ IsBehind options entry stack
+IsAfterEntry options entry stack = IsInnermost options entry stack ⊎ IsBehind options entry stack
 
 -- whether something at this depth may be looked at: the root, or what stands anywhere, where links are followed or devices
 -- matter

@@ -65,5 +65,6 @@ coded_options =
 
 abbrev pub coded_built : {S : Type 0} → Coded S → Coded (Built S)
 coded_built {S} sorter =
-    code_by (Path × (Options × Option S)) (coded× (coded_list (coded_list coded_ℕ)) (coded× coded_options (coded_option sorter))) (λ b. (b.root, (b.options, b.sorter)))
+    code_by (Path × (Options × Option S)) (coded× (coded_list (coded_list coded_ℕ)) (coded× coded_options (coded_option sorter)))
+    (λ b. (b.root, (b.options, b.sorter)))
     (λ p. record { root = p.0; options = p.1.0; sorter = p.1.1 }) (λ _. refl)

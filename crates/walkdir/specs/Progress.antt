@@ -11,7 +11,6 @@ use Rattle.walkdir.specs.Error.{is_no_memory}
 use Rattle.walkdir.specs.Failures.{RoseBy, waiting}
 use Rattle.walkdir.specs.Innermost.{IsAfter, SkipsNone}
 use Rattle.walkdir.specs.Options.{Built}
-pub use Rattle.walkdir.specs.OwnStreams.{AreBack}
 use Rattle.walkdir.specs.OwnStreams.{Owns, are_apart}
 use Rattle.walkdir.specs.Stack.{StandsFor, ancestors, own_streams, weight, work_in}
 use Rattle.walkdir.specs.Directory.{many}
@@ -90,14 +89,15 @@ is_lost (Some (Ok entry)) = false
 is_lost None = false
 
 -- where the tree is told, this holds of each walk of it that has come here, with streams of its own
-abbrev pub OfEach : Option State → Progress → (Walking → Type 0) → Type 0
-OfEach state at Holds = IfSome state (λ s. (walk : Walking) (before : Streams) → walk.tree ≡ tree_of s → IsOf walk at → Keeps before at → Holds walk)
+abbrev pub ForEachWalkAt : Option State → Progress → (Walking → Type 0) → Type 0
+ForEachWalkAt state at Holds =
+    IfSome state (λ s. (walk : Walking) (before : Streams) → walk.tree ≡ tree_of s → IsOf walk at → Keeps before at → Holds walk)
 
 -- Where the tree is told, the item is the first of what the walk still gives, and the others are still to come. Want of
 -- memory ends the walk at any place.
 abbrev pub GivesNext : Option State → Progress → Option Item → Progress → Type 0
 GivesNext state old item new =
-    OfEach state old (λ walk. is_lost item ≡ false
+    ForEachWalkAt state old (λ walk. is_lost item ≡ false
     → IsOf walk new × ((rest : List Item) → StillGives walk new rest → StillGives walk old (option_to_list item ++ rest)))
 
 -- The failures that were given and those that are still to be given are no more than the disk's count of faults rose by
@@ -109,8 +109,7 @@ pub record FailsByFault (old : Progress) (before : ℕ) (given : ℕ) (new : Pro
 -- whether an item is the directory that is innermost on a stack
 abbrev pub is_innermost : List DirList → Option Item → Bool
 is_innermost stack (Some (Ok entry)) = is_dir entry && (entry.depth + 1 == length stack)
-is_innermost stack (Some (Err error)) = false
-is_innermost stack None = false
+is_innermost stack item = false
 
 -- an item that is an error is caused so, by the directories that the walk is in
 abbrev pub CausedWithin : Progress → Option Item → Type 0
@@ -127,11 +126,12 @@ TellsEntered walk None at = Unit {0}
 
 -- the same, where the tree is told
 abbrev pub GivesDirectory : Option State → Progress → Option Item → Progress → Type 0
-GivesDirectory state old item new = OfEach state old (λ walk. TellsEntered walk item new)
+GivesDirectory state old item new = ForEachWalkAt state old (λ walk. TellsEntered walk item new)
 
 -- where the tree is told, the directories that the walk is in are those that it entered
 abbrev pub GivesEntered : Option State → Progress → Option Item → Progress → Type 0
-GivesEntered state old item new = OfEach state old (λ walk. is_lost item ≡ false → AreEntered walk (ancestors old.stack) → AreEntered walk (ancestors new.stack))
+GivesEntered state old item new =
+    ForEachWalkAt state old (λ walk. is_lost item ≡ false → AreEntered walk (ancestors old.stack) → AreEntered walk (ancestors new.stack))
 
 -- what a call of `next` gives and leaves
 pub record Steps (state : Option State) (old : Progress) (item : Option Item) (new : Progress) : Type 0 where

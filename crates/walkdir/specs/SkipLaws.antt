@@ -22,7 +22,8 @@ pub record AreLeft (walk : Walking) (streams : Streams) (list : DirList) (outer 
 -- what a skip drops: the walks of the children that the innermost directory that isn't skipped yet still has
 abbrev pub IsDropped : Walking → Streams → List DirList → List Item → Type 0
 IsDropped walk streams [] dropped = dropped ≡ []
-IsDropped walk streams (list ∷ outer) dropped = MatchBool (is_skipped list.items) (IsDropped walk streams outer dropped) (AreLeft walk streams list outer dropped)
+IsDropped walk streams (list ∷ outer) dropped =
+    MatchBool (is_skipped list.items) (IsDropped walk streams outer dropped) (AreLeft walk streams list outer dropped)
 
 -- What is still to come after a skip was to come before: something was dropped, and whatever may be dropped stood in
 -- between.

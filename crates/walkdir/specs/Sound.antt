@@ -70,7 +70,8 @@ has_nothing items = not (is_some (stream_in items)) && (length (held items) == 0
 
 abbrev pub fits_at : Options → ℕ → DirList → Bool
 fits_at options depth list =
-    is_after options depth list.after && (are_at list.path (depth + 1) (held list.items) && (nat_lt depth options.max_depth || has_nothing list.items))
+    is_after options depth list.after
+    && (are_at list.path (depth + 1) (held list.items) && (nat_lt depth options.max_depth || has_nothing list.items))
 
 abbrev pub after_lies_in : Option DirEntry → List DirList → Bool
 after_lies_in None outer = true

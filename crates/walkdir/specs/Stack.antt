@@ -29,8 +29,10 @@ own_entry options (Some entry) = shown options entry
 -- comes after them, and then what the directories above it stand for.
 pub data StandsFor (walk : Walking) (streams : Streams) : List DirList → List Item → Type 0 where
   Nothing : StandsFor walk streams [] []
-  Within : {list : DirList} {outer : List DirList} {items : List Item} (children here others : List Item) → HasLeft streams (length outer + 1) list.path list.items children
-      → WalksOf walk (ancestors (list ∷ outer)) children here → StandsFor walk streams outer others → items ≡ here ++ own_entry walk.options list.after ++ others
+  Within : {list : DirList} {outer : List DirList} {items : List Item} (children here others : List Item)
+      → HasLeft streams (length outer + 1) list.path list.items children
+      → WalksOf walk (ancestors (list ∷ outer)) children here → StandsFor walk streams outer others
+      → items ≡ here ++ own_entry walk.options list.after ++ others
       → StandsFor walk streams (list ∷ outer) items
 
 -- ---- how much is left

@@ -1,6 +1,6 @@
 -- What the parts of a walk do in one turn. No public clause cites this module.
 pub mod Drawn
-pub mod Lists
+pub mod AtIndex
 pub mod Taken
 pub mod Stands
 use Rattle.std.specs.Prelude.{◌≡◌, ℕ, ◌+◌, ◌*◌, ◌<◌, ◌≤◌, Bool, true, false, [], Option, Some, None, Result, Ok, Err}

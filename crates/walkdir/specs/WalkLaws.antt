@@ -11,15 +11,18 @@ with_most walk most = record walk { options = record walk.options { max_open = m
 -- Two lists that a walk gives, neither with a failure of the disk, are the same list.
 abbrev pub GivesOneList : Walking → Type 0
 GivesOneList walk =
-    IfSome walk.order IsTotalOrder → (items others : List Item) → IsWalk walk items → IsWalk walk others → failures_among items ≡ 0 → failures_among others ≡ 0 → items ≡ others
+    IfSome walk.order IsTotalOrder → (items others : List Item) → IsWalk walk items → IsWalk walk others → failures_among items ≡ 0
+    → failures_among others ≡ 0 → items ≡ others
 
 -- Two walks give the same list, where neither has a failure of the disk.
 abbrev pub GiveOneList : Walking → Walking → Type 0
 GiveOneList walk other =
-    IfSome walk.order IsTotalOrder → (items others : List Item) → IsWalk walk items → IsWalk other others → failures_among items ≡ 0 → failures_among others ≡ 0 → items ≡ others
+    IfSome walk.order IsTotalOrder → (items others : List Item) → IsWalk walk items → IsWalk other others → failures_among items ≡ 0
+    → failures_among others ≡ 0 → items ≡ others
 
 -- The same, also where other numbers of directories may be open.
 abbrev pub IsSameForAnyMost : Walking → Type 0
 IsSameForAnyMost walk =
-    IfSome walk.order IsTotalOrder → (most other : ℕ) (items others : List Item) → IsWalk (with_most walk most) items → IsWalk (with_most walk other) others → failures_among items ≡ 0
+    IfSome walk.order IsTotalOrder → (most other : ℕ) (items others : List Item) → IsWalk (with_most walk most) items
+    → IsWalk (with_most walk other) others → failures_among items ≡ 0
     → failures_among others ≡ 0 → items ≡ others

@@ -1,3 +1,4 @@
+//! A walk is built: from its root, by its options and its order.
 ghost use Rattle.std.specs.Prelude.{◌≡◌, min, max, IfOk, IfErr, Some, None, true};
 ghost use Rattle.walkdir.specs.Options.{default_options, with_options};
 

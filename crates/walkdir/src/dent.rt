@@ -1,3 +1,4 @@
+//! What stands at one place of a walk: an entry, and what its calls tell.
 ghost use Rattle.std.specs.Prelude.{◌≡◌, ℕ};
 
 use crate::Result;
@@ -103,7 +104,7 @@ impl DirEntry {
 
     /// A copy of the entry.
     pub fn try_clone(&self, alloc: Global) -> std::result::Result<DirEntry, NoMemory>
-        ensures copied { IfOk result (λ copy. copy ≡ self.now) }
+        ensures copy { IfOk result (λ copy. copy ≡ self.now) }
     {
         Ok(DirEntry {
             path: self.path.try_clone(alloc)?,

@@ -1,3 +1,4 @@
+//! The errors of a walk: what went wrong at one place, and the text that says so.
 ghost use Rattle.std.specs.Prelude.{◌≡◌, ℕ, Option};
 ghost use Rattle.std.specs.Option.{option_copied};
 ghost use Rattle.walkdir.specs.Error.{refusal_name};
@@ -33,7 +34,8 @@ enum ErrorInner {
 }
 
 impl Error {
-    ghost use Rattle.walkdir.specs.Error.{path_of, ancestor_of, depth_of, disk_error_of, no_memory, is_no_memory, stream_failed, IsFromPath, IsFromLoop};
+    ghost use Rattle.walkdir.specs.Error.{path_of, ancestor_of, depth_of, disk_error_of};
+    ghost use Rattle.walkdir.specs.Error.{no_memory, is_no_memory, stream_failed, IsFromPath, IsFromLoop};
 
     /// The path at which it went wrong: of a loop, the link.
     pub fn path(&self) -> Option<&PathText>

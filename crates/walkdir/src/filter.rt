@@ -1,3 +1,4 @@
+//! Walks that leave out what a predicate rejects, and what lies below rejected directories.
 ghost use Rattle.std.specs.Prelude.{◌≡◌};
 ghost use Rattle.std.specs.Iterator.{IsFinite};
 ghost use Rattle.walkdir.specs.Filter.{Filters, LeavesNoMore};

@@ -5,11 +5,12 @@ ghost use Rattle.odb_disk.specs.CallsMade.{Leads};
 ghost use Rattle.walkdir.specs.Answered.{TellsOn};
 ghost use Rattle.walkdir.specs.Filter.{LeavesNoMore};
 ghost use Rattle.walkdir.specs.Failures.{failures_given};
-ghost use Rattle.walkdir.specs.FilteredWalk.{AnswersBy, GivesFiltered, TellsFiltered};
+ghost use Rattle.walkdir.specs.FilteredWalk.{AnswersBy, FiltersWalk, GivesFiltered, TellsFiltered};
 ghost use Rattle.walkdir.specs.OnDisk.{NextOn, SkipsOn};
 ghost use Rattle.walkdir.specs.SkipLaws.{SkipDrops, SkipLeaves};
 ghost use Rattle.walkdir.specs.Walk.{Walking};
-ghost use Rattle.walkdir.specs.Progress.{Progress, AreBack, FailsByFault, Keeps, Steps as StepsTo, has_its_streams, work_left};
+ghost use Rattle.walkdir.specs.OwnStreams.{AreBack};
+ghost use Rattle.walkdir.specs.Progress.{Progress, FailsByFault, Keeps, Steps as StepsTo, has_its_streams, work_left};
 ghost use Rattle.walkdir.specs.Skips.{Skips};
 
 use crate::filter::FilterEntry;
@@ -130,6 +131,7 @@ impl<'d, D: Disk, W: Steps> OnDisk<'d, D, W> {
     pub fn filter_entry<P: FnMut(&DirEntry) -> bool>(self, predicate: P) -> FilterEntry<Self, P>
         ensures walk { result.walk ≡ self.entry }
         ensures predicate { result.predicate ≡ predicate }
+        ensures filters { FiltersWalk D.state D.streams D.faults D.answered W.progress P.FnMut result }
         ensures gives { (accepts : DirEntry → Bool) → AnswersBy P.FnMut accepts
             → GivesFiltered D.state D.streams D.faults D.answered W.progress P.FnMut accepts result }
         ensures answered { TellsFiltered D.state D.streams D.faults D.answered W.progress P.FnMut result }

@@ -63,7 +63,7 @@ impl<S: Sorter + Drop> Stack<S> {
     ghost use Rattle.walkdir.specs.Innermost.{is_head_skipped, IsAfter};
     ghost use Rattle.walkdir.specs.Turns.{fresh, given_if, handed, item_of, GoesOn, Turns};
     ghost use Rattle.walkdir.specs.Turns.Stands.{BeginsWalk, HandlesEntry};
-    ghost use Rattle.walkdir.specs.Turns.Lists.{IsUnskipped};
+    ghost use Rattle.walkdir.specs.Turns.AtIndex.{IsUnskipped};
     ghost use Rattle.walkdir.specs.EnteredTurns.{BeginsAbove, BeginsTelling, HandlesAbove, HandlesTelling};
     ghost use Rattle.walkdir.specs.Stack.{ancestors};
 
@@ -91,7 +91,7 @@ impl<S: Sorter + Drop> Stack<S> {
         }
     }
 
-    /// One turn: the root, or the next child of the innermost directory.
+    /// One turn: the root, or what a walk that has begun comes to.
     fn turn<D: Disk>(&mut self, disk: &mut D) -> Turn
         requires own { has_its_streams (progress S.order self.old (D.streams disk.old)) ≡ true }
         ensures gives { GivesNext (D.state disk.old) (progress S.order self.old (D.streams disk.old)) (item_of result)
@@ -109,9 +109,31 @@ impl<S: Sorter + Drop> Stack<S> {
             (item_of result) (progress S.order self.new (D.streams disk.new)) }
         ensures state { D.state disk.new ≡ D.state disk.old }
     {
-        if let Some(root) = self.start.take() {
-            return turn_of(self.start_at(disk, root));
+        match self.start.take() {
+            Some(root) => turn_of(self.start_at(disk, root)),
+            None => self.begun_turn(disk),
         }
+    }
+
+    /// One turn of a walk that has begun: the next child of the innermost directory, or that is left.
+    fn begun_turn<D: Disk>(&mut self, disk: &mut D) -> Turn
+        requires own { has_its_streams (progress S.order self.old (D.streams disk.old)) ≡ true }
+        requires begun { self.old.start ≡ None }
+        ensures gives { GivesNext (D.state disk.old) (progress S.order self.old (D.streams disk.old)) (item_of result)
+            (progress S.order self.new (D.streams disk.new)) }
+        ensures turns { Turns (progress S.order self.old (D.streams disk.old)) result
+            (progress S.order self.new (D.streams disk.new)) }
+        ensures faults { FailsByFault (progress S.order self.old (D.streams disk.old)) (D.faults disk.old)
+            (failures_given (item_of result)) (progress S.order self.new (D.streams disk.new)) (D.faults disk.new) }
+        ensures answered { TellsOn D.answered disk.old (reverse self.old.lists.items) (item_of result) disk.new
+            (reverse self.new.lists.items) }
+        ensures directory { self.old.entered ≡ false
+            → GivesDirectory (D.state disk.old) (progress S.order self.old (D.streams disk.old)) (item_of result)
+            (progress S.order self.new (D.streams disk.new)) }
+        ensures above { GivesEntered (D.state disk.old) (progress S.order self.old (D.streams disk.old))
+            (item_of result) (progress S.order self.new (D.streams disk.new)) }
+        ensures state { D.state disk.new ≡ D.state disk.old }
+    {
         let Some(index) = self.lists.len().checked_sub(1) else {
             return Turn::Ended;
         };

@@ -164,7 +164,8 @@ impl<'d, D: Disk, W: Steps> Iterator for WalkDirIter<'d, D, W> {
 impl<'d, D: Disk, W: Steps> Drop for WalkDirIter<'d, D, W> {
     ghost use Rattle.odb_disk.specs.CallsMade.{Leads};
     ghost use Rattle.odb_disk.specs.Streams.{Streams};
-    ghost use Rattle.walkdir.specs.Progress.{AreBack, Keeps};
+    ghost use Rattle.walkdir.specs.OwnStreams.{AreBack};
+    ghost use Rattle.walkdir.specs.Progress.{Keeps};
 
     fn drop(self)
         ensures back { (before : Streams) → Keeps before (W.progress self.entry.walk (D.streams self.entry.disk.now))

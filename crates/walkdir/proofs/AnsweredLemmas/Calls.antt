@@ -55,24 +55,32 @@ module _ {D : Type 0} (answered : D → DiskAsk → DiskAnswer → D → Type 0)
   refused_told old new depth path refusals.Failed error (inr lost) call = subst (λ (e : Error). IsSeenIn answered old new e.inner) (sym lost) tt
   refused_told old new depth path refusals.NoMemory error lost call = subst (λ (e : Error). IsSeenIn answered old new e.inner) (sym lost) tt
 
-  pub look_leads : (depth : ℕ) (path : Path) (follow : Bool) (old new : D) (result : Result Meta Error) → LooksBy answered depth path follow old result new → Leads answered old new
+  pub look_leads : (depth : ℕ) (path : Path) (follow : Bool) (old new : D) (result : Result Meta Error)
+      → LooksBy answered depth path follow old result new → Leads answered old new
   look_leads depth path follow old new (Ok meta) by = leads_by_one answered old new (asks.Look path follow) (answers.Meta meta) by
   look_leads depth path follow old new (Err error) by = leads_by_one answered old new (asks.Look path follow) (answers.Refused by.0) by.1
 
   -- since an earlier disk
-  pub look_refused : (first : D) (depth : ℕ) (path : Path) (follow : Bool) (old new : D) (error : Error) → Leads answered first old → LooksBy answered depth path follow old (Err error) new
+  pub look_refused : (first : D) (depth : ℕ) (path : Path) (follow : Bool) (old new : D) (error : Error) → Leads answered first old
+      → LooksBy answered depth path follow old (Err error) new
       → IsSeenIn answered first new error.inner
   look_refused first depth path follow old new error earlier by =
       seen_since answered first old new error.inner earlier
       (refused_told old new depth path by.0 error by.2 (follow, answered_here answered old new (asks.Look path follow) (answers.Refused by.0) by.1))
 
-  look_placed : (first : D) (depth : ℕ) (path : Path) (old new : D) (meta : Meta) → Leads answered first old → LooksBy answered depth path true old (Ok meta) new
+  look_placed : (first : D) (depth : ℕ) (path : Path) (old new : D) (meta : Meta) → Leads answered first old
+      → LooksBy answered depth path true old (Ok meta) new
       → IsPlaceTold answered first new path (place_of meta)
   look_placed first depth path old new meta earlier by =
-      place_wider answered first old new new path (place_of meta) earlier (meta, answered_here answered old new (asks.Look path true) (answers.Meta meta) by, refl) (leads_nowhere answered new)
+      place_wider answered first old new new path (place_of meta) earlier (
+        meta,
+        answered_here answered old new (asks.Look path true) (answers.Meta meta) by,
+        refl,
+      ) (leads_nowhere answered new)
 
   -- a place that a look told, by the names that the code has
-  pub look_known : (first : D) (depth : ℕ) (path at : Path) (old new : D) (meta : Meta) (place : Place) → Leads answered first old → LooksBy answered depth path true old (Ok meta) new → path ≡ at
+  pub look_known : (first : D) (depth : ℕ) (path at : Path) (old new : D) (meta : Meta) (place : Place) → Leads answered first old
+      → LooksBy answered depth path true old (Ok meta) new → path ≡ at
       → place ≡ place_of meta → IsPlaceTold answered first new at place
   look_known first depth path at old new meta place earlier by same is =
       subst (λ (p : Path). IsPlaceTold answered first new p place) same
@@ -81,10 +89,13 @@ module _ {D : Type 0} (answered : D → DiskAsk → DiskAnswer → D → Type 0)
   pub stream_told : (old new : D) (depth : ℕ) {dir : ℕ} (refusal : DiskError) → answered old (asks.NextEntry dir) (answers.Refused refusal) new
       → IsHeldIn answered old new (stream_failed depth refusal).inner
   stream_told old new depth {dir} refusals.Absent by = (dir, answered_here answered old new (asks.NextEntry dir) (answers.Refused refusals.Absent) by)
-  stream_told old new depth {dir} refusals.WrongKind by = (dir, answered_here answered old new (asks.NextEntry dir) (answers.Refused refusals.WrongKind) by)
-  stream_told old new depth {dir} refusals.LinkLoop by = (dir, answered_here answered old new (asks.NextEntry dir) (answers.Refused refusals.LinkLoop) by)
+  stream_told old new depth {dir} refusals.WrongKind by =
+      (dir, answered_here answered old new (asks.NextEntry dir) (answers.Refused refusals.WrongKind) by)
+  stream_told old new depth {dir} refusals.LinkLoop by =
+      (dir, answered_here answered old new (asks.NextEntry dir) (answers.Refused refusals.LinkLoop) by)
   stream_told old new depth {dir} refusals.Exists by = (dir, answered_here answered old new (asks.NextEntry dir) (answers.Refused refusals.Exists) by)
-  stream_told old new depth {dir} refusals.NotEmpty by = (dir, answered_here answered old new (asks.NextEntry dir) (answers.Refused refusals.NotEmpty) by)
+  stream_told old new depth {dir} refusals.NotEmpty by =
+      (dir, answered_here answered old new (asks.NextEntry dir) (answers.Refused refusals.NotEmpty) by)
   stream_told old new depth {dir} refusals.Failed by = (dir, answered_here answered old new (asks.NextEntry dir) (answers.Refused refusals.Failed) by)
   stream_told old new depth {dir} refusals.NoMemory by = tt
 
@@ -93,17 +104,26 @@ module _ {D : Type 0} (answered : D → DiskAsk → DiskAnswer → D → Type 0)
   unopened_told old new depth path refusal items only by =
       subst (AreHeld answered old new) (sym only.1) (answered_here answered old new (asks.OpenDir path) (answers.Refused refusal) by, tt)
 
-  pub contents_unopened : (old new : D) (depth : ℕ) (path : Path) (refusal : DiskError) (result : Result Items Error) → IfOk result (λ items. OnlyFailure depth path refusal items)
+  pub contents_unopened : (old new : D) (depth : ℕ) (path : Path) (refusal : DiskError) (result : Result Items Error)
+      → IfOk result (λ items. OnlyFailure depth path refusal items)
       → answered old (asks.OpenDir path) (answers.Refused refusal) new → TellsContents answered old result new
-  contents_unopened old new depth path refusal (Ok items) only by = record { leads = leads_by answered old new by; told = unopened_told old new depth path refusal items only by }
+  contents_unopened old new depth path refusal (Ok items) only by =
+      record { leads = leads_by answered old new by; told = unopened_told old new depth path refusal items only by }
   contents_unopened old new depth path refusal (Err error) only by = record { leads = leads_by answered old new by; told = tt }
 
-  pub contents_after : (first old new : D) (result : Result Items Error) → Leads answered first old → TellsContents answered old result new → TellsContents answered first result new
-  contents_after first old new (Ok items) earlier tells = record { leads = leads_then answered first old new earlier tells.leads; told = are_since answered first old new (held items) earlier tells.told }
+  pub contents_after : (first old new : D) (result : Result Items Error) → Leads answered first old → TellsContents answered old result new
+      → TellsContents answered first result new
+  contents_after first old new (Ok items) earlier tells =
+      record {
+        leads = leads_then answered first old new earlier tells.leads;
+        told = are_since answered first old new (held items) earlier tells.told;
+      }
   contents_after first old new (Err error) earlier tells = record { leads = leads_then answered first old new earlier tells.leads; told = tt }
 
-  pub contents_lost : (old new : D) (result : Result Items Error) (error : Error) → result ≡ Err error → Leads answered old new → TellsContents answered old result new
-  contents_lost old new result error is leads = subst (λ (r : Result Items Error). TellsContents answered old r new) (sym is) (record { leads = leads; told = tt })
+  pub contents_lost : (old new : D) (result : Result Items Error) (error : Error) → result ≡ Err error → Leads answered old new
+      → TellsContents answered old result new
+  contents_lost old new result error is leads =
+      subst (λ (r : Result Items Error). TellsContents answered old r new) (sym is) (record { leads = leads; told = tt })
 
   pub child_told : (old new : D) (result : Result DirEntry Error) → IfErr result (λ e. e ≡ no_memory) → IsHeld answered old new result
   child_told old new (Ok entry) lost = tt
@@ -111,11 +131,13 @@ module _ {D : Type 0} (answered : D → DiskAsk → DiskAnswer → D → Type 0)
 
   -- ---- what a stream gave
 
-  pub told_push : (first now : D) (items : List Item) (item : Item) → AreHeld answered first now items → IsHeld answered first now item → AreHeld answered first now (items ++ item ∷ [])
+  pub told_push : (first now : D) (items : List Item) (item : Item) → AreHeld answered first now items → IsHeld answered first now item
+      → AreHeld answered first now (items ++ item ∷ [])
   told_push first now [] item told last = (last, tt)
   told_push first now (next ∷ items) item told last = (told.0, told_push first now items item told.1 last)
 
-  pub are_later : (first now last : D) (items : List Item) → Leads answered now last → AreHeld answered first now items → AreHeld answered first last items
+  pub are_later : (first now last : D) (items : List Item) → Leads answered now last → AreHeld answered first now items
+      → AreHeld answered first last items
   are_later first now last items later told = are_wider answered first first now last items (leads_nowhere answered first) told later
 
   errors_told : (first now : D) (given : List Item) → AreHeld answered first now given → AreHeld answered first now (filter_map error_in given)
@@ -123,11 +145,14 @@ module _ {D : Type 0} (answered : D → DiskAsk → DiskAnswer → D → Type 0)
   errors_told first now (Ok entry ∷ given) told = errors_told first now given told.1
   errors_told first now (Err error ∷ given) told = (told.0, errors_told first now given told.1)
 
-  told_append : (first now : D) (items : List Item) (entries : List DirEntry) → AreHeld answered first now items → AreHeld answered first now (items ++ map Ok entries)
+  told_append : (first now : D) (items : List Item) (entries : List DirEntry) → AreHeld answered first now items
+      → AreHeld answered first now (items ++ map Ok entries)
   told_append first now [] [] told = tt
   told_append first now [] (entry ∷ entries) told = (tt, told_append first now [] entries tt)
   told_append first now (item ∷ items) entries told = (told.0, told_append first now items entries told.1)
 
-  pub ordered_told : (first now : D) (order : Order) (given children : List Item) → IsInOrder order given children → AreHeld answered first now given → AreHeld answered first now children
+  pub ordered_told : (first now : D) (order : Order) (given children : List Item) → IsInOrder order given children → AreHeld answered first now given
+      → AreHeld answered first now children
   ordered_told first now order given children ordered told =
-      subst (AreHeld answered first now) (sym ordered.is) (told_append first now (filter_map error_in given) ordered.entries (errors_told first now given told))
+      subst (AreHeld answered first now) (sym ordered.is)
+      (told_append first now (filter_map error_in given) ordered.entries (errors_told first now given told))

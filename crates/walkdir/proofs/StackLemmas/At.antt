@@ -11,7 +11,7 @@ use Rattle.walkdir.specs.Entry.{is_dir}
 use Rattle.walkdir.specs.Directory.{AreAt, is_skipped, held, stream_in}
 use Rattle.walkdir.specs.Sound.{FitsAt, Fits, IsNested, IsSound}
 use Rattle.walkdir.specs.Stack.{ancestors, own_streams}
-use Rattle.walkdir.specs.Turns.Lists.{AllSkipped, Puts, Unskips}
+use Rattle.walkdir.specs.Turns.AtIndex.{AllSkipped, Puts, Unskips}
 use Rattle.walkdir.specs.Turns.{given_if}
 use Rattle.walkdir.specs.Within.{LiesIn}
 use Rattle.walkdir.specs.declared.dent.DirEntry.{DirEntry}
@@ -23,7 +23,8 @@ use Rattle.walkdir.proofs.StackLemmas.Sound.{fits_at}
 
 -- ---- what always holds
 
-pub cut_at : (lists : List DirList) (index : ℕ) (list : DirList) → index < length lists → list ≡ get_or lists index list → lists ≡ take index lists ++ list ∷ drop (suc index) lists
+pub cut_at : (lists : List DirList) (index : ℕ) (list : DirList) → index < length lists → list ≡ get_or lists index list
+    → lists ≡ take index lists ++ list ∷ drop (suc index) lists
 cut_at lists index list within is = split_at lists index list within ∙ ap (λ l. take index lists ++ l ∷ drop (suc index) lists) (sym is)
 
 pub cut_length : (lists : List DirList) (index : ℕ) → index < length lists → length (take index lists) ≡ index
@@ -40,9 +41,11 @@ puts_set lists index list items within is = record {
   is = set_split lists index (record list { items = items }) within;
 }
 
-ancestors_put : (inner : List DirList) (list : DirList) (items : Items) (outer : List DirList) → ancestors (inner ++ (record list { items = items }) ∷ outer) ≡ ancestors (inner ++ list ∷ outer)
+ancestors_put : (inner : List DirList) (list : DirList) (items : Items) (outer : List DirList)
+    → ancestors (inner ++ (record list { items = items }) ∷ outer) ≡ ancestors (inner ++ list ∷ outer)
 ancestors_put [] list items outer = refl
-ancestors_put (first ∷ inner) list items outer = ap (λ (a : List Ancestor). (record { path = first.path; place = first.place }) ∷ a) (ancestors_put inner list items outer)
+ancestors_put (first ∷ inner) list items outer =
+    ap (λ (a : List Ancestor). (record { path = first.path; place = first.place }) ∷ a) (ancestors_put inner list items outer)
 
 -- the directories stay where one has other contents
 pub puts_above : (old new : List DirList) (index : ℕ) (items : Items) → Puts old new index items → ancestors (reverse new) ≡ ancestors (reverse old)
@@ -53,7 +56,8 @@ puts_above old new index items puts =
 
 -- ---- the directory at an index has no stream any more
 
-pub closed_past : (outer : List DirList) (list : DirList) (inner lists : List DirList) (index : ℕ) → length outer ≡ index → lists ≡ outer ++ list ∷ inner
+pub closed_past : (outer : List DirList) (list : DirList) (inner lists : List DirList) (index : ℕ) → length outer ≡ index
+    → lists ≡ outer ++ list ∷ inner
     → stream_in list.items ≡ None → own_streams (take index lists) ≡ [] → own_streams (take (index + 1) lists) ≡ []
 closed_past outer list inner lists index at is none closed =
     let cut : take (length outer + 1) (outer ++ list ∷ inner) ≡ outer ++ list ∷ [] =
@@ -61,13 +65,15 @@ closed_past outer list inner lists index at is none closed =
     ∙ ap (λ n. take n ((outer ++ list ∷ []) ++ inner)) (sym (length-append outer (list ∷ [])))
     ∙ take-append_seam (outer ++ list ∷ []) inner in
     let front : take (length outer) (outer ++ list ∷ inner) ≡ outer = take-append_seam outer (list ∷ inner) in
-    let empty : own_streams outer ≡ [] = ap own_streams (sym front) ∙ subst (λ l. own_streams (take (length outer) l) ≡ []) is (subst (λ n. own_streams (take n lists) ≡ []) (sym at) closed) in
+    let empty : own_streams outer ≡ [] = ap own_streams (sym front)
+    ∙ subst (λ l. own_streams (take (length outer) l) ≡ []) is (subst (λ n. own_streams (take n lists) ≡ []) (sym at) closed) in
     subst (λ n. own_streams (take (n + 1) lists) ≡ []) at
     (ap (λ l. own_streams (take (length outer + 1) l)) is ∙ ap own_streams cut ∙ own_past outer list [] none ∙ ap (λ o. o ++ []) empty)
 
 -- ---- a directory at the greatest depth has no stream
 
-pub no_deep_stream : (options : Options) (start : Option Path) (lists : List DirList) (first_open index : ℕ) (list : DirList) (dir : ℕ) → IsSound options start lists first_open
+pub no_deep_stream : (options : Options) (start : Option Path) (lists : List DirList) (first_open index : ℕ) (list : DirList) (dir : ℕ)
+    → IsSound options start lists first_open
     → index < length lists → list ≡ get_or lists index list → stream_in list.items ≡ Some dir → options.max_depth ≤ index → ⊥
 no_deep_stream options start lists first_open index list dir sound within at own deep =
     let outer = take index lists in
@@ -80,12 +86,15 @@ no_deep_stream options start lists first_open index list dir sound within at own
     let no : Some dir ≡ None = sym own ∙ none in
     cc
 
-pub top_cut : (lists : List DirList) (index : ℕ) (list : DirList) → index + 1 ≡ length lists → list ≡ get_or lists index list → reverse lists ≡ list ∷ reverse (take index lists)
+pub top_cut : (lists : List DirList) (index : ℕ) (list : DirList) → index + 1 ≡ length lists → list ≡ get_or lists index list
+    → reverse lists ≡ list ∷ reverse (take index lists)
 top_cut lists index list last at =
     let behind : drop (suc index) lists ≡ [] = drop_of_length-le lists {i = suc index} (omega arith) in
-    ap reverse (cut_at lists index list (omega arith) at) ∙ reversed_at (take index lists) list (drop (suc index) lists) ∙ ap (λ i. reverse i ++ list ∷ reverse (take index lists)) behind
+    ap reverse (cut_at lists index list (omega arith) at) ∙ reversed_at (take index lists) list (drop (suc index) lists)
+    ∙ ap (λ i. reverse i ++ list ∷ reverse (take index lists)) behind
 
-pub fit_at : (options : Options) (start : Option Path) (lists : List DirList) (first_open index : ℕ) (list : DirList) → IsSound options start lists first_open
+pub fit_at : (options : Options) (start : Option Path) (lists : List DirList) (first_open index : ℕ) (list : DirList)
+    → IsSound options start lists first_open
     → index < length lists → list ≡ get_or lists index list → FitsAt options index list
 fit_at options start lists first_open index list sound within at =
     let outer = take index lists in
@@ -102,30 +111,37 @@ false_lt : (a b : ℕ) → nat_lt a b ≡ false → b ≤ a
 false_lt a b is = grind (arith, nat_tests)
 
 -- a directory that has a stream, or something that was read, isn't at the greatest depth
-pub shallow_stream : (options : Options) (start : Option Path) (lists : List DirList) (first_open index : ℕ) (list : DirList) (dir : ℕ) → IsSound options start lists first_open
+pub shallow_stream : (options : Options) (start : Option Path) (lists : List DirList) (first_open index : ℕ) (list : DirList) (dir : ℕ)
+    → IsSound options start lists first_open
     → index < length lists → list ≡ get_or lists index list → stream_in list.items ≡ Some dir → index < options.max_depth
-shallow_stream options start lists first_open index list dir sound within at own = elim (nat_lt index options.max_depth) as (λ b. nat_lt index options.max_depth ≡ b → index < options.max_depth) [
-  | true ↦ λ less. lt_true index options.max_depth less
-  | false ↦ λ deep. absurd (no_deep_stream options start lists first_open index list dir sound within at own (false_lt index options.max_depth deep))
-] refl
+shallow_stream options start lists first_open index list dir sound within at own =
+    elim (nat_lt index options.max_depth) as (λ b. nat_lt index options.max_depth ≡ b → index < options.max_depth) [
+      | true ↦ λ less. lt_true index options.max_depth less
+      | false ↦ λ deep. absurd (no_deep_stream options start lists first_open index list dir sound within at own
+          (false_lt index options.max_depth deep))
+    ] refl
 
-pub shallow_held : (options : Options) (start : Option Path) (lists : List DirList) (first_open index : ℕ) (list : DirList) (item : Item) (items : List Item) → IsSound options start lists first_open
+pub shallow_held : (options : Options) (start : Option Path) (lists : List DirList) (first_open index : ℕ) (list : DirList) (item : Item)
+    (items : List Item) → IsSound options start lists first_open
     → index < length lists → list ≡ get_or lists index list → held list.items ≡ item ∷ items → index < options.max_depth
-shallow_held options start lists first_open index list item items sound within at is = elim (nat_lt index options.max_depth) as (λ b. nat_lt index options.max_depth ≡ b → index < options.max_depth) [
-  | true ↦ λ less. lt_true index options.max_depth less
-  | false ↦ λ deep.
-      let fit : FitsAt options index list = fit_at options start lists first_open index list sound within at in
-      let none : held list.items ≡ [] = (fit.deepest (false_lt index options.max_depth deep)).nothing in
-      let no : item ∷ items ≡ [] = sym is ∙ none in
-      cc
-] refl
+shallow_held options start lists first_open index list item items sound within at is =
+    elim (nat_lt index options.max_depth) as (λ b. nat_lt index options.max_depth ≡ b → index < options.max_depth) [
+      | true ↦ λ less. lt_true index options.max_depth less
+      | false ↦ λ deep.
+          let fit : FitsAt options index list = fit_at options start lists first_open index list sound within at in
+          let none : held list.items ≡ [] = (fit.deepest (false_lt index options.max_depth deep)).nothing in
+          let no : item ∷ items ≡ [] = sym is ∙ none in
+          cc
+    ] refl
 
 -- what was read of a directory stands one deeper
-pub held_at : (options : Options) (start : Option Path) (lists : List DirList) (first_open index : ℕ) (list : DirList) → IsSound options start lists first_open
+pub held_at : (options : Options) (start : Option Path) (lists : List DirList) (first_open index : ℕ) (list : DirList)
+    → IsSound options start lists first_open
     → index < length lists → list ≡ get_or lists index list → AreAt list.path (index + 1) (held list.items)
 held_at options start lists first_open index list sound within at = (fit_at options start lists first_open index list sound within at).children
 
-pub top_fit : (options : Options) (start : Option Path) (old new : List DirList) (list : DirList) (first_open : ℕ) → IsSound options start old first_open → old ≡ new ++ list ∷ []
+pub top_fit : (options : Options) (start : Option Path) (old new : List DirList) (list : DirList) (first_open : ℕ)
+    → IsSound options start old first_open → old ≡ new ++ list ∷ []
     → FitsAt options (length new) list
 unfolding Fits
 top_fit options start old new list first_open sound was =
@@ -133,7 +149,8 @@ top_fit options start old new list first_open sound was =
     subst (λ n. FitsAt options n list) (length-reverse new) fits.0
 
 -- the directory above the innermost one holds it
-top_nested : (options : Options) (start : Option Path) (old new : List DirList) (list : DirList) (first_open : ℕ) → IsSound options start old first_open → old ≡ new ++ list ∷ []
+top_nested : (options : Options) (start : Option Path) (old new : List DirList) (list : DirList) (first_open : ℕ)
+    → IsSound options start old first_open → old ≡ new ++ list ∷ []
     → IsNested list (reverse new)
 unfolding Fits
 top_nested options start old new list first_open sound was =
@@ -141,22 +158,28 @@ top_nested options start old new list first_open sound was =
     fits.1
 
 after_fits : (options : Options) (after : Option DirEntry) (entry : DirEntry) (n : ℕ) → after ≡ Some entry
-    → IfSome after (λ e. (e.depth ≡ n) × (is_dir e ≡ true) × (options.contents_first ≡ true)) → (entry.depth ≡ n) × (is_dir entry ≡ true) × (options.contents_first ≡ true)
-after_fits options after entry n is fits = subst (λ (o : Option DirEntry). IfSome o (λ e. (e.depth ≡ n) × (is_dir e ≡ true) × (options.contents_first ≡ true))) is fits
+    → IfSome after (λ e. (e.depth ≡ n) × (is_dir e ≡ true) × (options.contents_first ≡ true)) → (entry.depth ≡ n) × (is_dir entry ≡ true)
+    × (options.contents_first ≡ true)
+after_fits options after entry n is fits =
+    subst (λ (o : Option DirEntry). IfSome o (λ e. (e.depth ≡ n) × (is_dir e ≡ true) × (options.contents_first ≡ true))) is fits
 
 given_depth : (b : Bool) (entry : DirEntry) (n : ℕ) → entry.depth ≡ n → IfSome (given_if b entry) (λ e. e.depth ≡ n)
 given_depth true entry n is = is
 given_depth false entry n is = tt
 
 -- the entry of a directory that is left stands as deep as it did
-pub left_depth : (options : Options) (start : Option Path) (old new : List DirList) (list : DirList) (first_open : ℕ) (entry : DirEntry) (result : Option DirEntry) (b : Bool)
-    → IsSound options start old first_open → old ≡ new ++ list ∷ [] → list.after ≡ Some entry → result ≡ given_if b entry → IfSome result (λ e. e.depth ≡ length new)
+pub left_depth : (options : Options) (start : Option Path) (old new : List DirList) (list : DirList) (first_open : ℕ) (entry : DirEntry)
+    (result : Option DirEntry) (b : Bool)
+    → IsSound options start old first_open → old ≡ new ++ list ∷ [] → list.after ≡ Some entry → result ≡ given_if b entry
+    → IfSome result (λ e. e.depth ≡ length new)
 left_depth options start old new list first_open entry result b sound was is given =
     subst (λ (o : Option DirEntry). IfSome o (λ e. e.depth ≡ length new)) (sym given)
-    (given_depth b entry (length new) (after_fits options list.after entry (length new) is (top_fit options start old new list first_open sound was).after).0)
+    (given_depth b entry (length new) (after_fits options list.after entry (length new) is
+    (top_fit options start old new list first_open sound was).after).0)
 
 -- a directory that has its own entry still to come gives it after its contents
-pub left_first : (options : Options) (start : Option Path) (old new : List DirList) (list : DirList) (first_open : ℕ) (entry : DirEntry) → IsSound options start old first_open → old ≡ new ++ list ∷ []
+pub left_first : (options : Options) (start : Option Path) (old new : List DirList) (list : DirList) (first_open : ℕ) (entry : DirEntry)
+    → IsSound options start old first_open → old ≡ new ++ list ∷ []
     → list.after ≡ Some entry → options.contents_first ≡ true
 left_first options start old new list first_open entry sound was is =
     (after_fits options list.after entry (length new) is (top_fit options start old new list first_open sound was).after).2
@@ -167,7 +190,8 @@ given_own true entry outer dir lies = (dir, lies)
 given_own false entry outer dir lies = tt
 
 -- the entry of a directory that is left is a directory, and lies in the one that is innermost then
-pub left_own : (options : Options) (start : Option Path) (old new : List DirList) (list : DirList) (first_open : ℕ) (entry : DirEntry) (result : Option DirEntry) (b : Bool)
+pub left_own : (options : Options) (start : Option Path) (old new : List DirList) (list : DirList) (first_open : ℕ) (entry : DirEntry)
+    (result : Option DirEntry) (b : Bool)
     → IsSound options start old first_open → old ≡ new ++ list ∷ [] → list.after ≡ Some entry → result ≡ given_if b entry
     → IfSome result (λ e. (is_dir e ≡ true) × LiesIn e.path (reverse new))
 left_own options start old new list first_open entry result b sound was is given =
@@ -179,21 +203,26 @@ left_own options start old new list first_open entry result b sound was is given
 -- an element is what stands at its index
 pub one_at : (lists : List DirList) (index : ℕ) (a b : DirList) → index < length lists → a ≡ get_or lists index a → b ≡ get_or lists index b → a ≡ b
 one_at lists index a b within first second =
-    first ∙ ap (λ l. get_or l index a) (cut_at lists index b within second) ∙ ap (λ n. get_or (take index lists ++ b ∷ drop (suc index) lists) n a) (sym (cut_length lists index within))
+    first ∙ ap (λ l. get_or l index a) (cut_at lists index b within second) ∙ ap (λ n. get_or (take index lists ++ b ∷ drop (suc index) lists) n a)
+    (sym (cut_length lists index within))
     ∙ get_or-append_seam (take index lists) b (drop (suc index) lists) a
 
 -- ---- the innermost directory that isn't skipped yet
 
-cut_drop : (lists : List DirList) (index : ℕ) (list : DirList) → index < length lists → list ≡ get_or lists index list → drop index lists ≡ list ∷ drop (index + 1) lists
+cut_drop : (lists : List DirList) (index : ℕ) (list : DirList) → index < length lists → list ≡ get_or lists index list
+    → drop index lists ≡ list ∷ drop (index + 1) lists
 cut_drop lists index list within is =
-    drop-cons lists index list within ∙ ap (λ l. l ∷ drop (suc index) lists) (sym is) ∙ ap (λ n. list ∷ drop n lists) (let e : suc index ≡ index + 1 = omega arith in e)
+    drop-cons lists index list within ∙ ap (λ l. l ∷ drop (suc index) lists) (sym is) ∙ ap (λ n. list ∷ drop n lists)
+    (let e : suc index ≡ index + 1 = omega arith in e)
 
-pub one_skipped : (lists : List DirList) (index next : ℕ) (list : DirList) → index < length lists → next ≡ index + 1 → list ≡ get_or lists index list → is_skipped list.items ≡ true
+pub one_skipped : (lists : List DirList) (index next : ℕ) (list : DirList) → index < length lists → next ≡ index + 1 → list ≡ get_or lists index list
+    → is_skipped list.items ≡ true
     → AllSkipped (drop next lists) → AllSkipped (drop index lists)
 one_skipped lists index next list within is at skipped others =
     subst AllSkipped (sym (cut_drop lists index list within at)) (skipped, subst (λ n. AllSkipped (drop n lists)) is others)
 
-pub one_unskipped : (lists : List DirList) (index next : ℕ) (list : DirList) → index < length lists → next ≡ index + 1 → list ≡ get_or lists index list → is_skipped list.items ≡ false
+pub one_unskipped : (lists : List DirList) (index next : ℕ) (list : DirList) → index < length lists → next ≡ index + 1
+    → list ≡ get_or lists index list → is_skipped list.items ≡ false
     → AllSkipped (drop next lists) → Unskips lists index
 one_unskipped lists index next list within is at own others = record {
   outer = take index lists;

@@ -7,7 +7,7 @@ use Rattle.odb_base.specs.Path.{Path}
 use Rattle.walkdir.specs.Directory.{AreAt, held, stream_in}
 use Rattle.walkdir.specs.Sound.{FitsAt, Fits, IsNested, IsSound}
 use Rattle.walkdir.specs.Stack.{own_streams}
-use Rattle.walkdir.specs.Turns.Lists.{Puts}
+use Rattle.walkdir.specs.Turns.AtIndex.{Puts}
 use Rattle.walkdir.specs.declared.builder.Options.{Options}
 use Rattle.walkdir.specs.declared.directory.DirList.{DirList}
 use Rattle.walkdir.specs.declared.directory.Items.{Items}
@@ -15,7 +15,8 @@ use Rattle.walkdir.proofs.StackLemmas.{closed_less, closed_put, reversed_at, rev
 
 -- ---- depths
 
-pub fits_at : (options : Options) (inner : List DirList) (list : DirList) (outer : List DirList) → Fits options (inner ++ list ∷ outer) → FitsAt options (length outer) list
+pub fits_at : (options : Options) (inner : List DirList) (list : DirList) (outer : List DirList) → Fits options (inner ++ list ∷ outer)
+    → FitsAt options (length outer) list
 unfolding Fits
 fits_at options [] list outer fits = fits.0
 fits_at options (first ∷ inner) list outer fits = fits_at options inner list outer fits.2
@@ -25,12 +26,14 @@ nested_put : (first : DirList) (inner : List DirList) (list : DirList) (items : 
 nested_put first [] list items outer nested = nested
 nested_put first (next ∷ inner) list items outer nested = nested
 
-pub fits_put : (options : Options) (inner : List DirList) (list : DirList) (items : Items) (outer : List DirList) → FitsAt options (length outer) (record list { items = items })
+pub fits_put : (options : Options) (inner : List DirList) (list : DirList) (items : Items) (outer : List DirList) → FitsAt options (length outer)
+    (record list { items = items })
     → Fits options (inner ++ list ∷ outer) → Fits options (inner ++ (record list { items = items }) ∷ outer)
 unfolding Fits
 fits_put options [] list items outer at fits = (at, fits.1, fits.2)
 fits_put options (first ∷ inner) list items outer at fits = (
-  subst (λ depth. FitsAt options depth first) (length-append inner (list ∷ outer) ∙ sym (length-append inner ((record list { items = items }) ∷ outer))) fits.0,
+  subst (λ depth. FitsAt options depth first) (length-append inner (list ∷ outer)
+      ∙ sym (length-append inner ((record list { items = items }) ∷ outer))) fits.0,
   nested_put first inner list items outer fits.1,
   fits_put options inner list items outer at fits.2,
 )
@@ -41,39 +44,50 @@ not_empty : (outer : List DirList) (list : DirList) (inner : List DirList) → o
 not_empty [] list inner is = cc
 not_empty (first ∷ outer) list inner is = cc
 
-begun_put : (start : Option Path) (old new : List DirList) (outer : List DirList) (list : DirList) (inner : List DirList) → old ≡ outer ++ list ∷ inner
+begun_put : (start : Option Path) (old new : List DirList) (outer : List DirList) (list : DirList) (inner : List DirList)
+    → old ≡ outer ++ list ∷ inner
     → IfSome start (λ _. old ≡ []) → IfSome start (λ _. new ≡ [])
 begun_put None old new outer list inner was begun = tt
 begun_put (Some root) old new outer list inner was begun = absurd (not_empty outer list inner (sym was ∙ begun))
 
-pub sound_put : (options : Options) (start : Option Path) (old new : List DirList) (first_open index : ℕ) (items : Items) → IsSound options start old first_open
-    → (puts : Puts old new index items) → stream_in items ≡ None → AreAt puts.list.path (index + 1) (held items) → (options.max_depth ≤ index → held items ≡ [])
+pub sound_put : (options : Options) (start : Option Path) (old new : List DirList) (first_open index : ℕ) (items : Items)
+    → IsSound options start old first_open
+    → (puts : Puts old new index items) → stream_in items ≡ None → AreAt puts.list.path (index + 1) (held items)
+    → (options.max_depth ≤ index → held items ≡ [])
     → IsSound options start new first_open
 sound_put options start old new first_open index items sound puts none children deepest =
     let other : DirList = record puts.list { items = items } in
     let same : length new ≡ length old =
-    ap length puts.is ∙ length-append puts.outer (other ∷ puts.inner) ∙ sym (length-append puts.outer (puts.list ∷ puts.inner)) ∙ sym (ap length puts.was) in
+    ap length puts.is ∙ length-append puts.outer (other ∷ puts.inner) ∙ sym (length-append puts.outer (puts.list ∷ puts.inner))
+    ∙ sym (ap length puts.was) in
     let depth : length (reverse puts.outer) ≡ index = length-reverse puts.outer ∙ puts.at in
     let fits : Fits options (reverse puts.inner ++ puts.list ∷ reverse puts.outer) =
     subst (Fits options) (ap reverse puts.was ∙ reversed_at puts.outer puts.list puts.inner) sound.fits in
     let was_at : FitsAt options (length (reverse puts.outer)) puts.list = fits_at options (reverse puts.inner) puts.list (reverse puts.outer) fits in
     let at : FitsAt options (length (reverse puts.outer)) other =
-    record { after = was_at.after; children = subst (λ n. AreAt puts.list.path (n + 1) (held items)) (sym depth) children; deepest = λ deep. record { no_stream = none; nothing = deepest (subst (λ n. options.max_depth ≤ n) depth deep) } } in
+    record {
+      after = was_at.after;
+      children = subst (λ n. AreAt puts.list.path (n + 1) (held items)) (sym depth) children;
+      deepest = λ deep. record { no_stream = none; nothing = deepest (subst (λ n. options.max_depth ≤ n) depth deep) };
+    } in
     record {
       begun = begun_put start old new puts.outer puts.list puts.inner puts.was sound.begun;
       some_open = sound.some_open;
       in_range = subst (λ n. first_open ≤ n) (sym same) sound.in_range;
       few = subst (λ n. n ≤ first_open + options.max_open) (sym same) sound.few;
-      closed = ap (λ l. own_streams (take first_open l)) puts.is ∙ closed_put first_open puts.outer puts.list puts.inner items none (ap (λ l. own_streams (take first_open l)) (sym puts.was) ∙ sound.closed);
+      closed = ap (λ l. own_streams (take first_open l)) puts.is ∙ closed_put first_open puts.outer puts.list puts.inner items none
+          (ap (λ l. own_streams (take first_open l)) (sym puts.was) ∙ sound.closed);
       fits = subst (Fits options) (sym (ap reverse puts.is ∙ reversed_at puts.outer other puts.inner))
           (fits_put options (reverse puts.inner) puts.list items (reverse puts.outer) at fits);
     }
 
-begun_pop : (start : Option Path) (old new : List DirList) (list : DirList) → old ≡ new ++ list ∷ [] → IfSome start (λ _. old ≡ []) → IfSome start (λ _. new ≡ [])
+begun_pop : (start : Option Path) (old new : List DirList) (list : DirList) → old ≡ new ++ list ∷ [] → IfSome start (λ _. old ≡ [])
+    → IfSome start (λ _. new ≡ [])
 begun_pop None old new list was begun = tt
 begun_pop (Some root) old new list was begun = absurd (not_empty new list [] (sym was ∙ begun))
 
-pub sound_pop : (options : Options) (start : Option Path) (old new : List DirList) (list : DirList) (first_open first : ℕ) → IsSound options start old first_open
+pub sound_pop : (options : Options) (start : Option Path) (old new : List DirList) (list : DirList) (first_open first : ℕ)
+    → IsSound options start old first_open
     → old ≡ new ++ list ∷ [] → first ≡ min first_open (length new) → IsSound options start new first
 unfolding Fits
 sound_pop options start old new list first_open first sound was is =
@@ -86,12 +100,15 @@ sound_pop options start old new list first_open first sound was is =
       some_open = some;
       in_range = omega arith;
       few = omega arith;
-      closed = closed_less first_open first new (list ∷ []) (omega arith) (omega arith) (ap (λ l. own_streams (take first_open l)) (sym was) ∙ sound.closed);
+      closed = closed_less first_open first new (list ∷ []) (omega arith) (omega arith) (ap (λ l. own_streams (take first_open l)) (sym was)
+          ∙ sound.closed);
       fits = fits.2;
     }
 
-pub sound_push : (options : Options) (start : Option Path) (old new : List DirList) (list : DirList) (first_open : ℕ) → IsSound options start old first_open
-    → start ≡ None → new ≡ old ++ list ∷ [] → length old < first_open + options.max_open → FitsAt options (length old) list → IsNested list (reverse old)
+pub sound_push : (options : Options) (start : Option Path) (old new : List DirList) (list : DirList) (first_open : ℕ)
+    → IsSound options start old first_open
+    → start ≡ None → new ≡ old ++ list ∷ [] → length old < first_open + options.max_open → FitsAt options (length old) list
+    → IsNested list (reverse old)
     → IsSound options start new first_open
 unfolding Fits
 sound_push options start old new list first_open sound none is room at nested =
@@ -103,10 +120,12 @@ sound_push options start old new list first_open sound none is room at nested =
       in_range = omega arith;
       few = omega arith;
       closed = ap (λ l. own_streams (take first_open l)) is ∙ ap own_streams (take-append-le first_open old (list ∷ []) in_range) ∙ sound.closed;
-      fits = subst (Fits options) (sym (ap reverse is ∙ reversed_last old list)) (subst (λ depth. FitsAt options depth list) (sym (length-reverse old)) at, nested, sound.fits);
+      fits = subst (Fits options) (sym (ap reverse is ∙ reversed_last old list))
+          (subst (λ depth. FitsAt options depth list) (sym (length-reverse old)) at, nested, sound.fits);
     }
 
-pub sound_closed : (options : Options) (start : Option Path) (lists : List DirList) (first_open next : ℕ) → IsSound options start lists first_open → next ≡ first_open + 1
+pub sound_closed : (options : Options) (start : Option Path) (lists : List DirList) (first_open next : ℕ) → IsSound options start lists first_open
+    → next ≡ first_open + 1
     → first_open < length lists → own_streams (take next lists) ≡ [] → IsSound options start lists next
 sound_closed options start lists first_open next sound is within closed =
     let few : length lists ≤ first_open + options.max_open = sound.few in
@@ -114,8 +133,12 @@ sound_closed options start lists first_open next sound is within closed =
 
 -- ---- a directory is put on the stack, or memory ran out
 
-pub sound_pushed : (options : Options) (start : Option Path) (old new : List DirList) (list : DirList) (first_open : ℕ) (b : Bool) → new ≡ (if b then old ++ list ∷ [] else old)
-    → IsSound options start old first_open → start ≡ None → length old < first_open + options.max_open → FitsAt options (length old) list → IsNested list (reverse old)
+pub sound_pushed : (options : Options) (start : Option Path) (old new : List DirList) (list : DirList) (first_open : ℕ) (b : Bool)
+    → new ≡ (if b then old ++ list ∷ [] else old)
+    → IsSound options start old first_open → start ≡ None → length old < first_open + options.max_open → FitsAt options (length old) list
+    → IsNested list (reverse old)
     → IsSound options start new first_open
-sound_pushed options start old new list first_open true is sound none room fit nested = sound_push options start old new list first_open sound none is room fit nested
-sound_pushed options start old new list first_open false is sound none room fit nested = subst (λ l. IsSound options start l first_open) (sym is) sound
+sound_pushed options start old new list first_open true is sound none room fit nested =
+    sound_push options start old new list first_open sound none is room fit nested
+sound_pushed options start old new list first_open false is sound none room fit nested =
+    subst (λ l. IsSound options start l first_open) (sym is) sound

@@ -28,20 +28,23 @@ pub record Passes (state : Option State) (old new : Progress) : Type 0 where
   pub above : GivesEntered state old None new
   pub less : work_left new ≤ work_left old
 
-work_same : (old new : Progress) → new.options ≡ old.options → new.start ≡ old.start → new.streams ≡ old.streams → new.stack ≡ old.stack → work_left new ≡ work_left old
+work_same : (old new : Progress) → new.options ≡ old.options → new.start ≡ old.start → new.streams ≡ old.streams → new.stack ≡ old.stack
+    → work_left new ≡ work_left old
 unfolding work_left
 work_same old new options start streams stack = ap (work_of new) start ∙ parts old.start
   where
     parts : (s : Option Path) → work_of new s ≡ work_of old s
     parts None =
-        ap (λ o. work_in o.max_depth new.streams new.stack) options ∙ ap (λ s. work_in old.options.max_depth s new.stack) streams ∙ ap (work_in old.options.max_depth old.streams) stack
+        ap (λ o. work_in o.max_depth new.streams new.stack) options ∙ ap (λ s. work_in old.options.max_depth s new.stack) streams
+        ∙ ap (work_in old.options.max_depth old.streams) stack
     parts (Some root) = ap (λ o. work_of (record new { options = o }) (Some root)) options
 
 entered_same : (state : Option State) (old new : Progress) → GivesEntered state old None (record old { entered = false })
 entered_same None old new = tt
 entered_same (Some s) old new = λ walk before tree of keeps lost entered. entered
 
-pub entered_then : (state : Option State) (old mid new : Progress) (item : Option Item) → Passes state old mid → GivesEntered state mid item new → GivesEntered state old item new
+pub entered_then : (state : Option State) (old mid new : Progress) (item : Option Item) → Passes state old mid → GivesEntered state mid item new
+    → GivesEntered state old item new
 entered_then None old mid new item passes tells = tt
 entered_then (Some s) old mid new item passes tells = λ walk before tree of keeps lost entered.
     let one = passes.gives walk before tree of keeps refl in
@@ -66,7 +69,8 @@ passes_none state old =
       less = omega arith;
     }
 
-pub passes_on : (state : Option State) (old mid new : Progress) → Passes state old mid → GivesNext state mid None new → Turns mid turns.Passed new → GivesEntered state mid None new
+pub passes_on : (state : Option State) (old mid new : Progress) → Passes state old mid → GivesNext state mid None new → Turns mid turns.Passed new
+    → GivesEntered state mid None new
     → Passes state old new
 passes_on state old mid new passes gives turn above =
     let was = passes.less in
@@ -90,7 +94,8 @@ over_none at empty none = ap (work_of at) none ∙ ap (work_in at.options.max_de
 never_over : (at : Progress) (n : ℕ) → n < work_left at → at.stack ≡ [] → at.start ≡ None → ⊥
 never_over at n less empty none = let zero = over_none at empty none in omega arith
 
-pub steps_ended : (state : Option State) (old mid new : Progress) → Passes state old mid → GivesNext state mid None new → Turns mid turns.Ended new → GivesDirectory state old None new
+pub steps_ended : (state : Option State) (old mid new : Progress) → Passes state old mid → GivesNext state mid None new → Turns mid turns.Ended new
+    → GivesDirectory state old None new
     → GivesEntered state old None new → Steps state old None new
 steps_ended state old mid new passes gives turn directory above =
     let ends = turn.ends in
@@ -111,8 +116,10 @@ steps_ended state old mid new passes gives turn directory above =
       above = above;
     }
 
-pub steps_given : (state : Option State) (old mid new : Progress) (item : Item) → is_lost (Some item) ≡ false → Passes state old mid → GivesNext state mid (Some item) new
-    → Turns mid (turns.Item item) new → GivesDirectory state old (Some item) new → GivesEntered state old (Some item) new → Steps state old (Some item) new
+pub steps_given : (state : Option State) (old mid new : Progress) (item : Item) → is_lost (Some item) ≡ false → Passes state old mid
+    → GivesNext state mid (Some item) new
+    → Turns mid (turns.Item item) new → GivesDirectory state old (Some item) new → GivesEntered state old (Some item) new
+    → Steps state old (Some item) new
 steps_given state old mid new item kept passes gives turn directory above =
     let was = passes.less in
     let less : work_left new < work_left mid = turn.ends in
@@ -133,7 +140,8 @@ steps_given state old mid new item kept passes gives turn directory above =
       above = above;
     }
 
-back_keeps : (before : Streams) (at : Progress) (most : ℕ) → at.options.max_open ≡ most → at.stack ≡ [] → AreBack before most at.streams → Keeps before at
+back_keeps : (before : Streams) (at : Progress) (most : ℕ) → at.options.max_open ≡ most → at.stack ≡ [] → AreBack before most at.streams
+    → Keeps before at
 unfolding AreBeside
 back_keeps before at most same empty back =
     let none : [] ≡ own_streams at.stack = ap own_streams (sym empty) in
@@ -141,7 +149,8 @@ back_keeps before at most same empty back =
     (subst (λ own. Owns before most own at.streams) none (record { beside = back.same; few = omega arith; peak = back.peak }))
 
 -- a walk that was ended still has its streams: none
-pub ended_keeps : (before : Streams) (there new : Progress) → new.options ≡ there.options → new.stack ≡ [] → (Keeps before there → AreBack before there.options.max_open new.streams)
+pub ended_keeps : (before : Streams) (there new : Progress) → new.options ≡ there.options → new.stack ≡ []
+    → (Keeps before there → AreBack before there.options.max_open new.streams)
     → Keeps before there → Keeps before new
 ended_keeps before there new options empty back keeps = back_keeps before new there.options.max_open (ap (λ o. o.max_open) options) empty (back keeps)
 
@@ -150,7 +159,8 @@ lost_gives None old new error is = tt
 lost_gives (Some s) old new error is = λ walk before tree of kept lost. absurd (let no : true ≡ false = sym is ∙ lost in cc)
 
 -- memory ran out, and the walk was ended
-pub steps_lost : (state : Option State) (old mid there new : Progress) (error : Error) → is_no_memory error ≡ true → Passes state old mid → Turns mid (turns.Item (Err error)) there
+pub steps_lost : (state : Option State) (old mid there new : Progress) (error : Error) → is_no_memory error ≡ true → Passes state old mid
+    → Turns mid (turns.Item (Err error)) there
     → new.stack ≡ [] → new.start ≡ None → new.options ≡ there.options → new.entered ≡ false
     → ((before : Streams) → Keeps before there → AreBack before there.options.max_open new.streams) → GivesDirectory state old (Some (Err error)) new
     → Steps state old (Some (Err error)) new

@@ -50,7 +50,8 @@ Draws depth path old dir (Some (Err error)) new = BreaksOff depth old dir error 
 -- what a directory is opened to: a new stream, or what it gave, and then none is open more than before
 abbrev pub HasOpened : OpenDirs → Option ℕ → OpenDirs → Type 0
 HasOpened old None new = new ≡ old
-HasOpened old (Some dir) new = (entries : List Entry) × (finite.get old dir ≡ None) × (length entries < most_entries) × (new ≡ finite.insert old dir entries)
+HasOpened old (Some dir) new =
+    (entries : List Entry) × (finite.get old dir ≡ None) × (length entries < most_entries) × (new ≡ finite.insert old dir entries)
 
 pub record OpensAtMost (old : Streams) (dir : Option ℕ) (new : Streams) : Type 0 where
   pub dirs : HasOpened old.open_dirs dir new.open_dirs
@@ -75,9 +76,10 @@ StreamsAll depth path old dir items =
     (entries : List Entry) → still_gives old dir ≡ Some entries → IsStreamed depth (map (child_of path depth) entries) items
 
 -- what a directory has left are the contents of the directory at this path and depth
-abbrev pub Contains : Walking → Streams → Path → ℕ → Items → Type 0
-Contains walk streams path depth items =
-    (above : List Ancestor) (directory : DirEntry) (children here : List Item) → directory.path ≡ path → directory.depth ≡ depth → HasLeft streams (depth + 1) path items children
+abbrev pub HasContentsLeft : Walking → Streams → Path → ℕ → Items → Type 0
+HasContentsLeft walk streams path depth items =
+    (above : List Ancestor) (directory : DirEntry) (children here : List Item) → directory.path ≡ path → directory.depth ≡ depth
+    → HasLeft streams (depth + 1) path items children
     → WalksOf walk above children here → ContentsOf walk above directory here
 
 -- ---- a directory that is opened
@@ -89,15 +91,16 @@ pub record ReadInOrder (order : Order) (depth : ℕ) (path : Path) (old : Stream
   pub sorted : IsInOrder order given (held items)
 
 -- where the tree is told, this holds of contents that were read, for each walk of the tree with this order
-abbrev pub OfContents : Option State → Option Order → Result Items Error → (Walking → Items → Type 0) → Type 0
-OfContents state order result Holds = IfSome state (λ s. IfOk result (λ items. (walk : Walking) → walk.tree ≡ tree_of s → walk.order ≡ order → Holds walk items))
+abbrev pub ForContentsRead : Option State → Option Order → Result Items Error → (Walking → Items → Type 0) → Type 0
+ForContentsRead state order result Holds =
+    IfSome state (λ s. IfOk result (λ items. (walk : Walking) → walk.tree ≡ tree_of s → walk.order ≡ order → Holds walk items))
 
 -- a directory below the greatest depth is opened to its contents
 abbrev pub OpensContents : Option State → Option Order → Path → ℕ → Result Items Error → Streams → Type 0
 OpensContents state order path depth result new =
-    OfContents state order result (λ walk items. depth < walk.options.max_depth → Contains walk new path depth items)
+    ForContentsRead state order result (λ walk items. depth < walk.options.max_depth → HasContentsLeft walk new path depth items)
 
 -- the same at any depth
 abbrev pub HasContents : Option State → Option Order → Options → Path → ℕ → Result Items Error → Streams → Type 0
 HasContents state order options path depth result new =
-    OfContents state order result (λ walk items. walk.options ≡ options → Contains walk new path depth items)
+    ForContentsRead state order result (λ walk items. walk.options ≡ options → HasContentsLeft walk new path depth items)

@@ -35,29 +35,31 @@ abbrev pub StandsAsBefore : Progress → Progress → Type 0
 StandsAsBefore old new =
     (ancestors new.stack ≡ ancestors old.stack) × ((walk : Walking) (before : Streams) → Keeps before old → StandsBack walk old new)
 
--- where the tree is told, this holds of each walk of it whose stack this is, with streams of its own
-abbrev pub OfEachIn : Option State → Progress → (Walking → Type 0) → Type 0
-OfEachIn state at Holds = IfSome state (λ s. (walk : Walking) (before : Streams) → walk.tree ≡ tree_of s → IsIn walk at → Keeps before at → Holds walk)
+-- where the tree is told, this holds of each walk of it whose stack this is
+abbrev pub ForEachWalkOnStack : Option State → Progress → (Walking → Type 0) → Type 0
+ForEachWalkOnStack state at Holds = IfSome state (λ s. (walk : Walking) → walk.tree ≡ tree_of s → IsIn walk at → Holds walk)
 
--- the same of each walk of it that was made so, and of the streams from before it
-abbrev pub OfEachMade : Option State → Progress → (Walking → Streams → Type 0) → Type 0
-OfEachMade state at Holds =
-    IfSome state (λ s. (walk : Walking) (before : Streams) → walk.tree ≡ tree_of s → walk.options ≡ at.options → walk.order ≡ at.order → Holds walk before)
+-- the same of each walk of it that was made with these options and this order
+abbrev pub ForEachWalkMadeSo : Option State → Progress → (Walking → Type 0) → Type 0
+ForEachWalkMadeSo state at Holds =
+    IfSome state (λ s. (walk : Walking) → walk.tree ≡ tree_of s → walk.options ≡ at.options → walk.order ≡ at.order → Holds walk)
 
 -- these items are the walk of an entry, and then what was to come before
 abbrev pub JoinsWalk : Walking → Progress → DirEntry → List Item → Type 0
 JoinsWalk walk old entry items =
-    (first : List Item) × ((others : List Item) × WalkOf walk (ancestors old.stack) entry first × StandsAt walk old others × (items ≡ first ++ others))
+    (first : List Item) × ((others : List Item) × WalkOf walk (ancestors old.stack) entry first × StandsAt walk old others
+    × (items ≡ first ++ others))
 
 -- What is given of an entry, and then what is still to come, are the walk of the entry and then what was to come before.
 abbrev pub HandlesEntry : Option State → Progress → DirEntry → Option Item → Progress → Type 0
 HandlesEntry state old entry item new =
-    OfEachIn state old (λ walk. is_lost item ≡ false → (rest : List Item) → StandsAt walk new rest → JoinsWalk walk old entry (option_to_list item ++ rest))
+    ForEachWalkOnStack state old (λ walk. (before : Streams) → Keeps before old → is_lost item ≡ false
+    → (rest : List Item) → StandsAt walk new rest → JoinsWalk walk old entry (option_to_list item ++ rest))
 
 -- What is given first, and then what is still to come, is the walk from its root.
 abbrev pub BeginsWalk : Option State → Progress → Path → Option Item → Progress → Type 0
 BeginsWalk state old root item new =
-    OfEachMade state old (λ walk before. walk.root ≡ root → Keeps before old → is_lost item ≡ false
+    ForEachWalkMadeSo state old (λ walk. walk.root ≡ root → (before : Streams) → Keeps before old → is_lost item ≡ false
     → (new.stack ≢ [] → walk.options.same_file_system ≡ true → root_device walk ≡ Some new.device)
     × ((rest : List Item) → StandsAt walk new rest → IsWalk walk (option_to_list item ++ rest)))
 
@@ -70,8 +72,8 @@ IsOver streams (list ∷ outer) = HasLeft streams (length outer + 1) list.path l
 abbrev pub DrawsChild : Progress → Option Item → Progress → Type 0
 DrawsChild old None new = (before : Streams) → Keeps before old → IsOver new.streams new.stack × ((walk : Walking) → StandsBack walk old new)
 DrawsChild old (Some (Ok entry)) new =
-    (walk : Walking) (before : Streams) → Keeps before old → (first rest : List Item) → WalkOf walk (ancestors new.stack) entry first → StandsAt walk new rest
-    → StandsAt walk old (first ++ rest)
+    (walk : Walking) (before : Streams) → Keeps before old → (first rest : List Item) → WalkOf walk (ancestors new.stack) entry first
+    → StandsAt walk new rest → StandsAt walk old (first ++ rest)
 DrawsChild old (Some (Err error)) new =
     (walk : Walking) (before : Streams) → Keeps before old → is_lost (Some (Err error)) ≡ false → (rest : List Item) → StandsAt walk new rest
     → StandsAt walk old (Err error ∷ rest)
@@ -79,14 +81,15 @@ DrawsChild old (Some (Err error)) new =
 -- a directory that is over gives its own entry, if that comes now
 abbrev pub LeavesIt : Progress → Option DirEntry → Progress → Type 0
 LeavesIt old entry new =
-    (walk : Walking) (before : Streams) → walk.options ≡ old.options → Keeps before old → IsOver old.streams old.stack → (rest : List Item) → StandsAt walk new rest
-    → StandsAt walk old (map Ok (option_to_list entry) ++ rest)
+    (walk : Walking) (before : Streams) → walk.options ≡ old.options → Keeps before old → IsOver old.streams old.stack
+    → (rest : List Item) → StandsAt walk new rest → StandsAt walk old (map Ok (option_to_list entry) ++ rest)
 
 -- ---- how an entry is taken up
 
 -- what a stack stands for with one directory more: the contents of that directory, its entry if that comes after them, and
 -- what was to come before
-pub record StandsPushed (walk : Walking) (old : Progress) (path : Path) (depth : ℕ) (place : Option Place) (after : Option DirEntry) (items : List Item) : Type 0 where
+pub record StandsPushed (walk : Walking) (old : Progress) (path : Path) (depth : ℕ) (place : Option Place) (after : Option DirEntry)
+    (items : List Item) : Type 0 where
   pub contents : List Item
   pub others : List Item
   pub contains : (directory : DirEntry) → directory.path ≡ path → directory.depth ≡ depth
@@ -96,7 +99,8 @@ pub record StandsPushed (walk : Walking) (old : Progress) (path : Path) (depth :
 
 abbrev pub PushesDirectory : Option State → Progress → Path → ℕ → Option Place → Option DirEntry → Progress → Type 0
 PushesDirectory state old path depth place after new =
-    OfEachMade state old (λ walk before. Keeps before old → (rest : List Item) → StandsAt walk new rest → StandsPushed walk old path depth place after rest)
+    ForEachWalkMadeSo state old (λ walk. (before : Streams) → Keeps before old
+    → (rest : List Item) → StandsAt walk new rest → StandsPushed walk old path depth place after rest)
 
 -- these items are an entered directory with its contents, and then what was to come before
 pub record StandsEntered (walk : Walking) (old : Progress) (entry : DirEntry) (place : Option Place) (items : List Item) : Type 0 where
@@ -109,5 +113,6 @@ pub record StandsEntered (walk : Walking) (old : Progress) (entry : DirEntry) (p
 -- What is given of an entered directory, or of a link at the root, and then what is still to come.
 abbrev pub EntersDirectory : Option State → Progress → DirEntry → Option Place → Option Item → Progress → Type 0
 EntersDirectory state old entry place item new =
-    OfEachMade state old (λ walk before. Keeps before old → (is_dir entry || is_link entry) ≡ true → is_lost item ≡ false → (rest : List Item) → StandsAt walk new rest
+    ForEachWalkMadeSo state old (λ walk. (before : Streams) → Keeps before old → (is_dir entry || is_link entry) ≡ true → is_lost item ≡ false
+    → (rest : List Item) → StandsAt walk new rest
     → StandsEntered walk old entry place (option_to_list item ++ rest))

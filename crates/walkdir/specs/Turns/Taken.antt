@@ -34,8 +34,8 @@ abbrev pub IsFound : Walking → Found → Type 0
 IsFound walk found = IfSome found.place (λ place. IsPlaceOf walk found.entry place)
 
 -- where the tree is told, this holds of each walk of it with these options
-abbrev pub OfEachWith : Option State → Options → (Walking → Type 0) → Type 0
-OfEachWith state options Holds = IfSome state (λ s. (walk : Walking) → walk.tree ≡ tree_of s → walk.options ≡ options → Holds walk)
+abbrev pub ForEachWalkWithOptions : Option State → Options → (Walking → Type 0) → Type 0
+ForEachWalkWithOptions state options Holds = IfSome state (λ s. (walk : Walking) → walk.tree ≡ tree_of s → walk.options ≡ options → Holds walk)
 
 -- what an entry is taken for
 abbrev pub FollowsEntry : Walking → List Ancestor → DirEntry → Result Found Error → Type 0
@@ -43,7 +43,7 @@ FollowsEntry walk above entry (Ok found) = (taken_for walk above entry ≡ Ok fo
 FollowsEntry walk above entry (Err error) = Tells {A = DirEntry} entry.depth entry.path (Err error) (taken_for walk above entry)
 
 abbrev pub Follows : Option State → Options → List Ancestor → DirEntry → Result Found Error → Type 0
-Follows state options above entry result = OfEachWith state options (λ walk. FollowsEntry walk above entry result)
+Follows state options above entry result = ForEachWalkWithOptions state options (λ walk. FollowsEntry walk above entry result)
 
 -- the nearest of the directories above that stands at a place
 abbrev pub standing_at : List Ancestor → Place → Option Ancestor
@@ -64,7 +64,8 @@ wanted_place walk entry =
 
 abbrev pub FindsPlace : Option State → Options → Found → Result (Option Place) Error → Type 0
 FindsPlace state options found result =
-    OfEachWith state options (λ walk. IsFound walk found → Tells found.entry.depth found.entry.path result (wanted_place walk found.entry))
+    ForEachWalkWithOptions state options (λ walk. IsFound walk found
+    → Tells found.entry.depth found.entry.path result (wanted_place walk found.entry))
 
 -- whether a directory may be entered that stands here, by the device of the root
 abbrev pub is_at_device : ℕ → Option Place → Bool
@@ -80,7 +81,8 @@ KnowsDevice walk device = walk.options.same_file_system ≡ true → root_device
 -- whether an entry is entered, by this word of the walk's rules
 abbrev pub EntersBy : (Walking → DirEntry → Result Entering Error) → Option State → Options → ℕ → Found → Result Entering Error → Type 0
 EntersBy rule state options device found result =
-    OfEachWith state options (λ walk. KnowsDevice walk device → IsFound walk found → Tells found.entry.depth found.entry.path result (rule walk found.entry))
+    ForEachWalkWithOptions state options (λ walk. KnowsDevice walk device → IsFound walk found
+    → Tells found.entry.depth found.entry.path result (rule walk found.entry))
 
 -- the device of the root, where the walk stays on it
 abbrev pub FoundDevice : Option State → Options → Path → ℕ → Type 0

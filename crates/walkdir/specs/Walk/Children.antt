@@ -18,7 +18,8 @@ child_of directory depth entry = entry_at (directory ++ entry.name ∷ []) entry
 pub data IsStreamed (depth : ℕ) : List DirEntry → List Item → Type 0 where
   Ended : IsStreamed depth [] []
   Broken : {entries : List DirEntry} → IsStreamed depth entries (Err (stream_error depth refusals.Failed) ∷ [])
-  Next : {entry : DirEntry} {entries : List DirEntry} {items : List Item} → IsStreamed depth entries items → IsStreamed depth (entry ∷ entries) (Ok entry ∷ items)
+  Next : {entry : DirEntry} {entries : List DirEntry} {items : List Item} → IsStreamed depth entries items → IsStreamed depth (entry ∷ entries)
+      (Ok entry ∷ items)
 
 abbrev pub error_in : Item → Option Item
 error_in (Ok entry) = None

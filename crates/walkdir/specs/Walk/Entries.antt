@@ -45,7 +45,8 @@ through_link above entry (Ok meta) = unless_loop entry meta (loop_at above meta)
 -- Where links are followed, a link is looked at through its target: a failure is an error in its place, and so is a
 -- directory that the walk is in.
 unfoldable pub taken_for : Walking → List Ancestor → DirEntry → Result DirEntry Error
-taken_for walk above entry = if walk.options.follow_links && is_link entry then through_link above entry (looked walk.tree entry.path true) else Ok entry
+taken_for walk above entry =
+    if walk.options.follow_links && is_link entry then through_link above entry (looked walk.tree entry.path true) else Ok entry
 
 -- ---- rule: which directories are entered
 
@@ -63,7 +64,8 @@ is_device (Some root) dev = root == dev
 -- A directory is entered, unless the walk stays on the root's device and this is another one.
 abbrev pub on_device : Walking → DirEntry → Meta → Entering
 on_device walk entry meta =
-    if walk.options.same_file_system && not (entry.depth == 0) && not (is_device (root_device walk) meta.dev) then Stays else Enters (Some (place_of meta))
+    if walk.options.same_file_system && not (entry.depth == 0) && not (is_device (root_device walk) meta.dev) then Stays
+    else Enters (Some (place_of meta))
 
 abbrev pub enters_at : Walking → DirEntry → Result Meta Refusal → Result Entering Error
 enters_at walk entry (Err refusal) = Err (io_error entry.depth entry.path (error_of refusal))

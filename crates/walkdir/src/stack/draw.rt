@@ -18,7 +18,7 @@ impl<S: Sorter + Drop> Stack<S> {
     ghost use Rattle.walkdir.specs.Innermost.{IsFromHead};
     ghost use Rattle.walkdir.specs.Turns.Stands.{DrawsChild, LeavesIt};
     ghost use Rattle.walkdir.specs.Turns.{GoesOn, LeavesLess, TakesWork};
-    ghost use Rattle.walkdir.specs.Turns.Lists.{OwnsAt};
+    ghost use Rattle.walkdir.specs.Turns.AtIndex.{OwnsAt};
     ghost use Rattle.walkdir.specs.Entry.{is_dir};
     ghost use Rattle.walkdir.specs.declared.directory.DirList.{DirList};
 

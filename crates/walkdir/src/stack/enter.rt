@@ -19,7 +19,7 @@ impl<S: Sorter + Drop> Stack<S> {
     ghost use Rattle.walkdir.specs.Answered.{TellsOn};
     ghost use Rattle.walkdir.specs.AnsweredTurns.{TellsContents, TellsPushed};
     ghost use Rattle.walkdir.specs.Innermost.{is_head_skipped, IsAfter, IsHead};
-    ghost use Rattle.walkdir.specs.Turns.Lists.{AreOf, Puts};
+    ghost use Rattle.walkdir.specs.Turns.AtIndex.{AreOf, Puts};
     ghost use Rattle.walkdir.specs.Turns.{fresh, handed, GoesOn};
     ghost use Rattle.walkdir.specs.Turns.Drawn.{OpensAtMost, stream_of, HasContents};
     ghost use Rattle.walkdir.specs.Turns.Stands.{StandsAsBefore, EntersDirectory, PushesDirectory};

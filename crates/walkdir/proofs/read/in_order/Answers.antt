@@ -1,3 +1,4 @@
+-- Children in order: the errors, and behind them the entries, stably sorted.
 use Rattle.std.proofs.Common.{◌≡◌, ◌++◌, ap, map, subst, sym, ◌∙◌, rules}
 use Rattle.std.specs.Prelude.{Ok}
 use Rattle.std.specs.Cmp.{IsStrictWeakOrder}
@@ -23,7 +24,8 @@ returns-clause-order g c =
       sorted = record {
         same = subst (λ l. IsPermutation l sorted) (sym entries) c.in_ok-sort_by.ensures.permutation;
         rises = c.in_ok-sort_by.ensures.sorted (λ x y. is_lt (order x y)) weak (always_returns_same _ _ _ (λ a r f k. search rules));
-        stable = subst (λ l. IsStable order l sorted) (sym entries) (c.in_ok-sort_by.ensures.stable (λ x y. is_lt (order x y)) weak (always_returns_same _ _ _ (λ a r f k. search rules)));
+        stable = subst (λ l. IsStable order l sorted) (sym entries)
+            (c.in_ok-sort_by.ensures.stable (λ x y. is_lt (order x y)) weak (always_returns_same _ _ _ (λ a r f k. search rules)));
       };
       is = c.in_ok-put_behind.ensures.behind ∙ ap (λ l. l ++ map Ok sorted) (sym errors);
     }

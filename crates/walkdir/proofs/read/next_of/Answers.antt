@@ -1,3 +1,4 @@
+-- What a stream gives next, as a child of its directory.
 use Rattle.std.proofs.Common.{subst, sym}
 use Rattle.walkdir.specs.Answered.{IsHeldIn}
 use Rattle.walkdir.specs.declared.error.Error.{Error}

@@ -1,3 +1,4 @@
+-- Each entry that was read is one less that is left.
 use Rattle.std.proofs.Common.{◌≡◌, ◌+◌, ◌≤◌, length}
 use Rattle.odb_disk.specs.CallsMade.{Leads}
 use Rattle.walkdir.specs.Answered.{AreHeld}
@@ -7,7 +8,6 @@ use Rattle.walkdir.specs.Turns.Drawn.{IsDrawn, left_of}
 use Rattle.walkdir.proofs.DrawsLemmas.{StreamsOn}
 use Rattle.walkdir.proofs.read.rest_of.Given as goal
 
--- each entry that was read is one less that is left
 abbrev pub invariant-loop-items : goal.invariant-loop-items
 invariant-loop-items g l = record {
   drawn : IsDrawn (g.D.Disk.streams l.fn.disk) l.dir (g.D.Disk.streams l.disk);

@@ -1,3 +1,4 @@
+-- A stream is read to its end, closed, and its children are put in order.
 use Rattle.std.proofs.Common.{ap, subst, sym, ◌∙◌}
 use Rattle.odb_disk.specs.Streams.{Streams}
 use Rattle.walkdir.specs.Failures.{Costs, failures_among}
@@ -25,16 +26,20 @@ returns-clause-drawn g c =
 
 pub returns-clause-children : goal.returns-clause-children
 returns-clause-children g c =
-    ordered_at c.args.parent.now c.args.depth (g.S.Sorter.order c.args.sorter.now) c.in_ok-read.field-0.items c.in_ok-in_order.field-0.items c.in_ok-in_order.ensures.order c.in_ok-read.ensures.children
+    ordered_at c.args.parent.now c.args.depth (g.S.Sorter.order c.args.sorter.now) c.in_ok-read.field-0.items c.in_ok-in_order.field-0.items
+    c.in_ok-in_order.ensures.order c.in_ok-read.ensures.children
 
 pub returns-clause-cause : goal.returns-clause-cause
 returns-clause-cause g c =
     subst (λ n. Costs n (g.D.Disk.faults c.args.disk.now) (g.D.Disk.faults c.close_dir.new.self))
-    (sym (ordered_failures (g.S.Sorter.order c.args.sorter.now) c.in_ok-read.field-0.items c.in_ok-in_order.field-0.items c.in_ok-in_order.ensures.order))
-    (subst (λ n. Costs (failures_among c.in_ok-read.field-0.items) (g.D.Disk.faults c.args.disk.now) n) (sym c.close_dir.ensures.faults) c.in_ok-read.ensures.cause)
+    (sym (ordered_failures (g.S.Sorter.order c.args.sorter.now) c.in_ok-read.field-0.items c.in_ok-in_order.field-0.items
+    c.in_ok-in_order.ensures.order))
+    (subst (λ n. Costs (failures_among c.in_ok-read.field-0.items) (g.D.Disk.faults c.args.disk.now) n)
+    (sym c.close_dir.ensures.faults) c.in_ok-read.ensures.cause)
 
 pub returns-clause-order : goal.returns-clause-order
-returns-clause-order g c = record { given = c.in_ok-read.field-0.items; streamed = c.in_ok-read.ensures.streamed; sorted = c.in_ok-in_order.ensures.order }
+returns-clause-order g c =
+    record { given = c.in_ok-read.field-0.items; streamed = c.in_ok-read.ensures.streamed; sorted = c.in_ok-in_order.ensures.order }
 
 pub returns-in_err-read-clause-answered : goal.returns-in_err-read-clause-answered
 returns-in_err-read-clause-answered g c =
@@ -55,7 +60,9 @@ returns-clause-answered g c =
     let closed = leads_by g.D.Disk.answered c.rest_of-read.new.disk c.close_dir.new.self c.close_dir.ensures.answered in
     record {
       leads = leads_then g.D.Disk.answered c.args.disk.now c.rest_of-read.new.disk c.close_dir.new.self c.rest_of-read.ensures.leads closed;
-      told = ordered_told g.D.Disk.answered c.args.disk.now c.close_dir.new.self (g.S.Sorter.order c.args.sorter.now) c.in_ok-read.field-0.items c.in_ok-in_order.field-0.items
+      told = ordered_told g.D.Disk.answered c.args.disk.now c.close_dir.new.self (g.S.Sorter.order c.args.sorter.now) c.in_ok-read.field-0.items
+          c.in_ok-in_order.field-0.items
           c.in_ok-in_order.ensures.order
-          (are_later g.D.Disk.answered c.args.disk.now c.rest_of-read.new.disk c.close_dir.new.self c.in_ok-read.field-0.items closed c.in_ok-read.ensures.answered);
+          (are_later g.D.Disk.answered c.args.disk.now c.rest_of-read.new.disk c.close_dir.new.self c.in_ok-read.field-0.items closed
+          c.in_ok-read.ensures.answered);
     }

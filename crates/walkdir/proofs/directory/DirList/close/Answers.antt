@@ -1,3 +1,4 @@
+-- Closing a stream is a call of the disk; a directory without one makes none.
 use Rattle.walkdir.proofs.AnsweredLemmas.{leads_by, leads_still}
 use Rattle.walkdir.proofs.directory.DirList.close.Goals as goal
 

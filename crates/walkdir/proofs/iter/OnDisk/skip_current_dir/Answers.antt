@@ -1,3 +1,4 @@
+-- A skip drops the walks of the children that a directory has left, and nothing else.
 use Rattle.walkdir.proofs.SkipLaws.{skip_drops, skip_leaves}
 use Rattle.walkdir.proofs.iter.OnDisk.skip_current_dir.Goals as goal
 

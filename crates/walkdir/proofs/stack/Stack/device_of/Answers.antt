@@ -1,3 +1,4 @@
+-- The root's device is what a look at it told, where it matters.
 use Rattle.std.proofs.Common.{true, Ok, Err, subst, sym}
 use Rattle.std.specs.Prelude.{IfErr}
 use Rattle.walkdir.specs.AnsweredTurns.{IsSeenIn}
@@ -18,7 +19,8 @@ returns-in_err-meta-clause-finds g c =
     (sym (err_is c.from_residual.result c.in_err-meta.field-0.0 c.from_residual.ensures.1)) (c.if-not-self.false, c.in_err-meta.ensures.told)
 
 pub returns-clause-finds : goal.returns-clause-finds
-returns-clause-finds g c = device_wanted (g.D.Disk.state c.args.disk.now) c.args.self.now.options c.args.root.now c.in_ok-meta.meta c.in_ok-meta.ensures.told
+returns-clause-finds g c =
+    device_wanted (g.D.Disk.state c.args.disk.now) c.args.self.now.options c.args.root.now c.in_ok-meta.meta c.in_ok-meta.ensures.told
 
 pub returns-then-not-self-clause-answered : goal.returns-then-not-self-clause-answered
 returns-then-not-self-clause-answered g c = record { leads = leads_still g.D.Disk.answered c.args.disk.now; told = λ first earlier. tt }
@@ -30,7 +32,8 @@ returns-in_err-meta-clause-answered g c =
     record {
       leads = look_leads g.D.Disk.answered 0 c.args.root.now true c.args.disk.now c.look.new.disk (Err error) by;
       told = λ first earlier.
-          subst (λ r. IfErr r (λ e. IsSeenIn g.D.Disk.answered first c.look.new.disk e.inner)) (sym (err_is c.from_residual.result error c.from_residual.ensures.1))
+          subst (λ r. IfErr r (λ e. IsSeenIn g.D.Disk.answered first c.look.new.disk e.inner))
+          (sym (err_is c.from_residual.result error c.from_residual.ensures.1))
           (look_refused g.D.Disk.answered first 0 c.args.root.now true c.args.disk.now c.look.new.disk error earlier by);
     }
 

@@ -1,3 +1,4 @@
+-- The innermost directory is left, its stream closed, and its own entry given where it comes after its contents.
 use Rattle.std.proofs.Common.{◌≡◌, Option, true, map, Ok, ap, length, min, refl, reverse, subst, sym, ◌∙◌, arith}
 use Rattle.std.specs.Option.{option_to_list}
 use Rattle.std.specs.Prelude.{IfSome, None, Some}
@@ -23,7 +24,8 @@ invariant_of-self-2-clause-sound g c =
     let first : c.min-self.result ≡ min walk.first_open (length new) = omega arith in
     is_sound_of walk.options walk.start new c.min-self.result
     (sound_pop walk.options walk.start walk.lists.items new c.in_ok-list.list walk.first_open c.min-self.result
-    (sound_of walk.options walk.start walk.lists.items walk.first_open walk.some_open walk.in_range walk.few walk.sound) c.in_ok-list.ensures.items first)
+    (sound_of walk.options walk.start walk.lists.items walk.first_open walk.some_open walk.in_range walk.few walk.sound) c.in_ok-list.ensures.items
+    first)
 
 pub returns-in_err-list-2-clause-goes : goal.returns-in_err-list-2-clause-goes
 returns-in_err-list-2-clause-goes g c =
@@ -56,7 +58,8 @@ returns-clause-depth g c =
     let walk = c.args.self.now in
     left_depth walk.options walk.start walk.lists.items c.pop.new.self.items c.in_ok-list.list walk.first_open c.in_ok-list-2.field-0 c.shown.result
     (is_given walk.options c.in_ok-list-2.field-0.depth)
-    (sound_of walk.options walk.start walk.lists.items walk.first_open walk.some_open walk.in_range walk.few walk.sound) c.in_ok-list.ensures.items c.in_ok-list-2.was c.shown.ensures.given
+    (sound_of walk.options walk.start walk.lists.items walk.first_open walk.some_open walk.in_range walk.few walk.sound) c.in_ok-list.ensures.items
+    c.in_ok-list-2.was c.shown.ensures.given
 
 pub returns-clause-less : goal.returns-clause-less
 returns-clause-less g c before keeps =
@@ -71,15 +74,18 @@ returns-in_err-list-2-clause-leaves g c =
     let walk = c.args.self.now in
     let old = progress g.S.Sorter.order walk (g.D.Disk.streams c.args.disk.now) in
     let new : Progress = record old { stack = reverse c.pop.new.self.items; streams = g.D.Disk.streams c.close.new.disk } in
-    leaves_it old new c.in_ok-list.list c.from_residual-in_err-list-2.result (ap reverse c.in_ok-list.ensures.items ∙ reversed_last c.pop.new.self.items c.in_ok-list.list) c.close.ensures.streams
-    (ap (λ (e : Option DirEntry). map {B = Item} Ok (option_to_list e)) c.from_residual-in_err-list-2.ensures ∙ own_none walk.options c.in_ok-list.list.after c.in_err-list-2.was)
+    leaves_it old new c.in_ok-list.list c.from_residual-in_err-list-2.result (ap reverse c.in_ok-list.ensures.items
+    ∙ reversed_last c.pop.new.self.items c.in_ok-list.list) c.close.ensures.streams
+    (ap (λ (e : Option DirEntry). map {B = Item} Ok (option_to_list e)) c.from_residual-in_err-list-2.ensures
+    ∙ own_none walk.options c.in_ok-list.list.after c.in_err-list-2.was)
 
 pub returns-clause-leaves : goal.returns-clause-leaves
 returns-clause-leaves g c =
     let walk = c.args.self.now in
     let old = progress g.S.Sorter.order walk (g.D.Disk.streams c.args.disk.now) in
     let new : Progress = record old { stack = reverse c.pop.new.self.items; streams = g.D.Disk.streams c.close.new.disk } in
-    leaves_it old new c.in_ok-list.list c.shown.result (ap reverse c.in_ok-list.ensures.items ∙ reversed_last c.pop.new.self.items c.in_ok-list.list) c.close.ensures.streams
+    leaves_it old new c.in_ok-list.list c.shown.result (ap reverse c.in_ok-list.ensures.items ∙ reversed_last c.pop.new.self.items c.in_ok-list.list)
+    c.close.ensures.streams
     (own_given walk.options c.in_ok-list.list.after c.shown.result c.in_ok-list-2.field-0 c.in_ok-list-2.was c.shown.ensures.given)
 
 pub returns-clause-first : goal.returns-clause-first
@@ -87,7 +93,8 @@ returns-clause-first g c =
     let walk = c.args.self.now in
     let first : walk.options.contents_first ≡ true =
     left_first walk.options walk.start walk.lists.items c.pop.new.self.items c.in_ok-list.list walk.first_open c.in_ok-list-2.field-0
-    (sound_of walk.options walk.start walk.lists.items walk.first_open walk.some_open walk.in_range walk.few walk.sound) c.in_ok-list.ensures.items c.in_ok-list-2.was in
+    (sound_of walk.options walk.start walk.lists.items walk.first_open walk.some_open walk.in_range walk.few walk.sound) c.in_ok-list.ensures.items
+    c.in_ok-list-2.was in
     of_any c.shown.result first
   where
     of_any : {P : Type 0} (given : Option DirEntry) → P → IfSome given (λ _. P)
@@ -99,10 +106,12 @@ returns-clause-own g c =
     let walk = c.args.self.now in
     left_own walk.options walk.start walk.lists.items c.pop.new.self.items c.in_ok-list.list walk.first_open c.in_ok-list-2.field-0 c.shown.result
     (is_given walk.options c.in_ok-list-2.field-0.depth)
-    (sound_of walk.options walk.start walk.lists.items walk.first_open walk.some_open walk.in_range walk.few walk.sound) c.in_ok-list.ensures.items c.in_ok-list-2.was c.shown.ensures.given
+    (sound_of walk.options walk.start walk.lists.items walk.first_open walk.some_open walk.in_range walk.few walk.sound) c.in_ok-list.ensures.items
+    c.in_ok-list-2.was c.shown.ensures.given
 
 pub returns-in_err-list-2-clause-above : goal.returns-in_err-list-2-clause-above
-returns-in_err-list-2-clause-above g c = (c.in_ok-list.list, ap reverse c.in_ok-list.ensures.items ∙ reversed_last c.pop.new.self.items c.in_ok-list.list)
+returns-in_err-list-2-clause-above g c =
+    (c.in_ok-list.list, ap reverse c.in_ok-list.ensures.items ∙ reversed_last c.pop.new.self.items c.in_ok-list.list)
 
 pub returns-clause-above : goal.returns-clause-above
 returns-clause-above g c = (c.in_ok-list.list, ap reverse c.in_ok-list.ensures.items ∙ reversed_last c.pop.new.self.items c.in_ok-list.list)
@@ -117,7 +126,8 @@ returns-in_err-list-2-clause-answered g c =
       leads = leads;
       told = λ first told. (
         stack_later g.D.Disk.answered first c.args.disk.now c.close.new.disk new
-            (stack_pop g.D.Disk.answered first c.args.disk.now list old new (ap reverse c.in_ok-list.ensures.items ∙ reversed_last c.pop.new.self.items list) told) leads,
+            (stack_pop g.D.Disk.answered first c.args.disk.now list old new (ap reverse c.in_ok-list.ensures.items
+            ∙ reversed_last c.pop.new.self.items list) told) leads,
         tt,
       );
       refused = λ first told. tt;
@@ -133,7 +143,8 @@ returns-clause-answered g c =
       leads = leads;
       told = λ first told. (
         stack_later g.D.Disk.answered first c.args.disk.now c.close.new.disk new
-            (stack_pop g.D.Disk.answered first c.args.disk.now list old new (ap reverse c.in_ok-list.ensures.items ∙ reversed_last c.pop.new.self.items list) told) leads,
+            (stack_pop g.D.Disk.answered first c.args.disk.now list old new (ap reverse c.in_ok-list.ensures.items
+            ∙ reversed_last c.pop.new.self.items list) told) leads,
         tt,
       );
       refused = λ first told. tt;

@@ -1,3 +1,4 @@
+-- The place of a directory is the one that a link told, or what a look tells.
 use Rattle.std.proofs.Common.{◌≡◌, ◌||◌, true, subst, sym, arith, Option, Ok, Err}
 use Rattle.walkdir.specs.Turns.Taken.{FindsPlace}
 use Rattle.walkdir.specs.declared.directory.Place.{Place}
@@ -19,12 +20,14 @@ returns-in_err-meta-clause-place g c =
       | else-not-self-via-else-not-self w ↦ grind arith
     ] in
     subst (λ r. FindsPlace state options found r) (sym (err_is c.from_residual.result c.in_err-meta.field-0.0 c.from_residual.ensures.1))
-    (place_refused state options found c.depth.result c.path.result.now c.in_err-meta.field-0.0 wanted c.depth.ensures.told c.path.ensures.told c.in_err-meta.ensures.told)
+    (place_refused state options found c.depth.result c.path.result.now c.in_err-meta.field-0.0 wanted c.depth.ensures.told c.path.ensures.told
+    c.in_err-meta.ensures.told)
 
 pub returns-in-Some-clause-answered : goal.returns-in-Some-clause-answered
 returns-in-Some-clause-answered g c = record {
   leads = leads_still g.D.Disk.answered c.args.disk.now;
-  told = λ first earlier known. subst (λ (p : Option Place). IsWhereTold g.D.Disk.answered first c.args.disk.now c.args.found.now.entry.path (Ok p)) c.in-Some.is known;
+  told = λ first earlier known. subst (λ (p : Option Place). IsWhereTold g.D.Disk.answered first c.args.disk.now c.args.found.now.entry.path (Ok p))
+      c.in-Some.is known;
 }
 
 pub returns-then-not-self-2-clause-answered : goal.returns-then-not-self-2-clause-answered
@@ -37,7 +40,8 @@ returns-in_err-meta-clause-answered g c =
     record {
       leads = look_leads g.D.Disk.answered c.depth.result c.path.result.now true c.args.disk.now c.look.new.disk (Err error) by;
       told = λ first earlier known.
-          subst (λ r. IsWhereTold g.D.Disk.answered first c.look.new.disk c.args.found.now.entry.path r) (sym (err_is c.from_residual.result error c.from_residual.ensures.1))
+          subst (λ r. IsWhereTold g.D.Disk.answered first c.look.new.disk c.args.found.now.entry.path r)
+          (sym (err_is c.from_residual.result error c.from_residual.ensures.1))
           (look_refused g.D.Disk.answered first c.depth.result c.path.result.now true c.args.disk.now c.look.new.disk error earlier by);
     }
 
@@ -47,6 +51,7 @@ returns-clause-answered g c =
     record {
       leads = look_leads g.D.Disk.answered c.depth.result c.path.result.now true c.args.disk.now c.look.new.disk (Ok c.in_ok-meta.meta) by;
       told = λ first earlier known.
-          look_known g.D.Disk.answered first c.depth.result c.path.result.now c.args.found.now.entry.path c.args.disk.now c.look.new.disk c.in_ok-meta.meta c.place_in.result earlier by
+          look_known g.D.Disk.answered first c.depth.result c.path.result.now c.args.found.now.entry.path c.args.disk.now c.look.new.disk
+          c.in_ok-meta.meta c.place_in.result earlier by
           c.path.ensures.told c.place_in.ensures.told;
     }

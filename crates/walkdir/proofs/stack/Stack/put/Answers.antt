@@ -1,3 +1,4 @@
+-- One directory has other contents, and the stack stays sound.
 use Rattle.std.proofs.Common.{◌+◌, ◌≤◌, length-set, refl, set, subst, sym}
 use Rattle.walkdir.proofs.SoundLemmas.{is_sound_of, sound_of}
 use Rattle.walkdir.proofs.StackLemmas.At.{puts_above, puts_set}
@@ -10,13 +11,15 @@ invariant_of-self-clause-sound g c =
     let walk = c.args.self.now in
     let list = c.index_mut.result.now in
     is_sound_of walk.options walk.start (set walk.lists.items c.args.index (record list { items = c.args.items })) walk.first_open
-    (sound_put walk.options walk.start walk.lists.items (set walk.lists.items c.args.index (record list { items = c.args.items })) walk.first_open c.args.index c.args.items
+    (sound_put walk.options walk.start walk.lists.items (set walk.lists.items c.args.index (record list { items = c.args.items }))
+    walk.first_open c.args.index c.args.items
     (sound_of walk.options walk.start walk.lists.items walk.first_open walk.some_open walk.in_range walk.few walk.sound)
     (puts_set walk.lists.items c.args.index list c.args.items c.requires.index c.index_mut.ensures.value) c.requires.none
     (c.requires.children list c.index_mut.ensures.value) c.requires.deepest)
 
 pub returns-clause-lists : goal.returns-clause-lists
-returns-clause-lists g c = puts_set c.args.self.now.lists.items c.args.index c.index_mut.result.now c.args.items c.requires.index c.index_mut.ensures.value
+returns-clause-lists g c =
+    puts_set c.args.self.now.lists.items c.args.index c.index_mut.result.now c.args.items c.requires.index c.index_mut.ensures.value
 
 pub invariant_of-self-clause-in_range : goal.invariant_of-self-clause-in_range
 invariant_of-self-clause-in_range g c =

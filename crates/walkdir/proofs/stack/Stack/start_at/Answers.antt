@@ -1,3 +1,4 @@
+-- The device and then the root are looked at, and the root is handled.
 use Rattle.std.proofs.Common.{◌≡◌, false, Ok, Err, [], ap, length, refl, reverse, subst, sym, ◌∙◌}
 use Rattle.std.specs.Prelude.{IfSome}
 use Rattle.odb_tree.specs.Tree.{tree_of}
@@ -52,7 +53,8 @@ returns-in_err-device-clause-innermost g c =
 pub returns-in_err-device-clause-above : goal.returns-in_err-device-clause-above
 returns-in_err-device-clause-above g c =
     begins_above_none (g.D.Disk.state c.args.disk.now) (progress g.S.Sorter.order c.args.self.now (g.D.Disk.streams c.args.disk.now))
-    (progress g.S.Sorter.order c.args.self.now (g.D.Disk.streams c.device_of.new.disk)) c.args.root (handed c.from_residual.result) (ap reverse c.requires.stack)
+    (progress g.S.Sorter.order c.args.self.now (g.D.Disk.streams c.device_of.new.disk)) c.args.root (handed c.from_residual.result)
+    (ap reverse c.requires.stack)
 
 pub returns-in_err-device-clause-answered : goal.returns-in_err-device-clause-answered
 returns-in_err-device-clause-answered g c =
@@ -64,12 +66,15 @@ returns-in_err-device-clause-answered g c =
       leads = tells.leads;
       told = λ first told. (
         stack_later g.D.Disk.answered first c.args.disk.now c.device_of.new.disk stack told tells.leads,
-        subst (λ r. IsItemTold g.D.Disk.answered first c.device_of.new.disk (handed r)) (sym (err_is c.from_residual.result error c.from_residual.ensures.1))
+        subst (λ r. IsItemTold g.D.Disk.answered first c.device_of.new.disk (handed r))
+            (sym (err_is c.from_residual.result error c.from_residual.ensures.1))
             (error_seen g.D.Disk.answered first c.device_of.new.disk error (tells.told first told.leads)),
       );
       refused = λ first told.
-          subst (λ r. IsRefusedAt g.D.Disk.answered first c.device_of.new.disk (handed r) stack) (sym (err_is c.from_residual.result error c.from_residual.ensures.1))
-          (looked_beside g.D.Disk.answered first c.device_of.new.disk c.args.root 0 error stack (on_entry c.args.root 0 error c.in_err-device.ensures.call) (sym (ap length empty))
+          subst (λ r. IsRefusedAt g.D.Disk.answered first c.device_of.new.disk (handed r) stack)
+          (sym (err_is c.from_residual.result error c.from_residual.ensures.1))
+          (looked_beside g.D.Disk.answered first c.device_of.new.disk c.args.root 0 error stack
+          (on_entry c.args.root 0 error c.in_err-device.ensures.call) (sym (ap length empty))
           (lies_nowhere c.args.root stack empty) (tells.told first told.leads));
     }
 
@@ -82,9 +87,11 @@ returns-in_err-meta-clause-begins g c =
     let error = c.in_err-meta.field-0.0 in
     let old = progress g.S.Sorter.order walk (g.D.Disk.streams c.args.disk.now) in
     let new = progress g.S.Sorter.order (record walk { root_device = c.in_ok-device.device }) (g.D.Disk.streams c.look.new.disk) in
-    subst (λ r. BeginsWalk state old c.args.root (handed r) new) (sym (err_is c.from_residual-in_err-meta.result error c.from_residual-in_err-meta.ensures.1))
+    subst (λ r. BeginsWalk state old c.args.root (handed r) new)
+    (sym (err_is c.from_residual-in_err-meta.result error c.from_residual-in_err-meta.ensures.1))
     (begins_nowhere state old new c.args.root c.in_ok-device.device error (ap reverse c.requires.stack) c.in_ok-device.ensures.finds
-    (subst (λ o. IfSome o (λ s. Tells {A = Meta} 0 c.args.root (Err error) (told_at 0 c.args.root (looked (tree_of s) c.args.root false)))) c.in_ok-device.ensures.state
+    (subst (λ o. IfSome o (λ s. Tells {A = Meta} 0 c.args.root (Err error) (told_at 0 c.args.root (looked (tree_of s) c.args.root false))))
+    c.in_ok-device.ensures.state
     c.in_err-meta.ensures.told))
 
 pub returns-in_err-meta-clause-directory : goal.returns-in_err-meta-clause-directory
@@ -93,7 +100,8 @@ returns-in_err-meta-clause-directory g c = λ unmarked.
     let error = c.in_err-meta.field-0.0 in
     let old = progress g.S.Sorter.order c.args.self.now (g.D.Disk.streams c.args.disk.now) in
     let new = progress g.S.Sorter.order (record c.args.self.now { root_device = c.in_ok-device.device }) (g.D.Disk.streams c.look.new.disk) in
-    subst (λ r. BeginsTelling state old c.args.root (handed r) new) (sym (err_is c.from_residual-in_err-meta.result error c.from_residual-in_err-meta.ensures.1))
+    subst (λ r. BeginsTelling state old c.args.root (handed r) new)
+    (sym (err_is c.from_residual-in_err-meta.result error c.from_residual-in_err-meta.ensures.1))
     (begins_error state old new c.args.root error)
 
 pub returns-in_err-meta-clause-innermost : goal.returns-in_err-meta-clause-innermost
@@ -123,14 +131,17 @@ returns-in_err-meta-clause-answered g c =
       leads = leads;
       told = λ first told. (
         stack_later g.D.Disk.answered first c.args.disk.now c.look.new.disk stack told leads,
-        subst (λ r. IsItemTold g.D.Disk.answered first c.look.new.disk (handed r)) (sym (err_is c.from_residual-in_err-meta.result error c.from_residual-in_err-meta.ensures.1))
+        subst (λ r. IsItemTold g.D.Disk.answered first c.look.new.disk (handed r))
+            (sym (err_is c.from_residual-in_err-meta.result error c.from_residual-in_err-meta.ensures.1))
             (error_seen g.D.Disk.answered first c.look.new.disk error
             (look_refused g.D.Disk.answered first 0 c.args.root false c.device_of.new.disk c.look.new.disk error
             (leads_then g.D.Disk.answered first c.args.disk.now c.device_of.new.disk told.leads device) by)),
       );
       refused = λ first told.
-          subst (λ r. IsRefusedAt g.D.Disk.answered first c.look.new.disk (handed r) stack) (sym (err_is c.from_residual-in_err-meta.result error c.from_residual-in_err-meta.ensures.1))
-          (looked_beside g.D.Disk.answered first c.look.new.disk c.args.root 0 error stack (on_entry c.args.root 0 error c.in_err-meta.ensures.call) (sym (ap length empty))
+          subst (λ r. IsRefusedAt g.D.Disk.answered first c.look.new.disk (handed r) stack)
+          (sym (err_is c.from_residual-in_err-meta.result error c.from_residual-in_err-meta.ensures.1))
+          (looked_beside g.D.Disk.answered first c.look.new.disk c.args.root 0 error stack (on_entry c.args.root 0 error c.in_err-meta.ensures.call)
+          (sym (ap length empty))
           (lies_nowhere c.args.root stack empty)
           (look_refused g.D.Disk.answered first 0 c.args.root false c.device_of.new.disk c.look.new.disk error
           (leads_then g.D.Disk.answered first c.args.disk.now c.device_of.new.disk told.leads device) by));
@@ -154,8 +165,10 @@ returns-clause-begins g c =
     let mid = progress g.S.Sorter.order (record walk { root_device = c.in_ok-device.device }) (g.D.Disk.streams c.look.new.disk) in
     let new = progress g.S.Sorter.order c.handle.new.self (g.D.Disk.streams c.handle.new.disk) in
     begins_root state old mid new c.args.root meta item refl refl (ap reverse c.requires.stack)
-    (keeps_alike old mid refl refl (c.in_ok-meta.ensures.streams ∙ c.in_ok-device.ensures.streams)) c.in_ok-device.ensures.finds c.handle.ensures.device
-    (subst (λ o. IfSome o (λ s. Tells 0 c.args.root (Ok meta) (told_at 0 c.args.root (looked (tree_of s) c.args.root false)))) c.in_ok-device.ensures.state c.in_ok-meta.ensures.told)
+    (keeps_alike old mid refl refl (c.in_ok-meta.ensures.streams ∙ c.in_ok-device.ensures.streams)) c.in_ok-device.ensures.finds
+    c.handle.ensures.device
+    (subst (λ o. IfSome o (λ s. Tells 0 c.args.root (Ok meta) (told_at 0 c.args.root (looked (tree_of s) c.args.root false))))
+    c.in_ok-device.ensures.state c.in_ok-meta.ensures.told)
     (subst (λ o. HandlesEntry o mid (entry_by c.args.root false 0 meta) item new) (c.in_ok-meta.ensures.kept ∙ c.in_ok-device.ensures.state)
     (subst (λ e. HandlesEntry (g.D.Disk.state c.look.new.disk) mid e item new) c.entry_by.ensures.made c.handle.ensures.walks))
 
@@ -180,7 +193,8 @@ returns-clause-above g c =
     let mid = progress g.S.Sorter.order (record walk { root_device = c.in_ok-device.device }) (g.D.Disk.streams c.look.new.disk) in
     let new = progress g.S.Sorter.order c.handle.new.self (g.D.Disk.streams c.handle.new.disk) in
     begins_above state old mid new c.args.root meta item refl refl (ap reverse c.requires.stack) c.in_ok-device.ensures.finds
-    (subst (λ o. IfSome o (λ s. Tells 0 c.args.root (Ok meta) (told_at 0 c.args.root (looked (tree_of s) c.args.root false)))) c.in_ok-device.ensures.state c.in_ok-meta.ensures.told)
+    (subst (λ o. IfSome o (λ s. Tells 0 c.args.root (Ok meta) (told_at 0 c.args.root (looked (tree_of s) c.args.root false))))
+    c.in_ok-device.ensures.state c.in_ok-meta.ensures.told)
     (subst (λ o. HandlesAbove o mid (entry_by c.args.root false 0 meta) item new) (c.in_ok-meta.ensures.kept ∙ c.in_ok-device.ensures.state)
     (subst (λ e. HandlesAbove (g.D.Disk.state c.look.new.disk) mid e item new) c.entry_by.ensures.made c.handle.ensures.above))
 

@@ -1,3 +1,4 @@
+-- All directories are left, one after the other.
 use Rattle.std.proofs.Common.{◌≡◌, [], None, length, refl, reverse, subst, ◌∙◌, arith}
 use Rattle.std.proofs.lemmas.Grind.{common_steps}
 use Rattle.walkdir.specs.OwnStreams.{Owns}
@@ -14,7 +15,15 @@ invariant_of-self-clause-sound g c =
     is_sound_begun walk.options walk.start None walk.lists.items walk.first_open refl walk.some_open walk.in_range walk.few walk.sound
 
 pub loop-self-init : goal.loop-self-init
-loop-self-init g c = record { keeps = λ before keeps. keeps; options = refl; start = refl; entered = refl; state = refl; faults = refl; leads = leads_still g.D.Disk.answered c.args.disk.now }
+loop-self-init g c = record {
+  keeps = λ before keeps. keeps;
+  options = refl;
+  start = refl;
+  entered = refl;
+  state = refl;
+  faults = refl;
+  leads = leads_still g.D.Disk.answered c.args.disk.now;
+}
 
 -- with an entry that is dropped, and with none
 pub loop-self-preserved : goal.loop-self-preserved

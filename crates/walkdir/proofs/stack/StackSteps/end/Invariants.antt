@@ -1,3 +1,4 @@
+-- The directories that are not left yet have their streams, which are still the walk's own.
 use Rattle.std.proofs.Common.{◌≡◌, None, false, length}
 use Rattle.odb_disk.specs.CallsMade.{Leads}
 use Rattle.odb_disk.specs.Streams.{Streams}
@@ -5,10 +6,10 @@ use Rattle.walkdir.specs.Progress.{Keeps}
 use Rattle.walkdir.specs.StackProgress.{progress}
 use Rattle.walkdir.proofs.stack.StackSteps.end.Given as goal
 
--- its streams are still the walk's own
 abbrev pub invariant-loop-self : goal.invariant-loop-self
 invariant-loop-self g l = record {
-  keeps : (before : Streams) → Keeps before (progress g.S.Sorter.order l.fn.self (g.D.Disk.streams l.fn.disk)) → Keeps before (progress g.S.Sorter.order l.self (g.D.Disk.streams l.disk));
+  keeps : (before : Streams) → Keeps before (progress g.S.Sorter.order l.fn.self (g.D.Disk.streams l.fn.disk))
+      → Keeps before (progress g.S.Sorter.order l.self (g.D.Disk.streams l.disk));
   options : l.self.options ≡ l.fn.self.options;
   start : l.self.start ≡ None;
   entered : l.self.entered ≡ false;

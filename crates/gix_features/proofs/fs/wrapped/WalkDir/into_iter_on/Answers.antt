@@ -1,3 +1,4 @@
+-- A wrapped walk begins with no streams of its own.
 use Rattle.std.proofs.Common.{◌≡◌, true, subst, sym}
 use Rattle.walkdir.specs.Progress.{has_its_streams}
 use Rattle.walkdir.proofs.WholeWalks.{begun_has}

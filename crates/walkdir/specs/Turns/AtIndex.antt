@@ -1,12 +1,13 @@
--- What one turn does with the directories of the stack. No public clause cites this module.
+-- One directory of the stack, by its index, the outermost first: what it has, and what is put into it. No public clause
+-- cites this module.
 use Rattle.std.specs.Prelude.{◌≡◌, ℕ, ◌+◌, true, false, List, [], ◌∷◌, ◌++◌, length, Option, Some, None, slice_index_or}
 use Rattle.walkdir.specs.Directory.{AreAt, held, is_skipped, stream_in}
 use Rattle.walkdir.specs.declared.directory.DirList.{DirList}
 use Rattle.walkdir.specs.declared.directory.Items.{Items}
 
--- ---- what one directory has
+-- ---- what is put into it
 
--- one directory of the stack has other contents
+-- the directory at an index has other contents, and all else stays
 pub record Puts (old new : List DirList) (index : ℕ) (items : Items) : Type 0 where
   pub outer : List DirList
   pub inner : List DirList
@@ -27,10 +28,12 @@ pub record OwnsAt (lists : List DirList) (index dir : ℕ) : Type 0 where
   pub at : list ≡ slice_index_or lists index list
   pub own : stream_in list.items ≡ Some dir
 
+-- each of these is skipped
 abbrev pub AllSkipped : List DirList → Type 0
 AllSkipped [] = Unit {0}
 AllSkipped (list ∷ lists) = (is_skipped list.items ≡ true) × AllSkipped lists
 
+-- the directory at an index isn't skipped, and all further in are
 pub record Unskips (lists : List DirList) (index : ℕ) : Type 0 where
   pub outer : List DirList
   pub list : DirList
