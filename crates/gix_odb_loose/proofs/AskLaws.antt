@@ -13,8 +13,8 @@ use Rattle.gix_odb_loose.specs.WriteOrder.{wrote_by}
 use Rattle.gix_odb_loose.specs.declared.call.Stage.{Stage as CallStage}
 use Rattle.gix_odb_loose.specs.declared.call.Stage.TheVariants as calls
 use Rattle.gix_odb_loose.specs.declared.write_order.Refusal.{Refusal}
-use Rattle.gix_odb_loose.specs.declared.write_order.Onward.{Onward}
-use Rattle.gix_odb_loose.specs.declared.write_order.Onward.TheVariants.{Stage, End}
+use Rattle.gix_odb_loose.specs.declared.write_at_hand.Onward.{Onward}
+use Rattle.gix_odb_loose.specs.declared.write_at_hand.Onward.TheVariants.{Stage, End}
 use Rattle.gix_odb_loose.specs.declared.write_order.WriteStage.{WriteStage}
 use Rattle.gix_odb_loose.specs.declared.write_at_hand.WriteJob.{WriteJob}
 
@@ -67,7 +67,8 @@ module _ (job : WriteJob) where
   pub onward_same : (onward other : Onward) (past others : List Exchange) → IsAlong job onward past → IsAlong job other others → answers_in past ≡ answers_in others → onward ≡ other
   onward_same onward other past others along along' same = along.reached ∙ ap (onward_along job (Stage job.stage)) same ∙ sym along'.reached
 
-  nothing_behind : (end : Result ObjectId Refusal) (given : List DiskAnswer) → asks_along job (End end) given ≡ []
+  -- a write that has ended asks nothing
+  pub nothing_behind : (end : Result ObjectId Refusal) (given : List DiskAnswer) → asks_along job (End end) given ≡ []
   unfolding asks_along
   nothing_behind end [] = refl
   nothing_behind end (answer ∷ given) = nothing_behind end given

@@ -1,31 +1,28 @@
 -- Each answer leaves a call with fewer asks, for callers: a call with so many asks left has at most so many turns.
-use Rattle.std.proofs.Common.{◌≡◌, ◌<◌, ◌≤◌, ◌+◌, ◌-◌, ◌==◌, ℕ, Bool, true, false, length, drop, Some, None, refl, sym, ap, ◌∙◌, subst, arith}
-use Rattle.std.specs.Prelude.{nat_lt, nat_le, min, if◌then◌else◌}
+use Rattle.std.proofs.Common.{◌≡◌, ◌<◌, ◌≤◌, ◌+◌, ◌-◌, ℕ, Bool, true, false, length, drop, Some, None, refl, sym, ap, ◌∙◌, subst, arith}
+use Rattle.std.specs.Prelude.{nat_le, min, if◌then◌else◌}
 use Rattle.std.proofs.lemmas.Grind.{common_steps}
 use Rattle.std.proofs.lemmas.List.{length-take, length-drop}
 use Rattle.odb_disk.specs.declared.ask.DiskAsk.{DiskAsk}
 use Rattle.odb_disk.specs.declared.ask.DiskAnswer.{DiskAnswer}
 use Rattle.odb_disk.specs.declared.ask.DiskAnswer.TheVariants as answers
-use Rattle.gix_hash.specs.declared.object_id.ObjectId.{ObjectId}
 use Rattle.gix_odb_loose.specs.LooseOrder.{fed, disk_ask_of, stage_ask, next_stage, asks_left, written_to}
-use Rattle.gix_odb_loose.specs.WriteOrder.{made_by, headed_by, filled_by, foldered_by, moved_by, next_write, ended_with, written_in, room_behind, grown}
-use Rattle.gix_odb_loose.specs.WriteNames.{name_for}
-use Rattle.gix_odb_loose.specs.WritePieces.{piece_size}
-use Rattle.gix_odb_loose.proofs.WriteJobsLemmas as turns
-use Rattle.gix_odb_loose.specs.WriteJobs.{supplied, pieces_left, piece_at, piece_of, next_in, advance_to, pieces_of, writes_left}
+use Rattle.gix_odb_loose.specs.WriteOrder.{made_by, headed_by, filled_by, foldered_by, moved_by, next_write, ended_with, written_in, grown}
+use Rattle.gix_odb_loose.specs.WritePieces.{piece_size, room_behind}
+use Rattle.gix_odb_loose.proofs.RoomLemmas.{whole_piece}
+use Rattle.gix_odb_loose.proofs.WriteJobsLemmas.{fewer_left, ended_fewer}
+use Rattle.gix_odb_loose.specs.WriteJobs.{supplied, name_of, piece_at, piece_of, next_in, advance_to, pieces_of, writes_left, wants_left, onward_left}
 use Rattle.gix_odb_loose.specs.declared.call.LooseCall.{LooseCall}
 use Rattle.gix_odb_loose.specs.declared.call.Stage.{Stage as CallStage}
 use Rattle.gix_odb_loose.specs.declared.call.Stage.TheVariants as calls
-use Rattle.gix_odb_loose.specs.declared.write_order.Onward.{Onward}
-use Rattle.gix_odb_loose.specs.declared.write_order.Onward.TheVariants.{Stage, End}
+use Rattle.gix_odb_loose.specs.declared.write_at_hand.Onward.{Onward}
+use Rattle.gix_odb_loose.specs.declared.write_at_hand.Onward.TheVariants.{Stage, End}
+use Rattle.gix_odb_loose.specs.declared.write_order.WriteAsk.{WriteAsk}
+use Rattle.gix_odb_loose.specs.declared.write_order.WriteAsk.TheVariants as wants
 use Rattle.gix_odb_loose.specs.declared.write_order.WriteStage.{WriteStage}
 use Rattle.gix_odb_loose.specs.declared.write_order.WriteStage.TheVariants as stages
 use Rattle.gix_odb_loose.specs.declared.write_order.Refusal.TheVariants as refusals
 use Rattle.gix_odb_loose.specs.declared.write_at_hand.WriteJob.{WriteJob}
-
--- how many asks are left of a write that goes on, or ends
-abbrev onward_left : ℕ → Onward → ℕ
-onward_left n onward = turns.onward_left (pieces_left n) onward
 
 advance_left : (job : WriteJob) (onward : Onward) → asks_left (written_to job (advance_to job onward)) ≡ onward_left (length job.bytes) onward
 advance_left job (Stage stage) = refl
@@ -35,60 +32,43 @@ advance_left job (End end) = refl
 pieces_fewer : (len : ℕ) → piece_size < len → pieces_of (len - piece_size) < pieces_of len
 pieces_fewer len more = omega (arith, more)
 
--- ---- the end of the data takes no more asks
-
-ended_left : (n size written number : ℕ) (id : ObjectId) (same : Bool) → writes_left n (if same then stages.Foldering number id else stages.Removing number (refusals.SizeMismatch written)) < 4
-ended_left n size written number id true = omega arith
-ended_left n size written number id false = omega arith
-
-abbrev name_of : WriteJob → ObjectId
-name_of job = name_for job.known job.hash job.head job.bytes
-
 module _ (job : WriteJob) where
   abbrev n : ℕ
   n = length job.bytes
 
-  -- where data are left, a stage is as it was; else the end is told
+  -- ---- the end of the data takes no more asks
+
   supply_fill : (number written : ℕ) (b : Bool) → nat_le n written ≡ b
-      → writes_left n (if b then ended_with job.head.size (name_of job) (stages.Filling number written) else stages.Filling number written) ≤ 4 + pieces_of (n - written)
-  supply_fill number written true e = omega (arith, ended_left n job.head.size written number (name_of job) (written == job.head.size))
+      → writes_left n (if b then ended_with job.head.size (name_of job) number written else stages.Filling number written) ≤ 4 + pieces_of (n - written)
+  supply_fill number written true e = omega (arith, ended_fewer n job.head.size (name_of job) number written)
   supply_fill number written false e = omega arith
 
   supply_strict : (number written : ℕ) (b : Bool) → nat_le n written ≡ b → n ≤ written
-      → writes_left n (if b then ended_with job.head.size (name_of job) (stages.Filling number written) else stages.Filling number written) < 4
-  supply_strict number written true e past = ended_left n job.head.size written number (name_of job) (written == job.head.size)
+      → writes_left n (if b then ended_with job.head.size (name_of job) number written else stages.Filling number written) < 4
+  supply_strict number written true e past = ended_fewer n job.head.size (name_of job) number written
   supply_strict number written false e past = absurd (grind (arith, common_steps, e, past))
 
-  supplied_left : (onward : Onward) → onward_left n (supplied job onward) ≤ onward_left n onward
-  supplied_left (Stage (stages.Making number)) = omega arith
-  supplied_left (Stage (stages.Heading number)) = omega arith
-  supplied_left (Stage (stages.Filling number written)) = supply_fill number written (nat_le n written) refl
-  supplied_left (Stage (stages.Foldering number id)) = omega arith
-  supplied_left (Stage (stages.Moving number id)) = omega arith
-  supplied_left (Stage (stages.Removing number refusal)) = omega arith
-  supplied_left (End end) = omega arith
+  supplied_left : (wanted : WriteAsk) → onward_left n (supplied job wanted) ≤ wants_left n wanted
+  supplied_left (wants.Disk stage) = omega arith
+  supplied_left (wants.Data number written) = supply_fill number written (nat_le n written) refl
+  supplied_left (wants.Done end) = omega arith
 
   -- ---- each answer
 
   abbrev pub piece : ℕ → ℕ
   piece written = length (piece_at job.head.size job.bytes written)
 
-  -- where more than this piece are left and the piece fits, it is a whole one
-  pub whole_piece : (size written len room : ℕ) (b : Bool) → nat_lt written size ≡ b → room ≡ (if b then min piece_size (size - written + 1) else 1) → len ≡ min room (n - written) → written + len < n → written + len ≤ size → len ≡ piece_size
-  whole_piece size written len room true e room_is len_is more fits = grind (arith, common_steps, e, room_is, len_is, more, fits)
-  whole_piece size written len room false e room_is len_is more fits = absurd (grind (arith, common_steps, e, room_is, len_is, more, fits))
-
   pub piece_is : (written : ℕ) → piece written ≡ min (room_behind job.head.size written) (n - written)
   piece_is written = length-take (room_behind job.head.size written) (drop written job.bytes) ∙ ap (min (room_behind job.head.size written)) (length-drop written job.bytes)
 
   grown_left : (number written : ℕ) (past : Bool) → nat_le n (written + piece written) ≡ past → written + piece written ≤ job.head.size
-      → onward_left n (supplied job (Stage (stages.Filling number (written + piece written)))) < 4 + pieces_of (n - written)
+      → onward_left n (supplied job (wants.Data number (written + piece written))) < 4 + pieces_of (n - written)
   grown_left number written true e fits =
       let inside : n ≤ written + piece written = grind (arith, common_steps, e) in
       let less = supply_strict number (written + piece written) (nat_le n (written + piece written)) refl inside in omega (arith, less)
   grown_left number written false e fits =
       let below : written + piece written < n = grind (arith, common_steps, e) in
-      let whole = whole_piece job.head.size written (piece written) (room_behind job.head.size written) (nat_lt written job.head.size) refl refl (piece_is written) below fits in
+      let whole = whole_piece job.head.size written (piece written) (omega (arith, piece_is written, below)) fits in
       let least = supply_fill number (written + piece written) (nat_le n (written + piece written)) refl in
       let fewer = pieces_fewer (n - written) (omega (arith, below, whole)) in
       let rest : n - (written + piece written) ≡ n - written - piece_size = omega (arith, whole) in
@@ -96,7 +76,7 @@ module _ (job : WriteJob) where
       omega (arith, least', fewer)
 
   fits_left : (number written : ℕ) (b : Bool) → nat_le (written + piece written) job.head.size ≡ b
-      → onward_left n (supplied job (if b then Stage (stages.Filling number (written + piece written)) else Stage (stages.Removing number (refusals.SizeMismatch (grown written (piece written)))))) < 4 + pieces_of (n - written)
+      → onward_left n (supplied job (if b then wants.Data number (written + piece written) else wants.Disk (stages.Removing number (refusals.SizeMismatch (grown written (piece written)))))) < 4 + pieces_of (n - written)
   fits_left number written true e = grown_left number written (nat_le n (written + piece written)) refl (grind (arith, common_steps, e))
   fits_left number written false e = omega arith
 
@@ -111,14 +91,14 @@ module _ (job : WriteJob) where
 
   -- what is asked next, where a stage waits for no data
   other_left : (stage : WriteStage) (given : DiskAnswer) → written_in stage ≡ None → onward_left n (supplied job (next_write job.head.size 0 stage given)) < writes_left n stage
-  other_left (stages.Making number) given none = omega (arith, supplied_left (made_by number given), turns.fewer_left (pieces_left n) job.head.size (stages.Making number) 0 given tt)
-  other_left (stages.Heading number) given none = omega (arith, supplied_left (headed_by number given), turns.fewer_left (pieces_left n) job.head.size (stages.Heading number) 0 given tt)
+  other_left (stages.Making number) given none = omega (arith, supplied_left (made_by number given), fewer_left n job.head.size (stages.Making number) 0 given tt)
+  other_left (stages.Heading number) given none = omega (arith, supplied_left (headed_by number given), fewer_left n job.head.size (stages.Heading number) 0 given tt)
   other_left (stages.Filling number written) given none = absurd (cc none)
-  other_left (stages.Foldering number id) given none = omega (arith, supplied_left (foldered_by number id given), turns.fewer_left (pieces_left n) job.head.size (stages.Foldering number id) 0 given tt)
-  other_left (stages.Moving number id) given none = omega (arith, supplied_left (moved_by number id given), turns.fewer_left (pieces_left n) job.head.size (stages.Moving number id) 0 given tt)
+  other_left (stages.Foldering number id) given none = omega (arith, supplied_left (foldered_by number id given), fewer_left n job.head.size (stages.Foldering number id) 0 given tt)
+  other_left (stages.Moving number id) given none = omega (arith, supplied_left (moved_by number id given), fewer_left n job.head.size (stages.Moving number id) 0 given tt)
   other_left (stages.Removing number refusal) given none = omega arith
 
-  stage_left : (stage : WriteStage) (given : DiskAnswer) → onward_left n (supplied job (next_write job.head.size (length (piece_of job.head.size job.bytes (written_in stage))) stage given)) < writes_left n stage
+  pub stage_left : (stage : WriteStage) (given : DiskAnswer) → onward_left n (supplied job (next_write job.head.size (length (piece_of job.head.size job.bytes (written_in stage))) stage given)) < writes_left n stage
   stage_left (stages.Making number) given = other_left (stages.Making number) given refl
   stage_left (stages.Heading number) given = other_left (stages.Heading number) given refl
   stage_left (stages.Filling number written) given = filled_left number written given

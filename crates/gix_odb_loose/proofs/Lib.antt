@@ -9,12 +9,13 @@ pub mod StillAskLaws
 pub mod NameLaws
 mod RunLemmas
 mod TurnLemmas
-mod RoomLemmas
+pub mod RoomLemmas
 mod WriteJobsLemmas
 mod WriteStreamsLemmas
 pub mod AskLaws
 pub mod WriteHistoryLaws
 pub mod WriteMadeLaws
+pub mod WriteDoneLaws
 pub mod WriteShownLaws
 pub mod WriteCauseLaws
 pub mod ReadBackLaws

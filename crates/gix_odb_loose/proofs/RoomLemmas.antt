@@ -1,9 +1,8 @@
--- How long a piece may be.
+-- How long a piece may be, for callers.
 use Rattle.std.specs.Prelude.{◌≡◌, ℕ, ◌+◌, ◌-◌, ◌<◌, ◌≤◌, Bool, true, false, nat_lt, min, if◌then◌else◌, refl}
 use Rattle.std.proofs.Common.{arith}
 use Rattle.std.proofs.lemmas.Grind.{common_steps}
-use Rattle.gix_odb_loose.specs.WriteOrder.{room_behind}
-use Rattle.gix_odb_loose.specs.WritePieces.{piece_size}
+use Rattle.gix_odb_loose.specs.WritePieces.{piece_size, room_behind}
 
 -- a piece has room, and one byte above the size at most
 room_some : (size written : ℕ) (b : Bool) → nat_lt written size ≡ b → 1 ≤ (if b then min piece_size (size - written + 1) else 1)
@@ -26,3 +25,11 @@ few_by size written false = omega arith
 
 pub room_few : (size written : ℕ) → room_behind size written ≤ piece_size
 room_few size written = few_by size written (nat_lt written size)
+
+-- a piece that takes all room and fits is a whole one
+whole_by : (size written room len : ℕ) (b : Bool) → nat_lt written size ≡ b → room ≡ (if b then min piece_size (size - written + 1) else 1) → len ≡ room → written + len ≤ size → len ≡ piece_size
+whole_by size written room len true e room_is len_is fits = grind (arith, common_steps, e, room_is, len_is, fits)
+whole_by size written room len false e room_is len_is fits = absurd (grind (arith, common_steps, e, room_is, len_is, fits))
+
+pub whole_piece : (size written len : ℕ) → len ≡ room_behind size written → written + len ≤ size → len ≡ piece_size
+whole_piece size written len full fits = whole_by size written (room_behind size written) len (nat_lt written size) refl refl full fits

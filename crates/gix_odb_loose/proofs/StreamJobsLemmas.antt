@@ -4,4 +4,5 @@ pub mod ReadsOn
 pub mod GoesOn
 pub mod Kept
 pub mod Turn
+pub mod Turns
 pub mod Ends

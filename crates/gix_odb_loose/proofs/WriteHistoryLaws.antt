@@ -25,8 +25,8 @@ use Rattle.gix_odb_loose.specs.WritePieces.{piece_size, IsInPieces}
 use Rattle.gix_odb_loose.specs.declared.write.Message.TheVariants as messages
 use Rattle.gix_odb_loose.specs.declared.write_order.Refusal.{Refusal}
 use Rattle.gix_odb_loose.specs.declared.write_order.Refusal.TheVariants as refusals
-use Rattle.gix_odb_loose.specs.declared.write_order.Onward.{Onward}
-use Rattle.gix_odb_loose.specs.declared.write_order.Onward.TheVariants.{Stage, End}
+use Rattle.gix_odb_loose.specs.declared.write_order.WriteAsk.{WriteAsk}
+use Rattle.gix_odb_loose.specs.declared.write_order.WriteAsk.TheVariants as wants
 use Rattle.gix_odb_loose.specs.declared.write_order.WriteHead.{WriteHead}
 use Rattle.gix_odb_loose.specs.declared.write_order.WriteStage.{WriteStage}
 use Rattle.gix_odb_loose.specs.declared.write_order.WriteStage.TheVariants as stages
@@ -34,8 +34,8 @@ use Rattle.gix_odb_loose.proofs.WriteHistoryLaws.Pieces.{AreWhole, cut_whole, cu
 use Rattle.gix_odb_loose.proofs.WriteHistoryLaws.Answered.{tried-next, filled-next, refused_as, wanted, refused_any}
 
 module _ (head : WriteHead) (Named : ObjectId → Type 0) (SourceFailed : Type 0) (Counted : ℕ → Type 0) where
-  abbrev Onwards : List ℕ → Onward → List Exchange → Type 0
-  Onwards appended onward past = IsHistoryOnward head Named SourceFailed Counted appended onward past
+  abbrev Onwards : List ℕ → WriteAsk → List Exchange → Type 0
+  Onwards appended wanted past = IsHistoryOnward head Named SourceFailed Counted appended wanted past
 
   abbrev Stopped : ℕ → Refusal → List Exchange → Type 0
   Stopped number refusal past = IsStopped head Named SourceFailed Counted number refusal past
@@ -50,7 +50,7 @@ module _ (head : WriteHead) (Named : ObjectId → Type 0) (SourceFailed : Type 0
       tries answer = past ++ exchanged (asks.NewFile temporary) answer ∷ []
 
       next_name : (more : Bool) → nat_lt (number + 1) temp_names ≡ more
-          → Onwards [] (if more then Stage (stages.Making (number + 1)) else End (Err (refusals.Io messages.CreateTempFile))) (tries (answers.Refused disk_errors.Exists))
+          → Onwards [] (if more then wants.Disk (stages.Making (number + 1)) else wants.Done (Err (refusals.Io messages.CreateTempFile))) (tries (answers.Refused disk_errors.Exists))
       next_name true more =
           let few : number + 1 < temp_names = grind (arith, common_steps, more) in
           (few, refl, ap (λ (xs : List Exchange). xs ++ exchanged (asks.NewFile temporary) (answers.Refused disk_errors.Exists) ∷ []) is ∙ sym (tried-next head number))
@@ -59,7 +59,7 @@ module _ (head : WriteHead) (Named : ObjectId → Type 0) (SourceFailed : Type 0
           inl (inl (ap (λ (xs : List Exchange). xs ++ exchanged (asks.NewFile temporary) (answers.Refused disk_errors.Exists) ∷ []) is ∙ sym (tried-next head number) ∙ ap (tried head) last))
 
       unmade : (answer : DiskAnswer) → IsRefused (asks.NewFile temporary) answer → refused_by (refusals.Io messages.CreateTempFile) answer ≡ refusals.Io messages.CreateTempFile
-          → Onwards [] (End (Err (refused_by (refusals.Io messages.CreateTempFile) answer))) (tries answer)
+          → Onwards [] (wants.Done (Err (refused_by (refusals.Io messages.CreateTempFile) answer))) (tries answer)
       unmade answer refused same =
           inl (refused_as head Named (stages.Making number) [] [] past (below, refl, is) (IsUnmade head Named) (refusals.Io messages.CreateTempFile) (λ xs row. inr (number, row)) (λ xs want. (number, want)) answer refused same)
 
@@ -131,7 +131,7 @@ module _ (head : WriteHead) (Named : ObjectId → Type 0) (SourceFailed : Type 0
           }
 
       fits_next : (fits : Bool) → nat_le (written + length piece) head.size ≡ fits
-          → Onwards (appended ++ piece) (if fits then Stage (stages.Filling number (written + length piece)) else Stage (stages.Removing number (refusals.SizeMismatch (grown written (length piece))))) (past ++ exchanged append answers.Done ∷ [])
+          → Onwards (appended ++ piece) (if fits then wants.Data number (written + length piece) else wants.Disk (stages.Removing number (refusals.SizeMismatch (grown written (length piece))))) (past ++ exchanged append answers.Done ∷ [])
       fits_next true e = (ap (λ (n : ℕ). n + length piece) so_far ∙ sym (length-append appended piece), more_filled)
       fits_next false e =
           let counts = too_many (grind (arith, common_steps, e)) in
@@ -216,9 +216,9 @@ module _ (head : WriteHead) (Named : ObjectId → Type 0) (SourceFailed : Type 0
   IsHistory-next (stages.Moving number id) appended piece past answer counts next is = moved_next past number id appended is.0 is.1 is.2 answer
   IsHistory-next (stages.Removing number refusal) appended piece past answer counts next is = inr (number, past, is, (answer, refl))
 
-  -- The end of the data carries on a write that waits for data: they are as many as were told, or the write is refused.
+  -- The end of the data carries on a write that asks for data: they are as many as were told, or the write is refused.
   pub IsHistory-ended : (number written : ℕ) (id : ObjectId) (appended : List ℕ) (past : List Exchange) → Named id → ((written ≡ head.size → ⊥) → (written < head.size) × Counted written) → IsHistory head Named SourceFailed Counted appended (stages.Filling number written) past
-      → IsHistory head Named SourceFailed Counted appended (ended_with head.size id (stages.Filling number written)) past
+      → IsHistory head Named SourceFailed Counted appended (ended_with head.size id number written) past
   IsHistory-ended number written id appended past named counts is = by_length (written == head.size) refl
     where
       by_length : (same : Bool) → (written == head.size) ≡ same

@@ -11,7 +11,7 @@ use Rattle.gix_odb_loose.specs.Exchanges.{Exchange, exchanged}
 use Rattle.gix_odb_loose.specs.WriteHistory.{GoesWell, IsAnswered, IsHistory, IsStopped, Wants}
 use Rattle.gix_odb_loose.specs.WriteHistory.WentWell.{IsFilled, IsFoldered, IsMoved, made, tried}
 use Rattle.gix_odb_loose.specs.WriteHistory.Refused.{IsRefused}
-use Rattle.gix_odb_loose.specs.WriteOrder.{temp_names, number_made, temp_path}
+use Rattle.gix_odb_loose.specs.WriteOrder.{temp_names, number_in, number_made, temp_path}
 use Rattle.gix_odb_loose.specs.declared.write.Message.TheVariants as messages
 use Rattle.gix_odb_loose.specs.declared.write_order.Refusal.{Refusal}
 use Rattle.gix_odb_loose.specs.declared.write_order.Refusal.TheVariants as refusals
@@ -69,3 +69,39 @@ module _ (head : WriteHead) (Named : ObjectId → Type 0) (number : ℕ) where
 -- the number of a file that was moved
 pub moved_below : (head : WriteHead) (number : ℕ) (id : ObjectId) (appended : List ℕ) (past : List Exchange) → IsMoved head number id appended past → number < temp_names
 moved_below head number id appended past h = h.foldered.filled.below
+
+-- the number of each file that a write tries to make, or has made
+module _ (head : WriteHead) (Named : ObjectId → Type 0) where
+  well_below : (stage : WriteStage) (appended : List ℕ) (past : List Exchange) → GoesWell head Named appended stage past → number_in stage < temp_names
+  well_below (stages.Making number) appended past well = well.0
+  well_below (stages.Heading number) appended past well = well.2
+  well_below (stages.Filling number written) appended past well = well.1.below
+  well_below (stages.Foldering number id) appended past well = well.2.below
+  well_below (stages.Moving number id) appended past well = well.2.filled.below
+  well_below (stages.Removing number refusal) appended past well = absurd well
+
+  made_below : (stage : WriteStage) (number : ℕ) → number_made stage ≡ Some number → number_in stage < temp_names → number < temp_names
+  made_below (stages.Making number) other made below = absurd (cc made)
+  made_below (stages.Heading number) other made below = let same : number ≡ other = cc made in subst (λ n. n < temp_names) same below
+  made_below (stages.Filling number written) other made below = let same : number ≡ other = cc made in subst (λ n. n < temp_names) same below
+  made_below (stages.Foldering number id) other made below = let same : number ≡ other = cc made in subst (λ n. n < temp_names) same below
+  made_below (stages.Moving number id) other made below = let same : number ≡ other = cc made in subst (λ n. n < temp_names) same below
+  made_below (stages.Removing number refusal) other made below = let same : number ≡ other = cc made in subst (λ n. n < temp_names) same below
+
+  module _ (SourceFailed : Type 0) (Counted : ℕ → Type 0) where
+    stopped_below : (number : ℕ) (refusal : Refusal) (past : List Exchange) → IsStopped head Named SourceFailed Counted number refusal past → number < temp_names
+    stopped_below number (refusals.Io messages.CreateTempFile) past h = absurd h
+    stopped_below number (refusals.Io messages.WriteHeader) past h = well_below (stages.Heading number) h.appended h.before h.well
+    stopped_below number (refusals.Io messages.StreamData) past h = elim h [ inl failed ↦ failed.1.1.below | inr one ↦ well_below (stages.Filling number one.0) one.1.appended one.1.before one.1.well ]
+    stopped_below number refusals.IoRaw past h = well_below (stages.Foldering number h.0) h.1.appended h.1.before h.1.well
+    stopped_below number (refusals.Persist id) past h = well_below (stages.Moving number id) h.appended h.before h.well
+    stopped_below number (refusals.SizeMismatch actual) past h = h.1.1.below
+    stopped_below number refusals.NoMemory past h = made_below h.0 number h.1 (well_below h.0 h.2.appended h.2.before h.2.well)
+
+    pub history_below : (stage : WriteStage) (appended : List ℕ) (past : List Exchange) → IsHistory head Named SourceFailed Counted appended stage past → number_in stage < temp_names
+    history_below (stages.Making number) appended past h = well_below (stages.Making number) appended past h
+    history_below (stages.Heading number) appended past h = well_below (stages.Heading number) appended past h
+    history_below (stages.Filling number written) appended past h = well_below (stages.Filling number written) appended past h
+    history_below (stages.Foldering number id) appended past h = well_below (stages.Foldering number id) appended past h
+    history_below (stages.Moving number id) appended past h = well_below (stages.Moving number id) appended past h
+    history_below (stages.Removing number refusal) appended past h = stopped_below number refusal past h

@@ -11,6 +11,7 @@ pub mod WriteHistory
 pub mod WriteOwn
 pub mod WriteStreams
 pub mod WriteAsks
+pub mod WriteDone
 pub mod WriteRuns
 pub mod StreamJobs
 pub mod LooseOrder

@@ -54,6 +54,7 @@ abbrev pub is_above : Option ℕ → ℕ → Bool
 is_above None size = false
 is_above (Some limit) size = nat_lt limit size
 
+-- a size is within the limit, where there is one
 abbrev pub IsWithin : Option ℕ → ℕ → Type 0
 IsWithin limit size = is_above limit size ≡ false
 

@@ -14,8 +14,8 @@ use Rattle.gix_odb_loose.specs.WriteOrder.{temp_names, temp_path, number_made, w
 use Rattle.gix_odb_loose.specs.declared.write.Message.TheVariants as messages
 use Rattle.gix_odb_loose.specs.declared.write_order.Refusal.{Refusal}
 use Rattle.gix_odb_loose.specs.declared.write_order.Refusal.TheVariants as refusals
-use Rattle.gix_odb_loose.specs.declared.write_order.Onward.{Onward}
-use Rattle.gix_odb_loose.specs.declared.write_order.Onward.TheVariants.{Stage, End}
+use Rattle.gix_odb_loose.specs.declared.write_order.WriteAsk.{WriteAsk}
+use Rattle.gix_odb_loose.specs.declared.write_order.WriteAsk.TheVariants as wants
 use Rattle.gix_odb_loose.specs.declared.write_order.WriteHead.{WriteHead}
 use Rattle.gix_odb_loose.specs.declared.write_order.WriteStage.{WriteStage}
 use Rattle.gix_odb_loose.specs.declared.write_order.WriteStage.TheVariants as stages
@@ -96,9 +96,11 @@ abbrev pub IsHistoryOfEnd : WriteHead → (Named : ObjectId → Type 0) (SourceF
 IsHistoryOfEnd head Named SourceFailed Counted appended (Ok id) past = (length appended ≡ head.size) × Named id × ((number : ℕ) × IsMoved head number id appended past)
 IsHistoryOfEnd head Named SourceFailed Counted appended (Err refusal) past = IsRefusedRun head Named SourceFailed Counted refusal past
 
-abbrev pub IsHistoryOnward : WriteHead → (Named : ObjectId → Type 0) (SourceFailed : Type 0) (Counted : ℕ → Type 0) (appended : List ℕ) → Onward → List Exchange → Type 0
-IsHistoryOnward head Named SourceFailed Counted appended (Stage stage) past = IsHistory head Named SourceFailed Counted appended stage past
-IsHistoryOnward head Named SourceFailed Counted appended (End end) past = IsHistoryOfEnd head Named SourceFailed Counted appended end past
+-- the exchanges of a write by what it asks for next
+abbrev pub IsHistoryOnward : WriteHead → (Named : ObjectId → Type 0) (SourceFailed : Type 0) (Counted : ℕ → Type 0) (appended : List ℕ) → WriteAsk → List Exchange → Type 0
+IsHistoryOnward head Named SourceFailed Counted appended (wants.Disk stage) past = IsHistory head Named SourceFailed Counted appended stage past
+IsHistoryOnward head Named SourceFailed Counted appended (wants.Data number written) past = GoesWell head Named appended (stages.Filling number written) past
+IsHistoryOnward head Named SourceFailed Counted appended (wants.Done end) past = IsHistoryOfEnd head Named SourceFailed Counted appended end past
 
 -- the data appended after one answer more: a piece that was appended counts
 abbrev pub data_after : WriteStage → List ℕ → DiskAnswer → List ℕ → List ℕ

@@ -1,14 +1,17 @@
--- A write whose data are all at hand: which piece comes next, and when the end is told.
-use Rattle.std.specs.Prelude.{ℕ, ◌+◌, ◌-◌, ◌/◌, Bool, false, nat_le, List, [], length, take, drop, Option, Some, None, if◌then◌else◌}
+-- A write whose data are all at hand: which piece comes next, and when the end is told; how many calls of the disk are left.
+use Rattle.std.specs.Prelude.{ℕ, ◌+◌, ◌-◌, ◌/◌, nat_le, List, [], length, take, drop, Option, Some, None, if◌then◌else◌}
 use Rattle.odb_disk.specs.declared.ask.DiskAsk.{DiskAsk}
 use Rattle.odb_disk.specs.declared.ask.DiskAnswer.{DiskAnswer}
+use Rattle.gix_hash.specs.declared.object_id.ObjectId.{ObjectId}
 use Rattle.gix_odb_loose.specs.WriteNames.{name_for}
-use Rattle.gix_odb_loose.specs.WritePieces.{piece_size}
-use Rattle.gix_odb_loose.specs.WriteOrder.{temp_names, room_behind, written_in, write_ask, next_write, ended_with, wrote_by}
-use Rattle.gix_odb_loose.specs.declared.write_order.Onward.{Onward}
-use Rattle.gix_odb_loose.specs.declared.write_order.Onward.TheVariants.{Stage, End}
+use Rattle.gix_odb_loose.specs.WritePieces.{piece_size, room_behind}
+use Rattle.gix_odb_loose.specs.WriteOrder.{temp_names, written_in, write_ask, next_write, ended_with, wrote_by}
+use Rattle.gix_odb_loose.specs.declared.write_order.WriteAsk.{WriteAsk}
+use Rattle.gix_odb_loose.specs.declared.write_order.WriteAsk.TheVariants as wants
 use Rattle.gix_odb_loose.specs.declared.write_order.WriteStage.{WriteStage}
 use Rattle.gix_odb_loose.specs.declared.write_order.WriteStage.TheVariants as stages
+use Rattle.gix_odb_loose.specs.declared.write_at_hand.Onward.{Onward}
+use Rattle.gix_odb_loose.specs.declared.write_at_hand.Onward.TheVariants.{Stage, End}
 use Rattle.gix_odb_loose.specs.declared.write_at_hand.Advance.{Advance}
 use Rattle.gix_odb_loose.specs.declared.write_at_hand.Advance.TheVariants as advances
 use Rattle.gix_odb_loose.specs.declared.write_at_hand.WriteJob.{WriteJob}
@@ -21,25 +24,26 @@ abbrev pub piece_of : ℕ → List ℕ → Option ℕ → List ℕ
 piece_of size bytes None = []
 piece_of size bytes (Some written) = piece_at size bytes written
 
--- the piece that a write hands out next
+-- the piece that a write appends next
 abbrev pub piece_in : WriteJob → List ℕ
 piece_in job = piece_of job.head.size job.bytes (written_in job.stage)
 
--- whether the machine waits for data, and none are left
-abbrev pub is_at_end : List ℕ → Option ℕ → Bool
-is_at_end bytes None = false
-is_at_end bytes (Some written) = nat_le (length bytes) written
+-- the id of its object
+abbrev pub name_of : WriteJob → ObjectId
+name_of job = name_for job.known job.hash job.head job.bytes
 
--- the end of the data is told as soon as none are left
-abbrev pub supplied_to : WriteJob → WriteStage → WriteStage
-supplied_to job stage = if is_at_end job.bytes (written_in stage) then ended_with job.head.size (name_for job.known job.hash job.head job.bytes) stage else stage
+-- where data are asked for, the next piece is to be appended, and the end of the data is told as soon as none are left
+abbrev pub supplied_with : WriteJob → (number written : ℕ) → WriteStage
+supplied_with job number written =
+    if nat_le (length job.bytes) written then ended_with job.head.size (name_of job) number written else stages.Filling number written
 
 abbrev pub ask_in : WriteJob → DiskAsk
 ask_in job = write_ask job.head (piece_in job) job.stage
 
-abbrev pub supplied : WriteJob → Onward → Onward
-supplied job (Stage stage) = Stage (supplied_to job stage)
-supplied job (End end) = End end
+abbrev pub supplied : WriteJob → WriteAsk → Onward
+supplied job (wants.Disk stage) = Stage stage
+supplied job (wants.Data number written) = Stage (supplied_with job number written)
+supplied job (wants.Done end) = End end
 
 abbrev pub next_in : WriteJob → DiskAnswer → Onward
 next_in job answer = supplied job (next_write job.head.size (length (piece_in job)) job.stage answer)
@@ -55,24 +59,23 @@ advance_by job answer = advance_to job (next_in job answer)
 abbrev pub pieces_of : ℕ → ℕ
 pieces_of len = (len + (piece_size - 1)) / piece_size
 
--- How many calls of the disk are still to come, at most, where `appends written` says how many appends are left behind so
--- many bytes of data.
-abbrev pub turns_left : (appends : ℕ → ℕ) → WriteStage → ℕ
-turns_left appends (stages.Making number) = 6 + appends 0 + (temp_names - number)
-turns_left appends (stages.Heading number) = 5 + appends 0
-turns_left appends (stages.Filling number written) = 4 + appends written
-turns_left appends (stages.Foldering number id) = 3
-turns_left appends (stages.Moving number id) = 2
-turns_left appends (stages.Removing number refusal) = 1
+-- How many calls of the disk are still to come, at most, where so many bytes of data can come in all: all pieces but the last
+-- are whole.
+abbrev pub writes_left : (most : ℕ) → WriteStage → ℕ
+writes_left most (stages.Making number) = 6 + pieces_of most + (temp_names - number)
+writes_left most (stages.Heading number) = 5 + pieces_of most
+writes_left most (stages.Filling number written) = 4 + pieces_of (most - written)
+writes_left most (stages.Foldering number id) = 3
+writes_left most (stages.Moving number id) = 2
+writes_left most (stages.Removing number refusal) = 1
 
--- of so many bytes at hand a piece is appended at a time
-abbrev pub pieces_left : (len written : ℕ) → ℕ
-pieces_left len written = pieces_of (len - written)
+-- the same by what is asked for
+abbrev pub wants_left : (most : ℕ) → WriteAsk → ℕ
+wants_left most (wants.Disk stage) = writes_left most stage
+wants_left most (wants.Data number written) = 4 + pieces_of (most - written)
+wants_left most (wants.Done end) = 0
 
--- of so many bytes from a source one at least
-abbrev pub bytes_left : (size written : ℕ) → ℕ
-bytes_left size written = size - written
-
--- how many calls of the disk are still to come, at most, for so many bytes at hand
-abbrev pub writes_left : ℕ → WriteStage → ℕ
-writes_left len stage = turns_left (pieces_left len) stage
+-- the same of a write that has its data at hand, by what an answer led to
+abbrev pub onward_left : (most : ℕ) → Onward → ℕ
+onward_left most (Stage stage) = writes_left most stage
+onward_left most (End end) = 0

@@ -11,15 +11,14 @@ use Rattle.gix_hash.specs.ObjectId.{hex_of}
 use Rattle.gix_hash.specs.declared.object_id.ObjectId.{ObjectId}
 use Rattle.gix_object.specs.Loose.{header_of}
 use Rattle.gix_odb_loose.specs.LooseFile.{loose_path}
-use Rattle.gix_odb_loose.specs.WritePieces.{piece_size}
 use Rattle.gix_odb_loose.specs.declared.write.Error.{Error}
 use Rattle.gix_odb_loose.specs.declared.write.Error.TheVariants as errors
 use Rattle.gix_odb_loose.specs.declared.write.Message.{Message}
 use Rattle.gix_odb_loose.specs.declared.write.Message.TheVariants as messages
 use Rattle.gix_odb_loose.specs.declared.write_order.Refusal.{Refusal}
 use Rattle.gix_odb_loose.specs.declared.write_order.Refusal.TheVariants as refusals
-use Rattle.gix_odb_loose.specs.declared.write_order.Onward.{Onward}
-use Rattle.gix_odb_loose.specs.declared.write_order.Onward.TheVariants.{Stage, End}
+use Rattle.gix_odb_loose.specs.declared.write_order.WriteAsk.{WriteAsk}
+use Rattle.gix_odb_loose.specs.declared.write_order.WriteAsk.TheVariants as wants
 use Rattle.gix_odb_loose.specs.declared.write_order.WriteHead.{WriteHead}
 use Rattle.gix_odb_loose.specs.declared.write_order.WriteStage.{WriteStage}
 use Rattle.gix_odb_loose.specs.declared.write_order.WriteStage.TheVariants as stages
@@ -45,9 +44,7 @@ temp_name number = codes "tmp_obj_" ++ decimal number
 unfoldable pub temp_path : Path → ℕ → Path
 temp_path objects number = objects ++ temp_name number ∷ []
 
--- ---- what a stage asks
-
--- The next call of the disk. `piece` is the next piece of the data.
+-- The next call of the disk of a stage. `piece` is the next piece of the data.
 abbrev pub write_ask : WriteHead → List ℕ → WriteStage → DiskAsk
 write_ask head piece (stages.Making number) = asks.NewFile (temp_path head.objects number)
 write_ask head piece (stages.Heading number) = asks.Append (temp_path head.objects number) (header_of head.kind head.size)
@@ -56,7 +53,7 @@ write_ask head piece (stages.Foldering number id) = asks.MakeDir (prefix_path he
 write_ask head piece (stages.Moving number id) = asks.Rename (temp_path head.objects number) (loose_path head.objects id)
 write_ask head piece (stages.Removing number refusal) = asks.Remove (temp_path head.objects number)
 
--- how many bytes of data stand in the temporary file, where the next piece is waited for
+-- how many bytes of data stand in the temporary file, where a piece is to be appended
 abbrev pub written_in : WriteStage → Option ℕ
 written_in (stages.Filling number written) = Some written
 written_in stage = None
@@ -75,13 +72,15 @@ abbrev pub number_made : WriteStage → Option ℕ
 number_made (stages.Making number) = None
 number_made stage = Some (number_in stage)
 
+-- the same of what a write asks for, while it goes on
+abbrev pub number_wanted : WriteAsk → Option ℕ
+number_wanted (wants.Disk stage) = number_made stage
+number_wanted (wants.Data number written) = Some number
+number_wanted (wants.Done end) = None
+
 abbrev pub temporary_of : WriteHead → Option ℕ → Option Path
 temporary_of head None = None
 temporary_of head (Some number) = Some (temp_path head.objects number)
-
--- the most bytes of a piece behind `written` bytes: one byte above the size is taken, and shows that there are too many
-abbrev pub room_behind : ℕ → ℕ → ℕ
-room_behind size written = if nat_lt written size then min piece_size (size - written + 1) else 1
 
 -- ---- what is made of an answer
 
@@ -91,52 +90,52 @@ refused_by refusal (answers.Refused disk_errors.NoMemory) = refusals.NoMemory
 refused_by refusal answer = refusal
 
 -- where the name is taken, the next one is tried, if there is one
-abbrev pub made_by : ℕ → DiskAnswer → Onward
-made_by number answers.Done = Stage (stages.Heading number)
-made_by number (answers.Refused disk_errors.Exists) = if nat_lt (number + 1) temp_names then Stage (stages.Making (number + 1)) else End (Err (refusals.Io messages.CreateTempFile))
-made_by number answer = End (Err (refused_by (refusals.Io messages.CreateTempFile) answer))
+abbrev pub made_by : ℕ → DiskAnswer → WriteAsk
+made_by number answers.Done = wants.Disk (stages.Heading number)
+made_by number (answers.Refused disk_errors.Exists) =
+    if nat_lt (number + 1) temp_names then wants.Disk (stages.Making (number + 1)) else wants.Done (Err (refusals.Io messages.CreateTempFile))
+made_by number answer = wants.Done (Err (refused_by (refusals.Io messages.CreateTempFile) answer))
 
-abbrev pub headed_by : ℕ → DiskAnswer → Onward
-headed_by number answers.Done = Stage (stages.Filling number 0)
-headed_by number answer = Stage (stages.Removing number (refused_by (refusals.Io messages.WriteHeader) answer))
+abbrev pub headed_by : ℕ → DiskAnswer → WriteAsk
+headed_by number answers.Done = wants.Data number 0
+headed_by number answer = wants.Disk (stages.Removing number (refused_by (refusals.Io messages.WriteHeader) answer))
 
 -- how many bytes there are after a piece; a count of 64 bits stands still at the greatest
 abbrev pub grown : ℕ → ℕ → ℕ
 grown written piece = min (written + piece) (2 ^ 64 - 1)
 
 -- one byte above the size is too many
-abbrev pub filled_by : (number written size piece : ℕ) → DiskAnswer → Onward
-filled_by number written size piece answers.Done = if nat_le (written + piece) size then Stage (stages.Filling number (written + piece)) else Stage (stages.Removing number (refusals.SizeMismatch (grown written piece)))
-filled_by number written size piece answer = Stage (stages.Removing number (refused_by (refusals.Io messages.StreamData) answer))
+abbrev pub filled_by : (number written size piece : ℕ) → DiskAnswer → WriteAsk
+filled_by number written size piece answers.Done =
+    if nat_le (written + piece) size then wants.Data number (written + piece) else wants.Disk (stages.Removing number (refusals.SizeMismatch (grown written piece)))
+filled_by number written size piece answer = wants.Disk (stages.Removing number (refused_by (refusals.Io messages.StreamData) answer))
 
 -- a directory that is there already is fine
-abbrev pub foldered_by : ℕ → ObjectId → DiskAnswer → Onward
-foldered_by number id answers.Done = Stage (stages.Moving number id)
-foldered_by number id (answers.Refused disk_errors.Exists) = Stage (stages.Moving number id)
-foldered_by number id answer = Stage (stages.Removing number (refused_by refusals.IoRaw answer))
+abbrev pub foldered_by : ℕ → ObjectId → DiskAnswer → WriteAsk
+foldered_by number id answers.Done = wants.Disk (stages.Moving number id)
+foldered_by number id (answers.Refused disk_errors.Exists) = wants.Disk (stages.Moving number id)
+foldered_by number id answer = wants.Disk (stages.Removing number (refused_by refusals.IoRaw answer))
 
-abbrev pub moved_by : ℕ → ObjectId → DiskAnswer → Onward
-moved_by number id answers.Done = End (Ok id)
-moved_by number id answer = Stage (stages.Removing number (refused_by (refusals.Persist id) answer))
+abbrev pub moved_by : ℕ → ObjectId → DiskAnswer → WriteAsk
+moved_by number id answers.Done = wants.Done (Ok id)
+moved_by number id answer = wants.Disk (stages.Removing number (refused_by (refusals.Persist id) answer))
 
 -- What comes after an answer. Whatever the removal is answered, the write ends as it was refused.
-abbrev pub next_write : (size piece : ℕ) → WriteStage → DiskAnswer → Onward
+abbrev pub next_write : (size piece : ℕ) → WriteStage → DiskAnswer → WriteAsk
 next_write size piece (stages.Making number) answer = made_by number answer
 next_write size piece (stages.Heading number) answer = headed_by number answer
 next_write size piece (stages.Filling number written) answer = filled_by number written size piece answer
 next_write size piece (stages.Foldering number id) answer = foldered_by number id answer
 next_write size piece (stages.Moving number id) answer = moved_by number id answer
-next_write size piece (stages.Removing number refusal) answer = End (Err refusal)
+next_write size piece (stages.Removing number refusal) answer = wants.Done (Err refusal)
 
--- the stage after the end of the data, which have this id
-abbrev pub ended_with : ℕ → ObjectId → WriteStage → WriteStage
-ended_with size id (stages.Filling number written) = if written == size then stages.Foldering number id else stages.Removing number (refusals.SizeMismatch written)
-ended_with size id stage = stage
+-- the stage after the end of the data, which have this id, where so many bytes were appended
+abbrev pub ended_with : ℕ → ObjectId → (number written : ℕ) → WriteStage
+ended_with size id number written = if written == size then stages.Foldering number id else stages.Removing number (refusals.SizeMismatch written)
 
 -- the stage after a source of the data failed
-abbrev pub source_failed : WriteStage → WriteStage
-source_failed (stages.Filling number written) = stages.Removing number (refusals.Io messages.StreamData)
-source_failed stage = stage
+abbrev pub source_failed : ℕ → WriteStage
+source_failed number = stages.Removing number (refusals.Io messages.StreamData)
 
 abbrev pub error_from : WriteHead → Refusal → Error
 error_from head (refusals.Io message) = errors.Io message head.objects

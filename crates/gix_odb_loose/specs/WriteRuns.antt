@@ -10,7 +10,7 @@ use Rattle.gix_hash.specs.declared.object_id.ObjectId.{ObjectId}
 use Rattle.gix_object.specs.declared.kind.Kind.{Kind}
 use Rattle.gix_odb_loose.specs.Causes.{WriteCause}
 use Rattle.gix_odb_loose.specs.Exchanges.{Exchange, left_by, AreGiven, RenamedNothing}
-use Rattle.gix_odb_loose.specs.Store.{store_path}
+use Rattle.gix_odb_loose.specs.Store.{store_path, store_hash}
 use Rattle.gix_odb_loose.specs.WriteHistory.WentWell.{IsMoved}
 use Rattle.gix_odb_loose.specs.WriteHistory.Refused.{IsFailedRead, DoneIn}
 use Rattle.gix_odb_loose.specs.WriteHistory.{IsRefusedRun, IsBrokenRun}
@@ -96,6 +96,21 @@ pub record Write : Type 0 where
   pub faults : ℕ
   pub faults_now : ℕ
   pub answer : Result ObjectId Error
+
+-- a write of this kind and size into a store, by where its data come from, what it left of the disk, and what it answered
+abbrev pub write_into : Store → Kind → (size : ℕ) (known : Option ObjectId) → Content → (state state_now : Option State) (faults faults_now : ℕ) → Result ObjectId Error → Write
+write_into store kind size known content state state_now faults faults_now answer =
+    record {
+      head = write_head store kind size;
+      hash = store_hash store;
+      known = known;
+      content = content;
+      state = state;
+      state_now = state_now;
+      faults = faults;
+      faults_now = faults_now;
+      answer = answer;
+    }
 
 -- the object gets this id, where its data are told
 abbrev pub GetsName : Write → ObjectId → Type 0

@@ -38,7 +38,8 @@ impl Naming {
 
     /// Takes in the next bytes of the data.
     pub fn update(&mut self, bytes: &[u8])
-        ensures taken { (known : Option id_of_object) (hash : hash_kind) (head : head_of_write) (before : List ℕ) → Names known hash head before self.old → Names known hash head (before ++ bytes.now) self.new }
+        ensures taken { (known : Option id_of_object) (hash : hash_kind) (head : head_of_write) (before : List ℕ) →
+            Names known hash head before self.old → Names known hash head (before ++ bytes.now) self.new }
     {
         match self {
             Naming::Known(_) => {}
@@ -48,7 +49,8 @@ impl Naming {
 
     /// The id.
     pub fn finish(self) -> ObjectId
-        ensures name { (known : Option id_of_object) (hash : hash_kind) (head : head_of_write) (all : List ℕ) → Names known hash head all self → result ≡ name_for known hash head all }
+        ensures name { (known : Option id_of_object) (hash : hash_kind) (head : head_of_write) (all : List ℕ) →
+            Names known hash head all self → result ≡ name_for known hash head all }
     {
         match self {
             Naming::Known(id) => id,

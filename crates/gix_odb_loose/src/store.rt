@@ -1,3 +1,4 @@
+//! A folder of loose objects as a value, and its calls that find.
 ghost use Rattle.std.specs.Prelude.{◌≡◌, ◌<◌, ◌≤◌, ◌↔◌, [], Some, None, IfOk, IfErr, IfSome, OnOk, OnErr, IsTrue};
 ghost use Rattle.odb_base.specs.Faults.{Rose};
 ghost use Rattle.odb_tree.specs.Tree.{tree_of};

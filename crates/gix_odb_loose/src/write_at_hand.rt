@@ -1,18 +1,18 @@
-//! A write whose data are all at hand.
+//! A write whose data are all at hand: it hands them to the machine as they are asked for.
 ghost use Rattle.std.specs.Prelude.{◌≡◌, IfOk};
-ghost use Rattle.gix_odb_loose.specs.WriteJobs.{piece_at, piece_in, ask_in, next_in, advance_by, supplied_to};
+ghost use Rattle.gix_odb_loose.specs.WriteJobs.{piece_at, piece_in, ask_in, next_in, advance_by, supplied_with};
 ghost use Rattle.gix_odb_loose.specs.WriteOrder.{number_made, temporary_of};
 ghost use Rattle.gix_odb_loose.specs.WriteNames.{name_for};
 
 use crate::naming::Naming;
-use crate::write_order::{Onward, WriteHead, WriteStage, room};
+use crate::write_order::{Refusal, WriteAsk, WriteHead, WriteStage, ended, room};
 use crate::{paths, write};
 use gix_hash::ObjectId;
 use odb_base::{ByteList, NoMemory, PathText};
 use odb_disk::{DiskAnswer, DiskAsk};
 use std::alloc::Global;
 
-/// A write on its way, which hands its data to the machine.
+/// A write on its way. It waits for no data: the next piece, or their end, is handed over as soon as it is asked for.
 #[derive(Drop)]
 pub struct WriteJob {
     pub head: WriteHead,
@@ -23,6 +23,15 @@ pub struct WriteJob {
     pub known: Option<ObjectId>,
 }
 
+/// What the answer to its ask leads to.
+#[derive(Clone, Copy)]
+pub enum Onward {
+    /// The write goes on.
+    Stage(WriteStage),
+    /// It ends so.
+    End(Result<ObjectId, Refusal>),
+}
+
 /// What the answer to its ask makes of a write: its next stage, or its reply.
 #[derive(Drop)]
 pub enum Advance {
@@ -31,7 +40,7 @@ pub enum Advance {
 }
 
 impl WriteJob {
-    /// The next piece of the data, where the machine waits for one.
+    /// The piece of the data that is appended next.
     fn piece(&self) -> &[u8]
         ensures piece { result.now ≡ piece_in self.now }
     {
@@ -64,8 +73,11 @@ impl WriteJob {
     {
         let piece = self.piece().len() as u64;
         match self.stage.next(self.head.size, piece, answer) {
-            Onward::Stage(stage) => Ok(Onward::Stage(self.supply(alloc, stage)?)),
-            Onward::End(end) => Ok(Onward::End(end)),
+            WriteAsk::Disk(stage) => Ok(Onward::Stage(stage)),
+            WriteAsk::Data { number, written } => {
+                Ok(Onward::Stage(self.supply(alloc, number, written)?))
+            }
+            WriteAsk::Done(end) => Ok(Onward::End(end)),
         }
     }
 
@@ -79,18 +91,15 @@ impl WriteJob {
         }
     }
 
-    fn supply(&self, alloc: Global, stage: WriteStage) -> Result<WriteStage, NoMemory>
-        ensures supplied { IfOk result (λ supplied. supplied ≡ supplied_to self.now stage) }
+    // The stage after data were asked for: the next piece is to be appended, or their end is told.
+    fn supply(&self, alloc: Global, number: u64, written: u64) -> Result<WriteStage, NoMemory>
+        ensures supplied { IfOk result (λ stage. stage ≡ supplied_with self.now number written) }
     {
-        match stage.filling() {
-            Some(written) => {
-                if self.bytes.len() as u64 <= written {
-                    Ok(stage.ended(self.head.size, self.name(alloc)?))
-                } else {
-                    Ok(stage)
-                }
-            }
-            None => Ok(stage),
+        if self.bytes.len() as u64 <= written {
+            let id = self.name(alloc)?;
+            Ok(ended(number, written, self.head.size, id))
+        } else {
+            Ok(WriteStage::Filling { number, written })
         }
     }
 

@@ -1,6 +1,9 @@
-//! A write as a machine. What stands in front of it hands it the data, piece by piece, and tells it the end.
+//! A write as a machine: it asks for calls of the disk and for its data, piece by piece. What stands in front hands it the
+//! data, and tells it their end.
 ghost use Rattle.std.specs.Prelude.{◌≡◌, IfOk};
-ghost use Rattle.gix_odb_loose.specs.WriteOrder.{write_ask, written_in, number_made, next_write, ended_with, source_failed, room_behind};
+ghost use Rattle.gix_odb_loose.specs.WriteOrder.{write_ask, written_in, number_made, number_wanted, next_write};
+ghost use Rattle.gix_odb_loose.specs.WriteOrder.{ended_with, source_failed};
+ghost use Rattle.gix_odb_loose.specs.WritePieces.{room_behind};
 ghost use Rattle.gix_odb_loose.specs.WriteOrder.{made_by, headed_by, filled_by, foldered_by, moved_by, refused_by, error_from, wrote_by};
 ghost use Rattle.gix_object.specs.Loose.{header_of};
 ghost use Rattle.gix_odb_loose.specs.LooseFile.{loose_path};
@@ -39,7 +42,7 @@ pub enum WriteStage {
     Making { number: u64 },
     /// The header is to be appended to it.
     Heading { number: u64 },
-    /// The next piece of data is to be appended, behind so many bytes of data.
+    /// A piece of the data is to be appended, behind so many bytes of data.
     Filling { number: u64, written: u64 },
     /// The directory of the object is to be made.
     Foldering { number: u64, id: ObjectId },
@@ -49,13 +52,15 @@ pub enum WriteStage {
     Removing { number: u64, refusal: Refusal },
 }
 
-/// What an answer of the disk leads to.
+/// What a write asks for next.
 #[derive(Clone, Copy)]
-pub enum Onward {
-    /// The write goes on.
-    Stage(WriteStage),
-    /// It ends so.
-    End(Result<ObjectId, Refusal>),
+pub enum WriteAsk {
+    /// The call of the disk of this stage.
+    Disk(WriteStage),
+    /// The next piece of the data, or their end, behind so many bytes of data in the temporary file of this number.
+    Data { number: u64, written: u64 },
+    /// Nothing more: the write ended so.
+    Done(Result<ObjectId, Refusal>),
 }
 
 /// What a write is about.
@@ -69,7 +74,7 @@ pub struct WriteHead {
 }
 
 impl WriteStage {
-    /// Whether it waits for a piece of data, or for their end; and behind how many bytes.
+    /// Whether a piece of the data is to be appended, and behind how many bytes.
     pub fn filling(&self) -> Option<u64>
         ensures written { result ≡ written_in self.now }
     {
@@ -93,40 +98,8 @@ impl WriteStage {
         }
     }
 
-    /// The stage after the end of the data, which have this id.
-    pub fn ended(self, size: u64, id: ObjectId) -> WriteStage
-        ensures ended { result ≡ ended_with size id self }
-    {
-        match self {
-            WriteStage::Filling { number, written } => {
-                if written == size {
-                    WriteStage::Foldering { number, id }
-                } else {
-                    WriteStage::Removing {
-                        number,
-                        refusal: Refusal::SizeMismatch { actual: written },
-                    }
-                }
-            }
-            other => other,
-        }
-    }
-
-    /// The stage after a source of the data failed.
-    pub fn failed(self) -> WriteStage
-        ensures failed { result ≡ source_failed self }
-    {
-        match self {
-            WriteStage::Filling { number, .. } => WriteStage::Removing {
-                number,
-                refusal: Refusal::Io(Message::StreamData),
-            },
-            other => other,
-        }
-    }
-
     /// What comes after the answer to its ask. `piece` is the length of the piece that was to be appended.
-    pub fn next(self, size: u64, piece: u64, answer: &DiskAnswer) -> Onward
+    pub fn next(self, size: u64, piece: u64, answer: &DiskAnswer) -> WriteAsk
         ensures next { result ≡ next_write size piece self answer.now }
     {
         match self {
@@ -135,7 +108,20 @@ impl WriteStage {
             WriteStage::Filling { number, written } => filled(number, written, size, piece, answer),
             WriteStage::Foldering { number, id } => foldered(number, id, answer),
             WriteStage::Moving { number, id } => moved(number, id, answer),
-            WriteStage::Removing { refusal, .. } => Onward::End(Err(refusal)),
+            WriteStage::Removing { refusal, .. } => WriteAsk::Done(Err(refusal)),
+        }
+    }
+}
+
+impl WriteAsk {
+    /// The number of the temporary file, where it was made and the write goes on.
+    pub fn number_made(&self) -> Option<u64>
+        ensures number { result ≡ number_wanted self.now }
+    {
+        match self {
+            WriteAsk::Disk(stage) => stage.number_made(),
+            WriteAsk::Data { number, .. } => Some(*number),
+            WriteAsk::Done(_) => None,
         }
     }
 }
@@ -245,6 +231,30 @@ impl WriteHead {
     }
 }
 
+/// The stage after the end of the data, which have this id, where so many bytes were appended.
+pub fn ended(number: u64, written: u64, size: u64, id: ObjectId) -> WriteStage
+    ensures ended { result ≡ ended_with size id number written }
+{
+    if written == size {
+        WriteStage::Foldering { number, id }
+    } else {
+        WriteStage::Removing {
+            number,
+            refusal: Refusal::SizeMismatch { actual: written },
+        }
+    }
+}
+
+/// The stage after a source of the data failed.
+pub fn failed(number: u64) -> WriteStage
+    ensures failed { result ≡ source_failed number }
+{
+    WriteStage::Removing {
+        number,
+        refusal: Refusal::Io(Message::StreamData),
+    }
+}
+
 /// The most bytes that the next piece may have, behind so many.
 pub fn room(size: u64, written: u64) -> u64
     ensures room { result ≡ room_behind size written }
@@ -256,44 +266,44 @@ pub fn room(size: u64, written: u64) -> u64
     }
 }
 
-// The stage after the answer to the making of the temporary file.
-fn made(number: u64, answer: &DiskAnswer) -> Onward
+// What comes after the answer to the making of the temporary file.
+fn made(number: u64, answer: &DiskAnswer) -> WriteAsk
     ensures next { result ≡ made_by number answer.now }
 {
     match answer {
-        DiskAnswer::Done => Onward::Stage(WriteStage::Heading { number }),
+        DiskAnswer::Done => WriteAsk::Disk(WriteStage::Heading { number }),
         DiskAnswer::Refused(DiskError::Exists) => {
             if number < TEMP_NAMES - 1 {
-                Onward::Stage(WriteStage::Making { number: number + 1 })
+                WriteAsk::Disk(WriteStage::Making { number: number + 1 })
             } else {
-                Onward::End(Err(Refusal::Io(Message::CreateTempFile)))
+                WriteAsk::Done(Err(Refusal::Io(Message::CreateTempFile)))
             }
         }
-        other => Onward::End(Err(refused(Refusal::Io(Message::CreateTempFile), other))),
+        other => WriteAsk::Done(Err(refused(Refusal::Io(Message::CreateTempFile), other))),
     }
 }
 
-// The stage after the answer to the append of the header.
-fn headed(number: u64, answer: &DiskAnswer) -> Onward
+// What comes after the answer to the append of the header.
+fn headed(number: u64, answer: &DiskAnswer) -> WriteAsk
     ensures next { result ≡ headed_by number answer.now }
 {
     match answer {
-        DiskAnswer::Done => Onward::Stage(WriteStage::Filling { number, written: 0 }),
+        DiskAnswer::Done => WriteAsk::Data { number, written: 0 },
         other => removing(number, refused(Refusal::Io(Message::WriteHeader), other)),
     }
 }
 
-// The stage after the answer to the append of a piece.
-fn filled(number: u64, written: u64, size: u64, piece: u64, answer: &DiskAnswer) -> Onward
+// What comes after the answer to the append of a piece.
+fn filled(number: u64, written: u64, size: u64, piece: u64, answer: &DiskAnswer) -> WriteAsk
     ensures next { result ≡ filled_by number written size piece answer.now }
 {
     match answer {
         DiskAnswer::Done => {
             if written <= size && piece <= size - written {
-                Onward::Stage(WriteStage::Filling {
+                WriteAsk::Data {
                     number,
                     written: written + piece,
-                })
+                }
             } else {
                 removing(
                     number,
@@ -307,33 +317,33 @@ fn filled(number: u64, written: u64, size: u64, piece: u64, answer: &DiskAnswer)
     }
 }
 
-// The stage after the answer to the making of the object's directory.
-fn foldered(number: u64, id: ObjectId, answer: &DiskAnswer) -> Onward
+// What comes after the answer to the making of the object's directory.
+fn foldered(number: u64, id: ObjectId, answer: &DiskAnswer) -> WriteAsk
     ensures next { result ≡ foldered_by number id answer.now }
 {
     match answer {
         DiskAnswer::Done | DiskAnswer::Refused(DiskError::Exists) => {
-            Onward::Stage(WriteStage::Moving { number, id })
+            WriteAsk::Disk(WriteStage::Moving { number, id })
         }
         other => removing(number, refused(Refusal::IoRaw, other)),
     }
 }
 
-// The stage after the answer to the rename.
-fn moved(number: u64, id: ObjectId, answer: &DiskAnswer) -> Onward
+// What comes after the answer to the rename.
+fn moved(number: u64, id: ObjectId, answer: &DiskAnswer) -> WriteAsk
     ensures next { result ≡ moved_by number id answer.now }
 {
     match answer {
-        DiskAnswer::Done => Onward::End(Ok(id)),
+        DiskAnswer::Done => WriteAsk::Done(Ok(id)),
         other => removing(number, refused(Refusal::Persist(id), other)),
     }
 }
 
 // The temporary file is removed next.
-fn removing(number: u64, refusal: Refusal) -> Onward
-    ensures next { result ≡ Onward.Stage (WriteStage.Removing number refusal) }
+fn removing(number: u64, refusal: Refusal) -> WriteAsk
+    ensures next { result ≡ WriteAsk.Disk (WriteStage.Removing number refusal) }
 {
-    Onward::Stage(WriteStage::Removing { number, refusal })
+    WriteAsk::Disk(WriteStage::Removing { number, refusal })
 }
 
 // Want of memory is passed on.

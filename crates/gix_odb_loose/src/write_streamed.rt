@@ -1,22 +1,22 @@
-//! A write whose data come from a source, a piece at a time.
+//! A write whose data come from a source, a piece at a time: the source is read where the machine asks for data.
 ghost use Rattle.std.specs.Prelude.{◌≡◌, ◌<◌, ◌≤◌, ◌++◌, ℕ, List, [], length, nat_lt, false, Option, IfOk, OnOk, Some, None};
 ghost use Rattle.odb_disk.specs.StreamAsks.{is_of_streams};
 ghost use Rattle.odb_tree.specs.Tree.{State};
-ghost use Rattle.gix_odb_loose.specs.WriteOrder.{write_ask, written_in};
+ghost use Rattle.gix_odb_loose.specs.WriteOrder.{write_ask};
 ghost use Rattle.gix_odb_loose.specs.WriteOrder.{temp_path as temp_path_of};
 ghost use Rattle.gix_odb_loose.specs.declared.write_order.WriteHead.{WriteHead as head_of_write};
-ghost use Rattle.gix_odb_loose.specs.declared.write_order.WriteStage.{WriteStage as stage_of_write};
 ghost use Rattle.gix_hash.specs.declared.kind.Kind.{Kind as hash_kind};
 ghost use Rattle.gix_hash.specs.declared.object_id.ObjectId.{ObjectId as id_of_object};
 ghost use Rattle.gix_odb_loose.specs.WriteNames.{Names};
 ghost use Rattle.gix_odb_loose.specs.StreamJobs.Progress.{Begun};
-ghost use Rattle.gix_odb_loose.specs.StreamJobs.{IsFed, IsUnderway, IsSomeUnderway, GoesOn, IsEnded, LeadsTo, TurnsTo, RunsTo, IsBroken, IsBrokenOff};
-ghost use Rattle.gix_odb_loose.specs.WriteJobs.{bytes_left, turns_left};
+ghost use Rattle.gix_odb_loose.specs.StreamJobs.AtStage.{turns_at};
+ghost use Rattle.gix_odb_loose.specs.StreamJobs.Standing.{StandsAt, WaitsAt, IsEnded, IsBrokenOff};
+ghost use Rattle.gix_odb_loose.specs.StreamJobs.{IsUnderway, IsSomeUnderway, Leads, LeadsTo, GoesOn, TurnsTo, RunsTo, IsBroken};
 
 use crate::fetch::{Fetched, next_piece};
 use crate::naming::Naming;
 use crate::paths;
-use crate::write_order::{Onward, Refusal, WriteHead, WriteStage, room};
+use crate::write_order::{Refusal, WriteAsk, WriteHead, WriteStage, ended, failed, room};
 use gix_hash::ObjectId;
 use odb_base::{ByteList, NoMemory, PathText};
 use odb_disk::{Disk, DiskAsk, Source};
@@ -27,9 +27,10 @@ use std::mem;
 #[derive(Drop)]
 pub struct StreamJob {
     pub head: WriteHead,
-    pub stage: WriteStage,
+    /// What the machine asks for next.
+    pub wanted: WriteAsk,
     pub naming: Naming,
-    /// The next piece, where the machine waits for one.
+    /// The piece that is to be appended. It is empty elsewhere.
     pub piece: ByteList,
     /// Whether the source came to its end.
     pub has_ended: bool,
@@ -46,7 +47,7 @@ impl StreamJob {
         known: Option<ObjectId>,
     ) -> Result<StreamJob, NoMemory>
         ensures head { IfOk result (λ job. job.head ≡ head) }
-        ensures stage { IfOk result (λ job. job.stage ≡ WriteStage.Making 0) }
+        ensures wanted { IfOk result (λ job. job.wanted ≡ WriteAsk.Disk (WriteStage.Making 0)) }
         ensures piece { IfOk result (λ job. job.piece ≡ []) }
         ensures has_ended { IfOk result (λ job. job.has_ended ≡ false) }
         ensures naming { IfOk result (λ job. Names known hash head [] job.naming) }
@@ -56,7 +57,7 @@ impl StreamJob {
         let removal = removal_of(alloc, &head.objects, 0)?;
         Ok(StreamJob {
             head,
-            stage: WriteStage::Making { number: 0 },
+            wanted: WriteAsk::Disk(WriteStage::Making { number: 0 }),
             naming,
             piece: ByteList::new(alloc),
             has_ended: false,
@@ -64,7 +65,7 @@ impl StreamJob {
         })
     }
 
-    /// One ask of the disk, its answer, and what the next stage needs: how the write ends, if it does.
+    /// One thing that the machine asks for: a call of the disk, or the reading of data. How the write ends, if it does.
     ///
     /// Where memory runs out, the removal of the temporary file is ready, if one was made.
     pub fn turn<D: Disk, S: Source>(
@@ -78,18 +79,22 @@ impl StreamJob {
             TurnsTo w (D.state disk.new) (D.faults disk.new) (S.left from.new) (S.faults from.new) self.new result }
         ensures fewer { (w : Begun) →
             IsUnderway w (D.state disk.old) (D.faults disk.old) (S.left from.old) (S.faults from.old) self.old →
-            IfOk result (λ end. end ≡ None → turns_left (bytes_left w.head.size) self.new.stage < turns_left (bytes_left w.head.size) self.old.stage) }
+            IfOk result (λ end. end ≡ None → turns_at self.new self.new.wanted < turns_at self.old self.old.wanted) }
         ensures head { self.new.head ≡ self.old.head }
         ensures later { D.faults disk.old ≤ D.faults disk.new }
         ensures streams { D.streams disk.new ≡ D.streams disk.old }
     {
-        let onward = self.asked(alloc, disk)?;
-        match onward {
-            Onward::Stage(stage) => {
-                self.go_on(alloc, from, stage)?;
+        match self.wanted {
+            WriteAsk::Disk(stage) => {
+                let wanted = self.asked(alloc, disk, stage)?;
+                self.go_on(alloc, wanted)?;
                 Ok(None)
             }
-            Onward::End(end) => Ok(Some(end)),
+            WriteAsk::Data { number, written } => {
+                self.read_on(alloc, from, number, written)?;
+                Ok(None)
+            }
+            WriteAsk::Done(end) => Ok(Some(end)),
         }
     }
 
@@ -131,64 +136,63 @@ impl StreamJob {
             IsBroken w (D.state disk.old) (D.faults disk.old) rest source_now self.now →
             D.streams disk.new ≡ D.streams disk.old }
     {
-        if self.stage.number_made().is_some() {
+        if self.wanted.number_made().is_some() {
             let _ = self.removal.carry_out(alloc, disk);
         }
     }
 
-    // One ask of the disk: what its answer leads to.
-    fn asked<D: Disk>(&mut self, alloc: Global, disk: &mut D) -> Result<Onward, NoMemory>
+    // The call of the disk of a stage: what its answer leads to.
+    fn asked<D: Disk>(
+        &mut self,
+        alloc: Global,
+        disk: &mut D,
+        stage: WriteStage,
+    ) -> Result<WriteAsk, NoMemory>
+        requires stands { self.old.wanted ≡ WriteAsk.Disk stage }
         ensures leads { (w : Begun) (rest : Option (List ℕ)) (source_now : ℕ) →
-            IsUnderway w (D.state disk.old) (D.faults disk.old) rest source_now self.old →
+            StandsAt w (D.state disk.old) (D.faults disk.old) rest source_now self.old stage →
             LeadsTo w (D.state disk.new) (D.faults disk.new) rest source_now self.new result }
         ensures fewer { (w : Begun) (rest : Option (List ℕ)) (source_now : ℕ) →
-            IsUnderway w (D.state disk.old) (D.faults disk.old) rest source_now self.old →
-            IfOk result (λ onward. (stage : stage_of_write) → onward ≡ Onward.Stage stage → turns_left (bytes_left w.head.size) stage < turns_left (bytes_left w.head.size) self.old.stage) }
+            StandsAt w (D.state disk.old) (D.faults disk.old) rest source_now self.old stage →
+            IfOk result (λ wanted. turns_at self.new wanted < turns_at self.old (WriteAsk.Disk stage)) }
         ensures head { self.new.head ≡ self.old.head }
         ensures later { D.faults disk.old ≤ D.faults disk.new }
         ensures streams { D.streams disk.new ≡ D.streams disk.old }
     {
         let len = self.piece.len() as u64;
-        let ask = self.ask(alloc)?;
+        let ask = self.ask(alloc, &stage)?;
         let answer = ask.carry_out(alloc, disk);
         drop(ask);
-        let onward = self.stage.next(self.head.size, len, &answer);
+        let wanted = stage.next(self.head.size, len, &answer);
         drop(answer);
-        Ok(onward)
+        Ok(wanted)
     }
 
-    // The next call of the disk, which takes the piece that it appends.
+    // The call of the disk of a stage, which takes the piece that it appends.
     #[tactic(auto, using(crate::proofs::StillAskLaws::write_asked_still))]
-    fn ask(&mut self, alloc: Global) -> Result<DiskAsk, NoMemory>
-        ensures ask { IfOk result (λ ask. ask ≡ write_ask self.old.head self.old.piece self.old.stage) }
+    fn ask(&mut self, alloc: Global, stage: &WriteStage) -> Result<DiskAsk, NoMemory>
+        ensures ask { IfOk result (λ ask. ask ≡ write_ask self.old.head self.old.piece stage.now) }
         ensures still { IfOk result (λ ask. is_of_streams ask ≡ false) }
         ensures same { self.new ≡ record self.old { piece = [] } }
     {
         let piece = mem::replace(&mut self.piece, ByteList::new(alloc));
-        self.head.disk_ask(alloc, &self.stage, piece)
+        self.head.disk_ask(alloc, stage, piece)
     }
 
-    // Goes on to a stage, and makes ready what it needs.
-    fn go_on<S: Source>(
-        &mut self,
-        alloc: Global,
-        from: &mut S,
-        stage: WriteStage,
-    ) -> Result<(), NoMemory>
-        ensures goes_on { (w : Begun) (state : Option State) (now : ℕ) →
-            IsFed w state now (S.left from.old) (S.faults from.old) self.old stage →
-            GoesOn w state now (S.left from.new) (S.faults from.new) self.new result }
-        ensures fewer { (size : ℕ) → OnOk result (turns_left (bytes_left size) self.new.stage ≤ turns_left (bytes_left size) stage) }
+    // Goes on to what is asked for next. The removal of a file that is to be made is made ready.
+    fn go_on(&mut self, alloc: Global, wanted: WriteAsk) -> Result<(), NoMemory>
+        ensures goes_on { (w : Begun) (state : Option State) (now : ℕ) (rest : Option (List ℕ)) (source_now : ℕ) →
+            Leads w state now rest source_now self.old wanted → GoesOn w state now rest source_now self.new result }
+        ensures same { OnOk result (turns_at self.new self.new.wanted ≡ turns_at self.old wanted) }
         ensures head { self.new.head ≡ self.old.head }
     {
-        self.stage = stage;
-        match stage {
-            WriteStage::Making { number } => {
+        self.wanted = wanted;
+        match wanted {
+            WriteAsk::Disk(WriteStage::Making { number }) => {
                 let removal = removal_of(alloc, &self.head.objects, number)?;
                 drop(mem::replace(&mut self.removal, removal));
                 Ok(())
             }
-            WriteStage::Filling { written, .. } => self.read_on(alloc, from, written),
             _ => Ok(()),
         }
     }
@@ -198,31 +202,35 @@ impl StreamJob {
         &mut self,
         alloc: Global,
         from: &mut S,
+        number: u64,
         written: u64,
     ) -> Result<(), NoMemory>
-        requires filling { written_in self.old.stage ≡ Some written }
+        requires waits { self.old.wanted ≡ WriteAsk.Data number written }
         ensures goes_on { (w : Begun) (state : Option State) (now : ℕ) →
-            IsFed w state now (S.left from.old) (S.faults from.old) self.old self.old.stage →
+            WaitsAt w state now (S.left from.old) (S.faults from.old) self.old number written →
             GoesOn w state now (S.left from.new) (S.faults from.new) self.new result }
-        ensures fewer { (size : ℕ) → OnOk result (turns_left (bytes_left size) self.new.stage ≤ turns_left (bytes_left size) self.old.stage) }
+        ensures fewer { (w : Begun) (state : Option State) (now : ℕ) →
+            WaitsAt w state now (S.left from.old) (S.faults from.old) self.old number written →
+            OnOk result (turns_at self.new self.new.wanted < turns_at self.old (WriteAsk.Data number written)) }
         ensures head { self.new.head ≡ self.old.head }
     {
         if self.has_ended {
-            self.end();
+            self.end(number, written);
             return Ok(());
         }
         let most = room(self.head.size, written) as usize;
         match next_piece(alloc, from, most)? {
             Fetched::Failed => {
-                self.stage = self.stage.failed();
+                self.wanted = WriteAsk::Disk(failed(number));
                 Ok(())
             }
             Fetched::Piece(piece) => {
                 self.take(piece, most);
                 if !self.piece.is_empty() {
+                    self.wanted = WriteAsk::Disk(WriteStage::Filling { number, written });
                     return Ok(());
                 }
-                self.end();
+                self.end(number, written);
                 Ok(())
             }
         }
@@ -232,9 +240,10 @@ impl StreamJob {
     fn take(&mut self, piece: ByteList, most: usize)
         ensures piece { self.new.piece ≡ piece }
         ensures has_ended { self.new.has_ended ≡ nat_lt (length piece) most }
-        ensures naming { (known : Option id_of_object) (hash : hash_kind) (head : head_of_write) (before : List ℕ) → Names known hash head before self.old.naming → Names known hash head (before ++ piece) self.new.naming }
+        ensures naming { (known : Option id_of_object) (hash : hash_kind) (head : head_of_write) (before : List ℕ) →
+            Names known hash head before self.old.naming → Names known hash head (before ++ piece) self.new.naming }
         ensures head { self.new.head ≡ self.old.head }
-        ensures stage { self.new.stage ≡ self.old.stage }
+        ensures wanted { self.new.wanted ≡ self.old.wanted }
         ensures removal { self.new.removal ≡ self.old.removal }
     {
         self.has_ended = piece.len() < most;
@@ -242,15 +251,15 @@ impl StreamJob {
         drop(mem::replace(&mut self.piece, piece));
     }
 
-    // Tells the end of the data.
-    fn end(&mut self)
-        ensures stage { IsEnded self.old self.new }
+    // Tells the end of the data, behind so many bytes.
+    fn end(&mut self, number: u64, written: u64)
+        ensures wanted { IsEnded number written self.old self.new }
         ensures head { self.new.head ≡ self.old.head }
         ensures removal { self.new.removal ≡ self.old.removal }
     {
         let unnamed = Naming::Known(ObjectId::null(gix_hash::Kind::Sha1));
         let id = mem::replace(&mut self.naming, unnamed).finish();
-        self.stage = self.stage.ended(self.head.size, id);
+        self.wanted = WriteAsk::Disk(ended(number, written, self.head.size, id));
     }
 }
 

@@ -11,32 +11,30 @@ use Rattle.odb_tree.specs.declared.disk_error.DiskError.TheVariants as disk_erro
 use Rattle.gix_hash.specs.declared.object_id.ObjectId.{ObjectId}
 use Rattle.gix_odb_loose.specs.Exchanges.{Exchange}
 use Rattle.gix_odb_loose.specs.WriteHistory.{IsHistory, data_after}
-use Rattle.gix_odb_loose.specs.WritePieces.{piece_size, IsInPieces}
+use Rattle.gix_odb_loose.specs.WritePieces.{IsInPieces, room_behind}
 use Rattle.gix_odb_loose.proofs.WriteHistoryLaws.{CountsTooMany, IsNextPiece}
 use Rattle.gix_odb_loose.specs.WriteNames.{Names}
-use Rattle.gix_odb_loose.specs.WriteOrder.{temp_names, room_behind, temp_path, next_write, made_by, headed_by, filled_by, foldered_by, moved_by, grown}
+use Rattle.gix_odb_loose.specs.WriteOrder.{temp_names, temp_path, next_write, made_by, headed_by, filled_by, foldered_by, moved_by, grown}
 use Rattle.gix_odb_loose.specs.StreamJobs.Progress.{Begun, NamedBy, SourceFailed, Took}
-use Rattle.gix_odb_loose.specs.StreamJobs.AtStage.{HasPiece, IsNext, Named, HoldsFed, Holds, IsReady, removal_at}
+use Rattle.gix_odb_loose.specs.StreamJobs.AtStage.{HasPiece, IsNext, Named, Holds, HoldsNone, IsReady, removal_at}
 use Rattle.gix_odb_loose.specs.WriteStreams.{OtherLength}
 use Rattle.gix_odb_loose.specs.declared.write_streamed.StreamJob.{StreamJob}
 use Rattle.gix_odb_loose.specs.declared.write.Message.TheVariants as messages
-use Rattle.gix_odb_loose.specs.declared.write_order.Onward.{Onward}
-use Rattle.gix_odb_loose.specs.declared.write_order.Onward.TheVariants.{Stage, End}
+use Rattle.gix_odb_loose.specs.declared.write_order.WriteAsk.{WriteAsk}
+use Rattle.gix_odb_loose.specs.declared.write_order.WriteAsk.TheVariants as wants
 use Rattle.gix_odb_loose.specs.declared.write_order.Refusal.TheVariants as refusals
 use Rattle.gix_odb_loose.specs.declared.write_order.WriteStage.{WriteStage}
 use Rattle.gix_odb_loose.specs.declared.write_order.WriteStage.TheVariants as stages
 use Rattle.gix_odb_loose.proofs.WriteStreamsLemmas.{Draws-length}
-use Rattle.gix_odb_loose.proofs.RoomLemmas.{room_few}
+use Rattle.gix_odb_loose.proofs.RoomLemmas.{room_few, whole_piece}
 
 module _ (w : Begun) (rest : Option (List ℕ)) (job fed : StreamJob) (removal : fed.removal ≡ job.removal) (naming : fed.naming ≡ job.naming) (ended : fed.has_ended ≡ job.has_ended) where
-  -- what is known of the stage or of the end that an answer leads to
-  abbrev pub KeptAt : List ℕ → List ℕ → WriteStage → Type 0
-  KeptAt appended all onward = HoldsFed w rest appended all fed onward × IsReady w fed.removal onward
-
-  abbrev pub Kept : List ℕ → List ℕ → Onward → Type 0
-  Kept appended all (Stage onward) = KeptAt appended all onward
-  Kept appended all (End (Ok id)) = Named w rest appended all id
-  Kept appended all (End (Err refusal)) = Unit {0}
+  -- what is held of what an answer leads to
+  abbrev pub Kept : List ℕ → List ℕ → WriteAsk → Type 0
+  Kept appended all (wants.Disk stage) = Holds w rest appended all fed stage × IsReady w fed.removal stage
+  Kept appended all (wants.Data number written) = HoldsNone w rest written appended all fed × (fed.removal ≡ removal_at w (stages.Filling number written))
+  Kept appended all (wants.Done (Ok id)) = Named w rest appended all id
+  Kept appended all (wants.Done (Err refusal)) = Unit {0}
 
   module _ (number : ℕ) (ready : job.removal ≡ asks.Remove (temp_path w.head.objects number)) where
     abbrev stays : fed.removal ≡ asks.Remove (temp_path w.head.objects number)
@@ -49,7 +47,7 @@ module _ (w : Begun) (rest : Option (List ℕ)) (job fed : StreamJob) (removal :
       still : Names w.known w.hash w.head [] fed.naming
       still = subst (Names w.known w.hash w.head []) (sym naming) named
 
-      kept_name : (more : Bool) → Kept appended all (if more then Stage (stages.Making (number + 1)) else End (Err (refusals.Io messages.CreateTempFile)))
+      kept_name : (more : Bool) → Kept appended all (if more then wants.Disk (stages.Making (number + 1)) else wants.Done (Err (refusals.Io messages.CreateTempFile)))
       kept_name true = ((unread, ended ∙ open', still), tt)
       kept_name false = tt
 
@@ -68,7 +66,7 @@ module _ (w : Begun) (rest : Option (List ℕ)) (job fed : StreamJob) (removal :
       kept_made (answers.Refused disk_errors.Failed) = tt
       kept_made (answers.Refused disk_errors.NoMemory) = tt
 
-      begins : HasPiece w rest 0 appended all [] fed
+      begins : HasPiece w rest 0 appended all [] fed.naming fed.has_ended
       begins =
           record { is = unread ∙ sym (append-nil appended ∙ none); named = subst (λ (xs : List ℕ). Names w.known w.hash w.head xs fed.naming) (sym unread) still; within = omega arith; ended = λ e. absurd (let both : false ≡ true = sym (ended ∙ open') ∙ e in cc both) }
 
@@ -81,19 +79,14 @@ module _ (w : Begun) (rest : Option (List ℕ)) (job fed : StreamJob) (removal :
       kept_headed (answers.File found time) = (tt, stays)
       kept_headed (answers.Refused error) = (tt, stays)
 
-    module _ (written : ℕ) (appended all piece : List ℕ) (has : HasPiece w rest written appended all piece job) (next : IsNext w written job) (is_piece : piece ≡ job.piece) where
-      -- a piece that takes all room and fits is a whole one
-      whole_piece : (size room len : ℕ) (b : Bool) → nat_lt written size ≡ b → room ≡ (if b then min piece_size (size - written + 1) else 1) → len ≡ room → written + len ≤ size → len ≡ piece_size
-      whole_piece size room len true e room_is len_is fits = grind (arith, common_steps, e, room_is, len_is, fits)
-      whole_piece size room len false e room_is len_is fits = absurd (grind (arith, common_steps, e, room_is, len_is, fits))
-
+    module _ (written : ℕ) (appended all piece : List ℕ) (has : HasPiece w rest written appended all piece job.naming job.has_ended) (next : IsNext w written job.piece job.has_ended) (is_piece : piece ≡ job.piece) where
       more_pieces : length piece ≡ room_behind w.head.size written → written + length piece ≤ w.head.size → IsInPieces (written + length piece)
       more_pieces full fits =
-          let whole = whole_piece w.head.size (room_behind w.head.size written) (length piece) (nat_lt written w.head.size) refl refl full fits in
+          let whole = whole_piece w.head.size written (length piece) full fits in
           (next.in_pieces.0 + 1, omega (arith, next.in_pieces.1, whole))
 
       kept_fits : (fits : Bool) → nat_le (written + length piece) w.head.size ≡ fits
-          → Kept (appended ++ piece) all (if fits then Stage (stages.Filling number (written + length piece)) else Stage (stages.Removing number (refusals.SizeMismatch (grown written (length piece)))))
+          → Kept (appended ++ piece) all (if fits then wants.Data number (written + length piece) else wants.Disk (stages.Removing number (refusals.SizeMismatch (grown written (length piece)))))
       kept_fits true e = (
         (
           record {

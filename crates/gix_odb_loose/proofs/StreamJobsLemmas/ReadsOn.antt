@@ -11,31 +11,25 @@ use Rattle.gix_odb_loose.specs.WriteAsks.{IsAlong}
 use Rattle.gix_odb_loose.specs.WriteHistory.{IsHistory}
 use Rattle.gix_odb_loose.proofs.WriteHistoryLaws.{IsHistory-ended}
 use Rattle.gix_odb_loose.specs.WriteNames.{name_for, Names}
-use Rattle.gix_odb_loose.specs.WriteOrder.{written_in, room_behind, ended_with, source_failed}
-use Rattle.gix_odb_loose.specs.StreamJobs.Progress.{Begun, NamedBy, SourceFailed, IsSpared, Took}
+use Rattle.gix_odb_loose.specs.WriteOrder.{ended_with, source_failed}
+use Rattle.gix_odb_loose.specs.WritePieces.{room_behind}
+use Rattle.gix_odb_loose.specs.StreamJobs.Progress.{Begun, NamedBy, SourceFailed, Took}
 use Rattle.gix_odb_loose.specs.StreamJobs.SameAsks.{at_hand}
 use Rattle.gix_odb_loose.specs.StreamJobs.Reads.{Loses, Takes}
 use Rattle.gix_odb_loose.specs.StreamJobs.AtStage.{HasPiece, IsNext}
-use Rattle.gix_odb_loose.specs.StreamJobs.{StandsAt, IsFed, BreaksAt}
+use Rattle.gix_odb_loose.specs.StreamJobs.Standing.{StandsAt, WaitsAt, BreaksAt}
+use Rattle.gix_odb_loose.specs.StreamJobs.{IsAt, IsUnderway}
 use Rattle.gix_odb_loose.specs.WriteStreams.{Draws, IsAtEnd, OtherLength}
 use Rattle.gix_odb_loose.specs.declared.write_streamed.StreamJob.{StreamJob}
-use Rattle.gix_odb_loose.specs.declared.write_order.Onward.TheVariants.{Stage}
+use Rattle.gix_odb_loose.specs.declared.write_at_hand.Onward.TheVariants.{Stage}
+use Rattle.gix_odb_loose.specs.declared.write_order.WriteAsk.{WriteAsk}
+use Rattle.gix_odb_loose.specs.declared.write_order.WriteAsk.TheVariants as wants
 use Rattle.gix_odb_loose.specs.declared.write_order.Refusal.TheVariants as refusals
 use Rattle.gix_odb_loose.specs.declared.write_order.WriteHead.{WriteHead}
-use Rattle.gix_odb_loose.specs.declared.write_order.WriteStage.{WriteStage}
 use Rattle.gix_odb_loose.specs.declared.write_order.WriteStage.TheVariants as stages
 use Rattle.gix_odb_loose.proofs.RoomLemmas.{has_room, room_within}
 use Rattle.gix_odb_loose.proofs.WriteStreamsLemmas.{Draws-more, Draws-end, Draws-length}
 use Rattle.gix_odb_loose.proofs.StreamJobsLemmas.SameAsks.{cuts_fed, follows_piece, follows_end}
-
--- a stage that waits for data
-pub filling_is : (stage : WriteStage) (written : ℕ) → written_in stage ≡ Some written → (number : ℕ) × (stage ≡ stages.Filling number written)
-filling_is (stages.Making number) written e = absurd (cc e)
-filling_is (stages.Heading number) written e = absurd (cc e)
-filling_is (stages.Filling number before) written e = let same : before ≡ written = cc e in (number, ap (λ (n : ℕ). stages.Filling number n) same)
-filling_is (stages.Foldering number id) written e = absurd (cc e)
-filling_is (stages.Moving number id) written e = absurd (cc e)
-filling_is (stages.Removing number refusal) written e = absurd (cc e)
 
 -- ---- the name and the length of all data
 
@@ -61,15 +55,12 @@ module _ (w : Begun) (state : Option State) (now : ℕ) where
         later = omega (arith, took.later, on);
       }
 
-  module _ (rest : Option (List ℕ)) (source_now : ℕ) (job : StreamJob) (number written : ℕ) (fed : IsFed w state now rest source_now job (stages.Filling number written)) where
+  module _ (rest : Option (List ℕ)) (source_now : ℕ) (job : StreamJob) (number written : ℕ) (fed : WaitsAt w state now rest source_now job number written) where
     all_appended : fed.all ≡ fed.appended
     all_appended = fed.holds.0.is ∙ append-nil fed.appended
 
     so_far : written ≡ length fed.all
     so_far = fed.history.0 ∙ ap length (sym all_appended)
-
-    pub fed_spared : IsSpared w source_now
-    fed_spared = elim fed.spared [ inl spared ↦ spared | inr failed ↦ absurd (let other = failed.is in cc other) ]
 
     few_more : (more : List ℕ) → length more ≤ room_behind w.head.size written → length fed.all + length more ≤ w.head.size + 1
     few_more more few = let room = room_within w.head.size written fed.holds.0.within in omega (arith, room, few, so_far)
@@ -82,12 +73,12 @@ module _ (w : Begun) (state : Option State) (now : ℕ) where
       whole : IfSome w.left (λ bytes. bytes ≡ fed.all)
       whole = Draws-end w.left rest fed.all fed.took.drawn at_end
 
-      ended_history : IsHistory w.head (NamedBy w) (SourceFailed w source_now) (OtherLength w.left w.head.size) fed.appended (ended_with w.head.size id (stages.Filling number written)) fed.past
+      ended_history : IsHistory w.head (NamedBy w) (SourceFailed w source_now) (OtherLength w.left w.head.size) fed.appended (ended_with w.head.size id number written) fed.past
       ended_history =
           IsHistory-ended w.head (NamedBy w) (SourceFailed w source_now) (OtherLength w.left w.head.size) number written id fed.appended fed.past (named_from w.left w.known w.hash w.head fed.all whole)
           (counts_from w.left w.head.size written fed.all whole so_far fed.holds.0.within) fed.history
 
-      ended_follows : (bytes : List ℕ) → w.left ≡ Some bytes → IsAlong (at_hand w bytes) (Stage (ended_with w.head.size id (stages.Filling number written))) fed.past
+      ended_follows : (bytes : List ℕ) → w.left ≡ Some bytes → IsAlong (at_hand w bytes) (Stage (ended_with w.head.size id number written)) fed.past
       ended_follows bytes is = follows_end w bytes number written fed.past fed.all (subst (λ (left : Option (List ℕ)). IfSome left (λ bytes. bytes ≡ fed.all)) is whole) so_far (fed.follows bytes is)
 
       by_length : (same : Bool) → (written == w.head.size) ≡ same → StandsAt w state now rest source_now new (if same then stages.Foldering number id else stages.Removing number (refusals.SizeMismatch written))
@@ -103,7 +94,7 @@ module _ (w : Begun) (state : Option State) (now : ℕ) where
             history =
                 subst (λ (b : Bool). IsHistory w.head (NamedBy w) (SourceFailed w source_now) (OtherLength w.left w.head.size) fed.appended (if b then stages.Foldering number id else stages.Removing number (refusals.SizeMismatch written)) fed.past) e ended_history;
             holds = (at_end, all_appended, ap (name_for w.known w.hash w.head) all_appended);
-            spared = inl fed_spared;
+            spared = inl fed.spared;
             follows = λ bytes is. inl (subst (λ (b : Bool). IsAlong (at_hand w bytes) (Stage (if b then stages.Foldering number id else stages.Removing number (refusals.SizeMismatch written))) fed.past) e (ended_follows bytes is));
           }
       by_length false e =
@@ -118,14 +109,14 @@ module _ (w : Begun) (state : Option State) (now : ℕ) where
             history =
                 subst (λ (b : Bool). IsHistory w.head (NamedBy w) (SourceFailed w source_now) (OtherLength w.left w.head.size) fed.appended (if b then stages.Foldering number id else stages.Removing number (refusals.SizeMismatch written)) fed.past) e ended_history;
             holds = tt;
-            spared = inl fed_spared;
+            spared = inl fed.spared;
             follows = λ bytes is. inl (subst (λ (b : Bool). IsAlong (at_hand w bytes) (Stage (if b then stages.Foldering number id else stages.Removing number (refusals.SizeMismatch written))) fed.past) e (ended_follows bytes is));
           }
 
-      pub stands_ended : new.stage ≡ ended_with job.head.size id (stages.Filling number written) → StandsAt w state now rest source_now new new.stage
+      pub stands_ended : new.wanted ≡ wants.Disk (ended_with job.head.size id number written) → IsUnderway w state now rest source_now new
       stands_ended is =
           let size : job.head.size ≡ w.head.size = ap (λ (h : WriteHead). h.size) fed.head in
-          subst (λ (s : WriteStage). StandsAt w state now rest source_now new s) (sym (is ∙ ap (λ (n : ℕ). ended_with n id (stages.Filling number written)) size)) (by_length (written == w.head.size) refl)
+          subst (λ (a : WriteAsk). IsAt w state now rest source_now new a) (sym (is ∙ ap (λ (n : ℕ). wants.Disk (ended_with n id number written)) size)) (by_length (written == w.head.size) refl)
 
     -- bytes are lost
     module _ (last : Option (List ℕ)) (later : ℕ) (loses : Loses (room_behind w.head.size written) rest last source_now later) where
@@ -135,10 +126,10 @@ module _ (w : Begun) (state : Option State) (now : ℕ) where
       -- for want of memory
       pub breaks_lost : (new : StreamJob) → new.removal ≡ job.removal → BreaksAt w state now last later new (stages.Filling number written)
       breaks_lost new removal =
-          record { past = fed.past; appended = fed.appended; all = fed.all ++ loses.lost; did = fed.did; took = took_lost; removal = removal ∙ fed.removal; history = fed.history; spared = inr (record { number = number; appended = fed.appended; filled = fed.history.1; made = refl }); follows = λ bytes is. cuts_fed w bytes (stages.Filling number written) fed.past (fed.follows bytes is) }
+          record { past = fed.past; appended = fed.appended; all = fed.all ++ loses.lost; did = fed.did; took = took_lost; removal = removal ∙ fed.removal; history = fed.history; spared = inr (record { number = number; appended = fed.appended; filled = fed.history.1; made = refl }); follows = λ bytes is. cuts_fed w bytes number written fed.past (fed.follows bytes is) }
 
       -- by a failure of the source
-      pub stands_failed : Rose source_now later → (new : StreamJob) → new.head ≡ job.head → new.removal ≡ job.removal → StandsAt w state now last later new (source_failed (stages.Filling number written))
+      pub stands_failed : Rose source_now later → (new : StreamJob) → new.head ≡ job.head → new.removal ≡ job.removal → StandsAt w state now last later new (source_failed number)
       stands_failed rose new head removal =
           record {
             past = fed.past;
@@ -153,7 +144,7 @@ module _ (w : Begun) (state : Option State) (now : ℕ) where
             spared = inr (record { number = number; appended = fed.appended; filled = fed.history.1; is = refl });
             follows =
                 λ bytes is.
-                let cuts = cuts_fed w bytes (stages.Filling number written) fed.past (fed.follows bytes is) in
+                let cuts = cuts_fed w bytes number written fed.past (fed.follows bytes is) in
                 inr (record { number = number; failed = grind (arith, rose, fed.took.later); is = refl; cuts = record { reached = cuts.reached; made = cuts.made; along = cuts.along } });
           }
 
@@ -166,11 +157,11 @@ module _ (w : Begun) (state : Option State) (now : ℕ) where
       shorter : new.has_ended ≡ true → IsAtEnd last
       shorter e = takes.at_end (let less = sym ended ∙ e in grind (arith, common_steps, less))
 
-      pub has_piece : HasPiece w last written fed.appended (fed.all ++ piece) new.piece new
+      pub has_piece : HasPiece w last written fed.appended (fed.all ++ piece) new.piece new.naming new.has_ended
       has_piece =
           record { is = ap (λ (xs : List ℕ). xs ++ piece) all_appended ∙ ap (λ (xs : List ℕ). fed.appended ++ xs) (sym is); named = named; within = fed.holds.0.within; ended = shorter }
 
-      next : new.piece ≢ [] → IsNext w written new
+      next : new.piece ≢ [] → IsNext w written new.piece new.has_ended
       next some =
           record {
             some = some;
@@ -198,11 +189,11 @@ module _ (w : Begun) (state : Option State) (now : ℕ) where
             removal = removal ∙ fed.removal;
             history = fed.history;
             holds = (has_piece, next some);
-            spared = inl (takes.same ∙ fed_spared);
+            spared = inl (takes.same ∙ fed.spared);
             follows = λ bytes told. inl (follows_piece w bytes number written fed.past (more_left bytes told some) (fed.follows bytes told));
           }
 
-      unfoldable pub fed_nothing : new.piece ≡ [] → IsFed w state now last later new (stages.Filling number written)
+      unfoldable pub fed_nothing : new.piece ≡ [] → WaitsAt w state now last later new number written
       fed_nothing none =
           record {
             past = fed.past;
@@ -214,8 +205,8 @@ module _ (w : Begun) (state : Option State) (now : ℕ) where
             none = none;
             removal = removal ∙ fed.removal;
             history = fed.history;
-            holds = (subst (λ (p : List ℕ). HasPiece w last written fed.appended (fed.all ++ piece) p new) none has_piece, λ e. fed.holds.1 open');
-            spared = inl (takes.same ∙ fed_spared);
+            holds = (subst (λ (p : List ℕ). HasPiece w last written fed.appended (fed.all ++ piece) p new.naming new.has_ended) none has_piece, λ e. fed.holds.1 open');
+            spared = takes.same ∙ fed.spared;
             follows = fed.follows;
           }
 

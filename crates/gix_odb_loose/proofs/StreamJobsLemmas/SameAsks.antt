@@ -13,14 +13,16 @@ use Rattle.gix_odb_loose.specs.StreamJobs.Progress.{Begun}
 use Rattle.gix_odb_loose.specs.StreamJobs.SameAsks.{at_hand, CutsAt, FailsAt, FollowsAt, FollowsToEnd}
 use Rattle.gix_odb_loose.specs.WriteAsks.{IsAlong, IsCutOff, RunsAlong}
 use Rattle.gix_odb_loose.specs.WriteHistory.{IsRemovedAfter}
-use Rattle.gix_odb_loose.specs.WriteJobs.{piece_at, ask_in, next_in, supplied, supplied_to}
+use Rattle.gix_odb_loose.specs.WriteJobs.{piece_at, ask_in, next_in, supplied, supplied_with}
 use Rattle.gix_odb_loose.specs.WriteNames.{name_for}
 use Rattle.gix_odb_loose.specs.WriteOrder.{temp_path, write_ask, next_write, ended_with, number_made, wrote_by}
 use Rattle.gix_odb_loose.specs.WriteStreams.{Draws, IsAtEnd}
 use Rattle.gix_odb_loose.specs.declared.write.Error.{Error}
 use Rattle.gix_odb_loose.specs.declared.write.Error.TheVariants as errors
-use Rattle.gix_odb_loose.specs.declared.write_order.Onward.{Onward}
-use Rattle.gix_odb_loose.specs.declared.write_order.Onward.TheVariants.{Stage, End}
+use Rattle.gix_odb_loose.specs.declared.write_at_hand.Onward.{Onward}
+use Rattle.gix_odb_loose.specs.declared.write_at_hand.Onward.TheVariants.{Stage}
+use Rattle.gix_odb_loose.specs.declared.write_order.WriteAsk.{WriteAsk}
+use Rattle.gix_odb_loose.specs.declared.write_order.WriteAsk.TheVariants as wants
 use Rattle.gix_odb_loose.specs.declared.write_order.Refusal.{Refusal}
 use Rattle.gix_odb_loose.specs.declared.write_order.Refusal.TheVariants as refusals
 use Rattle.gix_odb_loose.specs.declared.write_order.WriteStage.{WriteStage}
@@ -75,18 +77,20 @@ module _ (w : Begun) (bytes : List ℕ) where
   onward_is (stages.Removing number refusal) piece answer next = refl
 
   module _ (Stopped : Type 0) where
-    abbrev pub FollowsTo : Onward → List Exchange → Type 0
-    FollowsTo (Stage stage) past = IsAlong job (Stage (supplied_to job stage)) past
-    FollowsTo (End end) past = FollowsToEnd job Stopped end past
+    abbrev pub FollowsTo : WriteAsk → List Exchange → Type 0
+    FollowsTo (wants.Disk stage) past = IsAlong job (Stage stage) past
+    FollowsTo (wants.Data number written) past = IsAlong job (Stage (supplied_with job number written)) past
+    FollowsTo (wants.Done end) past = FollowsToEnd job Stopped end past
 
-    by_onward : (onward : Onward) (past : List Exchange) → IsAlong job (supplied job onward) past → FollowsTo onward past
-    by_onward (Stage stage) past along = along
-    by_onward (End end) past along = inl along
+    by_wanted : (wanted : WriteAsk) (past : List Exchange) → IsAlong job (supplied job wanted) past → FollowsTo wanted past
+    by_wanted (wants.Disk stage) past along = along
+    by_wanted (wants.Data number written) past along = along
+    by_wanted (wants.Done end) past along = inl along
 
     follows_on : (stage : WriteStage) (piece : List ℕ) (past : List Exchange) (answer : DiskAnswer) → IsNextOf stage piece → IsAlong job (Stage stage) past
         → FollowsTo (next_write w.head.size (length piece) stage answer) (past ++ exchanged (write_ask w.head piece stage) answer ∷ [])
     follows_on stage piece past answer next along =
-        by_onward (next_write w.head.size (length piece) stage answer) (past ++ exchanged (write_ask w.head piece stage) answer ∷ [])
+        by_wanted (next_write w.head.size (length piece) stage answer) (past ++ exchanged (write_ask w.head piece stage) answer ∷ [])
         (subst (λ (o : Onward). IsAlong job o (past ++ exchanged (write_ask w.head piece stage) answer ∷ [])) (onward_is stage piece answer next)
         (subst (λ (a : DiskAsk). IsAlong job (next_in (record job { stage = stage }) answer) (past ++ exchanged a answer ∷ [])) (ask_is stage piece next) (IsAlong-next job stage past answer along)))
 
@@ -129,16 +133,11 @@ module _ (w : Begun) (bytes : List ℕ) where
   made_ended number written true false id = refl
   made_ended number written false same id = refl
 
-  made_supplied : (stage : WriteStage) → number_made (supplied_to job stage) ≡ number_made stage
-  made_supplied (stages.Making number) = refl
-  made_supplied (stages.Heading number) = refl
-  made_supplied (stages.Filling number written) = made_ended number written (nat_le (length bytes) written) (written == w.head.size) (name_for w.known w.hash w.head bytes)
-  made_supplied (stages.Foldering number id) = refl
-  made_supplied (stages.Moving number id) = refl
-  made_supplied (stages.Removing number refusal) = refl
+  made_supplied : (number written : ℕ) → number_made (supplied_with job number written) ≡ Some number
+  made_supplied number written = made_ended number written (nat_le (length bytes) written) (written == w.head.size) (name_for w.known w.hash w.head bytes)
 
-  pub cuts_fed : (stage : WriteStage) (past : List Exchange) → IsAlong job (Stage (supplied_to job stage)) past → CutsAt job stage past
-  cuts_fed stage past along = record { reached = supplied_to job stage; made = made_supplied stage; along = along }
+  pub cuts_fed : (number written : ℕ) (past : List Exchange) → IsAlong job (Stage (supplied_with job number written)) past → CutsAt job (stages.Filling number written) past
+  cuts_fed number written past along = record { reached = supplied_with job number written; made = made_supplied number written; along = along }
 
   pub cut_off : (stage : WriteStage) (before past : List Exchange) → CutsAt job stage before → IsRemovedAfter w.head (number_made stage) before past → IsCutOff job past
   cut_off stage before past cuts removed =
@@ -148,21 +147,21 @@ module _ (w : Begun) (bytes : List ℕ) where
 
   module _ (number written : ℕ) (past : List Exchange) where
     abbrev Supplied : Bool → Type 0
-    Supplied at_end = IsAlong job (Stage (if at_end then ended_with w.head.size (name_for w.known w.hash w.head bytes) (stages.Filling number written) else stages.Filling number written)) past
+    Supplied at_end = IsAlong job (Stage (if at_end then ended_with w.head.size (name_for w.known w.hash w.head bytes) number written else stages.Filling number written)) past
 
     waits : (at_end : Bool) → nat_le (length bytes) written ≡ at_end → written < length bytes → Supplied at_end → IsAlong job (Stage (stages.Filling number written)) past
     waits true e less along = absurd (grind (arith, common_steps, e, less))
     waits false e less along = along
 
     -- some are left
-    pub follows_piece : written < length bytes → IsAlong job (Stage (supplied_to job (stages.Filling number written))) past → IsAlong job (Stage (stages.Filling number written)) past
+    pub follows_piece : written < length bytes → IsAlong job (Stage (supplied_with job number written)) past → IsAlong job (Stage (stages.Filling number written)) past
     follows_piece less along = waits (nat_le (length bytes) written) refl less along
 
-    ends : (all : List ℕ) (at_end : Bool) → nat_le (length bytes) written ≡ at_end → bytes ≡ all → written ≡ length all → Supplied at_end → IsAlong job (Stage (ended_with w.head.size (name_for w.known w.hash w.head all) (stages.Filling number written))) past
-    ends all true e whole so_far along = subst (λ (xs : List ℕ). IsAlong job (Stage (ended_with w.head.size (name_for w.known w.hash w.head xs) (stages.Filling number written))) past) whole along
+    ends : (all : List ℕ) (at_end : Bool) → nat_le (length bytes) written ≡ at_end → bytes ≡ all → written ≡ length all → Supplied at_end → IsAlong job (Stage (ended_with w.head.size (name_for w.known w.hash w.head all) number written)) past
+    ends all true e whole so_far along = subst (λ (xs : List ℕ). IsAlong job (Stage (ended_with w.head.size (name_for w.known w.hash w.head xs) number written)) past) whole along
     ends all false e whole so_far along = absurd (let long = ap length whole in grind (arith, common_steps, e, long, so_far))
 
     -- none are left
-    pub follows_end : (all : List ℕ) → bytes ≡ all → written ≡ length all → IsAlong job (Stage (supplied_to job (stages.Filling number written))) past
-        → IsAlong job (Stage (ended_with w.head.size (name_for w.known w.hash w.head all) (stages.Filling number written))) past
+    pub follows_end : (all : List ℕ) → bytes ≡ all → written ≡ length all → IsAlong job (Stage (supplied_with job number written)) past
+        → IsAlong job (Stage (ended_with w.head.size (name_for w.known w.hash w.head all) number written)) past
     follows_end all whole so_far along = ends all (nat_le (length bytes) written) refl whole so_far along

@@ -1,5 +1,5 @@
 -- A turn of a write: what its ask and the answer lead to.
-use Rattle.std.specs.Prelude.{◌≡◌, ◌≢◌, ◌⊎◌, ℕ, ◌<◌, ◌≤◌, List, [], ◌∷◌, ◌++◌, length, All, Option, Some, Ok, Err, IfSome, refl}
+use Rattle.std.specs.Prelude.{◌≡◌, ◌⊎◌, ℕ, ◌≤◌, List, [], ◌∷◌, ◌++◌, length, All, Option, Some, Ok, Err, IfSome, refl}
 use Rattle.std.proofs.Common.{inl, inr, sym, ap, ◌∙◌, subst, arith}
 use Rattle.std.proofs.lemmas.List.Elements.{All-append, All-cons, All-nil}
 use Rattle.odb_base.specs.Faults.{Rose}
@@ -14,22 +14,22 @@ use Rattle.gix_odb_loose.proofs.ExchangeLaws.{left_by-push, AreGiven-push}
 use Rattle.gix_odb_loose.specs.WriteHistory.Refused.{IsFailedRead}
 use Rattle.gix_odb_loose.specs.WriteHistory.{IsHistory, IsHistoryOnward, data_after}
 use Rattle.gix_odb_loose.proofs.WriteHistoryLaws.{IsHistory-next}
-use Rattle.gix_odb_loose.specs.WriteOrder.{room_behind, write_ask, next_write}
+use Rattle.gix_odb_loose.specs.WriteOrder.{write_ask, next_write}
+use Rattle.gix_odb_loose.specs.WritePieces.{room_behind}
 use Rattle.gix_odb_loose.specs.StreamJobs.Progress.{Begun, NamedBy, SourceFailed, IsSpared, FailedAt, Did}
 use Rattle.gix_odb_loose.specs.StreamJobs.AtStage.{Holds}
-use Rattle.gix_odb_loose.specs.StreamJobs.{StandsAt, Leads}
-use Rattle.gix_odb_loose.specs.WriteJobs.{bytes_left, turns_left}
+use Rattle.gix_odb_loose.specs.StreamJobs.Standing.{StandsAt}
+use Rattle.gix_odb_loose.specs.StreamJobs.{Leads}
 use Rattle.gix_odb_loose.specs.WriteStreams.{Draws, OtherLength}
 use Rattle.gix_odb_loose.specs.declared.write_streamed.StreamJob.{StreamJob}
 use Rattle.gix_odb_loose.specs.declared.write.Message.TheVariants as messages
-use Rattle.gix_odb_loose.specs.declared.write_order.Onward.{Onward}
-use Rattle.gix_odb_loose.specs.declared.write_order.Onward.TheVariants.{Stage, End}
+use Rattle.gix_odb_loose.specs.declared.write_order.WriteAsk.{WriteAsk}
+use Rattle.gix_odb_loose.specs.declared.write_order.WriteAsk.TheVariants as wants
 use Rattle.gix_odb_loose.specs.declared.write_order.Refusal.TheVariants as refusals
 use Rattle.gix_odb_loose.specs.declared.write_order.WriteHead.{WriteHead}
 use Rattle.gix_odb_loose.specs.declared.write_order.WriteStage.{WriteStage}
 use Rattle.gix_odb_loose.specs.declared.write_order.WriteStage.TheVariants as stages
 use Rattle.gix_odb_loose.proofs.StreamJobsLemmas.SameAsks.{IsNextOf, FollowsTo, piece_next, follows_next}
-use Rattle.gix_odb_loose.proofs.WriteJobsLemmas.{onward_left, HasSome, fewer_bytes_left}
 use Rattle.gix_odb_loose.proofs.StreamJobsLemmas.Kept.{Kept, kept, counts, next_piece}
 
 -- ---- the exchanges
@@ -77,8 +77,8 @@ module _ (w : Begun) (state new : Option State) (now later : ℕ) (rest : Option
   is_next (stages.Moving number id) bytes told history holds = tt
   is_next (stages.Removing number refusal) bytes told history holds = tt
 
-  abbrev Followed : Onward → Type 0
-  Followed onward = (bytes : List ℕ) → w.left ≡ Some bytes → FollowsTo w bytes (SourceFailed w source_now) onward past'
+  abbrev Followed : WriteAsk → Type 0
+  Followed wanted = (bytes : List ℕ) → w.left ≡ Some bytes → FollowsTo w bytes (SourceFailed w source_now) wanted past'
 
   followed : ask ≡ write_ask w.head job.piece stage → Followed (next_write w.head.size (length job.piece) stage answer)
   followed is = λ bytes told.
@@ -86,13 +86,15 @@ module _ (w : Begun) (state new : Option State) (now later : ℕ) (rest : Option
       (follows_next w bytes (SourceFailed w source_now) stage job.piece at.past answer (is_next stage bytes told at.history at.holds) (at.follows bytes told))
 
   -- where the source failed, the removal came next, and ended the write
-  abbrev SparedTo : Onward → Type 0
-  SparedTo (Stage onward) = IsSpared w source_now
-  SparedTo (End end) = IsSpared w source_now ⊎ ((end ≡ Err (refusals.Io messages.StreamData)) × IsFailedRead w.head past')
+  abbrev SparedTo : WriteAsk → Type 0
+  SparedTo (wants.Disk onward) = IsSpared w source_now
+  SparedTo (wants.Data number written) = IsSpared w source_now
+  SparedTo (wants.Done end) = IsSpared w source_now ⊎ ((end ≡ Err (refusals.Io messages.StreamData)) × IsFailedRead w.head past')
 
-  spared_to : (onward : Onward) → IsSpared w source_now → SparedTo onward
-  spared_to (Stage onward) spared = spared
-  spared_to (End end) spared = inl spared
+  spared_to : (wanted : WriteAsk) → IsSpared w source_now → SparedTo wanted
+  spared_to (wants.Disk onward) spared = spared
+  spared_to (wants.Data number written) spared = spared
+  spared_to (wants.Done end) spared = inl spared
 
   failed_to : ask ≡ write_ask w.head job.piece stage → FailedAt w stage at.past → SparedTo (next_write w.head.size (length job.piece) stage answer)
   failed_to is failed =
@@ -112,8 +114,23 @@ module _ (w : Begun) (state new : Option State) (now later : ℕ) (rest : Option
   spared_next : ask ≡ write_ask w.head job.piece stage → SparedTo (next_write w.head.size (length job.piece) stage answer)
   spared_next is = elim at.spared [ inl spared ↦ spared_to (next_write w.head.size (length job.piece) stage answer) spared | inr failed ↦ failed_to is failed ]
 
-  leads_to : (appended : List ℕ) (onward : Onward) → IsHistoryOnward w.head (NamedBy w) (SourceFailed w source_now) (OtherLength w.left w.head.size) appended onward past' → Kept w rest job fed removal naming ended appended at.all onward → Followed onward → SparedTo onward → Leads w new later rest source_now fed onward
-  leads_to appended (Stage onward) history kept follows spared =
+  leads_to : (appended : List ℕ) (wanted : WriteAsk) → IsHistoryOnward w.head (NamedBy w) (SourceFailed w source_now) (OtherLength w.left w.head.size) appended wanted past' → Kept w rest job fed removal naming ended appended at.all wanted → Followed wanted → SparedTo wanted
+      → Leads w new later rest source_now fed wanted
+  leads_to appended (wants.Disk onward) history kept follows spared =
+      record {
+        past = past';
+        appended = appended;
+        all = at.all;
+        did = did';
+        took = at.took;
+        head = head ∙ at.head;
+        removal = kept.1;
+        history = history;
+        holds = kept.0;
+        spared = inl spared;
+        follows = λ bytes told. inl (follows bytes told);
+      }
+  leads_to appended (wants.Data number written) history kept follows spared =
       record {
         past = past';
         appended = appended;
@@ -125,11 +142,11 @@ module _ (w : Begun) (state new : Option State) (now later : ℕ) (rest : Option
         removal = kept.1;
         history = history;
         holds = kept.0;
-        spared = inl spared;
+        spared = spared;
         follows = follows;
       }
-  leads_to appended (End (Ok id)) history kept follows spared = record { past = past'; appended = appended; all = at.all; did = did'; took = at.took; ends = (history, kept); spared = spared; follows = follows }
-  leads_to appended (End (Err refusal)) history kept follows spared = record { past = past'; appended = appended; all = at.all; did = did'; took = at.took; ends = history; spared = spared; follows = follows }
+  leads_to appended (wants.Done (Ok id)) history kept follows spared = (head ∙ at.head, record { past = past'; appended = appended; all = at.all; did = did'; took = at.took; ends = (history, kept); spared = spared; follows = follows })
+  leads_to appended (wants.Done (Err refusal)) history kept follows spared = (head ∙ at.head, record { past = past'; appended = appended; all = at.all; did = did'; took = at.took; ends = history; spared = spared; follows = follows })
 
   pub leads : ask ≡ write_ask w.head job.piece stage → Leads w new later rest source_now fed (next_write w.head.size (length job.piece) stage answer)
   leads is =
@@ -141,34 +158,17 @@ module _ (w : Begun) (state new : Option State) (now later : ℕ) (rest : Option
 
 -- ---- a turn as the code has it
 
-module _ (w : Begun) (state new : Option State) (now later : ℕ) (rest : Option (List ℕ)) (source_now : ℕ) (job fed : StreamJob) (ask : DiskAsk) (answer : DiskAnswer) (len : ℕ) (onward : Onward) (at : StandsAt w state now rest source_now job job.stage)
-    (len_is : len ≡ length job.piece) (asked : ask ≡ write_ask job.head job.piece job.stage) (same : fed ≡ record job { piece = [] }) (is : onward ≡ next_write fed.head.size len fed.stage answer) where
+module _ (w : Begun) (state new : Option State) (now later : ℕ) (rest : Option (List ℕ)) (source_now : ℕ) (job fed : StreamJob) (stage : WriteStage) (ask : DiskAsk) (answer : DiskAnswer) (len : ℕ) (wanted : WriteAsk)
+    (at : StandsAt w state now rest source_now job stage) (len_is : len ≡ length job.piece) (asked : ask ≡ write_ask job.head job.piece stage) (same : fed ≡ record job { piece = [] }) (is : wanted ≡ next_write fed.head.size len stage answer) where
   head_is : fed.head ≡ job.head
   head_is = ap (λ (j : StreamJob). j.head) same
 
-  onward_is : onward ≡ next_write w.head.size (length job.piece) job.stage answer
-  onward_is =
-      is ∙ ap (λ (h : WriteHead). next_write h.size len fed.stage answer) (head_is ∙ at.head) ∙ ap (λ (n : ℕ). next_write w.head.size n fed.stage answer) len_is
-      ∙ ap (λ (s : WriteStage). next_write w.head.size (length job.piece) s answer) (ap (λ (j : StreamJob). j.stage) same)
+  wanted_is : wanted ≡ next_write w.head.size (length job.piece) stage answer
+  wanted_is = is ∙ ap (λ (h : WriteHead). next_write h.size len stage answer) (head_is ∙ at.head) ∙ ap (λ (n : ℕ). next_write w.head.size n stage answer) len_is
 
-  pub turn_leads : IfSome state (λ s. AnswersAsk answer (answer_of (tree_of s) ask)) → new ≡ state_told_after state ask answer → now ≤ later → (answer ≡ answers.Refused disk_errors.Failed → Rose now later) → IfSome state (λ s. IsTree (tree_of s)) → Leads w new later rest source_now fed onward
+  pub turn_leads : IfSome state (λ s. AnswersAsk answer (answer_of (tree_of s) ask)) → new ≡ state_told_after state ask answer → now ≤ later → (answer ≡ answers.Refused disk_errors.Failed → Rose now later) → IfSome state (λ s. IsTree (tree_of s))
+      → Leads w new later rest source_now fed wanted
   turn_leads given left more cause tree =
-      subst (λ (o : Onward). Leads w new later rest source_now fed o) (sym onward_is)
-      (leads w state new now later rest source_now job fed job.stage ask answer given left more cause tree (ap (λ (j : StreamJob). j.removal) same) (ap (λ (j : StreamJob). j.naming) same) (ap (λ (j : StreamJob). j.has_ended) same) head_is
-      (ap (λ (j : StreamJob). j.piece) same) at (asked ∙ ap (λ (h : WriteHead). write_ask h job.piece job.stage) at.head))
-
-  has_some : (stage : WriteStage) → Holds w rest at.appended at.all job stage → HasSome stage (length job.piece)
-  has_some (stages.Making number) holds = tt
-  has_some (stages.Heading number) holds = tt
-  has_some (stages.Filling number written) holds = some_bytes job.piece holds.1.some
-    where
-      some_bytes : (piece : List ℕ) → piece ≢ [] → 1 ≤ length piece
-      some_bytes [] some = absurd (some refl)
-      some_bytes (b ∷ bs) some = omega arith
-  has_some (stages.Foldering number id) holds = tt
-  has_some (stages.Moving number id) holds = tt
-  has_some (stages.Removing number refusal) holds = tt
-
-  pub turn_fewer : (stage : WriteStage) → onward ≡ Stage stage → turns_left (bytes_left w.head.size) stage < turns_left (bytes_left w.head.size) job.stage
-  turn_fewer stage e =
-      subst (λ (o : Onward). onward_left (bytes_left w.head.size) o < turns_left (bytes_left w.head.size) job.stage) (sym onward_is ∙ e) (fewer_bytes_left w.head.size job.stage (length job.piece) answer (has_some job.stage at.holds))
+      subst (λ (a : WriteAsk). Leads w new later rest source_now fed a) (sym wanted_is)
+      (leads w state new now later rest source_now job fed stage ask answer given left more cause tree (ap (λ (j : StreamJob). j.removal) same) (ap (λ (j : StreamJob). j.naming) same) (ap (λ (j : StreamJob). j.has_ended) same) head_is
+      (ap (λ (j : StreamJob). j.piece) same) at (asked ∙ ap (λ (h : WriteHead). write_ask h job.piece stage) at.head))

@@ -1,6 +1,4 @@
-use Rattle.std.specs.Prelude.{◌<◌}
-use Rattle.std.proofs.Common.{refl, sym, ap, ◌∙◌, subst, arith}
-use Rattle.gix_odb_loose.specs.WriteJobs.{bytes_left, turns_left}
+use Rattle.std.proofs.Common.{refl, ◌∙◌, arith}
 use Rattle.gix_odb_loose.proofs.StreamJobsLemmas.Ends.{came_on, came_to, came_to_want}
 use Rattle.gix_odb_loose.proofs.write_streamed.StreamJob.run.Goals as goal
 
@@ -10,9 +8,7 @@ turns-init g c = record { some = c.requires.underway; underway = λ w at. at; he
 pub turns-smaller : goal.turns-smaller
 turns-smaller g c =
     let some = c.turns.invariant.some in
-    let less = c.in-Ok-None.ensures.fewer some.0 some.1 c.in-Ok-None.field-0-is in
-    let size = ap (λ h. h.size) (sym some.1.head ∙ c.turns.invariant.head) in
-    subst (λ n. turns_left (bytes_left n) c.turn.new.self.stage < turns_left (bytes_left n) c.turns.self.stage) size less
+    c.in-Ok-None.ensures.fewer some.0 some.1 c.in-Ok-None.field-0-is
 
 pub turns-preserved : goal.turns-preserved
 turns-preserved g c =

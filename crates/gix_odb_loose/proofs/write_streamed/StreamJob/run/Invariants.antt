@@ -1,7 +1,7 @@
 use Rattle.std.proofs.Common.{◌≡◌, ◌≤◌}
+use Rattle.gix_odb_loose.specs.StreamJobs.AtStage.{turns_at}
 use Rattle.gix_odb_loose.specs.StreamJobs.Progress.{Begun}
 use Rattle.gix_odb_loose.specs.StreamJobs.{IsSomeUnderway, IsUnderway}
-use Rattle.gix_odb_loose.specs.WriteJobs.{bytes_left, turns_left}
 use Rattle.gix_odb_loose.proofs.write_streamed.StreamJob.run.Given as goal
 
 -- a write that is underway stays so
@@ -17,4 +17,4 @@ invariant-turns g l = record {
 }
 
 abbrev pub decreases-turns : goal.decreases-turns
-decreases-turns g l = turns_left (bytes_left l.fn.self.head.size) l.self.stage
+decreases-turns g l = turns_at l.self l.self.wanted

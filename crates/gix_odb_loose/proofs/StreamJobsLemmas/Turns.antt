@@ -1,0 +1,156 @@
+-- How many turns a write from a source has left: fewer after each.
+use Rattle.std.specs.Prelude.{◌≡◌, ◌≢◌, ℕ, ◌+◌, ◌-◌, ◌*◌, ◌<◌, ◌≤◌, Bool, true, false, nat_le, List, [], ◌∷◌, length, Option, if◌then◌else◌, refl}
+use Rattle.std.proofs.Common.{sym, ap, ◌∙◌, subst, arith}
+use Rattle.odb_tree.specs.Tree.{State}
+use Rattle.odb_disk.specs.declared.ask.DiskAnswer.{DiskAnswer}
+use Rattle.odb_disk.specs.declared.ask.DiskAnswer.TheVariants as answers
+use Rattle.gix_hash.specs.declared.object_id.ObjectId.{ObjectId}
+use Rattle.gix_odb_loose.specs.StreamJobs.AtStage.{most_of, turns_at, written_at}
+use Rattle.gix_odb_loose.specs.StreamJobs.Progress.{Begun}
+use Rattle.gix_odb_loose.specs.StreamJobs.Standing.{StandsAt}
+use Rattle.gix_odb_loose.specs.WriteJobs.{pieces_of, wants_left, writes_left}
+use Rattle.gix_odb_loose.specs.WriteOrder.{ended_with, filled_by, grown, next_write}
+use Rattle.gix_odb_loose.specs.WritePieces.{piece_size, room_behind}
+use Rattle.gix_odb_loose.specs.declared.write.Message.TheVariants as messages
+use Rattle.gix_odb_loose.specs.declared.write_streamed.StreamJob.{StreamJob}
+use Rattle.gix_odb_loose.specs.declared.write_order.Refusal.TheVariants as refusals
+use Rattle.gix_odb_loose.specs.declared.write_order.WriteAsk.{WriteAsk}
+use Rattle.gix_odb_loose.specs.declared.write_order.WriteAsk.TheVariants as wants
+use Rattle.gix_odb_loose.specs.declared.write_order.WriteHead.{WriteHead}
+use Rattle.gix_odb_loose.specs.declared.write_order.WriteStage.{WriteStage}
+use Rattle.gix_odb_loose.specs.declared.write_order.WriteStage.TheVariants as stages
+use Rattle.gix_odb_loose.proofs.RoomLemmas.{room_within, whole_piece}
+use Rattle.gix_odb_loose.proofs.WriteJobsLemmas.{LeavesFewer, fewer_left, ended_fewer}
+
+-- ---- how many bytes can come
+
+open_most : (job : StreamJob) (written : ℕ) → job.has_ended ≡ false → most_of job written ≡ job.head.size + 1
+open_most job written open' = ap (λ (b : Bool). if b then written + length job.piece else job.head.size + 1) open'
+
+ended_most : (job : StreamJob) (written : ℕ) → job.has_ended ≡ true → most_of job written ≡ written + length job.piece
+ended_most job written ended = ap (λ (b : Bool). if b then written + length job.piece else job.head.size + 1) ended
+
+some_bytes : (piece : List ℕ) → piece ≢ [] → 1 ≤ length piece
+some_bytes [] some = absurd (some refl)
+some_bytes (b ∷ bs) some = omega arith
+
+-- ---- a call of the disk
+
+behind : WriteAsk → ℕ
+behind (wants.Disk stage) = written_at stage
+behind (wants.Data number written) = written
+behind (wants.Done end) = 0
+
+turns_most : (job : StreamJob) (wanted : WriteAsk) → turns_at job wanted ≤ 2 * wants_left (most_of job (behind wanted)) wanted + 1
+unfolding behind
+turns_most job (wants.Disk stage) = omega arith
+turns_most job (wants.Data number written) = omega arith
+turns_most job (wants.Done end) = omega arith
+
+module _ (job fed : StreamJob) (head : fed.head ≡ job.head) (ended : fed.has_ended ≡ job.has_ended) (none : fed.piece ≡ []) where
+  abbrev size : ℕ
+  size = job.head.size
+
+  size_is : fed.head.size ≡ size
+  size_is = ap (λ (h : WriteHead). h.size) head
+
+  -- while the source isn't at its end
+  less_open : (stage : WriteStage) (len : ℕ) (answer : DiskAnswer) → job.has_ended ≡ false → LeavesFewer (size + 1) size stage len → turns_at fed (next_write size len stage answer) < turns_at job (wants.Disk stage)
+  less_open stage len answer open' leaves =
+      let wanted : WriteAsk = next_write size len stage answer in
+      let at_most : turns_at fed wanted ≤ 2 * wants_left (size + 1) wanted + 1 =
+      subst (λ (n : ℕ). turns_at fed wanted ≤ 2 * wants_left n wanted + 1) (open_most fed (behind wanted) (ended ∙ open') ∙ ap (λ (n : ℕ). n + 1) size_is) (turns_most fed wanted) in
+      let fewer : wants_left (size + 1) wanted < writes_left (size + 1) stage = fewer_left (size + 1) size stage len answer leaves in
+      subst (λ (n : ℕ). turns_at fed wanted < 2 * writes_left n stage) (sym (open_most job (written_at stage) open')) (omega (arith, at_most, fewer))
+
+  module _ (number written len : ℕ) (last : job.has_ended ≡ true) (len_is : len ≡ length job.piece) (some : 1 ≤ len) where
+    -- the last piece
+    most_last : most_of job written ≡ written + len
+    most_last = ended_most job written last ∙ ap (λ (n : ℕ). written + n) (sym len_is)
+
+    waits_last : turns_at fed (wants.Data number (written + len)) ≡ 9
+    waits_last = ap (λ (n : ℕ). 2 * (4 + pieces_of (n - (written + len))) + 1) (ended_most fed (written + len) (ended ∙ last) ∙ ap (λ (xs : List ℕ). written + len + length xs) none) ∙ omega arith
+
+    less_fits : (fits : Bool) → turns_at fed (if fits then wants.Data number (written + len) else wants.Disk (stages.Removing number (refusals.SizeMismatch (grown written len)))) ≤ 9
+    less_fits true = omega (arith, waits_last)
+    less_fits false = omega arith
+
+    less_last : (answer : DiskAnswer) → turns_at fed (filled_by number written size len answer) ≤ 9
+    less_last answers.Done = less_fits (nat_le (written + len) size)
+    less_last (answers.Meta meta) = omega arith
+    less_last (answers.Dir dir) = omega arith
+    less_last (answers.Entry entry) = omega arith
+    less_last answers.End = omega arith
+    less_last (answers.File bytes time) = omega arith
+    less_last (answers.Refused error) = omega arith
+
+    less_ended : (answer : DiskAnswer) → turns_at fed (filled_by number written size len answer) < turns_at job (wants.Disk (stages.Filling number written))
+    less_ended answer =
+        let few = less_last answer in
+        subst (λ (n : ℕ). turns_at fed (filled_by number written size len answer) < 2 * (4 + pieces_of (n - written))) (sym most_last) (omega (arith, few, some))
+
+  -- once the data are appended
+  settled_less : (stage : WriteStage) (len : ℕ) (answer : DiskAnswer) (left : ℕ) → ((n : ℕ) → writes_left n stage ≡ left) → LeavesFewer (most_of fed (behind (next_write size len stage answer))) size stage len
+      → turns_at fed (next_write size len stage answer) < turns_at job (wants.Disk stage)
+  settled_less stage len answer left is leaves =
+      let wanted : WriteAsk = next_write size len stage answer in
+      let at_most = turns_most fed wanted in
+      let fewer : wants_left (most_of fed (behind wanted)) wanted < writes_left (most_of fed (behind wanted)) stage = fewer_left (most_of fed (behind wanted)) size stage len answer leaves in
+      let here = is (most_of fed (behind wanted)) in
+      let there = is (most_of job (written_at stage)) in
+      omega (arith, at_most, fewer, here, there)
+
+  -- a whole piece
+  whole_fewer : (number written len : ℕ) → len ≡ room_behind size written → LeavesFewer (size + 1) size (stages.Filling number written) len
+  whole_fewer number written len full = λ fits.
+      let whole : len ≡ piece_size = whole_piece size written len full fits in
+      omega (arith, whole, fits)
+
+  by_end : (number written len : ℕ) (answer : DiskAnswer) → len ≡ length job.piece → 1 ≤ len → (job.has_ended ≡ false → len ≡ room_behind size written) → (b : Bool) → job.has_ended ≡ b
+      → turns_at fed (filled_by number written size len answer) < turns_at job (wants.Disk (stages.Filling number written))
+  by_end number written len answer len_is some full true last = less_ended number written len last len_is some answer
+  by_end number written len answer len_is some full false open' = less_open (stages.Filling number written) len answer open' (whole_fewer number written len (full open'))
+
+  module _ (w : Begun) (state : Option State) (now : ℕ) (rest : Option (List ℕ)) (source_now : ℕ) (len : ℕ) (len_is : len ≡ length job.piece) (answer : DiskAnswer) where
+    turn_less : (stage : WriteStage) → StandsAt w state now rest source_now job stage → turns_at fed (next_write size len stage answer) < turns_at job (wants.Disk stage)
+    turn_less (stages.Making number) at = less_open (stages.Making number) len answer at.holds.1 tt
+    turn_less (stages.Heading number) at = less_open (stages.Heading number) len answer at.holds.1 tt
+    turn_less (stages.Filling number written) at =
+        by_end number written len answer len_is (let one = some_bytes job.piece at.holds.1.some in omega (arith, one, len_is))
+        (λ open'. len_is ∙ at.holds.1.full open' ∙ ap (λ (h : WriteHead). room_behind h.size written) (sym at.head)) job.has_ended refl
+    turn_less (stages.Foldering number id) at = settled_less (stages.Foldering number id) len answer 3 (λ n. refl) tt
+    turn_less (stages.Moving number id) at = settled_less (stages.Moving number id) len answer 2 (λ n. refl) tt
+    turn_less (stages.Removing number refusal) at = settled_less (stages.Removing number refusal) len answer 1 (λ n. refl) tt
+
+-- as the code has it
+pub turn_fewer : (w : Begun) (state : Option State) (now : ℕ) (rest : Option (List ℕ)) (source_now : ℕ) (job fed : StreamJob) (stage : WriteStage) (answer : DiskAnswer) (len : ℕ) (wanted : WriteAsk) → StandsAt w state now rest source_now job stage
+    → len ≡ length job.piece → fed ≡ record job { piece = [] } → wanted ≡ next_write fed.head.size len stage answer → turns_at fed wanted < turns_at job (wants.Disk stage)
+turn_fewer w state now rest source_now job fed stage answer len wanted at len_is same is =
+    let head : fed.head ≡ job.head = ap (λ (j : StreamJob). j.head) same in
+    subst (λ (a : WriteAsk). turns_at fed a < turns_at job (wants.Disk stage)) (sym (is ∙ ap (λ (h : WriteHead). next_write h.size len stage answer) head))
+    (turn_less job fed head (ap (λ (j : StreamJob). j.has_ended) same) (ap (λ (j : StreamJob). j.piece) same) w state now rest source_now len len_is answer stage at)
+
+-- ---- the reading of data
+
+module _ (job new : StreamJob) (number written : ℕ) where
+  -- the end of the data, or a failure
+  pub ended_less : (size : ℕ) (id : ObjectId) → new.wanted ≡ wants.Disk (ended_with size id number written) → turns_at new new.wanted < turns_at job (wants.Data number written)
+  ended_less size id is =
+      let few = ended_fewer (most_of new (written_at (ended_with size id number written))) size id number written in
+      subst (λ (a : WriteAsk). turns_at new a < turns_at job (wants.Data number written)) (sym is) (omega (arith, few))
+
+  pub failed_less : new.wanted ≡ wants.Disk (stages.Removing number (refusals.Io messages.StreamData)) → turns_at new new.wanted < turns_at job (wants.Data number written)
+  failed_less is = subst (λ (a : WriteAsk). turns_at new a < turns_at job (wants.Data number written)) (sym is) (omega arith)
+
+  most_by : (ended : Bool) → written + length new.piece ≤ job.head.size + 1 → new.head.size ≡ job.head.size → (if ended then written + length new.piece else new.head.size + 1) ≤ job.head.size + 1
+  most_by true few same = few
+  most_by false few same = omega (arith, same)
+
+  -- a piece
+  pub piece_less : (most : ℕ) → most ≡ room_behind job.head.size written → written ≤ job.head.size → job.has_ended ≡ false → new.head ≡ job.head → length new.piece ≤ most → new.wanted ≡ wants.Disk (stages.Filling number written)
+      → turns_at new new.wanted < turns_at job (wants.Data number written)
+  piece_less most room within open' head few is =
+      let whole = room_within job.head.size written within in
+      let at_most : most_of new written ≤ most_of job written =
+      subst (λ (n : ℕ). most_of new written ≤ n) (sym (open_most job written open')) (most_by new.has_ended (omega (arith, whole, room, few)) (ap (λ (h : WriteHead). h.size) head)) in
+      subst (λ (a : WriteAsk). turns_at new a < turns_at job (wants.Data number written)) (sym is) (omega (arith, at_most))

@@ -1,0 +1,108 @@
+-- A write from a source on its way: where it stands, where it waits, where it ends. No public clause cites this.
+use Rattle.std.specs.Prelude.{◌≡◌, ◌⊎◌, ℕ, List, [], Option, Some, Result, Ok, Err}
+use Rattle.odb_tree.specs.Tree.{State}
+use Rattle.odb_disk.specs.declared.ask.DiskAsk.{DiskAsk}
+use Rattle.gix_hash.specs.declared.kind.Kind.{Kind as HashKind}
+use Rattle.gix_hash.specs.declared.object_id.ObjectId.{ObjectId}
+use Rattle.gix_odb_loose.specs.Exchanges.{Exchange}
+use Rattle.gix_odb_loose.specs.WriteHistory.Refused.{IsFailedRead}
+use Rattle.gix_odb_loose.specs.WriteHistory.{GoesWell, IsHistory, IsHistoryOfEnd, IsBrokenRun}
+use Rattle.gix_odb_loose.specs.WriteNames.{name_for, Names}
+use Rattle.gix_odb_loose.specs.WriteAsks.{IsAlong, IsCutOff}
+use Rattle.gix_odb_loose.specs.WriteJobs.{supplied_with}
+use Rattle.gix_odb_loose.specs.WriteOrder.{ended_with}
+use Rattle.gix_odb_loose.specs.WriteStreams.{OtherLength}
+use Rattle.gix_odb_loose.specs.declared.write_streamed.StreamJob.{StreamJob}
+use Rattle.gix_odb_loose.specs.declared.write.Message.TheVariants as messages
+use Rattle.gix_odb_loose.specs.declared.write_at_hand.Onward.TheVariants.{Stage}
+use Rattle.gix_odb_loose.specs.declared.write_order.WriteAsk.TheVariants as wants
+use Rattle.gix_odb_loose.specs.declared.write_order.Refusal.{Refusal}
+use Rattle.gix_odb_loose.specs.declared.write_order.Refusal.TheVariants as refusals
+use Rattle.gix_odb_loose.specs.declared.write_order.WriteHead.{WriteHead}
+use Rattle.gix_odb_loose.specs.declared.write_order.WriteStage.{WriteStage}
+use Rattle.gix_odb_loose.specs.declared.write_order.WriteStage.TheVariants as stages
+use Rattle.gix_odb_loose.specs.StreamJobs.Progress.{Begun, NamedBy, SourceFailed, IsSpared, FailedAt, LostAt, Did, Took}
+use Rattle.gix_odb_loose.specs.StreamJobs.AtStage.{removal_at, Named, Holds, HoldsNone, IsReady}
+use Rattle.gix_odb_loose.specs.StreamJobs.SameAsks.{at_hand, CutsAt, FollowsAt, FollowsToEnd}
+
+-- a write that stands at a stage, whose removal is as it is to be there
+pub record Stands (Ready : DiskAsk → Type 0) (w : Begun) (state : Option State) (now : ℕ) (rest : Option (List ℕ)) (source_now : ℕ) (job : StreamJob) (stage : WriteStage) : Type 0 where
+  pub past : List Exchange
+  pub appended : List ℕ
+  pub all : List ℕ
+  pub did : Did w state now past
+  pub took : Took w rest source_now all
+  pub head : job.head ≡ w.head
+  pub removal : Ready job.removal
+  pub history : IsHistory w.head (NamedBy w) (SourceFailed w source_now) (OtherLength w.left w.head.size) appended stage past
+  pub holds : Holds w rest appended all job stage
+  pub spared : IsSpared w source_now ⊎ FailedAt w stage past
+  pub follows : (bytes : List ℕ) → w.left ≡ Some bytes → FollowsAt (at_hand w bytes) (SourceFailed w source_now) stage past
+
+-- it asks the disk next
+abbrev pub StandsAt : Begun → Option State → ℕ → Option (List ℕ) → ℕ → StreamJob → WriteStage → Type 0
+StandsAt w state now rest source_now job stage = Stands (λ removal. removal ≡ removal_at w stage) w state now rest source_now job stage
+
+-- it was led there by an answer
+abbrev pub LedAt : Begun → Option State → ℕ → Option (List ℕ) → ℕ → StreamJob → WriteStage → Type 0
+LedAt w state now rest source_now job stage = Stands (λ removal. IsReady w removal stage) w state now rest source_now job stage
+
+-- a write that asks for data behind so many bytes
+pub record WaitsAt (w : Begun) (state : Option State) (now : ℕ) (rest : Option (List ℕ)) (source_now : ℕ) (job : StreamJob) (number written : ℕ) : Type 0 where
+  pub past : List Exchange
+  pub appended : List ℕ
+  pub all : List ℕ
+  pub did : Did w state now past
+  pub took : Took w rest source_now all
+  pub head : job.head ≡ w.head
+  pub none : job.piece ≡ []
+  pub removal : job.removal ≡ removal_at w (stages.Filling number written)
+  pub history : GoesWell w.head (NamedBy w) appended (stages.Filling number written) past
+  pub holds : HoldsNone w rest written appended all job
+  pub spared : IsSpared w source_now
+  pub follows : (bytes : List ℕ) → w.left ≡ Some bytes → IsAlong (at_hand w bytes) (Stage (supplied_with (at_hand w bytes) number written)) past
+
+-- a write that memory ran out of between two turns: its removal is ready, where it made its file
+pub record BreaksAt (w : Begun) (state : Option State) (now : ℕ) (rest : Option (List ℕ)) (source_now : ℕ) (job : StreamJob) (stage : WriteStage) : Type 0 where
+  pub past : List Exchange
+  pub appended : List ℕ
+  pub all : List ℕ
+  pub did : Did w state now past
+  pub took : Took w rest source_now all
+  pub removal : IsReady w job.removal stage
+  pub history : IsHistory w.head (NamedBy w) (SourceFailed w source_now) (OtherLength w.left w.head.size) appended stage past
+  pub spared : IsSpared w source_now ⊎ LostAt w stage past
+  pub follows : (bytes : List ℕ) → w.left ≡ Some bytes → CutsAt (at_hand w bytes) stage past
+
+-- the end of the data was told, with the id that the naming of the data gives
+pub record IsEnded (number written : ℕ) (job ended : StreamJob) : Type 0 where
+  pub id : ObjectId
+  pub wanted : ended.wanted ≡ wants.Disk (ended_with job.head.size id number written)
+  pub named : (known : Option ObjectId) (hash : HashKind) (head : WriteHead) (all : List ℕ) → Names known hash head all job.naming → id ≡ name_for known hash head all
+
+-- ---- the end of a write
+
+abbrev pub EndsWith : Begun → Option (List ℕ) → ℕ → (appended all : List ℕ) → List Exchange → Result ObjectId Refusal → Type 0
+EndsWith w rest source_now appended all past (Ok id) =
+    IsHistoryOfEnd w.head (NamedBy w) (SourceFailed w source_now) (OtherLength w.left w.head.size) appended (Ok id) past × Named w rest appended all id
+EndsWith w rest source_now appended all past (Err refusal) = IsHistoryOfEnd w.head (NamedBy w) (SourceFailed w source_now) (OtherLength w.left w.head.size) appended (Err refusal) past
+
+pub record IsAtItsEnd (w : Begun) (state : Option State) (now : ℕ) (rest : Option (List ℕ)) (source_now : ℕ) (end : Result ObjectId Refusal) : Type 0 where
+  pub past : List Exchange
+  pub appended : List ℕ
+  pub all : List ℕ
+  pub did : Did w state now past
+  pub took : Took w rest source_now all
+  pub ends : EndsWith w rest source_now appended all past end
+  pub spared : IsSpared w source_now ⊎ ((end ≡ Err (refusals.Io messages.StreamData)) × IsFailedRead w.head past)
+  pub follows : (bytes : List ℕ) → w.left ≡ Some bytes → FollowsToEnd (at_hand w bytes) (SourceFailed w source_now) end past
+
+-- a write that memory ran out of, and that has asked to remove the temporary file that it made
+pub record IsBrokenOff (w : Begun) (state : Option State) (now : ℕ) (rest : Option (List ℕ)) (source_now : ℕ) : Type 0 where
+  pub past : List Exchange
+  pub all : List ℕ
+  pub did : Did w state now past
+  pub run : IsBrokenRun w.head (NamedBy w) (SourceFailed w source_now) (OtherLength w.left w.head.size) past
+  pub took : Took w rest source_now all
+  pub spared : IsSpared w source_now ⊎ IsFailedRead w.head past
+  pub follows : (bytes : List ℕ) → w.left ≡ Some bytes → IsCutOff (at_hand w bytes) past
