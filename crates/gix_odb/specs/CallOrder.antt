@@ -8,7 +8,7 @@ use Rattle.gix_hash.specs.declared.kind.Kind.{Kind as HashKind}
 use Rattle.gix_hash.specs.declared.kind.Kind.TheVariants.{Sha1}
 use Rattle.gix_hash.specs.declared.object_id.ObjectId.{ObjectId}
 use Rattle.gix_object.specs.declared.kind.Kind.{Kind}
-use Rattle.gix_odb_loose.specs.LooseOrder.{disk_ask_of, reply_of}
+use Rattle.gix_odb_loose.specs.LooseOrder.{reply_of}
 use Rattle.gix_odb_loose.specs.LooseOrder as loose_order
 use Rattle.gix_odb_loose.specs.declared.call.LooseCall.{LooseCall}
 use Rattle.gix_odb_loose.specs.declared.call.LooseJob.TheVariants as jobs
@@ -27,6 +27,7 @@ use Rattle.gix_odb.specs.declared.query.Query.{Query}
 use Rattle.gix_odb.specs.declared.query.Query.TheVariants.{Find, Header, Test}
 use Rattle.gix_odb.specs.declared.write.Error.TheVariants as write_errors
 use Rattle.gix_odb.specs.LookOrder as looks
+use Rattle.gix_odb.specs.LookOrder.{asked_by}
 
 -- ---- a write
 
@@ -50,12 +51,12 @@ wrote_as (loose_replies.Wrote (Err error)) = replies.Refused (call_errors.Write 
 wrote_as reply = replies.NotFound
 
 abbrev pub written_by : LooseCall → Option LooseReply → CallState
-written_by folder None = Writing folder
-written_by folder (Some reply) = Written (wrote_as reply)
+written_by call None = Writing call
+written_by call (Some reply) = Written (wrote_as reply)
 
 -- a write goes on, or has its reply
 abbrev pub after_write : LooseCall → CallState
-after_write folder = written_by folder (reply_of folder)
+after_write call = written_by call (reply_of call)
 
 -- the size of a write has 64 bits
 abbrev pub HasSize : Call → Type 0
@@ -64,18 +65,26 @@ HasSize call = Unit {0}
 
 -- ---- any call
 
--- a new call, where `sought` tells the id that is sought
+-- a new query, where `sought` tells the id that is sought
+abbrev pub looking : Path → (limit : Option ℕ) → (sought : Query → ObjectId) → Query → CallState
+looking objects limit sought query = Looking (looks.started objects limit query (sought query))
+
+-- a new call
 abbrev pub started : Path → (limit : Option ℕ) → (sought : Query → ObjectId) → Call → CallState
-started objects limit sought (call_kinds.Find id) = Looking (looks.started objects limit (Find id) (sought (Find id)))
-started objects limit sought (call_kinds.Header id) = Looking (looks.started objects limit (Header id) (sought (Header id)))
-started objects limit sought (call_kinds.Test id) = Looking (looks.started objects limit (Test id) (sought (Test id)))
+started objects limit sought (call_kinds.Find id) = looking objects limit sought (Find id)
+started objects limit sought (call_kinds.Header id) = looking objects limit sought (Header id)
+started objects limit sought (call_kinds.Test id) = looking objects limit sought (Test id)
 started objects limit sought (call_kinds.Write kind size bytes id) = Writing (writing objects kind size bytes id)
+
+-- the call of a folder that waits for the disk, if there is one
+abbrev pub waiting_in : CallState → Option LooseCall
+waiting_in (Looking state) = looks.waiting_in state
+waiting_in (Writing call) = Some call
+waiting_in (Written reply) = None
 
 -- the next call of the disk, if there is one
 abbrev pub ask_of : CallState → Option DiskAsk
-ask_of (Looking state) = looks.ask_of state
-ask_of (Writing folder) = disk_ask_of folder
-ask_of (Written reply) = None
+ask_of state = asked_by (waiting_in state)
 
 abbrev pub looking_result : Result Reply LookState → Result Reply CallState
 looking_result (Ok reply) = Ok reply
@@ -84,11 +93,11 @@ looking_result (Err state) = Err (Looking state)
 -- the reply of a call that is done, or the call
 abbrev pub result_of : CallState → Result Reply CallState
 result_of (Looking state) = looking_result (looks.result_of state)
-result_of (Writing folder) = Err (Writing folder)
+result_of (Writing call) = Err (Writing call)
 result_of (Written reply) = Ok reply
 
 -- a call after the answer to its call of the disk
 abbrev pub fed : List Path → (limit : Option ℕ) → CallState → DiskAnswer → CallState
 fed folders limit (Looking state) answer = Looking (looks.fed folders limit state answer)
-fed folders limit (Writing folder) answer = after_write (loose_order.fed folder answer)
+fed folders limit (Writing call) answer = after_write (loose_order.fed call answer)
 fed folders limit (Written reply) answer = Written reply

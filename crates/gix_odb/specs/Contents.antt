@@ -8,7 +8,7 @@ use Rattle.odb_tree.specs.Tree.Follow.{read_of}
 use Rattle.gix_hash.specs.declared.object_id.ObjectId.{ObjectId}
 use Rattle.gix_hash.specs.ObjectId.{id_cmp}
 use Rattle.gix_object.specs.declared.kind.Kind.{Kind}
-use Rattle.gix_odb_loose.specs.LooseFile.{loose_path, HoldsObject, HoldsHeader}
+use Rattle.gix_odb_loose.specs.LooseFile.{HoldsObject, HoldsHeader}
 use Rattle.gix_odb.specs.declared.query.Query.{Query}
 use Rattle.gix_odb.specs.declared.query.Query.TheVariants.{Find, Header, Test}
 use Rattle.gix_odb.specs.declared.find.Header as headers
@@ -59,18 +59,18 @@ replacement_in store id = lookup (eq_by_cmp id_cmp id) store.replacements
 abbrev pub sought : StoreData → (ignoring : Bool) → Query → ObjectId
 sought store ignoring call = sought_with (replacement_in store) ignoring call
 
--- a folder of a tree shows contents for an id: its loose path leads to a file with those bytes
-abbrev pub Shows : Tree → Path → ObjectId → Contents → Type 0
-Shows tree folder id (LooseFile bytes) = (time : ℕ) × (read_of tree (loose_path folder id) ≡ Ok (bytes, time))
+-- a path of a tree shows a file with those bytes, links followed
+abbrev pub ShowsFile : Tree → Path → List ℕ → Type 0
+ShowsFile tree path bytes = (time : ℕ) × (read_of tree path ≡ Ok (bytes, time))
 
--- Contents hold an answer of a call. A find is answered by a loose file of that kind and data, the data as long as
+-- Contents hold an answer of a call that seeks an id. A find is answered by a loose file of that kind and data, the data as long as
 -- its header says and within the limit; a header by the file's header alone; a test by any file.
-abbrev pub Holds : StoreData → Query → Contents → Answer → Type 0
-Holds store (Find id) (LooseFile bytes) (Object kind found) = HoldsObject store.limit bytes kind found
-Holds store (Header id) (LooseFile bytes) (HeaderOf (Loose kind size)) = HoldsHeader bytes kind size
-Holds store (Test id) (LooseFile bytes) Presence = Unit {0}
-Holds store call contents answer = ⊥
+abbrev pub Holds : StoreData → Query → (id : ObjectId) → Contents → Answer → Type 0
+Holds store (Find asked) id (LooseFile bytes) (Object kind found) = HoldsObject store.limit bytes kind found
+Holds store (Header asked) id (LooseFile bytes) (HeaderOf (Loose kind size)) = HoldsHeader bytes kind size
+Holds store (Test asked) id (LooseFile bytes) Presence = Unit {0}
+Holds store call id contents answer = ⊥
 
--- contents are sound for a call where they hold some answer of it
-abbrev pub IsSound : StoreData → Query → Contents → Type 0
-IsSound store call contents = (answer : Answer) × Holds store call contents answer
+-- contents are sound for a call that seeks an id where they hold some answer of it
+abbrev pub IsSound : StoreData → Query → (id : ObjectId) → Contents → Type 0
+IsSound store call id contents = (answer : Answer) × Holds store call id contents answer

@@ -1,24 +1,45 @@
--- What a store held at some moment, and what lay still in it, over any family of trees numbered by moments.
-use Rattle.std.specs.Prelude.{ℕ, ◌≤◌, Contains}
+-- What a store held, and what lay still in it, over any family of trees numbered by moments. A kind of contents has its constructor in
+-- `Contents` and its lines in `Holds`, `WasShown`, `Place` and `LiesAt`; what is said of all kinds names none.
+use Rattle.std.specs.Prelude.{ℕ, List, Contains}
 use Rattle.odb_base.specs.Path.{Path}
 use Rattle.odb_tree.specs.Tree.{Tree}
 use Rattle.gix_hash.specs.declared.object_id.ObjectId.{ObjectId}
+use Rattle.gix_odb_loose.specs.LooseFile.{loose_path}
 use Rattle.gix_odb.specs.declared.query.Query.{Query}
-use Rattle.gix_odb.specs.Contents.{StoreData, folder_list, Contents, Answer, Shows, Holds, IsSound}
+use Rattle.gix_odb.specs.Contents.{StoreData, folder_list, Contents, LooseFile, Answer, Holds, IsSound, ShowsFile}
+use Rattle.gix_odb.specs.Moments.{Sometime, Throughout}
 
--- In one folder, at some moment from `begun` to `now`, contents were shown for the sought id that hold the answer.
-pub record Held (trees : ℕ → Tree) (store : StoreData) (begun now : ℕ) (call : Query) (id : ObjectId) (answer : Answer) : Type 0 where
+-- ---- held
+
+-- A folder showed the parts of contents for an id, each at a moment of its own and none before the one that their kind says: `opened`,
+-- at which the store was opened, or `begun`, at which the call began. A loose file is one part, shown since the call began.
+abbrev pub WasShown : (trees : ℕ → Tree) → (opened begun now : ℕ) → (folder : Path) → ObjectId → Contents → Type 0
+WasShown trees opened begun now folder id (LooseFile bytes) = Sometime begun now (λ moment. ShowsFile (trees moment) (loose_path folder id) bytes)
+
+-- In one folder of a store that was opened at the moment `opened`, contents were shown for the sought id in a call from `begun` to
+-- `now` that hold the answer.
+pub record Held (trees : ℕ → Tree) (store : StoreData) (opened begun now : ℕ) (call : Query) (id : ObjectId) (answer : Answer) : Type 0 where
   pub folder : Path
   pub among : Contains (folder_list store) folder
-  pub moment : ℕ
-  pub from : begun ≤ moment
-  pub to : moment ≤ now
   pub contents : Contents
-  pub shown : Shows (trees moment) folder id contents
-  pub holds : Holds store call contents answer
+  pub shown : WasShown trees opened begun now folder id contents
+  pub holds : Holds store call id contents answer
 
--- In one folder, at every moment from `begun` to `now`, contents that are sound for the call were shown for the id.
+-- ---- still
+
+-- Where an object lies in a folder: a kind of contents, with what stays the same of them while the object lies still. Of a loose file
+-- that is nothing but its path, which the id tells.
+pub data Place : Type 0 where
+  InLooseFile : Place
+
+-- At one moment an object lies at a place of a folder, in contents that are sound for the call.
+abbrev pub LiesAt : StoreData → Query → Tree → (folder : Path) → ObjectId → Place → Type 0
+LiesAt store call tree folder id InLooseFile =
+    (bytes : List ℕ) × ShowsFile tree (loose_path folder id) bytes × IsSound store call id (LooseFile bytes)
+
+-- In one folder, at one place, the object of an id lay at every moment from `begun` to `now`, in contents that are sound for the call.
 pub record Still (trees : ℕ → Tree) (store : StoreData) (begun now : ℕ) (call : Query) (id : ObjectId) : Type 0 where
   pub folder : Path
   pub among : Contains (folder_list store) folder
-  pub always : (moment : ℕ) → begun ≤ moment → moment ≤ now → (contents : Contents) × Shows (trees moment) folder id contents × IsSound store call contents
+  pub place : Place
+  pub always : Throughout begun now (λ moment. LiesAt store call (trees moment) folder id place)

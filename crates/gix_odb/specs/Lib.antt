@@ -1,4 +1,5 @@
 pub mod Contents
+pub mod Moments
 pub mod Held
 pub mod HandleState
 pub mod LookOrder

@@ -22,10 +22,11 @@ use Rattle.gix_odb.specs.declared.call.Reply.{Reply}
 use Rattle.gix_odb.specs.declared.call.Reply.TheVariants as replies
 use Rattle.gix_odb.specs.declared.look_state.LookState.{LookState}
 use Rattle.gix_odb.specs.declared.look_state.Head.{Head}
-use Rattle.gix_odb.specs.declared.look_state.Lead.{Lead}
-use Rattle.gix_odb.specs.declared.look_state.Lead.TheVariants as leads
+use Rattle.gix_odb.specs.declared.look_state.Round.{Round}
 use Rattle.gix_odb.specs.declared.look_state.Stage.{Stage}
 use Rattle.gix_odb.specs.declared.look_state.Stage.TheVariants as stages
+use Rattle.gix_odb.specs.declared.look_state.Verdict.{Verdict}
+use Rattle.gix_odb.specs.declared.look_state.Verdict.TheVariants as verdicts
 use Rattle.gix_odb.specs.declared.find.Error.TheVariants as find_errors
 use Rattle.gix_odb.specs.declared.find.Header.TheVariants as headers
 
@@ -45,47 +46,66 @@ job_of (Test asked) id = jobs.Contains id
 abbrev pub asking : (limit : Option ℕ) → Query → ObjectId → Path → LooseCall
 asking limit call id folder = loose_order.started (loose_store limit id folder) (job_of call id)
 
--- ---- what its reply leads to
+-- ---- what its reply means for the query
 
 -- an error of a folder is told as it is
 abbrev pub refused : Error → Reply
 refused error = replies.Refused (call_errors.Find (find_errors.Loose error))
 
 -- A file is a yes. A look that failed is noted, so that another folder may still say yes.
-abbrev pub tested_leads : Result Bool Error → Lead
-tested_leads (Ok true) = leads.Ends (replies.Tested true)
-tested_leads (Ok false) = leads.Misses
-tested_leads (Err errors.NoMemory) = leads.Ends (refused errors.NoMemory)
-tested_leads (Err error) = leads.Notes error
+abbrev pub verdict_on_test : Result Bool Error → Verdict
+verdict_on_test (Ok true) = verdicts.Ends (replies.Tested true)
+verdict_on_test (Ok false) = verdicts.Misses
+verdict_on_test (Err errors.NoMemory) = verdicts.Ends (refused errors.NoMemory)
+verdict_on_test (Err error) = verdicts.Notes error
 
--- An object, a header and an error end the call; nothing at the path is a miss.
-abbrev pub led_by : LooseReply → Lead
-led_by (loose_replies.Contains answer) = tested_leads answer
-led_by (loose_replies.Found (Ok (Some found))) = leads.Ends (replies.Found found.0 found.1)
-led_by (loose_replies.Header (Ok (Some found))) = leads.Ends (replies.Header (headers.Loose found.1 found.0))
-led_by (loose_replies.Found (Err error)) = leads.Ends (refused error)
-led_by (loose_replies.Header (Err error)) = leads.Ends (refused error)
-led_by reply = leads.Misses
+-- An object, a header and an error end the query; nothing at the path is a miss. A folder that is asked for an object writes none.
+abbrev pub verdict_on : LooseReply → Verdict
+verdict_on (loose_replies.Contains answer) = verdict_on_test answer
+verdict_on (loose_replies.Found (Ok (Some found))) = verdicts.Ends (replies.Found found.0 found.1)
+verdict_on (loose_replies.Header (Ok (Some found))) = verdicts.Ends (replies.Header (headers.Loose found.1 found.0))
+verdict_on (loose_replies.Found (Err error)) = verdicts.Ends (refused error)
+verdict_on (loose_replies.Header (Err error)) = verdicts.Ends (refused error)
+verdict_on reply = verdicts.Misses
 
 -- ---- the stages
 
--- a new call asks the objects directory
-abbrev pub started : Path → (limit : Option ℕ) → Query → ObjectId → LookState
-started objects limit call id = record { head = record { query = call; id = id }; stage = stages.Loose 0 None (asking limit call id objects) }
+-- so far a query has come: the folder at a place comes next, among those beside the objects directory, and so much is noted
+abbrev pub round_at : (next : ℕ) → (noted : Option Error) → Round
+round_at next noted = record { next = next; noted = noted }
 
-abbrev pub ask_at : Stage → Option DiskAsk
-ask_at (stages.Loose next noted folder) = disk_ask_of folder
-ask_at (stages.Done reply) = None
+-- a new query asks the objects directory
+abbrev pub started : Path → (limit : Option ℕ) → Query → ObjectId → LookState
+started objects limit call id = record {
+  head = record { query = call; id = id };
+  stage = stages.Loose (round_at 0 None) (asking limit call id objects);
+}
+
+-- the call of a folder that waits for the disk, if there is one
+abbrev pub waiting_at : Stage → Option LooseCall
+waiting_at (stages.Loose round call) = Some call
+waiting_at (stages.Done reply) = None
+
+abbrev pub waiting_in : LookState → Option LooseCall
+waiting_in state = waiting_at state.stage
+
+-- the call of the disk that a waiting call asks for
+abbrev pub asked_by : Option LooseCall → Option DiskAsk
+asked_by (Some call) = disk_ask_of call
+asked_by None = None
 
 -- the next call of the disk, if there is one
+abbrev pub ask_at : Stage → Option DiskAsk
+ask_at stage = asked_by (waiting_at stage)
+
 abbrev pub ask_of : LookState → Option DiskAsk
 ask_of state = ask_at state.stage
 
 abbrev pub result_at : Head → Stage → Result Reply LookState
-result_at head (stages.Loose next noted folder) = Err (record { head = head; stage = stages.Loose next noted folder })
+result_at head (stages.Loose round call) = Err (record { head = head; stage = stages.Loose round call })
 result_at head (stages.Done reply) = Ok reply
 
--- the reply of a call that is done, or the call
+-- the reply of a query that is done, or the query
 abbrev pub result_of : LookState → Result Reply LookState
 result_of state = result_at state.head state.stage
 
@@ -100,30 +120,34 @@ abbrev pub first_of : Option Error → Error → Option Error
 first_of None error = Some error
 first_of (Some first) error = Some first
 
+-- an error is noted
+abbrev pub noting : Round → Error → Round
+noting round error = record round { noted = first_of round.noted error }
+
 -- the next folder is asked, if there is one
-abbrev pub at_next : (limit : Option ℕ) → Head → (next : ℕ) → (noted : Option Error) → Option Path → Stage
-at_next limit head next noted None = stages.Done (ended head.query noted)
-at_next limit head next noted (Some folder) = stages.Loose (next + 1) noted (asking limit head.query head.id folder)
+abbrev pub at_next : (limit : Option ℕ) → Head → Round → Option Path → Stage
+at_next limit head round None = stages.Done (ended head.query round.noted)
+at_next limit head round (Some folder) = stages.Loose (record round { next = round.next + 1 }) (asking limit head.query head.id folder)
 
--- what a folder's reply leads to
-abbrev pub led : List Path → (limit : Option ℕ) → Head → (next : ℕ) → (noted : Option Error) → Lead → Stage
-led folders limit head next noted (leads.Ends reply) = stages.Done reply
-led folders limit head next noted leads.Misses = at_next limit head next noted (slice_get folders next)
-led folders limit head next noted (leads.Notes error) = at_next limit head next (first_of noted error) (slice_get folders next)
+-- the query ends, or goes on to the next folder
+abbrev pub after_verdict : List Path → (limit : Option ℕ) → Head → Round → Verdict → Stage
+after_verdict folders limit head round (verdicts.Ends reply) = stages.Done reply
+after_verdict folders limit head round verdicts.Misses = at_next limit head round (slice_get folders round.next)
+after_verdict folders limit head round (verdicts.Notes error) = at_next limit head (noting round error) (slice_get folders round.next)
 
--- a folder's call goes on, or its reply leads the call on
-abbrev pub by_reply : List Path → (limit : Option ℕ) → Head → (next : ℕ) → (noted : Option Error) → LooseCall → Option LooseReply → Stage
-by_reply folders limit head next noted folder None = stages.Loose next noted folder
-by_reply folders limit head next noted folder (Some reply) = led folders limit head next noted (led_by reply)
+-- a folder's call goes on, or its reply takes the query on
+abbrev pub by_reply : List Path → (limit : Option ℕ) → Head → Round → LooseCall → Option LooseReply → Stage
+by_reply folders limit head round call None = stages.Loose round call
+by_reply folders limit head round call (Some reply) = after_verdict folders limit head round (verdict_on reply)
 
-abbrev pub after_folder : List Path → (limit : Option ℕ) → Head → (next : ℕ) → (noted : Option Error) → LooseCall → Stage
-after_folder folders limit head next noted folder = by_reply folders limit head next noted folder (reply_of folder)
+abbrev pub after_call : List Path → (limit : Option ℕ) → Head → Round → LooseCall → Stage
+after_call folders limit head round call = by_reply folders limit head round call (reply_of call)
 
--- a folder's call is fed the answer; a call that is done stays as it is
+-- a folder's call is fed the answer; a query that is done stays as it is
 abbrev pub next_stage : List Path → (limit : Option ℕ) → Head → Stage → DiskAnswer → Stage
-next_stage folders limit head (stages.Loose next noted folder) answer = after_folder folders limit head next noted (loose_order.fed folder answer)
+next_stage folders limit head (stages.Loose round call) answer = after_call folders limit head round (loose_order.fed call answer)
 next_stage folders limit head (stages.Done reply) answer = stages.Done reply
 
--- a call after the answer to its call of the disk
+-- a query after the answer to its call of the disk
 abbrev pub fed : List Path → (limit : Option ℕ) → LookState → DiskAnswer → LookState
 fed folders limit state answer = record state { stage = next_stage folders limit state.head state.stage answer }

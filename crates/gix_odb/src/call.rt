@@ -1,3 +1,4 @@
+//! A call on an open handle: what it asks for, what it ends with, and why it is refused.
 ghost use Rattle.std.specs.Prelude.{◌≡◌, IfOk};
 
 use crate::{find, init, write};

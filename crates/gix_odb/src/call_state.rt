@@ -1,10 +1,9 @@
 //! The order of work of a call on a handle: an object is looked for, or written.
 ghost use Rattle.std.specs.Prelude.{◌≡◌, ◌<◌, ◌^◌, IfOk};
-ghost use Rattle.gix_odb_loose.specs.LooseOrder as loose_order;
-ghost use Rattle.gix_odb.specs.LookOrder as looks;
-ghost use Rattle.gix_odb.specs.CallOrder.{HasSize, after_write, ask_of, hash_to_write, result_of, started, writing, wrote_as};
-ghost use Rattle.gix_odb.specs.CallOrder.{fed as fed_with};
-ghost use Rattle.gix_odb.specs.HandleState.{sought_by};
+ghost use Rattle.std.specs.Option.{option_copied};
+ghost use Rattle.gix_odb.specs.CallOrder.{HasSize, after_write, ask_of, hash_to_write, result_of, started, waiting_in, writing, wrote_as};
+ghost use Rattle.gix_odb.specs.CallOrder as calls;
+ghost use Rattle.gix_odb.specs.HandleState.{folders_of, limit_of, objects_of, sought_by};
 
 use crate::call::{Call, CallError, Reply};
 use crate::handle_state::HandleState;
@@ -17,7 +16,6 @@ use gix_odb_loose::{LooseCall, LooseJob, LooseReply};
 use odb_base::{NoMemory, PathText};
 use odb_disk::{ByteList, DiskAnswer, DiskAsk};
 use std::alloc::Global;
-use std::marker::Model;
 
 /// A call on a handle on its way.
 ///
@@ -26,52 +24,16 @@ use std::marker::Model;
 pub enum CallState {
     /// An object is looked for in the folders of the store.
     Looking(LookState),
-    /// An object is being written into the objects directory.
-    Writing(WriteState),
+    /// An object is being written, by a call of the objects directory.
+    Writing(LooseCall),
     /// The write has its reply.
     Written(Reply),
-}
-
-/// A write on its way.
-#[derive(Drop)]
-pub struct WriteState {
-    folder: LooseCall,
-}
-
-/// Clauses see it as the call of the folder, which is one that writes.
-impl Model for WriteState {
-    ghost use Rattle.gix_odb_loose.specs.LooseOrder.{IsWriteStage};
-    ghost use Rattle.gix_odb_loose.specs.declared.call.LooseCall.{LooseCall};
-
-    ghost Value = { LooseCall };
-
-    ghost view = { λ write. write.folder };
-
-    ghost inverse = { λ folder. record { folder = folder } };
-
-    ghost invariant = { λ write. IsWriteStage write.folder.stage };
-}
-
-impl WriteState {
-    fn disk_ask(&self, alloc: Global) -> Result<Option<DiskAsk>, NoMemory>
-        ensures asked { IfOk result (λ ask. ask ≡ loose_order.disk_ask_of self.now) }
-    {
-        self.folder.disk_ask(alloc)
-    }
-
-    // The write after the answer to its call of the disk.
-    fn feed(self, alloc: Global, answer: DiskAnswer) -> Result<CallState, NoMemory>
-        ensures fed { IfOk result (λ state. state ≡ after_write (loose_order.fed self answer)) }
-    {
-        let WriteState { folder } = self;
-        Ok(after(folder::fed(folder, alloc, answer)?))
-    }
 }
 
 impl CallState {
     /// A new call. It asks nothing of the disk yet.
     pub fn start(alloc: Global, handle: &HandleState, call: &Call) -> Result<CallState, NoMemory>
-        ensures begun { IfOk result (λ state. state ≡ started handle.now.store.value.objects handle.now.store.value.alloc_limit_bytes (sought_by handle.now) call.now) }
+        ensures begun { IfOk result (λ state. state ≡ started (objects_of handle.now) (limit_of handle.now) (sought_by handle.now) call.now) }
         ensures sized { HasSize call.now }
     {
         match call {
@@ -91,10 +53,20 @@ impl CallState {
     pub fn disk_ask(&self, alloc: Global) -> Result<Option<DiskAsk>, NoMemory>
         ensures asked { IfOk result (λ ask. ask ≡ ask_of self.now) }
     {
+        match self.waiting() {
+            Some(call) => call.disk_ask(alloc),
+            None => Ok(None),
+        }
+    }
+
+    /// The call of a folder that waits for the disk; there is none where the call is done.
+    fn waiting(&self) -> Option<&LooseCall>
+        ensures waiting { option_copied result ≡ waiting_in self.now }
+    {
         match self {
-            CallState::Looking(state) => state.disk_ask(alloc),
-            CallState::Writing(write) => write.disk_ask(alloc),
-            CallState::Written(_) => Ok(None),
+            CallState::Looking(state) => state.waiting(),
+            CallState::Writing(call) => Some(call),
+            CallState::Written(_) => None,
         }
     }
 
@@ -105,13 +77,13 @@ impl CallState {
         handle: &HandleState,
         answer: DiskAnswer,
     ) -> Result<CallState, NoMemory>
-        ensures fed { IfOk result (λ state. state ≡ fed_with handle.now.store.value.folders handle.now.store.value.alloc_limit_bytes self answer) }
+        ensures fed { IfOk result (λ state. state ≡ calls.fed (folders_of handle.now) (limit_of handle.now) self answer) }
     {
         match self {
             CallState::Looking(state) => {
                 Ok(CallState::Looking(state.feed(alloc, handle, answer)?))
             }
-            CallState::Writing(write) => write.feed(alloc, answer),
+            CallState::Writing(call) => Ok(after(folder::fed(call, alloc, answer)?)),
             CallState::Written(reply) => Ok(CallState::Written(reply)),
         }
     }
@@ -125,14 +97,14 @@ impl CallState {
                 Ok(reply) => Ok(reply),
                 Err(state) => Err(CallState::Looking(state)),
             },
-            CallState::Writing(write) => Err(CallState::Writing(write)),
+            CallState::Writing(call) => Err(CallState::Writing(call)),
             CallState::Written(reply) => Ok(reply),
         }
     }
 }
 
 fn looking(alloc: Global, handle: &HandleState, query: Query) -> Result<CallState, NoMemory>
-    ensures begun { IfOk result (λ state. state ≡ CallState.Looking (looks.started handle.now.store.value.objects handle.now.store.value.alloc_limit_bytes query (sought_by handle.now query))) }
+    ensures begun { IfOk result (λ state. state ≡ calls.looking (objects_of handle.now) (limit_of handle.now) (sought_by handle.now) query) }
 {
     Ok(CallState::Looking(LookState::start(alloc, handle, query)?))
 }
@@ -160,8 +132,7 @@ fn begun(
         bytes,
         id,
     };
-    let folder = LooseCall::start(alloc, &store, job)?;
-    Ok(CallState::Writing(WriteState { folder }))
+    Ok(CallState::Writing(LooseCall::start(alloc, &store, job)?))
 }
 
 // The hash of an id that is known, and SHA-1 where none is.
@@ -175,21 +146,17 @@ fn hash_of(id: Option<ObjectId>) -> gix_hash::Kind
 }
 
 // A write after it was fed an answer.
-fn after(folder: LooseCall) -> CallState
-    requires writes { loose_order.IsWriteStage folder.stage }
-    ensures after { result ≡ after_write folder }
+fn after(call: LooseCall) -> CallState
+    ensures after { result ≡ after_write call }
 {
-    if !folder.is_done() {
-        return CallState::Writing(WriteState { folder });
-    }
-    match folder.into_reply() {
-        Some(reply) => CallState::Written(told(reply)),
-        None => unreachable!("a write that is done has its reply"),
+    match folder::replied(call) {
+        Ok(reply) => CallState::Written(told(reply)),
+        Err(call) => CallState::Writing(call),
     }
 }
 
+// The reply of a write, by that of the objects directory.
 fn told(reply: LooseReply) -> Reply
-    requires wrote { loose_order.IsWriteReply reply }
     ensures told { result ≡ wrote_as reply }
 {
     match reply {
@@ -197,8 +164,7 @@ fn told(reply: LooseReply) -> Reply
         LooseReply::Wrote(Err(error)) => {
             Reply::Refused(CallError::Write(write::Error::LooseWrite(error)))
         }
-        LooseReply::Contains(_) | LooseReply::Found(_) | LooseReply::Header(_) => {
-            unreachable!("a write comes to nothing else")
-        }
+        // A write comes to nothing else.
+        LooseReply::Contains(_) | LooseReply::Found(_) | LooseReply::Header(_) => Reply::NotFound,
     }
 }

@@ -2,7 +2,7 @@
 ghost use Rattle.std.specs.Prelude.{◌≡◌, IfOk, false};
 ghost use Rattle.gix_odb.specs.HandleState.{replaced_by, sought_by};
 
-use crate::lists::PathList;
+use crate::init::PathList;
 use crate::query::Query;
 use gix_hash::ObjectId;
 use odb_base::{NoMemory, PathText};

@@ -1,8 +1,17 @@
-//! Opening a store: its options, and why an opening was refused.
-ghost use Rattle.std.specs.Prelude.{◌≡◌};
+//! Opening a store: the folders, the replaced ids and the options that an opening is handed, and why it was refused.
+ghost use Rattle.std.specs.Prelude.{◌≡◌, IfOk};
 ghost use Rattle.gix_odb.specs.OpenOrder.{given_slots};
 
+use gix_hash::ObjectId;
+use odb_base::{NoMemory, PathText, Sequence};
+use std::alloc::Global;
 use thiserror::Error;
+
+/// Folders, in order.
+pub type PathList = Sequence<PathText>;
+
+/// Ids, each with another that is sought in its place.
+pub type IdPairs = Sequence<(ObjectId, ObjectId)>;
 
 /// How many slots for indices a store has.
 #[derive(Clone, Copy)]
@@ -43,4 +52,26 @@ pub enum Error {
     Io,
     #[error("out of memory")]
     NoMemory,
+}
+
+/// A copy of a list of paths.
+pub fn copy_of_paths(alloc: Global, paths: &PathList) -> Result<PathList, NoMemory>
+    ensures copied { IfOk result (λ copy. copy ≡ paths.now) }
+{
+    let mut copy = PathList::new(alloc);
+    for path in paths.as_slice() {
+        copy.push(path.try_clone(alloc)?)?;
+    }
+    Ok(copy)
+}
+
+/// A copy of a list of pairs of ids.
+pub fn copy_of_pairs(alloc: Global, pairs: &IdPairs) -> Result<IdPairs, NoMemory>
+    ensures copied { IfOk result (λ copy. copy ≡ pairs.now) }
+{
+    let mut copy = IdPairs::new(alloc);
+    for pair in pairs.as_slice() {
+        copy.push(*pair)?;
+    }
+    Ok(copy)
 }

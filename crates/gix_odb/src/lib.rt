@@ -2,7 +2,7 @@
 //!
 //! A call is a machine: it names one call of the disk at a time, takes its answer, and comes to a reply. The order of
 //! work is in `specs/{OpenOrder,LookOrder,CallOrder}.antt`; what a store holds, and for how long, in
-//! `specs/{Contents,Held}.antt`. Who drives the machines, over which disk, is the matter of the crates above.
+//! `specs/{Contents,Moments,Held}.antt`. Who drives the machines, over which disk, is the matter of the crates above.
 //! ```rust
 //! let mut state = CallState::start(alloc, &handle, &Call::Find(id))?;
 //! while let Some(ask) = state.disk_ask(alloc)? {
@@ -17,17 +17,15 @@ pub mod find;
 mod folder;
 mod handle_state;
 pub mod init;
-mod lists;
 mod look_state;
 mod open_state;
 mod query;
 pub mod write;
 
 pub use call::{Call, CallError, Reply};
-pub use call_state::{CallState, WriteState};
+pub use call_state::CallState;
 pub use handle_state::{HandleState, StoreParts};
-pub use init::{Options, Slots};
-pub use lists::{IdPairs, PathList, copy_of_pairs, copy_of_paths};
+pub use init::{IdPairs, Options, PathList, Slots, copy_of_pairs, copy_of_paths};
 pub use look_state::LookState;
 pub use open_state::OpenState;
 pub use query::Query;

@@ -1,9 +1,9 @@
-//! The order of work of a query on a handle: the loose objects of each folder of the store, one after another.
-ghost use Rattle.std.specs.Prelude.{◌≡◌, slice_get, None, IfOk};
-ghost use Rattle.gix_odb_loose.specs.LooseOrder as loose_order;
-ghost use Rattle.gix_odb.specs.HandleState.{sought_by};
-ghost use Rattle.gix_odb.specs.LookOrder.{ask_of, asking, at_next, started};
-ghost use Rattle.gix_odb.specs.LookOrder.{fed as fed_with, first_of, job_of as loose_job, led as led_to, led_by as leads_to, next_stage as stage_after};
+//! The order of work of a query: the loose objects of each folder of the store are asked, one folder after another.
+ghost use Rattle.std.specs.Prelude.{◌≡◌, slice_get, IfOk};
+ghost use Rattle.std.specs.Option.{option_copied};
+ghost use Rattle.gix_odb.specs.HandleState.{folders_of, limit_of, objects_of, sought_by};
+ghost use Rattle.gix_odb.specs.LookOrder.{asking, at_next, result_of, started, waiting_in};
+ghost use Rattle.gix_odb.specs.LookOrder as looks;
 
 use crate::call::{CallError, Reply};
 use crate::handle_state::HandleState;
@@ -12,13 +12,13 @@ use crate::{find, folder};
 use gix_hash::ObjectId;
 use gix_odb_loose::{LooseCall, LooseJob, LooseReply};
 use odb_base::{NoMemory, PathText};
-use odb_disk::{DiskAnswer, DiskAsk};
+use odb_disk::DiskAnswer;
 use std::alloc::Global;
-use std::marker::Model;
 
 /// A query on a handle on its way.
 ///
-/// `disk_ask` names the next call of the disk, `feed` takes its answer, and so on until the call has its reply.
+/// The folder's call that is `waiting` names the next call of the disk, `feed` takes its answer, and so on until the
+/// query has its reply.
 #[derive(Drop)]
 pub struct LookState {
     head: Head,
@@ -33,133 +33,104 @@ pub struct Head {
     pub id: ObjectId,
 }
 
-/// Where a call stands.
+/// Where a query stands.
 #[derive(Drop)]
 pub enum Stage {
-    /// The loose objects of a folder are asked.
-    Loose {
-        /// The place of the folder that comes next, among those beside the objects directory.
-        next: usize,
-        /// The first error that a test of presence noted.
-        noted: Option<gix_odb_loose::find::Error>,
-        folder: FolderLook,
-    },
+    /// The loose objects of a folder are asked, by a call that waits for the disk.
+    Loose { round: Round, call: LooseCall },
     Done(Reply),
 }
 
-/// A folder that is asked, on its way.
+/// How far a query has come among the folders of the store.
 #[derive(Drop)]
-pub struct FolderLook {
-    call: LooseCall,
+pub struct Round {
+    /// The place of the folder that comes next, among those beside the objects directory.
+    pub next: usize,
+    /// The first error that a test of presence noted.
+    pub noted: Option<gix_odb_loose::find::Error>,
 }
 
-/// Clauses see it as the call of the folder, which is none that writes.
-impl Model for FolderLook {
-    ghost use Rattle.gix_odb_loose.specs.LooseOrder.{IsWriteStage};
-    ghost use Rattle.gix_odb_loose.specs.declared.call.LooseCall.{LooseCall};
-
-    ghost Value = { LooseCall };
-
-    ghost view = { λ look. look.call };
-
-    ghost inverse = { λ call. record { call = call } };
-
-    ghost invariant = { λ look. ¬ (IsWriteStage look.call.stage) };
-}
-
-/// What the reply of one folder leads to.
-pub enum Lead {
-    /// The call ends.
+/// What the reply of one folder means for the query.
+pub enum Verdict {
+    /// The query ends.
     Ends(Reply),
-    /// The next folder is asked.
+    /// The object isn't in this folder, so the next one is asked.
     Misses,
-    /// The error is noted, and the next folder is asked.
+    /// The folder can't tell. The error is noted, and the next folder is asked.
     Notes(gix_odb_loose::find::Error),
 }
 
 impl LookState {
-    /// A new call. It asks nothing of the disk yet.
+    /// A new query. It asks nothing of the disk yet.
     pub fn start(alloc: Global, handle: &HandleState, query: Query) -> Result<LookState, NoMemory>
-        ensures begun { IfOk result (λ state. state ≡ started handle.now.store.value.objects handle.now.store.value.alloc_limit_bytes query (sought_by handle.now query)) }
+        ensures begun { IfOk result (λ state. state ≡ started (objects_of handle.now) (limit_of handle.now) query (sought_by handle.now query)) }
     {
         let id = handle.sought(query);
         let head = Head { query, id };
-        let folder = head.asked(
-            alloc,
-            &handle.parts().objects,
-            handle.parts().alloc_limit_bytes,
-        )?;
-        let stage = Stage::Loose {
+        let parts = handle.parts();
+        let call = head.asked(alloc, &parts.objects, parts.alloc_limit_bytes)?;
+        let round = Round {
             next: 0,
             noted: None,
-            folder,
         };
+        let stage = Stage::Loose { round, call };
         Ok(LookState { head, stage })
     }
 
-    /// The call of the disk that comes next; there is none where the call is done.
-    pub fn disk_ask(&self, alloc: Global) -> Result<Option<DiskAsk>, NoMemory>
-        ensures asked { IfOk result (λ ask. ask ≡ ask_of self.now) }
+    /// The call of a folder that waits for the disk; there is none where the query is done.
+    pub fn waiting(&self) -> Option<&LooseCall>
+        ensures waiting { option_copied result ≡ waiting_in self.now }
     {
         match &self.stage {
-            Stage::Loose { folder, .. } => folder.call.disk_ask(alloc),
-            Stage::Done(_) => Ok(None),
+            Stage::Loose { call, .. } => Some(call),
+            Stage::Done(_) => None,
         }
     }
 
-    /// The call after the answer to its call of the disk, on the handle that it was started on.
+    /// The query after the answer to its call of the disk, on the handle that it was started on.
     pub fn feed(
         self,
         alloc: Global,
         handle: &HandleState,
         answer: DiskAnswer,
     ) -> Result<LookState, NoMemory>
-        ensures fed { IfOk result (λ state. state ≡ fed_with handle.now.store.value.folders handle.now.store.value.alloc_limit_bytes self answer) }
+        ensures fed { IfOk result (λ state. state ≡ looks.fed (folders_of handle.now) (limit_of handle.now) self answer) }
     {
         let LookState { head, stage } = self;
         let stage = head.next_stage(alloc, handle, stage, answer)?;
         Ok(LookState { head, stage })
     }
 
-    /// The reply of a call that is done, or the call that goes on.
+    /// The reply of a query that is done, or the query that goes on.
     pub fn into_reply(self) -> Result<Reply, LookState>
-        ensures replied { result ≡ Rattle.gix_odb.specs.LookOrder.result_of self }
+        ensures replied { result ≡ result_of self }
     {
         let LookState { head, stage } = self;
         match stage {
             Stage::Done(reply) => Ok(reply),
-            Stage::Loose {
-                next,
-                noted,
-                folder,
-            } => Err(LookState {
-                head,
-                stage: Stage::Loose {
-                    next,
-                    noted,
-                    folder,
-                },
-            }),
+            Stage::Loose { round, call } => {
+                let stage = Stage::Loose { round, call };
+                Err(LookState { head, stage })
+            }
         }
     }
 }
 
 impl Head {
-    // A folder that is asked for the object.
+    // The call of a folder that is asked for the object.
     fn asked(
         self,
         alloc: Global,
         folder: &PathText,
         limit: Option<u64>,
-    ) -> Result<FolderLook, NoMemory>
-        ensures asking { IfOk result (λ look. look ≡ asking limit self.query self.id folder.now) }
+    ) -> Result<LooseCall, NoMemory>
+        ensures asking { IfOk result (λ call. call ≡ asking limit self.query self.id folder.now) }
     {
         let options = gix_odb_loose::Options {
             alloc_limit_bytes: limit,
         };
         let store = gix_odb_loose::Store::at_opts(alloc, folder, self.id.kind(), options)?;
-        let call = LooseCall::start(alloc, &store, job_of(self.query, self.id))?;
-        Ok(FolderLook { call })
+        LooseCall::start(alloc, &store, job_of(self.query, self.id))
     }
 
     // A stage after the answer to its call of the disk.
@@ -170,106 +141,83 @@ impl Head {
         stage: Stage,
         answer: DiskAnswer,
     ) -> Result<Stage, NoMemory>
-        ensures next { IfOk result (λ next. next ≡ stage_after handle.now.store.value.folders handle.now.store.value.alloc_limit_bytes self stage answer) }
+        ensures next { IfOk result (λ next. next ≡ looks.next_stage (folders_of handle.now) (limit_of handle.now) self stage answer) }
     {
         match stage {
-            Stage::Loose {
-                next,
-                noted,
-                folder,
-            } => self.fed(alloc, handle, next, noted, folder, answer),
+            Stage::Loose { round, call } => {
+                let call = folder::fed(call, alloc, answer)?;
+                self.after_call(alloc, handle, round, call)
+            }
             Stage::Done(reply) => Ok(Stage::Done(reply)),
         }
     }
 
-    // The stage after a folder is fed an answer.
-    fn fed(
+    // The stage after a folder's call was fed an answer.
+    fn after_call(
         self,
         alloc: Global,
         handle: &HandleState,
-        next: usize,
-        noted: Option<gix_odb_loose::find::Error>,
-        folder: FolderLook,
-        answer: DiskAnswer,
-    ) -> Result<Stage, NoMemory>
-        ensures fed { IfOk result (λ stage. stage ≡ Rattle.gix_odb.specs.LookOrder.after_folder handle.now.store.value.folders handle.now.store.value.alloc_limit_bytes self next noted (loose_order.fed folder answer)) }
-    {
-        let FolderLook { call } = folder;
-        let call = folder::fed(call, alloc, answer)?;
-        self.after_folder(alloc, handle, next, noted, call)
-    }
-
-    // The stage after a folder was fed an answer.
-    fn after_folder(
-        self,
-        alloc: Global,
-        handle: &HandleState,
-        next: usize,
-        noted: Option<gix_odb_loose::find::Error>,
+        round: Round,
         call: LooseCall,
     ) -> Result<Stage, NoMemory>
-        requires finds { ¬ (loose_order.IsWriteStage call.stage) }
-        ensures after { IfOk result (λ stage. stage ≡ Rattle.gix_odb.specs.LookOrder.after_folder handle.now.store.value.folders handle.now.store.value.alloc_limit_bytes self next noted call) }
+        ensures after { IfOk result (λ stage. stage ≡ looks.after_call (folders_of handle.now) (limit_of handle.now) self round call) }
     {
-        if !call.is_done() {
-            let folder = FolderLook { call };
-            return Ok(Stage::Loose {
-                next,
-                noted,
-                folder,
-            });
-        }
-        match call.into_reply() {
-            Some(reply) => self.led(alloc, handle, next, noted, led_by(reply)),
-            None => unreachable!("a folder that is done has its reply"),
+        match folder::replied(call) {
+            Ok(reply) => self.after_verdict(alloc, handle, round, verdict_on(reply)),
+            Err(call) => Ok(Stage::Loose { round, call }),
         }
     }
 
-    // The stage that a folder's reply leads to.
-    fn led(
+    // The stage after a folder's reply, by what it means.
+    fn after_verdict(
         self,
         alloc: Global,
         handle: &HandleState,
-        next: usize,
-        noted: Option<gix_odb_loose::find::Error>,
-        lead: Lead,
+        round: Round,
+        verdict: Verdict,
     ) -> Result<Stage, NoMemory>
-        ensures led { IfOk result (λ stage. stage ≡ led_to handle.now.store.value.folders handle.now.store.value.alloc_limit_bytes self next noted lead) }
+        ensures after { IfOk result (λ stage. stage ≡ looks.after_verdict (folders_of handle.now) (limit_of handle.now) self round verdict) }
     {
-        match lead {
-            Lead::Ends(reply) => Ok(Stage::Done(reply)),
-            Lead::Misses => self.ask_next(alloc, handle, next, noted),
-            Lead::Notes(error) => self.ask_next(alloc, handle, next, first_error(noted, error)),
+        match verdict {
+            Verdict::Ends(reply) => Ok(Stage::Done(reply)),
+            Verdict::Misses => self.ask_next(alloc, handle, round),
+            Verdict::Notes(error) => self.ask_next(alloc, handle, round.noting(error)),
         }
     }
 
-    // The folder that comes next is asked, or the call ends.
-    fn ask_next(
-        self,
-        alloc: Global,
-        handle: &HandleState,
-        next: usize,
-        noted: Option<gix_odb_loose::find::Error>,
-    ) -> Result<Stage, NoMemory>
-        ensures next { IfOk result (λ stage. stage ≡ at_next handle.now.store.value.alloc_limit_bytes self next noted (slice_get handle.now.store.value.folders next)) }
+    // The folder that comes next is asked, or the query ends.
+    fn ask_next(self, alloc: Global, handle: &HandleState, round: Round) -> Result<Stage, NoMemory>
+        ensures next { IfOk result (λ stage. stage ≡ at_next (limit_of handle.now) self round (slice_get (folders_of handle.now) round.next)) }
     {
+        let Round { next, noted } = round;
         let folders = handle.parts().folders.as_slice();
         if next < folders.len() {
-            let folder = self.asked(alloc, &folders[next], handle.parts().alloc_limit_bytes)?;
+            let call = self.asked(alloc, &folders[next], handle.parts().alloc_limit_bytes)?;
             let next = next + 1;
-            Ok(Stage::Loose {
-                next,
-                noted,
-                folder,
-            })
+            let round = Round { next, noted };
+            Ok(Stage::Loose { round, call })
         } else {
             Ok(Stage::Done(ended(self.query, noted)))
         }
     }
 }
 
+impl Round {
+    // The round with an error noted, where none is yet.
+    fn noting(self, error: gix_odb_loose::find::Error) -> Round
+        ensures noting { result ≡ looks.noting self error }
+    {
+        let Round { next, noted } = self;
+        let noted = match noted {
+            Some(first) => Some(first),
+            None => Some(error),
+        };
+        Round { next, noted }
+    }
+}
+
 fn job_of(query: Query, id: ObjectId) -> LooseJob
-    ensures job { result ≡ loose_job query id }
+    ensures job { result ≡ looks.job_of query id }
 {
     match query {
         Query::Find(_) => LooseJob::Find(id),
@@ -278,59 +226,47 @@ fn job_of(query: Query, id: ObjectId) -> LooseJob
     }
 }
 
-fn led_by(reply: LooseReply) -> Lead
-    requires finds { ¬ (loose_order.IsWriteReply reply) }
-    ensures leads { result ≡ leads_to reply }
+fn verdict_on(reply: LooseReply) -> Verdict
+    ensures verdict { result ≡ looks.verdict_on reply }
 {
     match reply {
-        LooseReply::Contains(answer) => tested(answer),
-        LooseReply::Found(Ok(Some((kind, bytes)))) => Lead::Ends(Reply::Found { kind, bytes }),
+        LooseReply::Contains(answer) => verdict_on_test(answer),
+        LooseReply::Found(Ok(Some((kind, bytes)))) => Verdict::Ends(Reply::Found { kind, bytes }),
         LooseReply::Header(Ok(Some((size, kind)))) => {
-            Lead::Ends(Reply::Header(find::Header::Loose { kind, size }))
+            Verdict::Ends(Reply::Header(find::Header::Loose { kind, size }))
         }
-        LooseReply::Found(Err(error)) => Lead::Ends(refused(error)),
-        LooseReply::Header(Err(error)) => Lead::Ends(refused(error)),
-        LooseReply::Found(Ok(None)) => Lead::Misses,
-        LooseReply::Header(Ok(None)) => Lead::Misses,
-        LooseReply::Wrote(_) => unreachable!("no folder is asked to write"),
+        LooseReply::Found(Err(error)) => Verdict::Ends(refused(error)),
+        LooseReply::Header(Err(error)) => Verdict::Ends(refused(error)),
+        LooseReply::Found(Ok(None)) => Verdict::Misses,
+        LooseReply::Header(Ok(None)) => Verdict::Misses,
+        // No folder is asked to write here.
+        LooseReply::Wrote(_) => Verdict::Misses,
     }
 }
 
-// A look that failed is noted, so that another folder may still answer.
-fn tested(answer: Result<bool, gix_odb_loose::find::Error>) -> Lead
-    ensures leads { result ≡ Rattle.gix_odb.specs.LookOrder.tested_leads answer }
+// A look that failed is noted, so that another folder may still say yes.
+fn verdict_on_test(answer: Result<bool, gix_odb_loose::find::Error>) -> Verdict
+    ensures verdict { result ≡ looks.verdict_on_test answer }
 {
     match answer {
-        Ok(true) => Lead::Ends(Reply::Tested(true)),
-        Ok(false) => Lead::Misses,
+        Ok(true) => Verdict::Ends(Reply::Tested(true)),
+        Ok(false) => Verdict::Misses,
         Err(gix_odb_loose::find::Error::NoMemory) => {
-            Lead::Ends(refused(gix_odb_loose::find::Error::NoMemory))
+            Verdict::Ends(refused(gix_odb_loose::find::Error::NoMemory))
         }
-        Err(error) => Lead::Notes(error),
-    }
-}
-
-fn first_error(
-    noted: Option<gix_odb_loose::find::Error>,
-    error: gix_odb_loose::find::Error,
-) -> Option<gix_odb_loose::find::Error>
-    ensures first { result ≡ first_of noted error }
-{
-    match noted {
-        Some(first) => Some(first),
-        None => Some(error),
+        Err(error) => Verdict::Notes(error),
     }
 }
 
 fn refused(error: gix_odb_loose::find::Error) -> Reply
-    ensures refused { result ≡ Rattle.gix_odb.specs.LookOrder.refused error }
+    ensures refused { result ≡ looks.refused error }
 {
     Reply::Refused(CallError::Find(find::Error::Loose(error)))
 }
 
 // The reply where no folder answered.
 fn ended(query: Query, noted: Option<gix_odb_loose::find::Error>) -> Reply
-    ensures ended { result ≡ Rattle.gix_odb.specs.LookOrder.ended query noted }
+    ensures ended { result ≡ looks.ended query noted }
 {
     match (noted, query) {
         (Some(error), _) => refused(error),

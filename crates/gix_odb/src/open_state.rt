@@ -1,5 +1,6 @@
 //! The order of work of an opening.
 ghost use Rattle.std.specs.Prelude.{◌≡◌, true, IfOk};
+ghost use Rattle.gix_odb.specs.HandleState.{objects_of};
 ghost use Rattle.gix_odb.specs.OpenOrder.{ask_of, opened, opening_reply};
 ghost use Rattle.gix_odb.specs.OpenOrder.{fed as fed_with};
 
@@ -24,7 +25,7 @@ pub enum OpenState {
 impl OpenState {
     /// The call of the disk that comes next; there is none where the opening is done.
     pub fn disk_ask(&self, alloc: Global, handle: &HandleState) -> Result<Option<DiskAsk>, NoMemory>
-        ensures asked { IfOk result (λ ask. ask ≡ ask_of handle.now.store.value.objects self.now) }
+        ensures asked { IfOk result (λ ask. ask ≡ ask_of (objects_of handle.now) self.now) }
     {
         match self {
             OpenState::Looking => Ok(Some(DiskAsk::Look {

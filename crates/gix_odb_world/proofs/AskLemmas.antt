@@ -8,9 +8,10 @@ use Rattle.gix_hash.specs.declared.object_id.ObjectId.{ObjectId}
 use Rattle.gix_odb_loose.specs.LooseFile.{loose_path}
 use Rattle.gix_odb_loose.specs.LooseOrder.{disk_ask_of}
 use Rattle.gix_odb_loose.specs.WriteJobs.{piece_at, pieces_of}
-use Rattle.gix_odb_loose.specs.WriteOrder.{prefix_path, temp_path}
-use Rattle.gix_odb_loose.specs.WritePieces.{IsInPieces}
-use Rattle.gix_odb_loose.specs.WriteStreams.{OtherLength}
+use Rattle.gix_odb_loose.proofs.WriteDoneLaws.{HasDone-asked}
+use Rattle.gix_odb_loose.specs.WriteDone.{HasAsked, HasDone}
+use Rattle.gix_odb_loose.specs.WriteOrder.{number_made, prefix_path, temp_path}
+use Rattle.gix_odb_loose.specs.WritePieces.{IsInPieces, piece_size}
 use Rattle.gix_odb_loose.specs.declared.call.LooseCall.{LooseCall}
 use Rattle.gix_odb_loose.specs.declared.write_order.WriteStage.{WriteStage}
 use Rattle.gix_odb_loose.specs.declared.write_order.WriteStage.TheVariants as stages
@@ -26,11 +27,11 @@ use Rattle.gix_odb_world.specs.Status.{Running, Store, MakeCall, OpenStore}
 use Rattle.gix_odb.specs.LookOrder.{ask_at, asking}
 use Rattle.gix_odb.specs.OpenOrder as openings
 use Rattle.gix_odb_world.specs.Run.{FailedSince, tree_at}
-use Rattle.gix_odb_world.specs.Running.Write.{IsWaiting, IsWriting, StandsAt}
+use Rattle.gix_odb_world.specs.Running.Write.{IsWriting, StandsAt, job_to_write}
 use Rattle.gix_odb_world.specs.Running.Query.{Seeks, call_of}
-use Rattle.gix_odb_world.specs.Writing.{ToWrite, call_to_write, head_to_write, name_to_write, to_write}
+use Rattle.gix_odb_world.specs.Writing.{DoneSince, ToWrite, call_to_write, to_write}
 use Rattle.gix_odb_world.proofs.WriteFive.{below, made_before}
-use Rattle.gix_odb_world.proofs.WriteGoes.{ask_at_stage}
+use Rattle.gix_odb_world.proofs.WriteTurn.{ask_at_stage, done_at}
 
 module _ (first : Volume) (events : List Event) (handle : ℕ) (store : Store) (ignoring : Bool) (begun turns : ℕ) where
   -- an opening looks at its objects directory
@@ -60,25 +61,38 @@ module _ (first : Volume) (events : List Event) (handle begun turns : ℕ) (w : 
   abbrev Asks : DiskAsk → Type 0
   Asks ask = AsksToWrite first events handle begun turns w ask
 
-  whole_pieces : (count : ℕ) → pieces_of (65536 * count) ≡ count
+  whole_pieces : (count : ℕ) → pieces_of (piece_size * count) ≡ count
   whole_pieces count = omega arith
 
-  by_pieces : (number written : ℕ) → StandsAt first events handle begun turns w (stages.Filling number written) → written < length w.bytes → IsInPieces written → Asks (asks.Append (temp_path w.objects number) (piece_at w.size w.bytes written))
+  abbrev Stands : WriteStage → Type 0
+  Stands stage = StandsAt first events handle begun turns w stage
+
+  abbrev made : (stage : WriteStage) (number : ℕ) → number_made stage ≡ Some number → Stands stage → DoneSince first events handle begun (asks.NewFile (temp_path w.objects number))
+  made stage number is s = made_before first events handle begun turns w stage number is s
+
+  abbrev done : (stage : WriteStage) (s : Stands stage) → HasDone (job_to_write w) stage s.past
+  done stage s = done_at first events handle begun turns w stage s
+
+  -- a write has had a turn for each call that it made
+  had : (stage : WriteStage) → Stands stage → HasAsked (length w.bytes) turns stage
+  had stage s = subst (λ n. HasAsked (length w.bytes) n stage) (sym s.had) (HasDone-asked (job_to_write w) stage s.past (done stage s))
+
+  by_pieces : (number written : ℕ) (s : Stands (stages.Filling number written)) → written < length w.bytes → IsInPieces written → Asks (asks.Append (temp_path w.objects number) (piece_at w.size w.bytes written))
   by_pieces number written s more pieces =
-      let turn : turns ≡ number + 2 + pieces.0 = s.had ∙ (ap (λ n. number + 2 + pieces_of n) pieces.1 ∙ ap (λ n. number + 2 + n) (whole_pieces pieces.0)) in
+      let turn : turns ≡ number + 2 + pieces.0 = had (stages.Filling number written) s ∙ (ap (λ n. number + 2 + pieces_of n) pieces.1 ∙ ap (λ n. number + 2 + n) (whole_pieces pieces.0)) in
       subst (λ n. Asks (asks.Append (temp_path w.objects number) (piece_at w.size w.bytes n))) (sym pieces.1)
-      (AppendsPiece number (made_before first events handle begun turns w (stages.Filling number written) number refl s) pieces.0 turn (subst (λ n. n < length w.bytes) pieces.1 more))
+      (AppendsPiece number (made (stages.Filling number written) number refl s) pieces.0 turn (subst (λ n. n < length w.bytes) pieces.1 more))
 
   -- each stage of a write asks in its turn
-  at_stage : (stage : WriteStage) → IsWaiting w stage → StandsAt first events handle begun turns w stage → Asks (ask_at_stage w stage)
-  at_stage (stages.Making number) more s = MakesFile number (below (head_to_write w) (λ id. id ≡ name_to_write w) (λ n. OtherLength (Some w.bytes) w.size n) (stages.Making number) s.appended s.past s.history) s.had
-  at_stage (stages.Heading number) more s = AppendsHeader number (made_before first events handle begun turns w (stages.Heading number) number refl s) s.had
-  at_stage (stages.Filling number written) more s = by_pieces number written s more (s.front.2 more)
-  at_stage (stages.Foldering number id) more s =
-      subst (λ i. Asks (asks.MakeDir (prefix_path w.objects i))) (sym s.history.1) (MakesDirectory number (made_before first events handle begun turns w (stages.Foldering number id) number refl s) s.had)
-  at_stage (stages.Moving number id) more s =
-      subst (λ i. Asks (asks.Rename (temp_path w.objects number) (loose_path w.objects i))) (sym s.history.1) (Renames number (made_before first events handle begun turns w (stages.Moving number id) number refl s) s.had)
-  at_stage (stages.Removing number refusal) more s = Removes number (made_before first events handle begun turns w (stages.Removing number refusal) number refl s)
+  at_stage : (stage : WriteStage) → Stands stage → Asks (ask_at_stage w stage)
+  at_stage (stages.Making number) s = MakesFile number (below first events handle begun turns w (stages.Making number) s) (had (stages.Making number) s)
+  at_stage (stages.Heading number) s = AppendsHeader number (made (stages.Heading number) number refl s) (had (stages.Heading number) s)
+  at_stage (stages.Filling number written) s = let next = (done (stages.Filling number written) s).next in by_pieces number written s next.1 next.2
+  at_stage (stages.Foldering number id) s =
+      subst (λ i. Asks (asks.MakeDir (prefix_path w.objects i))) (sym (done (stages.Foldering number id) s).history.1) (MakesDirectory number (made (stages.Foldering number id) number refl s) (had (stages.Foldering number id) s))
+  at_stage (stages.Moving number id) s =
+      subst (λ i. Asks (asks.Rename (temp_path w.objects number) (loose_path w.objects i))) (sym (done (stages.Moving number id) s).history.1) (Renames number (made (stages.Moving number id) number refl s) (had (stages.Moving number id) s))
+  at_stage (stages.Removing number refusal) s = Removes number (made (stages.Removing number refusal) number refl s)
 
 -- a running write asks in its turn
 pub in_order_write : (first : Volume) (events : List Event) (handle : ℕ) (running : Running) (folder : LooseCall) (writes : IsWriting first events handle running folder)
@@ -87,4 +101,4 @@ in_order_write first events handle running folder writes =
     let w : ToWrite = writes.write in
     subst (λ turns. AsksToWrite first events handle running.begun turns (to_write running.store.parts.objects w.kind w.size w.bytes w.known) (ask_at_stage w writes.stage)) (sym writes.turns)
     (subst (λ objects. AsksToWrite first events handle running.begun writes.own (to_write objects w.kind w.size w.bytes w.known) (ask_at_stage w writes.stage)) writes.into
-    (at_stage first events handle running.begun writes.own w writes.stage writes.more writes.stands))
+    (at_stage first events handle running.begun writes.own w writes.stage writes.stands))

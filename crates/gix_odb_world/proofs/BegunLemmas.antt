@@ -25,20 +25,18 @@ use Rattle.gix_odb_world.proofs.BegunLemmas.OneEvent.{Stems, holds_opened, none_
 -- ---- what an event makes of all handles
 
 module _ (events : List Event) (table : ℕ → Status) where
-  stems_set : (number : ℕ) (status : Status) (handle : ℕ) → Stems events number status → (handle ≢ number → Stems events handle (table handle)) → Stems events handle (with_status table number status handle)
+  stems_set : (number : ℕ) (status : Status) (handle : ℕ) → Stems events number status → (handle ≢ number → Stems events handle (table handle))
+      → Stems events handle (with_status table number status handle)
   stems_set number status handle here others = by_number (handle == number) refl
     where
       by_number : (same : Bool) → (handle == number) ≡ same → Stems events handle (if same then status else table handle)
       by_number true is = subst (λ h. Stems events h status) (sym (eqb-true handle number is)) here
       by_number false is = others (eqb-false handle number is)
 
-  stems_after_turn : (step : Step) (next : Status → Status) → ((handle : ℕ) → Stems events handle (next (table handle))) → ((handle : ℕ) → Stems events handle (table handle)) → (handle : ℕ) → Stems events handle (after_turn_of step next table handle)
+  stems_after_turn : (step : Step) (next : Status → Status) → ((handle : ℕ) → Stems events handle (next (table handle)))
+      → ((handle : ℕ) → Stems events handle (table handle)) → (handle : ℕ) → Stems events handle (after_turn_of step next table handle)
   stems_after_turn (steps.Turn number) next goes_on kept handle = stems_set number (next (table number)) handle (goes_on number) (λ apart. kept handle)
-  stems_after_turn (steps.Open number path folders replacements options) next goes_on kept handle = kept handle
-  stems_after_turn (steps.Close number) next goes_on kept handle = kept handle
-  stems_after_turn (steps.Ignore number) next goes_on kept handle = kept handle
-  stems_after_turn (steps.Start number call) next goes_on kept handle = kept handle
-  stems_after_turn (steps.Disk change) next goes_on kept handle = kept handle
+  stems_after_turn step next goes_on kept handle = kept handle
 
 module _ (first : Volume) (past : List Event) (e : Event) (before : (handle : ℕ) → Stems past handle (status_of past handle)) where
   abbrev now : List Event
@@ -55,8 +53,10 @@ module _ (first : Volume) (past : List Event) (e : Event) (before : (handle : �
   unapplied : e.outcome ≢ outcomes.Applied → (handle : ℕ) → Stems now handle (table handle)
   unapplied other handle = stems_kept past e handle (table handle) (λ applied. absurd (other applied)) (λ applied. absurd (other applied)) (before handle)
 
-  stems_opened : (number : ℕ) (path : Path) (folders : List Path) (replacements : List (ObjectId × ObjectId)) (options : Options) → e.step ≡ steps.Open number path folders replacements options
-      → (handle : ℕ) → Stems now handle (status_after (length past + 1) (steps.Open number path folders replacements options) outcomes.Applied e.asked table handle)
+  stems_opened : (number : ℕ) (path : Path) (folders : List Path) (replacements : List (ObjectId × ObjectId)) (options : Options)
+      → e.step ≡ steps.Open number path folders replacements options
+      → (handle : ℕ)
+      → Stems now handle (status_after (length past + 1) (steps.Open number path folders replacements options) outcomes.Applied e.asked table handle)
   stems_opened number path folders replacements options step handle =
       let store : Store = store_at (length past + 1) path folders replacements options in
       let opened : OpenedBy now number (length past + 1) store = opened_now past e number path folders replacements options step in
@@ -64,7 +64,8 @@ module _ (first : Volume) (past : List Event) (e : Event) (before : (handle : �
       (holds_opened past e number store refl opened, record { begins = opened; latest = none_after past e (IsTaskOf number) })
       (λ apart. others (steps.Open number path folders replacements options) step handle (λ same. apart (sym same)) (λ never. never))
 
-  stems_applied : (step : Step) → e.step ≡ step → e.outcome ≡ outcomes.Applied → None ≡ why_not_after first past step → (handle : ℕ) → Stems now handle (status_after (length past + 1) step outcomes.Applied e.asked table handle)
+  stems_applied : (step : Step) → e.step ≡ step → e.outcome ≡ outcomes.Applied → None ≡ why_not_after first past step → (handle : ℕ)
+      → Stems now handle (status_after (length past + 1) step outcomes.Applied e.asked table handle)
   stems_applied (steps.Open number path folders replacements options) step applied valid handle = stems_opened number path folders replacements options step handle
   stems_applied (steps.Close number) step applied valid handle = stems_set now table number Free handle tt (λ apart. others (steps.Close number) step handle (λ never. never) (λ never. never))
   stems_applied (steps.Ignore number) step applied valid handle =
@@ -73,10 +74,10 @@ module _ (first : Volume) (past : List Event) (e : Event) (before : (handle : �
   stems_applied (steps.Start number call) step applied valid handle =
       stems_set now table number (started (length past + 1) call (table number)) handle (stems_started past e number call (table number) valid step (before number))
       (λ apart. others (steps.Start number call) step handle (λ same. apart (sym same)) (λ never. never))
-  stems_applied (steps.Turn number) step applied valid handle = others (steps.Turn number) step handle (λ never. never) (λ never. never)
-  stems_applied (steps.Disk change) step applied valid handle = others (steps.Disk change) step handle (λ never. never) (λ never. never)
+  stems_applied other step applied valid handle = others other step handle (λ never. never) (λ never. never)
 
-  stems_by : (outcome : Outcome) → e.outcome ≡ outcome → misuse_of outcome ≡ why_not_after first past e.step → (handle : ℕ) → Stems now handle (status_after (length past + 1) e.step outcome e.asked table handle)
+  stems_by : (outcome : Outcome) → e.outcome ≡ outcome → misuse_of outcome ≡ why_not_after first past e.step → (handle : ℕ)
+      → Stems now handle (status_after (length past + 1) e.step outcome e.asked table handle)
   stems_by outcomes.Applied is valid handle = stems_applied e.step refl is valid handle
   stems_by outcomes.Pending is valid handle =
       let kept = unapplied (λ applied. cc (is, applied)) in
@@ -93,7 +94,9 @@ unfolding statuses_from
 stems_none handle = tt
 
 module _ (first : Volume) (events : List Event) (lawful : IsLawful first events) where
-  stems_next : (place : ℕ) (e : Event) → slice_get events place ≡ Some e → ((handle : ℕ) → Stems (take place events) handle (status_of (take place events) handle)) → (handle : ℕ) → Stems (take (place + 1) events) handle (status_of (take (place + 1) events) handle)
+  stems_next : (place : ℕ) (e : Event) → slice_get events place ≡ Some e
+      → ((handle : ℕ) → Stems (take place events) handle (status_of (take place events) handle)) → (handle : ℕ)
+      → Stems (take (place + 1) events) handle (status_of (take (place + 1) events) handle)
   stems_next place e there before handle =
       let past : List Event = take place events in
       subst (λ es. Stems es handle (status_of es handle)) (sym (take_next events place e there))

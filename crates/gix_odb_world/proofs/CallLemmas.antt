@@ -5,9 +5,11 @@ use Rattle.odb_base.specs.Path.{Path}
 use Rattle.odb_tree.specs.Tree.{Tree, tree_of}
 use Rattle.odb_disk.specs.MemDisk.{Volume, next_fails}
 use Rattle.odb_disk.specs.Ask.{answer_now}
+use Rattle.odb_disk.specs.declared.ask.DiskAnswer.{DiskAnswer}
 use Rattle.gix_hash.specs.declared.object_id.ObjectId.{ObjectId}
 use Rattle.gix_odb_loose.specs.LooseFile.{LeadsToFile, loose_path}
 use Rattle.gix_odb_loose.specs.LooseOrder as loose_order
+use Rattle.gix_odb_loose.specs.declared.call.LooseCall.{LooseCall}
 use Rattle.gix_odb_loose.specs.declared.call.LooseReply.{LooseReply}
 use Rattle.gix_odb_loose.specs.declared.find.Error as loose
 use Rattle.gix_odb.specs.declared.query.Query.{Query}
@@ -15,16 +17,19 @@ use Rattle.gix_odb.specs.declared.query.Query.TheVariants.{Find, Header, Test}
 use Rattle.gix_odb.specs.declared.call.Reply.{Reply}
 use Rattle.gix_odb.specs.declared.look_state.LookState.{LookState}
 use Rattle.gix_odb.specs.declared.look_state.Head.{Head}
-use Rattle.gix_odb.specs.declared.look_state.Lead.{Lead}
-use Rattle.gix_odb.specs.declared.look_state.Lead.TheVariants as leads
+use Rattle.gix_odb.specs.declared.look_state.Stage.{Stage}
 use Rattle.gix_odb.specs.declared.look_state.Stage.TheVariants as stages
-use Rattle.gix_odb.specs.LookOrder.{asking, at_next, by_reply, ended, first_of, led, led_by, next_stage, result_at}
+use Rattle.gix_odb.specs.declared.look_state.Verdict.{Verdict}
+use Rattle.gix_odb.specs.declared.look_state.Verdict.TheVariants as verdicts
+use Rattle.gix_odb.specs.LookOrder.{after_verdict, asking, at_next, by_reply, ended, first_of, next_stage, result_at, round_at, verdict_on}
 use Rattle.gix_odb_world.specs.Causes.{LooseCause}
-use Rattle.gix_odb.specs.Contents.{LooseFile, Contents, Shows, folder_list}
+use Rattle.gix_odb.specs.Contents.{StoreData, folder_list}
+use Rattle.gix_odb.specs.Held.{InLooseFile, LiesAt, Place}
+use Rattle.gix_odb.specs.Moments.{Throughout}
 use Rattle.gix_odb_world.specs.Status.{Store}
 use Rattle.gix_odb_world.specs.Promise.{Keeps, Misses, claim_of}
 use Rattle.gix_odb_world.specs.Running.Query.{Passed, Leaves, Noted, Seeks}
-use Rattle.gix_odb_world.proofs.FolderLemmas.{LeadSays, ask_found, folder_says}
+use Rattle.gix_odb_world.proofs.FolderLemmas.{VerdictSays, ask_found, folder_says}
 
 -- ---- the folders ahead
 
@@ -53,47 +58,63 @@ nothing_in : {A : Type 0} (xs : List A) (y : A) → xs ≡ [] → ¬ (Contains x
 nothing_in [] y is (k, within, e) = omega (arith, within)
 nothing_in (x ∷ xs) y is c = absurd (cc is)
 
--- what a folder shows is a file
-shows_file : (tree : Tree) (folder : Path) (id : ObjectId) (contents : Contents) → Shows tree folder id contents → LeadsToFile tree (loose_path folder id)
-shows_file tree folder id (LooseFile bytes) shown = record { bytes = bytes; time = shown.0; given = shown.1; holds = tt }
+-- an object that lies in a folder lies in a file
+lies_in_file : (store : StoreData) (call : Query) (tree : Tree) (folder : Path) (id : ObjectId) (place : Place) → LiesAt store call tree folder id place
+    → LeadsToFile tree (loose_path folder id)
+lies_in_file store call tree folder id InLooseFile lies = record { bytes = lies.0; time = lies.1.0; given = lies.1.1; holds = tt }
 
 module _ (trees : ℕ → Tree) (Failed : Type 0) (store : Store) (begun now place : ℕ) (later : begun ≤ now) (head : Head) where
   abbrev ahead : List Path
   ahead = drop place store.parts.folders
 
+  -- a reply to such a query for this id keeps its promise
+  abbrev KeepsBy : Query → Reply → Type 0
+  KeepsBy call reply = Keeps trees Failed store begun now call head.id (claim_of call reply)
+
+  -- an error has its cause
+  abbrev IsCaused : loose.Error → Type 0
+  IsCaused error = LooseCause trees Failed store begun now head.query head.id error
+
+  abbrev KnowsNext : LookState → Type 0
+  KnowsNext state = Seeks trees Failed store begun now (place + 1) head.query head.id state.stage
+
   -- what a turn comes to: a reply that keeps its promise, or a call that goes on and knows as much
   abbrev pub Comes : Result Reply LookState → Type 0
-  Comes (Ok reply) = Keeps trees Failed store begun now head.query head.id (claim_of head.query reply)
-  Comes (Err state) =
-      (state.head ≡ head) × (Seeks trees Failed store begun now (place + 1) head.query head.id state.stage) × (place + 1 < length (folder_list store.parts))
+  Comes (Ok reply) = KeepsBy head.query reply
+  Comes (Err state) = (state.head ≡ head) × KnowsNext state × (place + 1 < length (folder_list store.parts))
+
+  abbrev ComesAt : Stage → Type 0
+  ComesAt stage = Comes (result_at head stage)
+
+  -- no call of the disk failed, and each folder was passed or lies ahead
+  abbrev AllPassed : Type 0
+  AllPassed = (¬ Failed) × ((folder : Path) → Contains (folder_list store.parts) folder → Passed trees begun now head.id folder ⊎ Contains ahead folder)
 
   -- what is known behind the asked folder
   abbrev Behind : Option loose.Error → Type 0
-  Behind (Some error) = LooseCause trees Failed store begun now head.query head.id error
-  Behind None = (¬ Failed) × ((folder : Path) → Contains (folder_list store.parts) folder → Passed trees begun now head.id folder ⊎ Contains ahead folder)
+  Behind (Some error) = IsCaused error
+  Behind None = AllPassed
 
   -- ---- the end
 
-  -- a folder that was passed showed nothing still
-  not_still : (folder : Path) → Passed trees begun now head.id folder
-      → ¬ ((moment : ℕ) → begun ≤ moment → moment ≤ now → (contents : Contents) × Shows (trees moment) folder head.id contents)
-  not_still folder passed always =
-      let shown = always passed.moment passed.from passed.to in
-      passed.was (shows_file (trees passed.moment) folder head.id shown.0 shown.1)
+  -- in a folder that was passed nothing lay still
+  not_still : (call : Query) (folder : Path) (kept : Place) → Passed trees begun now head.id folder
+      → ¬ (Throughout begun now (λ moment. LiesAt store.parts call (trees moment) folder head.id kept))
+  not_still call folder kept passed always =
+      passed.was (lies_in_file store.parts call (trees passed.moment) folder head.id kept (always passed.moment passed.from passed.to))
 
-  missed : (call : Query) → ahead ≡ [] → (¬ Failed) × ((folder : Path) → Contains (folder_list store.parts) folder → Passed trees begun now head.id folder ⊎ Contains ahead folder)
-      → Misses trees Failed store begun now call head.id
+  missed : (call : Query) → ahead ≡ [] → AllPassed → Misses trees Failed store begun now call head.id
   missed call none behind =
       record {
         no_failure = behind.0;
         none_still = λ still.
             elim (behind.1 still.folder still.among) [
-              | inl passed ↦ not_still still.folder passed (λ moment from to. ((still.always moment from to).0, (still.always moment from to).1))
+              | inl passed ↦ not_still call still.folder still.place passed still.always
               | inr more ↦ nothing_in ahead still.folder none more
             ];
       }
 
-  ended_keeps : (call : Query) (noted : Option loose.Error) → head.query ≡ call → ahead ≡ [] → Behind noted → Keeps trees Failed store begun now call head.id (claim_of call (ended call noted))
+  ended_keeps : (call : Query) (noted : Option loose.Error) → head.query ≡ call → ahead ≡ [] → Behind noted → KeepsBy call (ended call noted)
   ended_keeps (Find asked) (Some error) is none behind = subst (λ call. LooseCause trees Failed store begun now call head.id error) is behind
   ended_keeps (Header asked) (Some error) is none behind = subst (λ call. LooseCause trees Failed store begun now call head.id error) is behind
   ended_keeps (Test asked) (Some error) is none behind = subst (λ call. LooseCause trees Failed store begun now call head.id error) is behind
@@ -116,7 +137,7 @@ module _ (trees : ℕ → Tree) (Failed : Type 0) (store : Store) (begun now pla
   )
 
   next_comes : (noted : Option loose.Error) (next : Option Path) → slice_get store.parts.folders place ≡ next → Behind noted
-      → Comes (result_at head (at_next store.parts.limit head place noted next))
+      → ComesAt (at_next store.parts.limit head (round_at place noted) next)
   next_comes noted None is behind = ended_keeps head.query noted refl (none_ahead store.parts.folders place is) behind
   next_comes noted (Some folder) is behind = (
     refl,
@@ -134,15 +155,22 @@ module _ (trees : ℕ → Tree) (Failed : Type 0) (store : Store) (begun now pla
   -- ---- what the asked folder's reply leads to
 
   module _ (disk : Volume) (shown : trees now ≡ tree_of disk.state) (asked : Path) where
+    -- the call of the folder, and the answer that it is given
+    abbrev call_asked : LooseCall
+    call_asked = asking store.parts.limit head.query head.id asked
+
+    abbrev given : DiskAnswer
+    given = answer_now disk (ask_found store.parts.limit head.query head.id asked).0
+
     -- what is known before the answer, of all but the call of the disk that is answered
     abbrev pub Carried : Option loose.Error → Type 0
-    Carried (Some error) = LooseCause trees Failed store begun now head.query head.id error
+    Carried (Some error) = IsCaused error
     Carried None = (next_fails disk ≡ false → ¬ Failed) × Leaves trees store begun now head.id asked ahead
 
-    abbrev Leads : Lead → Type 0
-    Leads lead = LeadSays trees Failed store begun now head.query head.id asked (next_fails disk) lead
+    abbrev Says : Verdict → Type 0
+    Says verdict = VerdictSays trees Failed store begun now head.query head.id asked (next_fails disk) verdict
 
-    behind_missed : (noted : Option loose.Error) → Leads leads.Misses → Carried noted → Behind noted
+    behind_missed : (noted : Option loose.Error) → Says verdicts.Misses → Carried noted → Behind noted
     behind_missed (Some error) says carried = carried
     behind_missed None says carried = (
       carried.0 says.0,
@@ -156,20 +184,24 @@ module _ (trees : ℕ → Tree) (Failed : Type 0) (store : Store) (begun now pla
           ],
     )
 
-    behind_noted : (noted : Option loose.Error) (error : loose.Error) → Leads (leads.Notes error) → Carried noted → Behind (first_of noted error)
+    behind_noted : (noted : Option loose.Error) (error : loose.Error) → Says (verdicts.Notes error) → Carried noted → Behind (first_of noted error)
     behind_noted (Some first) error says carried = carried
     behind_noted None error says carried = says
 
-    led_comes : (noted : Option loose.Error) (lead : Lead) → Leads lead → Carried noted → Comes (result_at head (led store.parts.folders store.parts.limit head place noted lead))
-    led_comes noted (leads.Ends reply) says carried = says
-    led_comes noted leads.Misses says carried = next_comes noted (slice_get store.parts.folders place) refl (behind_missed noted says carried)
-    led_comes noted (leads.Notes error) says carried = next_comes (first_of noted error) (slice_get store.parts.folders place) refl (behind_noted noted error says carried)
+    abbrev after : Option loose.Error → Verdict → Stage
+    after noted verdict = after_verdict store.parts.folders store.parts.limit head (round_at place noted) verdict
+
+    verdict_comes : (noted : Option loose.Error) (verdict : Verdict) → Says verdict → Carried noted → ComesAt (after noted verdict)
+    verdict_comes noted (verdicts.Ends reply) says carried = says
+    verdict_comes noted verdicts.Misses says carried = next_comes noted (slice_get store.parts.folders place) refl (behind_missed noted says carried)
+    verdict_comes noted (verdicts.Notes error) says carried =
+        next_comes (first_of noted error) (slice_get store.parts.folders place) refl (behind_noted noted error says carried)
 
     -- the whole turn of a call that asks a folder
     pub turn_comes : (fails : next_fails disk ≡ true → Failed) (among : Contains (folder_list store.parts) asked) (noted : Option loose.Error) → Carried noted
-        → Comes (result_at head (next_stage store.parts.folders store.parts.limit head (stages.Loose place noted (asking store.parts.limit head.query head.id asked))
-        (answer_now disk (ask_found store.parts.limit head.query head.id asked).0)))
+        → Comes (result_at head (next_stage store.parts.folders store.parts.limit head (stages.Loose (round_at place noted) call_asked) given))
     turn_comes fails among noted carried =
         let says = folder_says trees Failed store begun now later disk shown fails head.id asked among head.query in
-        let folder = loose_order.fed (asking store.parts.limit head.query head.id asked) (answer_now disk (ask_found store.parts.limit head.query head.id asked).0) in
-        subst (λ (reply : Option LooseReply). Comes (result_at head (by_reply store.parts.folders store.parts.limit head place noted folder reply))) (sym says.1) (led_comes noted (led_by says.0) says.2 carried)
+        let fed = loose_order.fed call_asked given in
+        subst (λ (reply : Option LooseReply). ComesAt (by_reply store.parts.folders store.parts.limit head (round_at place noted) fed reply)) (sym says.1)
+        (verdict_comes noted (verdict_on says.0) says.2 carried)

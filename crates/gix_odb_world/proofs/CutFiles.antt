@@ -46,7 +46,8 @@ module _ (first : Volume) (events : List Event) (start : IsTree (tree_of first.s
   -- a file stands at a spot, and it is that of no other handle's write
   pub record Stands (handle now : ℕ) (s : Path) : Type 0 where
     pub stops : Stops (tree now) true s s
-    pub apart : (other last : ℕ) (twin : Path) → other ≢ handle → HasMade first events other last twin now → (o : Own other last twin now) → o.spot ≢ s
+    pub apart : (other last : ℕ) (twin : Path) → other ≢ handle → HasMade first events other last twin now → (o : Own other last twin now)
+        → o.spot ≢ s
 
   -- the event at a place is a turn of another handle that cut the file off, which stood alone until then
   pub record CutAt (handle made : ℕ) (path : Path) (place : ℕ) : Type 0 where
@@ -75,7 +76,8 @@ module _ (first : Volume) (events : List Event) (start : IsTree (tree_of first.s
 
   module _ (now : ℕ) (e : Event) (there : slice_get events now ≡ Some e) (all : Files now) (calm : IsUndisturbed first events (now + 1)) where
     -- the turn of another write leaves it alone
-    left_by_writer : (handle : ℕ) (s : Path) → IsTemporary s → Stands handle now s → (b : writers.ByWriter first events start lawful throughout now e) → b.handle ≢ handle → Leaves s now
+    left_by_writer : (handle : ℕ) (s : Path) → IsTemporary s → Stands handle now s → (b : writers.ByWriter first events start lawful throughout now e)
+        → b.handle ≢ handle → Leaves s now
     left_by_writer handle s temporary stands b differs =
         subst (λ u. SameOnWay (tree now) u true s) (sym (files.changed_to first events start lawful throughout now e there b.change b.is))
         (spot_left (tree now) is_tree temporary.0 (temp_name temporary.1) s temporary.2 stands.stops w.from b.change w.does_it.own another (λ p renames same. w.does_it.onto p renames (subst IsTemporary (sym same) temporary)))
@@ -93,7 +95,8 @@ module _ (first : Volume) (events : List Event) (start : IsTree (tree_of first.s
         ]
 
     -- so does every event, where other programs do
-    left_alone : (handle made : ℕ) (path : Path) → HasMade first events handle made path now → (c : CutOff handle made path now) → OthersLeave first events c.cut.own.spot (c.place + 1) (now + 1) → Leaves c.cut.own.spot now
+    left_alone : (handle made : ℕ) (path : Path) → HasMade first events handle made path now → (c : CutOff handle made path now)
+        → OthersLeave first events c.cut.own.spot (c.place + 1) (now + 1) → Leaves c.cut.own.spot now
     left_alone handle made path hm c leave = by_kind (kind_at first events start lawful now e there)
       where
         unchanged : e.entry.change ≡ None → Leaves c.cut.own.spot now
@@ -102,7 +105,8 @@ module _ (first : Volume) (events : List Event) (start : IsTree (tree_of first.s
         stands : Stands handle now c.cut.own.spot
         stands = c.stands (λ place x later within at outside. leave place x later (omega (arith, within)) at outside)
 
-        by_writer : (b : writers.ByWriter first events start lawful throughout now e) (same : Bool) → (b.handle == handle) ≡ same → Leaves c.cut.own.spot now
+        by_writer : (b : writers.ByWriter first events start lawful throughout now e) (same : Bool) → (b.handle == handle) ≡ same
+            → Leaves c.cut.own.spot now
         by_writer b true is = unchanged (turns.lost_turn first events start lawful throughout now e there handle made path hm (subst (λ h. IsTurnOf h e.step) (eqb-true b.handle handle is) b.turn) c.lost)
         by_writer b false is = left_by_writer handle c.cut.own.spot c.cut.temporary stands b (eqb-false b.handle handle is)
 
@@ -115,7 +119,8 @@ module _ (first : Volume) (events : List Event) (start : IsTree (tree_of first.s
     stands_next : (handle : ℕ) (s : Path) → Leaves s now → Stands handle now s → Stands handle (now + 1) s
     stands_next handle s same stands = record { stops = stops_kept (tree now) (tree (now + 1)) true s s same stands.stops; apart = apart }
       where
-        apart : (other last : ℕ) (twin : Path) → other ≢ handle → HasMade first events other last twin (now + 1) → (o : Own other last twin (now + 1)) → o.spot ≢ s
+        apart : (other last : ℕ) (twin : Path) → other ≢ handle → HasMade first events other last twin (now + 1) → (o : Own other last twin (now + 1))
+            → o.spot ≢ s
         apart other last twin differs hm o = elim (along.old_or_new first events start lawful throughout now e there other last twin hm) [
           | inl soon ↦
               let was = files.made_before first events start lawful throughout now e there other last twin hm soon in
@@ -124,7 +129,8 @@ module _ (first : Volume) (events : List Event) (start : IsTree (tree_of first.s
           | inr is ↦ not_vacant (tree now) s twin o.spot stands.stops (along.new_vacant first events start lawful throughout now e there other last twin hm is o)
         ]
 
-    cut_next : (handle made : ℕ) (path : Path) → HasMade first events handle made path now → CutOff handle made path now → CutOff handle made path (now + 1)
+    cut_next : (handle made : ℕ) (path : Path) → HasMade first events handle made path now → CutOff handle made path now
+        → CutOff handle made path (now + 1)
     cut_next handle made path hm c =
         let before = c.before in
         record {
@@ -137,7 +143,8 @@ module _ (first : Volume) (events : List Event) (start : IsTree (tree_of first.s
           stands = λ leave. stands_next handle c.cut.own.spot (left_alone handle made path hm c leave) (c.stands (λ place x later within at outside. leave place x later (omega (arith, within)) at outside));
         }
       where
-        stays : (step : ℕ) → c.place ≤ step → step < now + 1 → OthersLeave first events c.cut.own.spot (c.place + 1) (step + 1) → Leaves c.cut.own.spot step
+        stays : (step : ℕ) → c.place ≤ step → step < now + 1 → OthersLeave first events c.cut.own.spot (c.place + 1) (step + 1)
+            → Leaves c.cut.own.spot step
         stays step later soon leave = elim (cases_lt step now) [
           | inl early ↦ c.stays step later early leave
           | inr late ↦
@@ -146,10 +153,12 @@ module _ (first : Volume) (events : List Event) (start : IsTree (tree_of first.s
         ]
 
     -- a file stands where its own path leads
-    own_stands : (handle made : ℕ) (path : Path) → HasMade first events handle made path now → (o : Own handle made path now) → Stands handle now o.spot
+    own_stands : (handle made : ℕ) (path : Path) → HasMade first events handle made path now → (o : Own handle made path now)
+        → Stands handle now o.spot
     own_stands handle made path hm o = record { stops = spot_stops (tree now) path o.spot o.own; apart = λ other last twin differs his p. all.apart other handle last made twin path differs his hm p o }
 
-    cut_now : (handle made : ℕ) (path : Path) (hm : HasMade first events handle made path now) (o : Own handle made path now) → files.CutNow first events start lawful throughout now e there handle made path hm o.spot → CutOff handle made path (now + 1)
+    cut_now : (handle made : ℕ) (path : Path) (hm : HasMade first events handle made path now) (o : Own handle made path now)
+        → files.CutNow first events start lawful throughout now e there handle made path hm o.spot → CutOff handle made path (now + 1)
     cut_now handle made path hm o c =
         record {
           lost = files.lost_now first events start lawful throughout now e there handle made path hm o.spot c;
@@ -204,7 +213,8 @@ module _ (first : Volume) (events : List Event) (start : IsTree (tree_of first.s
           stands = λ leave. over_stands handle c.cut.own.spot (c.stands (λ place x later within at outside. leave place x later (omega (arith, within)) at outside));
         }
       where
-        stays : (step : ℕ) → c.place ≤ step → step < suc now → OthersLeave first events c.cut.own.spot (c.place + 1) (step + 1) → Leaves c.cut.own.spot step
+        stays : (step : ℕ) → c.place ≤ step → step < suc now → OthersLeave first events c.cut.own.spot (c.place + 1) (step + 1)
+            → Leaves c.cut.own.spot step
         stays step later soon leave = elim (cases_lt step now) [
           | inl early ↦ c.stays step later early leave
           | inr late ↦ let is : now ≡ step = omega (arith, soon, late) in subst (Leaves c.cut.own.spot) is (over_leaves c.cut.own.spot)

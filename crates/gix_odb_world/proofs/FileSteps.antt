@@ -32,7 +32,7 @@ use Rattle.gix_odb_world.specs.Run.{change_by, disk_after, tree_at}
 use Rattle.gix_odb_world.specs.Writing.{AskedAt, ToWrite}
 use Rattle.gix_odb_world.proofs.RunSteps.{IsLeft, Made, Quiet, Turned, change_by_some, is_tree_at, kind_at, left_at}
 use Rattle.gix_odb_world.proofs.WriteAsk.{Told, done_made, told_append, told_make_dir, told_new_file, told_remove, told_rename}
-use Rattle.gix_odb_world.proofs.WriteGoes.{ask_at_stage}
+use Rattle.gix_odb_world.proofs.WriteTurn.{ask_at_stage}
 
 abbrev pub NotTemporary : Path → Type 0
 NotTemporary path = ¬ (IsTemporary path)
@@ -52,10 +52,12 @@ WriterMoves t objects (stages.Foldering number id) c = change_of_make_dir t (pre
 WriterMoves t objects (stages.Moving number id) c = change_of_rename t (temp_path objects number) (loose_path objects id) ≡ Ok c
 WriterMoves t objects (stages.Removing number refusal) c = change_of_remove t (temp_path objects number) ≡ Ok c
 
-told_change : (t : Tree) (ask : DiskAsk) (told : Result Change writing.Refusal) (c : Change) → Told t ask told → change_of_ask t ask ≡ Some c → told ≡ Ok c
+told_change : (t : Tree) (ask : DiskAsk) (told : Result Change writing.Refusal) (c : Change) → Told t ask told → change_of_ask t ask ≡ Some c
+    → told ≡ Ok c
 told_change t ask told c tells is = from_ok told c (sym tells.change ∙ is)
 
-pub writer_moves : (disk : Volume) (w : ToWrite) (stage : WriteStage) (c : Change) → change_by disk (ask_at_stage w stage) ≡ Some c → WriterMoves (tree_of disk.state) w.objects stage c
+pub writer_moves : (disk : Volume) (w : ToWrite) (stage : WriteStage) (c : Change) → change_by disk (ask_at_stage w stage) ≡ Some c
+    → WriterMoves (tree_of disk.state) w.objects stage c
 writer_moves disk w (stages.Making number) c is = told_change _ _ _ c (told_new_file _ _) (change_by_some disk _ c is)
 writer_moves disk w (stages.Heading number) c is = (_, told_change _ _ _ c (told_append _ _ _) (change_by_some disk _ c is))
 writer_moves disk w (stages.Filling number written) c is = (_, told_change _ _ _ c (told_append _ _ _) (change_by_some disk _ c is))
@@ -94,7 +96,8 @@ module _ (t : Tree) (is_tree : IsTree t) (objects : Path) (c : Change) where
         }
 
   -- a writer that has made his file
-  pub does : (stage : WriteStage) (number : ℕ) (s : Path) → number_made stage ≡ Some number → OwnSpot t (temp_path objects number) s → WriterMoves t objects stage c → Does t s c
+  pub does : (stage : WriteStage) (number : ℕ) (s : Path) → number_made stage ≡ Some number → OwnSpot t (temp_path objects number) s
+      → WriterMoves t objects stage c → Does t s c
   does (stages.Making n) number s made own moves = absurd (cc made)
   does (stages.Heading n) number s made own moves = let same : number ≡ n = cc made in does_append (temp_path objects n) s (subst (λ m. OwnSpot t (temp_path objects m) s) same own) moves.0 moves.1
   does (stages.Filling n written) number s made own moves = let same : number ≡ n = cc made in does_append (temp_path objects n) s (subst (λ m. OwnSpot t (temp_path objects m) s) same own) moves.0 moves.1
@@ -112,7 +115,8 @@ module _ (t : Tree) (is_tree : IsTree t) (objects : Path) (c : Change) where
   does_first (stages.Removing n refusal) s none moves = absurd (cc none)
 
   -- one that was cut off changes nothing
-  pub does_nothing : (stage : WriteStage) (number : ℕ) → number_made stage ≡ Some number → Cut NotTemporary t objects → ¬ (WriterMoves t objects stage c)
+  pub does_nothing : (stage : WriteStage) (number : ℕ) → number_made stage ≡ Some number → Cut NotTemporary t objects
+      → ¬ (WriterMoves t objects stage c)
   does_nothing (stages.Making n) number made cut moves = cc made
   does_nothing (stages.Heading n) number made cut moves = cut_no_append NotTemporary t is_tree objects _ cut c moves.0 (ap (λ p. change_of_append t p moves.0) (sym (temp_path-is objects n)) ∙ moves.1)
   does_nothing (stages.Filling n written) number made cut moves = cut_no_append NotTemporary t is_tree objects _ cut c moves.0 (ap (λ p. change_of_append t p moves.0) (sym (temp_path-is objects n)) ∙ moves.1)
@@ -142,7 +146,8 @@ pub record IsNewAt (first : Volume) (events : List Event) (made : ℕ) (e : Even
   pub own : OwnSpot (tree_at first events (made + 1)) path spot
 
 module _ (first : Volume) (events : List Event) (start : IsTree (tree_of first.state)) (lawful : IsLawful first events) where
-  pub new_at : (handle made : ℕ) (path : Path) (a : AskedAt first events handle made (asks.NewFile path) answers.Done) → IsNewAt first events made a.event path
+  pub new_at : (handle made : ℕ) (path : Path) (a : AskedAt first events handle made (asks.NewFile path) answers.Done)
+      → IsNewAt first events made a.event path
   new_at handle made path a = elim (kind_at first events start lawful made a.event a.there) [
     | Quiet q ↦ absurd (let both : Nothing ≡ Disk ops.NewFile path (next_fails (disk_after first (take made events))) = sym q.did ∙ a.did in cc both)
     | Made m ↦ absurd (let both : Nothing ≡ Disk ops.NewFile path (next_fails (disk_after first (take made events))) = sym m.did ∙ a.did in cc both)

@@ -14,7 +14,7 @@ use Rattle.gix_hash.specs.declared.object_id.ObjectId.{ObjectId}
 use Rattle.gix_object.specs.declared.kind.Kind.{Kind}
 use Rattle.gix_odb_loose.specs.Causes.{Cause}
 use Rattle.gix_odb_loose.proofs.CauseLaws.{Cause-wider}
-use Rattle.gix_odb_loose.specs.LooseFile.{LeadsToFile, loose_path}
+use Rattle.gix_odb_loose.specs.LooseFile.{LeadsToFile, Reading, loose_path}
 use Rattle.gix_odb_loose.specs.LooseFile as loose_files
 use Rattle.gix_odb_loose.specs.LooseOrder.{disk_ask_of, reply_of, fed}
 use Rattle.gix_odb_loose.specs.LooseOrder.Answered.{tested_by, found_by, header_by}
@@ -27,10 +27,10 @@ use Rattle.gix_odb_loose.specs.declared.find.Error.{Error}
 use Rattle.gix_odb_loose.specs.declared.find.Error.TheVariants as errors
 use Rattle.gix_odb.specs.declared.query.Query.{Query}
 use Rattle.gix_odb.specs.declared.query.Query.TheVariants.{Find, Header, Test}
-use Rattle.gix_odb.specs.declared.look_state.Lead.{Lead}
-use Rattle.gix_odb.specs.declared.look_state.Lead.TheVariants as leads
+use Rattle.gix_odb.specs.declared.look_state.Verdict.{Verdict}
+use Rattle.gix_odb.specs.declared.look_state.Verdict.TheVariants as verdicts
 use Rattle.gix_odb.specs.declared.find.Header.TheVariants as headers
-use Rattle.gix_odb.specs.LookOrder.{asking, job_of, led_by, loose_store}
+use Rattle.gix_odb.specs.LookOrder.{asking, job_of, loose_store, verdict_on}
 use Rattle.gix_odb_world.specs.Causes.{GaveSometime, LooseCause}
 use Rattle.gix_odb.specs.Contents.{Answer, Object, HeaderOf, Presence, LooseFile, Holds, folder_list}
 use Rattle.gix_odb_world.specs.Status.{Store}
@@ -53,23 +53,27 @@ ask_found limit (Find asked) id folder = (asks.Read (loose_path folder id), refl
 ask_found limit (Header asked) id folder = (asks.Read (loose_path folder id), refl, read_quiet (loose_path folder id))
 ask_found limit (Test asked) id folder = (asks.Look (loose_path folder id) true, refl, look_quiet (loose_path folder id) true)
 
--- What a folder's reply leads to: an answer that was held or an error with its cause, a miss by a call of the disk
--- that didn't fail, or an error with its cause that is noted.
-abbrev pub LeadSays : (ℕ → Tree) → Type 0 → Store → ℕ → ℕ → Query → ObjectId → Path → (fails : Bool) → Lead → Type 0
-LeadSays trees Failed store begun now call id folder fails (leads.Ends reply) = Keeps trees Failed store begun now call id (claim_of call reply)
-LeadSays trees Failed store begun now call id folder fails leads.Misses = (fails ≡ false) × (¬ (LeadsToFile (trees now) (loose_path folder id)))
-LeadSays trees Failed store begun now call id folder fails (leads.Notes error) = LooseCause trees Failed store begun now call id error
+-- What the verdict on a folder's reply says: an answer that was held or an error with its cause, a miss by a call of the disk that
+-- didn't fail, or an error with its cause that is noted.
+abbrev pub VerdictSays : (ℕ → Tree) → Type 0 → Store → ℕ → ℕ → Query → ObjectId → Path → (fails : Bool) → Verdict → Type 0
+VerdictSays trees Failed store begun now call id folder fails (verdicts.Ends reply) = Keeps trees Failed store begun now call id (claim_of call reply)
+VerdictSays trees Failed store begun now call id folder fails verdicts.Misses = (fails ≡ false) × (¬ (LeadsToFile (trees now) (loose_path folder id)))
+VerdictSays trees Failed store begun now call id folder fails (verdicts.Notes error) = LooseCause trees Failed store begun now call id error
+
+-- the answer to a call of the disk: that it failed, or what the tree tells
+abbrev given_by : (fails : Bool) → (told : DiskAnswer) → DiskAnswer
+given_by fails told = cond fails (answers.Refused disk_errors.Failed) told
 
 -- a call that failed is no miss
-sound_test : (at : Path) (fails : Bool) (told : DiskAnswer) → tested_by at (cond fails (answers.Refused disk_errors.Failed) told) ≡ Ok false → fails ≡ false
+sound_test : (at : Path) (fails : Bool) (told : DiskAnswer) → tested_by at (given_by fails told) ≡ Ok false → fails ≡ false
 sound_test at true told e = absurd (cc e)
 sound_test at false told e = refl
 
-sound_find : (at : Path) (limit : Option ℕ) (fails : Bool) (told : DiskAnswer) → found_by at limit (cond fails (answers.Refused disk_errors.Failed) told) ≡ Ok None → fails ≡ false
+sound_find : (at : Path) (limit : Option ℕ) (fails : Bool) (told : DiskAnswer) → found_by at limit (given_by fails told) ≡ Ok None → fails ≡ false
 sound_find at limit true told e = absurd (cc e)
 sound_find at limit false told e = refl
 
-sound_header : (at : Path) (fails : Bool) (told : DiskAnswer) → header_by at (cond fails (answers.Refused disk_errors.Failed) told) ≡ Ok None → fails ≡ false
+sound_header : (at : Path) (fails : Bool) (told : DiskAnswer) → header_by at (given_by fails told) ≡ Ok None → fails ≡ false
 sound_header at true told e = absurd (cc e)
 sound_header at false told e = refl
 
@@ -81,55 +85,63 @@ module _ (trees : ℕ → Tree) (Failed : Type 0) (store : Store) (begun now : �
   abbrev SaysNow : Query → LooseReply → Type 0
   SaysNow call reply = Says at store.parts.limit (job_of call id) (tree_of disk.state) (next_fails disk ≡ true) ⊥ reply
 
-  abbrev Leads : Query → Lead → Type 0
-  Leads call lead = LeadSays trees Failed store begun now call id folder (next_fails disk) lead
+  abbrev SaysBy : Query → LooseReply → Type 0
+  SaysBy call reply = VerdictSays trees Failed store begun now call id folder (next_fails disk) (verdict_on reply)
+
+  -- what a read of the path gives now
+  abbrev IsRead : Reading → Type 0
+  IsRead read = read ≡ read_of (tree_of disk.state) at
 
   -- a cause of the last moment is one of the call
-  cause_now : (call : Query) (error : Error) → Cause (job_of call id) at store.parts.limit (λ read. read ≡ read_of (tree_of disk.state) at) (next_fails disk ≡ true) ⊥ error
+  cause_now : (call : Query) (error : Error) → Cause (job_of call id) at store.parts.limit IsRead (next_fails disk ≡ true) ⊥ error
       → LooseCause trees Failed store begun now call id error
   cause_now call error c =
       record {
         folder = folder;
         among = among;
-        cause = Cause-wider (λ read. read ≡ read_of (tree_of disk.state) at) (GaveSometime trees begun now at)
+        cause = Cause-wider IsRead (GaveSometime trees begun now at)
             (λ read is. record { moment = now; from = later; to = omega arith; was = subst (λ tree. read ≡ read_of tree at) (sym shown) is })
             (next_fails disk ≡ true) Failed ⊥ ⊥ fails (λ never. never) (job_of call id) at store.parts.limit error c;
       }
 
   -- what the file at the path holds now was held in the call
-  held_now : (call : Query) (answer : Answer) (P : List ℕ → Type 0) → ((bytes : List ℕ) → P bytes → Holds store.parts call (LooseFile bytes) answer)
-      → loose_files.Gives (read_of (tree_of disk.state) at) P → Held trees store.parts begun now call id answer
+  held_now : (call : Query) (answer : Answer) (P : List ℕ → Type 0)
+      → ((bytes : List ℕ) → P bytes → Holds store.parts call id (LooseFile bytes) answer) → loose_files.Gives (read_of (tree_of disk.state) at) P
+      → Held trees store.parts store.opened begun now call id answer
   held_now call answer P holds gives =
+      let read = subst (λ tree. read_of tree at ≡ Ok (gives.bytes, gives.time)) (sym shown) gives.given in
       record {
         folder = folder;
         among = among;
-        moment = now;
-        from = later;
-        to = omega arith;
         contents = LooseFile gives.bytes;
-        shown = (gives.time, subst (λ tree. read_of tree at ≡ Ok (gives.bytes, gives.time)) (sym shown) gives.given);
+        shown = record { moment = now; from = later; to = omega arith; was = (gives.time, read) };
         holds = holds gives.bytes gives.holds;
       }
 
   missed_now : ¬ (LeadsToFile (tree_of disk.state) at) → ¬ (LeadsToFile (trees now) at)
   missed_now missed = subst (λ tree. ¬ (LeadsToFile tree at)) (sym shown) missed
 
-  find_says : (asked : ObjectId) (result : Result (Option (Kind × List ℕ)) Error) → SaysNow (Find asked) (loose_replies.Found result) → (result ≡ Ok None → next_fails disk ≡ false)
-      → Leads (Find asked) (led_by (loose_replies.Found result))
+  find_says : (asked : ObjectId) (result : Result (Option (Kind × List ℕ)) Error) → SaysNow (Find asked) (loose_replies.Found result)
+      → (result ≡ Ok None → next_fails disk ≡ false)
+      → SaysBy (Find asked) (loose_replies.Found result)
   find_says asked (Ok (Some x)) says sound =
-      held_now (Find asked) (Object x.0 x.1) (λ bytes. loose_files.HoldsObject store.parts.limit bytes x.0 x.1) (λ bytes h. h) (says.held (loose_files.Object x.0 x.1) refl)
+      held_now (Find asked) (Object x.0 x.1) (λ bytes. loose_files.HoldsObject store.parts.limit bytes x.0 x.1) (λ bytes h. h)
+      (says.held (loose_files.Object x.0 x.1) refl)
   find_says asked (Ok None) says sound = (sound refl, missed_now (says.missed tt))
   find_says asked (Err error) says sound = cause_now (Find asked) error (says.refused error refl)
 
-  header_says : (asked : ObjectId) (result : Result (Option (ℕ × Kind)) Error) → SaysNow (Header asked) (loose_replies.Header result) → (result ≡ Ok None → next_fails disk ≡ false)
-      → Leads (Header asked) (led_by (loose_replies.Header result))
+  header_says : (asked : ObjectId) (result : Result (Option (ℕ × Kind)) Error) → SaysNow (Header asked) (loose_replies.Header result)
+      → (result ≡ Ok None → next_fails disk ≡ false)
+      → SaysBy (Header asked) (loose_replies.Header result)
   header_says asked (Ok (Some x)) says sound =
-      held_now (Header asked) (HeaderOf (headers.Loose x.1 x.0)) (λ bytes. loose_files.HoldsHeader bytes x.1 x.0) (λ bytes h. h) (says.held (loose_files.HeaderOf x.1 x.0) refl)
+      held_now (Header asked) (HeaderOf (headers.Loose x.1 x.0)) (λ bytes. loose_files.HoldsHeader bytes x.1 x.0) (λ bytes h. h)
+      (says.held (loose_files.HeaderOf x.1 x.0) refl)
   header_says asked (Ok None) says sound = (sound refl, missed_now (says.missed tt))
   header_says asked (Err error) says sound = cause_now (Header asked) error (says.refused error refl)
 
-  test_says : (asked : ObjectId) (result : Result Bool Error) → SaysNow (Test asked) (loose_replies.Contains result) → (result ≡ Ok false → next_fails disk ≡ false)
-      → Leads (Test asked) (led_by (loose_replies.Contains result))
+  test_says : (asked : ObjectId) (result : Result Bool Error) → SaysNow (Test asked) (loose_replies.Contains result)
+      → (result ≡ Ok false → next_fails disk ≡ false)
+      → SaysBy (Test asked) (loose_replies.Contains result)
   test_says asked (Ok true) says sound = held_now (Test asked) Presence (λ bytes. Unit {0}) (λ bytes h. h) (says.held loose_files.Presence refl)
   test_says asked (Ok false) says sound = (sound refl, missed_now (says.missed tt))
   test_says asked (Err errors.NoMemory) says sound = cause_now (Test asked) errors.NoMemory (says.refused errors.NoMemory refl)
@@ -141,7 +153,7 @@ module _ (trees : ℕ → Tree) (Failed : Type 0) (store : Store) (begun now : �
 
   -- the folder's call has its reply after the disk's answer, which says so much
   pub folder_says : (call : Query)
-      → (reply : LooseReply) × (reply_of (fed (asking store.parts.limit call id folder) (answer_now disk (ask_found store.parts.limit call id folder).0)) ≡ Some reply) × Leads call (led_by reply)
+      → (reply : LooseReply) × (reply_of (fed (asking store.parts.limit call id folder) (answer_now disk (ask_found store.parts.limit call id folder).0)) ≡ Some reply) × SaysBy call reply
   unfolding ask_found
   folder_says (Find asked) =
       let given = answer_now disk (asks.Read at) in

@@ -1,148 +1,174 @@
--- An opening and a query keep the laws of a machine.
+-- A query keeps the laws of a machine.
 pub mod Begun
 pub mod Comes
-use Rattle.std.proofs.Common.{◌≡◌, ℕ, ◌≤◌, Bool, true, false, List, length, Some, Ok, Err, Result, refl, sym, ◌∙◌, ap, subst}
-use Rattle.gix_odb_loose.proofs.StillAskLaws.{call_asks_still}
+use Rattle.std.proofs.Common.{◌≡◌, ℕ, ◌+◌, ◌*◌, ◌<◌, ◌≤◌, Bool, false, List, [], ◌∷◌, ◌++◌, length, None, Some, Ok, Err, Result, refl, sym, ◌∙◌, ap, subst, arith}
+use Rattle.std.proofs.Math.Nat.{mul-le-mul}
+use Rattle.odb_tree.specs.Tree.{tree_of}
 use Rattle.odb_disk.specs.MemDisk.{Volume}
-use Rattle.odb_disk.specs.Ask.{answer_now}
+use Rattle.odb_disk.specs.Ask.{answer_now, change_of_ask}
 use Rattle.odb_disk.specs.StreamAsks.{is_of_streams}
+use Rattle.odb_disk.specs.declared.ask.DiskAnswer.{DiskAnswer}
 use Rattle.odb_disk.specs.declared.ask.DiskAsk.{DiskAsk}
-use Rattle.odb_disk.specs.declared.ask.DiskAsk.TheVariants as asks
+use Rattle.gix_odb_loose.proofs.StillAskLaws.{call_asks_still}
+use Rattle.gix_odb.specs.CallOrder.{looking_result}
+use Rattle.gix_odb.specs.Contents.{folder_list}
+use Rattle.gix_odb.specs.LookOrder.{ask_at}
+use Rattle.gix_odb.specs.LookOrder as looks
 use Rattle.gix_odb.specs.declared.call.Reply.{Reply}
-use Rattle.gix_odb.specs.declared.call.Call.{Call}
+use Rattle.gix_odb.specs.declared.handle_state.HandleState.{HandleState}
 use Rattle.gix_odb.specs.declared.look_state.Head.{Head}
 use Rattle.gix_odb.specs.declared.look_state.LookState.{LookState}
 use Rattle.gix_odb.specs.declared.look_state.Stage.{Stage}
 use Rattle.gix_odb.specs.declared.look_state.Stage.TheVariants as stages
-use Rattle.gix_odb.specs.declared.open_state.OpenState.{OpenState}
-use Rattle.gix_odb.specs.declared.open_state.OpenState.TheVariants as opens
-use Rattle.gix_odb.specs.CallOrder.{looking_result}
-use Rattle.gix_odb.specs.LookOrder.{ask_at, result_at}
-use Rattle.gix_odb.specs.LookOrder as looks
-use Rattle.gix_odb.specs.OpenOrder as openings
-use Rattle.gix_odb_world.specs.declared.work.Work.{Work}
-use Rattle.gix_odb_world.specs.declared.work.Work.TheVariants.{Opening, Calling}
-use Rattle.gix_odb.specs.declared.call_state.CallState.TheVariants.{Looking}
+use Rattle.gix_odb.specs.declared.query.Query.{Query}
+use Rattle.gix_odb.specs.declared.query.Query.TheVariants.{Find, Header, Test}
+use Rattle.gix_odb_world.specs.Bound.{bound_of_call, bound_of_task, bytes_to_write, default_changes, laps_without_change, turns_each, turns_of_folder, turns_of_lap}
 use Rattle.gix_odb_world.specs.Event.{Event}
-use Rattle.gix_odb_world.specs.Status.{MakeCall, OpenStore, Running, Store, Task, call_started}
-use Rattle.gix_odb_world.specs.Run.{disk_after}
-use Rattle.gix_odb_world.specs.Running.Query.{Looks, call_of, looking, opening, result_of_opening}
+use Rattle.gix_odb_world.specs.Handle.{IsHandleOf}
 use Rattle.gix_odb_world.specs.Machine.{placed}
-use Rattle.gix_odb_world.specs.WorkOrder.{calling_result, opening_result}
-use Rattle.gix_odb_world.proofs.RunningLemmas.{looks_push}
-use Rattle.gix_odb_world.proofs.AskLemmas.{in_order_opening, in_order_query}
-use Rattle.gix_odb_world.proofs.WriteAsk.Quiet.{change_by-quiet}
-use Rattle.gix_odb_world.proofs.MachineLaws.{ComesTo, HasTurn, KeepsLaws, MachineComes}
-use Rattle.gix_odb_world.proofs.WriteTurn.Common.{IsTurnWith}
+use Rattle.gix_odb_world.specs.Promise.{Promise, QueryPromise}
+use Rattle.gix_odb_world.specs.Run.{FailedSince, change_by, disk_after, tree_at}
+use Rattle.gix_odb_world.specs.Running.Query.{IsLooking, Seeks, call_of, looking}
+use Rattle.gix_odb_world.specs.Status.{MakeCall, Running, Store, Task}
+use Rattle.gix_odb_world.specs.WorkOrder.{calling_result}
+use Rattle.gix_odb_world.proofs.AskLemmas.{in_order_query}
+use Rattle.gix_odb_world.proofs.FolderLemmas.{ask_found}
 use Rattle.gix_odb_world.proofs.LookMachine.Begun.{looking_starts}
-use Rattle.gix_odb_world.proofs.LookMachine.Comes.{look_changes, look_comes, look_names, quiet_turn}
+use Rattle.gix_odb_world.proofs.LookMachine.Comes.{LookComes, look_comes}
+use Rattle.gix_odb_world.proofs.MachineLaws.{HasTurn, KeepsLaws, MachineComes, quiet_turn, writes_nothing}
+use Rattle.gix_odb_world.proofs.QuietTurn.{failed_earlier, fails_now, shown_now, whole_length}
+use Rattle.gix_odb_world.proofs.RunLemmas.{failed-kept, tree_at-before}
+use Rattle.gix_odb_world.proofs.RunningLemmas.{looking_push}
+use Rattle.gix_odb_world.proofs.WriteAsk.Quiet.{change_by-quiet}
+use Rattle.gix_odb_world.proofs.WriteTurn.Common.{IsTurnWith}
 
--- ---- an opening
-
-opening_placed : (state : OpenState) → opening_result state ≡ placed opening (result_of_opening state)
-opening_placed opens.Looking = refl
-opening_placed (opens.Done reply) = refl
-
-opening_rests : (state : OpenState) (left : Work) → opening_result state ≡ Err left → left ≡ Opening state
-opening_rests opens.Looking left is = cc is
-opening_rests (opens.Done reply) left is = absurd (cc is)
-
--- no call begins with an opening
-opening_starts : (store : Store) (ignoring : Bool) (call : Call) (state : OpenState) → call_started store ignoring call ≡ Opening state → (P : Type 0) → P
-opening_starts store ignoring call state is P = absurd (cc is)
-
-opening_still : (store : Store) (state : OpenState) (ask : DiskAsk) → openings.ask_of store.parts.objects state ≡ Some ask → is_of_streams ask ≡ false
-opening_still store opens.Looking ask is = let same : asks.Look store.parts.objects true ≡ ask = cc is in ap is_of_streams (sym same)
-opening_still store (opens.Done reply) ask is = absurd (cc is)
-
-opening_takes : (first : Volume) (events : List Event) (handle : ℕ) (running : Running) (state : OpenState) (ask : DiskAsk) → Looks first events handle running OpenStore (Opening state)
-    → openings.ask_of running.store.parts.objects state ≡ Some ask → HasTurn first events handle running running.task ask
-opening_takes first events handle running state ask knows is =
-    subst (λ task. HasTurn first events handle running task ask) (sym knows.task_is)
-    (quiet_turn first events handle running OpenStore ask
-    (in_order_opening first events handle running.store running.ignoring running.begun running.turns state ask knows.seen.0 (knows.turns ∙ knows.seen.1) is)
-    (look_changes first events handle running OpenStore (Opening state) knows tt ask is))
-
-of_opening : (first : Volume) (events : List Event) (e : Event) (handle : ℕ) (running : Running) (state : OpenState) → ComesTo first events e handle running (opening_result state)
-    → MachineComes first events e handle running opening (result_of_opening state)
-of_opening first events e handle running opens.Looking c = c
-of_opening first events e handle running (opens.Done reply) c = c
-
-opening_comes : (first : Volume) (events : List Event) (e : Event) (handle : ℕ) (running : Running) → running.begun ≤ length events → (state : OpenState) (ask : DiskAsk) → Looks first events handle running OpenStore (Opening state)
-    → openings.ask_of running.store.parts.objects state ≡ Some ask → IsTurnWith first events e handle ask
-    → MachineComes first events e handle running opening (result_of_opening (openings.fed running.store.slots state (answer_now (disk_after first events) ask)))
-opening_comes first events e handle running since state ask knows is turn =
-    of_opening first events e handle running (openings.fed running.store.slots state (answer_now (disk_after first events) ask))
-    (look_comes first events e handle running since ask turn knows.place knows.turns (Opening state) tt knows
-    (change_by-quiet (disk_after first events) ask (look_changes first events handle running OpenStore (Opening state) knows tt ask is)) knows.seen is)
-
-pub opening_laws : KeepsLaws opening
-opening_laws = record {
-  back = λ first events handle running state knows. knows;
-  asks = λ store state. refl;
-  feeds = λ store state answer. opening_placed (openings.fed store.slots state answer);
-  rests = opening_rests;
-  starts = λ first events e handle store ignoring call state sized is. opening_starts store ignoring call state is _;
-  still = opening_still;
-  kept = λ first events e handle running state other knows. looks_push first events e handle other running OpenStore (Opening state) knows;
-  names = λ first events handle running state knows. look_names first events handle running OpenStore (Opening state) knows;
-  takes = opening_takes;
-  comes = opening_comes;
-}
-
--- ---- a query
-
-abbrev task_of : LookState → Task
-task_of state = MakeCall (call_of state.head.query)
+-- ---- its code
 
 looking_placed : (result : Result Reply LookState) → calling_result (looking_result result) ≡ placed looking result
 looking_placed (Ok reply) = refl
 looking_placed (Err state) = refl
 
-rests_at : (head : Head) (stage : Stage) (left : LookState) → result_at head stage ≡ Err left → left ≡ record { head = head; stage = stage }
-rests_at head (stages.Loose next noted folder) left is = cc is
-rests_at head (stages.Done reply) left is = absurd (cc is)
+looking_feeds : (store : Store) (ignoring : Bool) (code : HandleState) → IsHandleOf store ignoring code → (state : LookState) (answer : DiskAnswer)
+    → calling_result (looking_result (looks.result_of (looks.fed code.store.value.folders code.store.value.alloc_limit_bytes state answer)))
+    ≡ placed looking (looks.result_of (looks.fed store.parts.folders store.parts.limit state answer))
+looking_feeds store ignoring code own state answer =
+    ap (λ folders. calling_result (looking_result (looks.result_of (looks.fed folders code.store.value.alloc_limit_bytes state answer)))) own.folders
+    ∙ (ap (λ limit. calling_result (looking_result (looks.result_of (looks.fed store.parts.folders limit state answer)))) own.limit
+    ∙ looking_placed (looks.result_of (looks.fed store.parts.folders store.parts.limit state answer)))
 
-rests_by : (head : Head) (stage : Stage) (result : Result Reply LookState) (left : Work) → result_at head stage ≡ result → calling_result (looking_result result) ≡ Err left
-    → left ≡ Calling (Looking (record { head = head; stage = stage }))
-rests_by head stage (Ok reply) left told is = absurd (cc is)
-rests_by head stage (Err state) left told is = let same : Calling (Looking state) ≡ left = cc is in sym same ∙ ap (λ s. Calling (Looking s)) (rests_at head stage state told)
+-- ---- its bound
+
+-- so many folders are fewer than the turns of some laps
+few_turns : (laps slots folders entries : ℕ) → 1 ≤ laps → folders ≤ laps * turns_of_lap slots folders entries
+few_turns laps slots folders entries some =
+    let same : folders ≤ folders = omega arith in
+    let each : 1 ≤ turns_each * entries + turns_of_folder = omega arith in
+    let a : folders * 1 ≤ folders * (turns_each * entries + turns_of_folder) = mul-le-mul same each in
+    let lap : turns_of_lap slots folders entries ≤ turns_of_lap slots folders entries = omega arith in
+    let b : 1 * turns_of_lap slots folders entries ≤ laps * turns_of_lap slots folders entries = mul-le-mul some lap in
+    omega (arith, a, b)
+
+few_queries : (store : Store) (turns : ℕ) → turns + 1 < length (folder_list store.parts) → (entries : ℕ) → turns + 1 < bound_of_call store entries None
+few_queries store turns few entries =
+    let many = few_turns (default_changes + laps_without_change) store.slots (length (folder_list store.parts)) entries (omega arith) in omega (arith, few, many)
+
+-- a query has no bytes to write
+no_bytes : (query : Query) → None ≡ bytes_to_write (call_of query)
+no_bytes (Find id) = refl
+no_bytes (Header id) = refl
+no_bytes (Test id) = refl
+
+looking_bounded : (store : Store) (task : Task) (query : Query) → task ≡ MakeCall (call_of query) → (entries : ℕ)
+    → bound_of_call store entries None ≡ bound_of_task store task entries
+looking_bounded store task query is entries =
+    subst (λ t. bound_of_call store entries None ≡ bound_of_task store t entries) (sym is) (ap (bound_of_call store entries) (no_bytes query))
+
+-- ---- its call of the disk
 
 looking_still : (store : Store) (stage : Stage) (ask : DiskAsk) → ask_at stage ≡ Some ask → is_of_streams ask ≡ false
-looking_still store (stages.Loose next noted folder) ask is = call_asks_still folder ask is
+looking_still store (stages.Loose round call) ask is = call_asks_still call ask is
 looking_still store (stages.Done reply) ask is = absurd (cc is)
 
-looking_takes : (first : Volume) (events : List Event) (handle : ℕ) (running : Running) (state : LookState) (ask : DiskAsk) → Looks first events handle running (task_of state) (Calling (Looking state))
-    → ask_at state.stage ≡ Some ask → HasTurn first events handle running running.task ask
-looking_takes first events handle running state ask knows is =
-    subst (λ task. HasTurn first events handle running task ask) (sym knows.task_is)
-    (quiet_turn first events handle running (task_of state) ask
-    (in_order_query first events handle running.store running.ignoring running.begun running.turns state ask knows.place knows.turns knows.seen.0 knows.seen.1 is)
-    (look_changes first events handle running (task_of state) (Calling (Looking state)) knows tt ask is))
+module _ (first : Volume) (events : List Event) (handle : ℕ) (running : Running) (state : LookState) (knows : IsLooking first events handle running state) where
+  -- the call of the folder that it asks
+  looking_names : (ask : DiskAsk) × (ask_at state.stage ≡ Some ask)
+  looking_names =
+      let found = ask_found running.store.parts.limit state.head.query state.head.id knows.seeks.folder in
+      (found.0, ap ask_at knows.seeks.stage_is ∙ found.1)
 
-of_looking : (first : Volume) (events : List Event) (e : Event) (handle : ℕ) (running : Running) (result : Result Reply LookState) → ComesTo first events e handle running (calling_result (looking_result result))
-    → MachineComes first events e handle running looking result
-of_looking first events e handle running (Ok reply) c = c
-of_looking first events e handle running (Err state) c = c
+  module _ (ask : DiskAsk) (is : ask_at state.stage ≡ Some ask) where
+    looking_quiet : change_by (disk_after first events) ask ≡ None
+    looking_quiet =
+        let found = ask_found running.store.parts.limit state.head.query state.head.id knows.seeks.folder in
+        let same_ask : found.0 ≡ ask = cc (found.1, ap ask_at knows.seeks.stage_is, is) in
+        change_by-quiet (disk_after first events) ask
+        (subst (λ a. change_of_ask (tree_of (disk_after first events).state) a ≡ None) same_ask (found.2 (tree_of (disk_after first events).state)))
 
-looking_comes : (first : Volume) (events : List Event) (e : Event) (handle : ℕ) (running : Running) → running.begun ≤ length events → (state : LookState) (ask : DiskAsk) → Looks first events handle running (task_of state) (Calling (Looking state))
-    → ask_at state.stage ≡ Some ask → IsTurnWith first events e handle ask
-    → MachineComes first events e handle running looking (looks.result_of (looks.fed running.store.parts.folders running.store.parts.limit state (answer_now (disk_after first events) ask)))
-looking_comes first events e handle running since state ask knows is turn =
-    of_looking first events e handle running (looks.result_of (looks.fed running.store.parts.folders running.store.parts.limit state (answer_now (disk_after first events) ask)))
-    (look_comes first events e handle running since ask turn knows.place knows.turns (Calling (Looking state)) tt knows
-    (change_by-quiet (disk_after first events) ask (look_changes first events handle running (task_of state) (Calling (Looking state)) knows tt ask is)) knows.seen is)
+    looking_takes : HasTurn first events handle running running.task ask
+    looking_takes =
+        subst (λ task. HasTurn first events handle running task ask) (sym knows.task)
+        (quiet_turn first events handle running (MakeCall (call_of state.head.query)) ask
+        (in_order_query first events handle running.store running.ignoring running.begun running.turns state ask knows.place knows.turns knows.seeks_id knows.seeks is) looking_quiet)
+
+    -- ---- what its turn comes to
+
+    module _ (e : Event) (since : running.begun ≤ length events) (turn : IsTurnWith first events e handle ask) where
+      abbrev whole : List Event
+      whole = events ++ e ∷ []
+
+      count : length events + 1 ≡ length whole
+      count = whole_length first events e handle running since ask turn
+
+      abbrev Comes : Result Reply LookState → Type 0
+      Comes result =
+          LookComes (tree_at first events) (tree_at first whole) (FailedSince events handle running.begun) (FailedSince whole handle running.begun) running.store running.ignoring running.begun (length events) since
+          (tree_at-before first events e) (failed-kept events e handle running.begun) (disk_after first events) (shown_now first events e handle running since ask turn looking_quiet)
+          (fails_now first events e handle running since ask turn) (failed_earlier first events e handle running since ask turn) knows.place state.head result
+
+      by_query : (query : Query) (reply : Reply)
+          → QueryPromise (tree_at first whole) (FailedSince whole handle running.begun) running.store running.ignoring running.begun (length whole) query reply
+          → Promise first whole handle running.store running.ignoring running.begun (MakeCall (call_of query)) reply
+      by_query (Find id) reply p = p
+      by_query (Header id) reply p = p
+      by_query (Test id) reply p = p
+
+      from_look : (result : Result Reply LookState) → Comes result → MachineComes first events e handle running looking result
+      from_look (Ok reply) c =
+          subst (λ task. Promise first whole handle running.store running.ignoring running.begun task reply) (sym knows.task)
+          (by_query state.head.query reply
+          (subst (λ n. QueryPromise (tree_at first whole) (FailedSince whole handle running.begun) running.store running.ignoring running.begun n state.head.query reply) count c))
+      from_look (Err after) c = (
+        record {
+          task = knows.task ∙ ap (λ (h : Head). MakeCall (call_of h.query)) (sym c.0);
+          place = knows.place + 1;
+          turns = ap (λ n. n + 1) knows.turns;
+          seeks_id = c.1;
+          seeks = subst (λ n. Seeks (tree_at first whole) (FailedSince whole handle running.begun) running.store running.begun n (knows.place + 1) after.head.query after.head.id after.stage) count c.2;
+        },
+        few_queries running.store running.turns (subst (λ n. n + 1 < length (folder_list running.store.parts)) (sym knows.turns) c.3),
+      )
+
+      looking_comes : MachineComes first events e handle running looking (looks.result_of (looks.fed running.store.parts.folders running.store.parts.limit state (answer_now (disk_after first events) ask)))
+      looking_comes =
+          from_look (looks.result_of (looks.fed running.store.parts.folders running.store.parts.limit state (answer_now (disk_after first events) ask)))
+          (look_comes (tree_at first events) (tree_at first whole) (FailedSince events handle running.begun) (FailedSince whole handle running.begun) running.store running.ignoring running.begun (length events) since
+          (tree_at-before first events e) (failed-kept events e handle running.begun) (disk_after first events) (shown_now first events e handle running since ask turn looking_quiet)
+          (fails_now first events e handle running since ask turn) (failed_earlier first events e handle running since ask turn) knows.place state ask knows.seeks_id knows.seeks is)
+
+-- ---- its laws
 
 pub looking_laws : KeepsLaws looking
 looking_laws = record {
-  back = λ first events handle running state knows. knows;
-  asks = λ store state. refl;
-  feeds = λ store state answer. looking_placed (looks.result_of (looks.fed store.parts.folders store.parts.limit state answer));
-  rests = λ state left is. rests_by state.head state.stage (result_at state.head state.stage) left refl is;
-  starts = λ first events e handle store ignoring call state sized is. looking_starts first events e handle store ignoring call state sized is;
+  at_home = λ state. refl;
+  asks = λ store ignoring code own state. refl;
+  feeds = looking_feeds;
+  starts = looking_starts;
+  tasked = λ first events handle running state knows. knows.task;
+  bounded = λ store task state is entries. looking_bounded store task state.head.query is entries;
   still = λ store state ask is. looking_still store state.stage ask is;
-  kept = λ first events e handle running state other knows. looks_push first events e handle other running (task_of state) (Calling (Looking state)) knows;
-  names = λ first events handle running state knows. look_names first events handle running (task_of state) (Calling (Looking state)) knows;
-  takes = looking_takes;
-  comes = looking_comes;
+  kept = λ first events e handle running state other knows. looking_push first events e handle running state other knows;
+  names = looking_names;
+  takes = λ first events handle running state ask knows is. looking_takes first events handle running state knows ask is;
+  comes = λ first events e handle running since state ask knows is turn. looking_comes first events handle running state knows ask is e since turn;
+  writes = writes_nothing looking (λ state. refl) (λ first events handle running state ask knows is. looking_quiet first events handle running state knows ask is);
 }

@@ -1,30 +1,41 @@
 -- What a machine has to show, so that a handle may be at it.
-use Rattle.std.proofs.Common.{◌≡◌, ℕ, ◌+◌, ◌<◌, ◌≤◌, Bool, false, List, [], ◌∷◌, ◌++◌, length, Some, Result, Ok, Err}
+use Rattle.std.proofs.Common.{◌≡◌, ℕ, ◌+◌, ◌<◌, ◌≤◌, Bool, false, List, [], ◌∷◌, ◌++◌, length, Some, None, Result, Ok, Err, refl, sym, ◌∙◌, subst}
 use Rattle.odb_disk.specs.MemDisk.{Volume}
 use Rattle.odb_disk.specs.Ask.{answer_now}
 use Rattle.odb_disk.specs.StreamAsks.{is_of_streams}
 use Rattle.odb_disk.specs.declared.ask.DiskAsk.{DiskAsk}
 use Rattle.odb_disk.specs.declared.ask.DiskAnswer.{DiskAnswer}
 use Rattle.gix_odb.specs.CallOrder.{HasSize}
-use Rattle.gix_odb.specs.declared.call.Call.{Call}
 use Rattle.gix_odb.specs.declared.call.Reply.{Reply}
+use Rattle.gix_odb.specs.declared.handle_state.HandleState.{HandleState}
+use Rattle.gix_odb_loose.specs.LooseOrder.{disk_ask_of}
+use Rattle.gix_odb_loose.specs.LooseOrder as loose_order
+use Rattle.gix_odb_loose.specs.declared.call.LooseCall.{LooseCall}
 use Rattle.gix_odb_world.specs.declared.work.Work.{Work}
 use Rattle.gix_odb_world.specs.Asks.{AsksInOrder}
 use Rattle.gix_odb_world.specs.Bound.{bound_of_task}
 use Rattle.gix_odb_world.specs.Changes.{ChangesInTask}
 use Rattle.gix_odb_world.specs.Event.{Event}
-use Rattle.gix_odb_world.specs.Machine.{Machine, placed}
+use Rattle.gix_odb_world.specs.Handle.{IsHandleOf}
+use Rattle.gix_odb_world.specs.Machine.{At, Machine, placed}
+use Rattle.gix_odb_world.specs.Machines.{at}
 use Rattle.gix_odb_world.specs.Promise.{Promise}
 use Rattle.gix_odb_world.specs.Run.{IsTurnOf, change_by, disk_after}
 use Rattle.gix_odb_world.specs.Running.{Knows}
-use Rattle.gix_odb_world.specs.Status.{Running, Store, Task, call_started, fed_in, gone_on, running_from}
-use Rattle.gix_odb_world.specs.WorkOrder.{ask_in, result_in}
+use Rattle.gix_odb_world.specs.Running.Write.{IsWriting, result_of_write}
+use Rattle.gix_odb_world.specs.Status.{MakeCall, OpenStore, Running, Store, Task, begun_with, gone_on, running_from}
+use Rattle.gix_odb_world.specs.WorkOrder.{ask_on, fed_on, result_in}
 use Rattle.gix_odb_world.proofs.WriteTurn.Common.{IsTurnWith}
 
 -- the turn of a task's call of the disk, and the change that this makes
 pub record HasTurn (first : Volume) (events : List Event) (handle : ℕ) (running : Running) (task : Task) (ask : DiskAsk) : Type 0 where
   pub in_order : AsksInOrder first events handle running.store running.ignoring running.begun running.turns task ask
   pub five : ChangesInTask first events handle running.store running.begun task ask (change_by (disk_after first events) ask)
+
+-- the size of what a task is to write has 64 bits
+abbrev pub IsSized : Task → Type 0
+IsSized OpenStore = Unit {0}
+IsSized (MakeCall call) = HasSize call
 
 -- ---- what a turn comes to
 
@@ -36,33 +47,62 @@ module _ (first : Volume) (events : List Event) (e : Event) (handle : ℕ) (runn
   abbrev pub Keeps : Reply → Type 0
   Keeps reply = Promise first whole handle running.store running.ignoring running.begun running.task reply
 
-  -- its bound isn't reached
-  abbrev pub InTime : Type 0
-  InTime = (entries : ℕ) → running.turns + 1 < bound_of_task running.store running.task entries
+  -- a bound isn't reached
+  abbrev pub InTime : (bound : Store → Task → (entries : ℕ) → ℕ) → Type 0
+  InTime bound = (entries : ℕ) → running.turns + 1 < bound running.store running.task entries
 
   -- a turn's reply keeps its promise, or the machine goes on, knows as much and is within its bound
   abbrev pub MachineComes : (m : Machine) → Result Reply m.State → Type 0
   MachineComes m (Ok reply) = Keeps reply
-  MachineComes m (Err state) = m.Knows first whole handle (gone_on running (m.work state)) state × InTime
+  MachineComes m (Err state) = m.Knows first whole handle (gone_on running (m.work state)) state × InTime m.bound
 
-  -- the same of any work
+  -- the same of any work, within the bound of its task
   abbrev pub ComesTo : Result Reply Work → Type 0
   ComesTo (Ok reply) = Keeps reply
-  ComesTo (Err left) = Knows first whole handle (gone_on running left) left × InTime
+  ComesTo (Err left) = Knows first whole handle (gone_on running left) left × InTime bound_of_task
 
 -- ---- the laws
 
+-- a machine is at a state by the work that it has there
+abbrev pub home : (m : Machine) (state : m.State) → At (m.work state)
+home m state = record { machine = m; state = state; is = refl }
+
+-- What a machine has to show of the writes that it may be at.
+pub record KeepsWriteLaws (m : Machine) : Type 1 where
+  -- where it writes nothing, its call of the disk changes nothing
+  pub quiet : (first : Volume) (events : List Event) (handle : ℕ) (running : Running) (state : m.State) (ask : DiskAsk)
+      → m.Knows first events handle running state
+      → m.writes state ≡ None → m.ask running.store state ≡ Some ask → change_by (disk_after first events) ask ≡ None
+  -- where it writes, it knows what a write does, asks what the write asks, and ends where the write ends
+  pub known : (first : Volume) (events : List Event) (handle : ℕ) (running : Running) (state : m.State) (folder : LooseCall)
+      → m.Knows first events handle running state
+      → m.writes state ≡ Some folder → IsWriting first events handle running folder
+  pub asks : (store : Store) (state : m.State) (folder : LooseCall) → m.writes state ≡ Some folder → m.ask store state ≡ disk_ask_of folder
+  pub ends : (store : Store) (state : m.State) (folder : LooseCall) (answer : DiskAnswer) (reply : Reply) → m.writes state ≡ Some folder
+      → result_of_write (loose_order.fed folder answer) ≡ Ok reply → m.feed store state answer ≡ Ok reply
+  -- a state that writes comes after one that does
+  pub before : (store : Store) (state next : m.State) (answer : DiskAnswer) (folder : LooseCall) → m.feed store state answer ≡ Err next
+      → m.writes next ≡ Some folder
+      → (own : LooseCall) × (m.writes state ≡ Some own)
+
 pub record KeepsLaws (m : Machine) : Type 1 where
-  -- a state is at its place among all work: there its work knows what it knows
-  pub back : (first : Volume) (events : List Event) (handle : ℕ) (running : Running) (state : m.State) → m.Knows first events handle running state → Knows first events handle running (m.work state)
-  -- the work asks and goes on as the machine does
-  pub asks : (store : Store) (state : m.State) → ask_in store.parts.objects (m.work state) ≡ m.ask store state
-  pub feeds : (store : Store) (state : m.State) (answer : DiskAnswer) → result_in (fed_in store (m.work state) answer) ≡ placed m (m.feed store state answer)
-  -- a state that goes on is left as it is
-  pub rests : (state : m.State) (left : Work) → result_in (m.work state) ≡ Err left → left ≡ m.work state
-  -- where a call begins at a state, that is all that it knows
-  pub starts : (first : Volume) (events : List Event) (e : Event) (handle : ℕ) (store : Store) (ignoring : Bool) (call : Call) (state : m.State) → HasSize call → call_started store ignoring call ≡ m.work state
-      → m.Knows first (events ++ e ∷ []) handle (running_from (length events + 1) call store ignoring) state
+  -- the work of a state is of this machine, at this state
+  pub at_home : (state : m.State) → at (m.work state) ≡ home m state
+  -- the code of the work asks and goes on as the machine does
+  pub asks : (store : Store) (ignoring : Bool) (code : HandleState) → IsHandleOf store ignoring code → (state : m.State)
+      → ask_on code (m.work state) ≡ m.ask store state
+  pub feeds : (store : Store) (ignoring : Bool) (code : HandleState) → IsHandleOf store ignoring code → (state : m.State) (answer : DiskAnswer)
+      → result_in (fed_on code (m.work state) answer) ≡ placed m (m.feed store state answer)
+  -- where a task begins at a state, that is all that it knows
+  pub starts : (first : Volume) (events : List Event) (e : Event) (handle : ℕ) (store : Store) (ignoring : Bool) (task : Task) (state : m.State)
+      → IsSized task
+      → begun_with store ignoring task ≡ m.work state
+      → m.Knows first (events ++ e ∷ []) handle (running_from (length events + 1) task store ignoring) state
+  -- the task of a state is one that it may be at, and has the machine's bound
+  pub tasked : (first : Volume) (events : List Event) (handle : ℕ) (running : Running) (state : m.State) → m.Knows first events handle running state
+      → m.IsFor running.task state
+  pub bounded : (store : Store) (task : Task) (state : m.State) → m.IsFor task state → (entries : ℕ)
+      → m.bound store task entries ≡ bound_of_task store task entries
   -- it names no call of streams
   pub still : (store : Store) (state : m.State) (ask : DiskAsk) → m.ask store state ≡ Some ask → is_of_streams ask ≡ false
   -- an event that isn't its turn leaves what it knows
@@ -72,8 +112,38 @@ pub record KeepsLaws (m : Machine) : Type 1 where
   pub names : (first : Volume) (events : List Event) (handle : ℕ) (running : Running) (state : m.State) → m.Knows first events handle running state
       → (ask : DiskAsk) × (m.ask running.store state ≡ Some ask)
   -- which comes in the order of its task, and makes a change that the task may make
-  pub takes : (first : Volume) (events : List Event) (handle : ℕ) (running : Running) (state : m.State) (ask : DiskAsk) → m.Knows first events handle running state → m.ask running.store state ≡ Some ask
-      → HasTurn first events handle running running.task ask
+  pub takes : (first : Volume) (events : List Event) (handle : ℕ) (running : Running) (state : m.State) (ask : DiskAsk)
+      → m.Knows first events handle running state
+      → m.ask running.store state ≡ Some ask → HasTurn first events handle running running.task ask
   -- the turn leads to a reply that keeps the promise of the task, or on
-  pub comes : (first : Volume) (events : List Event) (e : Event) (handle : ℕ) (running : Running) → running.begun ≤ length events → (state : m.State) (ask : DiskAsk) → m.Knows first events handle running state
-      → m.ask running.store state ≡ Some ask → IsTurnWith first events e handle ask → MachineComes first events e handle running m (m.feed running.store state (answer_now (disk_after first events) ask))
+  pub comes : (first : Volume) (events : List Event) (e : Event) (handle : ℕ) (running : Running) → running.begun ≤ length events
+      → (state : m.State) (ask : DiskAsk)
+      → m.Knows first events handle running state → m.ask running.store state ≡ Some ask → IsTurnWith first events e handle ask
+      → MachineComes first events e handle running m (m.feed running.store state (answer_now (disk_after first events) ask))
+  pub writes : KeepsWriteLaws m
+
+-- ---- machines that make no change
+
+-- one that never writes has only to show that its calls of the disk change nothing
+pub writes_nothing : (m : Machine) → ((state : m.State) → m.writes state ≡ None)
+    → ((first : Volume) (events : List Event) (handle : ℕ) (running : Running) (state : m.State) (ask : DiskAsk) → m.Knows first events handle running state
+    → m.ask running.store state ≡ Some ask → change_by (disk_after first events) ask ≡ None)
+    → KeepsWriteLaws m
+writes_nothing m none quiet = record {
+  quiet = λ first events handle running state ask knows no asks. quiet first events handle running state ask knows asks;
+  known = λ first events handle running state folder knows is. absurd (none_written state folder is);
+  asks = λ store state folder is. absurd (none_written state folder is);
+  ends = λ store state folder answer reply is done. absurd (none_written state folder is);
+  before = λ store state next answer folder goes is. absurd (none_written next folder is);
+}
+  where
+    none_written : (state : m.State) (folder : LooseCall) → m.writes state ≡ Some folder → ⊥
+    none_written state folder is = let both : None ≡ Some folder = sym (none state) ∙ is in cc both
+
+-- a call of the disk that makes no change may come in any task
+pub quiet_turn : (first : Volume) (events : List Event) (handle : ℕ) (running : Running) (task : Task) (ask : DiskAsk)
+    → AsksInOrder first events handle running.store running.ignoring running.begun running.turns task ask
+    → change_by (disk_after first events) ask ≡ None
+    → HasTurn first events handle running task ask
+quiet_turn first events handle running task ask in_order quiet =
+    record { in_order = in_order; five = subst (ChangesInTask first events handle running.store running.begun task ask) (sym quiet) tt }

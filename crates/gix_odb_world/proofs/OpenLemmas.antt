@@ -22,7 +22,7 @@ use Rattle.gix_odb_world.specs.declared.work.Work.TheVariants.{Opening}
 use Rattle.gix_odb_world.specs.declared.world.World.{World}
 use Rattle.gix_hash.specs.ObjectId.{id_cmp}
 use Rattle.gix_odb_world.specs.Event.{Event}
-use Rattle.gix_odb_world.specs.Status.{Store, Status, Free, Resting, Working, store_at, opening_at, ignoring_from}
+use Rattle.gix_odb_world.specs.Status.{OpenStore, Store, Status, Free, Resting, Working, store_at, opening_at, ignoring_from}
 use Rattle.gix_odb_world.specs.Handle.{IsHandleOf, IsOpened}
 use Rattle.gix_odb_world.specs.Run.{IsTurnOf}
 use Rattle.gix_odb_world.specs.Running.{Runs}
@@ -30,20 +30,17 @@ use Rattle.gix_odb_world.specs.Valid.{Phase, NoneThere, Idle, Running, why_not_o
 use Rattle.gix_odb_world.specs.World.{Continues, Matches, handle_at}
 use Rattle.gix_odb_world.specs.Table.{SetsHandle, Notes, phase_of_handle, phase_of_work, why_not_now, with_ignoring}
 use Rattle.gix_odb_world.proofs.OpeningLemmas.{IsDistinct-by_count, ids_equal}
-use Rattle.gix_odb_world.proofs.RunLemmas.{none_failed_yet}
 use Rattle.gix_odb_world.proofs.StepLemmas.{applied}
-use Rattle.gix_odb_world.proofs.RunsLemmas.{runs-push}
+use Rattle.gix_odb_world.proofs.RunsLemmas.{begins, runs-push}
 
--- an opening that the event begins has seen nothing
-runs_opening : (first : Volume) (events : List Event) (e : Event) (handle : ℕ) (store : Store) → Runs first (events ++ e ∷ []) handle (opening_at (length events + 1) store)
+runs_opening : (first : Volume) (events : List Event) (e : Event) (handle : ℕ) (store : Store)
+    → Runs first (events ++ e ∷ []) handle (opening_at (length events + 1) store)
 runs_opening first events e handle store =
-    let whole : length (events ++ e ∷ []) ≡ length events + 1 = length-append events (e ∷ []) in (
-      omega (arith, whole),
-      record { task_is = refl; place = 0; turns = refl; seen = (refl, refl, none_failed_yet (events ++ e ∷ []) handle (length events + 1) (omega (arith, whole))) },
-    )
+    let whole : length (events ++ e ∷ []) ≡ length events + 1 = length-append events (e ∷ []) in (omega (arith, whole), begins first events e handle store false OpenStore tt)
 
 -- each pair's first id is replaced by its second, where no id is replaced twice
-replacements_same : (path : Path) (folders : List Path) (replacements : List (ObjectId × ObjectId)) (options : Options) (n : ℕ) (state : HandleState) → is_openable path folders replacements ≡ true
+replacements_same : (path : Path) (folders : List Path) (replacements : List (ObjectId × ObjectId)) (options : Options) (n : ℕ) (state : HandleState)
+    → is_openable path folders replacements ≡ true
     → IsOpened path folders replacements options state → IsHandleOf (store_at n path folders replacements options) false state
 replacements_same path folders replacements options n state good begun =
     let distinct = and_parts (are_good_folders path folders) (are_distinct id_cmp (keys_of replacements)) good in
@@ -57,7 +54,8 @@ replacements_same path folders replacements options n state good begun =
     }
 
 pub opened : (old mid new : World) (number : ℕ) (path : Path) (folders : List Path) (replacements : List (ObjectId × ObjectId)) (options : Options) (state : HandleState)
-    → why_not_open (phase_of_handle (handle_at old number)) true ≡ None → is_openable path folders replacements ≡ true → IsOpened path folders replacements options state
+    → why_not_open (phase_of_handle (handle_at old number)) true ≡ None → is_openable path folders replacements ≡ true
+    → IsOpened path folders replacements options state
     → SetsHandle old mid number (Some (record { state = state; work = Some (Opening Looking) })) → Notes mid new outcomes.Applied Nothing None
     → Continues old (steps.Open number path folders replacements options) new
 opened old mid new number path folders replacements options state free good begun sets notes =
@@ -105,7 +103,8 @@ runs_ignoring number first events e (Resting store ignoring) no_turn runs = tt
 runs_ignoring number first events e (Working running) no_turn runs = runs-push first events e number (Working running) (no_turn number) runs
 
 pub ignored : (old mid new : World) (number : ℕ) → why_not_now old (steps.Ignore number) ≡ None
-    → SetsHandle old mid number (with_ignoring (handle_at old number)) → Notes mid new outcomes.Applied Nothing None → Continues old (steps.Ignore number) new
+    → SetsHandle old mid number (with_ignoring (handle_at old number)) → Notes mid new outcomes.Applied Nothing None
+    → Continues old (steps.Ignore number) new
 ignored old mid new number reason sets notes =
     applied old mid new (steps.Ignore number) number (with_ignoring (handle_at old number)) (λ n status. ignoring_from status)
     reason sets notes (λ turn. turn, refl) refl (λ other turn. cc) (λ n table. refl)

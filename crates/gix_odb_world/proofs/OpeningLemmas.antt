@@ -20,7 +20,7 @@ use Rattle.odb_base.specs.PathLaws.{path_order}
 use Rattle.gix_hash.proofs.IdOrderLaws.{id_order}
 use Rattle.gix_hash.specs.declared.object_id.ObjectId.{ObjectId}
 use Rattle.gix_hash.specs.ObjectId.{id_cmp}
-use Rattle.gix_odb_world.specs.Valid.{are_distinct, are_good_folders}
+use Rattle.gix_odb_world.specs.Valid.{are_distinct, are_good_folders, most_folders}
 
 pub ids_ordered : IsTotalOrder id_cmp
 ids_ordered = id_order
@@ -28,7 +28,8 @@ ids_ordered = id_order
 pub ids_equal : IsEquivalence (eq_by_cmp id_cmp)
 ids_equal = eq_by_cmp_equiv ids_ordered
 
-first_fails : {A : Type 0} (p : A → Bool) (x : A) (xs : List A) (b : Bool) → p x ≡ b → (list_any p xs ≡ false → AllByRecursion (λ y. p y ≡ false) xs) → list_any p (x ∷ xs) ≡ false → AllByRecursion (λ y. p y ≡ false) (x ∷ xs)
+first_fails : {A : Type 0} (p : A → Bool) (x : A) (xs : List A) (b : Bool) → p x ≡ b → (list_any p xs ≡ false → AllByRecursion (λ y. p y ≡ false) xs)
+    → list_any p (x ∷ xs) ≡ false → AllByRecursion (λ y. p y ≡ false) (x ∷ xs)
 first_fails p x xs true is others none = absurd (cc (subst (λ c. (c || list_any p xs) ≡ false) is none))
 first_fails p x xs false is others none = (is, others (subst (λ c. (c || list_any p xs) ≡ false) is none))
 
@@ -75,11 +76,13 @@ pub distinct_by_map : (pairs : List (ObjectId × ObjectId)) (map : BTreeMap Obje
     → are_distinct id_cmp (keys_of pairs) ≡ (tree.btree_map_len map == length pairs)
 distinct_by_map pairs map made = rw (btree_map_len-from_list ids_ordered pairs map made, length-map pairs (λ (p : ObjectId × ObjectId). p.0)) refl
 
-pub distinct_if : (pairs : List (ObjectId × ObjectId)) (map : BTreeMap ObjectId ObjectId) → tree.IsFromIterResult id_cmp pairs map → tree.btree_map_len map ≡ length pairs
+pub distinct_if : (pairs : List (ObjectId × ObjectId)) (map : BTreeMap ObjectId ObjectId) → tree.IsFromIterResult id_cmp pairs map
+    → tree.btree_map_len map ≡ length pairs
     → are_distinct id_cmp (keys_of pairs) ≡ true
 distinct_if pairs map made same = distinct_by_map pairs map made ∙ (ap (λ n. n == length pairs) same ∙ eqb-same (length pairs))
 
-pub distinct_unless : (pairs : List (ObjectId × ObjectId)) (map : BTreeMap ObjectId ObjectId) → tree.IsFromIterResult id_cmp pairs map → tree.btree_map_len map ≢ length pairs
+pub distinct_unless : (pairs : List (ObjectId × ObjectId)) (map : BTreeMap ObjectId ObjectId) → tree.IsFromIterResult id_cmp pairs map
+    → tree.btree_map_len map ≢ length pairs
     → are_distinct id_cmp (keys_of pairs) ≡ false
 distinct_unless pairs map made differs = distinct_by_map pairs map made ∙ eqb-apart (tree.btree_map_len map) (length pairs) differs
 
@@ -104,7 +107,8 @@ has_one set new path empty updates q = updates.0 q ∙ ap (λ b. cond (eq_by_cmp
     by_equal true false e = absurd (cc e)
     by_equal false true e = absurd (cc e)
 
-pub has_more : (first : Path) (paths : List Path) (set new : BTreeSet Path) (path : Path) (index : ℕ) → index < length paths → path ≡ get_or paths index path → Has (first ∷ take index paths) set
+pub has_more : (first : Path) (paths : List Path) (set new : BTreeSet Path) (path : Path) (index : ℕ) → index < length paths
+    → path ≡ get_or paths index path → Has (first ∷ take index paths) set
     → sorted.Updates path_cmp set new path true → Has (first ∷ take (index + 1) paths) new
 has_more first paths set new path index within is has updates q =
     updates.0 q ∙ (ap (λ b. cond (eq_by_cmp path_cmp path q) true b) (has q)
@@ -123,16 +127,17 @@ take_past (x ∷ xs) zero past = absurd (omega (arith, past))
 take_past (x ∷ xs) (suc n) past = ap (λ ys. x ∷ ys) (take_past xs n (omega (arith, past)))
 
 -- the folders are good where they are few and the set has them all and the objects directory
-pub good_by_set : (first : Path) (paths : List Path) (set : BTreeSet Path) → length paths ≤ 255 → Has (first ∷ paths) set → sorted.IsOrdered path_cmp set
+pub good_by_set : (first : Path) (paths : List Path) (set : BTreeSet Path) → length paths ≤ most_folders → Has (first ∷ paths) set
+    → sorted.IsOrdered path_cmp set
     → are_good_folders first paths ≡ (sorted.btree_set_len set == length paths + 1)
 good_by_set first paths set few has ordered =
-    let short : nat_le (length paths) 255 ≡ true = grind (arith, few) in
+    let short : nat_le (length paths) most_folders ≡ true = grind (arith, few) in
     let count : sorted.btree_set_len set ≡ distinct_count (eq_by_cmp path_cmp) (first ∷ paths) = btree_set_len-from_list path_order (first ∷ paths) set (has, ordered) in
     let longer : length (first ∷ paths) ≡ length paths + 1 = omega arith in
     rw (short, count, ← longer) refl
 
-pub bad_by_length : (first : Path) (paths : List Path) → 255 < length paths → are_good_folders first paths ≡ false
-bad_by_length first paths many = let long : nat_le (length paths) 255 ≡ false = grind (arith, many) in rw long refl
+pub bad_by_length : (first : Path) (paths : List Path) → most_folders < length paths → are_good_folders first paths ≡ false
+bad_by_length first paths many = let long : nat_le (length paths) most_folders ≡ false = grind (arith, many) in rw long refl
 
 -- ---- what may not be there
 

@@ -32,10 +32,13 @@ module _ (first : Volume) (events : List Event) (start : IsTree (tree_of first.s
   tree = tree_at first events
 
   module _ (now : ℕ) (e : Event) (there : slice_get events now ≡ Some e) where
-    pub lost_next : Files first events start lawful throughout now → IsUndisturbed first events (now + 1) → (handle made : ℕ) (path : Path) → HasMade first events handle made path now → Lost first events start lawful throughout path now → Lost first events start lawful throughout path (now + 1)
+    pub lost_next : Files first events start lawful throughout now → IsUndisturbed first events (now + 1) → (handle made : ℕ) (path : Path)
+        → HasMade first events handle made path now → Lost first events start lawful throughout path now
+        → Lost first events start lawful throughout path (now + 1)
     lost_next files calm handle made path hm l = by_kind (kind_at first events start lawful now e there)
       where
-        by_writer : (b : ByWriter first events start lawful throughout now e) (same : Bool) → (b.handle == handle) ≡ same → Lost first events start lawful throughout path (now + 1)
+        by_writer : (b : ByWriter first events start lawful throughout now e) (same : Bool) → (b.handle == handle) ≡ same
+            → Lost first events start lawful throughout path (now + 1)
         by_writer b true is = lost_same first events start lawful throughout now e there path (same_way first events start lawful throughout now e there path (lost_turn first events start lawful throughout now e there handle made path hm (subst (λ h. IsTurnOf h e.step) (eqb-true b.handle handle is) b.turn) l)) l
         by_writer b false is = lost_spared first events start lawful throughout now e there files handle made path hm b (eqb-false b.handle handle is) l
 
@@ -44,21 +47,26 @@ module _ (first : Volume) (events : List Event) (start : IsTree (tree_of first.s
         by_kind (Made m) = lost_same first events start lawful throughout now e there path (calm now e (omega arith) there m.outside handle made path hm) l
         by_kind (Turned t) = elim (quiet_or_writer first events start lawful throughout now e there t) [ inl none ↦ lost_same first events start lawful throughout now e there path (same_way first events start lawful throughout now e there path none) l | inr b ↦ by_writer b (b.handle == handle) refl ]
 
-    pub own_next : Files first events start lawful throughout now → IsUndisturbed first events (now + 1) → (handle made : ℕ) (path : Path) (hm : HasMade first events handle made path now) → HasMade first events handle made path (now + 1) → (o : Own first events start lawful throughout handle made path now)
+    pub own_next : Files first events start lawful throughout now → IsUndisturbed first events (now + 1)
+        → (handle made : ℕ) (path : Path) (hm : HasMade first events handle made path now) → HasMade first events handle made path (now + 1)
+        → (o : Own first events start lawful throughout handle made path now)
         → Own first events start lawful throughout handle made path (now + 1) ⊎ CutNow first events start lawful throughout now e there handle made path hm o.spot
     own_next files calm handle made path hm after o = by_kind (kind_at first events start lawful now e there)
       where
-        by_writer : (b : ByWriter first events start lawful throughout now e) (same : Bool) → (b.handle == handle) ≡ same → Own first events start lawful throughout handle made path (now + 1) ⊎ CutNow first events start lawful throughout now e there handle made path hm o.spot
+        by_writer : (b : ByWriter first events start lawful throughout now e) (same : Bool) → (b.handle == handle) ≡ same
+            → Own first events start lawful throughout handle made path (now + 1) ⊎ CutNow first events start lawful throughout now e there handle made path hm o.spot
         by_writer b true is = inl (own_turn first events start lawful throughout now e there handle made path hm (subst (λ h. IsTurnOf h e.step) (eqb-true b.handle handle is) b.turn) o after)
         by_writer b false is = elim (own_spared first events start lawful throughout now e there files handle made path hm b (eqb-false b.handle handle is) o) [ inl same ↦ inl (own_same first events start lawful throughout now e there handle made path same o) | inr c ↦ inr c ]
 
-        by_kind : Kind first (take now events) e → Own first events start lawful throughout handle made path (now + 1) ⊎ CutNow first events start lawful throughout now e there handle made path hm o.spot
+        by_kind : Kind first (take now events) e
+            → Own first events start lawful throughout handle made path (now + 1) ⊎ CutNow first events start lawful throughout now e there handle made path hm o.spot
         by_kind (Quiet q) = inl (own_same first events start lawful throughout now e there handle made path (same_way first events start lawful throughout now e there path q.none) o)
         by_kind (Made m) = inl (own_same first events start lawful throughout now e there handle made path (calm now e (omega arith) there m.outside handle made path hm) o)
         by_kind (Turned t) = elim (quiet_or_writer first events start lawful throughout now e there t) [ inl none ↦ inl (own_same first events start lawful throughout now e there handle made path (same_way first events start lawful throughout now e there path none) o) | inr b ↦ by_writer b (b.handle == handle) refl ]
 
     -- a file that the event makes
-    pub new_next : (handle made : ℕ) (path : Path) → HasMade first events handle made path (now + 1) → made ≡ now → Own first events start lawful throughout handle made path (now + 1)
+    pub new_next : (handle made : ℕ) (path : Path) → HasMade first events handle made path (now + 1) → made ≡ now
+        → Own first events start lawful throughout handle made path (now + 1)
     new_next handle made path hm is =
         let new = new_at first events start lawful handle made path hm.makes in
         record {
@@ -73,7 +81,9 @@ module _ (first : Volume) (events : List Event) (start : IsTree (tree_of first.s
     pub old_or_new : (handle made : ℕ) (path : Path) → HasMade first events handle made path (now + 1) → (made < now) ⊎ (made ≡ now)
     old_or_new handle made path hm = elim (cases_lt made now) [ inl soon ↦ inl soon | inr late ↦ let before = hm.before in inr (omega (arith, before, late)) ]
 
-    each_next : Files first events start lawful throughout now → IsUndisturbed first events (now + 1) → (handle made : ℕ) (path : Path) → HasMade first events handle made path (now + 1) → Own first events start lawful throughout handle made path (now + 1) ⊎ Lost first events start lawful throughout path (now + 1)
+    each_next : Files first events start lawful throughout now → IsUndisturbed first events (now + 1) → (handle made : ℕ) (path : Path)
+        → HasMade first events handle made path (now + 1)
+        → Own first events start lawful throughout handle made path (now + 1) ⊎ Lost first events start lawful throughout path (now + 1)
     each_next files calm handle made path hm = elim (old_or_new handle made path hm) [
       | inl soon ↦
           let was = made_before first events start lawful throughout now e there handle made path hm soon in
@@ -85,7 +95,9 @@ module _ (first : Volume) (events : List Event) (start : IsTree (tree_of first.s
     ]
 
     -- a file that stands at its spot after the event did so before it
-    pub own_before : Files first events start lawful throughout now → IsUndisturbed first events (now + 1) → (handle made : ℕ) (path : Path) → HasMade first events handle made path now → (a : Own first events start lawful throughout handle made path (now + 1)) → (o : Own first events start lawful throughout handle made path now) × (o.spot ≡ a.spot)
+    pub own_before : Files first events start lawful throughout now → IsUndisturbed first events (now + 1) → (handle made : ℕ) (path : Path)
+        → HasMade first events handle made path now → (a : Own first events start lawful throughout handle made path (now + 1))
+        → (o : Own first events start lawful throughout handle made path now) × (o.spot ≡ a.spot)
     own_before files calm handle made path was a = elim (files.each handle made path was) [
       | inl o ↦ (o, same_spot o)
       | inr l ↦ absurd (lost_no_file first events start lawful throughout (now + 1) path (lost_next files calm handle made path was l) a.spot a.own.leads)
@@ -98,7 +110,8 @@ module _ (first : Volume) (events : List Event) (start : IsTree (tree_of first.s
             cc both
 
     -- nothing stood where a new file is made
-    pub new_vacant : (handle made : ℕ) (path : Path) → HasMade first events handle made path (now + 1) → made ≡ now → (a : Own first events start lawful throughout handle made path (now + 1)) → vacant (tree now) path ≡ Ok a.spot
+    pub new_vacant : (handle made : ℕ) (path : Path) → HasMade first events handle made path (now + 1) → made ≡ now
+        → (a : Own first events start lawful throughout handle made path (now + 1)) → vacant (tree now) path ≡ Ok a.spot
     new_vacant handle made path hm is a =
         let new = new_at first events start lawful handle made path hm.makes in
         let one : hm.makes.event ≡ a.event = one_event events made hm.makes.event a.event hm.makes.there a.there in
@@ -107,14 +120,20 @@ module _ (first : Volume) (events : List Event) (start : IsTree (tree_of first.s
         subst (λ n. vacant (tree n) path ≡ Ok new.spot) is new.free ∙ ap Ok spots
 
     -- so it isn't where another stands
-    new_apart : Files first events start lawful throughout now → IsUndisturbed first events (now + 1) → (handle other made last : ℕ) (path twin : Path) → HasMade first events handle made path now → HasMade first events other last twin (now + 1) → last ≡ now
-        → (a : Own first events start lawful throughout handle made path (now + 1)) → (b : Own first events start lawful throughout other last twin (now + 1)) → a.spot ≢ b.spot
+    new_apart : Files first events start lawful throughout now → IsUndisturbed first events (now + 1)
+        → (handle other made last : ℕ) (path twin : Path) → HasMade first events handle made path now → HasMade first events other last twin (now + 1)
+        → last ≡ now
+        → (a : Own first events start lawful throughout handle made path (now + 1))
+        → (b : Own first events start lawful throughout other last twin (now + 1)) → a.spot ≢ b.spot
     new_apart files calm handle other made last path twin was hm is a b same =
         let o = own_before files calm handle made path was a in
         own_not_vacant (tree now) path o.0.spot twin b.spot o.0.own (new_vacant other last twin hm is b) (o.1 ∙ same)
 
-    apart_next : Files first events start lawful throughout now → IsUndisturbed first events (now + 1) → (handle other made last : ℕ) (path twin : Path) → handle ≢ other → HasMade first events handle made path (now + 1) → HasMade first events other last twin (now + 1)
-        → (a : Own first events start lawful throughout handle made path (now + 1)) → (b : Own first events start lawful throughout other last twin (now + 1)) → a.spot ≢ b.spot
+    apart_next : Files first events start lawful throughout now → IsUndisturbed first events (now + 1)
+        → (handle other made last : ℕ) (path twin : Path) → handle ≢ other → HasMade first events handle made path (now + 1)
+        → HasMade first events other last twin (now + 1)
+        → (a : Own first events start lawful throughout handle made path (now + 1))
+        → (b : Own first events start lawful throughout other last twin (now + 1)) → a.spot ≢ b.spot
     apart_next files calm handle other made last path twin apart hm his a b = elim (old_or_new handle made path hm) [
       | inl soon ↦
           let was = made_before first events start lawful throughout now e there handle made path hm soon in
@@ -135,7 +154,8 @@ module _ (first : Volume) (events : List Event) (start : IsTree (tree_of first.s
       ]
     ]
 
-    next : Files first events start lawful throughout now → IsUndisturbed first events (now + 1) → Files first events start lawful throughout (now + 1)
+    next : Files first events start lawful throughout now → IsUndisturbed first events (now + 1)
+        → Files first events start lawful throughout (now + 1)
     next files calm = record { each = each_next files calm; apart = apart_next files calm }
 
   -- ---- along a run
@@ -160,7 +180,8 @@ module _ (first : Volume) (events : List Event) (start : IsTree (tree_of first.s
           makes = hm.makes;
         }
 
-    pub over_own : (handle made : ℕ) (path : Path) → Own first events start lawful throughout handle made path now → Own first events start lawful throughout handle made path (suc now)
+    pub over_own : (handle made : ℕ) (path : Path) → Own first events start lawful throughout handle made path now
+        → Own first events start lawful throughout handle made path (suc now)
     over_own handle made path o =
         record {
           spot = o.spot;
@@ -177,7 +198,8 @@ module _ (first : Volume) (events : List Event) (start : IsTree (tree_of first.s
     pub over_lost : (path : Path) → Lost first events start lawful throughout path now → Lost first events start lawful throughout path (suc now)
     over_lost path l = record { front = l.front; parent = l.parent; cut = subst (λ u. Cut NotTemporary u l.front) (sym over_tree) l.cut }
 
-    pub back_own : (handle made : ℕ) (path : Path) → (a : Own first events start lawful throughout handle made path (suc now)) → (o : Own first events start lawful throughout handle made path now) × (o.spot ≡ a.spot)
+    pub back_own : (handle made : ℕ) (path : Path) → (a : Own first events start lawful throughout handle made path (suc now))
+        → (o : Own first events start lawful throughout handle made path now) × (o.spot ≡ a.spot)
     back_own handle made path a = (
       record { spot = a.spot; event = a.event; there = a.there; put = a.put; own = subst (λ u. OwnSpot u path a.spot) over_tree a.own; alone = λ place x later within at other. a.alone place x later (omega (arith, within)) at other },
       refl,

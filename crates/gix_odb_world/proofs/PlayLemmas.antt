@@ -22,7 +22,8 @@ use Rattle.gix_odb_world.proofs.StepLemmas.{IsRunOf-push}
 makes_none : (world : World) (steps : List Step) → Makes world world steps steps []
 makes_none world steps = record { steps = sym (append-nil steps); outcomes = sym (append-nil world.outcomes); runs = λ first run. run }
 
-makes_more : (old mid new : World) (before between after : List Step) (own other : List Made) → Makes old mid before between own → Makes mid new between after other → Makes old new before after (own ++ other)
+makes_more : (old mid new : World) (before between after : List Step) (own other : List Made) → Makes old mid before between own
+    → Makes mid new between after other → Makes old new before after (own ++ other)
 makes_more old mid new before between after own other one two =
     record {
       steps = two.steps ∙ (ap (λ s. s ++ map (λ (m : Made). m.step) other) one.steps ∙ (append_assoc before (map (λ (m : Made). m.step) own) (map (λ (m : Made). m.step) other) ∙ ap (λ s. before ++ s) (sym (map-append (λ (m : Made). m.step) own other))));
@@ -38,7 +39,8 @@ pub turns_none : (world : World) (steps : List Step) (handle : ℕ) → PlaysTur
 turns_none world steps handle = record { own = []; pending = tt; makes = makes_none world steps }
 
 -- a pending turn more
-pub turns_more : (old mid new : World) (before between after : List Step) (handle : ℕ) → PlaysTurns old mid before between handle → (one : MakesOne mid new between after (Turn handle)) → one.outcome ≡ Pending → PlaysTurns old new before after handle
+pub turns_more : (old mid new : World) (before between after : List Step) (handle : ℕ) → PlaysTurns old mid before between handle
+    → (one : MakesOne mid new between after (Turn handle)) → one.outcome ≡ Pending → PlaysTurns old new before after handle
 turns_more old mid new before between after handle turns one pending =
     record {
       own = turns.own ++ record { step = Turn handle; outcome = one.outcome } ∷ [];
@@ -47,7 +49,8 @@ turns_more old mid new before between after handle turns one pending =
     }
 
 -- the last turn
-pub turns_end : (old mid new : World) (before between after : List Step) (handle : ℕ) → PlaysTurns old mid before between handle → (one : MakesOne mid new between after (Turn handle)) → one.outcome ≢ Pending → PlaysLine old new before after (Finish handle)
+pub turns_end : (old mid new : World) (before between after : List Step) (handle : ℕ) → PlaysTurns old mid before between handle
+    → (one : MakesOne mid new between after (Turn handle)) → one.outcome ≢ Pending → PlaysLine old new before after (Finish handle)
 turns_end old mid new before between after handle turns one ended =
     record {
       own = turns.own ++ record { step = Turn handle; outcome = one.outcome } ∷ [];
@@ -55,7 +58,8 @@ turns_end old mid new before between after handle turns one ended =
       makes = makes_more old mid new before between after turns.own (record { step = Turn handle; outcome = one.outcome } ∷ []) turns.makes one.makes;
     }
 
-pub plays_one : (old new : World) (before after : List Step) (step : Step) → MakesOne old new before after step → PlaysLine old new before after (One step)
+pub plays_one : (old new : World) (before after : List Step) (step : Step) → MakesOne old new before after step
+    → PlaysLine old new before after (One step)
 plays_one old new before after step one =
     record { own = record { step = step; outcome = one.outcome } ∷ []; stands = (one.outcome, refl); makes = one.makes }
 
@@ -66,7 +70,8 @@ last_is steps more step last added is =
     is ∙ (ap (λ (all : List Step). get_or all (length all - 1) last) added ∙ get_or_push steps step last (length (steps ++ step ∷ []) - 1) place)
 
 -- a step that was made and added to the steps
-pub makes_one : (old new : World) (before after : List Step) (step : Step) → after ≡ before ++ step ∷ [] → HasOneMore old new → Continues old step new → MakesOne old new before after step
+pub makes_one : (old new : World) (before after : List Step) (step : Step) → after ≡ before ++ step ∷ [] → HasOneMore old new → Continues old step new
+    → MakesOne old new before after step
 makes_one old new before after step added more continues =
     record {
       outcome = more.0;
@@ -128,7 +133,8 @@ run_even : (first : Volume) (steps : List Step) (world : World) → IsRunOf firs
 run_even first steps world run =
     ap length (sym run.steps_are) ∙ (length-map run.events (λ (e : Event). e.step) ∙ (sym (length-map run.events (λ (e : Event). e.outcome)) ∙ ap length run.explains.outcomes))
 
-pub has_played_none : (first : Volume) (world : World) (steps : List Step) (last : List ℕ) → steps ≡ [] → last ≡ [] → Explains first [] world → HasPlayed first [] steps last world
+pub has_played_none : (first : Volume) (world : World) (steps : List Step) (last : List ℕ) → steps ≡ [] → last ≡ [] → Explains first [] world
+    → HasPlayed first [] steps last world
 unfolding made_of
 has_played_none first world steps last no_steps no_last explains =
     record {

@@ -42,7 +42,8 @@ module _ (first : Volume) (events : List Event) (handle begun : ℕ) (ask : Disk
     by_told (Err writing.Exists) is e = absurd (untaken is (subst (IsRefused ask) e refused))
     by_told (Err writing.NotEmpty) is e = absurd (unfilled is)
 
-    by_failing : (fails : Bool) → next_fails disk ≡ fails → answer ≡ (if fails then answers.Refused disk_errors.Failed else answer_of tree ask) → RefusedSince first events handle begun ask
+    by_failing : (fails : Bool) → next_fails disk ≡ fails → answer ≡ (if fails then answers.Refused disk_errors.Failed else answer_of tree ask)
+        → RefusedSince first events handle begun ask
     by_failing true fails e =
         inl (record {
           asked = record {
@@ -57,7 +58,8 @@ module _ (first : Volume) (events : List Event) (handle begun : ℕ) (ask : Disk
     pub refused_so : RefusedSince first events handle begun ask
     refused_so = by_failing (next_fails disk) refl (asked.at.given ∙ answer_now-still disk ask tells.still)
 
-pub refused_on_way : (first : Volume) (events : List Event) (handle begun : ℕ) (ask : DiskAsk) → IsMaking ask → (answer : DiskAnswer) → AskedSince first events handle begun ask answer → IsRefused ask answer → RefusedSince first events handle begun ask
+pub refused_on_way : (first : Volume) (events : List Event) (handle begun : ℕ) (ask : DiskAsk) → IsMaking ask → (answer : DiskAnswer)
+    → AskedSince first events handle begun ask answer → IsRefused ask answer → RefusedSince first events handle begun ask
 refused_on_way first events handle begun (asks.NewFile path) making answer asked refused =
     let t : Tree = tree_of (disk_after first (take asked.place events)).state in
     refused_so first events handle begun (asks.NewFile path) answer asked refused (change_of_new_file t path) (told_new_file t path) (new_file-never t path) (λ is r. r)

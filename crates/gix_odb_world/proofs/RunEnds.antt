@@ -9,7 +9,8 @@ use Rattle.gix_odb_world.proofs.NameSteps.{names_stay_whole}
 use Rattle.gix_odb_world.proofs.StandAlone.{writes_stand_alone}
 
 -- what led to the world is its run
-pub is_run : (world : World) (first : Volume) (events : List Event) → Explains first events world → IsRun first events (record { outcomes = world.outcomes; records = world.records; disk = world.disk })
+pub is_run : (world : World) (first : Volume) (events : List Event) → Explains first events world
+    → IsRun first events (record { outcomes = world.outcomes; records = world.records; disk = world.disk })
 is_run world first events explains =
     record {
       outcomes_are = explains.outcomes;

@@ -1,5 +1,6 @@
 -- Laws of the events of a lawful run, one by one: what each does to the tree, and that each tree is one.
-use Rattle.std.proofs.Common.{◌≡◌, ◌⊎◌, inl, inr, ℕ, zero, suc, ◌+◌, ◌<◌, ◌≤◌, Bool, true, false, List, [], ◌∷◌, ◌++◌, length, take, Option, Some, None, refl, sym, ap, ◌∙◌, subst, arith}
+pub mod Fronts
+use Rattle.std.proofs.Common.{◌≡◌, ◌⊎◌, inl, inr, ℕ, zero, suc, ◌+◌, Bool, true, false, List, [], ◌∷◌, ◌++◌, take, Option, Some, None, refl, sym, ap, ◌∙◌, subst, arith}
 use Rattle.std.specs.Prelude.{slice_get, if◌then◌else◌}
 use Rattle.odb_disk.specs.Ask.{change_of_ask}
 use Rattle.odb_disk.specs.MemDisk.{Volume, after_outside_change, next_fails}
@@ -25,63 +26,7 @@ use Rattle.gix_odb_world.specs.Run.{change_by, did_of_asked, disk_after, disk_af
 use Rattle.gix_odb_world.specs.Undisturbed.{IsOutside}
 use Rattle.gix_odb_world.specs.Valid.{misuse_of, phase_of, why_not_after, why_not_running}
 use Rattle.gix_odb_world.proofs.RunLemmas.{disk_after-push, status_of-push}
-
--- ---- fronts of a list
-
-take_suc : {A : Type 0} (xs : List A) (place : ℕ) (x : A) → slice_get xs place ≡ Some x → take (suc place) xs ≡ take place xs ++ x ∷ []
-take_suc [] place x is = absurd (cc)
-take_suc (z ∷ zs) zero x is = let same : z ≡ x = cc in ap (λ y. y ∷ []) same
-take_suc (z ∷ zs) (suc place) x is = ap (λ ys. z ∷ ys) (take_suc zs place x is)
-
-pub take_next : {A : Type 0} (xs : List A) (place : ℕ) (x : A) → slice_get xs place ≡ Some x → take (place + 1) xs ≡ take place xs ++ x ∷ []
-take_next xs place x is = let next : place + 1 ≡ suc place = omega arith in ap (λ n. take n xs) next ∙ take_suc xs place x is
-
-pub take_none : {A : Type 0} (xs : List A) (place : ℕ) → slice_get xs place ≡ None → take (suc place) xs ≡ take place xs
-take_none [] zero is = refl
-take_none [] (suc place) is = refl
-take_none (z ∷ zs) zero is = absurd (cc)
-take_none (z ∷ zs) (suc place) is = ap (λ ys. z ∷ ys) (take_none zs place is)
-
-pub none_beyond : {A : Type 0} (xs : List A) (place : ℕ) → slice_get xs place ≡ None → length xs ≤ place
-none_beyond [] place is = omega arith
-none_beyond (z ∷ zs) zero is = absurd (cc)
-none_beyond (z ∷ zs) (suc place) is = omega (arith, none_beyond zs place is)
-
--- at a place an event stands, or the run is over
-pub event_or_end : (events : List Event) (place : ℕ) → ((e : Event) × (slice_get events place ≡ Some e)) ⊎ (slice_get events place ≡ None)
-event_or_end events place = elim (slice_get events place) as (λ o. slice_get events place ≡ o → ((e : Event) × (slice_get events place ≡ Some e)) ⊎ (slice_get events place ≡ None)) [
-  | Some e ↦ λ is. inl (e, is)
-  | None ↦ λ is. inr is
-] refl
-
--- the front of a list has what stands there
-pub there_in_front : {A : Type 0} (xs : List A) (place count : ℕ) (x : A) → place < count → slice_get xs place ≡ Some x → slice_get (take count xs) place ≡ Some x
-there_in_front [] place count x within is = absurd (cc)
-there_in_front (z ∷ zs) place zero x within is = absurd (omega (arith, within))
-there_in_front (z ∷ zs) zero (suc count) x within is = is
-there_in_front (z ∷ zs) (suc place) (suc count) x within is = there_in_front zs place count x (omega (arith, within)) is
-
-pub there_in_whole : {A : Type 0} (xs : List A) (place count : ℕ) (x : A) → slice_get (take count xs) place ≡ Some x → (place < count) × (slice_get xs place ≡ Some x)
-there_in_whole [] place zero x is = absurd (cc)
-there_in_whole [] place (suc count) x is = absurd (cc)
-there_in_whole (z ∷ zs) place zero x is = absurd (cc)
-there_in_whole (z ∷ zs) zero (suc count) x is = (omega arith, is)
-there_in_whole (z ∷ zs) (suc place) (suc count) x is = let rest = there_in_whole zs place count x is in (omega (arith, rest.0), rest.1)
-
-pub front_of_front : {A : Type 0} (xs : List A) (place count : ℕ) → place ≤ count → take place (take count xs) ≡ take place xs
-front_of_front [] zero zero within = refl
-front_of_front [] zero (suc count) within = refl
-front_of_front [] (suc place) zero within = refl
-front_of_front [] (suc place) (suc count) within = refl
-front_of_front (z ∷ zs) zero zero within = refl
-front_of_front (z ∷ zs) zero (suc count) within = refl
-front_of_front (z ∷ zs) (suc place) zero within = absurd (omega (arith, within))
-front_of_front (z ∷ zs) (suc place) (suc count) within = ap (λ ys. z ∷ ys) (front_of_front zs place count (omega (arith, within)))
-
-pub length_take : {A : Type 0} (xs : List A) (place : ℕ) (x : A) → slice_get xs place ≡ Some x → length (take place xs) ≡ place
-length_take [] place x is = absurd (cc)
-length_take (z ∷ zs) zero x is = refl
-length_take (z ∷ zs) (suc place) x is = ap (λ n. suc n) (length_take zs place x is)
+pub use Rattle.gix_odb_world.proofs.RunSteps.Fronts.{event_or_end, front_of_front, length_take, none_beyond, take_next, take_none, there_in_front, there_in_whole}
 
 -- ---- what an event is
 
@@ -128,11 +73,7 @@ none_asked (OfCore event) is = absurd event
 
 turn_step : (step : Step) → IsTurn step → (handle : ℕ) × (step ≡ steps.Turn handle)
 turn_step (steps.Turn handle) turn = (handle, refl)
-turn_step (steps.Open handle path folders replacements options) turn = absurd turn
-turn_step (steps.Close handle) turn = absurd turn
-turn_step (steps.Ignore handle) turn = absurd turn
-turn_step (steps.Start handle call) turn = absurd turn
-turn_step (steps.Disk change) turn = absurd turn
+turn_step step turn = absurd turn
 
 module _ (first : Volume) (past : List Event) (e : Event) (law : Law first past e) where
   turned : IsTurn e.step → None ≡ why_not_after first past e.step → Kind first past e
@@ -145,16 +86,15 @@ module _ (first : Volume) (past : List Event) (e : Event) (law : Law first past 
   quiet : e.entry.change ≡ None → e.entry.did ≡ Nothing → Kind first past e
   quiet none did = Quiet (record { none = none; did = did; asked = none_asked e.asked (sym did ∙ law.did) })
 
-  kind_applied : (step : Step) → e.step ≡ step → e.outcome ≡ outcomes.Applied → ¬ (IsTurn step) → e.entry.did ≡ Nothing → e.entry.change ≡ change_applied step → None ≡ why_not_after first past step → Kind first past e
+  kind_applied : (step : Step) → e.step ≡ step → e.outcome ≡ outcomes.Applied → ¬ (IsTurn step) → e.entry.did ≡ Nothing
+      → e.entry.change ≡ change_applied step → None ≡ why_not_after first past step → Kind first past e
   kind_applied (steps.Turn handle) s o other did made valid = absurd (other tt)
   kind_applied (steps.Disk change) s o other did made valid =
       Made (record { change = change; outside = (change, s, o); makes = made; did = did; asked = none_asked e.asked (sym did ∙ law.did); possible = possible_by _ _ valid })
-  kind_applied (steps.Open handle path folders replacements options) s o other did made valid = quiet made did
-  kind_applied (steps.Close handle) s o other did made valid = quiet made did
-  kind_applied (steps.Ignore handle) s o other did made valid = quiet made did
-  kind_applied (steps.Start handle call) s o other did made valid = quiet made did
+  kind_applied step s o other did made valid = quiet made did
 
-  kind_by : (outcome : Outcome) → e.outcome ≡ outcome → Suits e.step outcome e.entry.did → ChangesAs e.step outcome e.entry.change → misuse_of outcome ≡ why_not_after first past e.step → Kind first past e
+  kind_by : (outcome : Outcome) → e.outcome ≡ outcome → Suits e.step outcome e.entry.did → ChangesAs e.step outcome e.entry.change
+      → misuse_of outcome ≡ why_not_after first past e.step → Kind first past e
   kind_by outcomes.Applied o suits made valid = kind_applied e.step refl o suits.0 suits.1 made valid
   kind_by outcomes.Pending o suits made valid = turned suits.0 valid
   kind_by (outcomes.Reply reply) o suits made valid = turned suits valid
@@ -177,7 +117,8 @@ module _ (first : Volume) (past : List Event) (e : Event) where
   abbrev pub after : Tree
   after = tree_of (disk_after_event disk e).state
 
-  after_by : (asked : Asked) (change : Option Change) → e.asked ≡ asked → e.entry.change ≡ change → after ≡ tree_of (disk_after_asked disk asked change).state
+  after_by : (asked : Asked) (change : Option Change) → e.asked ≡ asked → e.entry.change ≡ change
+      → after ≡ tree_of (disk_after_asked disk asked change).state
   after_by asked change asked_is change_is = ap (λ a. tree_of (disk_after_asked disk a e.entry.change).state) asked_is ∙ ap (λ c. tree_of (disk_after_asked disk asked c).state) change_is
 
   quietly : IsQuiet e → after ≡ tree_of disk.state
@@ -199,21 +140,25 @@ module _ (first : Volume) (past : List Event) (e : Event) where
   left (Made m) = subst (IsLeft (tree_of disk.state) after) (sym m.makes) (made_outside m)
   left (Quiet q) = subst (IsLeft (tree_of disk.state) after) (sym q.none) (quietly q)
 
-pub change_by_some : (disk : Volume) (ask : DiskAsk) (change : Change) → change_by disk ask ≡ Some change → change_of_ask (tree_of disk.state) ask ≡ Some change
+pub change_by_some : (disk : Volume) (ask : DiskAsk) (change : Change) → change_by disk ask ≡ Some change
+    → change_of_ask (tree_of disk.state) ask ≡ Some change
 change_by_some disk ask change is = by_failing (next_fails disk) is
   where
-    by_failing : (fails : Bool) → (if fails then None else change_of_ask (tree_of disk.state) ask) ≡ Some change → change_of_ask (tree_of disk.state) ask ≡ Some change
+    by_failing : (fails : Bool) → (if fails then None else change_of_ask (tree_of disk.state) ask) ≡ Some change
+        → change_of_ask (tree_of disk.state) ask ≡ Some change
     by_failing true e = absurd (cc e)
     by_failing false e = e
 
-tree_after : (first : Volume) (past : List Event) (e : Event) → IsTree (tree_of (disk_after first past).state) → Kind first past e → IsTree (after first past e)
+tree_after : (first : Volume) (past : List Event) (e : Event) → IsTree (tree_of (disk_after first past).state) → Kind first past e
+    → IsTree (after first past e)
 tree_after first past e is_tree (Quiet q) = subst IsTree (sym (quietly first past e q)) is_tree
 tree_after first past e is_tree (Made m) =
     subst IsTree (sym (made_outside first past e m))
     (IsTree-changed (tree_of (disk_after first past).state) m.change is_tree (sym (is_possible-tree_of (disk_after first past).state m.change) ∙ m.possible))
 tree_after first past e is_tree (Turned t) = by_change e.entry.change refl (turned_left first past e t)
   where
-    by_change : (change : Option Change) → e.entry.change ≡ change → IsLeft (tree_of (disk_after first past).state) (after first past e) change → IsTree (after first past e)
+    by_change : (change : Option Change) → e.entry.change ≡ change → IsLeft (tree_of (disk_after first past).state) (after first past e) change
+        → IsTree (after first past e)
     by_change None is left = subst IsTree (sym left) is_tree
     by_change (Some c) is left =
         subst IsTree (sym left) (IsTree-asked (tree_of (disk_after first past).state) is_tree t.works.ask c (change_by_some (disk_after first past) t.works.ask c (sym t.works.changed ∙ is)))
@@ -229,10 +174,12 @@ module _ (first : Volume) (events : List Event) (start : IsTree (tree_of first.s
       ap (λ es. tree_of (disk_after first es).state) (take_next events place e there) ∙ ap (λ (d : Volume). tree_of d.state) (disk_after-push first (take place events) e)
 
   -- the tree after an event, by its change
-  pub left_at : (place : ℕ) (e : Event) → slice_get events place ≡ Some e → IsLeft (tree_at first events place) (tree_at first events (place + 1)) e.entry.change
+  pub left_at : (place : ℕ) (e : Event) → slice_get events place ≡ Some e
+      → IsLeft (tree_at first events place) (tree_at first events (place + 1)) e.entry.change
   left_at place e there = subst (λ u. IsLeft (tree_at first events place) u e.entry.change) (sym (tree_next place e there)) (left first (take place events) e (kind_at place e there))
 
-  pub status_next : (place : ℕ) (e : Event) → slice_get events place ≡ Some e → status_of (take (place + 1) events) ≡ status_after (place + 1) e.step e.outcome e.asked (status_of (take place events))
+  pub status_next : (place : ℕ) (e : Event) → slice_get events place ≡ Some e
+      → status_of (take (place + 1) events) ≡ status_after (place + 1) e.step e.outcome e.asked (status_of (take place events))
   status_next place e there =
       ap status_of (take_next events place e there) ∙ status_of-push (take place events) e
       ∙ ap (λ n. status_after (n + 1) e.step e.outcome e.asked (status_of (take place events))) (length_take events place e there)

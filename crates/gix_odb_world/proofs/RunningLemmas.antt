@@ -1,5 +1,5 @@
--- What a handle at work has seen stays seen.
-use Rattle.std.proofs.Common.{◌≡◌, ℕ, ◌≤◌, Bool, List, [], ◌∷◌, ◌++◌, length, drop, Some, None, Option, sym, subst, arith, inl, inr}
+-- What a query has seen stays seen.
+use Rattle.std.proofs.Common.{◌≡◌, ℕ, ◌≤◌, List, [], ◌∷◌, ◌++◌, length, drop, Some, None, Option, sym, subst, arith, inl, inr}
 use Rattle.std.proofs.lemmas.List.{length-append}
 use Rattle.odb_base.specs.Path.{Path}
 use Rattle.odb_tree.specs.Tree.{Tree}
@@ -10,16 +10,14 @@ use Rattle.gix_odb_loose.proofs.CauseLaws.{Cause-wider}
 use Rattle.gix_odb_loose.specs.LooseFile.{Reading, LeadsToFile, loose_path}
 use Rattle.gix_odb_loose.specs.declared.find.Error as loose
 use Rattle.gix_odb.specs.declared.query.Query.{Query}
-use Rattle.gix_odb.specs.declared.call_state.CallState.TheVariants.{Looking, Writing, Written}
+use Rattle.gix_odb.specs.declared.look_state.LookState.{LookState}
 use Rattle.gix_odb.specs.declared.look_state.Stage.{Stage}
-use Rattle.gix_odb_world.specs.declared.work.Work.{Work}
-use Rattle.gix_odb_world.specs.declared.work.Work.TheVariants.{Opening, Calling}
 use Rattle.gix_odb.specs.LookOrder.{job_of}
 use Rattle.gix_odb_world.specs.Causes.{Sometime, GaveSometime, LooseCause}
 use Rattle.gix_odb_world.specs.Event.{Event}
-use Rattle.gix_odb_world.specs.Status.{Running, Store, Task}
+use Rattle.gix_odb_world.specs.Status.{Running, Store}
 use Rattle.gix_odb_world.specs.Run.{tree_at, IsTurnOf, FailedSince}
-use Rattle.gix_odb_world.specs.Running.Query.{Looks, Passed, Leaves, Noted, Seeks, Seen}
+use Rattle.gix_odb_world.specs.Running.Query.{IsLooking, Passed, Leaves, Noted, Seeks}
 use Rattle.gix_odb_world.proofs.RunLemmas.{tree_at-before, failed-kept, failed_before}
 
 -- more moments of the same trees
@@ -37,11 +35,13 @@ module _ (trees wider : ℕ → Tree) (begun now later : ℕ) (le : now ≤ late
       sometime_wider (λ moment. ¬ (LeadsToFile (trees moment) (loose_path folder id))) (λ moment. ¬ (LeadsToFile (wider moment) (loose_path folder id)))
       (λ moment within was. subst (λ tree. ¬ (LeadsToFile tree (loose_path folder id))) (sym (same moment within)) was) s
 
-  pub leaves_wider : (store : Store) (id : ObjectId) (asked : Path) (ahead : List Path) → Leaves trees store begun now id asked ahead → Leaves wider store begun later id asked ahead
+  pub leaves_wider : (store : Store) (id : ObjectId) (asked : Path) (ahead : List Path) → Leaves trees store begun now id asked ahead
+      → Leaves wider store begun later id asked ahead
   leaves_wider store id asked ahead leaves folder among = elim (leaves folder among) [ inl p ↦ inl (passed_wider id folder p) | inr rest ↦ inr rest ]
 
   module _ (Failed Fails : Type 0) (store : Store) (fails : Failed → Fails) where
-    pub cause_wider : (call : Query) (id : ObjectId) (error : loose.Error) → LooseCause trees Failed store begun now call id error → LooseCause wider Fails store begun later call id error
+    pub cause_wider : (call : Query) (id : ObjectId) (error : loose.Error) → LooseCause trees Failed store begun now call id error
+        → LooseCause wider Fails store begun later call id error
     cause_wider call id error c =
         record {
           folder = c.folder;
@@ -51,39 +51,32 @@ module _ (trees wider : ℕ → Tree) (begun now later : ℕ) (le : now ≤ late
         }
 
     module _ (failed : Fails → Failed) where
-      noted_wider : (call : Query) (id : ObjectId) (asked : Path) (ahead : List Path) (noted : Option loose.Error) → Noted trees Failed store begun now call id asked ahead noted
+      noted_wider : (call : Query) (id : ObjectId) (asked : Path) (ahead : List Path) (noted : Option loose.Error)
+          → Noted trees Failed store begun now call id asked ahead noted
           → Noted wider Fails store begun later call id asked ahead noted
       noted_wider call id asked ahead None seen = (λ f. seen.0 (failed f), leaves_wider store id asked ahead seen.1)
       noted_wider call id asked ahead (Some error) seen = cause_wider call id error seen
 
-      seeks_wider : (place : ℕ) (call : Query) (id : ObjectId) (stage : Stage) → Seeks trees Failed store begun now place call id stage → Seeks wider Fails store begun later place call id stage
+      pub seeks_wider : (place : ℕ) (call : Query) (id : ObjectId) (stage : Stage) → Seeks trees Failed store begun now place call id stage
+          → Seeks wider Fails store begun later place call id stage
       seeks_wider place call id stage s =
           record { noted = s.noted; folder = s.folder; among = s.among; there = s.there; stage_is = s.stage_is; seen = noted_wider call id s.folder (drop place store.parts.folders) s.noted s.seen }
 
-      pub seen_wider : (ignoring : Bool) (place : ℕ) (work : Work) → Seen trees Failed store ignoring begun now place work → Seen wider Fails store ignoring begun later place work
-      seen_wider ignoring place (Opening state) seen = (seen.0, seen.1, λ f. seen.2 (failed f))
-      seen_wider ignoring place (Calling (Looking state)) seen = (seen.0, seeks_wider place state.head.query state.head.id state.stage seen.1)
-      seen_wider ignoring place (Calling (Writing folder)) seen = absurd seen
-      seen_wider ignoring place (Calling (Written reply)) seen = absurd seen
+-- ---- a query after one more event
 
--- ---- handles after one more event
-
-module _ (first : Volume) (events : List Event) (e : Event) where
-  abbrev whole : List Event
-  whole = events ++ e ∷ []
-
-  longer : length events ≤ length whole
-  longer = omega (arith, length-append events (e ∷ []))
-
-  module _ (handle : ℕ) (other : ¬ IsTurnOf handle e.step) where
-    -- an opening or a query knows as much over an event that isn't its turn
-    pub looks_push : (running : Running) (task : Task) (work : Work) → Looks first events handle running task work → Looks first whole handle running task work
-    looks_push running task work l =
-        record {
-          task_is = l.task_is;
-          place = l.place;
-          turns = l.turns;
-          seen = seen_wider (tree_at first events) (tree_at first whole) running.begun (length events) (length whole) longer (tree_at-before first events e)
-              (FailedSince events handle running.begun) (FailedSince whole handle running.begun) running.store (failed-kept events e handle running.begun)
-              (failed_before events e handle running.begun (λ turn. absurd (other turn))) running.ignoring l.place work l.seen;
-        }
+-- a query knows as much over an event that isn't its turn
+pub looking_push : (first : Volume) (events : List Event) (e : Event) (handle : ℕ) (running : Running) (state : LookState)
+    → ¬ (IsTurnOf handle e.step)
+    → IsLooking first events handle running state → IsLooking first (events ++ e ∷ []) handle running state
+looking_push first events e handle running state other knows =
+    let whole : List Event = events ++ e ∷ [] in
+    let longer : length events ≤ length (events ++ e ∷ []) = omega (arith, length-append events (e ∷ [])) in
+    record {
+      task = knows.task;
+      place = knows.place;
+      turns = knows.turns;
+      seeks_id = knows.seeks_id;
+      seeks = seeks_wider (tree_at first events) (tree_at first whole) running.begun (length events) (length whole) longer (tree_at-before first events e)
+          (FailedSince events handle running.begun) (FailedSince whole handle running.begun) running.store (failed-kept events e handle running.begun)
+          (failed_before events e handle running.begun (λ turn. absurd (other turn))) knows.place state.head.query state.head.id state.stage knows.seeks;
+    }

@@ -1,14 +1,16 @@
 -- What handles know after one more event.
-use Rattle.std.proofs.Common.{◌≡◌, ◌≢◌, ℕ, ◌≤◌, Bool, true, false, List, [], ◌∷◌, ◌++◌, length, refl, arith}
+use Rattle.std.proofs.Common.{◌≡◌, ◌≢◌, ℕ, ◌+◌, ◌≤◌, Bool, true, false, List, [], ◌∷◌, ◌++◌, length, refl, sym, arith}
 use Rattle.std.specs.Prelude.{if◌then◌else◌, ◌==◌}
 use Rattle.std.proofs.lemmas.Bool.{eqb-true, eqb-false}
 use Rattle.std.proofs.lemmas.List.{length-append}
 use Rattle.odb_disk.specs.MemDisk.{Volume}
 use Rattle.gix_odb_world.specs.declared.work.Work.{Work}
 use Rattle.gix_odb_world.specs.Event.{Event}
-use Rattle.gix_odb_world.specs.Status.{Running, Status, Free, Resting, Working, with_status}
+use Rattle.gix_odb_world.specs.Status.{Running, Status, Store, Task, Free, Resting, Working, begun_with, running_from, with_status}
 use Rattle.gix_odb_world.specs.Run.{IsTurnOf}
-use Rattle.gix_odb_world.specs.Running.{Knows, Runs, at}
+use Rattle.gix_odb_world.specs.Machines.{at}
+use Rattle.gix_odb_world.specs.Running.{Knows, Runs}
+use Rattle.gix_odb_world.proofs.MachineLaws.{IsSized}
 use Rattle.gix_odb_world.proofs.Machines.{laws_at}
 
 module _ (first : Volume) (events : List Event) (e : Event) where
@@ -28,18 +30,29 @@ module _ (first : Volume) (events : List Event) (e : Event) where
     runs_over (Resting store ignoring) runs = tt
     runs_over (Working running) runs = (omega (arith, longer, runs.0), knows_push running running.work runs.1)
 
-pub runs-push : (first : Volume) (events : List Event) (e : Event) (handle : ℕ) (status : Status) → ¬ IsTurnOf handle e.step → Runs first events handle status → Runs first (events ++ e ∷ []) handle status
+-- a handle whose task the event sets knows what its machine does at the beginning
+pub begins : (first : Volume) (events : List Event) (e : Event) (handle : ℕ) (store : Store) (ignoring : Bool) (task : Task) → IsSized task
+    → Knows first (events ++ e ∷ []) handle (running_from (length events + 1) task store ignoring) (begun_with store ignoring task)
+begins first events e handle store ignoring task sized =
+    let work : Work = begun_with store ignoring task in
+    (laws_at work).starts first events e handle store ignoring task (at work).state sized (sym (at work).is)
+
+pub runs-push : (first : Volume) (events : List Event) (e : Event) (handle : ℕ) (status : Status) → ¬ IsTurnOf handle e.step
+    → Runs first events handle status → Runs first (events ++ e ∷ []) handle status
 runs-push first events e handle status other runs = runs_over first events e handle other status runs
 
-runs_either : (first : Volume) (events : List Event) (e : Event) (number : ℕ) (status : Status) (other : ℕ) (before : Status) (b : Bool) → (other == number) ≡ b
-    → Runs first (events ++ e ∷ []) number status → (other ≢ number → ¬ IsTurnOf other e.step) → Runs first events other before → Runs first (events ++ e ∷ []) other (if b then status else before)
+runs_either : (first : Volume) (events : List Event) (e : Event) (number : ℕ) (status : Status) (other : ℕ) (before : Status) (b : Bool)
+    → (other == number) ≡ b
+    → Runs first (events ++ e ∷ []) number status → (other ≢ number → ¬ IsTurnOf other e.step) → Runs first events other before
+    → Runs first (events ++ e ∷ []) other (if b then status else before)
 runs_either first events e number status other before true same here apart runs = rw (eqb-true other number same) here
 runs_either first events e number status other before false same here apart runs =
     let differs : other ≢ number = eqb-false other number same in
     runs-push first events e other before (apart differs) runs
 
 pub runs_set : (first : Volume) (events : List Event) (e : Event) (table : ℕ → Status) (number : ℕ) (status : Status)
-    → ((other : ℕ) → Runs first events other (table other)) → ((other : ℕ) → other ≢ number → ¬ IsTurnOf other e.step) → Runs first (events ++ e ∷ []) number status
+    → ((other : ℕ) → Runs first events other (table other)) → ((other : ℕ) → other ≢ number → ¬ IsTurnOf other e.step)
+    → Runs first (events ++ e ∷ []) number status
     → (other : ℕ) → Runs first (events ++ e ∷ []) other (with_status table number status other)
 runs_set first events e table number status before apart here other =
     runs_either first events e number status other (table other) (other == number) refl here (apart other) (before other)

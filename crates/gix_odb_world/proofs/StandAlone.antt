@@ -103,7 +103,8 @@ module _ (first : Volume) (events : List Event) (start : IsTree (tree_of first.s
   ]
 
   -- a write that renames has its file
-  pub own_at_rename : (place : ℕ) (e : Event) (handle made : ℕ) (path : Path) → IsUndisturbed first events place → slice_get events place ≡ Some e → IsTurnOf handle e.step → IsRename e.entry.change → HasMade first events handle made path place → Own handle made path place
+  pub own_at_rename : (place : ℕ) (e : Event) (handle made : ℕ) (path : Path) → IsUndisturbed first events place → slice_get events place ≡ Some e
+      → IsTurnOf handle e.step → IsRename e.entry.change → HasMade first events handle made path place → Own handle made path place
   own_at_rename place e handle made path calm there turn renames hm = elim ((along.files_at first events start lawful throughout place calm).each handle made path hm) [
     | inl o ↦ o
     | inr l ↦ absurd (subst IsRename (turns.lost_turn first events start lawful throughout place e there handle made path hm turn l) renames)

@@ -1,16 +1,11 @@
 -- The start of a call on an idle handle.
-use Rattle.std.proofs.Common.{◌≡◌, ℕ, ◌+◌, Bool, true, false, List, [], ◌∷◌, ◌++◌, length, Some, None, Option, refl, sym, ◌∙◌, ap, subst, arith}
+use Rattle.std.proofs.Common.{◌≡◌, ℕ, ◌+◌, Bool, List, [], ◌∷◌, ◌++◌, length, Some, None, Option, refl, sym, ◌∙◌, ap, subst, arith}
+use mathlib.Core.Path.{fun_ext}
 use Rattle.std.proofs.lemmas.List.{length-append}
 use Rattle.odb_disk.specs.MemDisk.{Volume}
-use Rattle.gix_hash.specs.declared.object_id.ObjectId.{ObjectId}
 use Rattle.gix_odb_world.specs.declared.step.Step.TheVariants as steps
 use Rattle.gix_odb_world.specs.declared.step.Outcome.TheVariants as outcomes
 use Rattle.gix_odb.specs.declared.call.Call.{Call}
-use Rattle.gix_odb.specs.declared.call.Call.TheVariants as call_kinds
-use Rattle.gix_odb.specs.declared.call_state.CallState.TheVariants.{Looking}
-use Rattle.gix_odb.specs.declared.query.Query.{Query}
-use Rattle.gix_odb.specs.declared.query.Query.TheVariants.{Find, Header, Test}
-use Rattle.gix_odb.specs.LookOrder as looks
 use Rattle.gix_odb_world.specs.declared.record.Did.TheVariants.{Nothing}
 use Rattle.gix_odb_world.specs.declared.handle.Handle.{Handle}
 use Rattle.gix_odb.specs.declared.handle_state.HandleState.{HandleState}
@@ -19,48 +14,30 @@ use Rattle.gix_odb_world.specs.declared.work.Work.TheVariants.{Calling}
 use Rattle.gix_odb_world.specs.declared.world.World.{World}
 use Rattle.gix_odb.specs.CallOrder as calls
 use Rattle.gix_odb.specs.CallOrder.{HasSize}
-use Rattle.gix_odb.specs.Contents.{or_itself, replaced, replacement_in, sought}
+use Rattle.gix_odb.specs.Contents.{sought, sought_with}
 use Rattle.gix_odb_world.specs.Event.{Event}
-use Rattle.gix_odb_world.specs.Status.{Store, Status, Free, Resting, Working, running_from, started, call_started}
+use Rattle.gix_odb_world.specs.Status.{MakeCall, Store, Status, Free, Resting, Working, begun_with, started}
 use Rattle.gix_odb_world.specs.Handle.{IsHandleOf}
-use Rattle.gix_odb.specs.HandleState.{replaced_by, replacement_of, sought_by}
+use Rattle.gix_odb.specs.HandleState.{replacement_of, sought_by}
 use Rattle.gix_odb_world.specs.Run.{IsTurnOf}
-use Rattle.gix_odb_world.specs.Running.{Knows, Runs, at}
+use Rattle.gix_odb_world.specs.Running.{Runs}
 use Rattle.gix_odb_world.specs.Valid.{why_not_idle}
 use Rattle.gix_odb_world.specs.World.{Continues, Matches, handle_at}
 use Rattle.gix_odb_world.specs.Table.{SetsHandle, Notes, phase_of_handle, phase_of_work, why_not_now, with_work}
 use Rattle.gix_odb_world.proofs.StepLemmas.{applied}
-use Rattle.gix_odb_world.proofs.RunsLemmas.{runs-push}
-use Rattle.gix_odb_world.proofs.Machines.{laws_at}
+use Rattle.gix_odb_world.proofs.RunsLemmas.{begins, runs-push}
 
--- the call of the code is that of the store
+-- the work of the code is that of the store
 work_started : (store : Store) (ignoring : Bool) (state : HandleState) (call : Call) → IsHandleOf store ignoring state
-    → Calling (calls.started state.store.value.objects state.store.value.alloc_limit_bytes (sought_by state) call) ≡ call_started store ignoring call
+    → Calling (calls.started state.store.value.objects state.store.value.alloc_limit_bytes (sought_by state) call) ≡ begun_with store ignoring (MakeCall call)
 work_started store ignoring state call own =
     ap (λ objects. Calling (calls.started objects state.store.value.alloc_limit_bytes (sought_by state) call)) own.objects
-    ∙ (ap (λ limit. Calling (calls.started store.parts.objects limit (sought_by state) call)) own.limit ∙ by_call call)
+    ∙ (ap (λ limit. Calling (calls.started store.parts.objects limit (sought_by state) call)) own.limit
+    ∙ ap (λ seeks. Calling (calls.started store.parts.objects store.parts.limit seeks call)) sought_same)
   where
-    replaced_same : (store : Store) (ignoring : Bool) (state : HandleState) (id : ObjectId) → IsHandleOf store ignoring state → replaced_by state id ≡ replaced (replacement_in store.parts) ignoring id
-    replaced_same store ignoring state id own =
-        ap (λ mode. replaced (replacement_of state) mode id) own.mode ∙ by_mode ignoring
-      where
-        by_mode : (mode : Bool) → replaced (replacement_of state) mode id ≡ replaced (replacement_in store.parts) mode id
-        by_mode true = refl
-        by_mode false = ap (λ other. or_itself other id) (own.replacements id)
-
-    sought_same : (store : Store) (ignoring : Bool) (state : HandleState) (query : Query) → IsHandleOf store ignoring state → sought_by state query ≡ sought store.parts ignoring query
-    sought_same store ignoring state (Find id) own = replaced_same store ignoring state id own
-    sought_same store ignoring state (Header id) own = replaced_same store ignoring state id own
-    sought_same store ignoring state (Test id) own = refl
-
-    looked_for : (query : Query) → Calling (Looking (looks.started store.parts.objects store.parts.limit query (sought_by state query))) ≡ Calling (Looking (looks.started store.parts.objects store.parts.limit query (sought store.parts ignoring query)))
-    looked_for query = ap (λ id. Calling (Looking (looks.started store.parts.objects store.parts.limit query id))) (sought_same store ignoring state query own)
-
-    by_call : (call : Call) → Calling (calls.started store.parts.objects store.parts.limit (sought_by state) call) ≡ call_started store ignoring call
-    by_call (call_kinds.Find id) = looked_for (Find id)
-    by_call (call_kinds.Header id) = looked_for (Header id)
-    by_call (call_kinds.Test id) = looked_for (Test id)
-    by_call (call_kinds.Write kind size bytes id) = refl
+    -- the handle seeks what its store does
+    sought_same : sought_by state ≡ sought store.parts ignoring
+    sought_same = ap (λ mode. sought_with (replacement_of state) mode) own.mode ∙ ap (λ replacement. sought_with replacement ignoring) (fun_ext own.replacements)
 
 matches_started : (n : ℕ) (call : Call) (status : Status) (handle : Handle) (work : Work) → why_not_idle (phase_of_handle (Some handle)) ≡ None
     → work ≡ Calling (calls.started handle.state.store.value.objects handle.state.store.value.alloc_limit_bytes (sought_by handle.state) call)
@@ -70,23 +47,19 @@ matches_started n call (Resting store ignoring) handle work idle is match = (mat
 matches_started n call (Working running) handle work idle is match =
     absurd (cc (subst (λ (w : Option Work). why_not_idle (phase_of_work w) ≡ None) match.1 idle))
 
--- a call that the event begins knows so much
-knows_calling : (first : Volume) (events : List Event) (e : Event) (handle : ℕ) (store : Store) (ignoring : Bool) (call : Call) → HasSize call
-    → Knows first (events ++ e ∷ []) handle (running_from (length events + 1) call store ignoring) (call_started store ignoring call)
-knows_calling first events e handle store ignoring call sized =
-    let work : Work = call_started store ignoring call in
-    (laws_at work).starts first events e handle store ignoring call (at work).state sized (sym (at work).is)
-
-runs_started : (number : ℕ) (call : Call) → HasSize call → (first : Volume) (events : List Event) (e : Event) (status : Status) → e.step ≡ steps.Start number call → ((other : ℕ) → ¬ IsTurnOf other e.step)
+runs_started : (number : ℕ) (call : Call) → HasSize call → (first : Volume) (events : List Event) (e : Event) (status : Status)
+    → e.step ≡ steps.Start number call → ((other : ℕ) → ¬ IsTurnOf other e.step)
     → Runs first events number status → Runs first (events ++ e ∷ []) number (started (length events + 1) call status)
 runs_started number call sized first events e Free starts no_turn runs = tt
 runs_started number call sized first events e (Resting store ignoring) starts no_turn runs =
-    let whole : length (events ++ e ∷ []) ≡ length events + 1 = length-append events (e ∷ []) in (omega (arith, whole), knows_calling first events e number store ignoring call sized)
+    let whole : length (events ++ e ∷ []) ≡ length events + 1 = length-append events (e ∷ []) in (omega (arith, whole), begins first events e number store ignoring (MakeCall call) sized)
 runs_started number call sized first events e (Working running) starts no_turn runs = runs-push first events e number (Working running) (no_turn number) runs
 
-pub begun : (old mid new : World) (number : ℕ) (call : Call) (handle : Handle) (work : Work) → HasSize call → why_not_now old (steps.Start number call) ≡ None → handle_at old number ≡ Some handle
+pub begun : (old mid new : World) (number : ℕ) (call : Call) (handle : Handle) (work : Work) → HasSize call
+    → why_not_now old (steps.Start number call) ≡ None → handle_at old number ≡ Some handle
     → work ≡ Calling (calls.started handle.state.store.value.objects handle.state.store.value.alloc_limit_bytes (sought_by handle.state) call)
-    → SetsHandle old mid number (with_work (Some work) (handle_at old number)) → Notes mid new outcomes.Applied Nothing None → Continues old (steps.Start number call) new
+    → SetsHandle old mid number (with_work (Some work) (handle_at old number)) → Notes mid new outcomes.Applied Nothing None
+    → Continues old (steps.Start number call) new
 begun old mid new number call handle work sized reason there is sets notes =
     applied old mid new (steps.Start number call) number (with_work (Some work) (handle_at old number)) (λ n status. started n call status)
     reason sets notes (λ turn. turn, refl) refl (λ other turn. cc) (λ n table. refl)

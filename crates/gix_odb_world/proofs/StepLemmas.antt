@@ -1,5 +1,6 @@
 -- Each step of a world takes its history one event on.
 use Rattle.std.proofs.Common.{◌≡◌, ◌≢◌, ℕ, ◌+◌, ◌<◌, true, List, [], ◌∷◌, ◌++◌, length, take, get_or, Some, None, Option, refl, sym, ◌∙◌, ap, subst}
+use mathlib.Core.Path.{fun_ext}
 use Rattle.std.specs.Prelude.{if◌then◌else◌, ◌==◌}
 use Rattle.std.proofs.lemmas.List.{map-append, take_more}
 use Rattle.odb_disk.specs.MemDisk.{Volume, after_outside_change}
@@ -10,7 +11,6 @@ use Rattle.gix_odb_world.specs.declared.step.Step.TheVariants as steps
 use Rattle.gix_odb_world.specs.declared.step.Outcome.{Outcome}
 use Rattle.gix_odb_world.specs.declared.step.Outcome.TheVariants as outcomes
 use Rattle.gix_odb_world.specs.declared.step.Why.{Why}
-use Rattle.gix_odb_world.specs.declared.step.Why.TheVariants.{ImpossibleChange}
 use Rattle.gix_odb.specs.declared.call.Reply.{Reply}
 use Rattle.gix_odb_world.specs.declared.record.Did.{Did}
 use Rattle.gix_odb_world.specs.declared.record.Did.TheVariants.{Nothing}
@@ -20,7 +20,7 @@ use Rattle.gix_odb_world.specs.Event.{OfNothing, Event}
 use Rattle.gix_odb_world.specs.Status.{Status, Free, Resting, Working, status_of, status_after, with_status}
 use Rattle.gix_odb_world.specs.Run.{disk_after, disk_after_event, disk_after_change, IsTurnOf}
 use Rattle.gix_odb_world.specs.Running.{Runs}
-use Rattle.gix_odb_world.specs.Valid.{phase_of, phase_after, why_not_after, why_not_open, why_not_idle, why_not_running, misuse_of, is_openable}
+use Rattle.gix_odb_world.specs.Valid.{phase_of, phase_after, why_not, why_not_after, why_not_running, misuse_of}
 use Rattle.gix_odb_world.specs.Headline.{Law, Suits}
 use Rattle.gix_odb_world.specs.Changes.{ChangesAs}
 use Rattle.gix_odb_world.specs.World.{Explains, GoesOn, Continues, IsRunOf, Matches, handle_at}
@@ -40,16 +40,15 @@ phase_of-matched (Working running) None match = absurd match
 phase_of-matched (Working running) (Some handle) match = ap phase_of_work (sym match.1)
 
 -- the phases of a handle by the history and by the world are the same
-phase_same : (first : Volume) (events : List Event) (world : World) (handle : ℕ) → Explains first events world → phase_after events handle ≡ phase_now world handle
+phase_same : (first : Volume) (events : List Event) (world : World) (handle : ℕ) → Explains first events world
+    → phase_after events handle ≡ phase_now world handle
 phase_same first events world handle explains = phase_of-matched (status_of events handle) (handle_at world handle) (explains.handles handle)
 
-pub why_not-same : (first : Volume) (events : List Event) (world : World) (step : Step) → Explains first events world → why_not_after first events step ≡ why_not_now world step
-why_not-same first events world (steps.Open handle path folders replacements options) explains = ap (λ phase. why_not_open phase (is_openable path folders replacements)) (phase_same first events world handle explains)
-why_not-same first events world (steps.Ignore handle) explains = ap why_not_idle (phase_same first events world handle explains)
-why_not-same first events world (steps.Close handle) explains = ap why_not_idle (phase_same first events world handle explains)
-why_not-same first events world (steps.Start handle call) explains = ap why_not_idle (phase_same first events world handle explains)
-why_not-same first events world (steps.Turn handle) explains = ap why_not_running (phase_same first events world handle explains)
-why_not-same first events world (steps.Disk change) explains = ap (λ (disk : Volume). if is_possible disk.state change then None else Some ImpossibleChange) (sym explains.disk)
+pub why_not-same : (first : Volume) (events : List Event) (world : World) (step : Step) → Explains first events world
+    → why_not_after first events step ≡ why_not_now world step
+why_not-same first events world step explains =
+    ap (λ phases. why_not phases (disk_after first events) step) (fun_ext (λ handle. phase_same first events world handle explains))
+    ∙ ap (λ disk. why_not (phase_now world) disk step) (sym explains.disk)
 
 -- ---- one event more
 
@@ -81,7 +80,8 @@ abbrev quiet : Step → Outcome → Option Change → ℕ → Event
 quiet step outcome change faults = record { step = step; outcome = outcome; entry = record { did = Nothing; change = change; faults = faults }; asked = OfNothing }
 
 -- a turn that is no misuse gives a reply, or its call goes on
-no_quiet_turn : (handle : ℕ) (outcome : Outcome) → Suits (steps.Turn handle) outcome Nothing → misuse_of outcome ≡ None → ((reply : Reply) → outcome ≢ outcomes.Reply reply) → outcome ≢ outcomes.Pending → ⊥
+no_quiet_turn : (handle : ℕ) (outcome : Outcome) → Suits (steps.Turn handle) outcome Nothing → misuse_of outcome ≡ None
+    → ((reply : Reply) → outcome ≢ outcomes.Reply reply) → outcome ≢ outcomes.Pending → ⊥
 no_quiet_turn handle outcomes.Applied suits valid no_reply not_pending = suits.0 tt
 no_quiet_turn handle outcomes.Pending suits valid no_reply not_pending = not_pending refl
 no_quiet_turn handle (outcomes.Reply reply) suits valid no_reply not_pending = no_reply reply refl
@@ -90,7 +90,8 @@ no_quiet_turn handle (outcomes.Misuse why) suits valid no_reply not_pending = cc
 -- it is lawful where it is no reply, and no call goes on
 law_quiet : (first : Volume) (past : List Event) (step : Step) (outcome : Outcome) (change : Option Change) (faults : ℕ)
     → misuse_of outcome ≡ why_not_after first past step → Suits step outcome Nothing → ChangesAs step outcome change
-    → faults ≡ (disk_after_change (disk_after first past) change).calls.faults → ((reply : Reply) → outcome ≢ outcomes.Reply reply) → outcome ≢ outcomes.Pending
+    → faults ≡ (disk_after_change (disk_after first past) change).calls.faults → ((reply : Reply) → outcome ≢ outcomes.Reply reply)
+    → outcome ≢ outcomes.Pending
     → Law first past (quiet step outcome change faults)
 law_quiet first past step outcome change faults valid suits made counted no_reply not_pending =
     record {
@@ -112,12 +113,14 @@ law_quiet first past step outcome change faults valid suits made counted no_repl
 
 -- a misused turn is none of a handle that runs a call
 runs_misused : (first : Volume) (events : List Event) (e : Event) (why : Why) (handle : ℕ) (status : Status) → e.outcome ≡ outcomes.Misuse why
-    → (IsTurnOf handle e.step → why_not_running (phase_of status) ≡ Some why) → Runs first events handle status → Runs first (events ++ e ∷ []) handle status
+    → (IsTurnOf handle e.step → why_not_running (phase_of status) ≡ Some why) → Runs first events handle status
+    → Runs first (events ++ e ∷ []) handle status
 runs_misused first events e why handle Free is reason runs = tt
 runs_misused first events e why handle (Resting store ignoring) is reason runs = tt
 runs_misused first events e why handle (Working running) is reason runs = runs-push first events e handle (Working running) (λ turn. absurd (cc (reason turn))) runs
 
-pub misused : (old new : World) (step : Step) (why : Why) → why_not_now old step ≡ Some why → Notes old new (outcomes.Misuse why) Nothing None → Continues old step new
+pub misused : (old new : World) (step : Step) (why : Why) → why_not_now old step ≡ Some why → Notes old new (outcomes.Misuse why) Nothing None
+    → Continues old step new
 misused old new step why reason notes first events explains =
     let same : why_not_after first events step ≡ Some why = why_not-same first events old step explains ∙ reason in
     let e : Event = quiet step (outcomes.Misuse why) None old.disk.calls.faults in (
@@ -133,7 +136,8 @@ misused old new step why reason notes first events explains =
 
 -- the table after a handle is set and the step is noted
 pub table_noted : (old mid new : World) (number : ℕ) (handle : Option Handle) (outcome : Outcome) (did : Did) (change : Option Change)
-    → SetsHandle old mid number handle → Notes mid new outcome did change → (other : ℕ) → handle_at new other ≡ (if other == number then handle else handle_at old other)
+    → SetsHandle old mid number handle → Notes mid new outcome did change → (other : ℕ)
+    → handle_at new other ≡ (if other == number then handle else handle_at old other)
 table_noted old mid new number handle outcome did change sets notes other =
     ap (λ handles. handle_at (record new { handles = handles }) other) notes.handles ∙ sets.table other
 
@@ -164,7 +168,8 @@ applied old mid new step number handle next reason sets notes suits made no_turn
 -- ---- a change
 
 -- the disk takes the change, and the step is noted
-pub changed : (old new : World) (disk : Volume) (change made : Change) → is_possible old.disk.state change ≡ true → disk ≡ after_outside_change old.disk change → made ≡ change
+pub changed : (old new : World) (disk : Volume) (change made : Change) → is_possible old.disk.state change ≡ true
+    → disk ≡ after_outside_change old.disk change → made ≡ change
     → Notes (record old { disk = disk }) new outcomes.Applied Nothing (Some made) → Continues old (steps.Disk change) new
 changed old new disk change made possible after made_is notes first events explains =
     let step : Step = steps.Disk change in
@@ -191,7 +196,8 @@ notes_kept old new disk outcome did change same notes =
 -- ---- a run of steps
 
 -- one step more leads on
-pub IsRunOf-push : (first : Volume) (old new : World) (made : List Step) (step : Step) → Continues old step new → IsRunOf first made old → IsRunOf first (made ++ step ∷ []) new
+pub IsRunOf-push : (first : Volume) (old new : World) (made : List Step) (step : Step) → Continues old step new → IsRunOf first made old
+    → IsRunOf first (made ++ step ∷ []) new
 IsRunOf-push first old new made step continues before =
     let goes : (outcome : Outcome) × GoesOn first before.events step outcome new = continues first before.events before.explains in
     let on : GoesOn first before.events step goes.0 new = goes.1 in
@@ -202,7 +208,8 @@ IsRunOf-push first old new made step continues before =
     }
 
 -- the same along a list of steps
-pub IsRunOf-more : (first : Volume) (old new : World) (step : Step) (steps : List Step) (index : ℕ) → index < length steps → step ≡ get_or steps index step → Continues old step new
+pub IsRunOf-more : (first : Volume) (old new : World) (step : Step) (steps : List Step) (index : ℕ) → index < length steps
+    → step ≡ get_or steps index step → Continues old step new
     → IsRunOf first (take index steps) old → IsRunOf first (take (index + 1) steps) new
 IsRunOf-more first old new step steps index within is continues before =
     subst (λ made. IsRunOf first made new) (ap (λ s. take index steps ++ s ∷ []) is ∙ sym (take_more steps index step within))

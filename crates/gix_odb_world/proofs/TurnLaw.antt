@@ -1,6 +1,7 @@
 -- The event of a turn is lawful, and the handle does after it what its status says.
 pub mod Comes
-use Rattle.std.proofs.Common.{◌≡◌, ℕ, ◌+◌, ◌<◌, ◌≤◌, List, [], ◌∷◌, ◌++◌, length, Option, Some, None, Ok, Err, Result, refl, sym, ◌∙◌, ap, subst, arith}
+use Rattle.std.proofs.Common.{◌≡◌, ℕ, ◌+◌, ◌<◌, ◌≤◌, Bool, true, false, List, [], ◌∷◌, ◌++◌, length, Option, Some, None, Ok, Err, Result, refl, sym, ◌∙◌, ap, subst, arith}
+use Rattle.std.specs.Prelude.{if◌then◌else◌}
 use Rattle.std.proofs.lemmas.List.{length-append}
 use Rattle.odb_tree.specs.Tree.{IsTree, tree_of}
 use Rattle.odb_tree.specs.declared.change.Change.{Change}
@@ -11,36 +12,33 @@ use Rattle.odb_disk.specs.declared.ask.DiskAnswer.{DiskAnswer}
 use Rattle.gix_odb_world.specs.Recorded.{path_recorded}
 use Rattle.gix_odb_world.specs.declared.step.Step.TheVariants as steps
 use Rattle.gix_odb_world.specs.declared.step.Outcome.TheVariants as outcomes
-use Rattle.gix_odb.specs.declared.call.CallError.TheVariants as call_errors
 use Rattle.gix_odb.specs.declared.call.Reply.{Reply}
-use Rattle.gix_odb.specs.declared.call.Reply.TheVariants as replies
-use Rattle.gix_odb.specs.declared.query.Query.TheVariants.{Find, Header}
 use Rattle.gix_odb_world.specs.declared.record.Did.TheVariants.{Disk}
 use Rattle.gix_odb.specs.declared.handle_state.HandleState.{HandleState}
 use Rattle.gix_odb_world.specs.declared.work.Work.{Work}
 use Rattle.gix_odb_world.specs.declared.world.World.{World}
 use Rattle.gix_odb_world.specs.Bound.{bound_of_task}
 use Rattle.gix_odb_world.specs.Event.{OfDisk, Event}
-use Rattle.gix_odb_world.specs.Status.{Running, Status, Task, Working, fed_in, gone_on, replied, status_of, turned}
-use Rattle.gix_odb_world.specs.Status as statuses
+use Rattle.gix_odb_world.specs.Status.{Free, Resting, Running, Status, Task, Working, come_to, refuses_opening, replied, status_of, turned}
 use Rattle.gix_odb_world.specs.Handle.{IsHandleOf}
 use Rattle.gix_odb_world.specs.Run.{change_by, did_of, has_failed}
 use Rattle.gix_odb_world.specs.Begun.{BegunAs}
-use Rattle.gix_odb_world.specs.Running.{Knows, Runs}
+use Rattle.gix_odb_world.specs.Running.{Runs}
 use Rattle.gix_odb_world.specs.Valid.{phase_of, why_not_running, misuse_of}
 use Rattle.gix_odb_world.specs.Headline.{Law, Turns, Works, Suits, outcome_of}
 use Rattle.gix_odb_world.specs.Changes.{ChangesAs, ChangesInTask}
 use Rattle.gix_odb_world.specs.Promise.{Promise}
-use Rattle.gix_odb_world.specs.WorkOrder.{result_in}
+use Rattle.gix_odb_world.specs.Machines.{fed_in}
 use Rattle.gix_odb_world.specs.World.{Explains, Matches}
-use Rattle.gix_odb_world.specs.Table.{after_reply, after_turn}
+use Rattle.gix_odb_world.specs.Table.{after_turn}
 use Rattle.gix_odb_world.proofs.RunLemmas.{disk_after-push}
 use Rattle.gix_odb_world.proofs.BegunLemmas.{stems_now}
 use Rattle.gix_odb_world.proofs.BegunLemmas.OneEvent.{Stems, one_task}
 use Rattle.gix_odb_world.proofs.WriteTurn.Common.{IsTurnWith}
 use Rattle.gix_odb_world.proofs.FailedLemmas.{has_failed-now}
 use Rattle.gix_odb_world.proofs.MachineLaws.{ComesTo, HasTurn}
-use Rattle.gix_odb_world.proofs.TurnLaw.Comes.{Names, act_of, ask_still, come_of, left_of, turn_of}
+use Rattle.gix_odb_world.proofs.TurnLaw.Comes.{Names, act_of, come_of, turn_of}
+use Rattle.gix_odb_world.proofs.WorkLaws.{ask_still}
 
 -- ---- the event of a turn
 
@@ -49,7 +47,8 @@ misuse_of-turn : (result : Result Reply Work) → misuse_of (outcome_of result) 
 misuse_of-turn (Ok reply) = refl
 misuse_of-turn (Err work) = refl
 
-suits_turn : (number : ℕ) (result : Result Reply Work) (ask : DiskAsk) (answer : DiskAnswer) → Suits (steps.Turn number) (outcome_of result) (did_of ask answer)
+suits_turn : (number : ℕ) (result : Result Reply Work) (ask : DiskAsk) (answer : DiskAnswer)
+    → Suits (steps.Turn number) (outcome_of result) (did_of ask answer)
 suits_turn number (Ok reply) ask answer = tt
 suits_turn number (Err work) ask answer = (tt, tt)
 
@@ -71,18 +70,19 @@ module _ (first : Volume) (events : List Event) (old : World) (number : ℕ) (ru
   stems = subst (Stems events number) status (stems_now first events explains.lawful number)
 
   -- the call of the disk that the work names
-  abbrev pub act : Names running.store.parts.objects running.work
+  abbrev pub act : Names running.store running.work
   act = act_of first events number running running.work runs.1
 
   abbrev pub given : DiskAnswer
   given = answer_now old.disk act.ask
 
-  abbrev pub after : Work
+  -- what the turn comes to
+  abbrev pub after : Result Reply Work
   after = fed_in running.store running.work given
 
   module _ (tree : IsTree (tree_of old.disk.state)) (faults : ℕ) (counted : faults ≡ (after_ask old.disk act.ask).calls.faults) where
     abbrev pub event : Event
-    event = record { step = steps.Turn number; outcome = outcome_of (result_in after); entry = record { did = did_of act.ask given; change = change_by old.disk act.ask; faults = faults }; asked = OfDisk act.ask given }
+    event = record { step = steps.Turn number; outcome = outcome_of after; entry = record { did = did_of act.ask given; change = change_by old.disk act.ask; faults = faults }; asked = OfDisk act.ask given }
 
     abbrev pub whole : List Event
     whole = events ++ event ∷ []
@@ -103,18 +103,20 @@ module _ (first : Volume) (events : List Event) (old : World) (number : ℕ) (ru
     abbrev pub WorkNow : Result Reply Work → Type 0
     WorkNow result = ComesTo first events event number running result
 
-    pub come : WorkNow (result_in after)
-    come = subst (λ d. WorkNow (result_in (fed_in running.store running.work (answer_now d act.ask)))) (sym explains.disk) (come_of first events event number running runs.0 running.work runs.1 turn_is)
+    pub come : WorkNow after
+    come = subst (λ d. WorkNow (fed_in running.store running.work (answer_now d act.ask))) (sym explains.disk) (come_of first events event number running runs.0 running.work runs.1 turn_is)
 
     -- ---- its law
 
-    promised : (result : Result Reply Work) → WorkNow result → (reply : Reply) → outcome_of result ≡ outcomes.Reply reply → Promise first whole number running.store running.ignoring running.begun running.task reply
+    promised : (result : Result Reply Work) → WorkNow result → (reply : Reply) → outcome_of result ≡ outcomes.Reply reply
+        → Promise first whole number running.store running.ignoring running.begun running.task reply
     promised (Ok own) now reply is =
         let same : own ≡ reply = cc is in
         subst (Promise first whole number running.store running.ignoring running.begun running.task) same now
     promised (Err left) now reply is = absurd (cc is)
 
-    timed : (result : Result Reply Work) → WorkNow result → outcome_of result ≡ outcomes.Pending → (entries : ℕ) → running.turns + 1 < bound_of_task running.store running.task entries
+    timed : (result : Result Reply Work) → WorkNow result → outcome_of result ≡ outcomes.Pending → (entries : ℕ)
+        → running.turns + 1 < bound_of_task running.store running.task entries
     timed (Ok own) now is entries = absurd (cc is)
     timed (Err left) now is entries = now.1 entries
 
@@ -132,7 +134,7 @@ module _ (first : Volume) (events : List Event) (old : World) (number : ℕ) (ru
           in_order = turns.in_order;
           asked = turn_is.did;
           told = turn_is.asked;
-          goes = ap (λ d. outcome_of (result_in (fed_in running.store running.work (answer_now d act.ask)))) explains.disk;
+          goes = ap (λ d. outcome_of (fed_in running.store running.work (answer_now d act.ask))) explains.disk;
           changed = turn_is.change;
           five = subst (ChangesInTask first events number running.store running.begun running.task act.ask) (sym turn_is.change) turns.five;
         }
@@ -150,19 +152,19 @@ module _ (first : Volume) (events : List Event) (old : World) (number : ℕ) (ru
     pub law : Law first events event
     law =
         record {
-          valid = misuse_of-turn (result_in after) ∙ ap (λ s. why_not_running (phase_of s)) (sym status);
-          suits = suits_turn number (result_in after) act.ask given;
-          change = changes_turn number (result_in after) event.entry.change;
+          valid = misuse_of-turn after ∙ ap (λ s. why_not_running (phase_of s)) (sym status);
+          suits = suits_turn number after act.ask given;
+          change = changes_turn number after event.entry.change;
           failed = listed ∙ ap next_fails explains.disk;
           faults = counted ∙ (ap (λ d. (after_ask d act.ask).calls.faults) explains.disk ∙ ap (λ (d : Volume). d.calls.faults) (sym (disk_after-push first events event)));
           did = refl;
           worked = of_turn (λ h r. Works first events h r event) works;
           promise = λ handle other task reply turns_it began is.
-              of_turn (λ h r. (k : Task) → BegunAs events h r.begun r.store k → (o : Reply) → outcome_of (result_in after) ≡ outcomes.Reply o → Promise first whole h r.store r.ignoring r.begun k o)
-              (λ k b o told. of_task (λ k. Promise first whole number running.store running.ignoring running.begun k o) (promised (result_in after) come o told) k b) handle other turns_it task began reply is;
+              of_turn (λ h r. (k : Task) → BegunAs events h r.begun r.store k → (o : Reply) → outcome_of after ≡ outcomes.Reply o → Promise first whole h r.store r.ignoring r.begun k o)
+              (λ k b o told. of_task (λ k. Promise first whole number running.store running.ignoring running.begun k o) (promised after come o told) k b) handle other turns_it task began reply is;
           in_time = λ handle other task entries turns_it began is most.
-              of_turn (λ h r. (k : Task) → BegunAs events h r.begun r.store k → outcome_of (result_in after) ≡ outcomes.Pending → (n : ℕ) → r.turns + 1 < bound_of_task r.store k n)
-              (λ k b told n. of_task (λ k. running.turns + 1 < bound_of_task running.store k n) (timed (result_in after) come told n) k b) handle other turns_it task began is entries;
+              of_turn (λ h r. (k : Task) → BegunAs events h r.begun r.store k → outcome_of after ≡ outcomes.Pending → (n : ℕ) → r.turns + 1 < bound_of_task r.store k n)
+              (λ k b told n. of_task (λ k. running.turns + 1 < bound_of_task running.store k n) (timed after come told n) k b) handle other turns_it task began is entries;
         }
 
     -- ---- the handle after it
@@ -171,36 +173,24 @@ module _ (first : Volume) (events : List Event) (old : World) (number : ℕ) (ru
     status_next (Ok reply) = replied reply (Working running)
     status_next (Err left) = turned (OfDisk act.ask given) (Working running)
 
-    matches_rest : (state : HandleState) → IsHandleOf running.store running.ignoring state → (reply : Reply) → Matches (statuses.after_reply running.store running.ignoring reply) (after_reply state reply)
-    matches_rest state own (replies.Refused (call_errors.Open error)) = tt
-    matches_rest state own (replies.Refused (call_errors.Find error)) = (own, refl)
-    matches_rest state own (replies.Refused (call_errors.Write error)) = (own, refl)
-    matches_rest state own (replies.Opened slots) = (own, refl)
-    matches_rest state own (replies.Found kind bytes) = (own, refl)
-    matches_rest state own (replies.Header header) = (own, refl)
-    matches_rest state own (replies.Tested there) = (own, refl)
-    matches_rest state own replies.NotFound = (own, refl)
-    matches_rest state own (replies.Wrote id) = (own, refl)
+    matches_rest : (state : HandleState) → IsHandleOf running.store running.ignoring state → (frees : Bool)
+        → Matches (if frees then Free else Resting running.store running.ignoring) (if frees then None else Some (record { state = state; work = None }))
+    matches_rest state own true = tt
+    matches_rest state own false = (own, refl)
 
-    pub matches_next : (state : HandleState) → IsHandleOf running.store running.ignoring state → (result : Result Reply Work) → result_in after ≡ result → Matches (status_next result) (after_turn state result)
-    matches_next state own (Ok reply) is = matches_rest state own reply
-    matches_next state own (Err left) is = (own, ap Some (left_of after left is))
+    pub matches_next : (state : HandleState) → IsHandleOf running.store running.ignoring state → (result : Result Reply Work) → after ≡ result
+        → Matches (status_next result) (after_turn state result)
+    matches_next state own (Ok reply) is = matches_rest state own (refuses_opening reply)
+    matches_next state own (Err left) is = subst (λ r. Matches (come_to running r) (Some (record { state = state; work = Some left }))) (sym is) (own, refl)
 
-    runs_rest : (reply : Reply) → Runs first whole number (statuses.after_reply running.store running.ignoring reply)
-    runs_rest (replies.Refused (call_errors.Open error)) = tt
-    runs_rest (replies.Refused (call_errors.Find error)) = tt
-    runs_rest (replies.Refused (call_errors.Write error)) = tt
-    runs_rest (replies.Opened slots) = tt
-    runs_rest (replies.Found kind bytes) = tt
-    runs_rest (replies.Header header) = tt
-    runs_rest (replies.Tested there) = tt
-    runs_rest replies.NotFound = tt
-    runs_rest (replies.Wrote id) = tt
+    runs_rest : (frees : Bool) → Runs first whole number (if frees then Free else Resting running.store running.ignoring)
+    runs_rest true = tt
+    runs_rest false = tt
 
-    pub runs_next : (result : Result Reply Work) → result_in after ≡ result → WorkNow result → Runs first whole number (status_next result)
-    runs_next (Ok reply) is now = runs_rest reply
+    pub runs_next : (result : Result Reply Work) → after ≡ result → WorkNow result → Runs first whole number (status_next result)
+    runs_next (Ok reply) is now = runs_rest (refuses_opening reply)
     runs_next (Err left) is now =
         let count : length whole ≡ length events + 1 = length-append events (event ∷ []) in
         let begun : running.begun ≤ length events = runs.0 in
         let later : running.begun ≤ length whole = omega (arith, count, begun) in
-        (later, subst (λ w. Knows first whole number (gone_on running w) w) (left_of after left is) now.0)
+        subst (λ r. Runs first whole number (come_to running r)) (sym is) (later, now.0)

@@ -16,19 +16,21 @@ use Rattle.gix_odb.specs.declared.handle_state.HandleState.{HandleState}
 use Rattle.gix_odb_world.specs.declared.work.Work.{Work}
 use Rattle.gix_odb_world.specs.declared.world.World.{World}
 use Rattle.gix_odb_world.specs.Event.{Asked, OfDisk, Event}
-use Rattle.gix_odb_world.specs.Status.{Running, Store, Status, Free, Resting, Working, fed_in, replied, status_of, turned}
+use Rattle.gix_odb_world.specs.Machines.{ask_in, fed_in}
+use Rattle.gix_odb_world.specs.Status.{Running, Store, Status, Free, Resting, Working, replied, status_of, turned}
 use Rattle.gix_odb_world.specs.Status as statuses
 use Rattle.gix_odb_world.specs.Handle.{IsHandleOf}
 use Rattle.gix_odb_world.specs.Running.{Runs}
 use Rattle.gix_odb_world.specs.Headline.{outcome_of}
-use Rattle.gix_odb_world.specs.WorkOrder.{ask_in, fed, result_in}
+use Rattle.gix_odb_world.specs.WorkOrder.{ask_on, fed_on, result_in}
 use Rattle.gix_odb_world.specs.World.{Explains, Continues, GoesOn, Matches, handle_at}
 use Rattle.gix_odb_world.specs.Table.{SetsHandle, Notes, after_turn, change_now, did_now, disk_now, work_now}
 use Rattle.gix_odb_world.proofs.RunsLemmas.{runs_set}
 use Rattle.gix_odb_world.proofs.StepLemmas.{goes_on, table_noted}
 use Rattle.gix_odb_world.specs.Run.{change_by, did_of}
 use Rattle.gix_odb_world.proofs.FailedLemmas.{has_failed-now}
-use Rattle.gix_odb_world.proofs.TurnLaw.Comes.{Names, ask_still}
+use Rattle.gix_odb_world.proofs.TurnLaw.Comes.{Names}
+use Rattle.gix_odb_world.proofs.WorkLaws.{ask_still, code_asks, code_feeds}
 use Rattle.gix_odb_world.proofs.WriteAsk.Quiet.{after_ask-change}
 use Rattle.gix_odb_world.proofs.WorldLemmas.{matches_set}
 use Rattle.gix_odb_world.proofs.TurnLaw.{act, come, event, law, matches_next, runs_next}
@@ -43,7 +45,8 @@ status_after-turn : (n number : ℕ) (asked : Asked) (result : Result Reply Work
 status_after-turn n number asked (Ok reply) table = refl
 status_after-turn n number asked (Err left) table = refl
 
-next_is : (asked : Asked) (running : Running) (status : Status) (result : Result Reply Work) → status ≡ Working running → next_from asked status result ≡ next_from asked (Working running) result
+next_is : (asked : Asked) (running : Running) (status : Status) (result : Result Reply Work) → status ≡ Working running
+    → next_from asked status result ≡ next_from asked (Working running) result
 next_is asked running status result is = ap (λ s. next_from asked s result) is
 
 -- a handle that is taken out and put back
@@ -55,11 +58,11 @@ set_twice false handle before = refl
 record Took (old took mid new : World) (disk : Volume) (number : ℕ) (state : HandleState) (work after : Work) (did : Did) (change : Option Change) (outcome : Outcome) (handle : Option Handle) : Type 0 where
   there : handle_at old number ≡ Some (record { state = state; work = Some work })
   takes : SetsHandle old took number None
-  did_is : did ≡ did_now took.disk (ask_in state.store.value.objects work)
-  change_is : change ≡ change_now took.disk (ask_in state.store.value.objects work)
+  did_is : did ≡ did_now took.disk (ask_on state work)
+  change_is : change ≡ change_now took.disk (ask_on state work)
   tree : IsTree (tree_of took.disk.state)
-  after_is : after ≡ work_now took.disk state work (ask_in state.store.value.objects work)
-  disk_is : disk ≡ disk_now took.disk (ask_in state.store.value.objects work)
+  after_is : after ≡ work_now took.disk state work (ask_on state work)
+  disk_is : disk ≡ disk_now took.disk (ask_on state work)
   outcome_is : outcome ≡ outcome_of (result_in after)
   handle_is : handle ≡ after_turn state (result_in after)
   sets : SetsHandle (record took { disk = disk }) mid number handle
@@ -68,28 +71,27 @@ record Took (old took mid new : World) (disk : Volume) (number : ℕ) (state : H
 module _ (old took mid new : World) (disk : Volume) (number : ℕ) (state : HandleState) (work left : Work) (did : Did) (change : Option Change) (outcome : Outcome) (handle : Option Handle)
     (took_it : Took old took mid new disk number state work left did change outcome handle) (first : Volume) (events : List Event) (explains : Explains first events old) where
   -- by the store of the handle, and the work that it is at
-  goes_at : (running : Running) → status_of events number ≡ Working running → running.work ≡ work → IsHandleOf running.store running.ignoring state → (o : Outcome) × GoesOn first events (steps.Turn number) o new
+  goes_at : (running : Running) → status_of events number ≡ Working running → running.work ≡ work → IsHandleOf running.store running.ignoring state
+      → (o : Outcome) × GoesOn first events (steps.Turn number) o new
   goes_at running status at own =
       let store : Store = running.store in
-      let does : Names store.parts.objects running.work = act first events old number running explains status in
+      let does : Names store running.work = act first events old number running explains status in
       let answer : DiskAnswer = answer_now old.disk does.ask in
-      let going : Work = fed_in store running.work answer in
       let same_disk : took.disk ≡ old.disk = took_it.takes.disk in
-      let asked : ask_in state.store.value.objects work ≡ Some does.ask = ap (λ objects. ask_in objects work) own.objects ∙ (ap (ask_in store.parts.objects) (sym at) ∙ does.asks) in
+      let asked : ask_on state work ≡ Some does.ask = code_asks store running.ignoring state own work ∙ (ap (ask_in store) (sym at) ∙ does.asks) in
       let did_is : did ≡ did_of does.ask answer = took_it.did_is ∙ (ap (did_now took.disk) asked ∙ ap (λ d. did_now d (Some does.ask)) same_disk) in
-      let left_is : left ≡ going =
-      took_it.after_is ∙ (ap (work_now took.disk state work) asked ∙ (ap (λ d. work_now d state work (Some does.ask)) same_disk
-      ∙ (ap (λ slots. fed slots state.store.value.folders state.store.value.alloc_limit_bytes work answer) own.slots
-      ∙ (ap (λ folders. fed store.slots folders state.store.value.alloc_limit_bytes work answer) own.folders
-      ∙ (ap (λ limit. fed store.slots store.parts.folders limit work answer) own.limit ∙ ap (λ w. fed_in store w answer) (sym at)))))) in
+      let result : Result Reply Work = fed_in store running.work answer in
+      let left_is : left ≡ fed_on state work answer =
+      took_it.after_is ∙ (ap (work_now took.disk state work) asked ∙ ap (λ d. work_now d state work (Some does.ask)) same_disk) in
+      let result_is : result_in left ≡ fed_in store running.work answer =
+      ap result_in left_is ∙ (code_feeds store running.ignoring state own work answer ∙ ap (λ w. fed_in store w answer) (sym at)) in
       let called : disk ≡ after_ask old.disk does.ask = took_it.disk_is ∙ (ap (disk_now took.disk) asked ∙ ap (λ d. after_ask d does.ask) same_disk) in
       let disk_is : disk ≡ record (after_ask old.disk does.ask) { state = written old.disk.state (change_by old.disk does.ask) } = called ∙ after_ask-change old.disk does.ask in
       let change_is : change ≡ change_by old.disk does.ask =
       took_it.change_is ∙ (ap (change_now took.disk) asked ∙ (ap (λ d. change_now d (Some does.ask)) same_disk ∙ ap (λ b. if b then None else change_of_ask (tree_of old.disk.state) does.ask) (has_failed-now old.disk does.ask (ask_still store running.work does.ask does.asks)))) in
       let tree : IsTree (tree_of old.disk.state) = subst (λ (d : Volume). IsTree (tree_of d.state)) same_disk took_it.tree in
-      let result : Result Reply Work = result_in going in
-      let outcome_is : outcome ≡ outcome_of result = took_it.outcome_is ∙ ap (λ w. outcome_of (result_in w)) left_is in
-      let handle_is : handle ≡ after_turn state result = took_it.handle_is ∙ ap (λ w. after_turn state (result_in w)) left_is in
+      let outcome_is : outcome ≡ outcome_of result = took_it.outcome_is ∙ ap outcome_of result_is in
+      let handle_is : handle ≡ after_turn state result = took_it.handle_is ∙ ap (after_turn state) result_is in
       let counted : mid.disk.calls.faults ≡ (after_ask old.disk does.ask).calls.faults = ap (λ (d : Volume). d.calls.faults) (took_it.sets.disk ∙ called) in
       let e : Event = event first events old number running explains status tree mid.disk.calls.faults counted in
       let table : ℕ → Status = status_of events in
@@ -121,7 +123,8 @@ module _ (old took mid new : World) (disk : Volume) (number : ℕ) (state : Hand
             (λ other. rw (status_after-turn (length events + 1) number told result table) (runs_set first events e table number next explains.running (λ o apart turns_it. apart (cc turns_it)) on other)),
       )
 
-  by_status : (status : Status) → status_of events number ≡ status → Matches status (Some (record { state = state; work = Some work })) → (o : Outcome) × GoesOn first events (steps.Turn number) o new
+  by_status : (status : Status) → status_of events number ≡ status → Matches status (Some (record { state = state; work = Some work }))
+      → (o : Outcome) × GoesOn first events (steps.Turn number) o new
   by_status Free is match = absurd match
   by_status (Resting store ignoring) is match = absurd (cc match.1)
   by_status (Working running) is match = let both : Some work ≡ Some running.work = match.1 in goes_at running is (sym (cc both)) match.0
@@ -129,7 +132,8 @@ module _ (old took mid new : World) (disk : Volume) (number : ℕ) (state : Hand
 -- each history goes on by the turn
 pub turned_on : (old took mid new : World) (disk : Volume) (number : ℕ) (state : HandleState) (work left : Work) (did : Did) (change : Option Change) (outcome : Outcome) (handle : Option Handle)
     → handle_at old number ≡ Some (record { state = state; work = Some work }) → SetsHandle old took number None
-    → did ≡ did_now took.disk (ask_in state.store.value.objects work) → change ≡ change_now took.disk (ask_in state.store.value.objects work) → IsTree (tree_of took.disk.state) → left ≡ work_now took.disk state work (ask_in state.store.value.objects work) → disk ≡ disk_now took.disk (ask_in state.store.value.objects work)
+    → did ≡ did_now took.disk (ask_on state work) → change ≡ change_now took.disk (ask_on state work) → IsTree (tree_of took.disk.state)
+    → left ≡ work_now took.disk state work (ask_on state work) → disk ≡ disk_now took.disk (ask_on state work)
     → outcome ≡ outcome_of (result_in left) → handle ≡ after_turn state (result_in left)
     → SetsHandle (record took { disk = disk }) mid number handle → Notes mid new outcome did change → Continues old (steps.Turn number) new
 turned_on old took mid new disk number state work left did change outcome handle there takes did_is change_is tree left_is disk_is outcome_is handle_is sets notes first events explains =

@@ -20,7 +20,8 @@ throughout_none first zero handle = tt
 throughout_none first (suc now) handle = tt
 
 -- nothing has happened in a world with no handles and no outcomes
-pub explains_none : (world : World) → IsTree (tree_of world.disk.state) → world.handles.entries ≡ [] → world.outcomes ≡ [] → world.records ≡ [] → Explains world.disk [] world
+pub explains_none : (world : World) → IsTree (tree_of world.disk.state) → world.handles.entries ≡ [] → world.outcomes ≡ [] → world.records ≡ []
+    → Explains world.disk [] world
 unfolding disk_after statuses_from
 explains_none world is_tree handles outcomes records =
     record {
@@ -39,13 +40,15 @@ matches_either true s t h k here there = here
 matches_either false s t h k here there = there
 
 pub matches_set : (old new : World) (table : ℕ → Status) (number : ℕ) (status : Status) (handle : Option Handle)
-    → ((other : ℕ) → Matches (table other) (handle_at old other)) → ((other : ℕ) → handle_at new other ≡ (if other == number then handle else handle_at old other)) → Matches status handle
+    → ((other : ℕ) → Matches (table other) (handle_at old other))
+    → ((other : ℕ) → handle_at new other ≡ (if other == number then handle else handle_at old other)) → Matches status handle
     → (other : ℕ) → Matches (with_status table number status other) (handle_at new other)
 matches_set old new table number status handle before sets here other =
     rw (sets other) (matches_either (other == number) status (table other) handle (handle_at old other) here (before other))
 
 -- what held of each handle so far, and holds after one event more, holds throughout
-pub throughout-push : (first : Volume) (events : List Event) (e : Event) → RunsThroughout first events → ((handle : ℕ) → Runs first (events ++ e ∷ []) handle (status_of (events ++ e ∷ []) handle)) → RunsThroughout first (events ++ e ∷ [])
+pub throughout-push : (first : Volume) (events : List Event) (e : Event) → RunsThroughout first events
+    → ((handle : ℕ) → Runs first (events ++ e ∷ []) handle (status_of (events ++ e ∷ []) handle)) → RunsThroughout first (events ++ e ∷ [])
 throughout-push first events e before here now handle within = elim (cases_lt (length events) now) [
   | inl late ↦
       let long = length-append events (e ∷ []) in

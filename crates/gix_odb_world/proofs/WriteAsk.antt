@@ -134,10 +134,12 @@ changed_still tree (asks.Remove path) change is = refl
 pub made_done : (disk : Volume) (ask : DiskAsk) (change : Change) → change_by disk ask ≡ Some change → answer_now disk ask ≡ answers.Done
 made_done disk ask change is = answer_now-still disk ask (changed_still (tree_of disk.state) ask change (told_change (next_fails disk) is)) ∙ by_failing (next_fails disk) is
   where
-    told_change : (fails : Bool) → (if fails then None else change_of_ask (tree_of disk.state) ask) ≡ Some change → change_of_ask (tree_of disk.state) ask ≡ Some change
+    told_change : (fails : Bool) → (if fails then None else change_of_ask (tree_of disk.state) ask) ≡ Some change
+        → change_of_ask (tree_of disk.state) ask ≡ Some change
     told_change true e = absurd (cc e)
     told_change false e = e
 
-    by_failing : (fails : Bool) → (if fails then None else change_of_ask (tree_of disk.state) ask) ≡ Some change → (if fails then answers.Refused disk_errors.Failed else answer_of (tree_of disk.state) ask) ≡ answers.Done
+    by_failing : (fails : Bool) → (if fails then None else change_of_ask (tree_of disk.state) ask) ≡ Some change
+        → (if fails then answers.Refused disk_errors.Failed else answer_of (tree_of disk.state) ask) ≡ answers.Done
     by_failing true e = absurd (cc e)
     by_failing false e = changed_done (tree_of disk.state) ask change e

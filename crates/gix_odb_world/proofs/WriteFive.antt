@@ -13,20 +13,18 @@ use Rattle.odb_tree.proofs.WayWriteLaws.{append_change, make_dir_change, new_fil
 use Rattle.gix_hash.specs.declared.object_id.ObjectId.{ObjectId}
 use Rattle.gix_object.specs.Loose.{header_of}
 use Rattle.gix_object.proofs.LooseLaws.{length-header_of-fits}
-use Rattle.gix_odb_loose.specs.Exchanges.{Exchange, exchanged}
+use Rattle.gix_odb_loose.specs.Exchanges.{exchanged}
 use Rattle.gix_odb_loose.specs.LooseFile.{loose_path}
-use Rattle.gix_odb_loose.specs.WriteHistory.{GoesWell, IsHistory, IsStopped}
+use Rattle.gix_odb_loose.specs.WriteDone.{data_at}
 use Rattle.gix_odb_loose.specs.WriteJobs.{piece_of}
-use Rattle.gix_odb_loose.specs.WriteOrder.{number_made, prefix_path, room_behind, temp_path}
+use Rattle.gix_odb_loose.specs.WriteOrder.{number_in, number_made, prefix_path, temp_names, temp_path}
+use Rattle.gix_odb_loose.specs.WritePieces.{piece_size, room_behind}
 use Rattle.gix_odb_loose.specs.WriteStreams.{OtherLength}
 use Rattle.gix_odb_loose.specs.declared.call.LooseCall.{LooseCall}
-use Rattle.gix_odb_loose.specs.declared.write.Message.TheVariants as messages
-use Rattle.gix_odb_loose.specs.declared.write_order.Refusal.{Refusal}
-use Rattle.gix_odb_loose.specs.declared.write_order.Refusal.TheVariants as refusals
-use Rattle.gix_odb_loose.specs.declared.write_order.WriteHead.{WriteHead}
 use Rattle.gix_odb_loose.specs.declared.write_order.WriteStage.{WriteStage}
 use Rattle.gix_odb_loose.specs.declared.write_order.WriteStage.TheVariants as stages
-use Rattle.gix_odb_loose.proofs.WriteMadeLaws.{history_makes}
+use Rattle.gix_odb_loose.proofs.RoomLemmas.{room_few}
+use Rattle.gix_odb_loose.proofs.WriteMadeLaws.{history_below, history_makes}
 use Rattle.gix_odb_world.specs.Event.{Event}
 use Rattle.gix_odb_world.specs.Status.{MakeCall, Running}
 use Rattle.gix_odb_world.specs.Changes.{ChangesInTask, ChangesInWrite, IsOneOfFive}
@@ -34,53 +32,7 @@ use Rattle.gix_odb_world.specs.Run.{change_by, disk_after}
 use Rattle.gix_odb_world.specs.Running.Write.{IsWriting, StandsAt}
 use Rattle.gix_odb_world.specs.Writing.{DoneSince, ToWrite, call_to_write, head_to_write, name_to_write, to_write}
 use Rattle.gix_odb_world.proofs.WriteAsk.{change_by-all, told_append, told_make_dir, told_new_file, told_remove, told_rename}
-use Rattle.gix_odb_world.proofs.WriteGoes.{ask_at_stage}
-use Rattle.gix_odb_world.proofs.WriteTimeLemmas.{room_small}
-
--- ---- its number
-
--- the number of the temporary file that a stage tries to make, or has made
-abbrev number_at : WriteStage → ℕ
-number_at (stages.Making number) = number
-number_at (stages.Heading number) = number
-number_at (stages.Filling number written) = number
-number_at (stages.Foldering number id) = number
-number_at (stages.Moving number id) = number
-number_at (stages.Removing number refusal) = number
-
-module _ (head : WriteHead) (Named : ObjectId → Type 0) (Counted : ℕ → Type 0) where
-  well_below : (stage : WriteStage) (appended : List ℕ) (past : List Exchange) → GoesWell head Named appended stage past → number_at stage < 16
-  well_below (stages.Making number) appended past well = well.0
-  well_below (stages.Heading number) appended past well = well.2
-  well_below (stages.Filling number written) appended past well = well.1.below
-  well_below (stages.Foldering number id) appended past well = well.2.below
-  well_below (stages.Moving number id) appended past well = well.2.filled.below
-  well_below (stages.Removing number refusal) appended past well = absurd well
-
-  made_at : (stage : WriteStage) (number : ℕ) → number_made stage ≡ Some number → number_at stage < 16 → number < 16
-  made_at (stages.Making number) other made below = absurd (cc made)
-  made_at (stages.Heading number) other made below = let same : number ≡ other = cc made in subst (λ n. n < 16) same below
-  made_at (stages.Filling number written) other made below = let same : number ≡ other = cc made in subst (λ n. n < 16) same below
-  made_at (stages.Foldering number id) other made below = let same : number ≡ other = cc made in subst (λ n. n < 16) same below
-  made_at (stages.Moving number id) other made below = let same : number ≡ other = cc made in subst (λ n. n < 16) same below
-  made_at (stages.Removing number refusal) other made below = let same : number ≡ other = cc made in subst (λ n. n < 16) same below
-
-  stopped_below : (number : ℕ) (refusal : Refusal) (past : List Exchange) → IsStopped head Named ⊥ Counted number refusal past → number < 16
-  stopped_below number (refusals.Io messages.CreateTempFile) past h = absurd h
-  stopped_below number (refusals.Io messages.WriteHeader) past h = well_below (stages.Heading number) h.appended h.before h.well
-  stopped_below number (refusals.Io messages.StreamData) past h = elim h [ inl failed ↦ absurd failed.0 | inr one ↦ well_below (stages.Filling number one.0) one.1.appended one.1.before one.1.well ]
-  stopped_below number refusals.IoRaw past h = well_below (stages.Foldering number h.0) h.1.appended h.1.before h.1.well
-  stopped_below number (refusals.Persist id) past h = well_below (stages.Moving number id) h.appended h.before h.well
-  stopped_below number (refusals.SizeMismatch actual) past h = h.1.1.below
-  stopped_below number refusals.NoMemory past h = made_at h.0 number h.1 (well_below h.0 h.2.appended h.2.before h.2.well)
-
-  pub below : (stage : WriteStage) (appended : List ℕ) (past : List Exchange) → IsHistory head Named ⊥ Counted appended stage past → number_at stage < 16
-  below (stages.Making number) appended past h = well_below (stages.Making number) appended past h
-  below (stages.Heading number) appended past h = well_below (stages.Heading number) appended past h
-  below (stages.Filling number written) appended past h = well_below (stages.Filling number written) appended past h
-  below (stages.Foldering number id) appended past h = well_below (stages.Foldering number id) appended past h
-  below (stages.Moving number id) appended past h = well_below (stages.Moving number id) appended past h
-  below (stages.Removing number refusal) appended past h = stopped_below number refusal past h
+use Rattle.gix_odb_world.proofs.WriteTurn.{ask_at_stage, done_at}
 
 -- ---- its change
 
@@ -103,7 +55,7 @@ module _ (disk : Volume) (objects : Path) (number : ℕ) (id : ObjectId) where
       change_by-all disk (asks.NewFile temporary) (change_of_new_file tree temporary) (told_new_file tree temporary) Five tt
       (λ change told. let c = new_file_change tree temporary change told in subst One (sym c.2) (refl, refl, (vacant_at tree temporary c.0 c.1).is))
 
-  five_appended : (more : List ℕ) → length more ≤ 65536 → Five (change_by disk (asks.Append temporary more))
+  five_appended : (more : List ℕ) → length more ≤ piece_size → Five (change_by disk (asks.Append temporary more))
   five_appended more few =
       change_by-all disk (asks.Append temporary more) (change_of_append tree temporary more) (told_append tree temporary more) Five tt
       (λ change told. let c = append_change tree temporary change more told in subst One (sym c.2) (few, c.1))
@@ -127,7 +79,7 @@ module _ (disk : Volume) (objects : Path) (number : ℕ) (id : ObjectId) where
 
 module _ (first : Volume) (events : List Event) (handle begun turns : ℕ) (disk : Volume) where
   abbrev FiveAt : ToWrite → WriteStage → Option Change → Type 0
-  FiveAt w stage change = Five disk w.objects (number_at stage) (name_to_write w) change
+  FiveAt w stage change = Five disk w.objects (number_in stage) (name_to_write w) change
 
   -- each stage of a write makes one of its five changes, or none
   five_at : (w : ToWrite) (stage : WriteStage) → w.size < 2 ^ 64 → StandsAt first events handle begun turns w stage → FiveAt w stage (change_by disk (ask_at_stage w stage))
@@ -136,22 +88,25 @@ module _ (first : Volume) (events : List Event) (handle begun turns : ℕ) (disk
       let few = length-header_of-fits w.kind w.size fits in five_appended disk w.objects number (name_to_write w) (header_of w.kind w.size) (omega (arith, few))
   five_at w (stages.Filling number written) fits s =
       let few = length-take (room_behind w.size written) (drop written w.bytes) in
-      let small = room_small w.size written in
+      let small = room_few w.size written in
       five_appended disk w.objects number (name_to_write w) (piece_of w.size w.bytes (Some written)) (omega (arith, few, small))
   five_at w (stages.Foldering number id) fits s =
-      subst (λ (own : ObjectId). Five disk w.objects number own (change_by disk (asks.MakeDir (prefix_path w.objects id)))) s.history.1 (five_foldered disk w.objects number id)
+      subst (λ (own : ObjectId). Five disk w.objects number own (change_by disk (asks.MakeDir (prefix_path w.objects id)))) (done_at first events handle begun turns w (stages.Foldering number id) s).history.1 (five_foldered disk w.objects number id)
   five_at w (stages.Moving number id) fits s =
-      subst (λ (own : ObjectId). Five disk w.objects number own (change_by disk (asks.Rename (temp_path w.objects number) (loose_path w.objects id)))) s.history.1 (five_moved disk w.objects number id)
+      subst (λ (own : ObjectId). Five disk w.objects number own (change_by disk (asks.Rename (temp_path w.objects number) (loose_path w.objects id)))) (done_at first events handle begun turns w (stages.Moving number id) s).history.1 (five_moved disk w.objects number id)
   five_at w (stages.Removing number refusal) fits s = five_removed disk w.objects number (name_to_write w)
 
 -- the file whose number a stage has is the one that it asks to make, or was made before
 module _ (first : Volume) (events : List Event) (handle begun turns : ℕ) (w : ToWrite) where
   abbrev IsOwn : WriteStage → Type 0
-  IsOwn stage = (ask_at_stage w stage ≡ asks.NewFile (temp_path w.objects (number_at stage))) ⊎ DoneSince first events handle begun (asks.NewFile (temp_path w.objects (number_at stage)))
+  IsOwn stage = (ask_at_stage w stage ≡ asks.NewFile (temp_path w.objects (number_in stage))) ⊎ DoneSince first events handle begun (asks.NewFile (temp_path w.objects (number_in stage)))
+
+  pub below : (stage : WriteStage) → StandsAt first events handle begun turns w stage → number_in stage < temp_names
+  below stage s = history_below (head_to_write w) (λ id. id ≡ name_to_write w) ⊥ (OtherLength (Some w.bytes) w.size) stage (data_at w.bytes stage) s.past (done_at first events handle begun turns w stage s).history
 
   pub made_before : (stage : WriteStage) (number : ℕ) → number_made stage ≡ Some number → StandsAt first events handle begun turns w stage → DoneSince first events handle begun (asks.NewFile (temp_path w.objects number))
   made_before stage number made s =
-      s.asked (exchanged (asks.NewFile (temp_path w.objects number)) answers.Done) (history_makes (head_to_write w) (λ id. id ≡ name_to_write w) number ⊥ (OtherLength (Some w.bytes) w.size) stage s.appended s.past made s.history)
+      s.asked (exchanged (asks.NewFile (temp_path w.objects number)) answers.Done) (history_makes (head_to_write w) (λ id. id ≡ name_to_write w) number ⊥ (OtherLength (Some w.bytes) w.size) stage (data_at w.bytes stage) s.past made (done_at first events handle begun turns w stage s).history)
 
   is_own : (stage : WriteStage) → StandsAt first events handle begun turns w stage → IsOwn stage
   is_own (stages.Making number) s = inl refl
@@ -176,8 +131,8 @@ module _ (first : Volume) (events : List Event) (handle : ℕ) (running : Runnin
   by_change (Some change) five =
       subst (λ objects. ChangesInWrite first events handle running.begun (to_write objects w.kind w.size w.bytes w.known) (ask_at_stage w stage) change) writes.into
       (record {
-        number = number_at stage;
-        below = below (head_to_write w) (λ id. id ≡ name_to_write w) (λ n. OtherLength (Some w.bytes) w.size n) stage writes.stands.appended writes.stands.past writes.stands.history;
+        number = number_in stage;
+        below = below first events handle running.begun writes.own w stage writes.stands;
         own = is_own first events handle running.begun writes.own w stage writes.stands;
         one = five;
       })

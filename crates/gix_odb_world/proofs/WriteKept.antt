@@ -14,19 +14,19 @@ use Rattle.odb_disk.specs.declared.ask.DiskAsk.{DiskAsk}
 use Rattle.odb_tree.specs.OwnFile.{HasFile}
 use Rattle.odb_tree.proofs.OwnFileLaws.{has_file_kept}
 use Rattle.gix_odb_loose.specs.Exchanges.{Exchange}
+use Rattle.gix_odb_loose.specs.WriteAsks.{write_of}
 use Rattle.gix_odb_loose.specs.WriteOrder.{temp_path, number_made}
 use Rattle.gix_odb_loose.specs.declared.call.LooseCall.{LooseCall}
 use Rattle.gix_hash.specs.declared.object_id.ObjectId.{ObjectId}
 use Rattle.gix_object.specs.declared.kind.Kind.{Kind}
-use Rattle.gix_odb_loose.specs.WriteHistory.WentWell.{tried}
-use Rattle.gix_odb_loose.specs.declared.write_order.WriteHead.{WriteHead}
+use Rattle.gix_odb_loose.proofs.AskLaws.{IsAlong-start}
 use Rattle.gix_odb_loose.specs.declared.write_order.WriteStage.TheVariants as write_stages
 use Rattle.gix_odb_world.specs.Recorded.{path_recorded}
-use Rattle.gix_odb.specs.CallOrder.{writing}
+use Rattle.gix_odb.specs.CallOrder.{hash_to_write, writing}
 use Rattle.gix_odb.specs.declared.call.Call.TheVariants.{Write}
 use Rattle.gix_odb_world.specs.declared.record.Did.TheVariants.{Disk}
 use Rattle.gix_odb_world.specs.Event.{OfDisk, Event}
-use Rattle.gix_odb_world.specs.Status.{Running, Store, running_from}
+use Rattle.gix_odb_world.specs.Status.{MakeCall, Running, Store, running_from}
 use Rattle.gix_odb_world.specs.Run.{IsTurnOf, disk_after, tree_at}
 use Rattle.gix_odb_world.specs.Running.Write.{HoldsFile, Holds, IsUntouched, IsWriting, content_at}
 use Rattle.gix_odb_world.specs.Writing.{AskedAt, AskedSince, EachTurn, LeftAlone}
@@ -41,7 +41,8 @@ module _ (first : Volume) (events : List Event) (e : Event) where
   pub whole_length : length whole ≡ length events + 1
   whole_length = length-append events (e ∷ [])
 
-  pub asked_at_kept : (handle place : ℕ) (ask : DiskAsk) (answer : DiskAnswer) → AskedAt first events handle place ask answer → AskedAt first whole handle place ask answer
+  pub asked_at_kept : (handle place : ℕ) (ask : DiskAsk) (answer : DiskAnswer) → AskedAt first events handle place ask answer
+      → AskedAt first whole handle place ask answer
   asked_at_kept handle place ask answer a =
       let within : place < length events = slice_get_within events place a.event a.there in
       let same : take place whole ≡ take place events = take-append-le place events (e ∷ []) (omega (arith, within)) in
@@ -54,11 +55,13 @@ module _ (first : Volume) (events : List Event) (e : Event) where
         given = a.given ∙ ap (λ es. answer_now (disk_after first es) ask) (sym same);
       }
 
-  pub asked_kept : (handle begun : ℕ) (ask : DiskAsk) (answer : DiskAnswer) → AskedSince first events handle begun ask answer → AskedSince first whole handle begun ask answer
+  pub asked_kept : (handle begun : ℕ) (ask : DiskAsk) (answer : DiskAnswer) → AskedSince first events handle begun ask answer
+      → AskedSince first whole handle begun ask answer
   asked_kept handle begun ask answer a = record { place = a.place; later = a.later; at = asked_at_kept handle a.place ask answer a.at }
 
   -- the last event's own call
-  pub asked_now : (handle : ℕ) (ask : DiskAsk) (answer : DiskAnswer) → IsTurnOf handle e.step → e.entry.did ≡ Disk (op_of ask) (path_recorded ask) (next_fails (disk_after first events))
+  pub asked_now : (handle : ℕ) (ask : DiskAsk) (answer : DiskAnswer) → IsTurnOf handle e.step
+      → e.entry.did ≡ Disk (op_of ask) (path_recorded ask) (next_fails (disk_after first events))
       → e.asked ≡ OfDisk ask answer → answer ≡ answer_now (disk_after first events) ask → AskedAt first whole handle (length events) ask answer
   asked_now handle ask answer turn did asked given =
       let same : take (length events) whole ≡ events = take-append_seam events (e ∷ []) in
@@ -72,7 +75,8 @@ module _ (first : Volume) (events : List Event) (e : Event) where
       }
 
   -- the steps of others so far left a path alone
-  pub alone_before : (handle : ℕ) (path : Path) (from to : ℕ) → length events ≤ to → LeftAlone first whole handle path from to → LeftAlone first events handle path from (length events)
+  pub alone_before : (handle : ℕ) (path : Path) (from to : ℕ) → length events ≤ to → LeftAlone first whole handle path from to
+      → LeftAlone first events handle path from (length events)
   alone_before handle path from to long alone place x later within there other =
       let old : tree_at first whole place ≡ tree_at first events place = tree_at-before first events e place (omega (arith, within)) in
       let new : tree_at first whole (place + 1) ≡ tree_at first events (place + 1) = tree_at-before first events e (place + 1) (omega (arith, within)) in
@@ -81,14 +85,16 @@ module _ (first : Volume) (events : List Event) (e : Event) where
       (alone place x later (omega (arith, within, long)) (slice_get-kept events e place x there) other))
 
   -- and so did the last one
-  pub alone_now : (handle : ℕ) (path : Path) (from : ℕ) → from ≤ length events → ¬ (IsTurnOf handle e.step) → LeftAlone first whole handle path from (length whole)
+  pub alone_now : (handle : ℕ) (path : Path) (from : ℕ) → from ≤ length events → ¬ (IsTurnOf handle e.step)
+      → LeftAlone first whole handle path from (length whole)
       → SameOnWay (tree_at first events (length events)) (tree_at first whole (length events + 1)) true path
   alone_now handle path from soon other alone =
       subst (λ (t : Tree). SameOnWay t (tree_at first whole (length events + 1)) true path) (tree_at-before first events e (length events) (omega arith))
       (alone (length events) e soon (omega (arith, whole_length)) (slice_get-last events e) other)
 
   -- a file that nobody touched is there still
-  holds_kept : (handle begun : ℕ) (path : Path) (bytes : List ℕ) → ¬ (IsTurnOf handle e.step) → HoldsFile first events handle begun path bytes → HoldsFile first whole handle begun path bytes
+  holds_kept : (handle begun : ℕ) (path : Path) (bytes : List ℕ) → ¬ (IsTurnOf handle e.step) → HoldsFile first events handle begun path bytes
+      → HoldsFile first whole handle begun path bytes
   holds_kept handle begun path bytes other h =
       let within : h.made < length events = slice_get_within events h.made h.makes.event h.makes.there in
       record {
@@ -102,13 +108,15 @@ module _ (first : Volume) (events : List Event) (e : Event) where
             (before.0, subst (λ n. HasFile (tree_at first whole n) path before.0 bytes 0) (sym whole_length) after);
       }
 
-  holds_push : (handle begun : ℕ) (objects : Path) (number : Option ℕ) (bytes : Option (List ℕ)) → ¬ (IsTurnOf handle e.step) → Holds first events handle begun objects number bytes → Holds first whole handle begun objects number bytes
+  holds_push : (handle begun : ℕ) (objects : Path) (number : Option ℕ) (bytes : Option (List ℕ)) → ¬ (IsTurnOf handle e.step)
+      → Holds first events handle begun objects number bytes → Holds first whole handle begun objects number bytes
   holds_push handle begun objects (Some number) (Some bytes) other h = holds_kept handle begun (temp_path objects number) bytes other h
   holds_push handle begun objects (Some number) None other h = tt
   holds_push handle begun objects None bytes other h = tt
 
 -- each turn so far, and the last event where it is one
-pub each_turn_push : (events : List Event) (e : Event) (handle begun : ℕ) (Q : Event → Type 0) → EachTurn events handle begun Q → (IsTurnOf handle e.step → Q e) → EachTurn (events ++ e ∷ []) handle begun Q
+pub each_turn_push : (events : List Event) (e : Event) (handle begun : ℕ) (Q : Event → Type 0) → EachTurn events handle begun Q
+    → (IsTurnOf handle e.step → Q e) → EachTurn (events ++ e ∷ []) handle begun Q
 each_turn_push events e handle begun Q each here place x later there turn =
     elim (slice_get-push events e place x there) [
       | inl old ↦ each place x later old.1 turn
@@ -119,22 +127,19 @@ each_turn_push events e handle begun Q each here place x later there turn =
 pub each_turn_none : (events : List Event) (handle begun : ℕ) (Q : Event → Type 0) → length events ≤ begun → EachTurn events handle begun Q
 each_turn_none events handle begun Q short place x later there turn = absurd (omega (arith, short, later, slice_get_within events place x there))
 
-untouched_push : (events : List Event) (e : Event) (handle begun : ℕ) (number : Option ℕ) → ¬ (IsTurnOf handle e.step) → IsUntouched events handle begun number → IsUntouched (events ++ e ∷ []) handle begun number
+untouched_push : (events : List Event) (e : Event) (handle begun : ℕ) (number : Option ℕ) → ¬ (IsTurnOf handle e.step)
+    → IsUntouched events handle begun number → IsUntouched (events ++ e ∷ []) handle begun number
 untouched_push events e handle begun None other each = each_turn_push events e handle begun _ each (λ turn. absurd (other turn))
 untouched_push events e handle begun (Some number) other each = tt
 
 -- ---- a running write
-
-no_tries : (head : WriteHead) → [] ≡ tried head 0
-unfolding tried
-no_tries head = refl
 
 nothing_among : (x : Exchange) → ¬ (Contains [] x)
 nothing_among x (k, within, is) = omega (arith, within)
 
 -- a write that the event begins has done nothing
 pub writing_begun : (first : Volume) (events : List Event) (e : Event) (handle : ℕ) (store : Store) (ignoring : Bool) (kind : Kind) (size : ℕ) (bytes : List ℕ) (known : Option ObjectId) → size < 2 ^ 64
-    → IsWriting first (events ++ e ∷ []) handle (running_from (length events + 1) (Write kind size bytes known) store ignoring) (writing store.parts.objects kind size bytes known)
+    → IsWriting first (events ++ e ∷ []) handle (running_from (length events + 1) (MakeCall (Write kind size bytes known)) store ignoring) (writing store.parts.objects kind size bytes known)
 writing_begun first events e handle store ignoring kind size bytes known fits =
     let short : length (events ++ e ∷ []) ≤ length events + 1 = omega (arith, length-append events (e ∷ [])) in
     record {
@@ -144,26 +149,23 @@ writing_begun first events e handle store ignoring kind size bytes known fits =
       fits = fits;
       stage = write_stages.Making 0;
       is = refl;
-      more = tt;
       own = 0;
       turns = refl;
       stands = record {
         past = [];
-        appended = [];
-        history = (omega arith, refl, no_tries (record { objects = store.parts.objects; kind = kind; size = size }));
-        front = tt;
+        along = IsAlong-start (write_of (record { objects = store.parts.objects; kind = kind; size = size }) (hash_to_write known) known bytes);
+        had = refl;
         asked = λ x among. absurd (nothing_among x among);
         unnamed = each_turn_none (events ++ e ∷ []) handle (length events + 1) _ short;
         made = each_turn_none (events ++ e ∷ []) handle (length events + 1) _ short;
         untouched = each_turn_none (events ++ e ∷ []) handle (length events + 1) _ short;
         holds = tt;
-        time = omega arith;
-        had = refl;
       };
     }
 
 -- a running write goes on as it is over an event that isn't its turn
-pub writing_push : (first : Volume) (events : List Event) (e : Event) (handle : ℕ) (running : Running) (folder : LooseCall) → ¬ (IsTurnOf handle e.step)
+pub writing_push : (first : Volume) (events : List Event) (e : Event) (handle : ℕ) (running : Running) (folder : LooseCall)
+    → ¬ (IsTurnOf handle e.step)
     → IsWriting first events handle running folder → IsWriting first (events ++ e ∷ []) handle running folder
 writing_push first events e handle running folder other writes =
     record {
@@ -173,20 +175,16 @@ writing_push first events e handle running folder other writes =
       fits = writes.fits;
       stage = writes.stage;
       is = writes.is;
-      more = writes.more;
       own = writes.own;
       turns = writes.turns;
       stands = record {
         past = writes.stands.past;
-        appended = writes.stands.appended;
-        history = writes.stands.history;
-        front = writes.stands.front;
+        along = writes.stands.along;
+        had = writes.stands.had;
         asked = λ x among. asked_kept first events e handle running.begun x.ask x.answer (writes.stands.asked x among);
         unnamed = each_turn_push events e handle running.begun _ writes.stands.unnamed (λ turn. absurd (other turn));
         made = each_turn_push events e handle running.begun _ writes.stands.made (λ turn. absurd (other turn));
         untouched = untouched_push events e handle running.begun (number_made writes.stage) other writes.stands.untouched;
-        holds = holds_push first events e handle running.begun writes.write.objects (number_made writes.stage) (content_at writes.write writes.stands.appended writes.stage) other writes.stands.holds;
-        time = writes.stands.time;
-        had = writes.stands.had;
+        holds = holds_push first events e handle running.begun writes.write.objects (number_made writes.stage) (content_at writes.write writes.stage) other writes.stands.holds;
       };
     }

@@ -1,7 +1,8 @@
 -- A write keeps the laws of a machine.
-use Rattle.std.proofs.Common.{◌≡◌, ℕ, ◌+◌, ◌≤◌, Bool, List, [], ◌∷◌, ◌++◌, length, Err, Option, Some, None, refl, sym, ◌∙◌, ap, subst}
+use Rattle.std.proofs.Common.{◌≡◌, ℕ, ◌+◌, ◌≤◌, Bool, List, [], ◌∷◌, ◌++◌, length, Ok, Option, Some, None, refl, sym, ◌∙◌, ap, subst}
 use Rattle.odb_disk.specs.MemDisk.{Volume}
 use Rattle.odb_disk.specs.Ask.{answer_now}
+use Rattle.odb_disk.specs.declared.ask.DiskAnswer.{DiskAnswer}
 use Rattle.odb_disk.specs.declared.ask.DiskAsk.{DiskAsk}
 use Rattle.gix_odb_loose.specs.LooseOrder as loose_order
 use Rattle.gix_odb_loose.specs.LooseOrder.{disk_ask_of, reply_of}
@@ -9,42 +10,41 @@ use Rattle.gix_odb_loose.specs.declared.call.LooseCall.{LooseCall}
 use Rattle.gix_odb_loose.specs.declared.call.LooseReply.{LooseReply}
 use Rattle.gix_odb_loose.proofs.StillAskLaws.{call_asks_still}
 use Rattle.gix_odb.specs.CallOrder as calls
-use Rattle.gix_odb.specs.CallOrder.{HasSize, result_of, written_by}
-use Rattle.gix_odb.specs.declared.call.Call.{Call}
+use Rattle.gix_odb.specs.CallOrder.{result_of, written_by}
 use Rattle.gix_odb.specs.declared.call.Call.TheVariants as call_kinds
+use Rattle.gix_odb.specs.declared.call.Reply.{Reply}
 use Rattle.gix_odb.specs.declared.call_state.CallState.TheVariants.{Writing}
-use Rattle.gix_odb_world.specs.declared.work.Work.{Work}
 use Rattle.gix_odb_world.specs.declared.work.Work.TheVariants.{Calling}
 use Rattle.gix_odb_world.specs.Event.{Event}
 use Rattle.gix_odb_world.specs.Machine.{placed}
 use Rattle.gix_odb_world.specs.Run.{disk_after}
 use Rattle.gix_odb_world.specs.Running.Write.{IsWriting, replied_by, result_of_write, writing}
-use Rattle.gix_odb_world.specs.Status.{Running, Store, call_started, running_from}
+use Rattle.gix_odb_world.specs.Status.{MakeCall, OpenStore, Running, Store, Task, begun_with, running_from}
 use Rattle.gix_odb_world.specs.WorkOrder.{calling_result}
 use Rattle.gix_odb_world.proofs.AskLemmas.{in_order_write}
-use Rattle.gix_odb_world.proofs.MachineLaws.{HasTurn, KeepsLaws, MachineComes}
+use Rattle.gix_odb_world.proofs.MachineLaws.{HasTurn, IsSized, KeepsLaws, KeepsWriteLaws, MachineComes}
 use Rattle.gix_odb_world.proofs.WriteFive.{five_written}
-use Rattle.gix_odb_world.proofs.WriteGoes.{ask_at_stage, write_comes}
+use Rattle.gix_odb_world.proofs.WriteGoes.{write_comes}
 use Rattle.gix_odb_world.proofs.WriteKept.{writing_begun, writing_push}
+use Rattle.gix_odb_world.proofs.WriteTurn.{ask_at_stage}
 use Rattle.gix_odb_world.proofs.WriteTurn.Common.{IsTurnWith}
 
-write_placed : (folder : LooseCall) (reply : Option LooseReply) → calling_result (result_of (written_by folder reply)) ≡ placed writing (replied_by folder reply)
+write_placed : (folder : LooseCall) (reply : Option LooseReply)
+    → calling_result (result_of (written_by folder reply)) ≡ placed writing (replied_by folder reply)
 write_placed folder None = refl
 write_placed folder (Some reply) = refl
 
-write_rests : (folder : LooseCall) (left : Work) → calling_result (result_of (Writing folder)) ≡ Err left → left ≡ Calling (Writing folder)
-write_rests folder left is = cc is
-
--- a state at which a call begins is that of its write
-write_starts : (first : Volume) (events : List Event) (e : Event) (handle : ℕ) (store : Store) (ignoring : Bool) (call : Call) (folder : LooseCall) → HasSize call → call_started store ignoring call ≡ Calling (Writing folder)
-    → IsWriting first (events ++ e ∷ []) handle (running_from (length events + 1) call store ignoring) folder
-write_starts first events e handle store ignoring (call_kinds.Find id) folder sized at = absurd (cc at)
-write_starts first events e handle store ignoring (call_kinds.Header id) folder sized at = absurd (cc at)
-write_starts first events e handle store ignoring (call_kinds.Test id) folder sized at = absurd (cc at)
-write_starts first events e handle store ignoring (call_kinds.Write kind size bytes id) folder sized at =
+-- a state at which a task begins is that of its write
+write_starts : (first : Volume) (events : List Event) (e : Event) (handle : ℕ) (store : Store) (ignoring : Bool) (task : Task) (folder : LooseCall)
+    → IsSized task
+    → begun_with store ignoring task ≡ Calling (Writing folder)
+    → IsWriting first (events ++ e ∷ []) handle (running_from (length events + 1) task store ignoring) folder
+write_starts first events e handle store ignoring OpenStore folder sized at = absurd (cc at)
+write_starts first events e handle store ignoring (MakeCall (call_kinds.Write kind size bytes id)) folder sized at =
     let same : calls.writing store.parts.objects kind size bytes id ≡ folder = cc at in
-    subst (IsWriting first (events ++ e ∷ []) handle (running_from (length events + 1) (call_kinds.Write kind size bytes id) store ignoring)) same
+    subst (IsWriting first (events ++ e ∷ []) handle (running_from (length events + 1) (MakeCall (call_kinds.Write kind size bytes id)) store ignoring)) same
     (writing_begun first events e handle store ignoring kind size bytes id sized)
+write_starts first events e handle store ignoring (MakeCall call) folder sized at = absurd (cc at)
 
 module _ (first : Volume) (events : List Event) (handle : ℕ) (running : Running) (folder : LooseCall) (ask : DiskAsk) (knows : IsWriting first events handle running folder) (is : disk_ask_of folder ≡ Some ask) where
   -- it asks what its stage does
@@ -66,16 +66,43 @@ module _ (first : Volume) (events : List Event) (handle : ℕ) (running : Runnin
       subst (λ a. IsTurnWith first events e handle a → MachineComes first events e handle running writing (result_of_write (loose_order.fed folder (answer_now (disk_after first events) a)))) same_ask
       (λ stage_turn. write_comes first events e handle running since folder knows stage_turn) turn
 
+-- ---- its laws
+
+-- a write that ends has its reply
+write_ends : (folder own : LooseCall) (answer : DiskAnswer) (reply : Reply) → Some folder ≡ Some own
+    → result_of_write (loose_order.fed own answer) ≡ Ok reply
+    → result_of_write (loose_order.fed folder answer) ≡ Ok reply
+write_ends folder own answer reply is done = let same : folder ≡ own = cc is in subst (λ f. result_of_write (loose_order.fed f answer) ≡ Ok reply) (sym same) done
+
+write_asks : (folder own : LooseCall) → Some folder ≡ Some own → disk_ask_of folder ≡ disk_ask_of own
+write_asks folder own is = let same : folder ≡ own = cc is in ap disk_ask_of same
+
+write_known : (first : Volume) (events : List Event) (handle : ℕ) (running : Running) (folder own : LooseCall)
+    → IsWriting first events handle running folder → Some folder ≡ Some own
+    → IsWriting first events handle running own
+write_known first events handle running folder own knows is = let same : folder ≡ own = cc is in subst (IsWriting first events handle running) same knows
+
+writing_writes : KeepsWriteLaws writing
+writing_writes = record {
+  quiet = λ first events handle running folder ask knows none is. absurd (cc none);
+  known = write_known;
+  asks = λ store folder own is. write_asks folder own is;
+  ends = λ store folder own answer reply is done. write_ends folder own answer reply is done;
+  before = λ store folder next answer own goes is. (folder, refl);
+}
+
 pub writing_laws : KeepsLaws writing
 writing_laws = record {
-  back = λ first events handle running folder knows. knows;
-  asks = λ store folder. refl;
-  feeds = λ store folder answer. write_placed (loose_order.fed folder answer) (reply_of (loose_order.fed folder answer));
-  rests = write_rests;
+  at_home = λ folder. refl;
+  asks = λ store ignoring code own folder. refl;
+  feeds = λ store ignoring code own folder answer. write_placed (loose_order.fed folder answer) (reply_of (loose_order.fed folder answer));
   starts = write_starts;
+  tasked = λ first events handle running folder knows. record { write = knows.write; task_is = knows.task; stage = knows.stage; is = knows.is };
+  bounded = λ store task folder is entries. refl;
   still = λ store folder ask is. call_asks_still folder ask is;
   kept = λ first events e handle running folder other knows. writing_push first events e handle running folder other knows;
   names = λ first events handle running folder knows. (ask_at_stage knows.write knows.stage, ap disk_ask_of knows.is);
   takes = λ first events handle running folder ask knows is. write_takes first events handle running folder ask knows is;
   comes = λ first events e handle running since folder ask knows is turn. machine_comes first events handle running folder ask knows is e since turn;
+  writes = writing_writes;
 }

@@ -7,7 +7,8 @@ use Rattle.odb_disk.specs.declared.ask.DiskAsk.TheVariants as asks
 use Rattle.gix_object.specs.Loose.{header_of}
 use Rattle.gix_odb_loose.specs.LooseFile.{loose_path}
 use Rattle.gix_odb_loose.specs.WriteJobs.{piece_at, pieces_of}
-use Rattle.gix_odb_loose.specs.WriteOrder.{prefix_path, temp_path}
+use Rattle.gix_odb_loose.specs.WriteOrder.{prefix_path, temp_names, temp_path}
+use Rattle.gix_odb_loose.specs.WritePieces.{piece_size}
 use Rattle.gix_odb.specs.declared.call.Call.TheVariants as calls
 use Rattle.gix_odb.specs.declared.query.Query.TheVariants.{Find, Header, Test}
 use Rattle.gix_odb.specs.Contents.{folder_list, sought}
@@ -28,16 +29,19 @@ HasMadeFile first past handle begun w number = DoneSince first past handle begun
 -- A write tries one name after another. The file has the number of the last try; then come the header, the data in pieces, the
 -- directory and the name, one turn each. Only the removal of the file may come in any turn after its making.
 pub data AsksToWrite (first : Volume) (past : List Event) (handle begun turns : ℕ) (w : ToWrite) : DiskAsk → Type 0 where
-  MakesFile : (number : ℕ) (below : number < 16) (turn : turns ≡ number) → AsksToWrite first past handle begun turns w (asks.NewFile (temp_path w.objects number))
+  MakesFile : (number : ℕ) (below : number < temp_names) (turn : turns ≡ number)
+      → AsksToWrite first past handle begun turns w (asks.NewFile (temp_path w.objects number))
   AppendsHeader : (number : ℕ) (made : HasMadeFile first past handle begun w number) (turn : turns ≡ number + 1)
       → AsksToWrite first past handle begun turns w (asks.Append (temp_path w.objects number) (header_of w.kind w.size))
-  AppendsPiece : (number : ℕ) (made : HasMadeFile first past handle begun w number) (count : ℕ) (turn : turns ≡ number + 2 + count) (some : 65536 * count < length w.bytes)
-      → AsksToWrite first past handle begun turns w (asks.Append (temp_path w.objects number) (piece_at w.size w.bytes (65536 * count)))
+  AppendsPiece : (number : ℕ) (made : HasMadeFile first past handle begun w number) (count : ℕ) (turn : turns ≡ number + 2 + count)
+      (some : piece_size * count < length w.bytes)
+      → AsksToWrite first past handle begun turns w (asks.Append (temp_path w.objects number) (piece_at w.size w.bytes (piece_size * count)))
   MakesDirectory : (number : ℕ) (made : HasMadeFile first past handle begun w number) (turn : turns ≡ number + 2 + pieces_of (length w.bytes))
       → AsksToWrite first past handle begun turns w (asks.MakeDir (prefix_path w.objects (name_to_write w)))
   Renames : (number : ℕ) (made : HasMadeFile first past handle begun w number) (turn : turns ≡ number + 3 + pieces_of (length w.bytes))
       → AsksToWrite first past handle begun turns w (asks.Rename (temp_path w.objects number) (loose_path w.objects (name_to_write w)))
-  Removes : (number : ℕ) (made : HasMadeFile first past handle begun w number) → AsksToWrite first past handle begun turns w (asks.Remove (temp_path w.objects number))
+  Removes : (number : ℕ) (made : HasMadeFile first past handle begun w number)
+      → AsksToWrite first past handle begun turns w (asks.Remove (temp_path w.objects number))
 
 -- What a turn asks, where its handle has had so many turns since the step that set its task: an opening looks at the objects
 -- directory; a find and a header read, and a test looks at, the loose path of the sought id in the folder of that number.

@@ -8,22 +8,52 @@ use Rattle.gix_odb.specs.declared.call.Call.{Call}
 use Rattle.gix_odb.specs.declared.call.Call.TheVariants.{Write}
 use Rattle.gix_odb_loose.specs.WriteJobs.{pieces_of}
 use Rattle.gix_odb.specs.Contents.{StoreData, folder_list}
-use Rattle.gix_odb_world.specs.Status.{Store, Task, OpenStore, MakeCall}
+use Rattle.gix_odb_world.specs.AtWork.{Store, Task, OpenStore, MakeCall}
 
--- a write of n bytes has 40 turns more, and one for each begun 65,536 bytes
+-- ---- the numbers: a lap is one way through all that a store's list names, and through its folders
+
+-- The turns that a lap has for the list itself, for each slot and for each entry of a folder that is listed: to read, look at, open,
+-- close and put one takes fewer.
+abbrev pub turns_each : ℕ
+turns_each = 8
+
+-- the turns that it has for a folder beside those for its entries: its listings and its loose file take fewer
+abbrev pub turns_of_folder : ℕ
+turns_of_folder = 16
+
+-- the laps that no change of the list causes: the first, and the one that finds the list as it was
+abbrev pub laps_without_change : ℕ
+laps_without_change = 2
+
+-- The turns of a write beside those of its pieces. It takes fewer: one for each of its `temp_names`, and one each for its header, its
+-- directory, its rename and the removal of its file.
+abbrev pub turns_beside_pieces : ℕ
+turns_beside_pieces = 40
+
+-- the changes of the list that a call bears, where no option says otherwise
+abbrev pub default_changes : ℕ
+default_changes = 16
+
+-- the most changes of the list that a call may be told to bear: the bound is a number of 128 bits then
+abbrev pub most_changes : ℕ
+most_changes = 1000000
+
+-- ---- the bound
+
+-- a write has some turns more, and one for each begun piece
 abbrev pub turns_of_write : Option ℕ → ℕ
 turns_of_write None = 0
-turns_of_write (Some bytes) = 40 + pieces_of bytes
+turns_of_write (Some bytes) = turns_beside_pieces + pieces_of bytes
+
+-- the turns of one lap over a store with so many slots and folders, where a folder that is listed has at most so many entries
+abbrev pub turns_of_lap : (slots folders entries : ℕ) → ℕ
+turns_of_lap slots folders entries = turns_each + turns_each * slots + folders * (turns_each * entries + turns_of_folder)
 
 -- the bound for a store with so many slots and folders, so many changes of the list that a call bears,
 -- and at most so many entries in a folder that it lists
 abbrev pub turn_bound : ℕ → ℕ → ℕ → ℕ → Option ℕ → ℕ
 turn_bound slots folders max_changes entries write =
-    (max_changes + 2) * (8 + 8 * slots + folders * (8 * entries + 16)) + turns_of_write write
-
--- the changes of the list that a call bears, where no option says otherwise
-abbrev pub default_changes : ℕ
-default_changes = 16
+    (max_changes + laps_without_change) * turns_of_lap slots folders entries + turns_of_write write
 
 -- two lower-case hex digits
 abbrev pub is_prefix_name : Name → Bool
@@ -32,19 +62,25 @@ is_prefix_name name = (length name == 2) && list_all (λ digit. list_any (λ d. 
 -- the folders whose entries a call may list: `pack` and the prefix folders of each folder of the store
 pub data IsListed (store : StoreData) : Path → Type 0 where
   Pack : (folder : Path) (among : Contains (folder_list store) folder) → IsListed store (folder ++ codes "pack" ∷ [])
-  Prefix : (folder : Path) (name : Name) (among : Contains (folder_list store) folder) (hex : is_prefix_name name ≡ true) → IsListed store (folder ++ name ∷ [])
+  Prefix : (folder : Path) (name : Name) (among : Contains (folder_list store) folder) (hex : is_prefix_name name ≡ true)
+      → IsListed store (folder ++ name ∷ [])
 
 -- no folder that a call may list has more entries, at any moment from `begun` to `now`
 abbrev pub HasAtMost : (ℕ → Tree) → StoreData → ℕ → ℕ → ℕ → Type 0
 HasAtMost trees store begun now entries =
-    (moment : ℕ) → begun ≤ moment → moment ≤ now → (folder : Path) (names : List Name) → IsListed store folder → listed (trees moment) folder ≡ Ok names → length names ≤ entries
+    (moment : ℕ) → begun ≤ moment → moment ≤ now → (folder : Path) (names : List Name) → IsListed store folder
+    → listed (trees moment) folder ≡ Ok names → length names ≤ entries
 
 -- how many bytes a call is to write, if it is a write
 abbrev pub bytes_to_write : Call → Option ℕ
 bytes_to_write (Write kind size bytes known) = Some (length bytes)
 bytes_to_write call = None
 
+-- the bound of a call in a store that is to write so many bytes, if it is a write
+abbrev pub bound_of_call : Store → (entries : ℕ) → (bytes : Option ℕ) → ℕ
+bound_of_call store entries bytes = turn_bound store.slots (length (folder_list store.parts)) default_changes entries bytes
+
 -- the bound of a task; an opening is bounded with no slots and no changes
 abbrev pub bound_of_task : Store → Task → (entries : ℕ) → ℕ
 bound_of_task store OpenStore entries = turn_bound 0 (length (folder_list store.parts)) 0 entries None
-bound_of_task store (MakeCall call) entries = turn_bound store.slots (length (folder_list store.parts)) default_changes entries (bytes_to_write call)
+bound_of_task store (MakeCall call) entries = bound_of_call store entries (bytes_to_write call)

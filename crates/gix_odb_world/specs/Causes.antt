@@ -1,5 +1,5 @@
 -- Why an opening or a call is refused: each error, and what the run shows where it is given.
-use Rattle.std.specs.Prelude.{◌≡◌, ℕ, ◌<◌, ◌≤◌, true, Contains, Result, Ok, Err}
+use Rattle.std.specs.Prelude.{◌≡◌, ℕ, ◌<◌, true, Contains, Result, Ok, Err}
 use Rattle.odb_base.specs.Path.{Path}
 use Rattle.odb_tree.specs.Tree.{Tree}
 use Rattle.odb_tree.specs.Tree.Follow.{Refusal, looked, read_of}
@@ -15,16 +15,10 @@ use Rattle.gix_odb.specs.declared.init.Error.TheVariants as opening_errors
 use Rattle.gix_odb.specs.declared.find.Error as finding
 use Rattle.gix_odb.specs.declared.find.Error.TheVariants as find_errors
 use Rattle.gix_odb.specs.LookOrder.{job_of}
+pub use Rattle.gix_odb.specs.Moments.{Sometime}
 use Rattle.gix_odb.specs.Contents.{folder_list}
-use Rattle.gix_odb_world.specs.Status.{Store}
+use Rattle.gix_odb_world.specs.AtWork.{Store}
 use Rattle.gix_odb.specs.OpenOrder.{most_slots}
-
--- something was so at some moment of a call
-pub record Sometime (begun now : ℕ) (P : ℕ → Type 0) : Type 0 where
-  pub moment : ℕ
-  pub from : begun ≤ moment
-  pub to : moment ≤ now
-  pub was : P moment
 
 abbrev pub IsDirectoryMeta : Result Meta Refusal → Type 0
 IsDirectoryMeta (Ok meta) = meta.kind ≡ kinds.Dir

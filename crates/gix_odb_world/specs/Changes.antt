@@ -10,7 +10,8 @@ use Rattle.odb_tree.specs.declared.change.Change.{Change}
 use Rattle.odb_tree.specs.declared.change.Change.TheVariants.{PutFile, MakeDir, PutLink, Rename, Append, Remove, SetTime}
 use Rattle.gix_hash.specs.declared.object_id.ObjectId.{ObjectId}
 use Rattle.gix_odb_loose.specs.LooseFile.{loose_path}
-use Rattle.gix_odb_loose.specs.WriteOrder.{temp_path, prefix_path}
+use Rattle.gix_odb_loose.specs.WriteOrder.{prefix_path, temp_names, temp_path}
+use Rattle.gix_odb_loose.specs.WritePieces.{piece_size}
 use Rattle.gix_odb.specs.declared.call.Call.TheVariants.{Write}
 use Rattle.gix_odb_world.specs.declared.step.Step.{Step}
 use Rattle.gix_odb_world.specs.declared.step.Step.TheVariants as steps
@@ -35,12 +36,12 @@ ChangesAs step (outcomes.Reply reply) made = Unit {0}
 ChangesAs step (outcomes.Misuse why) made = made ≡ None
 
 -- One of the five changes of a write into an objects directory, whose temporary path has a number, and whose object an id:
--- an empty file with time 0 at the spot of the temporary path; at most 65,536 bytes more in the file to which that path
--- leads; the directory of the object; a rename from the spot of the temporary path to that of the object's path; the
--- removal of the spot of the temporary path. No write puts a link or sets a time.
+-- an empty file with time 0 at the spot of the temporary path; at most one piece more in the file to which that path leads; the
+-- directory of the object; a rename from the spot of the temporary path to that of the object's path; the removal of the spot of the
+-- temporary path. No write puts a link or sets a time.
 abbrev pub IsOneOfFive : Tree → Path → (number : ℕ) → ObjectId → Change → Type 0
 IsOneOfFive tree objects number id (PutFile path time bytes) = (time ≡ 0) × (bytes ≡ []) × (spot tree (temp_path objects number) ≡ Ok path)
-IsOneOfFive tree objects number id (Append path bytes) = (length bytes ≤ 65536) × (file_spot tree (temp_path objects number) ≡ Ok path)
+IsOneOfFive tree objects number id (Append path bytes) = (length bytes ≤ piece_size) × (file_spot tree (temp_path objects number) ≡ Ok path)
 IsOneOfFive tree objects number id (MakeDir path dev) = spot tree (prefix_path objects id) ≡ Ok path
 IsOneOfFive tree objects number id (Rename from to) = (spot tree (temp_path objects number) ≡ Ok from) × (spot tree (loose_path objects id) ≡ Ok to)
 IsOneOfFive tree objects number id (Remove path) = spot tree (temp_path objects number) ≡ Ok path
@@ -51,7 +52,7 @@ IsOneOfFive tree objects number id (SetTime path time) = ⊥
 -- of the file that the write made before; its object has the id that the write names.
 pub record ChangesInWrite (first : Volume) (past : List Event) (handle begun : ℕ) (w : ToWrite) (ask : DiskAsk) (change : Change) : Type 0 where
   pub number : ℕ
-  pub below : number < 16
+  pub below : number < temp_names
   pub own : (ask ≡ asks.NewFile (temp_path w.objects number)) ⊎ DoneSince first past handle begun (asks.NewFile (temp_path w.objects number))
   pub one : IsOneOfFive (tree_of (disk_after first past).state) w.objects number (name_to_write w) change
 

@@ -17,13 +17,13 @@ use Rattle.gix_odb_world.specs.declared.record.Did.TheVariants.{Nothing, Disk}
 use Rattle.gix_odb_world.specs.declared.record.Run.{Run}
 use Rattle.gix_odb_world.specs.declared.work.Work.{Work}
 use Rattle.gix_odb_world.specs.Event.{OfDisk, Event}
-use Rattle.gix_odb_world.specs.Status.{Running, Task, Working, fed_in, status_of}
+use Rattle.gix_odb_world.specs.Status.{Running, Task, Working, status_of}
 use Rattle.gix_odb_world.specs.Run.{change_by, did_of_asked, disk_after, tree_at}
 use Rattle.gix_odb_world.specs.Begun.{BegunAs, HoldsStore, IsTaskOf, NoneSince}
 use Rattle.gix_odb_world.specs.Changes.{ChangesAs, ChangesInTask}
 use Rattle.gix_odb_world.specs.Undisturbed.{WritesStandAlone}
 use Rattle.gix_odb_world.specs.WholeNames.{NamesStayWhole}
-use Rattle.gix_odb_world.specs.WorkOrder.{ask_in, result_in}
+use Rattle.gix_odb_world.specs.Machines.{ask_in, fed_in}
 use Rattle.gix_odb_world.specs.Valid.{why_not_after, misuse_of}
 use Rattle.gix_odb_world.specs.Asks.{AsksInOrder}
 use Rattle.gix_odb_world.specs.Bound.{HasAtMost, bound_of_task}
@@ -72,12 +72,12 @@ pub record Works (first : Volume) (past : List Event) (handle : ℕ) (running : 
   pub opened : HoldsStore past handle running.store running.ignoring
   -- the call of the disk, which the event tells with its answer
   pub ask : DiskAsk
-  pub asks : ask_in running.store.parts.objects running.work ≡ Some ask
+  pub asks : ask_in running.store running.work ≡ Some ask
   -- which is the one of this turn of the task: of turn t of a find, the read of the loose path in the t-th folder
   pub in_order : AsksInOrder first past handle running.store running.ignoring running.begun running.turns running.task ask
   pub asked : e.entry.did ≡ Disk (op_of ask) (path_recorded ask) (next_fails (disk_after first past))
   pub told : e.asked ≡ OfDisk ask (answer_now (disk_after first past) ask)
-  pub goes : e.outcome ≡ outcome_of (result_in (fed_in running.store running.work (answer_now (disk_after first past) ask)))
+  pub goes : e.outcome ≡ outcome_of (fed_in running.store running.work (answer_now (disk_after first past) ask))
   -- the change of the record is that of the call
   pub changed : e.entry.change ≡ change_by (disk_after first past) ask
   pub five : ChangesInTask first past handle running.store running.begun running.task ask e.entry.change
@@ -96,11 +96,14 @@ pub record Law (first : Volume) (past : List Event) (e : Event) : Type 0 where
   -- a turn does what the order of work says
   pub worked : (handle : ℕ) (running : Running) → Turns past e handle running → Works first past handle running e
   -- a reply keeps its promise, which is that of the task that the step `begun` set
-  pub promise : (handle : ℕ) (running : Running) (task : Task) (reply : Reply) → Turns past e handle running → BegunAs past handle running.begun running.store task
+  pub promise : (handle : ℕ) (running : Running) (task : Task) (reply : Reply) → Turns past e handle running
+      → BegunAs past handle running.begun running.store task
       → e.outcome ≡ outcomes.Reply reply → Promise first (past ++ e ∷ []) handle running.store running.ignoring running.begun task reply
   -- a call that goes on has had fewer turns than its bound
-  pub in_time : (handle : ℕ) (running : Running) (task : Task) (entries : ℕ) → Turns past e handle running → BegunAs past handle running.begun running.store task
-      → e.outcome ≡ outcomes.Pending → HasAtMost (tree_at first (past ++ e ∷ [])) running.store.parts running.begun (length past + 1) entries → running.turns + 1 < bound_of_task running.store task entries
+  pub in_time : (handle : ℕ) (running : Running) (task : Task) (entries : ℕ) → Turns past e handle running
+      → BegunAs past handle running.begun running.store task
+      → e.outcome ≡ outcomes.Pending → HasAtMost (tree_at first (past ++ e ∷ [])) running.store.parts running.begun (length past + 1) entries
+      → running.turns + 1 < bound_of_task running.store task entries
 
 -- each event is lawful after those before it
 abbrev pub IsLawful : Volume → List Event → Type 0

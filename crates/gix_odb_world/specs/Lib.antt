@@ -1,4 +1,4 @@
-pub mod WorkOrder
+pub mod AtWork
 pub mod Event
 pub mod Status
 pub mod Recorded
@@ -16,9 +16,11 @@ pub mod Promise
 pub mod Changes
 pub mod Headline
 pub mod Play
-pub mod Handle
 pub mod Machine
+pub mod Machines
 pub mod Running
+pub mod Handle
+pub mod WorkOrder
 pub mod World
 pub mod Table
 pub mod Played

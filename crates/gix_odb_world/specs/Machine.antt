@@ -1,21 +1,29 @@
--- A machine: work of one kind that a handle may be at. No public clause needs more of it than its name.
+-- A machine: work of one kind that a handle may be at. A public clause needs of it what it asks and where an answer leads it.
 use Rattle.std.specs.Prelude.{◌≡◌, ℕ, List, Option, Result, Ok, Err}
 use Rattle.odb_disk.specs.MemDisk.{Volume}
 use Rattle.odb_disk.specs.declared.ask.DiskAsk.{DiskAsk}
 use Rattle.odb_disk.specs.declared.ask.DiskAnswer.{DiskAnswer}
 use Rattle.gix_odb.specs.declared.call.Reply.{Reply}
+use Rattle.gix_odb_loose.specs.declared.call.LooseCall.{LooseCall}
 use Rattle.gix_odb_world.specs.declared.work.Work.{Work}
+use Rattle.gix_odb_world.specs.AtWork.{Running, Store, Task}
 use Rattle.gix_odb_world.specs.Event.{Event}
-use Rattle.gix_odb_world.specs.Status.{Running, Store}
 
--- A machine has states of its own, each with a place among all work. In a store it names a call of the disk at a state, unless it is
--- done, and the answer takes it to its reply or to another state. `Knows` is what a handle at a state knows of the events since its
--- task was set, which task this is, and how its turns are counted.
+-- A machine has states of its own, each with a place among all work.
 pub record Machine : Type 1 where
   pub State : Type 0
   pub work : State → Work
+  -- in a store it names a call of the disk at a state, unless it is done
   pub ask : Store → State → Option DiskAsk
+  -- the answer takes it to its reply or to another state
   pub feed : Store → State → DiskAnswer → Result Reply State
+  -- the call of the objects directory by which it writes an object, if it writes one
+  pub writes : State → Option LooseCall
+  -- the tasks at which it may be in a state
+  pub IsFor : Task → State → Type 0
+  -- the most turns of a task in a store in which no folder that a call may list has more entries than so many
+  pub bound : Store → Task → (entries : ℕ) → ℕ
+  -- what a handle at a state knows of the events since its task was set, and how its turns are counted
   pub Knows : Volume → List Event → (handle : ℕ) → Running → State → Type 0
 
 -- some work is that of a machine at a state

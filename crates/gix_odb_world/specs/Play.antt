@@ -31,4 +31,5 @@ StandsFor (Finish handle) made =
 abbrev pub Plays : ℕ → List Line → List Made → List ℕ → Type 0
 Plays place [] made last = (made ≡ []) × (last ≡ [])
 Plays place (line ∷ lines) made last =
-    (own : List Made) × (others : List Made) × (rest : List ℕ) × StandsFor line own × (made ≡ own ++ others) × (last ≡ (place + length own - 1) ∷ rest) × Plays (place + length own) lines others rest
+    (own : List Made) × (others : List Made) × (rest : List ℕ) × StandsFor line own × (made ≡ own ++ others)
+    × (last ≡ (place + length own - 1) ∷ rest) × Plays (place + length own) lines others rest

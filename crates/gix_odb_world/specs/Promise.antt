@@ -50,9 +50,9 @@ claim_of (Test id) (replies.Tested false) = Missing
 claim_of call (replies.Refused (call_errors.Find error)) = Caused error
 claim_of call reply = Never
 
--- What a claim says, of the sought id.
+-- What a claim says, of the sought id. The store was opened at the moment after its open step.
 abbrev pub Keeps : (ℕ → Tree) → Type 0 → Store → ℕ → ℕ → Query → ObjectId → Claim → Type 0
-Keeps trees Failed store begun now call id (Holding answer) = Held trees store.parts begun now call id answer
+Keeps trees Failed store begun now call id (Holding answer) = Held trees store.parts store.opened begun now call id answer
 Keeps trees Failed store begun now call id Missing = Misses trees Failed store begun now call id
 Keeps trees Failed store begun now call id (Caused error) = FindCause trees Failed store begun now call id error
 Keeps trees Failed store begun now call id Never = ⊥

@@ -1,28 +1,13 @@
 -- What a handle at work knows since its task was set. No public clause needs more of it than its name.
+pub mod Opening
 pub mod Query
 pub mod Write
-use Rattle.std.specs.Prelude.{ℕ, ◌≤◌, List, take, length, None, Ok, refl}
+use Rattle.std.specs.Prelude.{ℕ, ◌≤◌, List, take, length}
 use Rattle.odb_disk.specs.MemDisk.{Volume}
-use Rattle.gix_odb.specs.declared.call.Reply.{Reply}
-use Rattle.gix_odb.specs.declared.call_state.CallState.TheVariants.{Looking, Writing, Written}
 use Rattle.gix_odb_world.specs.declared.work.Work.{Work}
-use Rattle.gix_odb_world.specs.declared.work.Work.TheVariants.{Opening, Calling}
 use Rattle.gix_odb_world.specs.Event.{Event}
+use Rattle.gix_odb_world.specs.Machines.{at}
 use Rattle.gix_odb_world.specs.Status.{Running, Status, Working, status_of}
-use Rattle.gix_odb_world.specs.Machine.{At, Machine}
-use Rattle.gix_odb_world.specs.Running.Query.{looking, opening}
-use Rattle.gix_odb_world.specs.Running.Write.{writing}
-
--- a write that has its reply is no work: no handle is at it
-abbrev pub ended : Machine
-ended = record { State = Reply; work = λ reply. Calling (Written reply); ask = λ store reply. None; feed = λ store reply answer. Ok reply; Knows = λ first events handle running reply. ⊥ }
-
--- The machine that each work is of, at which state. A further machine has one line here.
-abbrev pub at : (work : Work) → At work
-at (Opening state) = record { machine = opening; state = state; is = refl }
-at (Calling (Looking state)) = record { machine = looking; state = state; is = refl }
-at (Calling (Writing folder)) = record { machine = writing; state = folder; is = refl }
-at (Calling (Written reply)) = record { machine = ended; state = reply; is = refl }
 
 -- what work knows that a handle is at
 abbrev pub Knows : Volume → List Event → (handle : ℕ) → Running → Work → Type 0

@@ -6,8 +6,6 @@ use Rattle.odb_disk.specs.MemDisk.{Volume}
 use Rattle.odb_disk.specs.declared.ask.DiskAsk.{DiskAsk}
 use Rattle.odb_tree.specs.declared.change.Change.{Change}
 use Rattle.gix_odb.specs.declared.call.Reply.{Reply}
-use Rattle.gix_odb.specs.declared.call.Reply.TheVariants as replies
-use Rattle.gix_odb.specs.declared.call.CallError.TheVariants as call_errors
 use Rattle.gix_odb_world.specs.declared.step.Step.{Step}
 use Rattle.gix_odb_world.specs.declared.step.Outcome.{Outcome}
 use Rattle.gix_odb_world.specs.declared.step.Why.{Why}
@@ -17,13 +15,11 @@ use Rattle.gix_odb_world.specs.declared.handle.Handle.{Handle}
 use Rattle.gix_odb.specs.declared.handle_state.HandleState.{HandleState}
 use Rattle.gix_odb_world.specs.declared.work.Work.{Work}
 use Rattle.gix_odb_world.specs.Run.{did_of, has_failed}
-use Rattle.gix_odb_world.specs.WorkOrder.{fed}
+use Rattle.gix_odb_world.specs.Status.{refuses_opening}
+use Rattle.gix_odb_world.specs.WorkOrder.{fed_on}
 use Rattle.gix_odb_world.specs.declared.world.World.{World}
 use Rattle.gix_odb_world.specs.World.{handle_at}
-use Rattle.odb_tree.specs.Tree.Change.{is_possible}
-use Rattle.gix_odb_world.specs.declared.step.Step.TheVariants as steps
-use Rattle.gix_odb_world.specs.declared.step.Why.TheVariants.{ImpossibleChange}
-use Rattle.gix_odb_world.specs.Valid.{Phase, NoneThere, Idle, Running, is_openable, why_not_idle, why_not_open, why_not_running}
+use Rattle.gix_odb_world.specs.Valid.{Phase, NoneThere, Idle, Running, why_not}
 
 abbrev pub phase_of_work : Option Work → Phase
 phase_of_work None = Idle
@@ -40,12 +36,7 @@ phase_now world number = phase_of_handle (handle_at world number)
 
 -- the first reason why a step isn't valid, by the world's own table and disk
 abbrev pub why_not_now : World → Step → Option Why
-why_not_now world (steps.Open number path folders replacements options) = why_not_open (phase_now world number) (is_openable path folders replacements)
-why_not_now world (steps.Close number) = why_not_idle (phase_now world number)
-why_not_now world (steps.Ignore number) = why_not_idle (phase_now world number)
-why_not_now world (steps.Start number call) = why_not_idle (phase_now world number)
-why_not_now world (steps.Turn number) = why_not_running (phase_now world number)
-why_not_now world (steps.Disk change) = if is_possible world.disk.state change then None else Some ImpossibleChange
+why_not_now world step = why_not (phase_now world) world.disk step
 
 -- a handle with other work
 abbrev pub with_work : Option Work → Option Handle → Option Handle
@@ -59,8 +50,7 @@ with_ignoring (Some handle) = Some (record handle { state = record handle.state 
 
 -- a handle after the reply to its work: none after a refused opening, else at rest
 abbrev pub after_reply : HandleState → Reply → Option Handle
-after_reply state (replies.Refused (call_errors.Open error)) = None
-after_reply state reply = Some (record { state = state; work = None })
+after_reply state reply = if refuses_opening reply then None else Some (record { state = state; work = None })
 
 -- a handle after its turn left its work so
 abbrev pub after_turn : HandleState → Result Reply Work → Option Handle
@@ -104,7 +94,7 @@ change_now disk (Some ask) = if has_failed (answer_now disk ask) then None else 
 -- the work of a handle after a turn in which it asked so
 abbrev pub work_now : Volume → HandleState → Work → Option DiskAsk → Work
 work_now disk state work None = work
-work_now disk state work (Some ask) = fed state.store.value.slots state.store.value.folders state.store.value.alloc_limit_bytes work (answer_now disk ask)
+work_now disk state work (Some ask) = fed_on state work (answer_now disk ask)
 
 -- the disk after a turn in which it was asked so
 abbrev pub disk_now : Volume → Option DiskAsk → Volume

@@ -16,7 +16,7 @@ use Rattle.gix_odb_world.specs.declared.step.Outcome.TheVariants as outcomes
 use Rattle.gix_odb_world.specs.Event.{Event}
 use Rattle.gix_odb_world.specs.Status.{IsAtWrite, Running, status_of}
 use Rattle.gix_odb_world.specs.Run.{IsTurnOf, tree_at}
-use Rattle.gix_odb_world.specs.Writing.{AskedAt, IsRename, LeftAlone}
+use Rattle.gix_odb_world.specs.Writing.{AskedAt, IsRename, LeavesAlone, LeftAlone}
 
 -- ---- undisturbed runs
 
@@ -40,8 +40,9 @@ IsOutside e = (change : Change) × (e.step ≡ steps.Disk change) × (e.outcome 
 -- a temporary file, the file included, from the making of that file to the end of its write.
 abbrev pub IsUndisturbed : Volume → List Event → (now : ℕ) → Type 0
 IsUndisturbed first events now =
-    (place : ℕ) (e : Event) → place < now → slice_get events place ≡ Some e → IsOutside e → (handle made : ℕ) (path : Path) → HasMade first events handle made path place
-    → SameOnWay (tree_at first events place) (tree_at first events (place + 1)) true path
+    (place : ℕ) (e : Event) → place < now → slice_get events place ≡ Some e → IsOutside e → (handle made : ℕ) (path : Path)
+    → HasMade first events handle made path place
+    → LeavesAlone first events path place
 
 -- ---- what writes leave alone there
 
@@ -59,9 +60,10 @@ pub record CutsOff (before after : Tree) (path s : Path) (e : Event) : Type 0 wh
 -- that it may rename onto a link on that way.
 abbrev pub IsSpared : Volume → List Event → Type 0
 IsSpared first events =
-    (place : ℕ) (e : Event) (other handle made : ℕ) (path s : Path) → IsUndisturbed first events place → slice_get events place ≡ Some e → IsTurnOf other e.step → other ≢ handle
+    (place : ℕ) (e : Event) (other handle made : ℕ) (path s : Path) → IsUndisturbed first events place → slice_get events place ≡ Some e
+    → IsTurnOf other e.step → other ≢ handle
     → HasMade first events handle made path place → file_spot (tree_at first events place) path ≡ Ok s
-    → SameOnWay (tree_at first events place) (tree_at first events (place + 1)) true path ⊎ CutsOff (tree_at first events place) (tree_at first events (place + 1)) path s e
+    → LeavesAlone first events path place ⊎ CutsOff (tree_at first events place) (tree_at first events (place + 1)) path s e
 
 -- its path leads to the file that the write made, and no step but the write's own turns touched that file, its path or the way
 -- to it since
@@ -75,7 +77,7 @@ pub record StandsAlone (first : Volume) (events : List Event) (handle made : ℕ
 -- leads to included
 abbrev pub OthersLeave : Volume → List Event → Path → (from to : ℕ) → Type 0
 OthersLeave first events path from to =
-    (place : ℕ) (e : Event) → from ≤ place → place < to → slice_get events place ≡ Some e → IsOutside e → SameOnWay (tree_at first events place) (tree_at first events (place + 1)) true path
+    (place : ℕ) (e : Event) → from ≤ place → place < to → slice_get events place ≡ Some e → IsOutside e → LeavesAlone first events path place
 
 -- A file stood alone until a turn of another handle cut its path off, which leads to no file since. As long as other programs
 -- leave the file at its spot and the way to it alone, every event does.
@@ -91,23 +93,27 @@ pub record IsCutOff (first : Volume) (events : List Event) (handle made : ℕ) (
   pub turn : IsTurnOf other event.step
   pub cuts : CutsOff (tree_at first events place) (tree_at first events (place + 1)) path stood.spot event
   pub gone : (r : Path) → file_spot (tree_at first events now) path ≢ Ok r
-  pub stays : (step : ℕ) → place ≤ step → step < now → OthersLeave first events stood.spot (place + 1) (step + 1) → SameOnWay (tree_at first events step) (tree_at first events (step + 1)) true stood.spot
+  pub stays : (step : ℕ) → place ≤ step → step < now → OthersLeave first events stood.spot (place + 1) (step + 1)
+      → LeavesAlone first events stood.spot step
 
 -- so a temporary file stands as its write left it, or was cut off
 abbrev pub IsKept : Volume → List Event → Type 0
 IsKept first events =
-    (handle made now : ℕ) (path : Path) → IsUndisturbed first events now → HasMade first events handle made path now → StandsAlone first events handle made path now ⊎ IsCutOff first events handle made path now
+    (handle made now : ℕ) (path : Path) → IsUndisturbed first events now → HasMade first events handle made path now
+    → StandsAlone first events handle made path now ⊎ IsCutOff first events handle made path now
 
 -- a write that renames has had its file to itself
 abbrev pub IsAloneAtRename : Volume → List Event → Type 0
 IsAloneAtRename first events =
-    (place : ℕ) (e : Event) (handle made : ℕ) (path : Path) → IsUndisturbed first events place → slice_get events place ≡ Some e → IsTurnOf handle e.step → IsRename e.entry.change
+    (place : ℕ) (e : Event) (handle made : ℕ) (path : Path) → IsUndisturbed first events place → slice_get events place ≡ Some e
+    → IsTurnOf handle e.step → IsRename e.entry.change
     → HasMade first events handle made path place → LeftAlone first events handle path (made + 1) place
 
 -- two writes that run at one moment have two files
 abbrev pub AreApart : Volume → List Event → Type 0
 AreApart first events =
-    (handle other made last now : ℕ) (path twin s r : Path) → IsUndisturbed first events now → handle ≢ other → HasMade first events handle made path now → HasMade first events other last twin now
+    (handle other made last now : ℕ) (path twin s r : Path) → IsUndisturbed first events now → handle ≢ other
+    → HasMade first events handle made path now → HasMade first events other last twin now
     → file_spot (tree_at first events now) path ≡ Ok s → file_spot (tree_at first events now) twin ≡ Ok r → s ≢ r
 
 -- What holds of the writes of an undisturbed run: none changes the temporary file of another, its path or the way to it, but

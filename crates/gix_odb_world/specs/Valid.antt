@@ -34,9 +34,13 @@ phase_of (Working running) = Running
 abbrev pub are_distinct : {A : Type 0} → (A → A → Ordering) → List A → Bool
 are_distinct cmp items = distinct_count (eq_by_cmp cmp) items == length items
 
--- at most 255 folders, all distinct and none of them the objects directory
+-- the most folders of a store beside its objects directory: with it they are 256, so that the place of a folder has 8 bits
+abbrev pub most_folders : ℕ
+most_folders = 255
+
+-- not too many folders, all distinct and none of them the objects directory
 abbrev pub are_good_folders : Path → List Path → Bool
-are_good_folders objects folders = nat_le (length folders) 255 && are_distinct path_cmp (objects ∷ folders)
+are_good_folders objects folders = nat_le (length folders) most_folders && are_distinct path_cmp (objects ∷ folders)
 
 -- The conditions of opening: good folders, and distinct replaced ids.
 abbrev pub is_openable : Path → List Path → List (ObjectId × ObjectId) → Bool
@@ -68,14 +72,18 @@ why_not_running Running = None
 abbrev pub phase_after : List Event → (handle : ℕ) → Phase
 phase_after events handle = phase_of (status_of events handle)
 
--- the first reason why a step isn't valid after the events of a run, or nothing where it is
+-- the first reason why a step isn't valid, by what counts of each handle and by the disk, or nothing where it is
+abbrev pub why_not : (phases : (handle : ℕ) → Phase) → Volume → Step → Option Why
+why_not phases disk (steps.Open handle path folders replacements options) = why_not_open (phases handle) (is_openable path folders replacements)
+why_not phases disk (steps.Close handle) = why_not_idle (phases handle)
+why_not phases disk (steps.Ignore handle) = why_not_idle (phases handle)
+why_not phases disk (steps.Start handle call) = why_not_idle (phases handle)
+why_not phases disk (steps.Turn handle) = why_not_running (phases handle)
+why_not phases disk (steps.Disk change) = if is_possible disk.state change then None else Some ImpossibleChange
+
+-- the same after the events of a run
 abbrev pub why_not_after : Volume → List Event → Step → Option Why
-why_not_after first events (steps.Open handle path folders replacements options) = why_not_open (phase_after events handle) (is_openable path folders replacements)
-why_not_after first events (steps.Close handle) = why_not_idle (phase_after events handle)
-why_not_after first events (steps.Ignore handle) = why_not_idle (phase_after events handle)
-why_not_after first events (steps.Start handle call) = why_not_idle (phase_after events handle)
-why_not_after first events (steps.Turn handle) = why_not_running (phase_after events handle)
-why_not_after first events (steps.Disk change) = if is_possible (disk_after first events).state change then None else Some ImpossibleChange
+why_not_after first events step = why_not (phase_after events) (disk_after first events) step
 
 -- the reason that an outcome gives
 abbrev pub misuse_of : Outcome → Option Why

@@ -1,9 +1,9 @@
 -- How long the name of an object that a write made holds a whole encoding.
-use Rattle.std.specs.Prelude.{◌≡◌, ◌⊎◌, ℕ, ◌+◌, ◌<◌, ◌≤◌, false, true, List, ◌++◌, length, take, slice_get, Some, Ok}
+use Rattle.std.specs.Prelude.{◌≡◌, ◌⊎◌, ℕ, ◌+◌, ◌<◌, ◌≤◌, false, List, ◌++◌, length, take, slice_get, Some, Ok}
 use Rattle.odb_base.specs.Path.{Path}
 use Rattle.odb_disk.specs.MemDisk.{Volume}
 use Rattle.odb_tree.specs.Tree.Follow.{read_of}
-use Rattle.odb_tree.specs.Tree.Way.{SameOnWay, crosses}
+use Rattle.odb_tree.specs.Tree.Way.{crosses}
 use Rattle.odb_tree.specs.Tree.Write.{spot}
 use Rattle.odb_tree.specs.declared.change.Change.TheVariants.{Rename}
 use Rattle.gix_object.specs.Loose.{header_of}
@@ -15,6 +15,7 @@ use Rattle.gix_odb_world.specs.Run.{IsTurnOf, tree_at}
 use Rattle.gix_odb_world.specs.Begun.{BegunBy}
 use Rattle.gix_odb_world.specs.Undisturbed.{IsUndisturbed}
 use Rattle.gix_odb_world.specs.Writing.{ToWrite, call_to_write, name_to_write}
+pub use Rattle.gix_odb_world.specs.Writing.{LeavesAlone}
 
 -- the path of the object of a write
 abbrev pub name_path : ToWrite → Path
@@ -45,10 +46,6 @@ pub record GivesAgain (first : Volume) (events : List Event) (path : Path) (plac
   pub gives : GivesName events place write to
   pub onto : spot (tree_at first events place) path ≡ Ok to
 
--- the event at a place left a path and its way alone
-abbrev pub LeavesAlone : Volume → List Event → Path → (place : ℕ) → Type 0
-LeavesAlone first events path place = SameOnWay (tree_at first events place) (tree_at first events (place + 1)) true path
-
 -- A path holds the whole encoding of the write that was the last to move its file onto that very name, whose data are as
 -- many as its header says, and since then nothing changed the path or its way.
 pub record HoldsWhole (first : Volume) (events : List Event) (path : Path) (place now : ℕ) : Type 0 where
@@ -64,6 +61,7 @@ pub record HoldsWhole (first : Volume) (events : List Event) (path : Path) (plac
 -- from its rename on, until a step other than a write's rename onto that very name changes the path or the way to it.
 abbrev pub NamesStayWhole : Volume → List Event → Type 0
 NamesStayWhole first events =
-    (place now : ℕ) (w : ToWrite) (to : Path) → GivesName events place w to → crosses (tree_at first events place) (name_path w) to ≡ false → place < now → IsUndisturbed first events now
+    (place now : ℕ) (w : ToWrite) (to : Path) → GivesName events place w to → crosses (tree_at first events place) (name_path w) to ≡ false
+    → place < now → IsUndisturbed first events now
     → ((step : ℕ) → place < step → step < now → LeavesAlone first events (name_path w) step ⊎ GivesAgain first events (name_path w) step)
     → HoldsWhole first events (name_path w) place now

@@ -1,26 +1,26 @@
--- The order of work of what a handle is at: an opening, or a call.
-use Rattle.std.specs.Prelude.{ℕ, List, Option, Result, Ok, Err}
-use Rattle.odb_base.specs.Path.{Path}
+-- What the code of a handle's work asks, and what an answer makes of it. No public clause cites this.
+use Rattle.std.specs.Prelude.{Option, Result, Ok, Err}
 use Rattle.odb_disk.specs.declared.ask.DiskAsk.{DiskAsk}
 use Rattle.odb_disk.specs.declared.ask.DiskAnswer.{DiskAnswer}
+use Rattle.gix_odb.specs.CallOrder as calls
+use Rattle.gix_odb.specs.OpenOrder as openings
 use Rattle.gix_odb.specs.declared.call.Reply.{Reply}
 use Rattle.gix_odb.specs.declared.call_state.CallState.{CallState}
+use Rattle.gix_odb.specs.declared.handle_state.HandleState.{HandleState}
 use Rattle.gix_odb.specs.declared.open_state.OpenState.{OpenState}
 use Rattle.gix_odb.specs.declared.open_state.OpenState.TheVariants as opens
 use Rattle.gix_odb_world.specs.declared.work.Work.{Work}
 use Rattle.gix_odb_world.specs.declared.work.Work.TheVariants.{Opening, Calling}
-use Rattle.gix_odb.specs.CallOrder as calls
-use Rattle.gix_odb.specs.OpenOrder as openings
 
--- the next call of the disk, if there is one
-abbrev pub ask_in : Path → Work → Option DiskAsk
-ask_in objects (Opening state) = openings.ask_of objects state
-ask_in objects (Calling state) = calls.ask_of state
+-- the call of the disk that the work of a handle names next, if there is one
+abbrev pub ask_on : HandleState → Work → Option DiskAsk
+ask_on handle (Opening state) = openings.ask_of handle.store.value.objects state
+ask_on handle (Calling state) = calls.ask_of state
 
--- work after the answer to its call of the disk
-abbrev pub fed : (slots : ℕ) → (folders : List Path) → (limit : Option ℕ) → Work → DiskAnswer → Work
-fed slots folders limit (Opening state) answer = Opening (openings.fed slots state answer)
-fed slots folders limit (Calling state) answer = Calling (calls.fed folders limit state answer)
+-- the work of a handle after the answer to its call of the disk
+abbrev pub fed_on : HandleState → Work → DiskAnswer → Work
+fed_on handle (Opening state) answer = Opening (openings.fed handle.store.value.slots state answer)
+fed_on handle (Calling state) answer = Calling (calls.fed handle.store.value.folders handle.store.value.alloc_limit_bytes state answer)
 
 abbrev pub opening_result : OpenState → Result Reply Work
 opening_result opens.Looking = Err (Opening opens.Looking)

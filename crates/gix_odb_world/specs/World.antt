@@ -50,7 +50,8 @@ pub record GoesOn (first : Volume) (events : List Event) (step : Step) (outcome 
 
 -- Every history that leads to the old world goes on by the step to the new one.
 abbrev pub Continues : World → Step → World → Type 0
-Continues old step new = (first : Volume) (events : List Event) → Explains first events old → (outcome : Outcome) × GoesOn first events step outcome new
+Continues old step new =
+    (first : Volume) (events : List Event) → Explains first events old → (outcome : Outcome) × GoesOn first events step outcome new
 
 -- some events have these steps, and lead to the world
 pub record IsRunOf (first : Volume) (made : List Step) (world : World) : Type 0 where

@@ -79,7 +79,8 @@ pub record AskFailed (first : Volume) (events : List Event) (handle begun : ℕ)
 
 -- this call of the disk was made, and failed, or found a part of its way absent, of the wrong kind or a link loop
 abbrev pub RefusedSince : Volume → List Event → (handle begun : ℕ) → DiskAsk → Type 0
-RefusedSince first events handle begun ask = AskFailed first events handle begun ask ⊎ ((error : DiskError) × IsOnWay error × AskedSince first events handle begun ask (answers.Refused error))
+RefusedSince first events handle begun ask =
+    AskFailed first events handle begun ask ⊎ ((error : DiskError) × IsOnWay error × AskedSince first events handle begun ask (answers.Refused error))
 
 -- something was there already when a call of the disk was made
 abbrev pub TakenSince : Volume → List Event → (handle begun : ℕ) → DiskAsk → Type 0
@@ -92,7 +93,8 @@ DoneSince first events handle begun ask = AskedSince first events handle begun a
 -- The cause of an error of a write. Its data are at hand, so no source of them fails.
 abbrev pub CauseOfWrite : Volume → List Event → (handle begun : ℕ) → ToWrite → loose_write.Error → Type 0
 CauseOfWrite first events handle begun w error =
-    WriteCause (head_to_write w) (λ id. id ≡ name_to_write w) (RefusedSince first events handle begun) (TakenSince first events handle begun) (DoneSince first events handle begun) ⊥ ⊥ (OtherLength (Some w.bytes) w.size) error
+    WriteCause (head_to_write w) (λ id. id ≡ name_to_write w) (RefusedSince first events handle begun) (TakenSince first events handle begun)
+    (DoneSince first events handle begun) ⊥ ⊥ (OtherLength (Some w.bytes) w.size) error
 
 -- ---- what its turns changed
 
@@ -119,14 +121,20 @@ RenamedNothing events handle begun = EachTurn events handle begun (λ e. ¬ (IsR
 -- the call that makes a temporary file with a number, if there is one
 abbrev pub IsMaking : Path → Option ℕ → Did → Type 0
 IsMaking objects None did = ⊥
-IsMaking objects (Some number) did = (failed : Bool) × (did ≡ Disk (op_of (asks.NewFile (temp_path objects number))) (temp_path objects number) failed)
+IsMaking objects (Some number) did =
+    (failed : Bool) × (did ≡ Disk (op_of (asks.NewFile (temp_path objects number))) (temp_path objects number) failed)
 
 -- none of its turns made a file, but for the temporary file with this number, if there is one
 abbrev pub MadeOnly : List Event → (handle begun : ℕ) → Path → Option ℕ → Type 0
 MadeOnly events handle begun objects number = EachTurn events handle begun (λ e. IsNewFile e.entry.change → IsMaking objects number e.entry.did)
 
+-- the event at a place left a path and its way alone, the file that the path leads to included
+abbrev pub LeavesAlone : Volume → List Event → Path → (place : ℕ) → Type 0
+LeavesAlone first events path place = SameOnWay (tree_at first events place) (tree_at first events (place + 1)) true path
+
 -- From one place of a run to another, no step but the turns of a handle changed what stands on the way of a path, the
 -- file that it leads to included.
 abbrev pub LeftAlone : Volume → List Event → (handle : ℕ) → Path → (from to : ℕ) → Type 0
 LeftAlone first events handle path from to =
-    (place : ℕ) (e : Event) → from ≤ place → place < to → slice_get events place ≡ Some e → ¬ (IsTurnOf handle e.step) → SameOnWay (tree_at first events place) (tree_at first events (place + 1)) true path
+    (place : ℕ) (e : Event) → from ≤ place → place < to → slice_get events place ≡ Some e → ¬ (IsTurnOf handle e.step)
+    → LeavesAlone first events path place

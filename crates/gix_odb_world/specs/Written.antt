@@ -38,19 +38,26 @@ pub record HasWritten (first : Volume) (events : List Event) (handle begun : ℕ
   -- the last turn alone renamed
   pub source : Path
   pub target : Path
-  pub renames : change_of_rename (tree_at first events (length past)) (temp_path w.objects number) (loose_path w.objects id) ≡ Ok (Rename source target)
+  pub renames : change_of_rename (tree_at first events (length past)) (temp_path w.objects number) (loose_path w.objects id)
+      ≡ Ok (Rename source target)
   pub change : last.entry.change ≡ Some (Rename source target)
   pub only : RenamedNothing past handle begun
   -- where nobody else touched the file, and no link was replaced on the way of the object's path, this reads as the object
-  pub reads : LeftAlone first events handle (temp_path w.objects number) (made + 1) (length past) → crosses (tree_at first events (length past)) (loose_path w.objects id) target ≡ false
+  pub reads : LeftAlone first events handle (temp_path w.objects number) (made + 1) (length past)
+      → crosses (tree_at first events (length past)) (loose_path w.objects id) target ≡ false
       → read_of (tree_at first events (length past + 1)) (loose_path w.objects id) ≡ Ok (header_of w.kind w.size ++ w.bytes, 0)
+
+-- in the event at a place, which is a turn of the handle, it was asked to remove what a path names
+abbrev pub AsksRemoval : Volume → List Event → (handle place : ℕ) → Path → Type 0
+AsksRemoval first events handle place path = (answer : DiskAnswer) × AskedAt first events handle place (asks.Remove path) answer
 
 -- A refused write made no name of an object. It made no file, or its last turn asked to remove the one that it made.
 pub record WasRefused (first : Volume) (events : List Event) (handle begun : ℕ) (w : ToWrite) (error : loose_write.Error) : Type 0 where
   pub unnamed : RenamedNothing events handle begun
   pub made : Option ℕ
   pub makes : MadeOnly events handle begun w.objects made
-  pub cleared : (made ≡ None) ⊎ ((number : ℕ) × (past : ℕ) × (made ≡ Some number) × (length events ≡ past + 1) × ((answer : DiskAnswer) × AskedAt first events handle past (asks.Remove (temp_path w.objects number)) answer))
+  pub cleared : (made ≡ None)
+      ⊎ ((number : ℕ) × (past : ℕ) × (made ≡ Some number) × (length events ≡ past + 1) × AsksRemoval first events handle past (temp_path w.objects number))
   -- where no temporary file could be made, it changed nothing
   pub untouched : (at : Path) → error ≡ loose_errors.Io messages.CreateTempFile at → ChangedNothing events handle begun
   pub cause : CauseOfWrite first events handle begun w error
@@ -58,5 +65,6 @@ pub record WasRefused (first : Volume) (events : List Event) (handle begun : ℕ
 -- what the reply to a write promises. A write ends with no other reply
 abbrev pub PromiseOfWrite : Volume → List Event → (handle begun : ℕ) → ToWrite → Reply → Type 0
 PromiseOfWrite first events handle begun w (replies.Wrote id) = HasWritten first events handle begun w id
-PromiseOfWrite first events handle begun w (replies.Refused (call_errors.Write (write_errors.LooseWrite error))) = WasRefused first events handle begun w error
+PromiseOfWrite first events handle begun w (replies.Refused (call_errors.Write (write_errors.LooseWrite error))) =
+    WasRefused first events handle begun w error
 PromiseOfWrite first events handle begun w reply = ⊥

@@ -1,5 +1,23 @@
-ghost use Rattle.std.specs.Prelude.{◌≡◌, ◌≤◌};
-ghost use Rattle.gix_odb_world.specs.Bound.{turn_bound};
+//! The bound on the turns of a call as a number.
+ghost use Rattle.std.specs.Prelude.{◌≡◌, ◌≤◌, ◌+◌};
+ghost use Rattle.gix_odb_world.specs.Bound.{most_changes, turn_bound};
+ghost use Rattle.gix_odb_world.specs.Valid.{most_folders};
+
+/// The turns of a lap through a store for its list, for each slot and for each entry of a folder that is listed.
+const TURNS_EACH: u128 = 8;
+
+/// The turns of a lap for a folder, beside those for its entries.
+const TURNS_OF_FOLDER: u128 = 16;
+
+/// The laps that no change of the list causes: the first, and the one that finds the list as it was.
+const LAPS_WITHOUT_CHANGE: u128 = 2;
+
+/// The turns of a write beside those of its pieces: its names, its header, its directory, its rename and the removal of
+/// its file.
+const TURNS_BESIDE_PIECES: u128 = 40;
+
+/// The most bytes of one append of a write.
+const PIECE_SIZE: u128 = 65_536;
 
 /// The most turns that a call may take, by the slots and the folders of its store, the changes of the list
 /// that it bears, the greatest number of entries in a `pack` or prefix folder, and the bytes of a write.
@@ -10,15 +28,15 @@ pub fn bound_of(
     entries: u64,
     write: Option<u64>,
 ) -> u128
-    requires folders_few { folders ≤ 256 }
-    requires changes_few { max_changes ≤ 1000000 }
+    requires folders_few { folders ≤ most_folders + 1 }
+    requires changes_few { max_changes ≤ most_changes }
     ensures bound { result ≡ turn_bound slots folders max_changes entries write }
 {
-    let per_folder = 8 * u128::from(entries) + 16;
-    let listing = 8 + 8 * u128::from(slots) + u128::from(folders) * per_folder;
+    let per_folder = TURNS_EACH * u128::from(entries) + TURNS_OF_FOLDER;
+    let lap = TURNS_EACH + TURNS_EACH * u128::from(slots) + u128::from(folders) * per_folder;
     let writing = match write {
         None => 0,
-        Some(bytes) => 40 + u128::from(bytes).div_ceil(65536),
+        Some(bytes) => TURNS_BESIDE_PIECES + u128::from(bytes).div_ceil(PIECE_SIZE),
     };
-    (u128::from(max_changes) + 2) * listing + writing
+    (u128::from(max_changes) + LAPS_WITHOUT_CHANGE) * lap + writing
 }

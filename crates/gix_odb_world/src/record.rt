@@ -1,3 +1,4 @@
+//! The record of a step, and a whole run.
 ghost use Rattle.std.specs.Prelude.{◌≡◌, IfOk};
 ghost use Rattle.gix_odb_world.specs.Recorded.{path_recorded};
 ghost use Rattle.gix_odb_world.specs.Run.{did_of};

@@ -1,3 +1,4 @@
+//! The steps of a world, and what each comes to.
 ghost use Rattle.std.specs.Prelude.{◌≡◌, IfOk};
 
 use gix_odb::{Call, IdPairs, Options, PathList, Reply, copy_of_pairs, copy_of_paths};

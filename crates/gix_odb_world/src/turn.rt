@@ -3,8 +3,7 @@ ghost use Rattle.std.specs.Prelude.{if◌then◌else◌, ◌≡◌, IfOk, OnOk, 
 ghost use Rattle.odb_disk.specs.Ask.{answer_now};
 ghost use Rattle.gix_odb_world.specs.Run.{has_failed};
 ghost use Rattle.gix_odb_world.specs.Headline.{outcome_of};
-ghost use Rattle.gix_odb_world.specs.WorkOrder.{ask_in, result_in};
-ghost use Rattle.gix_odb_world.specs.WorkOrder.{fed as fed_with};
+ghost use Rattle.gix_odb_world.specs.WorkOrder.{ask_on, fed_on, result_in};
 ghost use Rattle.gix_odb_world.specs.Table as tables;
 ghost use Rattle.gix_odb_world.specs.Table.{after_turn, change_now, did_now, disk_now, work_now};
 
@@ -25,10 +24,10 @@ pub fn carried_out(
     state: &HandleState,
     work: Work,
 ) -> Result<(Did, Option<Change>, Work), NoMemory>
-    ensures did { IfOk result (λ done. done.0 ≡ did_now disk.old (ask_in state.now.store.value.objects work)) }
-    ensures change { IfOk result (λ done. done.1 ≡ change_now disk.old (ask_in state.now.store.value.objects work)) }
-    ensures work { IfOk result (λ done. done.2 ≡ work_now disk.old state.now work (ask_in state.now.store.value.objects work)) }
-    ensures left { OnOk result (disk.new ≡ disk_now disk.old (ask_in state.now.store.value.objects work)) }
+    ensures did { IfOk result (λ done. done.0 ≡ did_now disk.old (ask_on state.now work)) }
+    ensures change { IfOk result (λ done. done.1 ≡ change_now disk.old (ask_on state.now work)) }
+    ensures work { IfOk result (λ done. done.2 ≡ work_now disk.old state.now work (ask_on state.now work)) }
+    ensures left { OnOk result (disk.new ≡ disk_now disk.old (ask_on state.now work)) }
 {
     match work.disk_ask(alloc, state) {
         Ok(Some(ask)) => asked(alloc, disk, state, work, &ask),
@@ -73,7 +72,7 @@ fn fed(
 ) -> Result<(Did, Option<Change>, Work), NoMemory>
     ensures did { IfOk result (λ done. done.0 ≡ did) }
     ensures change { IfOk result (λ done. done.1 ≡ change) }
-    ensures work { IfOk result (λ done. done.2 ≡ fed_with state.now.store.value.slots state.now.store.value.folders state.now.store.value.alloc_limit_bytes work answer) }
+    ensures work { IfOk result (λ done. done.2 ≡ fed_on state.now work answer) }
 {
     let work = work.feed(alloc, state, answer)?;
     Ok((did, change, work))

@@ -1,7 +1,6 @@
 //! What a handle is at work on.
 ghost use Rattle.std.specs.Prelude.{◌≡◌, IfOk};
-ghost use Rattle.gix_odb_world.specs.WorkOrder.{ask_in, result_in};
-ghost use Rattle.gix_odb_world.specs.WorkOrder.{fed as fed_with};
+ghost use Rattle.gix_odb_world.specs.WorkOrder.{ask_on, fed_on, result_in};
 
 use gix_odb::{CallState, HandleState, OpenState, Reply};
 use odb_base::NoMemory;
@@ -18,7 +17,7 @@ pub enum Work {
 impl Work {
     /// The call of the disk that comes next; there is none where the work is done.
     pub fn disk_ask(&self, alloc: Global, handle: &HandleState) -> Result<Option<DiskAsk>, NoMemory>
-        ensures asked { IfOk result (λ ask. ask ≡ ask_in handle.now.store.value.objects self.now) }
+        ensures asked { IfOk result (λ ask. ask ≡ ask_on handle.now self.now) }
     {
         match self {
             Work::Opening(state) => state.disk_ask(alloc, handle),
@@ -33,7 +32,7 @@ impl Work {
         handle: &HandleState,
         answer: DiskAnswer,
     ) -> Result<Work, NoMemory>
-        ensures fed { IfOk result (λ work. work ≡ fed_with handle.now.store.value.slots handle.now.store.value.folders handle.now.store.value.alloc_limit_bytes self answer) }
+        ensures fed { IfOk result (λ work. work ≡ fed_on handle.now self answer) }
     {
         match self {
             Work::Opening(state) => Ok(Work::Opening(state.feed(handle.parts().slots, &answer))),

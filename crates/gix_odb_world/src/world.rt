@@ -1,4 +1,5 @@
-ghost use Rattle.std.specs.Prelude.{◌≡◌, ◌≢◌, ◌<◌, ◌^◌, ◌↔◌, IsTrue, ◌++◌, ◌∷◌, [], List, IfOk, OnOk, length, true, None, Some};
+//! A world: its steps, one after another, and the run that they come to.
+ghost use Rattle.std.specs.Prelude.{◌≡◌, ◌≢◌, ◌<◌, ◌^◌, ◌↔◌, IsTrue, ◌++◌, ◌∷◌, [], List, IfOk, OnOk, length, None, Some};
 ghost use Rattle.odb_disk.specs.MemDisk.{Volume};
 ghost use Rattle.odb_tree.specs.Tree.{IsTree, tree_of};
 ghost use Rattle.gix_odb_world.specs.Event.{Event};
@@ -7,7 +8,7 @@ ghost use Rattle.gix_odb_world.specs.Valid.{why_not_after, is_openable};
 ghost use Rattle.gix_odb_world.specs.Headline.{Headline, IsRun, outcome_of};
 ghost use Rattle.gix_odb_world.specs.WorkOrder.{result_in};
 ghost use Rattle.gix_odb_world.specs.World.{Explains, GoesOn, Continues, handle_at};
-ghost use Rattle.gix_odb_world.specs.Table.{HasOneMore, Notes, SetsHandle, Settles, after_turn, phase_of_handle, with_ignoring, with_work, why_not_now};
+ghost use Rattle.gix_odb_world.specs.Table.{HasOneMore, Notes, SetsHandle, Settles, after_turn, phase_of_handle, why_not_now};
 
 use crate::handle::Handle;
 use crate::opening;
@@ -20,7 +21,8 @@ use odb_base::NoMemory;
 use odb_disk::{Change, Impossible, MemDisk, PathText};
 use std::alloc::Global;
 use std::collections::BTreeMap;
-use std::mem::replace;
+
+mod handles;
 
 /// A disk, the handles on it, and what has come of the steps so far.
 #[derive(Drop)]
@@ -283,59 +285,6 @@ impl World {
         }
     }
 
-    /// Puts a handle under a number.
-    fn put(&mut self, number: u32, handle: Handle) -> Result<(), NoMemory>
-        ensures sets { OnOk result (SetsHandle self.old self.new number (Some handle)) }
-    {
-        let old = self.handles.insert(number, handle)?;
-        drop(old);
-        Ok(())
-    }
-
-    fn remove(&mut self, number: u32)
-        ensures sets { SetsHandle self.old self.new number None }
-    {
-        let old = self.handles.remove(&number);
-        drop(old);
-    }
-
-    /// Takes the handle that has a number out of the table.
-    fn take(&mut self, number: u32) -> Option<Handle>
-        ensures taken { result ≡ handle_at self.old number }
-        ensures sets { SetsHandle self.old self.new number None }
-    {
-        self.handles.remove(&number)
-    }
-
-    /// Puts a handle under a number that has none, if there is one to put.
-    fn set(&mut self, number: u32, handle: Option<Handle>) -> Result<(), NoMemory>
-        requires free { handle_at self.old number ≡ None }
-        ensures sets { OnOk result (SetsHandle self.old self.new number handle) }
-    {
-        match handle {
-            Some(handle) => self.put(number, handle),
-            None => Ok(()),
-        }
-    }
-
-    /// Gives a handle other work.
-    fn set_work(&mut self, number: u32, work: Option<Work>)
-        ensures sets { SetsHandle self.old self.new number (with_work work (handle_at self.old number)) }
-    {
-        match self.handles.get_mut(&number) {
-            Some(handle) => drop(replace(&mut handle.work, work)),
-            None => drop(work),
-        }
-    }
-
-    fn set_ignoring(&mut self, number: u32)
-        ensures sets { SetsHandle self.old self.new number (with_ignoring (handle_at self.old number)) }
-    {
-        if let Some(handle) = self.handles.get_mut(&number) {
-            handle.state.ignore_replacements = true;
-        }
-    }
-
     /// Why an open step isn't valid.
     fn why_not_open(
         &self,
@@ -354,42 +303,6 @@ impl World {
             Ok(None)
         } else {
             Ok(Some(Why::BadOpen))
-        }
-    }
-
-    /// Why a number isn't free.
-    fn why_not_free(&self, number: u32) -> Option<Why>
-        ensures why { result ≡ reasons.why_not_open (phase_of_handle (handle_at self.now number)) true }
-    {
-        match self.handles.get(&number) {
-            None => None,
-            Some(_) => Some(Why::HandleTaken),
-        }
-    }
-
-    /// Why a step that needs an idle handle isn't valid.
-    fn why_not_idle(&self, number: u32) -> Option<Why>
-        ensures why { result ≡ reasons.why_not_idle (phase_of_handle (handle_at self.now number)) }
-    {
-        let Some(handle) = self.handles.get(&number) else {
-            return Some(Why::NoHandle);
-        };
-        match handle.work {
-            None => None,
-            Some(_) => Some(Why::Busy),
-        }
-    }
-
-    /// Why a turn isn't valid.
-    fn why_not_running(&self, number: u32) -> Option<Why>
-        ensures why { result ≡ reasons.why_not_running (phase_of_handle (handle_at self.now number)) }
-    {
-        let Some(handle) = self.handles.get(&number) else {
-            return Some(Why::NoHandle);
-        };
-        match handle.work {
-            None => Some(Why::NotRunning),
-            Some(_) => None,
         }
     }
 

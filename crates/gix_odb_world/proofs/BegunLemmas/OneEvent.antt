@@ -1,15 +1,13 @@
 -- What one event more makes of the steps from which a handle has its task, its store and its mode.
-use Rattle.std.proofs.Common.{◌≡◌, ℕ, ◌+◌, ◌≤◌, Bool, true, false, List, [], ◌∷◌, ◌++◌, length, Some, None, refl, sym, ◌∙◌, ap, subst, arith, inl, inr}
-use Rattle.std.specs.Prelude.{slice_get}
+use Rattle.std.proofs.Common.{◌≡◌, ℕ, ◌+◌, ◌≤◌, Bool, true, false, List, [], ◌∷◌, ◌++◌, length, Some, None, Result, Ok, Err, refl, sym, ◌∙◌, ap, subst, arith, inl, inr}
+use Rattle.std.specs.Prelude.{slice_get, if◌then◌else◌}
 use Rattle.std.proofs.lemmas.List.{length-append}
 use Rattle.std.proofs.lemmas.Option.{slice_get_within}
 use Rattle.odb_base.specs.Path.{Path}
 use Rattle.gix_hash.specs.declared.object_id.ObjectId.{ObjectId}
 use Rattle.gix_odb.specs.OpenOrder.{given_slots}
 use Rattle.gix_odb.specs.declared.call.Call.{Call}
-use Rattle.gix_odb.specs.declared.call.CallError.TheVariants as call_errors
 use Rattle.gix_odb.specs.declared.call.Reply.{Reply}
-use Rattle.gix_odb.specs.declared.call.Reply.TheVariants as replies
 use Rattle.gix_odb.specs.declared.init.Options.{Options}
 use Rattle.gix_odb.specs.declared.init.Slots.{Slots}
 use Rattle.gix_odb.specs.declared.init.Slots.TheVariants.{Given}
@@ -17,7 +15,9 @@ use Rattle.gix_odb_world.specs.declared.step.Step.{Step}
 use Rattle.gix_odb_world.specs.declared.step.Step.TheVariants as steps
 use Rattle.gix_odb_world.specs.declared.step.Outcome.TheVariants as outcomes
 use Rattle.gix_odb_world.specs.Event.{Asked, OfNothing, OfDisk, OfCore, Event}
-use Rattle.gix_odb_world.specs.Status.{MakeCall, OpenStore, Running, Status, Store, Task, Free, Resting, Working, after_reply, ignoring_from, replied, started, store_at, turned}
+use Rattle.gix_odb_world.specs.declared.work.Work.{Work}
+use Rattle.gix_odb_world.specs.Machines.{fed_in}
+use Rattle.gix_odb_world.specs.Status.{MakeCall, OpenStore, Running, Status, Store, Task, Free, Resting, Working, come_to, ignoring_from, refuses_opening, replied, started, store_at, turned}
 use Rattle.gix_odb_world.specs.Begun.{AppliedSince, BegunAs, BegunBy, HoldsStore, IsIgnoreOf, IsOpenOf, IsTaskOf, NoneSince, OpenedBy}
 use Rattle.gix_odb_world.specs.Valid.{phase_of, why_not_idle}
 use Rattle.gix_odb_world.proofs.RunLemmas.{slice_get-kept, slice_get-last, slice_get-push}
@@ -27,7 +27,8 @@ use Rattle.gix_odb_world.proofs.RunLemmas.{slice_get-kept, slice_get-last, slice
 same_event : (events : List Event) (p q : ℕ) (e f : Event) → p ≡ q → slice_get events p ≡ Some e → slice_get events q ≡ Some f → e ≡ f
 same_event events p q e f same there other = let both : Some e ≡ Some f = sym there ∙ (ap (slice_get events) same ∙ other) in cc both
 
-begun_once : (events : List Event) (handle begun : ℕ) (call other : Call) → BegunBy events handle begun call → BegunBy events handle begun other → call ≡ other
+begun_once : (events : List Event) (handle begun : ℕ) (call other : Call) → BegunBy events handle begun call → BegunBy events handle begun other
+    → call ≡ other
 begun_once events handle begun call other a b =
     let place : a.place ≡ b.place = omega (arith, a.number, b.number) in
     let same : a.event ≡ b.event = same_event events a.place b.place a.event b.event place a.there b.there in
@@ -35,14 +36,16 @@ begun_once events handle begun call other a b =
     cc step
 
 -- one event is no open step and start of a call in one
-open_or_call : (events : List Event) (handle begun : ℕ) (store : Store) (call : Call) → OpenedBy events handle begun store → BegunBy events handle begun call → ⊥
+open_or_call : (events : List Event) (handle begun : ℕ) (store : Store) (call : Call) → OpenedBy events handle begun store
+    → BegunBy events handle begun call → ⊥
 open_or_call events handle begun store call o b =
     let place : o.place ≡ b.place = omega (arith, o.number, b.number) in
     let same : o.event ≡ b.event = same_event events o.place b.place o.event b.event place o.there b.there in
     let step : steps.Open handle o.path o.folders o.replacements o.options ≡ steps.Start handle call = sym o.opens ∙ (ap (λ (x : Event). x.step) same ∙ b.starts) in
     absurd (cc step)
 
-pub one_task : (events : List Event) (handle begun : ℕ) (store : Store) (task other : Task) → BegunAs events handle begun store task → BegunAs events handle begun store other → task ≡ other
+pub one_task : (events : List Event) (handle begun : ℕ) (store : Store) (task other : Task) → BegunAs events handle begun store task
+    → BegunAs events handle begun store other → task ≡ other
 one_task events handle begun store OpenStore OpenStore a b = refl
 one_task events handle begun store OpenStore (MakeCall call) a b = absurd (open_or_call events handle begun store call a b)
 one_task events handle begun store (MakeCall call) OpenStore a b = absurd (open_or_call events handle begun store call b a)
@@ -62,11 +65,7 @@ Stems events handle (Working running) = HoldsStore events handle running.store r
 
 open_is_task : (handle : ℕ) (step : Step) → IsOpenOf handle step → IsTaskOf handle step
 open_is_task handle (steps.Open other path folders replacements options) is = is
-open_is_task handle (steps.Close other) is = absurd is
-open_is_task handle (steps.Ignore other) is = absurd is
-open_is_task handle (steps.Start other call) is = absurd is
-open_is_task handle (steps.Turn other) is = absurd is
-open_is_task handle (steps.Disk change) is = absurd is
+open_is_task handle step is = absurd is
 
 given_as : (slots : Slots) → slots ≡ Given (given_slots slots)
 given_as (Given slots) = refl
@@ -135,7 +134,8 @@ module _ (events : List Event) (e : Event) where
   begun_kept handle begun store (MakeCall call) b = record { place = b.place; number = b.number; event = b.event; there = slice_get-kept events e b.place b.event b.there; starts = b.starts }
 
   -- the last event opens a store
-  pub opened_now : (handle : ℕ) (path : Path) (folders : List Path) (replacements : List (ObjectId × ObjectId)) (options : Options) → e.step ≡ steps.Open handle path folders replacements options
+  pub opened_now : (handle : ℕ) (path : Path) (folders : List Path) (replacements : List (ObjectId × ObjectId)) (options : Options)
+      → e.step ≡ steps.Open handle path folders replacements options
       → OpenedBy whole handle (length events + 1) (store_at (length events + 1) path folders replacements options)
   opened_now handle path folders replacements options opens =
       record {
@@ -155,7 +155,8 @@ module _ (events : List Event) (e : Event) where
   -- ---- the store and its mode
 
   module _ (handle : ℕ) where
-    pub holds_opened : (store : Store) → store.opened ≡ length events + 1 → OpenedBy whole handle store.opened store → HoldsStore whole handle store false
+    pub holds_opened : (store : Store) → store.opened ≡ length events + 1 → OpenedBy whole handle store.opened store
+        → HoldsStore whole handle store false
     holds_opened store number o =
         record {
           step = o;
@@ -163,7 +164,8 @@ module _ (events : List Event) (e : Event) where
           mode = (λ is. absurd (cc is), λ a. absurd (no_applied_after (IsIgnoreOf handle) (subst (AppliedSince (IsIgnoreOf handle) whole) number a)));
         }
 
-    holds_kept : (store : Store) (ignoring : Bool) → Apart (IsOpenOf handle) → Apart (IsIgnoreOf handle) → HoldsStore events handle store ignoring → HoldsStore whole handle store ignoring
+    holds_kept : (store : Store) (ignoring : Bool) → Apart (IsOpenOf handle) → Apart (IsIgnoreOf handle) → HoldsStore events handle store ignoring
+        → HoldsStore whole handle store ignoring
     holds_kept store ignoring no_open no_ignore h =
         record {
           step = opened_kept handle store.opened store h.step;
@@ -171,7 +173,8 @@ module _ (events : List Event) (e : Event) where
           mode = (λ is. applied_kept (IsIgnoreOf handle) store.opened (h.mode.0 is), λ a. h.mode.1 (applied_before (IsIgnoreOf handle) store.opened no_ignore a));
         }
 
-    holds_ignoring : (store : Store) (ignoring : Bool) → e.step ≡ steps.Ignore handle → e.outcome ≡ outcomes.Applied → HoldsStore events handle store ignoring → HoldsStore whole handle store true
+    holds_ignoring : (store : Store) (ignoring : Bool) → e.step ≡ steps.Ignore handle → e.outcome ≡ outcomes.Applied
+        → HoldsStore events handle store ignoring → HoldsStore whole handle store true
     holds_ignoring store ignoring step applied h =
         let within = slice_get_within events h.step.place h.step.event h.step.there in
         let number = h.step.number in
@@ -195,12 +198,14 @@ module _ (events : List Event) (e : Event) where
 
     -- ---- what a step makes of a handle
 
-    pub stems_ignoring : (status : Status) → None ≡ why_not_idle (phase_of status) → e.step ≡ steps.Ignore handle → e.outcome ≡ outcomes.Applied → Stems events handle status → Stems whole handle (ignoring_from status)
+    pub stems_ignoring : (status : Status) → None ≡ why_not_idle (phase_of status) → e.step ≡ steps.Ignore handle → e.outcome ≡ outcomes.Applied
+        → Stems events handle status → Stems whole handle (ignoring_from status)
     stems_ignoring Free idle step applied stems = tt
     stems_ignoring (Resting store ignoring) idle step applied stems = holds_ignoring store ignoring step applied stems
     stems_ignoring (Working running) idle step applied stems = absurd (cc idle)
 
-    pub stems_started : (call : Call) (status : Status) → None ≡ why_not_idle (phase_of status) → e.step ≡ steps.Start handle call → Stems events handle status → Stems whole handle (started (length events + 1) call status)
+    pub stems_started : (call : Call) (status : Status) → None ≡ why_not_idle (phase_of status) → e.step ≡ steps.Start handle call
+        → Stems events handle status → Stems whole handle (started (length events + 1) call status)
     stems_started call Free idle step stems = tt
     stems_started call (Resting store ignoring) idle step stems = (
       holds_kept store ignoring (λ _ is. subst (IsOpenOf handle) step is) (λ _ is. subst (IsIgnoreOf handle) step is) stems,
@@ -208,25 +213,27 @@ module _ (events : List Event) (e : Event) where
     )
     stems_started call (Working running) idle step stems = absurd (cc idle)
 
-pub stems_turned : (events : List Event) (handle : ℕ) (asked : Asked) (status : Status) → Stems events handle status → Stems events handle (turned asked status)
+stems_rest : (events : List Event) (handle : ℕ) (store : Store) (ignoring frees : Bool) → HoldsStore events handle store ignoring
+    → Stems events handle (if frees then Free else Resting store ignoring)
+stems_rest events handle store ignoring true holds = tt
+stems_rest events handle store ignoring false holds = holds
+
+-- a turn's reply frees its handle or leaves it at rest, and what is left of its work has the same task
+stems_come : (events : List Event) (handle : ℕ) (running : Running) (result : Result Reply Work) → Stems events handle (Working running)
+    → Stems events handle (come_to running result)
+stems_come events handle running (Ok reply) stems = stems_rest events handle running.store running.ignoring (refuses_opening reply) stems.0
+stems_come events handle running (Err left) stems = (stems.0, record { begins = stems.1.begins; latest = stems.1.latest })
+
+pub stems_turned : (events : List Event) (handle : ℕ) (asked : Asked) (status : Status) → Stems events handle status
+    → Stems events handle (turned asked status)
 stems_turned events handle OfNothing status stems = stems
 stems_turned events handle (OfDisk ask answer) Free stems = tt
 stems_turned events handle (OfDisk ask answer) (Resting store ignoring) stems = stems
-stems_turned events handle (OfDisk ask answer) (Working running) stems = (stems.0, record { begins = stems.1.begins; latest = stems.1.latest })
+stems_turned events handle (OfDisk ask answer) (Working running) stems = stems_come events handle running (fed_in running.store running.work answer) stems
 stems_turned events handle (OfCore event) status stems = absurd event
 
-stems_rest : (events : List Event) (handle : ℕ) (store : Store) (ignoring : Bool) (reply : Reply) → HoldsStore events handle store ignoring → Stems events handle (after_reply store ignoring reply)
-stems_rest events handle store ignoring (replies.Refused (call_errors.Open error)) holds = tt
-stems_rest events handle store ignoring (replies.Refused (call_errors.Find error)) holds = holds
-stems_rest events handle store ignoring (replies.Refused (call_errors.Write error)) holds = holds
-stems_rest events handle store ignoring (replies.Opened slots) holds = holds
-stems_rest events handle store ignoring (replies.Found kind bytes) holds = holds
-stems_rest events handle store ignoring (replies.Header header) holds = holds
-stems_rest events handle store ignoring (replies.Tested there) holds = holds
-stems_rest events handle store ignoring replies.NotFound holds = holds
-stems_rest events handle store ignoring (replies.Wrote id) holds = holds
-
-pub stems_replied : (events : List Event) (handle : ℕ) (reply : Reply) (status : Status) → Stems events handle status → Stems events handle (replied reply status)
+pub stems_replied : (events : List Event) (handle : ℕ) (reply : Reply) (status : Status) → Stems events handle status
+    → Stems events handle (replied reply status)
 stems_replied events handle reply Free stems = tt
 stems_replied events handle reply (Resting store ignoring) stems = stems
-stems_replied events handle reply (Working running) stems = stems_rest events handle running.store running.ignoring reply stems.0
+stems_replied events handle reply (Working running) stems = stems_rest events handle running.store running.ignoring (refuses_opening reply) stems.0

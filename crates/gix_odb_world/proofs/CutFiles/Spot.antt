@@ -19,7 +19,8 @@ use Rattle.odb_tree.proofs.TreeLemmas.Write.{vacant_at}
 use Rattle.odb_tree.proofs.WayLaws.{file_here, own_on_way}
 
 -- what lies in a directory stands at its own path
-stands_at_itself : (t : Tree) → IsTree t → (front : Path) (name : Name) (n : Node) → node_at t (front ++ name ∷ []) ≡ Some n → spot t (front ++ name ∷ []) ≡ Ok (front ++ name ∷ [])
+stands_at_itself : (t : Tree) → IsTree t → (front : Path) (name : Name) (n : Node) → node_at t (front ++ name ∷ []) ≡ Some n
+    → spot t (front ++ name ∷ []) ≡ Ok (front ++ name ∷ [])
 unfolding spot
 stands_at_itself t is_tree front name n at =
     let path = front ++ name ∷ [] in
@@ -33,7 +34,8 @@ stands_at_itself t is_tree front name n at =
     ∙ ap (λ r. Ok (front ++ r)) (behind-append front (name ∷ []))
 
 -- the change of another writer leaves a file and the way to its spot alone, where it moves his file elsewhere
-pub spot_left : (t : Tree) → IsTree t → (front : Path) (name : Name) (s : Path) → s ≡ front ++ name ∷ [] → Stops t true s s → (other : Path) (change : Change) → IsOwnChange t other change → other ≢ s → ((p : Path) → change ≡ Rename other p → p ≢ s)
+pub spot_left : (t : Tree) → IsTree t → (front : Path) (name : Name) (s : Path) → s ≡ front ++ name ∷ [] → Stops t true s s
+    → (other : Path) (change : Change) → IsOwnChange t other change → other ≢ s → ((p : Path) → change ≡ Rename other p → p ≢ s)
     → SameOnWay t (changed t change) true s
 spot_left t is_tree front name s named stops other change his apart elsewhere =
     let below : s ≢ [] = λ root. stop_below_root t is_tree true s s stops (sym root) in

@@ -1,22 +1,20 @@
 -- A handle that is at a write after an event was at it before.
-use Rattle.std.proofs.Common.{◌≡◌, ℕ, ◌<◌, Bool, true, false, Some, refl, sym, ap, ◌∙◌, subst, arith}
+use Rattle.std.proofs.Common.{◌≡◌, ℕ, ◌<◌, Bool, true, false, Ok, Err, Result, refl, sym, ap, ◌∙◌, subst, arith}
 use Rattle.std.specs.Prelude.{if◌then◌else◌, ◌==◌}
 use Rattle.std.proofs.lemmas.Bool.{eqb-true}
 use Rattle.odb_disk.specs.declared.ask.DiskAnswer.{DiskAnswer}
 use Rattle.gix_odb_loose.specs.declared.call.LooseCall.{LooseCall}
 use Rattle.gix_odb.specs.declared.call.Call.{Call}
-use Rattle.gix_odb.specs.declared.call.CallError.TheVariants as call_errors
 use Rattle.gix_odb.specs.declared.call.Reply.{Reply}
-use Rattle.gix_odb.specs.declared.call.Reply.TheVariants as replies
-use Rattle.gix_odb.specs.declared.call_state.CallState.TheVariants.{Looking, Writing, Written}
 use Rattle.gix_odb_world.specs.declared.step.Outcome.{Outcome}
 use Rattle.gix_odb_world.specs.declared.step.Outcome.TheVariants as outcomes
 use Rattle.gix_odb_world.specs.declared.step.Step.{Step}
 use Rattle.gix_odb_world.specs.declared.step.Step.TheVariants as steps
 use Rattle.gix_odb_world.specs.declared.work.Work.{Work}
-use Rattle.gix_odb_world.specs.declared.work.Work.TheVariants.{Opening, Calling}
 use Rattle.gix_odb_world.specs.Event.{Asked, OfNothing, OfDisk, OfCore}
-use Rattle.gix_odb_world.specs.Status.{IsAtWrite, Running, Store, Status, Free, Resting, Working, after_reply, after_turn_of, applied, fed_in, gone_on, ignoring_from, opening_at, replied, running_from, started, status_after, turned, with_status, write_in}
+use Rattle.gix_odb_world.specs.Machines.{fed_in, write_in}
+use Rattle.gix_odb_world.specs.Status.{IsAtWrite, MakeCall, Running, Store, Status, Free, Resting, Working, after_turn_of, applied, come_to, gone_on, ignoring_from, opening_at, refuses_opening, replied, running_from, started, status_after, turned, with_status}
+use Rattle.gix_odb_world.proofs.WorkLaws.{wrote_before}
 
 -- ---- a handle that is at a write was at it before
 
@@ -27,20 +25,6 @@ pub record AtWrite (store : Store) (begun : ℕ) (status : Status) : Type 0 wher
   pub at : IsAtWrite status running folder
   pub in_store : running.store ≡ store
   pub since : running.begun ≡ begun
-
--- which work it is that writes
-pub write_is : (work : Work) (folder : LooseCall) → write_in work ≡ Some folder → work ≡ Calling (Writing folder)
-write_is (Opening state) folder is = absurd (cc is)
-write_is (Calling (Looking state)) folder is = absurd (cc is)
-write_is (Calling (Written reply)) folder is = absurd (cc is)
-write_is (Calling (Writing own)) folder is = let same : own ≡ folder = cc is in ap (λ f. Calling (Writing f)) same
-
--- work that still writes after an answer did so before it
-wrote_before : (store : Store) (work : Work) (answer : DiskAnswer) (folder : LooseCall) → write_in (fed_in store work answer) ≡ Some folder → (before : LooseCall) × (write_in work ≡ Some before)
-wrote_before store (Opening state) answer folder is = absurd (cc is)
-wrote_before store (Calling (Looking state)) answer folder is = absurd (cc is)
-wrote_before store (Calling (Written reply)) answer folder is = absurd (cc is)
-wrote_before store (Calling (Writing before)) answer folder is = (before, refl)
 
 one_running : (running other : Running) → Working running ≡ Working other → running ≡ other
 one_running running other same = cc same
@@ -55,27 +39,22 @@ module _ (store : Store) (begun : ℕ) where
   no_write_resting : (own : Store) (mode : Bool) → ¬ (Before (Resting own mode))
   no_write_resting own mode a = let is = a.at.works in cc is
 
-  rests : (own : Store) (mode : Bool) (reply : Reply) → ¬ (Before (after_reply own mode reply))
-  rests own mode (replies.Refused (call_errors.Open error)) = no_write_free
-  rests own mode (replies.Refused (call_errors.Find error)) = no_write_resting own mode
-  rests own mode (replies.Refused (call_errors.Write error)) = no_write_resting own mode
-  rests own mode (replies.Opened slots) = no_write_resting own mode
-  rests own mode (replies.Found kind bytes) = no_write_resting own mode
-  rests own mode (replies.Header header) = no_write_resting own mode
-  rests own mode (replies.Tested there) = no_write_resting own mode
-  rests own mode replies.NotFound = no_write_resting own mode
-  rests own mode (replies.Wrote id) = no_write_resting own mode
+  rests : (own : Store) (mode frees : Bool) → ¬ (Before (if frees then Free else Resting own mode))
+  rests own mode true = no_write_free
+  rests own mode false = no_write_resting own mode
 
   -- a reply ends it
   pub ended : (reply : Reply) (status : Status) → ¬ (Before (replied reply status))
   ended reply Free = no_write_free
   ended reply (Resting own mode) = no_write_resting own mode
-  ended reply (Working running) = rests running.store running.ignoring reply
+  ended reply (Working running) = rests running.store running.ignoring (refuses_opening reply)
 
-  fed_before : (running : Running) (answer : DiskAnswer) → Before (Working (gone_on running (fed_in running.store running.work answer))) → Before (Working running)
-  fed_before running answer a =
-      let same : gone_on running (fed_in running.store running.work answer) ≡ a.running = one_running (gone_on running (fed_in running.store running.work answer)) a.running a.at.works in
-      let was = wrote_before running.store running.work answer a.folder (ap (λ (r : Running). write_in r.work) same ∙ a.at.writes) in
+  come_before : (running : Running) (answer : DiskAnswer) (result : Result Reply Work) → fed_in running.store running.work answer ≡ result
+      → Before (come_to running result) → Before (Working running)
+  come_before running answer (Ok reply) is a = absurd (rests running.store running.ignoring (refuses_opening reply) a)
+  come_before running answer (Err left) is a =
+      let same : gone_on running left ≡ a.running = one_running (gone_on running left) a.running a.at.works in
+      let was = wrote_before running.store running.work left answer a.folder is (ap (λ (r : Running). write_in r.work) same ∙ a.at.writes) in
       record {
         running = running;
         folder = was.0;
@@ -88,7 +67,7 @@ module _ (store : Store) (begun : ℕ) where
   turned_before OfNothing status a = a
   turned_before (OfDisk ask answer) Free a = a
   turned_before (OfDisk ask answer) (Resting own mode) a = a
-  turned_before (OfDisk ask answer) (Working running) a = fed_before running answer a
+  turned_before (OfDisk ask answer) (Working running) a = come_before running answer (fed_in running.store running.work answer) refl a
   turned_before (OfCore event) status a = absurd event
 
   ignoring_before : (status : Status) → Before (ignoring_from status) → Before status
@@ -99,7 +78,7 @@ module _ (store : Store) (begun : ℕ) where
   started_before : (number : ℕ) (call : Call) (status : Status) → begun < number → Before (started number call status) → Before status
   started_before number call Free soon a = a
   started_before number call (Resting own mode) soon a =
-      let same : running_from number call own mode ≡ a.running = one_running (running_from number call own mode) a.running a.at.works in
+      let same : running_from number (MakeCall call) own mode ≡ a.running = one_running (running_from number (MakeCall call) own mode) a.running a.at.works in
       let at : number ≡ begun = ap (λ (r : Running). r.begun) same ∙ a.since in
       absurd (omega (arith, at, soon))
   started_before number call (Working running) soon a = a
@@ -110,7 +89,8 @@ module _ (store : Store) (begun : ℕ) where
       absurd (omega (arith, at, soon))
 
   module _ (table : ℕ → Status) (handle : ℕ) where
-    set_before : (number : ℕ) (status : Status) → (Before status → Before (table number)) → Before (with_status table number status handle) → Before (table handle)
+    set_before : (number : ℕ) (status : Status) → (Before status → Before (table number)) → Before (with_status table number status handle)
+        → Before (table handle)
     set_before number status back = by_number (handle == number) refl
       where
         by_number : (same : Bool) → (handle == number) ≡ same → Before (if same then status else table handle) → Before (table handle)
@@ -122,18 +102,15 @@ module _ (store : Store) (begun : ℕ) where
     applied_before number (steps.Close h) soon = set_before h _ (λ b. absurd (no_write_free b))
     applied_before number (steps.Ignore h) soon = set_before h _ (ignoring_before (table h))
     applied_before number (steps.Start h call) soon = set_before h _ (started_before number call (table h) soon)
-    applied_before number (steps.Turn h) soon = λ a. a
-    applied_before number (steps.Disk change) soon = λ a. a
+    applied_before number step soon = λ a. a
 
-    after_turn_before : (step : Step) (next : Status → Status) → ((status : Status) → Before (next status) → Before status) → Before (after_turn_of step next table handle) → Before (table handle)
+    after_turn_before : (step : Step) (next : Status → Status) → ((status : Status) → Before (next status) → Before status)
+        → Before (after_turn_of step next table handle) → Before (table handle)
     after_turn_before (steps.Turn h) next back = set_before h _ (back (table h))
-    after_turn_before (steps.Open h path folders replacements options) next back = λ a. a
-    after_turn_before (steps.Close h) next back = λ a. a
-    after_turn_before (steps.Ignore h) next back = λ a. a
-    after_turn_before (steps.Start h call) next back = λ a. a
-    after_turn_before (steps.Disk change) next back = λ a. a
+    after_turn_before step next back = λ a. a
 
-    pub write_before : (number : ℕ) (step : Step) (outcome : Outcome) (asked : Asked) → begun < number → Before (status_after number step outcome asked table handle) → Before (table handle)
+    pub write_before : (number : ℕ) (step : Step) (outcome : Outcome) (asked : Asked) → begun < number
+        → Before (status_after number step outcome asked table handle) → Before (table handle)
     write_before number step outcomes.Applied asked soon = applied_before number step soon
     write_before number step outcomes.Pending asked soon = after_turn_before step (turned asked) (turned_before asked)
     write_before number step (outcomes.Reply reply) asked soon = after_turn_before step (replied reply) (λ status b. absurd (ended reply status b))

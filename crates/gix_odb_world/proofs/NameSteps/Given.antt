@@ -48,7 +48,8 @@ module _ (first : Volume) (events : List Event) (start : IsTree (tree_of first.s
   tree_front : (count place : ℕ) → place ≤ count → tree_at first (take count events) place ≡ tree place
   tree_front count place within = ap (λ es. tree_of (disk_after first es).state) (front_of_front events place count within)
 
-  alone_front : (handle from to count : ℕ) (path : Path) → to < count → LeftAlone first events handle path from to → LeftAlone first (take count events) handle path from to
+  alone_front : (handle from to count : ℕ) (path : Path) → to < count → LeftAlone first events handle path from to
+      → LeftAlone first (take count events) handle path from to
   alone_front handle from to count path soon alone place x later within at other =
       let there = there_in_whole events place count x at in
       subst (λ t. SameOnWay t (tree_at first (take count events) (place + 1)) true path) (sym (tree_front count place (omega (arith, soon, within))))
@@ -62,7 +63,8 @@ module _ (first : Volume) (events : List Event) (start : IsTree (tree_of first.s
     made : ℕ
     has : HasMade first events gives.handle made (temp_path w.objects number) place
     renames : change_of_rename (tree place) (temp_path w.objects number) (name_path w) ≡ Ok (Rename gives.from to)
-    reads : LeftAlone first events gives.handle (temp_path w.objects number) (made + 1) place → crosses (tree place) (name_path w) to ≡ false → ReadsWhole first events (name_path w) w (place + 1)
+    reads : LeftAlone first events gives.handle (temp_path w.objects number) (made + 1) place → crosses (tree place) (name_path w) to ≡ false
+        → ReadsWhole first events (name_path w) w (place + 1)
 
   module _ (place : ℕ) (w : ToWrite) (to : Path) (gives : GivesName events place w to) where
     abbrev past : List Event

@@ -38,7 +38,8 @@ module _ (first : Volume) (events : List Event) (start : IsTree (tree_of first.s
       after_is : tree (now + 1) ≡ changed (tree now) b.change
       after_is = changed_to first events start lawful throughout now e there b.change b.is
 
-      another : (o : Own first events start lawful throughout handle made path now) (w : Wrote first events start lawful throughout now e there b) → w.from ≢ o.spot
+      another : (o : Own first events start lawful throughout handle made path now) (w : Wrote first events start lawful throughout now e there b)
+          → w.from ≢ o.spot
       another o w same = elim w.whose [
         | inl root ↦ stop_below_root (tree now) (is_tree first events start lawful throughout now) true path o.spot (own_stops (tree now) path o.spot o.own) (root ∙ same)
         | inr his ↦ files.apart handle b.handle made his.0 path his.1 (λ h. apart (sym h)) hm his.2 o his.3.0 (sym (his.3.1 ∙ same))
@@ -47,7 +48,9 @@ module _ (first : Volume) (events : List Event) (start : IsTree (tree_of first.s
       gone_by : Cut NotTemporary (tree (now + 1)) front → (r : Path) → file_spot (tree (now + 1)) path ≢ Ok r
       gone_by cut r leads = cut_no_file NotTemporary (tree (now + 1)) (is_tree first events start lawful throughout (now + 1)) front name cut r (ap (file_spot (tree (now + 1))) (sym path_is) ∙ leads)
 
-      cut_now : (o : Own first events start lawful throughout handle made path now) (w : Wrote first events start lawful throughout now e there b) → ways.CutsOff (tree now) front name o.spot w.from b.change → CutNow first events start lawful throughout now e there handle made path hm o.spot
+      cut_now : (o : Own first events start lawful throughout handle made path now) (w : Wrote first events start lawful throughout now e there b)
+          → ways.CutsOff (tree now) front name o.spot w.from b.change
+          → CutNow first events start lawful throughout now e there handle made path hm o.spot
       cut_now o w c =
           let cut : Cut NotTemporary (tree (now + 1)) front =
           record { stop = c.to; stops = subst (λ u. ways.Stops u true front c.to) (sym after_is) c.stops; apart = w.does_it.onto c.to c.is } in
@@ -67,7 +70,8 @@ module _ (first : Volume) (events : List Event) (start : IsTree (tree_of first.s
           }
 
       -- it leaves the file and its way alone, or cuts the way off
-      pub own_spared : (o : Own first events start lawful throughout handle made path now) → SameOnWay (tree now) (tree (now + 1)) true path ⊎ CutNow first events start lawful throughout now e there handle made path hm o.spot
+      pub own_spared : (o : Own first events start lawful throughout handle made path now)
+          → SameOnWay (tree now) (tree (now + 1)) true path ⊎ CutNow first events start lawful throughout now e there handle made path hm o.spot
       own_spared o =
           let w = wrote first events start lawful throughout now e there files b in
           let own = subst (λ p. OwnSpot (tree now) p o.spot) path_is o.own in

@@ -48,7 +48,8 @@ module _ (first : Volume) (events : List Event) (start : IsTree (tree_of first.s
 
   pub record Files (now : ℕ) : Type 0 where
     pub each : (handle made : ℕ) (path : Path) → HasMade first events handle made path now → Own handle made path now ⊎ Lost path now
-    pub apart : (handle other made last : ℕ) (path twin : Path) → handle ≢ other → HasMade first events handle made path now → HasMade first events other last twin now
+    pub apart : (handle other made last : ℕ) (path twin : Path) → handle ≢ other → HasMade first events handle made path now
+        → HasMade first events other last twin now
         → (a : Own handle made path now) → (b : Own other last twin now) → a.spot ≢ b.spot
 
   pub lost_no_file : (now : ℕ) (path : Path) → Lost path now → (s : Path) → file_spot (tree now) path ≢ Ok s
@@ -56,17 +57,20 @@ module _ (first : Volume) (events : List Event) (start : IsTree (tree_of first.s
       let named = parent_of-some path lost.front lost.parent in
       cut_no_file NotTemporary (tree now) (is_tree first events start lawful throughout now) lost.front named.0 lost.cut s (ap (file_spot (tree now)) (sym named.1) ∙ leads)
 
-  pub parent_made : (handle made now : ℕ) (path : Path) (hm : HasMade first events handle made path now) → parent_of path ≡ Some hm.running.store.parts.objects
+  pub parent_made : (handle made now : ℕ) (path : Path) (hm : HasMade first events handle made path now)
+      → parent_of path ≡ Some hm.running.store.parts.objects
   parent_made handle made now path hm = ap parent_of (hm.named ∙ temp_path-is hm.running.store.parts.objects hm.number) ∙ parent_of-push hm.running.store.parts.objects (temp_name hm.number)
 
-  pub cut_made : (handle made now : ℕ) (path : Path) (hm : HasMade first events handle made path now) (at : ℕ) → Lost path at → Cut NotTemporary (tree at) hm.running.store.parts.objects
+  pub cut_made : (handle made now : ℕ) (path : Path) (hm : HasMade first events handle made path now) (at : ℕ) → Lost path at
+      → Cut NotTemporary (tree at) hm.running.store.parts.objects
   cut_made handle made now path hm at lost =
       let both : Some lost.front ≡ Some hm.running.store.parts.objects = sym lost.parent ∙ parent_made handle made now path hm in subst (Cut NotTemporary (tree at)) (cc both) lost.cut
 
   -- ---- one event more
 
   -- a handle that is at a write after an event, by the status that the event left
-  pub at_write_next : (now : ℕ) (e : Event) → slice_get events now ≡ Some e → (handle : ℕ) (running : Running) (folder : LooseCall) → IsAtWrite (status_of (take (now + 1) events) handle) running folder
+  pub at_write_next : (now : ℕ) (e : Event) → slice_get events now ≡ Some e → (handle : ℕ) (running : Running) (folder : LooseCall)
+      → IsAtWrite (status_of (take (now + 1) events) handle) running folder
       → AtWrite running.store running.begun (status_after (now + 1) e.step e.outcome e.asked (status_of (take now events)) handle)
   at_write_next now e there handle running folder at =
       record {
@@ -84,7 +88,8 @@ module _ (first : Volume) (events : List Event) (start : IsTree (tree_of first.s
     pub changed_to : (c : Change) → e.entry.change ≡ Some c → tree (now + 1) ≡ changed (tree now) c
     changed_to c is = subst (IsLeft (tree now) (tree (now + 1))) is (left_at first events start lawful now e there)
 
-    pub alone_push : (handle from : ℕ) (path : Path) → LeftAlone first events handle path from now → (¬ (IsTurnOf handle e.step) → SameOnWay (tree now) (tree (now + 1)) true path) → LeftAlone first events handle path from (now + 1)
+    pub alone_push : (handle from : ℕ) (path : Path) → LeftAlone first events handle path from now
+        → (¬ (IsTurnOf handle e.step) → SameOnWay (tree now) (tree (now + 1)) true path) → LeftAlone first events handle path from (now + 1)
     alone_push handle from path alone here place x later within at other = by_place (place == now) refl
       where
         by_place : (same : Bool) → (place == now) ≡ same → SameOnWay (tree place) (tree (place + 1)) true path
@@ -95,7 +100,8 @@ module _ (first : Volume) (events : List Event) (start : IsTree (tree_of first.s
             subst (λ n. SameOnWay (tree n) (tree (n + 1)) true path) is (here (λ turn. other (subst (λ (y : Event). IsTurnOf handle y.step) (sym one) turn)))
 
     -- a write that runs after the event, and has made its file before it, ran before it
-    pub made_before : (handle made : ℕ) (path : Path) → HasMade first events handle made path (now + 1) → made < now → HasMade first events handle made path now
+    pub made_before : (handle made : ℕ) (path : Path) → HasMade first events handle made path (now + 1) → made < now
+        → HasMade first events handle made path now
     made_before handle made path hm soon =
         let later = hm.later in
         let at = at_write_next now e there handle hm.running hm.folder hm.at in
@@ -112,7 +118,8 @@ module _ (first : Volume) (events : List Event) (start : IsTree (tree_of first.s
           makes = hm.makes;
         }
 
-    pub own_same : (handle made : ℕ) (path : Path) → SameOnWay (tree now) (tree (now + 1)) true path → Own handle made path now → Own handle made path (now + 1)
+    pub own_same : (handle made : ℕ) (path : Path) → SameOnWay (tree now) (tree (now + 1)) true path → Own handle made path now
+        → Own handle made path (now + 1)
     own_same handle made path same o =
         record { spot = o.spot; event = o.event; there = o.there; put = o.put; own = own_kept (tree now) (tree (now + 1)) path o.spot same o.own; alone = alone_push handle (made + 1) path o.alone (λ _. same) }
 
@@ -150,7 +157,8 @@ module _ (first : Volume) (events : List Event) (start : IsTree (tree_of first.s
               | inr lost ↦ absurd (does_nothing (tree now) (is_tree first events start lawful throughout now) b.running.store.parts.objects b.change b.writes.stage number stage (cut_made b.handle hm.0 now (temp_path b.running.store.parts.objects number) hm.1 now lost) b.moves)
             ]
 
-    pub temporary : (handle made : ℕ) (path : Path) → HasMade first events handle made path now → (s : Path) → OwnSpot (tree now) path s → IsTemporary s
+    pub temporary : (handle made : ℕ) (path : Path) → HasMade first events handle made path now → (s : Path) → OwnSpot (tree now) path s
+        → IsTemporary s
     temporary handle made path hm s own = temporary_spot (tree now) hm.running.store.parts.objects hm.number s (subst (λ p. spot (tree now) p ≡ Ok s) hm.named own.is)
 
     -- it cut the way of a file at s off
@@ -161,5 +169,6 @@ module _ (first : Volume) (events : List Event) (start : IsTree (tree_of first.s
       pub cut : Cut NotTemporary (tree (now + 1)) hm.running.store.parts.objects
       pub cuts : CutsOff (tree now) (tree (now + 1)) path s e
 
-    pub lost_now : (handle made : ℕ) (path : Path) (hm : HasMade first events handle made path now) (s : Path) → CutNow handle made path hm s → Lost path (now + 1)
+    pub lost_now : (handle made : ℕ) (path : Path) (hm : HasMade first events handle made path now) (s : Path) → CutNow handle made path hm s
+        → Lost path (now + 1)
     lost_now handle made path hm s c = record { front = hm.running.store.parts.objects; parent = parent_made handle made now path hm; cut = c.cut }

@@ -12,25 +12,23 @@ use Rattle.odb_tree.specs.declared.change.Change.{Change}
 use Rattle.odb_tree.proofs.OwnWayLaws.{OwnSpot, own_appended, own_foldered, own_kept}
 use Rattle.odb_tree.proofs.WayWriteLaws.{rename_change}
 use Rattle.gix_odb_loose.specs.LooseFile.{loose_path}
+use Rattle.gix_odb_loose.specs.LooseOrder as loose_order
 use Rattle.gix_odb_loose.specs.WriteOrder.{number_made, temp_path}
 use Rattle.gix_odb_loose.specs.declared.write_order.Refusal.{Refusal}
 use Rattle.gix_odb_loose.specs.declared.write_order.WriteStage.{WriteStage}
 use Rattle.gix_odb_loose.specs.declared.write_order.WriteStage.TheVariants as stages
-use Rattle.gix_odb.specs.declared.call_state.CallState.TheVariants.{Writing}
 use Rattle.gix_odb_world.specs.declared.step.Outcome.TheVariants as outcomes
-use Rattle.gix_odb_world.specs.declared.work.Work.TheVariants.{Calling}
 use Rattle.gix_odb_world.specs.Event.{Event}
-use Rattle.gix_odb_world.specs.Status.{fed_in, status_of}
+use Rattle.gix_odb_world.specs.Status.{status_of}
 use Rattle.gix_odb_world.specs.Headline.{IsLawful, Works, outcome_of}
 use Rattle.gix_odb_world.specs.Run.{IsTurnOf, disk_after, tree_at}
 use Rattle.gix_odb_world.specs.Running.{RunsThroughout}
-use Rattle.gix_odb_world.specs.Running.Write.{IsWriting, write_at}
+use Rattle.gix_odb_world.specs.Running.Write.{IsWriting, result_of_write, write_at}
 use Rattle.gix_odb_world.specs.Undisturbed.{HasMade}
-use Rattle.gix_odb_world.specs.WorkOrder.{result_in}
 use Rattle.gix_odb_world.specs.Writing.{IsRename}
 use Rattle.gix_odb_world.proofs.FileSteps.{WriterMoves, does_nothing}
-use Rattle.gix_odb_world.proofs.FileSteps.AtWrite.{write_is}
 use Rattle.gix_odb_world.proofs.RunSteps.{there_in_front}
+use Rattle.gix_odb_world.proofs.WorkLaws.{ends_as_write}
 use Rattle.gix_odb_world.proofs.OwnFiles.Writer.{removing_ends, no_write_after, is_tree, writing_at, stage_of_made, within_events, moves_of}
 use Rattle.gix_odb_world.proofs.OwnFiles.Standing.{Own, Lost, cut_made, at_write_next, changed_to, alone_push, own_same, same_way}
 
@@ -60,7 +58,8 @@ module _ (first : Volume) (events : List Event) (start : IsTree (tree_of first.s
               absurd (does_nothing (tree now) (is_tree first events start lawful throughout now) hm.running.store.parts.objects c writes.stage at.0 at.1 (cut_made first events start lawful throughout handle made now path hm now l) (own_moves c is))
 
       -- one that goes on leaves its file at its spot
-      pub own_turn : (o : Own first events start lawful throughout handle made path now) → HasMade first events handle made path (now + 1) → Own first events start lawful throughout handle made path (now + 1)
+      pub own_turn : (o : Own first events start lawful throughout handle made path now) → HasMade first events handle made path (now + 1)
+          → Own first events start lawful throughout handle made path (now + 1)
       own_turn o after = by_change e.entry.change refl
         where
           at : (number : ℕ) × (number_made writes.stage ≡ Some number) × (path ≡ temp_path hm.running.store.parts.objects number)
@@ -76,15 +75,16 @@ module _ (first : Volume) (events : List Event) (start : IsTree (tree_of first.s
 
           goes_on : (number : ℕ) (refusal : Refusal) → writes.stage ≡ stages.Removing number refusal → ⊥
           goes_on number refusal stage =
-              let work : hm.running.work ≡ Calling (Writing (write_at writes.write (stages.Removing number refusal))) =
-              write_is hm.running.work hm.folder hm.at.writes ∙ (ap (λ f. Calling (Writing f)) writes.is ∙ ap (λ s. Calling (Writing (write_at writes.write s))) stage) in
+              let same : hm.folder ≡ write_at writes.write (stages.Removing number refusal) = writes.is ∙ ap (write_at writes.write) stage in
               let answer = answer_now (disk_after first (take now events)) works.ask in
-              let ends = removing_ends hm.running.store writes.write number refusal answer in
-              let outcome : e.outcome ≡ outcomes.Reply ends.0 = works.goes ∙ (ap (λ w. outcome_of (result_in (fed_in hm.running.store w answer))) work ∙ ends.1) in
+              let ends = removing_ends writes.write number refusal answer in
+              let done : result_of_write (loose_order.fed hm.folder answer) ≡ Ok ends.0 = ap (λ f. result_of_write (loose_order.fed f answer)) same ∙ ends.1 in
+              let outcome : e.outcome ≡ outcomes.Reply ends.0 = works.goes ∙ ap outcome_of (ends_as_write hm.running.store hm.running.work hm.folder answer ends.0 hm.at.writes done) in
               no_write_after after.running.store after.running.begun (now + 1) e.step e.outcome e.asked (status_of (take now events)) handle ends.0 turn outcome
               (at_write_next first events start lawful throughout now e there handle after.running after.folder after.at)
 
-          own_by : (c : Change) → e.entry.change ≡ Some c → OwnSpot (changed (tree now) c) path o.spot → Own first events start lawful throughout handle made path (now + 1)
+          own_by : (c : Change) → e.entry.change ≡ Some c → OwnSpot (changed (tree now) c) path o.spot
+              → Own first events start lawful throughout handle made path (now + 1)
           own_by c is own =
               record {
                 spot = o.spot;
@@ -95,12 +95,15 @@ module _ (first : Volume) (events : List Event) (start : IsTree (tree_of first.s
                 alone = alone_push first events start lawful throughout now e there handle (made + 1) path o.alone (λ other. absurd (other turn));
               }
 
-          appended : (c : Change) (n : ℕ) (more : List ℕ) → e.entry.change ≡ Some c → at.0 ≡ n → change_of_append (tree now) (temp_path hm.running.store.parts.objects n) more ≡ Ok c → Own first events start lawful throughout handle made path (now + 1)
+          appended : (c : Change) (n : ℕ) (more : List ℕ) → e.entry.change ≡ Some c → at.0 ≡ n
+              → change_of_append (tree now) (temp_path hm.running.store.parts.objects n) more ≡ Ok c
+              → Own first events start lawful throughout handle made path (now + 1)
           appended c n more is same moves =
               let named : path ≡ temp_path hm.running.store.parts.objects n = at.2 ∙ ap (temp_path hm.running.store.parts.objects) same in
               own_by c is (own_appended (tree now) (is_tree first events start lawful throughout now) path c o.spot o.own more (ap (λ p. change_of_append (tree now) p more) named ∙ moves))
 
-          by_stage : (c : Change) → e.entry.change ≡ Some c → (stage : WriteStage) → writes.stage ≡ stage → number_made stage ≡ Some at.0 → WriterMoves (tree now) hm.running.store.parts.objects stage c → Own first events start lawful throughout handle made path (now + 1)
+          by_stage : (c : Change) → e.entry.change ≡ Some c → (stage : WriteStage) → writes.stage ≡ stage → number_made stage ≡ Some at.0
+              → WriterMoves (tree now) hm.running.store.parts.objects stage c → Own first events start lawful throughout handle made path (now + 1)
           by_stage c is (stages.Making n) stage number moves = absurd (cc number)
           by_stage c is (stages.Heading n) stage number moves = appended c n moves.0 is (cc number) moves.1
           by_stage c is (stages.Filling n written) stage number moves = appended c n moves.0 is (cc number) moves.1

@@ -1,9 +1,9 @@
 -- Which write a turn is of, what it asks, and what it changes.
-use Rattle.std.proofs.Common.{◌≡◌, ◌⊎◌, inl, inr, ℕ, ◌<◌, ◌≤◌, true, List, [], length, take, Option, Some, None, refl, sym, ap, ◌∙◌, subst, arith, eq-eqb}
+use Rattle.std.proofs.Common.{◌≡◌, ◌⊎◌, inl, inr, ℕ, ◌<◌, ◌≤◌, true, List, [], length, take, Option, Some, None, Ok, refl, sym, ap, ◌∙◌, subst, arith, eq-eqb}
 use Rattle.std.specs.Prelude.{if◌then◌else◌, slice_get}
 use Rattle.std.proofs.lemmas.Option.{slice_get_within}
 use Rattle.odb_base.specs.Path.{Path}
-use Rattle.odb_disk.specs.Ask.{answer_now, change_of_ask, op_of}
+use Rattle.odb_disk.specs.Ask.{answer_now, op_of}
 use Rattle.odb_disk.specs.MemDisk.{Volume, next_fails}
 use Rattle.odb_tree.specs.Tree.{IsTree, Tree, tree_of}
 use Rattle.odb_tree.specs.Tree.Way.{SameOnWay}
@@ -15,6 +15,10 @@ use Rattle.odb_tree.specs.declared.change.Change.TheVariants.{PutFile, MakeDir, 
 use Rattle.odb_tree.proofs.WayWriteLaws.{append_change, make_dir_change, new_file_change, remove_change}
 use Rattle.gix_hash.specs.declared.object_id.ObjectId.{ObjectId}
 use Rattle.gix_odb_loose.specs.Exchanges.{exchanged}
+use Rattle.gix_odb_loose.specs.WriteDone.{data_at}
+use Rattle.gix_odb_loose.specs.LooseOrder.{disk_ask_of}
+use Rattle.gix_odb_loose.specs.LooseOrder as loose_order
+use Rattle.gix_odb_loose.specs.WriteDone.{data_at}
 use Rattle.gix_odb_loose.specs.WriteOrder.{number_made, prefix_path, temp_path}
 use Rattle.gix_odb_loose.specs.WriteStreams.{OtherLength}
 use Rattle.gix_odb_loose.specs.declared.call.LooseCall.{LooseCall}
@@ -24,31 +28,27 @@ use Rattle.gix_odb_loose.specs.declared.write_order.WriteStage.TheVariants as st
 use Rattle.gix_odb_loose.proofs.WriteMadeLaws.{history_makes}
 use Rattle.gix_odb.specs.declared.call.Reply.{Reply}
 use Rattle.gix_odb.specs.declared.call.Reply.TheVariants as replies
-use Rattle.gix_odb.specs.declared.call_state.CallState.TheVariants.{Looking, Writing, Written}
 use Rattle.gix_odb_world.specs.declared.record.Did.TheVariants.{Disk}
 use Rattle.gix_odb_world.specs.declared.step.Outcome.{Outcome}
 use Rattle.gix_odb_world.specs.declared.step.Outcome.TheVariants as outcomes
 use Rattle.gix_odb_world.specs.declared.step.Step.{Step}
 use Rattle.gix_odb_world.specs.declared.step.Step.TheVariants as steps
-use Rattle.gix_odb_world.specs.declared.work.Work.{Work}
-use Rattle.gix_odb_world.specs.declared.work.Work.TheVariants.{Opening, Calling}
 use Rattle.gix_odb_world.specs.Event.{Asked, Event}
-use Rattle.gix_odb_world.specs.Status.{IsAtWrite, MakeCall, OpenStore, Running, Store, Status, Task, Working, fed_in, replied, status_after, status_of, write_in}
+use Rattle.gix_odb_world.specs.Machines.{write_in}
+use Rattle.gix_odb_world.specs.Status.{IsAtWrite, Running, Store, Status, Working, replied, status_after, status_of}
 use Rattle.gix_odb_world.specs.Headline.{IsLawful, Works, outcome_of}
-use Rattle.gix_odb_world.specs.Run.{FailedSince, IsTurnOf, change_by, disk_after, tree_at}
-use Rattle.gix_odb_world.specs.Running.Query.{Looks, call_of}
+use Rattle.gix_odb_world.specs.Run.{IsTurnOf, change_by, disk_after, tree_at}
 use Rattle.gix_odb_world.specs.Running.{Knows, Runs, RunsThroughout}
-use Rattle.gix_odb_world.specs.Running.Write.{IsWriting, write_at}
+use Rattle.gix_odb_world.specs.Running.Write.{IsWriting, result_of_write, write_at}
 use Rattle.gix_odb_world.specs.Undisturbed.{HasMade}
-use Rattle.gix_odb_world.specs.WorkOrder.{ask_in, result_in}
 use Rattle.gix_odb_world.specs.Writing.{AskedAt, IsMaking, IsNewFile, ToWrite, head_to_write, name_to_write}
 use Rattle.gix_odb_world.proofs.FileSteps.{IsNewAt, WriterMoves, new_at, writer_moves}
-use Rattle.gix_odb_world.proofs.FileSteps.AtWrite.{write_is, AtWrite, ended}
+use Rattle.gix_odb_world.proofs.FileSteps.AtWrite.{AtWrite, ended}
 use Rattle.gix_odb_world.proofs.RunSteps.{IsTurned, front_of_front, is_tree_at, there_in_front, there_in_whole}
-use Rattle.gix_odb_world.proofs.WorkLemmas.{LooksOnly, acts}
 use Rattle.gix_odb_world.proofs.WriteAsk.{made_done}
 use Rattle.gix_odb_world.proofs.WriteAsk.Quiet.{change_by-quiet}
-use Rattle.gix_odb_world.proofs.WriteGoes.{ask_at_stage}
+use Rattle.gix_odb_world.proofs.WriteTurn.{ask_at_stage, done_at}
+use Rattle.gix_odb_world.proofs.WorkLaws.{asks_as_write, ends_as_write, knows_write, quiet_unless_writing}
 
 pub one_event : {A : Type 0} (xs : List A) (place : ℕ) (x y : A) → slice_get xs place ≡ Some x → slice_get xs place ≡ Some y → x ≡ y
 one_event xs place x y is other = let both : Some x ≡ Some y = sym is ∙ other in cc both
@@ -57,13 +57,14 @@ pub same_tree_on_way : (t u : Tree) (path : Path) → u ≡ t → SameOnWay t u 
 same_tree_on_way t u path same = subst (λ (v : Tree). SameOnWay t v true path) (sym same) (λ q on. refl)
 
 -- a write that removes its file ends with the turn
-pub removing_ends : (store : Store) (w : ToWrite) (number : ℕ) (refusal : Refusal) (answer : DiskAnswer)
-    → (reply : Reply) × (outcome_of (result_in (fed_in store (Calling (Writing (write_at w (stages.Removing number refusal)))) answer)) ≡ outcomes.Reply reply)
-removing_ends store w number refusal answer = (_, refl)
+pub removing_ends : (w : ToWrite) (number : ℕ) (refusal : Refusal) (answer : DiskAnswer)
+    → (reply : Reply) × (result_of_write (loose_order.fed (write_at w (stages.Removing number refusal)) answer) ≡ Ok reply)
+removing_ends w number refusal answer = (_, refl)
 
 -- one that gives the object its name does too
-pub moving_ends : (store : Store) (w : ToWrite) (number : ℕ) (id : ObjectId) → outcome_of (result_in (fed_in store (Calling (Writing (write_at w (stages.Moving number id)))) answers.Done)) ≡ outcomes.Reply (replies.Wrote id)
-moving_ends store w number id = refl
+pub moving_ends : (w : ToWrite) (number : ℕ) (id : ObjectId)
+    → result_of_write (loose_order.fed (write_at w (stages.Moving number id)) answers.Done) ≡ Ok (replies.Wrote id)
+moving_ends w number id = refl
 
 pub no_write_after : (store : Store) (begun number : ℕ) (step : Step) (outcome : Outcome) (asked : Asked) (table : ℕ → Status) (handle : ℕ) (reply : Reply)
     → step ≡ steps.Turn handle → outcome ≡ outcomes.Reply reply → ¬ (AtWrite store begun (status_after number step outcome asked table handle))
@@ -81,13 +82,16 @@ module _ (first : Volume) (events : List Event) (start : IsTree (tree_of first.s
 
   -- ---- what a write knows
 
-  pub knows_at : (now handle : ℕ) (running : Running) → now ≤ length events → status_of (take now events) handle ≡ Working running → Knows first (take now events) handle running running.work
+  pub knows_at : (now handle : ℕ) (running : Running) → now ≤ length events → status_of (take now events) handle ≡ Working running
+      → Knows first (take now events) handle running running.work
   knows_at now handle running within status = (subst (Runs first (take now events) handle) status (throughout now handle within)).1
 
-  pub writing_at : (now handle : ℕ) (running : Running) (folder : LooseCall) → now ≤ length events → IsAtWrite (status_of (take now events) handle) running folder → IsWriting first (take now events) handle running folder
-  writing_at now handle running folder within at = subst (Knows first (take now events) handle running) (write_is running.work folder at.writes) (knows_at now handle running within at.works)
+  pub writing_at : (now handle : ℕ) (running : Running) (folder : LooseCall) → now ≤ length events
+      → IsAtWrite (status_of (take now events) handle) running folder → IsWriting first (take now events) handle running folder
+  writing_at now handle running folder within at = knows_write first (take now events) handle running running.work (knows_at now handle running within at.works) folder at.writes
 
-  pub asked_whole : (handle now place : ℕ) (path : Path) → AskedAt first (take now events) handle place (asks.NewFile path) answers.Done → (place < now) × AskedAt first events handle place (asks.NewFile path) answers.Done
+  pub asked_whole : (handle now place : ℕ) (path : Path) → AskedAt first (take now events) handle place (asks.NewFile path) answers.Done
+      → (place < now) × AskedAt first events handle place (asks.NewFile path) answers.Done
   asked_whole handle now place path a =
       let there = there_in_whole events place now a.event a.there in
       let fronts = front_of_front events place now (omega (arith, there.0)) in (
@@ -104,10 +108,11 @@ module _ (first : Volume) (events : List Event) (start : IsTree (tree_of first.s
 
   -- the file of a write past its making
   unfoldable pub made_at_stage : (now handle : ℕ) (running : Running) (folder : LooseCall) (at : IsAtWrite (status_of (take now events) handle) running folder)
-      (writes : IsWriting first (take now events) handle running folder) (number : ℕ) → number_made writes.stage ≡ Some number → (made : ℕ) × HasMade first events handle made (temp_path running.store.parts.objects number) now
+      (writes : IsWriting first (take now events) handle running folder) (number : ℕ) → number_made writes.stage ≡ Some number
+      → (made : ℕ) × HasMade first events handle made (temp_path running.store.parts.objects number) now
   made_at_stage now handle running folder at writes number stage =
       let w = writes.write in
-      let among = history_makes (head_to_write w) (λ id. id ≡ name_to_write w) number ⊥ (OtherLength (Some w.bytes) w.size) writes.stage writes.stands.appended writes.stands.past stage writes.stands.history in
+      let among = history_makes (head_to_write w) (λ id. id ≡ name_to_write w) number ⊥ (OtherLength (Some w.bytes) w.size) writes.stage (data_at w.bytes writes.stage) writes.stands.past stage (done_at first (take now events) handle running.begun writes.own w writes.stage writes.stands).history in
       let asked = writes.stands.asked (exchanged (asks.NewFile (temp_path w.objects number)) answers.Done) among in
       let whole = asked_whole handle now asked.place (temp_path w.objects number) asked.at in (
         asked.place,
@@ -134,7 +139,8 @@ module _ (first : Volume) (events : List Event) (start : IsTree (tree_of first.s
       making : IsMaking writes.write.objects (number_made writes.stage) hm.makes.event.entry.did
       making = writes.stands.made made hm.makes.event hm.later (there_in_front events made now hm.makes.event hm.before hm.makes.there) hm.makes.turn (subst IsNewFile (sym new.put) tt)
 
-      by_number : (number : Option ℕ) → number_made writes.stage ≡ number → IsMaking writes.write.objects number hm.makes.event.entry.did → (n : ℕ) × (number_made writes.stage ≡ Some n) × (path ≡ temp_path hm.running.store.parts.objects n)
+      by_number : (number : Option ℕ) → number_made writes.stage ≡ number → IsMaking writes.write.objects number hm.makes.event.entry.did
+          → (n : ℕ) × (number_made writes.stage ≡ Some n) × (path ≡ temp_path hm.running.store.parts.objects n)
       by_number None is made_it = absurd made_it
       by_number (Some n) is made_it =
           let both : Disk (op_of (asks.NewFile path)) path (next_fails (disk_after first (take made events))) ≡ Disk (op_of (asks.NewFile (temp_path writes.write.objects n))) (temp_path writes.write.objects n) made_it.0 = sym hm.makes.did ∙ made_it.1 in
@@ -158,21 +164,25 @@ module _ (first : Volume) (events : List Event) (start : IsTree (tree_of first.s
   within_events place e there = let inside = slice_get_within events place e there in omega (arith, inside)
 
   -- what a turn of a write asks, by its stage
-  pub ask_of_write : (place : ℕ) (e : Event) (handle : ℕ) (running : Running) (folder : LooseCall) → write_in running.work ≡ Some folder → (writes : IsWriting first (take place events) handle running folder)
+  pub ask_of_write : (place : ℕ) (e : Event) (handle : ℕ) (running : Running) (folder : LooseCall) → write_in running.work ≡ Some folder
+      → (writes : IsWriting first (take place events) handle running folder)
       (works : Works first (take place events) handle running e) → works.ask ≡ ask_at_stage writes.write writes.stage
   ask_of_write place e handle running folder write writes works =
       let asks_it : Some works.ask ≡ Some (ask_at_stage writes.write writes.stage) =
-      sym works.asks ∙ (ap (ask_in running.store.parts.objects) (write_is running.work folder write) ∙ ap (λ f. ask_in running.store.parts.objects (Calling (Writing f))) writes.is) in
+      sym works.asks ∙ (asks_as_write running.store running.work folder write ∙ ap disk_ask_of writes.is) in
       cc asks_it
 
-  pub moves_of : (place : ℕ) (e : Event) (handle : ℕ) (running : Running) (folder : LooseCall) → write_in running.work ≡ Some folder → (writes : IsWriting first (take place events) handle running folder)
-      (works : Works first (take place events) handle running e) (c : Change) → e.entry.change ≡ Some c → WriterMoves (tree place) running.store.parts.objects writes.stage c
+  pub moves_of : (place : ℕ) (e : Event) (handle : ℕ) (running : Running) (folder : LooseCall) → write_in running.work ≡ Some folder
+      → (writes : IsWriting first (take place events) handle running folder)
+      (works : Works first (take place events) handle running e) (c : Change) → e.entry.change ≡ Some c
+      → WriterMoves (tree place) running.store.parts.objects writes.stage c
   moves_of place e handle running folder write writes works c is =
       let ask = ask_of_write place e handle running folder write writes works in
       subst (λ o. WriterMoves (tree place) o writes.stage c) writes.into
       (writer_moves (disk_after first (take place events)) writes.write writes.stage c (ap (change_by (disk_after first (take place events))) (sym ask) ∙ (sym works.changed ∙ is)))
 
-  pub quiet_or_writer : (place : ℕ) (e : Event) (there : slice_get events place ≡ Some e) (t : IsTurned first (take place events) e) → (e.entry.change ≡ None) ⊎ ByWriter place e
+  pub quiet_or_writer : (place : ℕ) (e : Event) (there : slice_get events place ≡ Some e) (t : IsTurned first (take place events) e)
+      → (e.entry.change ≡ None) ⊎ ByWriter place e
   quiet_or_writer place e there t = by_change e.entry.change refl
     where
       past : List Event
@@ -181,20 +191,11 @@ module _ (first : Volume) (events : List Event) (start : IsTree (tree_of first.s
       knows : Knows first past t.handle t.running t.running.work
       knows = knows_at place t.handle t.running (within_events place e there) t.turn.status
 
-      quiet : (work : Work) → LooksOnly work → t.running.work ≡ work → (task : Task) → Looks first past t.handle t.running task work → e.entry.change ≡ None
-      quiet work only is task looks =
-          let act = acts (tree_at first past) (FailedSince past t.handle t.running.begun) t.running.store t.running.ignoring t.running.begun (length past) looks.place work looks.seen in
-          let both : Some t.works.ask ≡ Some act.ask = sym t.works.asks ∙ (ap (ask_in t.running.store.parts.objects) is ∙ act.asks) in
-          let same : act.ask ≡ t.works.ask = cc both in
-          t.works.changed ∙ change_by-quiet (disk_after first past) t.works.ask (subst (λ ask. change_of_ask (tree place) ask ≡ None) same (act.quiet only (tree place)))
-
-      by_work : (c : Change) → e.entry.change ≡ Some c → (work : Work) → t.running.work ≡ work → (e.entry.change ≡ None) ⊎ ByWriter place e
-      by_work c is (Opening state) at = inl (quiet (Opening state) tt at OpenStore (subst (Knows first past t.handle t.running) at knows))
-      by_work c is (Calling (Looking state)) at = inl (quiet (Calling (Looking state)) tt at (MakeCall (call_of state.head.query)) (subst (Knows first past t.handle t.running) at knows))
-      by_work c is (Calling (Written reply)) at = absurd (subst (Knows first past t.handle t.running) at knows)
-      by_work c is (Calling (Writing folder)) at =
-          let write : write_in t.running.work ≡ Some folder = ap write_in at in
-          let writes : IsWriting first past t.handle t.running folder = subst (Knows first past t.handle t.running) at knows in
+      by_write : (c : Change) → e.entry.change ≡ Some c → (write : Option LooseCall) → write_in t.running.work ≡ write
+          → (e.entry.change ≡ None) ⊎ ByWriter place e
+      by_write c is None none = inl (t.works.changed ∙ quiet_unless_writing first past t.handle t.running t.running.work knows t.works.ask none t.works.asks)
+      by_write c is (Some folder) write =
+          let writes : IsWriting first past t.handle t.running folder = knows_write first past t.handle t.running t.running.work knows folder write in
           inr (record {
             handle = t.handle;
             turn = t.turn.step;
@@ -209,11 +210,12 @@ module _ (first : Volume) (events : List Event) (start : IsTree (tree_of first.s
 
       by_change : (change : Option Change) → e.entry.change ≡ change → (e.entry.change ≡ None) ⊎ ByWriter place e
       by_change None is = inl is
-      by_change (Some c) is = by_work c is t.running.work refl
+      by_change (Some c) is = by_write c is (write_in t.running.work) refl
 
   -- a turn of a write that renames is its last, and says that the object is written
   pub rename_ends : (place : ℕ) (e : Event) → slice_get events place ≡ Some e → (handle : ℕ) (running : Running) (folder : LooseCall)
-      → IsAtWrite (status_of (take place events) handle) running folder → IsTurnOf handle e.step → (from to : Path) → e.entry.change ≡ Some (Rename from to) → (id : ObjectId) × (e.outcome ≡ outcomes.Reply (replies.Wrote id))
+      → IsAtWrite (status_of (take place events) handle) running folder → IsTurnOf handle e.step → (from to : Path)
+      → e.entry.change ≡ Some (Rename from to) → (id : ObjectId) × (e.outcome ≡ outcomes.Reply (replies.Wrote id))
   rename_ends place e there handle running folder at turn from to moves = by_stage writes.stage refl (moves_of place e handle running folder at.writes writes works (Rename from to) moves)
     where
       objects : Path
@@ -225,17 +227,18 @@ module _ (first : Volume) (events : List Event) (start : IsTree (tree_of first.s
       works : Works first (take place events) handle running e
       works = (lawful place e there).worked handle running (record { step = turn; status = at.works })
 
-      by_stage : (stage : WriteStage) → writes.stage ≡ stage → WriterMoves (tree place) objects stage (Rename from to) → (id : ObjectId) × (e.outcome ≡ outcomes.Reply (replies.Wrote id))
+      by_stage : (stage : WriteStage) → writes.stage ≡ stage → WriterMoves (tree place) objects stage (Rename from to)
+          → (id : ObjectId) × (e.outcome ≡ outcomes.Reply (replies.Wrote id))
       by_stage (stages.Making n) stage made = let c = new_file_change (tree place) (temp_path objects n) (Rename from to) made in absurd (let both : Rename from to ≡ PutFile c.0 0 [] = c.2 in cc both)
       by_stage (stages.Heading n) stage made = let c = append_change (tree place) (temp_path objects n) (Rename from to) made.0 made.1 in absurd (let both : Rename from to ≡ Append c.0 made.0 = c.2 in cc both)
       by_stage (stages.Filling n written) stage made = let c = append_change (tree place) (temp_path objects n) (Rename from to) made.0 made.1 in absurd (let both : Rename from to ≡ Append c.0 made.0 = c.2 in cc both)
       by_stage (stages.Foldering n id) stage made = let c = make_dir_change (tree place) (prefix_path objects id) (Rename from to) made in absurd (let both : Rename from to ≡ MakeDir c.0 _ = c.2 in cc both)
       by_stage (stages.Removing n refusal) stage made = let c = remove_change (tree place) (temp_path objects n) (Rename from to) made in absurd (let both : Rename from to ≡ Remove c.0 = c.2 in cc both)
       by_stage (stages.Moving n id) stage made =
-          let now : running.work ≡ Calling (Writing (write_at writes.write (stages.Moving n id))) = write_is running.work folder at.writes ∙ (ap (λ f. Calling (Writing f)) writes.is ∙ ap (λ s. Calling (Writing (write_at writes.write s))) stage) in
+          let now : folder ≡ write_at writes.write (stages.Moving n id) = writes.is ∙ ap (write_at writes.write) stage in
           let disk = disk_after first (take place events) in
-          let done : answer_now disk works.ask ≡ answers.Done = made_done disk works.ask (Rename from to) (sym works.changed ∙ moves) in (
-            id,
-            works.goes ∙ (ap (λ w. outcome_of (result_in (fed_in running.store w (answer_now disk works.ask)))) now
-                ∙ (ap (λ a. outcome_of (result_in (fed_in running.store (Calling (Writing (write_at writes.write (stages.Moving n id)))) a))) done ∙ moving_ends running.store writes.write n id)),
-          )
+          let done : answer_now disk works.ask ≡ answers.Done = made_done disk works.ask (Rename from to) (sym works.changed ∙ moves) in
+          let ends : result_of_write (loose_order.fed folder (answer_now disk works.ask)) ≡ Ok (replies.Wrote id) =
+          ap (λ f. result_of_write (loose_order.fed f (answer_now disk works.ask))) now
+          ∙ (ap (λ a. result_of_write (loose_order.fed (write_at writes.write (stages.Moving n id)) a)) done ∙ moving_ends writes.write n id) in
+          (id, works.goes ∙ ap outcome_of (ends_as_write running.store running.work folder (answer_now disk works.ask) (replies.Wrote id) at.writes ends))

@@ -77,7 +77,8 @@ ran_out-in tree streams (asks.Append path bytes) = ran_out-told tree (asks.Appen
 ran_out-in tree streams (asks.Rename from to) = ran_out-told tree (asks.Rename from to)
 ran_out-in tree streams (asks.Remove path) = ran_out-told tree (asks.Remove path)
 
-ran_out-either : (fails : Bool) (answer : DiskAnswer) → ran_out answer ≡ false → ran_out (if fails then answers.Refused disk_errors.Failed else answer) ≡ false
+ran_out-either : (fails : Bool) (answer : DiskAnswer) → ran_out answer ≡ false
+    → ran_out (if fails then answers.Refused disk_errors.Failed else answer) ≡ false
 ran_out-either true answer told = refl
 ran_out-either false answer told = told
 
@@ -89,7 +90,8 @@ never_wants disk ask e =
 
 -- ---- the disk after a call
 
-after_either : (disk : Volume) (change : Option Change) (fails : Bool) → written disk.state (if fails then None else change) ≡ (if fails then disk.state else written disk.state change)
+after_either : (disk : Volume) (change : Option Change) (fails : Bool)
+    → written disk.state (if fails then None else change) ≡ (if fails then disk.state else written disk.state change)
 after_either disk change true = refl
 after_either disk change false = refl
 
@@ -117,7 +119,8 @@ uncounted_quiet tree (asks.Remove path) is = absurd (cc)
 
 -- a call that fails makes no change
 module _ (disk : Volume) (ask : DiskAsk) where
-  state_by_counted : (counted : Bool) → is_counted ask ≡ counted → (if counted && next_fails disk then disk.state else written disk.state (change_of_ask (tree_of disk.state) ask)) ≡ written disk.state (change_by disk ask)
+  state_by_counted : (counted : Bool) → is_counted ask ≡ counted
+      → (if counted && next_fails disk then disk.state else written disk.state (change_of_ask (tree_of disk.state) ask)) ≡ written disk.state (change_by disk ask)
   state_by_counted true is = sym (after_either disk (change_of_ask (tree_of disk.state) ask) (next_fails disk))
   state_by_counted false is =
       let quiet = uncounted_quiet (tree_of disk.state) ask is in
@@ -127,6 +130,7 @@ module _ (disk : Volume) (ask : DiskAsk) where
   state_by = state_by_counted (is_counted ask) refl
 
 -- the record of a call takes the disk on as the call did
-pub after_ask-change : (disk : Volume) (ask : DiskAsk) → after_ask disk ask ≡ record (after_ask disk ask) { state = written disk.state (change_by disk ask) }
+pub after_ask-change : (disk : Volume) (ask : DiskAsk)
+    → after_ask disk ask ≡ record (after_ask disk ask) { state = written disk.state (change_by disk ask) }
 unfolding after_ask
 after_ask-change disk ask = ap (λ (s : State). record (after_ask disk ask) { state = s }) (state_by disk ask)

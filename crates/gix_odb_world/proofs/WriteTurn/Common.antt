@@ -1,6 +1,5 @@
 -- What is common to all turns of a write: what was asked, what stands in its file, and what its end or its next stage needs.
-use Rattle.std.proofs.Common.{◌≡◌, ℕ, ◌+◌, ◌≤◌, List, [], ◌∷◌, ◌++◌, length, take, Contains, Option, Some, None, Ok, Err, sym, ap, ◌∙◌, subst, zero, suc, ◌⊎◌, arith, inl, inr}
-use Rattle.std.proofs.lemmas.List.Elements.{Contains-append_cases}
+use Rattle.std.proofs.Common.{◌≡◌, ℕ, ◌+◌, ◌≤◌, List, [], ◌∷◌, ◌++◌, length, Option, Some, None, Ok, sym, ap, ◌∙◌, subst, arith}
 use Rattle.std.proofs.Math.Seq.{take-length}
 use Rattle.odb_base.specs.Path.{Path}
 use Rattle.odb_disk.specs.Ask.{answer_now, op_of}
@@ -14,41 +13,29 @@ use Rattle.odb_disk.specs.declared.ask.DiskAsk.{DiskAsk}
 use Rattle.odb_disk.specs.declared.ask.DiskAsk.TheVariants as asks
 use Rattle.odb_tree.specs.declared.change.Change.{Change}
 use Rattle.odb_tree.specs.declared.change.Change.TheVariants.{MakeDir}
-use Rattle.odb_tree.specs.declared.disk_error.DiskError.TheVariants as disk_errors
 use Rattle.odb_tree.specs.OwnFile.{HasFile}
 use Rattle.odb_tree.proofs.OwnFileLaws.{has_file_kept, has_more, has_new_file, kept_by_make_dir}
 use Rattle.odb_tree.proofs.WayWriteLaws.{make_dir_change}
 use Rattle.odb_tree.proofs.WriteLaws.{tree_of-written}
 use Rattle.gix_hash.specs.declared.object_id.ObjectId.{ObjectId}
-use Rattle.gix_odb_loose.proofs.CauseLaws.Write.{WriteCause-wider}
-use Rattle.gix_odb_loose.specs.Exchanges.{Exchange, exchanged}
-use Rattle.gix_odb_loose.specs.WriteHistory.Refused.{DoneIn, HasCauseIn, RefusedIn, TakenIn, WantedIn}
-use Rattle.gix_odb_loose.specs.WriteHistory.{IsHistoryOnward, IsStopped}
-use Rattle.gix_odb_loose.proofs.WriteCauseLaws.{refused_cause}
-use Rattle.gix_odb_loose.specs.WriteJobs.{pieces_of}
-use Rattle.gix_odb_loose.specs.WritePieces.{IsInPieces}
-use Rattle.gix_odb_loose.specs.WriteOrder.{error_from, number_made, temp_path}
+use Rattle.gix_odb_loose.specs.Exchanges.{Exchange}
+use Rattle.gix_odb_loose.specs.WriteHistory.{IsStopped}
+use Rattle.gix_odb_loose.specs.WriteOrder.{error_from}
 use Rattle.gix_odb_loose.specs.WriteStreams.{OtherLength}
 use Rattle.gix_odb_loose.specs.declared.write.Error.TheVariants as loose_errors
 use Rattle.gix_odb_loose.specs.declared.write.Message.TheVariants as messages
-use Rattle.gix_odb_loose.specs.declared.write_order.Onward.{Onward}
-use Rattle.gix_odb_loose.specs.declared.write_order.Onward.TheVariants.{Stage, End}
 use Rattle.gix_odb_loose.specs.declared.write_order.Refusal.{Refusal}
 use Rattle.gix_odb_loose.specs.declared.write_order.Refusal.TheVariants as refusals
 use Rattle.gix_odb_loose.specs.declared.write_order.WriteHead.{WriteHead}
-use Rattle.gix_odb_loose.specs.declared.write_order.WriteStage.TheVariants as stages
 use Rattle.gix_odb_world.specs.Recorded.{path_recorded}
 use Rattle.gix_odb_world.specs.declared.record.Did.TheVariants.{Disk}
 use Rattle.gix_odb_world.specs.Event.{OfDisk, Event}
 use Rattle.gix_odb_world.specs.Run.{IsTurnOf, change_by, disk_after, disk_after_asked, tree_at}
-use Rattle.gix_odb_world.specs.Running.Write.{HadTurns, Holds, HoldsFile, IsFront, IsUntouched, StandsAt, content_at, turns_left}
-use Rattle.gix_odb_world.specs.Writing.{AskedAt, AskedSince, CauseOfWrite, ChangedNothing, DoneSince, IsNewFile, IsRename, MadeOnly, RefusedSince, RenamedNothing, TakenSince, ToWrite, head_to_write, name_to_write}
-use Rattle.gix_odb_world.specs.Written.{HasWritten, WasRefused}
+use Rattle.gix_odb_world.specs.Running.Write.{HoldsFile}
+use Rattle.gix_odb_world.specs.Writing.{AskedAt, IsNewFile, IsRename, MadeOnly, ToWrite, head_to_write, name_to_write}
 use Rattle.gix_odb_world.proofs.RunLemmas.{tree_at-now}
-use Rattle.gix_odb_world.proofs.RefusedLemmas.{refused_on_way}
 use Rattle.gix_odb_world.proofs.WriteAsk.{Made}
-use Rattle.gix_odb_world.proofs.WriteAsk.Quiet.{never_wants}
-use Rattle.gix_odb_world.proofs.WriteKept.{alone_before, asked_at_kept, asked_kept, asked_now, each_turn_push, whole_length}
+use Rattle.gix_odb_world.proofs.WriteKept.{alone_before, asked_at_kept, asked_now, each_turn_push, whole_length}
 
 -- a write that is to remove its file was not refused the making of it
 pub made_before_removal : (head : WriteHead) (Named : ObjectId → Type 0) (Counted : ℕ → Type 0) (number : ℕ) (refusal : Refusal) (past : List Exchange) (at : Path) → IsStopped head Named ⊥ Counted number refusal past
@@ -60,10 +47,6 @@ made_before_removal head Named Counted number refusals.IoRaw past at stopped sam
 made_before_removal head Named Counted number (refusals.Persist id) past at stopped same P = absurd (cc same)
 made_before_removal head Named Counted number (refusals.SizeMismatch actual) past at stopped same P = absurd (cc same)
 made_before_removal head Named Counted number refusals.NoMemory past at stopped same P = absurd (cc same)
-
--- one piece more has one turn more
-pub piece_had : {turns written : ℕ} (number piece : ℕ) → IsInPieces written → 1 ≤ piece → piece ≤ 65536 → turns ≡ number + 2 + pieces_of written → turns + 1 ≡ number + 2 + pieces_of (written + piece)
-piece_had number piece pieces some few had = omega (arith, pieces.1, some, few, had)
 
 -- the last event is a turn of the handle that made this call of the disk
 pub record IsTurnWith (first : Volume) (events : List Event) (e : Event) (handle : ℕ) (ask : DiskAsk) : Type 0 where
@@ -118,78 +101,6 @@ module _ (first : Volume) (events : List Event) (e : Event) (handle begun turns 
     pub own : AskedAt first whole handle (length events) ask answer
     own = asked_now first events e handle ask answer is.turn is.did (is.asked ∙ ap (OfDisk ask) (sym given)) given
 
-    pub asked_since : AskedSince first whole handle begun ask answer
-    asked_since = record { place = length events; later = since; at = own }
-
-    module _ (past : List Exchange) (asked : (x : Exchange) → Contains past x → AskedSince first events handle begun x.ask x.answer) where
-      abbrev longer : List Exchange
-      longer = past ++ exchanged ask answer ∷ []
-
-      one : (x : Exchange) → Contains (exchanged ask answer ∷ []) x → exchanged ask answer ≡ x
-      one x (zero, within, e) = e
-      one x (suc k, within, e) = absurd (omega (arith, within))
-
-      all_asked : (x : Exchange) → Contains longer x → AskedSince first whole handle begun x.ask x.answer
-      all_asked x among =
-          elim (Contains-append_cases past (exchanged ask answer ∷ []) x among) [
-            | inl old ↦ asked_kept first events e handle begun x.ask x.answer (asked x old)
-            | inr last ↦ subst (λ (y : Exchange). AskedSince first whole handle begun y.ask y.answer) (one x last) asked_since
-          ]
-
-      cause_now : (refusal : Refusal) → HasCauseIn head Named ⊥ Counted longer (error_from head refusal) → CauseOfWrite first whole handle begun w (error_from head refusal)
-      cause_now refusal h =
-          WriteCause-wider head (RefusedIn longer) (RefusedSince first whole handle begun) (TakenIn longer) (TakenSince first whole handle begun) (DoneIn longer) (DoneSince first whole handle begun)
-          (λ a making r. refused_on_way first whole handle begun a making r.0 (all_asked (exchanged a r.0) r.1) r.2) (λ a t. all_asked (exchanged a (answers.Refused disk_errors.Exists)) t) (λ a d. all_asked (exchanged a answers.Done) d) ⊥ ⊥ (λ f. f)
-          Named Named (λ id n. n) (WantedIn longer) ⊥ (λ m. let a = all_asked (exchanged m.0 (answers.Refused disk_errors.NoMemory)) m.1 in absurd (never_wants (disk_after first (take a.place whole)) m.0 a.at.given))
-          Counted Counted (λ n k. k) (error_from head refusal) h
-
-      -- what a turn comes to
-      abbrev pub Goes : Onward → Type 0
-      Goes (Stage stage) = StandsAt first whole handle begun (turns + 1) w stage
-      Goes (End (Ok id)) = HasWritten first whole handle begun w id
-      Goes (End (Err refusal)) = WasRefused first whole handle begun w (error_from head refusal)
-
-      -- where no temporary file could be made, nothing was changed
-      abbrev IsUntouchedAt : Refusal → Type 0
-      IsUntouchedAt refusal = (at : Path) → error_from head refusal ≡ loose_errors.Io messages.CreateTempFile at → ChangedNothing whole handle begun
-
-      -- what is to be shown of it, beside its history
-      abbrev pub Parts : List ℕ → Onward → Type 0
-      Parts appended (Stage stage) =
-          IsFront w appended stage × (¬ (IsRename e.entry.change)) × MadeOnly whole handle begun w.objects (number_made stage)
-          × Holds first whole handle begun w.objects (number_made stage) (content_at w appended stage) × (turns + 1 + turns_left w stage ≤ 21 + pieces_of (length w.bytes))
-          × IsUntouched whole handle begun (number_made stage) × HadTurns w (turns + 1) stage
-      Parts appended (End (Ok id)) = HasWritten first whole handle begun w id
-      Parts appended (End (Err refusal)) =
-          (¬ (IsRename e.entry.change)) × IsUntouchedAt refusal × ((made : Option ℕ) × MadeOnly whole handle begun w.objects made
-          × ((made ≡ None) ⊎ ((number : ℕ) × (place : ℕ) × (made ≡ Some number) × (length whole ≡ place + 1) × ((a : DiskAnswer) × AskedAt first whole handle place (asks.Remove (temp_path w.objects number)) a))))
-
-      pub goes : RenamedNothing events handle begun → (appended : List ℕ) (onward : Onward) → IsHistoryOnward head Named ⊥ Counted appended onward longer → Parts appended onward → Goes onward
-      goes unnamed appended (Stage stage) history parts =
-          record {
-            past = longer;
-            appended = appended;
-            history = history;
-            front = parts.0;
-            asked = all_asked;
-            unnamed = each_turn_push events e handle begun _ unnamed (λ turn. parts.1);
-            made = parts.2;
-            holds = parts.3;
-            time = parts.4;
-            untouched = parts.5;
-            had = parts.6;
-          }
-      goes unnamed appended (End (Ok id)) history parts = parts
-      goes unnamed appended (End (Err refusal)) history parts =
-          record {
-            unnamed = each_turn_push events e handle begun _ unnamed (λ turn. parts.0);
-            untouched = parts.1;
-            made = parts.2.0;
-            makes = parts.2.1;
-            cleared = parts.2.2;
-            cause = cause_now refusal (refused_cause head Named ⊥ Counted refusal longer history);
-          }
-
     -- a file of the write's own after its own call
     pub own_holds : (path : Path) (bytes more : List ℕ) → ((s : Path) → HasFile before path s bytes 0 → HasFile now path s more 0) → HoldsFile first events handle begun path bytes → HoldsFile first whole handle begun path more
     own_holds path bytes more step h =
@@ -243,9 +154,3 @@ module _ (first : Volume) (events : List Event) (e : Event) (handle begun turns 
 
     pub made_same : (number : Option ℕ) → ¬ (IsNewFile e.entry.change) → MadeOnly events handle begun w.objects number → MadeOnly whole handle begun w.objects number
     made_same number none old = each_turn_push events e handle begun _ old (λ turn makes. absurd (none makes))
-
-  -- what is left where the file is to be removed
-  pub cleared : (ask : DiskAsk) (is : IsTurnWith first events e handle ask) (answer : DiskAnswer) (given : answer ≡ answer_now disk ask) (past : List Exchange) (asked : (x : Exchange) → Contains past x → AskedSince first events handle begun x.ask x.answer)
-      → (appended : List ℕ) (number : ℕ) (refusal : Refusal) → ¬ (IsRename e.entry.change) → ¬ (IsNewFile e.entry.change) → MadeOnly events handle begun w.objects (Some number) → turns + 2 ≤ 21 + pieces_of (length w.bytes)
-      → Parts ask is answer given past asked appended (Stage (stages.Removing number refusal))
-  cleared ask is answer given past asked appended number refusal unmoved unmade made time = (tt, unmoved, made_same ask is answer given (Some number) unmade made, tt, omega (arith, time), tt, tt)

@@ -1,7 +1,6 @@
 -- The turn in which a write makes its temporary file, or tries the next name.
-use Rattle.std.proofs.Common.{◌≡◌, ◌≢◌, ℕ, ◌+◌, ◌<◌, ◌≤◌, Bool, true, false, nat_lt, List, [], length, Some, None, Err, refl, sym, ap, ◌∙◌, subst, arith, inl}
+use Rattle.std.proofs.Common.{◌≡◌, ◌≢◌, ℕ, ◌+◌, ◌≤◌, Bool, true, false, nat_lt, List, [], length, Some, None, Err, refl, sym, ap, ◌∙◌, subst, inl}
 use Rattle.std.specs.Prelude.{if◌then◌else◌}
-use Rattle.std.proofs.lemmas.Grind.{common_steps}
 use Rattle.odb_base.specs.Path.{Path}
 use Rattle.odb_disk.specs.Ask.{answer_now}
 use Rattle.odb_disk.specs.MemDisk.{Volume, next_fails}
@@ -13,28 +12,25 @@ use Rattle.odb_disk.specs.declared.ask.DiskAsk.TheVariants as asks
 use Rattle.odb_tree.specs.declared.change.Change.TheVariants.{PutFile}
 use Rattle.odb_tree.specs.declared.disk_error.DiskError.TheVariants as disk_errors
 use Rattle.odb_tree.proofs.WayWriteLaws.{new_file_change}
-use Rattle.gix_odb_loose.specs.WriteOrder.{next_write, temp_path}
+use Rattle.gix_odb_loose.specs.WriteOrder.{next_write, temp_names, temp_path}
 use Rattle.gix_odb_loose.specs.declared.write.Message.TheVariants as messages
-use Rattle.gix_odb_loose.specs.declared.write_order.Onward.{Onward}
-use Rattle.gix_odb_loose.specs.declared.write_order.Onward.TheVariants.{Stage, End}
 use Rattle.gix_odb_loose.specs.declared.write_order.Refusal.{Refusal}
 use Rattle.gix_odb_loose.specs.declared.write_order.Refusal.TheVariants as refusals
-use Rattle.gix_odb_loose.specs.declared.write_order.WriteHead.{WriteHead}
+use Rattle.gix_odb_loose.specs.declared.write_order.WriteAsk.{WriteAsk}
+use Rattle.gix_odb_loose.specs.declared.write_order.WriteAsk.TheVariants as wants
 use Rattle.gix_odb_loose.specs.declared.write_order.WriteStage.TheVariants as stages
 use Rattle.gix_odb_world.specs.Event.{Event}
 use Rattle.gix_odb_world.specs.Run.{change_by, disk_after}
 use Rattle.gix_odb_world.specs.Running.Write.{StandsAt}
-use Rattle.gix_odb_world.specs.Writing.{IsRename, ToWrite, head_to_write}
+use Rattle.gix_odb_world.specs.Writing.{IsRename, ToWrite}
 use Rattle.gix_odb_world.proofs.WriteAsk.{done_made, told_new_file, undone_made}
 use Rattle.gix_odb_world.proofs.WriteKept.{each_turn_push}
-use Rattle.gix_odb_world.proofs.WriteTurn.Common.{IsTurnWith, Parts, new_holds, no_rename, no_file, made_same}
+use Rattle.gix_odb_world.proofs.WriteTurn.Common.{IsTurnWith, new_holds, no_rename, no_file, made_same}
+use Rattle.gix_odb_world.proofs.WriteTurn.Comes.{PartsTo}
 
 module _ (first : Volume) (events : List Event) (e : Event) (handle begun turns : ℕ) (w : ToWrite) (since : begun ≤ length events) where
   abbrev disk : Volume
   disk = disk_after first events
-
-  abbrev head : WriteHead
-  head = head_to_write w
 
   module _ (number : ℕ) where
     abbrev path : Path
@@ -42,39 +38,34 @@ module _ (first : Volume) (events : List Event) (e : Event) (handle begun turns 
 
     -- the file is made, or the next name is tried
     module _ (s : StandsAt first events handle begun turns w (stages.Making number)) (is : IsTurnWith first events e handle (asks.NewFile path)) where
-      abbrev MakingParts : (answer : DiskAnswer) → answer ≡ answer_now disk (asks.NewFile path) → Onward → Type 0
-      MakingParts answer given onward = Parts first events e handle begun turns w since (asks.NewFile path) is answer given s.past s.asked s.appended onward
+      abbrev MakingParts : (answer : DiskAnswer) → answer ≡ answer_now disk (asks.NewFile path) → WriteAsk → Type 0
+      MakingParts answer given wanted = PartsTo first events e handle begun turns w since (asks.NewFile path) is answer given s.past s.asked wanted
 
       untaken : answers.Done ≢ answer_now disk (asks.NewFile path) → change_by disk (asks.NewFile path) ≡ None
       untaken undone = undone_made disk (asks.NewFile path) (change_of_new_file (tree_of disk.state) path) (told_new_file (tree_of disk.state) path) undone
 
-      unmade : (answer : DiskAnswer) (given : answer ≡ answer_now disk (asks.NewFile path)) (refusal : Refusal) → answers.Done ≢ answer → MakingParts answer given (End (Err refusal))
+      unmade : (answer : DiskAnswer) (given : answer ≡ answer_now disk (asks.NewFile path)) (refusal : Refusal) → answers.Done ≢ answer → MakingParts answer given (wants.Done (Err refusal))
       unmade answer given refusal undone =
           let none = untaken (λ d. undone (d ∙ sym given)) in
           (no_rename first events e handle begun turns w since (asks.NewFile path) is answer given none, λ at same. each_turn_push events e handle begun _ s.untouched (λ turn. is.change ∙ none), (None, made_same first events e handle begun turns w since (asks.NewFile path) is answer given None (no_file first events e handle begun turns w since (asks.NewFile path) is answer given none) s.made, inl refl))
 
-      next_name : (given : answers.Refused disk_errors.Exists ≡ answer_now disk (asks.NewFile path)) (more : Bool) → nat_lt (number + 1) 16 ≡ more
-          → MakingParts (answers.Refused disk_errors.Exists) given (if more then Stage (stages.Making (number + 1)) else End (Err (refusals.Io messages.CreateTempFile)))
-      next_name given true few =
+      next_name : (given : answers.Refused disk_errors.Exists ≡ answer_now disk (asks.NewFile path)) (more : Bool) → MakingParts (answers.Refused disk_errors.Exists) given (if more then wants.Disk (stages.Making (number + 1)) else wants.Done (Err (refusals.Io messages.CreateTempFile)))
+      next_name given true =
           let none = untaken (λ d. cc (d, given)) in
-          let less : number + 1 < 16 = grind (arith, common_steps, few) in
-          (tt, no_rename first events e handle begun turns w since (asks.NewFile path) is _ given none, made_same first events e handle begun turns w since (asks.NewFile path) is _ given None (no_file first events e handle begun turns w since (asks.NewFile path) is _ given none) s.made, tt, omega (arith, less, s.time), each_turn_push events e handle begun _ s.untouched (λ turn. is.change ∙ none), omega (arith, s.had))
-      next_name given false few = unmade (answers.Refused disk_errors.Exists) given (refusals.Io messages.CreateTempFile) (λ d. cc d)
+          (no_rename first events e handle begun turns w since (asks.NewFile path) is _ given none, made_same first events e handle begun turns w since (asks.NewFile path) is _ given None (no_file first events e handle begun turns w since (asks.NewFile path) is _ given none) s.made, tt, each_turn_push events e handle begun _ s.untouched (λ turn. is.change ∙ none))
+      next_name given false = unmade (answers.Refused disk_errors.Exists) given (refusals.Io messages.CreateTempFile) (λ d. cc d)
 
-      pub making : (answer : DiskAnswer) (given : answer ≡ answer_now disk (asks.NewFile path)) → MakingParts answer given (next_write head.size 0 (stages.Making number) answer)
+      pub making : (answer : DiskAnswer) (given : answer ≡ answer_now disk (asks.NewFile path)) → MakingParts answer given (next_write w.size 0 (stages.Making number) answer)
       making answers.Done given =
           let m = done_made disk (asks.NewFile path) (change_of_new_file (tree_of disk.state) path) (told_new_file (tree_of disk.state) path) given in
           let c = new_file_change (tree_of disk.state) path m.change m.is in
           let change_is : e.entry.change ≡ Some (PutFile c.0 0 []) = is.change ∙ (m.made ∙ ap Some c.2) in (
-            tt,
             λ renames. subst IsRename change_is renames,
             each_turn_push events e handle begun _ (λ place x later there turn makes. absurd (s.made place x later there turn makes)) (λ turn makes. (next_fails disk, is.did)),
             new_holds first events e handle begun turns w since (asks.NewFile path) is answers.Done given path refl refl m,
-            omega (arith, s.time),
             tt,
-            omega (arith, s.had),
           )
-      making (answers.Refused disk_errors.Exists) given = next_name given (nat_lt (number + 1) 16) refl
+      making (answers.Refused disk_errors.Exists) given = next_name given (nat_lt (number + 1) temp_names)
       making (answers.Meta meta) given = unmade (answers.Meta meta) given (refusals.Io messages.CreateTempFile) (λ d. cc d)
       making (answers.Dir dir) given = unmade (answers.Dir dir) given (refusals.Io messages.CreateTempFile) (λ d. cc d)
       making (answers.Entry entry) given = unmade (answers.Entry entry) given (refusals.Io messages.CreateTempFile) (λ d. cc d)

@@ -19,24 +19,29 @@ use Rattle.odb_tree.proofs.OwnFileLaws.{moved_reads, moves_file}
 use Rattle.odb_tree.proofs.WayWriteLaws.{make_dir_change, remove_change, rename_change}
 use Rattle.gix_hash.specs.declared.object_id.ObjectId.{ObjectId}
 use Rattle.gix_object.specs.Loose.{header_of}
+use Rattle.gix_odb_loose.proofs.WriteDoneLaws.{IsAlong-done}
 use Rattle.gix_odb_loose.specs.LooseFile.{loose_path}
+use Rattle.gix_odb_loose.specs.WriteDone.{HasDone}
 use Rattle.gix_odb_loose.specs.WriteOrder.{next_write, prefix_path, refused_by, temp_path}
 use Rattle.gix_odb_loose.specs.WriteStreams.{OtherLength}
-use Rattle.gix_odb_loose.specs.declared.write_order.Onward.{Onward}
-use Rattle.gix_odb_loose.specs.declared.write_order.Onward.TheVariants.{Stage, End}
+use Rattle.gix_odb_loose.specs.declared.write_at_hand.Onward.TheVariants.{Stage}
 use Rattle.gix_odb_loose.specs.declared.write_order.Refusal.{Refusal}
 use Rattle.gix_odb_loose.specs.declared.write_order.Refusal.TheVariants as refusals
+use Rattle.gix_odb_loose.specs.declared.write_order.WriteAsk.{WriteAsk}
+use Rattle.gix_odb_loose.specs.declared.write_order.WriteAsk.TheVariants as wants
 use Rattle.gix_odb_loose.specs.declared.write_order.WriteHead.{WriteHead}
 use Rattle.gix_odb_loose.specs.declared.write_order.WriteStage.TheVariants as stages
+use Rattle.gix_odb.specs.CallOrder.{hash_to_write}
 use Rattle.gix_odb_world.specs.Event.{Event}
 use Rattle.gix_odb_world.specs.Run.{change_by, disk_after, tree_at}
-use Rattle.gix_odb_world.specs.Running.Write.{StandsAt}
+use Rattle.gix_odb_world.specs.Running.Write.{StandsAt, job_to_write}
 use Rattle.gix_odb_world.specs.Writing.{ChangedNothing, IsNewFile, IsRename, ToWrite, head_to_write, name_to_write}
 use Rattle.gix_odb_world.specs.Written.{HasWritten}
 use Rattle.gix_odb_world.proofs.RunLemmas.{tree_at-before}
 use Rattle.gix_odb_world.proofs.WriteAsk.{change_by-all, done_made, told_make_dir, told_remove, told_rename, undone_made}
 use Rattle.gix_odb_world.proofs.WriteKept.{alone_before, asked_at_kept, whole_length}
-use Rattle.gix_odb_world.proofs.WriteTurn.Common.{IsTurnWith, made_before_removal, before_is, is_tree, now_changed, own, Parts, foldered_holds, same_holds, no_rename, no_file, made_same, cleared}
+use Rattle.gix_odb_world.proofs.WriteTurn.Common.{IsTurnWith, made_before_removal, before_is, is_tree, now_changed, own, foldered_holds, same_holds, no_rename, no_file, made_same}
+use Rattle.gix_odb_world.proofs.WriteTurn.Comes.{PartsTo, cleared}
 
 module _ (first : Volume) (events : List Event) (e : Event) (handle begun turns : ℕ) (w : ToWrite) (since : begun ≤ length events) where
   abbrev whole : List Event
@@ -67,39 +72,33 @@ module _ (first : Volume) (events : List Event) (e : Event) (handle begun turns 
 
       -- the directory of the object
       module _ (s : StandsAt first events handle begun turns w (stages.Foldering number id)) (is : IsTurnWith first events e handle (asks.MakeDir folder)) where
-        abbrev FolderingParts : (answer : DiskAnswer) → answer ≡ answer_now disk (asks.MakeDir folder) → Onward → Type 0
-        FolderingParts answer given onward = Parts first events e handle begun turns w since (asks.MakeDir folder) is answer given s.past s.asked s.appended onward
+        abbrev FolderingParts : (answer : DiskAnswer) → answer ≡ answer_now disk (asks.MakeDir folder) → WriteAsk → Type 0
+        FolderingParts answer given wanted = PartsTo first events e handle begun turns w since (asks.MakeDir folder) is answer given s.past s.asked wanted
 
         unfolded : answers.Done ≢ answer_now disk (asks.MakeDir folder) → change_by disk (asks.MakeDir folder) ≡ None
         unfolded undone = undone_made disk (asks.MakeDir folder) (change_of_make_dir (tree_of disk.state) folder) (told_make_dir (tree_of disk.state) folder) undone
 
-        unfoldered : (answer : DiskAnswer) (given : answer ≡ answer_now disk (asks.MakeDir folder)) (refusal : Refusal) → answers.Done ≢ answer → FolderingParts answer given (Stage (stages.Removing number refusal))
+        unfoldered : (answer : DiskAnswer) (given : answer ≡ answer_now disk (asks.MakeDir folder)) (refusal : Refusal) → answers.Done ≢ answer → FolderingParts answer given (wants.Disk (stages.Removing number refusal))
         unfoldered answer given refusal undone =
             let none = unfolded (λ d. undone (d ∙ sym given)) in
-            cleared first events e handle begun turns w since (asks.MakeDir folder) is answer given s.past s.asked s.appended number refusal (no_rename first events e handle begun turns w since (asks.MakeDir folder) is answer given none) (no_file first events e handle begun turns w since (asks.MakeDir folder) is answer given none) s.made (omega (arith, s.time))
+            cleared first events e handle begun turns w since (asks.MakeDir folder) is answer given s.past s.asked number refusal (no_rename first events e handle begun turns w since (asks.MakeDir folder) is answer given none) (no_file first events e handle begun turns w since (asks.MakeDir folder) is answer given none) s.made
 
-        pub foldering : (answer : DiskAnswer) (given : answer ≡ answer_now disk (asks.MakeDir folder)) → FolderingParts answer given (next_write head.size 0 (stages.Foldering number id) answer)
+        pub foldering : (answer : DiskAnswer) (given : answer ≡ answer_now disk (asks.MakeDir folder)) → FolderingParts answer given (next_write w.size 0 (stages.Foldering number id) answer)
         foldering answers.Done given =
             let m = done_made disk (asks.MakeDir folder) (change_of_make_dir (tree_of disk.state) folder) (told_make_dir (tree_of disk.state) folder) given in
             let c = make_dir_change (tree_of disk.state) folder m.change m.is in
             let change_is : e.entry.change ≡ Some (MakeDir c.0 _) = is.change ∙ (m.made ∙ ap Some c.2) in (
-              s.front,
               λ renames. subst IsRename change_is renames,
               made_same first events e handle begun turns w since (asks.MakeDir folder) is answers.Done given (Some number) (λ makes. subst IsNewFile change_is makes) s.made,
-              foldered_holds first events e handle begun turns w since (asks.MakeDir folder) is answers.Done given path folder (header_of w.kind w.size ++ s.appended) m s.holds,
-              omega (arith, s.time),
+              foldered_holds first events e handle begun turns w since (asks.MakeDir folder) is answers.Done given path folder (header_of w.kind w.size ++ w.bytes) m s.holds,
               tt,
-              omega (arith, s.had),
             )
         foldering (answers.Refused disk_errors.Exists) given =
             let none = unfolded (λ d. cc (d, given)) in (
-              s.front,
               no_rename first events e handle begun turns w since (asks.MakeDir folder) is _ given none,
               made_same first events e handle begun turns w since (asks.MakeDir folder) is _ given (Some number) (no_file first events e handle begun turns w since (asks.MakeDir folder) is _ given none) s.made,
-              same_holds first events e handle begun turns w since (asks.MakeDir folder) is _ given path (header_of w.kind w.size ++ s.appended) none s.holds,
-              omega (arith, s.time),
+              same_holds first events e handle begun turns w since (asks.MakeDir folder) is _ given path (header_of w.kind w.size ++ w.bytes) none s.holds,
               tt,
-              omega (arith, s.had),
             )
         foldering (answers.Meta meta) given = unfoldered (answers.Meta meta) given refusals.IoRaw (λ d. cc d)
         foldering (answers.Dir dir) given = unfoldered (answers.Dir dir) given refusals.IoRaw (λ d. cc d)
@@ -118,13 +117,16 @@ module _ (first : Volume) (events : List Event) (e : Event) (handle begun turns 
       name_path = loose_path w.objects id
 
       module _ (s : StandsAt first events handle begun turns w (stages.Moving number id)) (is : IsTurnWith first events e handle (asks.Rename path name_path)) where
-        abbrev MovingParts : (answer : DiskAnswer) → answer ≡ answer_now disk (asks.Rename path name_path) → Onward → Type 0
-        MovingParts answer given onward = Parts first events e handle begun turns w since (asks.Rename path name_path) is answer given s.past s.asked s.appended onward
+        abbrev MovingParts : (answer : DiskAnswer) → answer ≡ answer_now disk (asks.Rename path name_path) → WriteAsk → Type 0
+        MovingParts answer given wanted = PartsTo first events e handle begun turns w since (asks.Rename path name_path) is answer given s.past s.asked wanted
 
-        unmoved : (answer : DiskAnswer) (given : answer ≡ answer_now disk (asks.Rename path name_path)) (refusal : Refusal) → answers.Done ≢ answer → MovingParts answer given (Stage (stages.Removing number refusal))
+        abbrev has_done : HasDone (job_to_write w) (stages.Moving number id) s.past
+        has_done = IsAlong-done head (hash_to_write w.known) w.known w.bytes (Stage (stages.Moving number id)) s.past s.along
+
+        unmoved : (answer : DiskAnswer) (given : answer ≡ answer_now disk (asks.Rename path name_path)) (refusal : Refusal) → answers.Done ≢ answer → MovingParts answer given (wants.Disk (stages.Removing number refusal))
         unmoved answer given refusal undone =
             let none = undone_made disk (asks.Rename path name_path) (change_of_rename (tree_of disk.state) path name_path) (told_rename (tree_of disk.state) path name_path) (λ d. undone (d ∙ sym given)) in
-            cleared first events e handle begun turns w since (asks.Rename path name_path) is answer given s.past s.asked s.appended number refusal (no_rename first events e handle begun turns w since (asks.Rename path name_path) is answer given none) (no_file first events e handle begun turns w since (asks.Rename path name_path) is answer given none) s.made (omega (arith, s.time))
+            cleared first events e handle begun turns w since (asks.Rename path name_path) is answer given s.past s.asked number refusal (no_rename first events e handle begun turns w since (asks.Rename path name_path) is answer given none) (no_file first events e handle begun turns w since (asks.Rename path name_path) is answer given none) s.made
 
         moved : (given : answers.Done ≡ answer_now disk (asks.Rename path name_path)) → HasWritten first whole handle begun w id
         moved given =
@@ -133,11 +135,10 @@ module _ (first : Volume) (events : List Event) (e : Event) (handle begun turns 
             let done : change_of_rename before path name_path ≡ Ok m.change = subst (λ t. change_of_rename t path name_path ≡ Ok m.change) (before_is first events e handle begun turns w since) m.is in
             let c = rename_change before path m.change name_path done in
             let h = s.holds in
-            let content : header_of w.kind w.size ++ s.appended ≡ header_of w.kind w.size ++ w.bytes = ap (λ xs. header_of w.kind w.size ++ xs) s.front in
             let there : before ≡ tree_at first whole (length events) = sym (tree_at-before first events e (length events) (omega arith)) in
             record {
-              size = ap length (sym s.front) ∙ s.history.0;
-              name = s.history.1;
+              size = has_done.history.0;
+              name = has_done.history.1;
               past = events;
               last = e;
               is = refl;
@@ -152,17 +153,16 @@ module _ (first : Volume) (events : List Event) (e : Event) (handle begun turns 
               only = s.unnamed;
               reads = λ alone free.
                   let has = h.holds (alone_before first events e handle path (h.made + 1) (length events) (omega arith) alone) in
-                  let f = moves_file before (is_tree first events e handle begun turns w since ask is answers.Done given) path has.0 (header_of w.kind w.size ++ s.appended) 0 has.1 name_path m.change done in
+                  let f = moves_file before (is_tree first events e handle begun turns w since ask is answers.Done given) path has.0 (header_of w.kind w.size ++ w.bytes) 0 has.1 name_path m.change done in
                   let both : Rename has.0 f.0 ≡ Rename c.0 c.1 = sym f.2 ∙ c.4 in
                   let target : f.0 ≡ c.1 = cc both in
                   let free_here : crosses before name_path f.0 ≡ false = subst (λ t. crosses t name_path f.0 ≡ false) (sym there) (subst (λ p. crosses (tree_at first whole (length events)) name_path p ≡ false) (sym target) free) in
-                  let reads = moved_reads before (is_tree first events e handle begun turns w since ask is answers.Done given) path has.0 (header_of w.kind w.size ++ s.appended) 0 has.1 name_path f.0 (done ∙ ap Ok f.2) free_here in
+                  let reads = moved_reads before (is_tree first events e handle begun turns w since ask is answers.Done given) path has.0 (header_of w.kind w.size ++ w.bytes) 0 has.1 name_path f.0 (done ∙ ap Ok f.2) free_here in
                   subst (λ t. read_of t name_path ≡ Ok (header_of w.kind w.size ++ w.bytes, 0)) (sym (now_changed first events e handle begun turns w since ask is answers.Done given m.change m.made))
-                  (subst (λ d. read_of (changed before d) name_path ≡ Ok (header_of w.kind w.size ++ w.bytes, 0)) (sym f.2)
-                  (reads ∙ ap (λ xs. Ok (xs, 0)) content));
+                  (subst (λ d. read_of (changed before d) name_path ≡ Ok (header_of w.kind w.size ++ w.bytes, 0)) (sym f.2) reads);
             }
 
-        pub moving : (answer : DiskAnswer) (given : answer ≡ answer_now disk (asks.Rename path name_path)) → MovingParts answer given (next_write head.size 0 (stages.Moving number id) answer)
+        pub moving : (answer : DiskAnswer) (given : answer ≡ answer_now disk (asks.Rename path name_path)) → MovingParts answer given (next_write w.size 0 (stages.Moving number id) answer)
         moving answers.Done given = moved given
         moving (answers.Meta meta) given = unmoved (answers.Meta meta) given (refusals.Persist id) (λ d. cc d)
         moving (answers.Dir dir) given = unmoved (answers.Dir dir) given (refusals.Persist id) (λ d. cc d)
@@ -173,7 +173,7 @@ module _ (first : Volume) (events : List Event) (e : Event) (handle begun turns 
 
     -- the removal
     pub removing : (refusal : Refusal) (s : StandsAt first events handle begun turns w (stages.Removing number refusal)) (is : IsTurnWith first events e handle (asks.Remove path)) (answer : DiskAnswer) (given : answer ≡ answer_now disk (asks.Remove path))
-        → Parts first events e handle begun turns w since (asks.Remove path) is answer given s.past s.asked s.appended (End (Err refusal))
+        → PartsTo first events e handle begun turns w since (asks.Remove path) is answer given s.past s.asked (wants.Done (Err refusal))
     removing refusal s is answer given =
         let never : (P : Option Change → Type 0) → P None → ((s' : Path) → P (Some (Remove s'))) → P e.entry.change =
         λ P none some.
@@ -181,7 +181,7 @@ module _ (first : Volume) (events : List Event) (e : Event) (handle begun turns 
         (change_by-all disk (asks.Remove path) (change_of_remove (tree_of disk.state) path) (told_remove (tree_of disk.state) path) P none
         (λ change told. let c = remove_change (tree_of disk.state) path change told in subst (λ d. P (Some d)) (sym c.2) (some c.0))) in (
           never (λ c. ¬ (IsRename c)) (λ r. r) (λ s' r. r),
-          λ at same. made_before_removal head Named Counted number refusal s.past at s.history same (ChangedNothing whole handle begun),
+          λ at same. made_before_removal head Named Counted number refusal s.past at (IsAlong-done head (hash_to_write w.known) w.known w.bytes (Stage (stages.Removing number refusal)) s.past s.along).history same (ChangedNothing whole handle begun),
           (
             Some number,
             made_same first events e handle begun turns w since (asks.Remove path) is answer given (Some number) (never (λ c. ¬ (IsNewFile c)) (λ r. r) (λ s' r. r)) s.made,

@@ -1,5 +1,5 @@
--- What an opening and a query have seen since they began. No public clause needs more of it than its name.
-use Rattle.std.specs.Prelude.{◌≡◌, ◌⊎◌, ℕ, Bool, List, drop, length, slice_get, Contains, Option, Some, None, Result, Ok, Err}
+-- What a query has seen since it began, and its machine, of which a public clause needs what it asks and where an answer leads it.
+use Rattle.std.specs.Prelude.{◌≡◌, ◌⊎◌, ℕ, List, drop, length, slice_get, Contains, Option, Some, None}
 use Rattle.odb_base.specs.Path.{Path}
 use Rattle.odb_disk.specs.MemDisk.{Volume}
 use Rattle.odb_tree.specs.Tree.{Tree}
@@ -10,24 +10,20 @@ use Rattle.gix_odb.specs.declared.call.Call.{Call}
 use Rattle.gix_odb.specs.declared.call.Call.TheVariants as calls
 use Rattle.gix_odb.specs.declared.query.Query.{Query}
 use Rattle.gix_odb.specs.declared.query.Query.TheVariants.{Find, Header, Test}
-use Rattle.gix_odb.specs.declared.call_state.CallState.TheVariants.{Looking, Writing, Written}
+use Rattle.gix_odb.specs.declared.call_state.CallState.TheVariants.{Looking}
 use Rattle.gix_odb.specs.declared.look_state.Stage.{Stage}
 use Rattle.gix_odb.specs.declared.look_state.Stage.TheVariants as stages
-use Rattle.gix_odb.specs.declared.call.Reply.{Reply}
 use Rattle.gix_odb.specs.declared.look_state.LookState.{LookState}
-use Rattle.gix_odb.specs.declared.open_state.OpenState.{OpenState}
-use Rattle.gix_odb.specs.declared.open_state.OpenState.TheVariants as opens
-use Rattle.gix_odb_world.specs.declared.work.Work.{Work}
-use Rattle.gix_odb_world.specs.declared.work.Work.TheVariants.{Opening, Calling}
-use Rattle.gix_odb.specs.LookOrder.{asking}
+use Rattle.gix_odb_world.specs.declared.work.Work.TheVariants.{Calling}
+use Rattle.gix_odb.specs.LookOrder.{asking, round_at}
 use Rattle.gix_odb.specs.LookOrder as looks
-use Rattle.gix_odb.specs.OpenOrder as openings
 use Rattle.gix_odb.specs.Contents.{folder_list, sought}
 use Rattle.gix_odb_world.specs.Causes.{Sometime, LooseCause}
 use Rattle.gix_odb_world.specs.Event.{Event}
 use Rattle.gix_odb_world.specs.Machine.{Machine}
 use Rattle.gix_odb_world.specs.Run.{tree_at, FailedSince}
-use Rattle.gix_odb_world.specs.Status.{MakeCall, OpenStore, Running, Store, Task}
+use Rattle.gix_odb_world.specs.AtWork.{MakeCall, Running, Store}
+use Rattle.gix_odb_world.specs.Bound.{bound_of_call}
 
 -- a folder was passed: at some moment its loose path led to no file
 abbrev pub Passed : (ℕ → Tree) → ℕ → ℕ → ObjectId → Path → Type 0
@@ -50,7 +46,7 @@ pub record Seeks (trees : ℕ → Tree) (Failed : Type 0) (store : Store) (begun
   pub folder : Path
   pub among : Contains (folder_list store.parts) folder
   pub there : slice_get (folder_list store.parts) place ≡ Some folder
-  pub stage_is : stage ≡ stages.Loose place noted (asking store.parts.limit call id folder)
+  pub stage_is : stage ≡ stages.Loose (round_at place noted) (asking store.parts.limit call id folder)
   pub seen : Noted trees Failed store begun now call id folder (drop place store.parts.folders) noted
 
 -- the call that makes a query
@@ -59,38 +55,16 @@ call_of (Find id) = calls.Find id
 call_of (Header id) = calls.Header id
 call_of (Test id) = calls.Test id
 
--- What an opening or a query has seen that is at a place of its folders. Before its one turn an opening has seen nothing.
-abbrev pub Seen : (ℕ → Tree) → Type 0 → Store → (ignoring : Bool) → (begun now place : ℕ) → Work → Type 0
-Seen trees Failed store ignoring begun now place (Opening state) = (state ≡ opens.Looking) × (place ≡ 0) × (¬ Failed)
-Seen trees Failed store ignoring begun now place (Calling (Writing folder)) = ⊥
-Seen trees Failed store ignoring begun now place (Calling (Written reply)) = ⊥
-Seen trees Failed store ignoring begun now place (Calling (Looking state)) =
-    (state.head.id ≡ sought store.parts ignoring state.head.query) × Seeks trees Failed store begun now place state.head.query state.head.id state.stage
-
--- What an opening or a query knows at a task. Its place among its folders is the number of turns that its handle has had in the
--- task: no other work is in front of it.
-pub record Looks (first : Volume) (events : List Event) (handle : ℕ) (running : Running) (task : Task) (work : Work) : Type 0 where
-  pub task_is : running.task ≡ task
+-- What a query knows. Its place among its folders is the number of turns that its handle has had in the task: no other work is in
+-- front of it.
+pub record IsLooking (first : Volume) (events : List Event) (handle : ℕ) (running : Running) (state : LookState) : Type 0 where
+  pub task : running.task ≡ MakeCall (call_of state.head.query)
   pub place : ℕ
   pub turns : running.turns ≡ place
-  pub seen : Seen (tree_at first events) (FailedSince events handle running.begun) running.store running.ignoring running.begun (length events) place work
+  pub seeks_id : state.head.id ≡ sought running.store.parts running.ignoring state.head.query
+  pub seeks : Seeks (tree_at first events) (FailedSince events handle running.begun) running.store running.begun (length events) place state.head.query state.head.id state.stage
 
--- ---- the machines
-
--- an opening that is done has its reply
-abbrev pub result_of_opening : OpenState → Result Reply OpenState
-result_of_opening opens.Looking = Err opens.Looking
-result_of_opening (opens.Done reply) = Ok reply
-
--- an opening as a machine: one look, and then its reply
-abbrev pub opening : Machine
-opening = record {
-  State = OpenState;
-  work = λ state. Opening state;
-  ask = λ store state. openings.ask_of store.parts.objects state;
-  feed = λ store state answer. result_of_opening (openings.fed store.slots state answer);
-  Knows = λ first events handle running state. Looks first events handle running OpenStore (Opening state);
-}
+-- ---- its machine
 
 -- a query as a machine: one folder after another
 abbrev pub looking : Machine
@@ -99,5 +73,8 @@ looking = record {
   work = λ state. Calling (Looking state);
   ask = λ store state. looks.ask_of state;
   feed = λ store state answer. looks.result_of (looks.fed store.parts.folders store.parts.limit state answer);
-  Knows = λ first events handle running state. Looks first events handle running (MakeCall (call_of state.head.query)) (Calling (Looking state));
+  writes = λ state. None;
+  IsFor = λ task state. task ≡ MakeCall (call_of state.head.query);
+  bound = λ store task entries. bound_of_call store entries None;
+  Knows = λ first events handle running state. IsLooking first events handle running state;
 }

@@ -1,5 +1,5 @@
 -- What a write has seen and done since it began. No public clause needs more of it than its name.
-use Rattle.std.specs.Prelude.{◌+◌, ◌-◌, ◌<◌, ◌^◌, [], ◌++◌, ◌≡◌, ℕ, ◌≤◌, List, length, Contains, Option, Some, None, Result, Ok, Err}
+use Rattle.std.specs.Prelude.{◌+◌, ◌<◌, ◌^◌, [], ◌++◌, ◌≡◌, ℕ, ◌≤◌, List, length, take, Contains, Option, Some, None, Result, Ok, Err}
 use Rattle.odb_base.specs.Path.{Path}
 use Rattle.odb_disk.specs.MemDisk.{Volume}
 use Rattle.odb_disk.specs.declared.ask.DiskAnswer.TheVariants as answers
@@ -7,16 +7,15 @@ use Rattle.odb_disk.specs.declared.ask.DiskAsk.TheVariants as asks
 use Rattle.odb_tree.specs.OwnFile.{HasFile}
 use Rattle.gix_object.specs.Loose.{header_of}
 use Rattle.gix_odb_loose.specs.Exchanges.{Exchange}
-use Rattle.gix_odb_loose.specs.WriteHistory.{IsHistory}
-use Rattle.gix_odb_loose.specs.WriteJobs.{pieces_of}
+use Rattle.gix_odb_loose.specs.WriteAsks.{IsAlong, write_of}
 use Rattle.gix_odb_loose.specs.WriteOrder.{number_made, temp_path}
-use Rattle.gix_odb_loose.specs.WritePieces.{IsInPieces}
-use Rattle.gix_odb_loose.specs.WriteStreams.{OtherLength}
 use Rattle.gix_odb_loose.specs.LooseOrder.{disk_ask_of, reply_of}
 use Rattle.gix_odb_loose.specs.LooseOrder as loose_order
 use Rattle.gix_odb_loose.specs.declared.call.LooseCall.{LooseCall}
 use Rattle.gix_odb_loose.specs.declared.call.LooseReply.{LooseReply}
 use Rattle.gix_odb_loose.specs.declared.call.Stage.TheVariants as loose_stages
+use Rattle.gix_odb_loose.specs.declared.write_at_hand.Onward.TheVariants.{Stage}
+use Rattle.gix_odb_loose.specs.declared.write_at_hand.WriteJob.{WriteJob}
 use Rattle.gix_odb_loose.specs.declared.write_order.WriteStage.{WriteStage}
 use Rattle.gix_odb_loose.specs.declared.write_order.WriteStage.TheVariants as write_stages
 use Rattle.gix_odb.specs.declared.call.Reply.{Reply}
@@ -24,36 +23,28 @@ use Rattle.gix_odb.specs.declared.call_state.CallState.TheVariants.{Writing}
 use Rattle.gix_odb_world.specs.declared.work.Work.TheVariants.{Calling}
 use Rattle.gix_odb_world.specs.Event.{Event}
 use Rattle.gix_odb_world.specs.Machine.{Machine}
-use Rattle.gix_odb_world.specs.Status.{MakeCall, Running}
+use Rattle.gix_odb_world.specs.AtWork.{MakeCall, Running, Task}
+use Rattle.gix_odb_world.specs.Bound.{bound_of_task}
 use Rattle.gix_odb_world.specs.Run.{tree_at}
 use Rattle.gix_odb.specs.CallOrder.{hash_to_write, wrote_as}
-use Rattle.gix_odb_world.specs.Writing.{AskedAt, AskedSince, ChangedNothing, LeftAlone, MadeOnly, RenamedNothing, ToWrite, call_to_write, head_to_write, name_to_write}
+use Rattle.gix_odb_world.specs.Writing.{AskedAt, AskedSince, ChangedNothing, LeftAlone, MadeOnly, RenamedNothing, ToWrite, call_to_write, head_to_write}
+
+-- a write that has asked nothing
+abbrev pub job_to_write : ToWrite → WriteJob
+job_to_write w = write_of (head_to_write w) (hash_to_write w.known) w.known w.bytes
 
 -- a write that stands at a stage
 abbrev pub write_at : ToWrite → WriteStage → LooseCall
 write_at w stage = record { stage = loose_stages.Writing (record { head = head_to_write w; stage = stage; bytes = w.bytes; hash = hash_to_write w.known; known = w.known }) }
 
--- The data that were appended are a front of all data, in whole pieces where more are waited for, and all of them once the
--- directory of the object is made.
-abbrev pub IsFront : ToWrite → List ℕ → WriteStage → Type 0
-IsFront w appended (write_stages.Filling number written) = ((rest : List ℕ) × (w.bytes ≡ appended ++ rest)) × (written ≤ w.size) × (written < length w.bytes → IsInPieces written)
-IsFront w appended (write_stages.Foldering number id) = appended ≡ w.bytes
-IsFront w appended (write_stages.Moving number id) = appended ≡ w.bytes
-IsFront w appended stage = Unit {0}
-
--- where the next piece is waited for, there is one
-abbrev pub IsWaiting : ToWrite → WriteStage → Type 0
-IsWaiting w (write_stages.Filling number written) = written < length w.bytes
-IsWaiting w stage = Unit {0}
-
 -- the file that a write made holds so much, where nobody else touched it: nothing, and then the header and the data
-abbrev pub content_at : ToWrite → List ℕ → WriteStage → Option (List ℕ)
-content_at w appended (write_stages.Making number) = None
-content_at w appended (write_stages.Heading number) = Some []
-content_at w appended (write_stages.Filling number written) = Some (header_of w.kind w.size ++ appended)
-content_at w appended (write_stages.Foldering number id) = Some (header_of w.kind w.size ++ appended)
-content_at w appended (write_stages.Moving number id) = Some (header_of w.kind w.size ++ appended)
-content_at w appended (write_stages.Removing number refusal) = None
+abbrev pub content_at : ToWrite → WriteStage → Option (List ℕ)
+content_at w (write_stages.Making number) = None
+content_at w (write_stages.Heading number) = Some []
+content_at w (write_stages.Filling number written) = Some (header_of w.kind w.size ++ take written w.bytes)
+content_at w (write_stages.Foldering number id) = Some (header_of w.kind w.size ++ w.bytes)
+content_at w (write_stages.Moving number id) = Some (header_of w.kind w.size ++ w.bytes)
+content_at w (write_stages.Removing number refusal) = None
 
 -- the file was made at some place, and holds this where nobody else touched it since
 pub record HoldsFile (first : Volume) (events : List Event) (handle begun : ℕ) (path : Path) (bytes : List ℕ) : Type 0 where
@@ -71,38 +62,16 @@ abbrev pub IsUntouched : List Event → (handle begun : ℕ) → (number : Optio
 IsUntouched events handle begun None = ChangedNothing events handle begun
 IsUntouched events handle begun (Some number) = Unit {0}
 
--- how many turns a write has still to take, at most: a name for each try, then a turn for each begun 65,536 bytes
-abbrev pub turns_left : ToWrite → WriteStage → ℕ
-turns_left w (write_stages.Making number) = 5 + pieces_of (length w.bytes) + (16 - number)
-turns_left w (write_stages.Heading number) = 4 + pieces_of (length w.bytes)
-turns_left w (write_stages.Filling number written) = 3 + pieces_of (length w.bytes - written)
-turns_left w (write_stages.Foldering number id) = 3
-turns_left w (write_stages.Moving number id) = 2
-turns_left w (write_stages.Removing number refusal) = 1
-
--- how many turns of its own a write has had where it stands at a stage: one for each name that it tried, one for the header, one for
--- each piece, and one for the directory
-abbrev pub HadTurns : ToWrite → (turns : ℕ) → WriteStage → Type 0
-HadTurns w turns (write_stages.Making number) = turns ≡ number
-HadTurns w turns (write_stages.Heading number) = turns ≡ number + 1
-HadTurns w turns (write_stages.Filling number written) = turns ≡ number + 2 + pieces_of written
-HadTurns w turns (write_stages.Foldering number id) = turns ≡ number + 2 + pieces_of (length w.bytes)
-HadTurns w turns (write_stages.Moving number id) = turns ≡ number + 3 + pieces_of (length w.bytes)
-HadTurns w turns (write_stages.Removing number refusal) = Unit {0}
-
--- what a write knows that was led to a stage, after so many turns of its own
+-- what a write knows that was led to a stage, after so many turns of its own: each asked the disk once
 pub record StandsAt (first : Volume) (events : List Event) (handle begun own : ℕ) (w : ToWrite) (stage : WriteStage) : Type 0 where
   pub past : List Exchange
-  pub appended : List ℕ
-  pub history : IsHistory (head_to_write w) (λ id. id ≡ name_to_write w) ⊥ (OtherLength (Some w.bytes) w.size) appended stage past
-  pub front : IsFront w appended stage
+  pub along : IsAlong (job_to_write w) (Stage stage) past
+  pub had : own ≡ length past
   pub asked : (x : Exchange) → Contains past x → AskedSince first events handle begun x.ask x.answer
   pub unnamed : RenamedNothing events handle begun
   pub made : MadeOnly events handle begun w.objects (number_made stage)
   pub untouched : IsUntouched events handle begun (number_made stage)
-  pub holds : Holds first events handle begun w.objects (number_made stage) (content_at w appended stage)
-  pub time : own + turns_left w stage ≤ 21 + pieces_of (length w.bytes)
-  pub had : HadTurns w own stage
+  pub holds : Holds first events handle begun w.objects (number_made stage) (content_at w stage)
 
 -- A running write: what it is to write, and what it knows. It has had as many turns of its own as its handle has had in the task: no
 -- other work is in front of it.
@@ -113,7 +82,6 @@ pub record IsWriting (first : Volume) (events : List Event) (handle : ℕ) (runn
   pub fits : write.size < 2 ^ 64
   pub stage : WriteStage
   pub is : folder ≡ write_at write stage
-  pub more : IsWaiting write stage
   pub own : ℕ
   pub turns : running.turns ≡ own
   pub stands : StandsAt first events handle running.begun own write stage
@@ -129,6 +97,13 @@ replied_by folder (Some reply) = Ok (wrote_as reply)
 abbrev pub result_of_write : LooseCall → Result Reply LooseCall
 result_of_write folder = replied_by folder (reply_of folder)
 
+-- a write may be at the stages of its own call
+pub record IsForWrite (task : Task) (folder : LooseCall) : Type 0 where
+  pub write : ToWrite
+  pub task_is : task ≡ MakeCall (call_to_write write)
+  pub stage : WriteStage
+  pub is : folder ≡ write_at write stage
+
 -- a write as a machine
 abbrev pub writing : Machine
 writing = record {
@@ -136,5 +111,8 @@ writing = record {
   work = λ folder. Calling (Writing folder);
   ask = λ store folder. disk_ask_of folder;
   feed = λ store folder answer. result_of_write (loose_order.fed folder answer);
+  writes = λ folder. Some folder;
+  IsFor = λ task folder. IsForWrite task folder;
+  bound = λ store task entries. bound_of_task store task entries;
   Knows = λ first events handle running folder. IsWriting first events handle running folder;
 }

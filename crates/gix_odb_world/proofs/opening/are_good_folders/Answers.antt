@@ -1,6 +1,7 @@
 use Rattle.std.proofs.Common.{◌≡◌, ◌∷◌, ◌+◌, ◌≤◌, ◌==◌, length, get_or, true, sym, ap, ◌∙◌, subst, arith}
 use Rattle.std.specs.BTreeSet.{Updates, btree_set_len}
 use Rattle.odb_base.specs.Path.{path_cmp}
+use Rattle.gix_odb_world.specs.Valid.{most_folders}
 use Rattle.gix_odb_world.proofs.OpeningLemmas.{Has, good_by_set, has_more, take_past}
 use Rattle.gix_odb_world.proofs.opening.are_good_folders.Goals as goal
 
@@ -14,7 +15,7 @@ loop-folder-preserved c =
 pub returns : goal.returns
 returns c =
     let past : length c.args.folders.now ≤ c.loop-folder.folder-index = omega (arith, c.loop-folder-test.false, ap length c.as_slice-folder-items.ensures.value) in
-    let few : length c.args.folders.now ≤ 255 = omega (arith, c.len.ensures.len, c.if-len-gt-MAX_FOLDERS.false) in
+    let few : length c.args.folders.now ≤ most_folders = omega (arith, c.len.ensures.len, c.if-len-gt-MAX_FOLDERS.false) in
     let all : Has (c.args.path.now ∷ c.args.folders.now) c.loop-folder.paths =
     subst (λ folders. Has (c.args.path.now ∷ folders) c.loop-folder.paths) (take_past c.args.folders.now c.loop-folder.folder-index past) c.loop-folder.invariant in
     record {

@@ -1,0 +1,143 @@
+-- An opening keeps the laws of a machine.
+pub mod Look
+use Rattle.std.proofs.Common.{◌≡◌, ℕ, ◌+◌, ◌*◌, ◌<◌, ◌≤◌, Bool, true, false, cond, List, [], ◌∷◌, ◌++◌, length, Some, None, refl, sym, ◌∙◌, ap, subst, arith}
+use Rattle.std.proofs.lemmas.List.{length-append}
+use Rattle.odb_tree.specs.Tree.{tree_of}
+use Rattle.odb_tree.specs.declared.disk_error.DiskError.TheVariants as disk_errors
+use Rattle.odb_disk.specs.MemDisk.{Volume, next_fails}
+use Rattle.odb_disk.specs.Ask.{answer_now, answer_of, change_of_ask}
+use Rattle.odb_disk.specs.StreamAsks.{is_of_streams}
+use Rattle.odb_disk.specs.declared.ask.DiskAnswer.{DiskAnswer}
+use Rattle.odb_disk.specs.declared.ask.DiskAnswer.TheVariants as answers
+use Rattle.odb_disk.specs.declared.ask.DiskAsk.{DiskAsk}
+use Rattle.odb_disk.specs.declared.ask.DiskAsk.TheVariants as asks
+use Rattle.odb_base.specs.Path.{Path}
+use Rattle.gix_odb.specs.Contents.{folder_list}
+use Rattle.gix_odb.specs.OpenOrder as openings
+use Rattle.gix_odb.specs.OpenOrder.{opening_reply}
+use Rattle.gix_odb.specs.declared.handle_state.HandleState.{HandleState}
+use Rattle.gix_odb.specs.declared.open_state.OpenState.{OpenState}
+use Rattle.gix_odb.specs.declared.open_state.OpenState.TheVariants as opens
+use Rattle.gix_odb_world.specs.declared.work.Work.TheVariants.{Opening}
+use Rattle.gix_odb_world.specs.Bound.{bound_of_task, turn_bound}
+use Rattle.gix_odb_world.specs.Event.{Event}
+use Rattle.gix_odb_world.specs.Handle.{IsHandleOf}
+use Rattle.gix_odb_world.specs.Machine.{placed}
+use Rattle.gix_odb_world.specs.Promise.{OpeningPromise, Promise}
+use Rattle.gix_odb_world.specs.Run.{FailedSince, IsTurnOf, change_by, disk_after, tree_at}
+use Rattle.gix_odb_world.specs.Running.Opening.{IsOpening, opening, result_of_opening}
+use Rattle.gix_odb_world.specs.Status.{MakeCall, OpenStore, Running, Store, Task, begun_with, running_from}
+use Rattle.gix_odb_world.specs.WorkOrder.{opening_result}
+use Rattle.gix_odb_world.proofs.AskLemmas.{in_order_opening}
+use Rattle.gix_odb_world.proofs.FolderLemmas.{look_quiet}
+use Rattle.gix_odb_world.proofs.MachineLaws.{HasTurn, IsSized, KeepsLaws, MachineComes, quiet_turn, writes_nothing}
+use Rattle.gix_odb_world.proofs.OpeningMachine.Look.{look_keeps}
+use Rattle.gix_odb_world.proofs.QuietTurn.{fails_now, shown_now, whole_length}
+use Rattle.gix_odb_world.proofs.RunLemmas.{failed_before, none_failed_yet}
+use Rattle.gix_odb_world.proofs.WriteAsk.Quiet.{change_by-quiet}
+use Rattle.gix_odb_world.proofs.WriteTurn.Common.{IsTurnWith}
+
+-- ---- its code
+
+opening_placed : (state : OpenState) → opening_result state ≡ placed opening (result_of_opening state)
+opening_placed opens.Looking = refl
+opening_placed (opens.Done reply) = refl
+
+opening_feeds : (store : Store) (ignoring : Bool) (code : HandleState) → IsHandleOf store ignoring code → (state : OpenState) (answer : DiskAnswer)
+    → opening_result (openings.fed code.store.value.slots state answer) ≡ placed opening (result_of_opening (openings.fed store.slots state answer))
+opening_feeds store ignoring code own state answer =
+    ap (λ slots. opening_result (openings.fed slots state answer)) own.slots ∙ opening_placed (openings.fed store.slots state answer)
+
+-- ---- its beginning
+
+opening_starts : (first : Volume) (events : List Event) (e : Event) (handle : ℕ) (store : Store) (ignoring : Bool) (task : Task) (state : OpenState)
+    → IsSized task
+    → begun_with store ignoring task ≡ Opening state
+    → IsOpening (events ++ e ∷ []) handle (running_from (length events + 1) task store ignoring) state
+opening_starts first events e handle store ignoring OpenStore state sized is =
+    let same : opens.Looking ≡ state = cc is in
+    let whole : length (events ++ e ∷ []) ≡ length events + 1 = length-append events (e ∷ []) in
+    record { task = refl; turns = refl; looks = sym same; no_failure = none_failed_yet (events ++ e ∷ []) handle (length events + 1) (omega (arith, whole)) }
+opening_starts first events e handle store ignoring (MakeCall call) state sized is = absurd (cc is)
+
+opening_kept : (events : List Event) (e : Event) (handle : ℕ) (running : Running) (state : OpenState) → ¬ (IsTurnOf handle e.step)
+    → IsOpening events handle running state
+    → IsOpening (events ++ e ∷ []) handle running state
+opening_kept events e handle running state other knows =
+    record {
+      task = knows.task;
+      turns = knows.turns;
+      looks = knows.looks;
+      no_failure = λ failed. knows.no_failure (failed_before events e handle running.begun (λ turn. absurd (other turn)) failed);
+    }
+
+-- ---- its call of the disk
+
+opening_still : (store : Store) (state : OpenState) (ask : DiskAsk) → openings.ask_of store.parts.objects state ≡ Some ask → is_of_streams ask ≡ false
+opening_still store opens.Looking ask is = let same : asks.Look store.parts.objects true ≡ ask = cc is in ap is_of_streams (sym same)
+opening_still store (opens.Done reply) ask is = absurd (cc is)
+
+module _ (first : Volume) (events : List Event) (handle : ℕ) (running : Running) (state : OpenState) (ask : DiskAsk) (knows : IsOpening events handle running state)
+    (is : openings.ask_of running.store.parts.objects state ≡ Some ask) where
+  abbrev objects : Path
+  objects = running.store.parts.objects
+
+  same_ask : asks.Look objects true ≡ ask
+  same_ask = let both : Some (asks.Look objects true) ≡ Some ask = ap (openings.ask_of objects) (sym knows.looks) ∙ is in cc both
+
+  opening_quiet : change_by (disk_after first events) ask ≡ None
+  opening_quiet =
+      change_by-quiet (disk_after first events) ask
+      (subst (λ a. change_of_ask (tree_of (disk_after first events).state) a ≡ None) same_ask (look_quiet objects true (tree_of (disk_after first events).state)))
+
+  opening_takes : HasTurn first events handle running running.task ask
+  opening_takes =
+      subst (λ task. HasTurn first events handle running task ask) (sym knows.task)
+      (quiet_turn first events handle running OpenStore ask
+      (in_order_opening first events handle running.store running.ignoring running.begun running.turns state ask knows.looks knows.turns is) opening_quiet)
+
+  module _ (e : Event) (since : running.begun ≤ length events) (turn : IsTurnWith first events e handle ask) where
+    abbrev whole : List Event
+    whole = events ++ e ∷ []
+
+    abbrev Promised : ℕ → DiskAnswer → Type 0
+    Promised now answer = OpeningPromise (tree_at first whole) (FailedSince whole handle running.begun) running.store running.begun now (opening_reply running.store.slots answer)
+
+    look_promised : Promised (length events + 1) (answer_now (disk_after first events) ask)
+    look_promised =
+        subst (λ a. Promised (length events + 1) (answer_now (disk_after first events) a)) same_ask
+        (subst (λ tree. Promised (length events + 1) (cond (next_fails (disk_after first events)) (answers.Refused disk_errors.Failed) (answer_of tree (asks.Look objects true))))
+        (shown_now first events e handle running since ask turn opening_quiet)
+        (look_keeps (tree_at first whole) (FailedSince whole handle running.begun) running.store running.begun (length events + 1) (omega (arith, since))
+        (next_fails (disk_after first events)) (fails_now first events e handle running since ask turn)))
+
+    abbrev Comes : OpenState → Type 0
+    Comes s = MachineComes first events e handle running opening (result_of_opening (openings.fed running.store.slots s (answer_now (disk_after first events) ask)))
+
+    opening_comes : Comes state
+    opening_comes =
+        subst Comes (sym knows.looks)
+        (subst (λ task. Promise first whole handle running.store running.ignoring running.begun task (opening_reply running.store.slots (answer_now (disk_after first events) ask))) (sym knows.task)
+        (subst (λ now. Promised now (answer_now (disk_after first events) ask)) (whole_length first events e handle running since ask turn) look_promised))
+
+-- ---- its laws
+
+opening_bounded : (store : Store) (task : Task) → task ≡ OpenStore → (entries : ℕ)
+    → turn_bound 0 (length (folder_list store.parts)) 0 entries None ≡ bound_of_task store task entries
+opening_bounded store task is entries = subst (λ t. turn_bound 0 (length (folder_list store.parts)) 0 entries None ≡ bound_of_task store t entries) (sym is) refl
+
+pub opening_laws : KeepsLaws opening
+opening_laws = record {
+  at_home = λ state. refl;
+  asks = λ store ignoring code own state. ap (λ objects. openings.ask_of objects state) own.objects;
+  feeds = opening_feeds;
+  starts = opening_starts;
+  tasked = λ first events handle running state knows. knows.task;
+  bounded = λ store task state is entries. opening_bounded store task is entries;
+  still = opening_still;
+  kept = λ first events e handle running state other knows. opening_kept events e handle running state other knows;
+  names = λ first events handle running state knows. (asks.Look running.store.parts.objects true, ap (openings.ask_of running.store.parts.objects) knows.looks);
+  takes = λ first events handle running state ask knows is. opening_takes first events handle running state ask knows is;
+  comes = λ first events e handle running since state ask knows is turn. opening_comes first events handle running state ask knows is e since turn;
+  writes = writes_nothing opening (λ state. refl) opening_quiet;
+}

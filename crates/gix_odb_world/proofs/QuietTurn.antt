@@ -1,0 +1,39 @@
+-- What the moment after a turn shows whose call of the disk makes no change.
+use Rattle.std.proofs.Common.{◌≡◌, ℕ, ◌+◌, ◌≤◌, true, false, List, [], ◌∷◌, ◌++◌, length, None, sym, ◌∙◌, ap, subst}
+use Rattle.std.proofs.lemmas.List.{length-append}
+use Rattle.odb_tree.specs.Tree.{tree_of}
+use Rattle.odb_tree.specs.Tree.Write.{written}
+use Rattle.odb_disk.specs.MemDisk.{Volume, next_fails}
+use Rattle.odb_disk.specs.declared.ask.DiskAsk.{DiskAsk}
+use Rattle.gix_odb_world.specs.Event.{Event}
+use Rattle.gix_odb_world.specs.Status.{Running}
+use Rattle.gix_odb_world.specs.Run.{Fails, FailedSince, change_by, disk_after, disk_after_asked, tree_at}
+use Rattle.gix_odb_world.proofs.RunLemmas.{failed_before, failed_last, tree_at-now}
+use Rattle.gix_odb_world.proofs.WriteTurn.Common.{IsTurnWith}
+
+module _ (first : Volume) (events : List Event) (e : Event) (handle : ℕ) (running : Running) (since : running.begun ≤ length events) (ask : DiskAsk) (is : IsTurnWith first events e handle ask) where
+  abbrev whole : List Event
+  whole = events ++ e ∷ []
+
+  abbrev disk : Volume
+  disk = disk_after first events
+
+  pub whole_length : length events + 1 ≡ length whole
+  whole_length = sym (length-append events (e ∷ []))
+
+  listed : Fails e.entry.did → next_fails disk ≡ true
+  listed failed = subst Fails is.did failed
+
+  -- where the call failed, one has failed since the task was set
+  pub fails_now : next_fails disk ≡ true → FailedSince whole handle running.begun
+  fails_now fails = failed_last events e handle running.begun since is.turn (subst Fails (sym is.did) fails)
+
+  -- where it didn't, one that has failed did so before
+  pub failed_earlier : next_fails disk ≡ false → FailedSince whole handle running.begun → FailedSince events handle running.begun
+  failed_earlier works = failed_before events e handle running.begun (λ turn failed. absurd (cc (listed failed, works)))
+
+  -- the tree after it is the one that answered
+  pub shown_now : change_by disk ask ≡ None → tree_at first whole (length events + 1) ≡ tree_of disk.state
+  shown_now none =
+      tree_at-now first events e
+      ∙ (ap (λ asked. tree_of (disk_after_asked disk asked e.entry.change).state) is.asked ∙ ap (λ change. tree_of (written disk.state change)) (is.change ∙ none))

@@ -1,0 +1,26 @@
+-- What a handle is at: a task in a store, and the work that is left of it.
+use Rattle.std.specs.Prelude.{ℕ, Bool}
+use Rattle.gix_odb.specs.Contents.{StoreData}
+use Rattle.gix_odb.specs.declared.call.Call.{Call}
+use Rattle.gix_odb_world.specs.declared.work.Work.{Work}
+
+-- a store that was opened, or whose opening runs: the number of its open step, its slots, and its parts
+pub record Store : Type 0 where
+  pub opened : ℕ
+  pub slots : ℕ
+  pub parts : StoreData
+
+-- what a handle at work is to do: to open its store, or to make a call
+pub data Task : Type 0 where
+  OpenStore : Task
+  MakeCall : (call : Call) → Task
+
+-- What a handle is at: a task in a store, set by the event that has the number `begun`, with so many turns taken, and the work that
+-- is left of it. `ignoring` says whether it ignores replacements.
+pub record Running : Type 0 where
+  pub store : Store
+  pub ignoring : Bool
+  pub begun : ℕ
+  pub turns : ℕ
+  pub task : Task
+  pub work : Work

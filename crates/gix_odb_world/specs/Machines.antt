@@ -1,0 +1,46 @@
+-- Which machine each kind of work is of, and what it asks and comes to. A further machine has one line here.
+use Rattle.std.specs.Prelude.{Option, None, Result, Ok, refl}
+use Rattle.odb_disk.specs.declared.ask.DiskAsk.{DiskAsk}
+use Rattle.odb_disk.specs.declared.ask.DiskAnswer.{DiskAnswer}
+use Rattle.gix_odb.specs.declared.call.Reply.{Reply}
+use Rattle.gix_odb.specs.declared.call_state.CallState.TheVariants.{Looking, Writing, Written}
+use Rattle.gix_odb_loose.specs.declared.call.LooseCall.{LooseCall}
+use Rattle.gix_odb_world.specs.declared.work.Work.{Work}
+use Rattle.gix_odb_world.specs.declared.work.Work.TheVariants.{Opening, Calling}
+use Rattle.gix_odb_world.specs.AtWork.{Store}
+use Rattle.gix_odb_world.specs.Machine.{At, Machine, placed}
+use Rattle.gix_odb_world.specs.Running.Opening.{opening}
+use Rattle.gix_odb_world.specs.Running.Query.{looking}
+use Rattle.gix_odb_world.specs.Running.Write.{writing}
+
+-- a write that has its reply is no work: no handle is at it
+abbrev pub ended : Machine
+ended = record {
+  State = Reply;
+  work = λ reply. Calling (Written reply);
+  ask = λ store reply. None;
+  feed = λ store reply answer. Ok reply;
+  writes = λ reply. None;
+  IsFor = λ task reply. ⊥;
+  bound = λ store task entries. 0;
+  Knows = λ first events handle running reply. ⊥;
+}
+
+-- the machine that each work is of, and at which state
+abbrev pub at : (work : Work) → At work
+at (Opening state) = record { machine = opening; state = state; is = refl }
+at (Calling (Looking state)) = record { machine = looking; state = state; is = refl }
+at (Calling (Writing folder)) = record { machine = writing; state = folder; is = refl }
+at (Calling (Written reply)) = record { machine = ended; state = reply; is = refl }
+
+-- the call of the disk that work names in a store, unless it is done
+abbrev pub ask_in : Store → Work → Option DiskAsk
+ask_in store work = (at work).machine.ask store (at work).state
+
+-- the reply to which the answer takes work, or the work that is left
+abbrev pub fed_in : Store → Work → DiskAnswer → Result Reply Work
+fed_in store work answer = placed (at work).machine ((at work).machine.feed store (at work).state answer)
+
+-- the call of the objects directory by which work writes an object, if it writes one
+abbrev pub write_in : Work → Option LooseCall
+write_in work = (at work).machine.writes (at work).state

@@ -1,0 +1,40 @@
+-- What an opening knows, and its machine, of which a public clause needs what it asks and where an answer leads it.
+use Rattle.std.specs.Prelude.{◌≡◌, ℕ, List, length, None, Result, Ok, Err}
+use Rattle.gix_odb.specs.Contents.{folder_list}
+use Rattle.gix_odb.specs.OpenOrder as openings
+use Rattle.gix_odb.specs.declared.call.Reply.{Reply}
+use Rattle.gix_odb.specs.declared.open_state.OpenState.{OpenState}
+use Rattle.gix_odb.specs.declared.open_state.OpenState.TheVariants as opens
+use Rattle.gix_odb_world.specs.declared.work.Work.TheVariants.{Opening}
+use Rattle.gix_odb_world.specs.AtWork.{OpenStore, Running}
+use Rattle.gix_odb_world.specs.Bound.{turn_bound}
+use Rattle.gix_odb_world.specs.Event.{Event}
+use Rattle.gix_odb_world.specs.Machine.{Machine}
+use Rattle.gix_odb_world.specs.Run.{FailedSince}
+
+-- before its one turn an opening has seen nothing
+pub record IsOpening (events : List Event) (handle : ℕ) (running : Running) (state : OpenState) : Type 0 where
+  pub task : running.task ≡ OpenStore
+  pub turns : running.turns ≡ 0
+  pub looks : state ≡ opens.Looking
+  pub no_failure : ¬ (FailedSince events handle running.begun)
+
+-- ---- its machine
+
+-- an opening that is done has its reply
+abbrev pub result_of_opening : OpenState → Result Reply OpenState
+result_of_opening opens.Looking = Err opens.Looking
+result_of_opening (opens.Done reply) = Ok reply
+
+-- an opening as a machine: one look, and then its reply
+abbrev pub opening : Machine
+opening = record {
+  State = OpenState;
+  work = λ state. Opening state;
+  ask = λ store state. openings.ask_of store.parts.objects state;
+  feed = λ store state answer. result_of_opening (openings.fed store.slots state answer);
+  writes = λ state. None;
+  IsFor = λ task state. task ≡ OpenStore;
+  bound = λ store task entries. turn_bound 0 (length (folder_list store.parts)) 0 entries None;
+  Knows = λ first events handle running state. IsOpening events handle running state;
+}
