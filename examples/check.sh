@@ -1,7 +1,7 @@
 #!/usr/bin/env bash
 # Runs the program that `rt ci`, or ../gitodb, built, and compares what it writes and the status that it ends with:
-# for each `.script` of this folder the `.output` beside it and status 0, for each line of refused.txt what stands there,
-# and for words, streams and long scripts what stands below.
+# for each `.script` of this folder the `.output` beside it and status 0, for each line of refused.txt and reasons.txt what
+# stands there, and for words, streams and long scripts what stands below.
 set -u -o pipefail
 cd "$(dirname "$0")" || exit 1
 program=${1:-../crates/gitodb/out/gitodb}
@@ -15,9 +15,19 @@ wrong=0
 expect() { # NAME STATUS TEXT WORD..
     local name=$1 want found
     want=$(printf '%b' "$3"; echo "status $2")
-    found=$("$program" "${@:4}"; echo "status $?")
+    found=$("$program" "${@:4}" 2>/dev/null; echo "status $?")
     if [ "$found" != "$want" ]; then
         printf 'examples: %s\ncomes to\n%s\nin place of\n%s\n' "$name" "$found" "$want" >&2
+        wrong=1
+    fi
+}
+
+# Compares what words tell on standard error, over standard input, with a text behind the program's name.
+expect_told() { # NAME TEXT WORD..
+    local want=${2:+gitodb: $2} found
+    found=$("$program" "${@:3}" 2>&1 >/dev/null)
+    if [ "$found" != "$want" ]; then
+        printf 'examples: %s\ntells\n%s\nin place of\n%s\n' "$1" "$found" "$want" >&2
         wrong=1
     fi
 }
@@ -53,6 +63,13 @@ while IFS= read -r line; do
     esac
 done <refused.txt
 
+while IFS= read -r line; do
+    case $line in
+    '' | '#'*) ;;
+    *) expect_told "$line" "${line##* => }" world < <(printf '%b' "${line%% => *}") ;;
+    esac
+done <reasons.txt
+
 # Words that are none of the program's, of which no script is read.
 for word in '' frob World 'world ' --Help; do
     expect "the word '$word'" 1 'words not understood\n' "$word" <first_find.script
@@ -63,6 +80,14 @@ expect 'an empty word behind another' 1 'words not understood\n' world '' <first
 expect 'two words' 1 'words not understood\n' --help world <first_find.script
 expect 'a word that is no text' 1 'words not understood\n' $'\xff' <first_find.script
 
+help='no such words: gitodb --help tells which there are'
+for word in frob -h help; do
+    expect_told "the word '$word'" "$help" "$word" <first_find.script
+done
+expect_told 'no word' "$help" <first_find.script
+expect_told 'a script that is done' '' world <first_find.script
+expect_told 'a source that fails' "standard input can't be read" world <.
+
 expect 'the version' 0 'gitodb 0.1.0\n' --version <first_find.script
 if [[ $("$program" --help) != 'usage: gitodb world '* ]]; then
     echo "examples: --help begins with something else" >&2
@@ -72,9 +97,9 @@ fi
 # A folder can't be read as a file, and nothing can be written to a full device.
 expect 'a source that fails' 3 '' world <.
 for word in world --help --version frob; do
-    "$program" "$word" <first_find.script >/dev/full
-    if [ $? != 4 ]; then
-        echo "examples: a failed write of $word is not told by its status" >&2
+    found=$("$program" "$word" <first_find.script 2>&1 >/dev/full; echo "status $?")
+    if [ "$found" != "gitodb: standard output can't be written"$'\n''status 4' ]; then
+        echo "examples: a failed write of $word tells $found" >&2
         wrong=1
     fi
 done
@@ -89,9 +114,11 @@ told='misuse no-handle\n'
 expect 'a script of the greatest length' 0 "$told" world < <(long $((limit - 13)) 2>/dev/null)
 expect 'a script of one byte more' 2 "${told}line 3 refused\n" world < <(long $((limit - 12)) 2>/dev/null)
 expect 'a script without end' 2 "${told}line 3 refused\n" world < <(long $((1 << 50)) 2>/dev/null)
+expect_told 'a script without end' "line 3: the script is longer than $limit bytes" world < <(long $((1 << 50)) 2>/dev/null)
+expect_told 'a script of one byte more' "line 3: the script is longer than $limit bytes" world < <(long $((limit - 12)) 2>/dev/null)
 
 # The same, by a program that may have less memory than the script takes.
-found=$(long $((limit - 13)) 2>/dev/null | (ulimit -v 60000 && exec "$program" world); echo "status $?")
+found=$(long $((limit - 13)) 2>/dev/null | (ulimit -v 60000 && exec "$program" world 2>/dev/null); echo "status $?")
 if [ "$found" != 'status 5' ]; then
     printf 'examples: want of memory comes to\n%s\n' "$found" >&2
     wrong=1

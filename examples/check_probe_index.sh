@@ -28,7 +28,7 @@ printf 'no index' >other
 # A row has the status, the file, the words and a front of what is written, with a blank for the end of each line.
 while IFS='|' read -r status file words front; do
     # shellcheck disable=SC2086
-    told=$("$program" $words <"$file" | tr '\n' ' '; echo "|${PIPESTATUS[0]}")
+    told=$("$program" $words <"$file" 2>/dev/null | tr '\n' ' '; echo "|${PIPESTATUS[0]}")
     case $told in
     "$front"*"|$status") ;;
     *) fail "$words of $file: $told" ;;
@@ -44,8 +44,17 @@ done <<ROWS
 ROWS
 
 # A folder can't be read as a file, and nothing can be written to a full device.
-[ "$("$program" "$found" <.; echo "status $?")" = 'status 3' ] || fail "doesn't tell a failed read"
-"$program" "$found" <whole >/dev/full
-[ $? = 4 ] || fail "doesn't tell a failed write"
+# Compares a status, and what is told on standard error, with those that are wanted.
+expect_told() { # STATUS WANTED TEXT
+    [ "$1 $(cat told)" = "$2 probe_index: $3" ] || fail "ends with $1 and tells $(cat told)"
+}
+[ -z "$("$program" "$found" <. 2>told; echo "$?" >status)" ] || fail "writes lines of no file"
+expect_told "$(cat status)" 3 "standard input can't be read"
+"$program" "$found" <whole >/dev/full 2>told
+expect_told $? 4 "standard output can't be written"
+"$program" "$found" <other >/dev/null 2>told
+expect_told $? 2 'standard input is no such file'
+"$program" <whole >/dev/null 2>told
+expect_told $? 1 'each word has to be an id, and all of one length'
 
 exit "$wrong"

@@ -1,5 +1,5 @@
 -- Lemmas on statuses: what was read of a script is answered as the script, and what a delivery says of a status.
-use Rattle.std.proofs.Common.{◌≡◌, inl, inr, ℕ, ◌≤◌, List, [], ◌++◌, length, sym, subst}
+use Rattle.std.proofs.Common.{◌≡◌, inl, inr, ℕ, ◌≤◌, List, [], ◌++◌, length, sym, ap, ◌∙◌, subst}
 use Rattle.std.specs.Prelude.{IfSome}
 use Rattle.std.proofs.lemmas.Bool.{cases_lt}
 use Rattle.odb_disk.specs.Source.{ReadsFile}
@@ -16,7 +16,9 @@ use Rattle.odb_script.specs.Script.{disk_of, lines_of, script_limit, reading_fro
 use Rattle.odb_script.proofs.LimitLemmas.{items_of-read, too-long-Whole}
 use Rattle.odb_program.specs.Session.{Delivers, Input}
 use Rattle.odb_program.proofs.SessionLaws.{ReadToEnd-short, ends_delivered, holds_of_source}
-use Rattle.gitodb.specs.Session.{Session, Answers, AnswersWith, Writes, WritesFor, Finishes, ReadsIts, Ends, status_of_ending}
+use Rattle.script_reasons.proofs.ToldLaws.{told_of-read}
+use Rattle.script_reasons.specs.Told.{told_of}
+use Rattle.gitodb.specs.Session.{Session, Answers, AnswersWith, Writes, WritesFor, Finishes, ReadsIts, Ends, status_by}
 
 -- ---- what was read and what is written
 
@@ -38,7 +40,7 @@ written_for_script : (input : Input) (text written : List ℕ) (status : Status)
     → IfSome input.left (λ script. AnswersWith script written status)
 written_for_script input text written status reads answers =
     holds_of_source script_limit input.left input.left' text (λ script. AnswersWith script written status) reads
-    (λ rest whole. record { ending = answers.ending; answers = Answers-front text rest written answers.ending whole answers.answers; status_is = answers.status_is })
+    (λ rest whole. record { ending = answers.ending; answers = Answers-front text rest written answers.ending whole answers.answers; status_is = answers.status_is ∙ ap (status_by answers.ending) (sym (told_of-read text rest whole)) })
 
 -- a script that ended whole is no longer than a script may be
 whole_is_short : (text written : List ℕ) → Answers text written Whole → length text ≤ script_limit
@@ -52,17 +54,17 @@ Ends-delivered s output status result writes ends delivered =
     ends_delivered (Ends s) (Writes s) WriteFault s.output output status result writes ends (λ failed. failed) delivered
 
 -- a script that was answered ends with the status of its ending
-ends_by : (s : Session) (text written : List ℕ) (ending : Ending) → s.command ≡ World → ReadsFile script_limit s.input.left s.input.left' text → Answers text written ending → Finishes s (status_of_ending ending)
-    → Ends s (status_of_ending ending)
-ends_by s text written Whole world reads answers finished =
+ends_by : (s : Session) (text written : List ℕ) (ending : Ending) (told : List ℕ) → s.command ≡ World → ReadsFile script_limit s.input.left s.input.left' text → Answers text written ending → Finishes s (status_by ending told)
+    → Ends s (status_by ending told)
+ends_by s text written Whole told world reads answers finished =
     (finished, subst (λ c. ReadsIts c s.input) (sym world) (ReadToEnd-short script_limit s.input.left s.input.left' text reads (whole_is_short text written answers)))
-ends_by s text written (RefusedAt line) world reads answers finished = (world, finished)
-ends_by s text written (NotBuiltAt line) world reads answers finished = (world, finished)
+ends_by s text written (RefusedAt line) told world reads answers finished = (world, finished)
+ends_by s text written (NotBuiltAt line) told world reads answers finished = (world, finished)
 
 pub Ends-world : (s : Session) (text output : List ℕ) (status result : Status) → s.command ≡ World → ReadsFile script_limit s.input.left s.input.left' text → AnswersWith text output status
     → Delivers WriteFault s.output output status result → Ends s result
 Ends-world s text output status result world reads answers delivered =
     Ends-delivered s output status result
     (subst (λ c. WritesFor s.help s.version c s.input.left output status) (sym world) (written_for_script s.input text output status reads answers))
-    (subst (λ r. Finishes s r → Ends s r) (sym answers.status_is) (ends_by s text output answers.ending world reads answers.answers))
+    (subst (λ r. Finishes s r → Ends s r) (sym answers.status_is) (ends_by s text output answers.ending (told_of text) world reads answers.answers))
     delivered

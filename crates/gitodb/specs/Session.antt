@@ -14,6 +14,7 @@ use Rattle.gitodb.specs.declared.status.Status.TheVariants as statuses
 use Rattle.odb_script.specs.declared.reader.Ending.{Ending}
 use Rattle.odb_script.specs.declared.reader.Ending.TheVariants.{Whole, RefusedAt, NotBuiltAt}
 use Rattle.odb_script.specs.Script.{reading_of, disk_of, lines_of}
+use Rattle.script_reasons.specs.Told.{told_of}
 use Rattle.gitodb.specs.Print.{printed_at, ending_text}
 
 -- the command that the words of the command line are
@@ -41,17 +42,17 @@ pub record Answers (script written : List ℕ) (ending : Ending) : Type 0 where
   pub plays : Plays 0 (lines_of (reading_of script).script) (made_of play.steps play.run.outcomes) play.last
   pub written_is : written ≡ printed_at play.run.outcomes play.last ++ ending_text ending
 
--- the status of a script that ends so
-abbrev pub status_of_ending : Ending → Status
-status_of_ending Whole = statuses.Done
-status_of_ending (RefusedAt line) = statuses.Refused
-status_of_ending (NotBuiltAt line) = statuses.NotBuilt
+-- the status of a script that ends so, of which this is told
+abbrev pub status_by : Ending → List ℕ → Status
+status_by Whole told = statuses.Done
+status_by (RefusedAt line) told = statuses.Refused told
+status_by (NotBuiltAt line) told = statuses.NotBuilt
 
--- what `world` writes, and its status
+-- What `world` writes, and its status. With that of a refused line comes why it is refused.
 pub record AnswersWith (script written : List ℕ) (status : Status) : Type 0 where
   pub ending : Ending
   pub answers : Answers script written ending
-  pub status_is : status ≡ status_of_ending ending
+  pub status_is : status ≡ status_by ending (told_of script)
 
 -- What was there before and after a session: the command, what was read and what was written; and the two texts that the
 -- program writes about itself.
@@ -89,7 +90,7 @@ ReadsIts command input = Unit {0}
 abbrev pub Ends : Session → Status → Type 0
 Ends s statuses.Done = Finishes s statuses.Done × ReadsIts s.command s.input
 Ends s statuses.NotUnderstood = (s.command ≡ NotUnderstood) × Finishes s statuses.NotUnderstood
-Ends s statuses.Refused = (s.command ≡ World) × Finishes s statuses.Refused
+Ends s (statuses.Refused told) = (s.command ≡ World) × Finishes s (statuses.Refused told)
 Ends s statuses.ReadFault = (s.command ≡ World) × FailedRead s.input s.output
 Ends s statuses.WriteFault = FailedWrite (Writes s) s.output
 Ends s statuses.NoMemory = (s.command ≡ World) × Wrote s.output []

@@ -2,7 +2,7 @@
 //!
 //! `gitodb world` reads a script from standard input: a disk, and steps of interleaved calls on it, and writes
 //! one line for each step line. `run` says what each status promises, over any source, sink and disk; `main`
-//! calls it with the real ones.
+//! calls it with the real ones, and tells on standard error what went wrong.
 #![tactic(auto)]
 
 mod command;
@@ -17,12 +17,15 @@ use crate::status::Status;
 use odb_base::NoMemory;
 use odb_disk::{StdSink, StdSource};
 use odb_host::HostDisk;
-use odb_program::{command_words, exit_code};
+use odb_program::{command_words, exit_code, report};
 use std::io;
 use std::process::ExitCode;
 
 fn main(rt: HostRuntime) -> ExitCode {
-    exit_code(ended(&rt).unwrap_or(Status::NoMemory))
+    let status = ended(&rt).unwrap_or(Status::NoMemory);
+    // Where standard error fails too, the status alone tells what happened.
+    let _ = report(&mut StdSink::new(rt.stderr()), "gitodb", status.note());
+    exit_code(status)
 }
 
 /// The status of a session over the real streams and the real disk.

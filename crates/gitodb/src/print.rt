@@ -1,6 +1,5 @@
 //! The lines that are written for outcomes.
-ghost use Rattle.std.specs.Prelude.{◌≡◌, ◌++◌, ◌∷◌, [], OnOk, length};
-ghost use Rattle.std.specs.Fmt.{decimal};
+ghost use Rattle.std.specs.Prelude.{◌≡◌, ◌++◌, OnOk};
 ghost use Rattle.gitodb.specs.Print.{printed, reply_text, error_text, opening_text, find_text, loose_text, sizes_text, write_text, loose_write_text, header_text, yes_or_no, why_text, data_text};
 
 use gix_hash::ObjectId;
@@ -8,6 +7,7 @@ use gix_object::Kind;
 use gix_odb_loose as loose;
 use gix_odb_world::{CallError, Outcome, Reply, Why, find, init, write};
 use odb_base::NoMemory;
+use odb_program::{labelled, number, text};
 use std::alloc::Global;
 
 /// Adds the line of an outcome, without its line feed.
@@ -214,26 +214,4 @@ fn data(alloc: Global, out: &mut Vec<u8>, bytes: &[u8]) -> Result<(), NoMemory>
         return text(out, b"-");
     }
     text(out, hex::encode(alloc, bytes)?.as_bytes())
-}
-
-/// Adds a text and a number in decimal.
-pub fn labelled(alloc: Global, out: &mut Vec<u8>, label: &[u8], value: u64) -> Result<(), NoMemory>
-    ensures ok { OnOk result (out.new.items ≡ out.old.items ++ (label.now ++ decimal value)) }
-{
-    text(out, label)?;
-    number(alloc, out, value)
-}
-
-/// Adds a number in decimal.
-pub fn number(alloc: Global, out: &mut Vec<u8>, number: u64) -> Result<(), NoMemory>
-    ensures ok { OnOk result (out.new.items ≡ out.old.items ++ decimal number) }
-{
-    text(out, number.to_string(alloc)?.as_bytes())
-}
-
-/// Adds text.
-pub fn text(out: &mut Vec<u8>, text: &[u8]) -> Result<(), NoMemory>
-    ensures ok { OnOk result (out.new.items ≡ out.old.items ++ text.now) }
-{
-    Ok(out.extend_from_slice(text)?)
 }

@@ -10,7 +10,7 @@ use crate::status::Status;
 use crate::world_command::answer_script;
 use odb_base::NoMemory;
 use odb_disk::{Disk, ReadError, Sink, Source, read_file};
-use odb_program::answer;
+use odb_program::{NOT_UNDERSTOOD, answer};
 use odb_script::SCRIPT_LIMIT;
 use std::alloc::Global;
 
@@ -61,9 +61,6 @@ status  0 done   1 words not understood   2 a line was refused   3 read fault
 /// What `--version` writes.
 pub const VERSION: &str = "gitodb 0.1.0\n";
 
-/// What is written where the words are no command.
-const REFUSAL: &[u8] = b"words not understood\n";
-
 /// Does what the words of the command line say, and answers the status.
 ///
 /// `world` reads a script from the source and runs it over a disk in memory; the disk that is handed in is left as it is.
@@ -88,7 +85,7 @@ pub fn run<R, S: Source, K: Sink, D: Disk>(
         Command::World => world(alloc, source, sink),
         Command::Help => answer(sink, HELP.as_bytes(), Status::Done),
         Command::Version => answer(sink, VERSION.as_bytes(), Status::Done),
-        Command::NotUnderstood => answer(sink, REFUSAL, Status::NotUnderstood),
+        Command::NotUnderstood => answer(sink, NOT_UNDERSTOOD.as_bytes(), Status::NotUnderstood),
     }
 }
 

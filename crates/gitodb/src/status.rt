@@ -1,23 +1,45 @@
-//! How the program may end.
+//! How the program may end, and what it tells on standard error then.
+ghost use Rattle.std.specs.Prelude.{◌≡◌};
+ghost use Rattle.gitodb.specs.Status.{note_of};
+
+use odb_base::ByteList;
 use odb_program::SessionStatus;
 
 /// How the program ends.
-#[derive(Clone, Copy, PartialEq, Eq)]
+#[derive(Drop)]
 pub enum Status {
-    /// Done: the source was read to its end where the command reads it.
-    Done = 0,
-    /// The words are no command.
-    NotUnderstood = 1,
-    /// A line of the script is outside its grammar or its limits.
-    Refused = 2,
-    /// The source failed.
-    ReadFault = 3,
-    /// The sink failed.
-    WriteFault = 4,
-    /// Want of memory.
-    NoMemory = 5,
-    /// A line of the script has a word that isn't built yet.
-    NotBuilt = 8,
+    /// 0: done, and the source was read to its end where the command reads it.
+    Done,
+    /// 1: the words are no command.
+    NotUnderstood,
+    /// 2: a line of the script is outside its grammar or its limits. It has what is told of the line.
+    Refused(ByteList),
+    /// 3: the source failed.
+    ReadFault,
+    /// 4: the sink failed.
+    WriteFault,
+    /// 5: want of memory.
+    NoMemory,
+    /// 8: a line of the script has a word that isn't built yet.
+    NotBuilt,
+}
+
+impl Status {
+    /// What is told on standard error, without the program's name; nothing where all went well.
+    pub fn note(&self) -> &[u8]
+        ensures note { result.now ≡ note_of self.now }
+    {
+        match self {
+            Status::Done => b"",
+            Status::NotUnderstood => b"no such words: gitodb --help tells which there are",
+            Status::Refused(told) => told.as_slice(),
+            Status::ReadFault => b"standard input can't be read",
+            Status::WriteFault => b"standard output can't be written",
+            Status::NoMemory => b"out of memory",
+            Status::NotBuilt =>
+                b"that line has a word that isn't built yet; docs/SCRIPT.md tells which ones",
+        }
+    }
 }
 
 impl SessionStatus for Status {
@@ -29,7 +51,15 @@ impl SessionStatus for Status {
     ghost failed_write = { WriteFault };
 
     fn code(self) -> u8 {
-        self as u8
+        match self {
+            Status::Done => 0,
+            Status::NotUnderstood => 1,
+            Status::Refused(_) => 2,
+            Status::ReadFault => 3,
+            Status::WriteFault => 4,
+            Status::NoMemory => 5,
+            Status::NotBuilt => 8,
+        }
     }
 
     fn write_fault() -> Status {

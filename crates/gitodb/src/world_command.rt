@@ -4,23 +4,27 @@ ghost use Rattle.std.specs.Option.{option_copied};
 ghost use Rattle.gix_odb_world.specs.Headline.{Headline};
 ghost use Rattle.gix_odb_world.specs.Play.{Plays, made_of};
 ghost use Rattle.gitodb.specs.Print.{printed_at, ending_text, line_of};
-ghost use Rattle.gitodb.specs.Session.{Answers, AnswersWith, Says, status_of_ending};
+ghost use Rattle.gitodb.specs.Session.{Answers, AnswersWith, Says, status_by};
 
-use crate::print::{labelled, print_outcome, text};
+use crate::print::print_outcome;
 use crate::status::Status;
 use gix_odb_world::{Line, Outcome, OutcomeList, Play, World};
-use odb_base::{NoMemory, Sequence};
+use odb_base::{ByteList, NoMemory, Sequence};
 use odb_disk::MemDisk;
+use odb_program::{labelled, text};
 use odb_script::{Ending, read};
+use script_reasons::told_of;
 use std::alloc::Global;
 
 /// What is written for a script, and the status.
 pub fn answer_script(alloc: Global, script: &[u8]) -> Result<(Vec<u8>, Status), NoMemory>
     ensures answered { IfOk result (λ answer. AnswersWith script.now answer.0.items answer.1) }
 {
-    let (disk, lines, ending) = read(alloc, script)?.into_parts(alloc)?;
+    let reading = read(alloc, script)?;
+    let told = told_of(alloc, script, &reading)?;
+    let (disk, lines, ending) = reading.into_parts(alloc)?;
     let out = answer_lines(alloc, disk, lines, ending)?;
-    Ok((out, status_of(ending)))
+    Ok((out, status_by(ending, told)))
 }
 
 /// What is written for a script that makes this disk, plays these lines on it, and ends so.
@@ -101,13 +105,13 @@ fn print_ending(alloc: Global, out: &mut Vec<u8>, ending: Ending) -> Result<(), 
     }
 }
 
-/// The status of a script that ends so.
-fn status_of(ending: Ending) -> Status
-    ensures status { result ≡ status_of_ending ending }
+/// The status of a script that ends so, of which this is told.
+fn status_by(ending: Ending, told: Vec<u8>) -> Status
+    ensures status { result ≡ status_by ending told.items }
 {
     match ending {
         Ending::Whole => Status::Done,
-        Ending::RefusedAt(_) => Status::Refused,
+        Ending::RefusedAt(_) => Status::Refused(ByteList::from_vec(told)),
         Ending::NotBuiltAt(_) => Status::NotBuilt,
     }
 }

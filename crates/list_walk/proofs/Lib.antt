@@ -1,4 +1,5 @@
-mod AskedLemmas
 mod LinesLemmas
 mod WrittenLemmas
+mod VisitLemmas
+mod WalksLemmas
 mod SessionLemmas

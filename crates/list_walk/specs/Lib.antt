@@ -1,4 +1,7 @@
 pub mod Status
+pub mod Folder
+pub mod Words
 pub mod Asked
 pub mod Lines
+pub mod Visits
 pub mod Session

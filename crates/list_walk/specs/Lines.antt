@@ -1,12 +1,14 @@
 -- A line for each item that a walk gives.
-use Rattle.std.specs.Prelude.{◌≡◌, ℕ, Bool, false, List, ◌++◌, take, codes, Option, Some, None, Result, Ok, Err, is_err, if◌then◌else◌}
+use Rattle.std.specs.Prelude.{◌≡◌, ℕ, Bool, true, false, List, [], ◌∷◌, ◌++◌, take, codes, Option, Some, None, Result, Ok, Err, is_err, if◌then◌else◌}
 use Rattle.std.specs.Iterator.{Yields}
 use Rattle.std.specs.List.{flat_map, list_any}
 use Rattle.odb_base.specs.Path.{text_of}
 use Rattle.odb_disk.specs.Source.{Adds}
 use Rattle.odb_disk.specs.Streams.{Streams}
 use Rattle.odb_tree.specs.Tree.{State}
-use Rattle.walkdir.specs.Error.{text_of_error}
+use Rattle.odb_tree.specs.declared.disk_error.DiskError.{DiskError}
+use Rattle.odb_tree.specs.declared.disk_error.DiskError.TheVariants as refusals
+use Rattle.walkdir.specs.Error.{disk_error_of, text_of_error}
 use Rattle.walkdir.specs.Failures.{failures_among}
 use Rattle.walkdir.specs.Progress.{FailsByFault, Keeps, Progress, Steps, is_lost}
 use Rattle.walkdir.specs.Walk.{Item}
@@ -43,17 +45,39 @@ pub record Leaves (first now : Progress) : Type 0 where
 
 -- ---- their lines
 
--- the path of an entry, or the text of an error
-abbrev pub shown : Item → List ℕ
-shown (Ok entry) = text_of entry.path
-shown (Err error) = text_of_error error
+-- an entry ends by a line feed, or by NUL where that is asked for
+abbrev pub end_of : Bool → List ℕ
+end_of true = 0 ∷ []
+end_of false = codes "\n"
 
-unfoldable pub line_of : Item → List ℕ
-line_of item = shown item ++ codes "\n"
+-- what is written of an item on standard output: the path of an entry, and nothing of an error
+unfoldable pub line_of : Bool → Item → List ℕ
+line_of nul (Ok entry) = text_of entry.path ++ end_of nul
+line_of nul (Err error) = []
+
+-- the system's words for a disk's error; a disk that failed doesn't keep them
+abbrev pub system_words : Option DiskError → List ℕ
+system_words None = []
+system_words (Some refusals.Absent) = codes " (No such file or directory)"
+system_words (Some refusals.WrongKind) = codes " (Not a directory)"
+system_words (Some refusals.LinkLoop) = codes " (Too many levels of symbolic links)"
+system_words (Some refusals.Exists) = codes " (File exists)"
+system_words (Some refusals.NotEmpty) = codes " (Directory not empty)"
+system_words (Some refusals.Failed) = []
+system_words (Some refusals.NoMemory) = codes " (Cannot allocate memory)"
+
+-- What is written of it on standard error: the text of an error behind the program's name, and the system's words. Nothing
+-- is written of an entry.
+unfoldable pub error_of : Item → List ℕ
+error_of (Ok entry) = []
+error_of (Err error) = codes "list_walk: " ++ (text_of_error error ++ (system_words (disk_error_of error) ++ codes "\n"))
 
 -- the lines of items, one behind the other
-abbrev pub lines_of : List Item → List ℕ
-lines_of items = flat_map line_of items
+abbrev pub lines_of : Bool → List Item → List ℕ
+lines_of nul items = flat_map (line_of nul) items
+
+abbrev pub errors_of : List Item → List ℕ
+errors_of items = flat_map error_of items
 
 -- of some bytes the sink took a front, and these are left
 abbrev pub TakesFront : Option (List ℕ) → Option (List ℕ) → List ℕ → List ℕ → Type 0
@@ -70,13 +94,16 @@ status_of items = if list_any is_error items then statuses.SomeErrors else statu
 
 -- ---- what is written of a walk
 
--- What is written of a walk: the state of the disk, the walk, and before and after the bytes held by the sink and the
--- disk's count of faults.
+-- What is written of a walk: the state of the disk, the walk, how entries end, and before and after the bytes held by the
+-- two sinks, of entries and of errors, and the disk's count of faults.
 pub record Listing : Type 0 where
   pub state : Option State
   pub first : Progress
+  pub nul : Bool
   pub held : Option (List ℕ)
   pub held' : Option (List ℕ)
+  pub told : Option (List ℕ)
+  pub told' : Option (List ℕ)
   pub disk_faults : ℕ
   pub disk_faults' : ℕ
 
@@ -87,16 +114,19 @@ pub record IsWhole (o : Listing) (status : Status) : Type 0 where
   pub gave : GaveAll o.state o.first items
   pub memory : list_any is_want items ≡ false
   pub status_is : status ≡ status_of items
-  pub added : Adds o.held o.held' (lines_of items)
+  pub added : Adds o.held o.held' (lines_of o.nul items)
+  pub errors : Adds o.told o.told' (errors_of items)
   pub fails : FailsByFault o.first o.disk_faults (failures_among items) gave.now o.disk_faults'
 
--- A front of the lines of items of the walk was written. Beside failures that waited before, there are no more among these
+-- Fronts of the lines of items of the walk were written. Beside failures that waited before, there are no more among these
 -- items than the disk's count of faults rose by.
 pub record IsFront (o : Listing) : Type 0 where
   pub items : List Item
   pub gave : GaveSome o.state o.first items
   pub count : ℕ
-  pub added : Adds o.held o.held' (take count (lines_of items))
+  pub added : Adds o.held o.held' (take count (lines_of o.nul items))
+  pub error_count : ℕ
+  pub errors : Adds o.told o.told' (take error_count (errors_of items))
   pub fails : FailsByFault o.first o.disk_faults (failures_among items) gave.at o.disk_faults'
 
 -- the walk came to its end, or it was cut off

@@ -1,18 +1,22 @@
-//! The lines that are written.
-ghost use Rattle.std.specs.Prelude.{◌≡◌, string_bytes, IfOk};
-ghost use Rattle.list_walk.specs.Lines.{line_of};
+//! The lines that are written: of entries to one sink, of errors to another.
+ghost use Rattle.std.specs.Prelude.{◌≡◌, ◌≤◌, ℕ, Ok, Err, take, string_bytes, IfOk, OnOk, OnErr, IsErrOf};
+ghost use Rattle.list_walk.specs.Lines.{error_of, line_of, system_words};
+ghost use Rattle.odb_base.specs.Faults.{Rose};
+ghost use Rattle.odb_disk.specs.Source.{Adds};
 
-use odb_disk::{Failed, Sink, write_all};
+use odb_disk::{DiskError, Failed, Sink, write_all};
 use std::alloc::{AllocError, Global};
 use walkdir::DirEntry;
 
 /// How many bytes are gathered before they are written: 32 KiB, so that one call of the sink serves many lines.
 const PIECE: usize = 32_768;
 
-/// Lines on their way to a sink.
+/// Lines of entries on their way to a sink.
 #[derive(Drop)]
 pub struct Lines {
     text: String,
+    /// Whether they end by NUL, and not by a line feed.
+    nul: bool,
 }
 
 /// Why a line wasn't written.
@@ -45,34 +49,62 @@ impl From<Failed> for LineError {
 }
 
 impl Lines {
-    ghost use Rattle.std.specs.Prelude.{◌≡◌, ◌++◌, ◌≤◌, [], ℕ, take, string_bytes, OnOk, OnErr, IsErrOf};
+    ghost use Rattle.std.specs.Prelude.{◌≡◌, ◌++◌, ◌⊎◌, ◌≤◌, [], ℕ, Ok, take, string_bytes, OnOk, OnErr, IsErrOf};
     ghost use Rattle.odb_base.specs.Faults.{HasCause, Rose};
     ghost use Rattle.odb_disk.specs.Source.{Adds};
-    ghost use Rattle.list_walk.specs.Lines.{line_of, TakesFront};
+    ghost use Rattle.list_walk.specs.Lines.{error_of, line_of, TakesFront};
 
     /// No lines, which take no memory.
-    pub fn new(alloc: Global) -> Lines
+    pub fn new(alloc: Global, nul: bool) -> Lines
         ensures empty { string_bytes result.text ≡ [] }
+        ensures nul { result.nul ≡ nul }
     {
         Lines {
             text: String::new(alloc),
+            nul,
         }
     }
 
-    /// Adds the line of an item, and writes what is gathered where that is much.
-    pub fn add<K: Sink>(
+    /// Adds the line of an item: of an entry here, of an error to the other sink.
+    #[tactic(auto, unfolding(crate::specs::Lines::line_of, crate::specs::Lines::error_of))]
+    pub fn put<K: Sink, E: Sink>(
         &mut self,
         alloc: Global,
         sink: &mut K,
+        errors: &mut E,
         item: walkdir::Result<DirEntry>,
     ) -> Result<(), LineError>
-        ensures added { OnOk result (TakesFront (K.held sink.old) (K.held sink.new) (string_bytes self.old.text ++ line_of item) (string_bytes self.new.text)) }
-        ensures failed { IsErrOf result LineError.Failed → (count : ℕ) × Adds (K.held sink.old) (K.held sink.new) (take count (string_bytes self.old.text ++ line_of item)) }
+        ensures added { OnOk result (TakesFront (K.held sink.old) (K.held sink.new) (string_bytes self.old.text ++ line_of self.old.nul item) (string_bytes self.new.text)) }
+        ensures told { OnOk result (Adds (E.held errors.old) (E.held errors.new) (error_of item)) }
+        ensures cut { OnErr result ((count : ℕ) × Adds (K.held sink.old) (K.held sink.new) (take count (string_bytes self.old.text ++ line_of self.old.nul item))) }
+        ensures told_cut { OnErr result ((count : ℕ) × Adds (E.held errors.old) (E.held errors.new) (take count (error_of item))) }
+        ensures later { K.faults sink.old ≤ K.faults sink.new }
+        ensures later_errors { E.faults errors.old ≤ E.faults errors.new }
+        ensures cause { IsErrOf result LineError.Failed → Rose (K.faults sink.old) (K.faults sink.new) ⊎ Rose (E.faults errors.old) (E.faults errors.new) }
+        ensures nul { self.new.nul ≡ self.old.nul }
+    {
+        match item {
+            Ok(entry) => self.add(alloc, sink, entry),
+            Err(error) => tell(alloc, errors, error),
+        }
+    }
+
+    /// Adds the line of an entry, and writes what is gathered where that is much.
+    #[tactic(auto, unfolding(crate::specs::Lines::line_of))]
+    fn add<K: Sink>(
+        &mut self,
+        alloc: Global,
+        sink: &mut K,
+        entry: DirEntry,
+    ) -> Result<(), LineError>
+        ensures added { OnOk result (TakesFront (K.held sink.old) (K.held sink.new) (string_bytes self.old.text ++ line_of self.old.nul (Ok entry)) (string_bytes self.new.text)) }
+        ensures failed { IsErrOf result LineError.Failed → (count : ℕ) × Adds (K.held sink.old) (K.held sink.new) (take count (string_bytes self.old.text ++ line_of self.old.nul (Ok entry))) }
         ensures lost { IsErrOf result LineError.NoMemory → Adds (K.held sink.old) (K.held sink.new) [] }
         ensures later { K.faults sink.old ≤ K.faults sink.new }
         ensures cause { IsErrOf result LineError.Failed → Rose (K.faults sink.old) (K.faults sink.new) }
+        ensures nul { self.new.nul ≡ self.old.nul }
     {
-        let line = line_of(alloc, item)?;
+        let line = line_of(alloc, entry, self.nul)?;
         self.text.push_str(line.as_str())?;
         if self.text.len() < PIECE {
             return Ok(());
@@ -87,6 +119,7 @@ impl Lines {
         ensures empty { OnOk result (string_bytes self.new.text ≡ []) }
         ensures err { OnErr result ((count : ℕ) × Adds (K.held sink.old) (K.held sink.new) (take count (string_bytes self.old.text))) }
         ensures cause { HasCause (K.faults sink.old) (K.faults sink.new) result }
+        ensures nul { self.new.nul ≡ self.old.nul }
     {
         write_all(sink, self.text.as_bytes())?;
         self.text.clear();
@@ -94,16 +127,51 @@ impl Lines {
     }
 }
 
-/// The line of an item: the path of an entry, or the text of an error.
+/// The line of an entry: its path.
 #[tactic(auto, unfolding(crate::specs::Lines::line_of))]
-fn line_of(alloc: Global, item: walkdir::Result<DirEntry>) -> Result<String, AllocError>
-    ensures line { IfOk result (λ line. string_bytes line ≡ line_of item) }
+fn line_of(alloc: Global, entry: DirEntry, nul: bool) -> Result<String, AllocError>
+    ensures line { IfOk result (λ line. string_bytes line ≡ line_of nul (Ok entry)) }
 {
-    match item {
-        Ok(entry) => {
-            let path = entry.path();
-            format!(in alloc; "{path}\n")
-        }
-        Err(error) => format!(in alloc; "{error}\n"),
+    let path = entry.path();
+    if nul {
+        format!(in alloc; "{path}\0")
+    } else {
+        format!(in alloc; "{path}\n")
+    }
+}
+
+/// Writes the line of an error.
+fn tell<E: Sink>(alloc: Global, errors: &mut E, error: walkdir::Error) -> Result<(), LineError>
+    ensures told { OnOk result (Adds (E.held errors.old) (E.held errors.new) (error_of (Err error))) }
+    ensures cut { OnErr result ((count : ℕ) × Adds (E.held errors.old) (E.held errors.new) (take count (error_of (Err error)))) }
+    ensures later { E.faults errors.old ≤ E.faults errors.new }
+    ensures cause { IsErrOf result LineError.Failed → Rose (E.faults errors.old) (E.faults errors.new) }
+{
+    let line = error_line(alloc, error)?;
+    write_all(errors, line.as_bytes())?;
+    Ok(())
+}
+
+/// The line of an error, behind the program's name, with the system's words for it.
+#[tactic(auto, unfolding(crate::specs::Lines::error_of))]
+fn error_line(alloc: Global, error: walkdir::Error) -> Result<String, AllocError>
+    ensures line { IfOk result (λ line. string_bytes line ≡ error_of (Err error)) }
+{
+    let words = system_words(error.io_error());
+    format!(in alloc; "list_walk: {error}{words}\n")
+}
+
+/// The system's words for a disk's error. A disk that failed doesn't keep them.
+fn system_words(error: Option<DiskError>) -> &'static str
+    ensures words { result.now ≡ system_words error }
+{
+    match error {
+        Some(DiskError::Absent) => " (No such file or directory)",
+        Some(DiskError::WrongKind) => " (Not a directory)",
+        Some(DiskError::LinkLoop) => " (Too many levels of symbolic links)",
+        Some(DiskError::Exists) => " (File exists)",
+        Some(DiskError::NotEmpty) => " (Directory not empty)",
+        Some(DiskError::NoMemory) => " (Cannot allocate memory)",
+        Some(DiskError::Failed) | None => "",
     }
 }

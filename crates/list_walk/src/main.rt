@@ -1,9 +1,10 @@
-//! Lists a folder tree: `list_walk DIR [OPTION..]` prints a line for each item of the walk from an absolute path.
+//! Lists folder trees: `list_walk FOLDER.. [OPTION..]` prints a line for each entry of each folder, its path, and tells
+//! each error on standard error.
 //!
-//! A line is the path of an entry, or the text of an error. `words` says which options there are, `run` what each status
-//! means.
+//! `words` says which options there are, `folder` which folder a name means, `run` what each status promises.
 #![tactic(auto)]
 
+mod folder;
 mod line;
 mod run;
 mod status;
@@ -13,19 +14,24 @@ use crate::status::Status;
 use odb_base::NoMemory;
 use odb_disk::StdSink;
 use odb_host::HostDisk;
-use odb_program::{command_words, exit_code};
+use odb_program::{command_words, exit_code, report, working_folder};
 use std::io;
 use std::process::ExitCode;
 
 fn main(rt: HostRuntime) -> ExitCode {
-    exit_code(ended(&rt).unwrap_or(Status::NoMemory))
+    let status = ended(&rt).unwrap_or(Status::NoMemory);
+    // Where standard error fails too, the status alone tells what happened.
+    let _ = report(&mut StdSink::new(rt.stderr()), "list_walk", status.note());
+    exit_code(status)
 }
 
-/// The status of a session over the real disk and the standard output.
+/// The status of a session over the real disk and the standard streams.
 fn ended(rt: &HostRuntime) -> Result<Status, NoMemory> {
     let alloc = rt.alloc();
     let words = command_words(rt, alloc)?;
+    let home = working_folder(rt, alloc)?;
     let mut sink = StdSink::new(io::writer(rt));
+    let mut errors = StdSink::new(rt.stderr());
     let mut disk = HostDisk::new(alloc, rt.clone()?);
-    Ok(run::run(alloc, &words, &mut sink, &mut disk))
+    Ok(run::run(alloc, &home, &words, &mut sink, &mut errors, &mut disk))
 }

@@ -1,8 +1,10 @@
 //! The walk and its output.
-ghost use Rattle.std.specs.Prelude.{◌≡◌, ℕ, List, Some, map, string_bytes, take, true, IfOk, OnErr, IsErrOf};
-ghost use Rattle.list_walk.specs.Asked.{asked_of, chosen_by, options_of, max_depth_by, max_open_by, min_depth_by};
+ghost use Rattle.std.specs.Prelude.{◌≡◌, ◌≤◌, ◌⊎◌, ℕ, List, Some, map, string_bytes, take, true, IfOk, OnErr, IsErrOf};
+ghost use Rattle.list_walk.specs.Asked.{chosen_by, options_of, max_depth_by, max_open_by, min_depth_by};
 ghost use Rattle.list_walk.specs.Lines.{EndsWritten, Leaves, is_want};
-ghost use Rattle.list_walk.specs.Session.{Ends, EndsListed, StreamsBack, status_by};
+ghost use Rattle.list_walk.specs.Session.{Ends, StreamsBack, status_by};
+ghost use Rattle.list_walk.specs.Visits.{EndsAll, EndsVisit, settled, worse};
+ghost use Rattle.list_walk.specs.Words.{command_of};
 ghost use Rattle.odb_base.specs.Faults.{Rose};
 ghost use Rattle.odb_disk.specs.Source.{Adds};
 ghost use Rattle.odb_program.specs.Session.{output_of};
@@ -11,34 +13,77 @@ ghost use Rattle.walkdir.specs.Progress.{begun, has_its_streams};
 
 use crate::line::{LineError, Lines};
 use crate::status::Status;
-use crate::words::{Asked, Choices, asked_by};
-use odb_disk::{Disk, NoMemory, Sink};
-use odb_program::answer;
+use crate::words::{Asked, Choices, Command, command_of};
+use odb_disk::{Disk, NoMemory, PathText, Sink};
+use odb_program::{NOT_UNDERSTOOD, answer};
 use std::alloc::Global;
 use walkdir::{DirEntry, OnDisk, Sorter, Steps, WalkDir};
 
-/// What is written where the words ask nothing.
-const NOT_UNDERSTOOD: &str = "words not understood\n";
+/// What `--help` writes.
+pub const HELP: &str = "\
+usage: list_walk FOLDER.. [OPTION..]
+       list_walk --help | --version
 
-/// Walks as the words ask, and writes a line for each item.
+Writes a line for each entry of each folder, its path, on standard output, and
+a line for each error on standard error. A relative FOLDER lies below the folder
+that the program was started in; paths are written from the root on. Behind `--`
+each word is a FOLDER.
+
+  --follow             links are followed
+  --sort               the entries of each directory come in the order of the
+                       bytes of their names
+  --contents-first     a directory comes after its contents
+  --same-file-system   directories on other devices aren't entered
+  --max-open N         at most N directories are open at one time
+  --min-depth N        entries from this depth on; a FOLDER has depth 0
+  --max-depth N        entries up to this depth
+  -0                   entries end by NUL, and not by a line feed
+
+N may stand behind `=` too, as in --max-depth=1. Of an option that is repeated
+the last one counts.
+
+status  0 done          1 words not understood   2 there were errors
+        4 write fault   5 out of memory
+";
+
+/// What `--version` writes.
+pub const VERSION: &str = "list_walk 0.1.0\n";
+
+/// Does what the words of the command line say: walks each folder, and writes a line for each item, of an entry to `sink`
+/// and of an error to `errors`. A relative folder lies below `home`, where that is known.
 ///
 /// The disk's tree stays as it was, and so do its streams.
-pub fn run<K: Sink, D: Disk>(alloc: Global, words: &[String], sink: &mut K, disk: &mut D) -> Status
+pub fn run<K: Sink, E: Sink, D: Disk>(
+    alloc: Global,
+    home: &Option<PathText>,
+    words: &[String],
+    sink: &mut K,
+    errors: &mut E,
+    disk: &mut D,
+) -> Status
     ensures ends { Ends (record {
-      asked = asked_of (map (λ word. string_bytes word) words.now);
+      command = command_of home.now (map (λ word. string_bytes word) words.now);
       state = D.state disk.old;
       streams = D.streams disk.old;
+      streams' = D.streams disk.new;
       disk_faults = D.faults disk.old;
       disk_faults' = D.faults disk.new;
       output = output_of K.held K.faults sink.old sink.new;
+      errors = output_of E.held E.faults errors.old errors.new;
+      help = HELP.now;
+      version = VERSION.now;
       refusal = NOT_UNDERSTOOD.now;
     }) result }
     ensures state { D.state disk.new ≡ D.state disk.old }
-    ensures back { StreamsBack (asked_of (map (λ word. string_bytes word) words.now)) (D.streams disk.old) (D.streams disk.new) }
+    ensures back { StreamsBack (command_of home.now (map (λ word. string_bytes word) words.now)) (D.streams disk.old) (D.streams disk.new) }
 {
-    match asked_by(alloc, words) {
-        Ok(Some(asked)) => status_by(listed(alloc, asked, sink, disk)),
-        Ok(None) => answer(sink, NOT_UNDERSTOOD.as_bytes(), Status::NotUnderstood),
+    match command_of(alloc, home, words) {
+        Ok(Command::Walk(asked)) => status_by(listed(alloc, &asked, sink, errors, disk)),
+        Ok(Command::Help) => answer(sink, HELP.as_bytes(), Status::Done),
+        Ok(Command::Version) => answer(sink, VERSION.as_bytes(), Status::Done),
+        Ok(Command::NotUnderstood) => {
+            answer(sink, NOT_UNDERSTOOD.as_bytes(), Status::NotUnderstood)
+        }
         Err(NoMemory) => Status::NoMemory,
     }
 }
@@ -54,55 +99,155 @@ fn status_by(listed: Result<Status, LineError>) -> Status
     }
 }
 
-/// Makes the walk that is asked for.
-fn listed<K: Sink, D: Disk>(
+/// Walks the folders that are asked for, one after the other.
+fn listed<K: Sink, E: Sink, D: Disk>(
     alloc: Global,
-    asked: Asked,
+    asked: &Asked,
     sink: &mut K,
+    errors: &mut E,
     disk: &mut D,
 ) -> Result<Status, LineError>
-    ensures ends { (refusal : List ℕ) → EndsListed (record {
-      asked = Some asked;
+    ensures ends { EndsAll (record {
+      choices = asked.now.choices;
       state = D.state disk.old;
-      streams = D.streams disk.old;
-      disk_faults = D.faults disk.old;
-      disk_faults' = D.faults disk.new;
-      output = output_of K.held K.faults sink.old sink.new;
-      refusal = refusal;
+      folders = asked.now.folders;
+      first = record { streams = D.streams disk.old; disk_faults = D.faults disk.old; held = K.held sink.old; told = E.held errors.old };
+      last = record { streams = D.streams disk.new; disk_faults = D.faults disk.new; held = K.held sink.new; told = E.held errors.new };
     }) result }
+    ensures cause { IsErrOf result LineError.Failed → Rose (K.faults sink.old) (K.faults sink.new) ⊎ Rose (E.faults errors.old) (E.faults errors.new) }
     ensures state { D.state disk.new ≡ D.state disk.old }
-    ensures back { AreBack (D.streams disk.old) (options_of asked).max_open (D.streams disk.new) }
+    ensures back { AreBack (D.streams disk.old) (options_of asked.now.choices).max_open (D.streams disk.new) }
 {
     let choices = asked.choices;
-    let walk = chosen(WalkDir::at(asked.root), choices);
+    let mut status = Status::Done;
+    let mut rest = asked.folders.as_slice();
+    'folders: while let [folder, more @ ..] = rest {
+        match visited(alloc, folder, choices, sink, errors, disk) {
+            Ok(own) => status = worse(status, own),
+            Err(error) => return Err(error),
+        }
+        rest = more;
+    }
+    Ok(status)
+}
+
+/// Some errors are worse than none.
+fn worse(status: Status, own: Status) -> Status
+    ensures worse { result ≡ worse status own }
+{
+    match status {
+        Status::Done => own,
+        status => status,
+    }
+}
+
+/// Walks one folder.
+fn visited<K: Sink, E: Sink, D: Disk>(
+    alloc: Global,
+    folder: &PathText,
+    choices: Choices,
+    sink: &mut K,
+    errors: &mut E,
+    disk: &mut D,
+) -> Result<Status, LineError>
+    ensures ends { EndsVisit (record {
+      choices = choices;
+      state = D.state disk.old;
+      folder = folder.now;
+      before = record { streams = D.streams disk.old; disk_faults = D.faults disk.old; held = K.held sink.old; told = E.held errors.old };
+      after = record { streams = D.streams disk.new; disk_faults = D.faults disk.new; held = K.held sink.new; told = E.held errors.new };
+    }) result }
+    ensures cause { IsErrOf result LineError.Failed → Rose (K.faults sink.old) (K.faults sink.new) ⊎ Rose (E.faults errors.old) (E.faults errors.new) }
+    ensures later { K.faults sink.old ≤ K.faults sink.new }
+    ensures later_errors { E.faults errors.old ≤ E.faults errors.new }
+    ensures state { D.state disk.new ≡ D.state disk.old }
+    ensures back { AreBack (D.streams disk.old) (options_of choices).max_open (D.streams disk.new) }
+{
+    match folder.try_clone(alloc) {
+        Ok(root) => settled(walk_of(alloc, root, choices, sink, errors, disk)),
+        Err(NoMemory) => Err(LineError::NoMemory),
+    }
+}
+
+/// What a walk comes to that ended with a status: one that ran out of memory was cut off.
+fn settled(ended: Result<Status, LineError>) -> Result<Status, LineError>
+    ensures settled { result ≡ settled ended }
+{
+    match ended {
+        Ok(Status::Done) => Ok(Status::Done),
+        Ok(Status::SomeErrors) => Ok(Status::SomeErrors),
+        Ok(Status::NotUnderstood) => Err(LineError::NoMemory),
+        Ok(Status::WriteFault) => Err(LineError::NoMemory),
+        Ok(Status::NoMemory) => Err(LineError::NoMemory),
+        Err(error) => Err(error),
+    }
+}
+
+/// Makes a walk as it is chosen.
+fn walk_of<K: Sink, E: Sink, D: Disk>(
+    alloc: Global,
+    root: PathText,
+    choices: Choices,
+    sink: &mut K,
+    errors: &mut E,
+    disk: &mut D,
+) -> Result<Status, LineError>
+    ensures ends { EndsVisit (record {
+      choices = choices;
+      state = D.state disk.old;
+      folder = root;
+      before = record { streams = D.streams disk.old; disk_faults = D.faults disk.old; held = K.held sink.old; told = E.held errors.old };
+      after = record { streams = D.streams disk.new; disk_faults = D.faults disk.new; held = K.held sink.new; told = E.held errors.new };
+    }) (settled result) }
+    ensures cause { IsErrOf result LineError.Failed → Rose (K.faults sink.old) (K.faults sink.new) ⊎ Rose (E.faults errors.old) (E.faults errors.new) }
+    ensures later { K.faults sink.old ≤ K.faults sink.new }
+    ensures later_errors { E.faults errors.old ≤ E.faults errors.new }
+    ensures state { D.state disk.new ≡ D.state disk.old }
+    ensures back { AreBack (D.streams disk.old) (options_of choices).max_open (D.streams disk.new) }
+{
+    let walk = chosen(WalkDir::at(root), choices);
     if choices.sort {
-        walked(alloc, walk.sort_by_file_name(), sink, disk)
+        walked(
+            alloc,
+            walk.sort_by_file_name(),
+            choices.nul,
+            sink,
+            errors,
+            disk,
+        )
     } else {
-        walked(alloc, walk, sink, disk)
+        walked(alloc, walk, choices.nul, sink, errors, disk)
     }
 }
 
 /// Writes a line for each item of a walk.
-fn walked<S: Sorter + Drop, K: Sink, D: Disk>(
+fn walked<S: Sorter + Drop, K: Sink, E: Sink, D: Disk>(
     alloc: Global,
     walk: WalkDir<S>,
+    nul: bool,
     sink: &mut K,
+    errors: &mut E,
     disk: &mut D,
 ) -> Result<Status, LineError>
     ensures ends { EndsWritten (record {
       state = D.state disk.old;
       first = begun S.order walk (D.streams disk.old);
+      nul = nul;
       held = K.held sink.old;
       held' = K.held sink.new;
+      told = E.held errors.old;
+      told' = E.held errors.new;
       disk_faults = D.faults disk.old;
       disk_faults' = D.faults disk.new;
     }) result }
-    ensures cause { IsErrOf result LineError.Failed → Rose (K.faults sink.old) (K.faults sink.new) }
+    ensures cause { IsErrOf result LineError.Failed → Rose (K.faults sink.old) (K.faults sink.new) ⊎ Rose (E.faults errors.old) (E.faults errors.new) }
+    ensures later { K.faults sink.old ≤ K.faults sink.new }
+    ensures later_errors { E.faults errors.old ≤ E.faults errors.new }
     ensures state { D.state disk.new ≡ D.state disk.old }
     ensures back { AreBack (D.streams disk.old) walk.options.max_open (D.streams disk.new) }
 {
     match walk.into_iter_on(alloc, disk) {
-        Ok(mut walk) => written(alloc, &mut walk, sink),
+        Ok(mut walk) => written(alloc, &mut walk, nul, sink, errors),
         Err(NoMemory) => Err(LineError::NoMemory),
     }
 }
@@ -148,26 +293,33 @@ fn with_max_depth<S: Drop>(walk: WalkDir<S>, depth: Option<usize>) -> WalkDir<S>
 }
 
 /// Writes a line for each item that a walk still gives. A walk that ran out of memory is over.
-fn written<K: Sink, D: Disk, W: Steps>(
+fn written<K: Sink, E: Sink, D: Disk, W: Steps>(
     alloc: Global,
     walk: &mut OnDisk<'_, D, W>,
+    nul: bool,
     sink: &mut K,
+    errors: &mut E,
 ) -> Result<Status, LineError>
     requires own { has_its_streams (W.progress walk.old.walk (D.streams walk.old.disk.now)) ≡ true }
     ensures ends { EndsWritten (record {
       state = D.state walk.old.disk.now;
       first = W.progress walk.old.walk (D.streams walk.old.disk.now);
+      nul = nul;
       held = K.held sink.old;
       held' = K.held sink.new;
+      told = E.held errors.old;
+      told' = E.held errors.new;
       disk_faults = D.faults walk.old.disk.now;
       disk_faults' = D.faults walk.new.disk.now;
     }) result }
-    ensures cause { IsErrOf result LineError.Failed → Rose (K.faults sink.old) (K.faults sink.new) }
+    ensures cause { IsErrOf result LineError.Failed → Rose (K.faults sink.old) (K.faults sink.new) ⊎ Rose (E.faults errors.old) (E.faults errors.new) }
+    ensures later { K.faults sink.old ≤ K.faults sink.new }
+    ensures later_errors { E.faults errors.old ≤ E.faults errors.new }
     ensures state { D.state walk.new.disk.now ≡ D.state walk.old.disk.now }
     ensures leaves { Leaves (W.progress walk.old.walk (D.streams walk.old.disk.now)) (W.progress walk.new.walk (D.streams walk.new.disk.now)) }
     ensures disk { walk.new.disk.ghost_name ≡ walk.old.disk.ghost_name }
 {
-    let mut lines = Lines::new(alloc);
+    let mut lines = Lines::new(alloc, nul);
     let mut status = Status::Done;
     'items: while let Some(item) = walk.next() {
         if is_want(&item) {
@@ -177,7 +329,7 @@ fn written<K: Sink, D: Disk, W: Steps>(
         if item.is_err() {
             status = Status::SomeErrors;
         }
-        lines.add(alloc, sink, item)?;
+        lines.put(alloc, sink, errors, item)?;
     }
     ended(lines, sink, status)
 }
@@ -187,6 +339,7 @@ fn ended<K: Sink>(lines: Lines, sink: &mut K, status: Status) -> Result<Status, 
     ensures ok { IfOk result (λ answer. (answer ≡ status) × Adds (K.held sink.old) (K.held sink.new) (string_bytes lines.text)) }
     ensures err { OnErr result ((count : ℕ) × Adds (K.held sink.old) (K.held sink.new) (take count (string_bytes lines.text))) }
     ensures cause { IsErrOf result LineError.Failed → Rose (K.faults sink.old) (K.faults sink.new) }
+    ensures later { K.faults sink.old ≤ K.faults sink.new }
 {
     let mut lines = lines;
     lines.flush(sink)?;

@@ -1,4 +1,7 @@
-//! How the program may end.
+//! How the program may end, and what it tells on standard error then.
+ghost use Rattle.std.specs.Prelude.{◌≡◌};
+ghost use Rattle.list_walk.specs.Status.{note_of};
+
 use odb_program::SessionStatus;
 
 /// How the program ends.
@@ -14,6 +17,21 @@ pub enum Status {
     WriteFault = 4,
     /// Want of memory.
     NoMemory = 5,
+}
+
+impl Status {
+    /// What is told on standard error, without the program's name; nothing where the walks were made, whose errors have
+    /// lines of their own.
+    pub fn note(self) -> &'static [u8]
+        ensures note { result.now ≡ note_of self }
+    {
+        match self {
+            Status::Done | Status::SomeErrors => b"",
+            Status::NotUnderstood => b"no such words: list_walk --help tells which there are",
+            Status::WriteFault => b"an output can't be written",
+            Status::NoMemory => b"out of memory",
+        }
+    }
 }
 
 impl SessionStatus for Status {

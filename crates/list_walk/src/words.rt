@@ -1,20 +1,32 @@
 //! The words of the command line.
-ghost use Rattle.std.specs.Prelude.{◌≡◌, IfOk, map, string_bytes};
-ghost use Rattle.list_walk.specs.Asked.{asked_of, choices_of, no_choices, with_count, with_option};
+ghost use Rattle.std.specs.Prelude.{◌≡◌, ◌==◌, IfOk, map, string_bytes};
+ghost use Rattle.std.specs.List.{before_first, after_first};
+ghost use Rattle.list_walk.specs.Words.{about, asked_by_next, asked_of, asked_with, command_of, command_with, count_of, counted, flagged, is_option, no_choices, no_words, with_any, with_count, with_folder, with_number, with_option, with_value, with_word, words_of};
+ghost use Rattle.list_walk.specs.Folder.{folder_of};
 ghost use Rattle.odb_base.specs.Decimal.{number_of};
 
-use odb_base::{NoMemory, parse_decimal};
-use odb_disk::{BadPath, PathText};
+use crate::folder::folder_of;
+use odb_base::{NoMemory, Sequence, parse_decimal};
+use odb_disk::PathText;
 use std::alloc::Global;
 
-/// What is asked for: a root, and how it is walked.
+/// What the words of the command line ask for.
+#[derive(Drop)]
+pub enum Command {
+    Walk(Asked),
+    Help,
+    Version,
+    NotUnderstood,
+}
+
+/// What is listed: folders, one at least, in their order, and how each of them is walked.
 #[derive(Drop)]
 pub struct Asked {
-    pub root: PathText,
+    pub folders: Sequence<PathText>,
     pub choices: Choices,
 }
 
-/// How a root is walked.
+/// How a folder is walked.
 #[derive(Clone, Copy)]
 pub struct Choices {
     /// `--follow`: links are followed.
@@ -25,12 +37,152 @@ pub struct Choices {
     pub contents_first: bool,
     /// `--same-file-system`: directories on other devices aren't entered.
     pub same_file_system: bool,
+    /// `-0`: an entry ends by NUL, and not by a line feed.
+    pub nul: bool,
     /// `--max-open N`
     pub max_open: Option<usize>,
     /// `--min-depth N`
     pub min_depth: Option<usize>,
     /// `--max-depth N`
     pub max_depth: Option<usize>,
+}
+
+/// The words as far as they are read.
+#[derive(Drop)]
+pub struct Words {
+    pub folders: Sequence<PathText>,
+    pub choices: Choices,
+    pub next: Next,
+}
+
+/// What the next word may be.
+#[derive(Clone, Copy)]
+pub enum Next {
+    /// An option or a folder.
+    Any,
+    /// The number of an option.
+    Number(Count),
+    /// A folder, since `--` stands before it.
+    Folder,
+}
+
+/// An option that has a number.
+#[derive(Clone, Copy)]
+pub enum Count {
+    MaxOpen,
+    MinDepth,
+    MaxDepth,
+}
+
+/// What the words ask for. A relative folder lies below the one that the program was started in, where that is known.
+pub fn command_of(
+    alloc: Global,
+    home: &Option<PathText>,
+    words: &[String],
+) -> Result<Command, NoMemory>
+    ensures command { IfOk result (λ command. command ≡ command_of home.now (map (λ word. string_bytes word) words.now)) }
+{
+    match about(words) {
+        Some(command) => Ok(command),
+        None => Ok(command_with(asked_of(alloc, home, words)?)),
+    }
+}
+
+/// The command of a single word that asks about the program.
+fn about(words: &[String]) -> Option<Command>
+    ensures about { result ≡ about (map (λ word. string_bytes word) words.now) }
+{
+    let [word] = words else {
+        return None;
+    };
+    let word = word.as_str();
+    if word == "--help" {
+        Some(Command::Help)
+    } else if word == "--version" {
+        Some(Command::Version)
+    } else {
+        None
+    }
+}
+
+fn command_with(asked: Option<Asked>) -> Command
+    ensures command { result ≡ command_with asked }
+{
+    match asked {
+        Some(asked) => Command::Walk(asked),
+        None => Command::NotUnderstood,
+    }
+}
+
+/// What is to be listed, where each word is understood and one of them is a folder.
+fn asked_of(
+    alloc: Global,
+    home: &Option<PathText>,
+    words: &[String],
+) -> Result<Option<Asked>, NoMemory>
+    ensures asked { IfOk result (λ asked. asked ≡ asked_of home.now (map (λ word. string_bytes word) words.now)) }
+{
+    match words_of(alloc, home, words)? {
+        Some(words) => Ok(asked_with(words)),
+        None => Ok(None),
+    }
+}
+
+/// What words that are read to their end ask for: a folder has to be among them.
+fn asked_with(words: Words) -> Option<Asked>
+    ensures asked { result ≡ asked_with words.next words.folders words.choices }
+{
+    let Words {
+        folders,
+        choices,
+        next,
+    } = words;
+    match folders.as_slice() {
+        [] => None,
+        [_, ..] => asked_by_next(next, folders, choices),
+    }
+}
+
+/// What is to be listed, unless the number of an option is missing.
+fn asked_by_next(next: Next, folders: Sequence<PathText>, choices: Choices) -> Option<Asked>
+    ensures asked { result ≡ asked_by_next next folders choices }
+{
+    match next {
+        Next::Any => Some(Asked { folders, choices }),
+        Next::Folder => Some(Asked { folders, choices }),
+        Next::Number(_) => None,
+    }
+}
+
+/// All words one after the other, where each is understood.
+#[tactic(auto, unfolding(crate::specs::Words::words_of))]
+fn words_of(
+    alloc: Global,
+    home: &Option<PathText>,
+    words: &[String],
+) -> Result<Option<Words>, NoMemory>
+    ensures read { IfOk result (λ read. read ≡ words_of home.now no_words (map (λ word. string_bytes word) words.now)) }
+{
+    let mut read = no_words(alloc);
+    let mut rest = words;
+    while let [word, more @ ..] = rest {
+        match with_word(alloc, home, read, word.as_str())? {
+            Some(next) => read = next,
+            None => return Ok(None),
+        }
+        rest = more;
+    }
+    Ok(Some(read))
+}
+
+fn no_words(alloc: Global) -> Words
+    ensures words { result ≡ no_words }
+{
+    Words {
+        folders: Sequence::new(alloc),
+        choices: Choices::none(),
+        next: Next::Any,
+    }
 }
 
 impl Choices {
@@ -43,84 +195,185 @@ impl Choices {
             sort: false,
             contents_first: false,
             same_file_system: false,
+            nul: false,
             max_open: None,
             min_depth: None,
             max_depth: None,
         }
     }
+}
 
-    /// The choices with those that words name, where each word is understood. Of an option that is repeated the last
-    /// one counts.
-    #[tactic(auto, using(crate::proofs::AskedLemmas::choices_of_option, crate::proofs::AskedLemmas::choices_of_count), unfolding(crate::specs::Asked::choices_of))]
-    fn with_words(self, words: &[String]) -> Option<Choices>
-        ensures choices { result ≡ choices_of self (map (λ word. string_bytes word) words.now) }
-    {
-        let mut choices = self;
-        let mut rest = words;
-        while let [word, more @ ..] = rest {
-            match choices.with_option(word.as_str()) {
-                Some(chosen) => {
-                    choices = chosen;
-                    rest = more;
-                }
-                None => {
-                    let [number, others @ ..] = more else {
-                        return None;
-                    };
-                    choices = choices.with_number(word.as_str(), number.as_str())?;
-                    rest = others;
-                }
-            }
-        }
-        Some(choices)
-    }
-
-    /// The choices with one that stands alone.
-    #[tactic(auto, unfolding(crate::specs::Asked::with_option))]
-    fn with_option(mut self, option: &str) -> Option<Choices>
-        ensures choices { result ≡ with_option self option.now }
-    {
-        match option {
-            "--follow" => self.follow = true,
-            "--sort" => self.sort = true,
-            "--contents-first" => self.contents_first = true,
-            "--same-file-system" => self.same_file_system = true,
-            _ => return None,
-        }
-        Some(self)
-    }
-
-    /// The choices with one that has a number behind it.
-    #[tactic(auto, unfolding(crate::specs::Asked::with_count))]
-    fn with_number(mut self, option: &str, number: &str) -> Option<Choices>
-        ensures choices { result ≡ with_count self option.now (number_of number.now) }
-    {
-        let number = Some(parse_decimal(number)? as usize);
-        match option {
-            "--max-open" => self.max_open = number,
-            "--min-depth" => self.min_depth = number,
-            "--max-depth" => self.max_depth = number,
-            _ => return None,
-        }
-        Some(self)
+/// The words with one more, if it is understood.
+fn with_word(
+    alloc: Global,
+    home: &Option<PathText>,
+    words: Words,
+    word: &str,
+) -> Result<Option<Words>, NoMemory>
+    ensures words { IfOk result (λ more. more ≡ with_word home.now words.next words word.now) }
+{
+    match words.next {
+        Next::Any => with_any(alloc, home, words, word),
+        Next::Number(count) => Ok(with_number(words, count, word)),
+        Next::Folder => with_folder(alloc, home, words, word),
     }
 }
 
-/// What the words ask for, if they are understood: an absolute path, and options behind it.
-#[tactic(auto, unfolding(crate::specs::Asked::asked_of))]
-pub fn asked_by(alloc: Global, words: &[String]) -> Result<Option<Asked>, NoMemory>
-    ensures asked { IfOk result (λ asked. asked ≡ asked_of (map (λ word. string_bytes word) words.now)) }
+/// The words with an option or a folder.
+fn with_any(
+    alloc: Global,
+    home: &Option<PathText>,
+    words: Words,
+    word: &str,
+) -> Result<Option<Words>, NoMemory>
+    ensures words { IfOk result (λ more. more ≡ with_any home.now words word.now) }
 {
-    let [root, options @ ..] = words else {
-        return Ok(None);
-    };
-    let root = match PathText::parse(alloc, root.as_str()) {
-        Ok(root) => root,
-        Err(BadPath::Malformed) => return Ok(None),
-        Err(BadPath::NoMemory) => return Err(NoMemory),
-    };
-    match Choices::none().with_words(options) {
-        Some(choices) => Ok(Some(Asked { root, choices })),
+    if is_option(word) {
+        Ok(with_option(words, word))
+    } else {
+        with_folder(alloc, home, words, word)
+    }
+}
+
+/// Whether a word begins with `-`.
+#[tactic(auto, using(std::proofs::lemmas::Str::Pattern::starts_text))]
+fn is_option(word: &str) -> bool
+    ensures option { result ≡ is_option word.now }
+{
+    word.starts_with("-")
+}
+
+fn with_folder(
+    alloc: Global,
+    home: &Option<PathText>,
+    words: Words,
+    word: &str,
+) -> Result<Option<Words>, NoMemory>
+    ensures words { IfOk result (λ more. more ≡ with_folder words (folder_of home.now word.now)) }
+{
+    match folder_of(alloc, home, word)? {
+        Some(folder) => one_more(words, folder),
         None => Ok(None),
     }
+}
+
+fn one_more(mut words: Words, folder: PathText) -> Result<Option<Words>, NoMemory>
+    ensures words { IfOk result (λ more. more ≡ with_folder words (Some folder)) }
+{
+    words.folders.push(folder)?;
+    Ok(Some(words))
+}
+
+/// The words with an option: one that stands alone, one whose number is the next word, one whose number stands behind
+/// `=`, or `--`.
+fn with_option(words: Words, option: &str) -> Option<Words>
+    ensures words { result ≡ with_option words option.now }
+{
+    if option == "--" {
+        return Some(expecting(words, Next::Folder));
+    }
+    match flagged(words.choices, option) {
+        Some(choices) => Some(choosing(words, choices)),
+        None => with_count(words, option),
+    }
+}
+
+fn expecting(mut words: Words, next: Next) -> Words
+    ensures words { result ≡ record words { next = next } }
+{
+    words.next = next;
+    words
+}
+
+fn choosing(mut words: Words, choices: Choices) -> Words
+    ensures words { result ≡ record words { choices = choices } }
+{
+    words.choices = choices;
+    words
+}
+
+/// The choices with one that stands alone.
+#[tactic(auto, unfolding(crate::specs::Words::flagged))]
+fn flagged(mut choices: Choices, option: &str) -> Option<Choices>
+    ensures choices { result ≡ flagged choices option.now }
+{
+    match option {
+        "--follow" => choices.follow = true,
+        "--sort" => choices.sort = true,
+        "--contents-first" => choices.contents_first = true,
+        "--same-file-system" => choices.same_file_system = true,
+        "-0" => choices.nul = true,
+        _ => return None,
+    }
+    Some(choices)
+}
+
+/// The words with an option that has a number.
+fn with_count(words: Words, option: &str) -> Option<Words>
+    ensures words { result ≡ with_count words option.now (count_of option.now) }
+{
+    match count_of(option) {
+        Some(count) => Some(expecting(words, Next::Number(count))),
+        None => with_value(words, option),
+    }
+}
+
+/// The words with an option whose number stands behind `=`.
+fn with_value(words: Words, option: &str) -> Option<Words>
+    ensures words { result ≡ with_value words (before_first (λ b. b == 61) option.now) (after_first (λ b. b == 61) option.now) }
+{
+    let (name, number) = at_equals(option);
+    match count_of(name) {
+        Some(count) => with_number(words, count, number),
+        None => None,
+    }
+}
+
+/// What stands before the first `=`, and what after it. All of a text without one stands before it.
+fn at_equals(text: &str) -> (&str, &str)
+    ensures before { result.0.now ≡ before_first (λ b. b == 61) text.now }
+    ensures after { result.1.now ≡ after_first (λ b. b == 61) text.now }
+{
+    match text.split_once('=') {
+        Some((before, after)) => (before, after),
+        None => (text, ""),
+    }
+}
+
+/// The option with a number that has a name.
+#[tactic(auto, unfolding(crate::specs::Words::count_of))]
+fn count_of(name: &str) -> Option<Count>
+    ensures count { result ≡ count_of name.now }
+{
+    match name {
+        "--max-open" => Some(Count::MaxOpen),
+        "--min-depth" => Some(Count::MinDepth),
+        "--max-depth" => Some(Count::MaxDepth),
+        _ => None,
+    }
+}
+
+/// The words with the number of an option.
+fn with_number(words: Words, count: Count, number: &str) -> Option<Words>
+    ensures words { result ≡ with_number words count (number_of number.now) }
+{
+    match parse_decimal(number) {
+        Some(number) => {
+            let choices = counted(words.choices, count, number as usize);
+            Some(expecting(choosing(words, choices), Next::Any))
+        }
+        None => None,
+    }
+}
+
+/// The choices with the number of an option. Of an option that is repeated the last one counts.
+fn counted(mut choices: Choices, count: Count, number: usize) -> Choices
+    ensures choices { result ≡ counted choices count number }
+{
+    match count {
+        Count::MaxOpen => choices.max_open = Some(number),
+        Count::MinDepth => choices.min_depth = Some(number),
+        Count::MaxDepth => choices.max_depth = Some(number),
+    }
+    choices
 }

@@ -1,1 +1,3 @@
+-- What a session does to its source and its sink.
 pub mod Session
+pub mod Report

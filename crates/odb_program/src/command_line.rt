@@ -1,19 +1,25 @@
-//! The words of the command line.
+//! The words of the command line, and what a program writes that doesn't understand them.
 use odb_base::NoMemory;
 use std::alloc::Global;
 use std::rt::Env;
 use std::{env, io};
 
-/// The words of the command line, without the program's name; none where one of them is no text.
+/// What a program writes whose words aren't understood.
+pub const NOT_UNDERSTOOD: &str = "words not understood\n";
+
+/// The words of the command line, without the program's name.
+///
+/// There are none where one of them is no text: no program understands such a word, and each refuses to be called
+/// without a word.
 pub fn command_words<R: Env + AllocGlobal>(rt: &R, alloc: Global) -> Result<Vec<String>, NoMemory> {
     match arguments(rt, alloc) {
         Ok(words) => Ok(words),
         Err(error) if error.kind() == io::ErrorKind::OutOfMemory => Err(NoMemory),
-        // No program understands words that are no text, and each refuses to be called without a word.
         Err(_) => Ok(Vec::new(alloc)),
     }
 }
 
+/// The words, or the system's error, which is one of a word that is no text unless memory ran out.
 fn arguments<R: Env + AllocGlobal>(rt: &R, alloc: Global) -> io::Result<Vec<String>> {
     let mut words = Vec::new(alloc);
     for word in env::args(rt)?.skip(1) {

@@ -1,18 +1,25 @@
-//! What the programs share: the words of a command line, statuses, and how an output is delivered.
+//! What the programs share: the words of a command line, statuses, how an output is put together and delivered, and what
+//! is told on standard error.
 //!
 //! A program is one call over any source and sink, which answers a status of its own. `specs/Session.antt` has the words
 //! by which its contract says what each status means; `main` binds the call to the real streams.
 //! ```rust
 //! let words = command_words(&rt, alloc)?;
-//! let status = answer(&mut sink, b"words not understood\n", Status::NotUnderstood);
+//! let status = answer(&mut sink, NOT_UNDERSTOOD.as_bytes(), Status::NotUnderstood);
 //! exit_code(status)
 //! ```
 #![tactic(auto)]
 
 mod command_line;
 mod delivery;
+mod folder;
+mod output;
+mod standard_error;
 mod status;
 
-pub use command_line::command_words;
+pub use command_line::{NOT_UNDERSTOOD, command_words};
 pub use delivery::answer;
+pub use folder::working_folder;
+pub use output::{labelled, number, text};
+pub use standard_error::report;
 pub use status::{SessionStatus, exit_code};

@@ -5,7 +5,7 @@ ghost use Rattle.std.specs.Process.{exit_status};
 use std::process::ExitCode;
 
 /// How a program may end. Each program has statuses of its own.
-pub trait SessionStatus: Copy {
+pub trait SessionStatus: Drop {
     /// The exit status of the process.
     ghost exits_with: { Self → ℕ };
 

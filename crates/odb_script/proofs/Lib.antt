@@ -5,6 +5,6 @@ pub mod ContentLemmas
 pub mod ScriptLemmas
 pub mod LimitLemmas
 pub mod SplitLemmas
-mod TextLemmas
+pub mod TextLemmas
 mod PackLemmas
 mod OpeningLemmas

@@ -1,11 +1,8 @@
 -- Laws of scripts.
-use Rattle.std.proofs.Common.{◌≡◌, ℕ, ◌+◌, ◌-◌, ◌==◌, ◌<◌, ◌≤◌, Bool, true, false, List, [], ◌∷◌, ◌++◌, length, take, drop, map, nat_le, nat_lt, Some, None, if◌then◌else◌, refl, sym, ap, ◌∙◌, inl, inr, arith}
-use Rattle.std.specs.List.{position, position_or_len, join_with_byte, AllByRecursion}
-use Rattle.std.proofs.lemmas.Bool.{cases_lt}
-use Rattle.std.proofs.lemmas.List.{take_all, length-drop, length-append, map-append, take-append-le}
-use Rattle.std.proofs.lemmas.List.Splits.{slice_split_none, slice_split_first, length-slice_split}
-use Rattle.std.proofs.lemmas.List.Sums.{fails_before_first, position_or_len_is}
-use Rattle.std.proofs.lemmas.List.Quantifiers.{position-Some}
+use Rattle.std.proofs.Common.{◌≡◌, ℕ, ◌+◌, ◌==◌, ◌<◌, ◌≤◌, Bool, true, false, List, [], ◌∷◌, ◌++◌, length, take, map, nat_le, if◌then◌else◌, refl, sym, ap, ◌∙◌, arith}
+use Rattle.std.specs.List.{join_with_byte, AllByRecursion}
+use Rattle.std.proofs.lemmas.List.{length-append, map-append, take-append-le}
+use Rattle.std.proofs.lemmas.List.Splits.{length-slice_split}
 use Rattle.odb_script.specs.declared.item.Item.{Item}
 use Rattle.odb_script.specs.declared.item.Item.TheVariants.{Blank, Refused}
 use Rattle.odb_script.specs.declared.reader.Script.{Script}
@@ -23,31 +20,6 @@ use Rattle.odb_script.specs.Script.{lines_in, items_in, items_of, script_limit, 
 -- there is a line, if only an empty one
 some_line : (bytes : List ℕ) → 0 < length (lines_in bytes)
 some_line bytes = omega (arith, length-slice_split (λ b. b == 10) bytes)
-
-tested : (n limit : ℕ) → n < limit → nat_lt n limit ≡ true
-tested n limit h = grind (arith, h)
-
-found_at : (n limit : ℕ) → n < limit → (if nat_lt n limit then Some n else None) ≡ Some n
-found_at n limit h = rw (tested n limit h) refl
-
--- the first line ends at the first line feed
-pub lines_in-first : (bytes : List ℕ) (end : ℕ) → position (λ b. b == 10) bytes ≡ Some end → lines_in bytes ≡ take end bytes ∷ lines_in (take (length bytes - (end + 1)) (drop (end + 1) bytes))
-lines_in-first bytes end h =
-    let at = position-Some (λ b. b == 10) bytes end 0 h in
-    let place : position_or_len (λ b. b == 10) bytes ≡ end = position_or_len_is (λ b. b == 10) bytes end 0 (omega arith) at.2 (λ _. at.1) in
-    let rest : length (drop (end + 1) bytes) ≡ length bytes - (end + 1) = length-drop (end + 1) bytes in
-    let lt : position_or_len (λ b. b == 10) bytes < length bytes = omega arith in
-    slice_split_first (λ b. b == 10) bytes 0 lt
-    ∙ ap (λ n. take n bytes ∷ lines_in (drop (n + 1) bytes)) place
-    ∙ ap (λ rest. take end bytes ∷ lines_in rest) (sym (take_all (length bytes - (end + 1)) (drop (end + 1) bytes) (omega arith)))
-
--- without a line feed there is one line
-pub lines_in-last : (bytes : List ℕ) → position (λ b. b == 10) bytes ≡ None → lines_in bytes ≡ bytes ∷ []
-lines_in-last bytes h =
-    elim (cases_lt (position_or_len (λ b. b == 10) bytes) (length bytes)) [
-      | inl found ↦ cc (h, found_at (position_or_len (λ b. b == 10) bytes) (length bytes) found)
-      | inr none ↦ slice_split_none (λ b. b == 10) bytes (λ k d lt. fails_before_first (λ b. b == 10) bytes k d (omega arith))
-    ]
 
 -- ---- reading line by line
 

@@ -1,9 +1,12 @@
 -- Laws of texts that are split at a byte.
-use Rattle.std.proofs.Common.{◌≡◌, ℕ, ◌+◌, ◌==◌, ◌<◌, ◌⊎◌, Bool, true, false, not, List, [], ◌∷◌, ◌++◌, length, take, drop, refl, ap, ◌∙◌, inl, inr, eq-eqb, arith}
-use Rattle.std.specs.List.{list_all, slice_split, onto_first, join_with_byte, before_first, after_first, position_or_len, AllByRecursion}
+use Rattle.std.proofs.Common.{◌≡◌, ℕ, ◌+◌, ◌-◌, ◌==◌, ◌<◌, ◌⊎◌, Bool, true, false, not, List, [], ◌∷◌, ◌++◌, length, take, drop, nat_lt, Some, None, if◌then◌else◌, refl, sym, ap, ◌∙◌, inl, inr, eq-eqb, arith}
+use Rattle.std.specs.List.{list_all, position, slice_split, onto_first, join_with_byte, before_first, after_first, position_or_len, AllByRecursion}
 use Rattle.std.proofs.Math.Seq.{take-append_seam, drop-append-add}
-use Rattle.std.proofs.lemmas.Bool.{and_parts, not-true}
-use Rattle.std.proofs.lemmas.List.Splits.{slice_split-cons_yes, slice_split-cons_no, length-slice_split}
+use Rattle.std.proofs.lemmas.Bool.{and_parts, cases_lt, not-true}
+use Rattle.std.proofs.lemmas.List.{take_all, length-drop}
+use Rattle.std.proofs.lemmas.List.Sums.{fails_before_first, position_or_len_is}
+use Rattle.std.proofs.lemmas.List.Quantifiers.{position-Some}
+use Rattle.std.proofs.lemmas.List.Splits.{slice_split-cons_yes, slice_split-cons_no, slice_split_none, slice_split_first, length-slice_split}
 
 -- the text lacks the byte
 abbrev pub lacks : ℕ → List ℕ → Bool
@@ -56,3 +59,30 @@ before_first-followed c text rest h = ap (λ n. take n (text ++ c ∷ rest)) (pl
 
 pub after_first-followed : (c : ℕ) (text rest : List ℕ) → lacks c text ≡ true → after_first (λ b. b == c) (text ++ c ∷ rest) ≡ rest
 after_first-followed c text rest h = ap (λ n. drop (n + 1) (text ++ c ∷ rest)) (place c text rest h) ∙ drop-append-add text (c ∷ rest) 1
+
+-- ---- the first part
+
+tested : (n limit : ℕ) → n < limit → nat_lt n limit ≡ true
+tested n limit h = grind (arith, h)
+
+found_at : (n limit : ℕ) → n < limit → (if nat_lt n limit then Some n else None) ≡ Some n
+found_at n limit h = rw (tested n limit h) refl
+
+-- the first part ends at the first such byte
+pub slice_split-first : (c : ℕ) (bytes : List ℕ) (end : ℕ) → position (λ b. b == c) bytes ≡ Some end → slice_split (λ b. b == c) bytes ≡ take end bytes ∷ slice_split (λ b. b == c) (take (length bytes - (end + 1)) (drop (end + 1) bytes))
+slice_split-first c bytes end h =
+    let at = position-Some (λ b. b == c) bytes end 0 h in
+    let first : position_or_len (λ b. b == c) bytes ≡ end = position_or_len_is (λ b. b == c) bytes end 0 (omega arith) at.2 (λ _. at.1) in
+    let rest : length (drop (end + 1) bytes) ≡ length bytes - (end + 1) = length-drop (end + 1) bytes in
+    let lt : position_or_len (λ b. b == c) bytes < length bytes = omega arith in
+    slice_split_first (λ b. b == c) bytes 0 lt
+    ∙ ap (λ n. take n bytes ∷ slice_split (λ b. b == c) (drop (n + 1) bytes)) first
+    ∙ ap (λ rest. take end bytes ∷ slice_split (λ b. b == c) rest) (sym (take_all (length bytes - (end + 1)) (drop (end + 1) bytes) (omega arith)))
+
+-- without such a byte there is one part
+pub slice_split-last : (c : ℕ) (bytes : List ℕ) → position (λ b. b == c) bytes ≡ None → slice_split (λ b. b == c) bytes ≡ bytes ∷ []
+slice_split-last c bytes h =
+    elim (cases_lt (position_or_len (λ b. b == c) bytes) (length bytes)) [
+      | inl found ↦ cc (h, found_at (position_or_len (λ b. b == c) bytes) (length bytes) found)
+      | inr none ↦ slice_split_none (λ b. b == c) bytes (λ k d lt. fails_before_first (λ b. b == c) bytes k d (omega arith))
+    ]

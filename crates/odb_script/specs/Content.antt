@@ -73,6 +73,7 @@ loose_file object = header_of object.kind (length object.bytes) ++ object.bytes
 abbrev pub object_limit : ℕ
 object_limit = 2 ^ 31
 
+-- whether a pack or an index is written of so many objects
 abbrev pub are_few : List Object → Bool
 are_few objects = nat_lt (length objects) object_limit
 

@@ -78,7 +78,8 @@ fn with_choice(mut chosen: Chosen, choice: Choice) -> Result<Chosen, NoMemory>
     Ok(chosen)
 }
 
-fn choice_of(alloc: Global, option: &str) -> Result<Option<Choice>, NoMemory>
+/// What an option chooses, if it chooses something.
+pub fn choice_of(alloc: Global, option: &str) -> Result<Option<Choice>, NoMemory>
     ensures choice { IfOk result (λ choice. choice ≡ choice_of option.now) }
 {
     match name_and_value(option) {

@@ -1,7 +1,8 @@
 //! Scripts: what their lines say, and the disk and the lines to play that they come to.
 //!
 //! `read` reads a script up to the first line that is refused or isn't built, and `item_of` one line. For any bytes both
-//! give what `specs/{Script,Line}.antt` define; the language in words is `docs/SCRIPT.md`.
+//! give what `specs/{Script,Line}.antt` define; the language in words is `docs/SCRIPT.md`. The readers of single fields are
+//! public for those who say why a line is refused.
 //! ```rust
 //! let (disk, lines, ending) = read(alloc, script)?.into_parts(alloc)?;
 //! let play = World::play(alloc, disk, lines.as_slice())?;
@@ -20,6 +21,10 @@ mod split;
 mod word;
 mod write;
 
+pub use choice::{Choice, choice_of};
+pub use content::content_of;
+pub use field::{data_of, handle_of, id_of, kind_of, path_of};
 pub use item::{Item, item_of};
 pub use reader::{Ending, Reading, SCRIPT_LIMIT, Script, Taken, read};
+pub use split::{fields_of, first_part};
 pub use word::{ChangeWord, Question, Word, change_word_of, word_of};

@@ -1,12 +1,13 @@
 //! Scripts, read line by line.
-ghost use Rattle.std.specs.Prelude.{◌≡◌, ◌+◌, ◌==◌, ◌≤◌, ◌<◌, position, ◌∷◌, [], length, IfOk, IfSome, IsNone, if◌then◌else◌};
+ghost use Rattle.std.specs.Prelude.{◌≡◌, ◌+◌, ◌≤◌, ◌<◌, ◌∷◌, [], length, IfOk, IfSome, IsNone, if◌then◌else◌};
 ghost use Rattle.odb_tree.specs.Tree.Change.{is_possible};
 ghost use Rattle.odb_disk.specs.MemDisk.{after_outside_change};
 ghost use Rattle.odb_script.specs.Line.{item_of};
 ghost use Rattle.odb_script.specs.Script.{taken, disk_of, lines_of, items_in, last_item, reading_at, reading_from, reading_of};
-ghost use Rattle.odb_script.specs.Split.{line_feed, lines_in};
+ghost use Rattle.odb_script.specs.Split.{lines_in};
 
 use crate::item::{Item, item_of};
+use crate::split::first_part;
 use gix_odb_world::Line;
 use odb_base::{NoMemory, Sequence};
 use odb_disk::{Change, Impossible, MemDisk};
@@ -287,14 +288,5 @@ fn next_line(bytes: &[u8]) -> Option<(&[u8], &[u8])>
     ensures shorter { IfSome result (λ parts. length parts.1.now < length bytes.now) }
     ensures none { IsNone result → lines_in bytes.now ≡ bytes.now ∷ [] }
 {
-    match first_line_feed(bytes) {
-        Some(end) => Some((&bytes[..end], &bytes[end + 1..])),
-        None => None,
-    }
-}
-
-fn first_line_feed(bytes: &[u8]) -> Option<usize>
-    ensures place { result ≡ position (λ b. b == line_feed) bytes.now }
-{
-    bytes.iter().position(|byte| *byte == b'\n')
+    first_part(bytes, b'\n')
 }

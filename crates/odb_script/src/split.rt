@@ -1,5 +1,5 @@
 //! How a line is split into fields, and a field into its parts.
-ghost use Rattle.std.specs.Prelude.{◌≡◌, ◌==◌, ◌<◌, IfOk};
+ghost use Rattle.std.specs.Prelude.{◌≡◌, ◌==◌, ◌<◌, ◌∷◌, [], length, position, IfOk, IfSome, IsNone};
 ghost use Rattle.std.specs.List.{slice_split};
 ghost use Rattle.odb_script.specs.Split.{after_colon, after_equals, before_colon, before_equals, fields_of, texts_of};
 
@@ -44,4 +44,22 @@ pub fn parts_of<'a>(
     ensures parts { IfOk result (λ parts. texts_of parts.items ≡ slice_split (λ b. b == separator) text.now) }
 {
     text.split(separator).collect(alloc)
+}
+
+/// The first part of some bytes, which a byte ends, and what follows it; none where the byte isn't there.
+pub fn first_part(bytes: &[u8], separator: u8) -> Option<(&[u8], &[u8])>
+    ensures found { IfSome result (λ parts. slice_split (λ b. b == separator) bytes.now ≡ parts.0.now ∷ slice_split (λ b. b == separator) parts.1.now) }
+    ensures shorter { IfSome result (λ parts. length parts.1.now < length bytes.now) }
+    ensures none { IsNone result → slice_split (λ b. b == separator) bytes.now ≡ bytes.now ∷ [] }
+{
+    match first_place(bytes, separator) {
+        Some(end) => Some((&bytes[..end], &bytes[end + 1..])),
+        None => None,
+    }
+}
+
+fn first_place(bytes: &[u8], byte: u8) -> Option<usize>
+    ensures place { result ≡ position (λ b. b == byte) bytes.now }
+{
+    bytes.iter().position(|other| *other == byte)
 }

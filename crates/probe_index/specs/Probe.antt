@@ -1,10 +1,10 @@
 -- Which file the bytes of the source are, why they are refused, and what is written for them.
-use Rattle.std.specs.Prelude.{◌≡◌, ℕ, List, [], ◌∷◌, length, codes, nat_eq, nat_lt, Option, Some, None, is_some, if◌then◌else◌}
+use Rattle.std.specs.Prelude.{◌≡◌, ℕ, List, length, codes, nat_eq, nat_lt, Option, Some, None, is_some, if◌then◌else◌}
 use Rattle.std.specs.List.{starts_with}
 use Rattle.gix_hash.specs.declared.kind.Kind.{Kind}
 use Rattle.gix_hash.specs.declared.object_id.ObjectId.{ObjectId}
-use Rattle.gix_pack.specs.Index.{index_rows, is_index}
-use Rattle.gix_pack.specs.MultiIndex.{multi_index_of, told}
+use Rattle.gix_pack.specs.Index.{index_rows, index_start, is_index}
+use Rattle.gix_pack.specs.MultiIndex.{multi_index_of, multi_index_start, told}
 use Rattle.probe_index.specs.declared.asked.Asked.{Asked}
 use Rattle.probe_index.specs.declared.probe.Format.{Format}
 use Rattle.probe_index.specs.declared.probe.Format.TheVariants.{Index, MultiIndex}
@@ -17,13 +17,6 @@ use Rattle.probe_index.specs.Lines.{AreLines, IsIndexLine, IsPackLine}
 -- the most bytes that a file may have, 1 GiB: a source that never ends is refused
 abbrev pub file_limit : ℕ
 file_limit = 1_073_741_824
-
--- the bytes that a pack index and a multi-pack index begin with
-abbrev pub index_start : List ℕ
-index_start = 255 ∷ 116 ∷ 79 ∷ 99 ∷ []
-
-abbrev pub multi_index_start : List ℕ
-multi_index_start = codes "MIDX"
 
 -- the format that the first four bytes tell
 abbrev pub format_of : List ℕ → Option Format

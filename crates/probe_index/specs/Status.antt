@@ -1,5 +1,5 @@
--- The exit status that each end of the program has.
-use Rattle.std.specs.Prelude.{ℕ}
+-- The exit status that each end of the program has, and what is told on standard error.
+use Rattle.std.specs.Prelude.{ℕ, List, [], codes}
 use Rattle.probe_index.specs.declared.status.Status.{Status}
 use Rattle.probe_index.specs.declared.status.Status.TheVariants.{Done, NotUnderstood, Refused, ReadFault, WriteFault, NoMemory}
 
@@ -10,3 +10,12 @@ code_of Refused = 2
 code_of ReadFault = 3
 code_of WriteFault = 4
 code_of NoMemory = 5
+
+-- what is told, without the program's name; nothing where all went well
+abbrev pub note_of : Status → List ℕ
+note_of Done = []
+note_of NotUnderstood = codes "each word has to be an id, and all of one length"
+note_of Refused = codes "standard input is no such file"
+note_of ReadFault = codes "standard input can't be read"
+note_of WriteFault = codes "standard output can't be written"
+note_of NoMemory = codes "out of memory"

@@ -1,6 +1,5 @@
 //! The lines that are written for ids.
 ghost use Rattle.std.specs.Prelude.{◌≡◌, ◌++◌, IfOk, OnOk, Some};
-ghost use Rattle.std.specs.Fmt.{decimal};
 ghost use Rattle.gix_hash.specs.ObjectId.{hex_of};
 ghost use Rattle.gix_pack.specs.Index.{index_rows};
 ghost use Rattle.gix_pack.specs.MultiIndex.{told};
@@ -9,6 +8,7 @@ ghost use Rattle.probe_index.specs.Lines.{absent_line, name_at, offset_line, pac
 use gix_hash::ObjectId;
 use gix_pack::{index, multi_index};
 use odb_base::{NoMemory, PathName};
+use odb_program::{number, text};
 use std::alloc::Global;
 
 /// The lines of ids by the rows of an index.
@@ -87,7 +87,7 @@ fn add_absent(alloc: Global, lines: &mut Vec<u8>, id: &ObjectId) -> Result<(), N
     ensures ok { OnOk result (lines.new.items ≡ lines.old.items ++ absent_line id.now) }
 {
     add_id(alloc, lines, id)?;
-    add(lines, b" absent\n")
+    text(lines, b" absent\n")
 }
 
 fn add_offset(
@@ -99,9 +99,9 @@ fn add_offset(
     ensures ok { OnOk result (lines.new.items ≡ lines.old.items ++ offset_line id.now offset) }
 {
     add_id(alloc, lines, id)?;
-    add(lines, b" ")?;
-    add_number(alloc, lines, offset)?;
-    add(lines, b"\n")
+    text(lines, b" ")?;
+    number(alloc, lines, offset)?;
+    text(lines, b"\n")
 }
 
 fn add_named_offset(
@@ -114,29 +114,16 @@ fn add_named_offset(
     ensures ok { OnOk result (lines.new.items ≡ lines.old.items ++ pack_line id.now offset name.now) }
 {
     add_id(alloc, lines, id)?;
-    add(lines, b" ")?;
-    add_number(alloc, lines, offset)?;
-    add(lines, b" ")?;
-    add(lines, name.as_bytes())?;
-    add(lines, b"\n")
+    text(lines, b" ")?;
+    number(alloc, lines, offset)?;
+    text(lines, b" ")?;
+    text(lines, name.as_bytes())?;
+    text(lines, b"\n")
 }
 
 /// Adds an id in hex.
 fn add_id(alloc: Global, lines: &mut Vec<u8>, id: &ObjectId) -> Result<(), NoMemory>
     ensures ok { OnOk result (lines.new.items ≡ lines.old.items ++ hex_of id.now) }
 {
-    add(lines, id.to_hex(alloc)?.as_bytes())
-}
-
-/// Adds a number in decimal.
-fn add_number(alloc: Global, lines: &mut Vec<u8>, number: u64) -> Result<(), NoMemory>
-    ensures ok { OnOk result (lines.new.items ≡ lines.old.items ++ decimal number) }
-{
-    add(lines, number.to_string(alloc)?.as_bytes())
-}
-
-fn add(lines: &mut Vec<u8>, text: &[u8]) -> Result<(), NoMemory>
-    ensures ok { OnOk result (lines.new.items ≡ lines.old.items ++ text.now) }
-{
-    Ok(lines.extend_from_slice(text)?)
+    text(lines, id.to_hex(alloc)?.as_bytes())
 }

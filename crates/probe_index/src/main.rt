@@ -15,12 +15,15 @@ mod tests;
 use crate::status::Status;
 use odb_base::NoMemory;
 use odb_disk::{StdSink, StdSource};
-use odb_program::{command_words, exit_code};
+use odb_program::{command_words, exit_code, report};
 use std::io;
 use std::process::ExitCode;
 
 fn main(rt: HostRuntime) -> ExitCode {
-    exit_code(ended(&rt).unwrap_or(Status::NoMemory))
+    let status = ended(&rt).unwrap_or(Status::NoMemory);
+    // Where standard error fails too, the status alone tells what happened.
+    let _ = report(&mut StdSink::new(rt.stderr()), "probe_index", status.note());
+    exit_code(status)
 }
 
 /// The status of a session over the real streams.

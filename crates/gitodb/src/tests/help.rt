@@ -1,6 +1,7 @@
 //! The text of `--help`, beside the words that scripts are read by.
 use crate::run::HELP;
-use odb_script::{ChangeWord, Question, Word, change_word_of, word_of};
+use odb_script::{ChangeWord, Choice, Question, Word, change_word_of, choice_of, word_of};
+use std::alloc::Global;
 use std::test::Fail;
 
 /// Each word of a line that is built, but for `do`, which stands before those of changes.
@@ -159,4 +160,39 @@ fn tells_of_no_other_word(rt: HostRuntime) {
     for line in HELP.split('\n') {
         assert!(rt; is_known(line));
     }
+}
+
+/// How an option of an opening is spelled. A new option doesn't compile without an arm here.
+fn option_spelled(choice: &Choice) -> &'static str {
+    match choice {
+        Choice::Folder(_) => "folder=PATH",
+        Choice::Replacement(_, _) => "replace=HEX:HEX",
+        Choice::Slots(_) => "slots=N",
+        Choice::Limit(_) => "limit=N",
+    }
+}
+
+/// Whether an option is understood, and the text names it.
+fn is_named(alloc: Global, option: &str) -> Result<bool, Fail> {
+    match choice_of(alloc, option)? {
+        Some(choice) => Ok(HELP.contains(option_spelled(&choice))),
+        None => Ok(false),
+    }
+}
+
+/// An option of each kind.
+const OPTIONS: [&str; 4] = [
+    "slots=4",
+    "limit=5",
+    "folder=/p",
+    "replace=e69de29bb2d1d6434b8b29ae775ad8c2e48c5391:ce013625030ba8dba906f756967f9e9ca394464a",
+];
+
+// An option that is understood and left out.
+#[test]
+fn names_each_option(rt: HostRuntime) -> Result<(), Fail> {
+    for option in OPTIONS {
+        check(is_named(rt.alloc(), option)?, option)?;
+    }
+    Ok(())
 }

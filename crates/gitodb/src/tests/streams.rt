@@ -1,32 +1,27 @@
 //! Sources and sinks that fail.
 use crate::run::run;
-use crate::status::Status;
 use odb_disk::{MemDisk, MemSink, MemSource};
+use odb_program::SessionStatus;
 use std::alloc::Global;
 use std::test::Fail;
 
-/// The status of a word where the calls with these numbers fail, if nothing was written.
-fn status_of(
-    alloc: Global,
-    word: &str,
-    reads: &[u64],
-    writes: &[u64],
-) -> Result<Option<Status>, Fail> {
+/// The code of the status of a word where the calls with these numbers fail, if nothing was written.
+fn code_of(alloc: Global, word: &str, reads: &[u64], writes: &[u64]) -> Result<Option<u8>, Fail> {
     let words = vec![in alloc; word.to_string(alloc)?]?;
     let mut source = script_of(alloc, reads)?;
-    status_over(alloc, &words, &mut source, writes)
+    code_over(alloc, &words, &mut source, writes)
 }
 
-fn status_over(
+fn code_over(
     alloc: Global,
     words: &[String],
     source: &mut MemSource,
     writes: &[u64],
-) -> Result<Option<Status>, Fail> {
+) -> Result<Option<u8>, Fail> {
     let mut sink = MemSink::with_faults(alloc, writes)?;
     let mut disk = MemDisk::new(alloc)?;
     let status = run(&(), alloc, words, source, &mut sink, &mut disk);
-    Ok(sink.bytes().is_empty().then_some(status))
+    Ok(sink.bytes().is_empty().then_some(status.code()))
 }
 
 fn script_of(alloc: Global, reads: &[u64]) -> Result<MemSource, Fail> {
@@ -35,11 +30,11 @@ fn script_of(alloc: Global, reads: &[u64]) -> Result<MemSource, Fail> {
 }
 
 fn is_read_fault(alloc: Global, call: u64) -> Result<bool, Fail> {
-    Ok(status_of(alloc, "world", &[call], &[])? == Some(Status::ReadFault))
+    Ok(code_of(alloc, "world", &[call], &[])? == Some(3))
 }
 
 fn is_write_fault(alloc: Global, word: &str) -> Result<bool, Fail> {
-    Ok(status_of(alloc, word, &[], &[1])? == Some(Status::WriteFault))
+    Ok(code_of(alloc, word, &[], &[1])? == Some(4))
 }
 
 // A failed read that is taken for the end, at the first call or behind the whole script.

@@ -37,4 +37,4 @@ returns-in-NotUnderstood-clause-ends g c =
       output = _;
       help = HELP.now;
       version = VERSION.now;
-    }) _ _ _ (refl, refl) (λ finished. (refl, finished)) c.answer-in-NotUnderstood.ensures.delivered)
+    }) _ _ _ (refl, c.as_bytes-in-NotUnderstood.ensures.value) (λ finished. (refl, finished)) c.answer-in-NotUnderstood.ensures.delivered)

@@ -1,28 +1,27 @@
-use Rattle.std.proofs.Common.{refl, Some}
-use Rattle.odb_program.specs.Session.{output_of}
-use Rattle.list_walk.proofs.SessionLemmas.{sorted_listed, unsorted_listed}
+-- Folder after folder.
+use Rattle.std.proofs.Common.{arith, length, refl, ◌∙◌}
+use Rattle.list_walk.proofs.SessionLemmas.{back_again, still_back}
+use Rattle.list_walk.proofs.WalksLemmas.{begins_walks, first_and, one_walk_more, walks_cut}
 use Rattle.list_walk.proofs.run.listed.Goals as goal
 
-pub returns-then-choices-clause-ends : goal.returns-then-choices-clause-ends
-returns-then-choices-clause-ends g c = λ refusal.
-    sorted_listed _ (record {
-      asked = Some c.args.asked;
-      state = g.D.Disk.state c.args.disk.now;
-      streams = g.D.Disk.streams c.args.disk.now;
-      disk_faults = g.D.Disk.faults c.args.disk.now;
-      disk_faults' = g.D.Disk.faults c.walked.new.disk;
-      output = output_of g.K.Sink.held g.K.Sink.faults c.args.sink.now c.walked.new.sink;
-      refusal = refusal;
-    }) c.args.asked refl c.at.result c.chosen-walk.result c.at.ensures.root c.at.ensures.options c.chosen-walk.ensures.walk _ c.walked.ensures.cause _ c.sort_by_file_name.result c.sort_by_file_name.ensures.sorted refl c.if-choices.true c.walked.ensures.ends
+-- no folder was walked yet
+pub folders-init : goal.folders-init
+folders-init g c = record { state = refl; faults = omega arith; error_faults = omega arith; back = still_back _ _; walked = begins_walks _ _ _ _ }
 
-pub returns-else-choices-clause-ends : goal.returns-else-choices-clause-ends
-returns-else-choices-clause-ends g c = λ refusal.
-    unsorted_listed _ (record {
-      asked = Some c.args.asked;
-      state = g.D.Disk.state c.args.disk.now;
-      streams = g.D.Disk.streams c.args.disk.now;
-      disk_faults = g.D.Disk.faults c.args.disk.now;
-      disk_faults' = g.D.Disk.faults c.walked-else-choices.new.disk;
-      output = output_of g.K.Sink.held g.K.Sink.faults c.args.sink.now c.walked-else-choices.new.sink;
-      refusal = refusal;
-    }) c.args.asked refl c.at.result c.chosen-walk.result c.at.ensures.root c.at.ensures.options c.at.ensures.sorter c.chosen-walk.ensures.walk _ c.walked-else-choices.ensures.cause c.if-choices.false c.walked-else-choices.ensures.ends
+-- a folder more
+pub folders-preserved : goal.folders-preserved
+folders-preserved g c = record {
+  state = c.visited.ensures.state ∙ c.folders.invariant.state;
+  faults = omega (arith, c.visited.ensures.later, c.folders.invariant.faults);
+  error_faults = omega (arith, c.visited.ensures.later_errors, c.folders.invariant.error_faults);
+  back = back_again _ _ _ _ c.folders.invariant.back c.visited.ensures.back;
+  walked =
+      rw c.worse-status.ensures.worse
+      (one_walk_more _ _ _ _ _ _ _ _ _ _ _ c.folders.invariant.walked (first_and _ _ _ _ (omega arith) (omega arith) c.folder-item.is) (rw c.folders.invariant.state at c.in-Ok.ensures.ends));
+}
+
+-- a walk that was cut off
+pub returns-in-Err-clause-ends : goal.returns-in-Err-clause-ends
+returns-in-Err-clause-ends g c =
+    rw (← c.as_slice-rest.ensures.value)
+    (walks_cut _ _ _ _ _ _ _ _ _ _ c.folders.invariant.walked (first_and _ (length c.folders.rest.now) _ _ (omega arith) (omega arith) c.folder-item.is) (rw c.folders.invariant.state at c.in-Err.ensures.ends))

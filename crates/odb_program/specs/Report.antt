@@ -1,0 +1,11 @@
+-- What a program tells on standard error.
+use Rattle.std.specs.Prelude.{ℕ, List, [], ◌∷◌, ◌++◌, codes}
+
+-- a line behind the program's name
+abbrev pub line_of : List ℕ → List ℕ → List ℕ
+line_of program told = program ++ (codes ": " ++ (told ++ codes "\n"))
+
+-- what is told is a line; nothing where nothing is told
+unfoldable pub report_of : List ℕ → List ℕ → List ℕ
+report_of program [] = []
+report_of program (first ∷ told) = line_of program (first ∷ told)

@@ -1,0 +1,6 @@
+mod PartLemmas
+mod ToldLemmas
+mod SpelledLemmas
+mod OpeningLemmas
+pub mod ToldLaws
+pub mod RefusedLaws

@@ -1,0 +1,11 @@
+-- No bytes are shown as nothing; one byte more adds what it is shown as.
+use Rattle.std.proofs.Common.{ap, ◌++◌, ◌∙◌}
+use Rattle.script_reasons.specs.Told.{shown_byte}
+use Rattle.script_reasons.proofs.ToldLemmas.{shown_bytes-nothing, shown_bytes-more}
+use Rattle.script_reasons.proofs.wording.add_bytes.Goals as goal
+
+pub loop-byte-init : goal.loop-byte-init
+loop-byte-init c = shown_bytes-nothing _
+
+pub loop-byte-preserved : goal.loop-byte-preserved
+loop-byte-preserved c = shown_bytes-more _ _ _ _ _ c.loop-byte-test.true c.loop-byte.invariant c.in_ok-add_byte.ensures.ok

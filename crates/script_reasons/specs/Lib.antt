@@ -1,0 +1,4 @@
+pub mod Expected
+pub mod Fault
+pub mod Reason
+pub mod Told
