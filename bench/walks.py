@@ -94,10 +94,10 @@ def words_of(options):
 
 
 def model(path, options, others):
-    """What a walk by the definition, with these differences, writes, and its status."""
+    """The lines of a walk by the definition, with these differences, and its status."""
     options = dict(options, max=max(options["min"], options["max"]))
     lines, status = Walk(path, options, others).run()
-    return b"".join(line + b"\n" for line in lines), status
+    return list(lines), status
 
 
 def cases(count, seed, top, elsewhere):
@@ -127,18 +127,38 @@ class Comparison:
             self.too_long += 1
             return
         self.total += 1
-        self.lines.update(map(form_of, wanted[0].splitlines()))
-        self.check("list_walk", self.ours, path, options, wanted)
+        self.lines.update(map(form_of, wanted[0]))
+        self.check("list_walk", self.ours, path, options, wanted, apart_from_errors)
         if self.original:
             self.check("the original", self.original, path, options, model(path, options, DIFFERENCES))
             self.met.update(name for name in DIFFERENCES if model(path, options, (name,)) != wanted)
 
-    def check(self, title, program, path, options, wanted):
-        found = subprocess.run([program, path] + words_of(options), stdin=subprocess.DEVNULL, stdout=subprocess.PIPE)
-        if (found.stdout, found.returncode) != wanted:
+    def check(self, title, program, path, options, wanted, outputs=lambda lines: (joined(lines), b"")):
+        found = subprocess.run([program, path] + words_of(options), stdin=subprocess.DEVNULL, stdout=subprocess.PIPE, stderr=subprocess.PIPE)
+        entries, errors = outputs(wanted[0])
+        if (found.stdout, found.stderr, found.returncode) != (entries, errors, wanted[1]):
             self.wrong += 1
             print("%s differs, with status %d for %d: %r %s" % (title, found.returncode, wanted[1], path, " ".join(words_of(options))))
-            show(found.stdout.split(b"\n"), wanted[0].split(b"\n"))
+            show(found.stdout.split(b"\n"), entries.split(b"\n"))
+            show(found.stderr.split(b"\n"), errors.split(b"\n"))
+
+
+SYSTEM = {b"Absent": b"No such file or directory", b"WrongKind": b"Not a directory", b"LinkLoop": b"Too many levels of symbolic links"}
+
+
+def told(line):
+    """How `list_walk` tells an error: behind its name, with the system's words."""
+    words = None if line.startswith(b"File system loop found: ") else SYSTEM.get(line.rsplit(b" ", 1)[-1])
+    return b"list_walk: " + line + (b" (%s)\n" % words if words else b"\n")
+
+
+def joined(lines):
+    return b"".join(line + b"\n" for line in lines)
+
+
+def apart_from_errors(lines):
+    """What `list_walk` writes on standard output and on standard error. An entry begins with a slash, an error never."""
+    return joined(l for l in lines if l.startswith(b"/")), b"".join(told(l) for l in lines if not l.startswith(b"/"))
 
 
 def form_of(line):
