@@ -4,7 +4,7 @@ the crate's own proof, for its tests, and for its edits.
 
 A look at /proc each half second adds up, for each process of the prover that another program began, its own time and that
 of its children that ended. What a process takes after the last look at it is lost, which is less than half a second.
-Only what is proved anew counts: on a machine that keeps proofs, run `rt ci --anew`, or begin with nothing kept.
+Only what is proved anew counts: on a machine that keeps proofs, begin with nothing kept.
 
 usage: bench/proof_minutes.py [COMMAND ..]
 """
