@@ -54,25 +54,25 @@ module _ (first : Volume) (past : List Event) (e : Event) (before : (handle : �
   unapplied other handle = stems_kept past e handle (table handle) (λ applied. absurd (other applied)) (λ applied. absurd (other applied)) (before handle)
 
   stems_opened : (number : ℕ) (path : Path) (folders : List Path) (replacements : List (ObjectId × ObjectId)) (options : Options)
-      → e.step ≡ steps.Open number path folders replacements options
+      → e.step ≡ steps.Open number path folders replacements options → e.outcome ≡ outcomes.Applied
       → (handle : ℕ)
       → Stems now handle (status_after (length past + 1) (steps.Open number path folders replacements options) outcomes.Applied e.asked table handle)
-  stems_opened number path folders replacements options step handle =
+  stems_opened number path folders replacements options step applied handle =
       let store : Store = store_at (length past + 1) path folders replacements options in
-      let opened : OpenedBy now number (length past + 1) store = opened_now past e number path folders replacements options step in
+      let opened : OpenedBy now number (length past + 1) store = opened_now past e number path folders replacements options step applied in
       stems_set now table number _ handle
       (holds_opened past e number store refl opened, record { begins = opened; latest = none_after past e (IsTaskOf number) })
       (λ apart. others (steps.Open number path folders replacements options) step handle (λ same. apart (sym same)) (λ never. never))
 
   stems_applied : (step : Step) → e.step ≡ step → e.outcome ≡ outcomes.Applied → None ≡ why_not_after first past step → (handle : ℕ)
       → Stems now handle (status_after (length past + 1) step outcomes.Applied e.asked table handle)
-  stems_applied (steps.Open number path folders replacements options) step applied valid handle = stems_opened number path folders replacements options step handle
+  stems_applied (steps.Open number path folders replacements options) step applied valid handle = stems_opened number path folders replacements options step applied handle
   stems_applied (steps.Close number) step applied valid handle = stems_set now table number Free handle tt (λ apart. others (steps.Close number) step handle (λ never. never) (λ never. never))
   stems_applied (steps.Ignore number) step applied valid handle =
       stems_set now table number (ignoring_from (table number)) handle (stems_ignoring past e number (table number) valid step applied (before number))
       (λ apart. others (steps.Ignore number) step handle (λ never. never) (λ same. apart (sym same)))
   stems_applied (steps.Start number call) step applied valid handle =
-      stems_set now table number (started (length past + 1) call (table number)) handle (stems_started past e number call (table number) valid step (before number))
+      stems_set now table number (started (length past + 1) call (table number)) handle (stems_started past e number call (table number) valid step applied (before number))
       (λ apart. others (steps.Start number call) step handle (λ same. apart (sym same)) (λ never. never))
   stems_applied other step applied valid handle = others other step handle (λ never. never) (λ never. never)
 

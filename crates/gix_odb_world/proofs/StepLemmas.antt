@@ -1,6 +1,5 @@
 -- Each step of a world takes its history one event on.
 use Rattle.std.proofs.Common.{◌≡◌, ◌≢◌, ℕ, ◌+◌, ◌<◌, true, List, [], ◌∷◌, ◌++◌, length, take, get_or, Some, None, Option, refl, sym, ◌∙◌, ap, subst}
-use mathlib.Core.Path.{fun_ext}
 use Rattle.std.specs.Prelude.{if◌then◌else◌, ◌==◌}
 use Rattle.std.proofs.lemmas.List.{map-append, take_more}
 use Rattle.odb_disk.specs.MemDisk.{Volume, after_outside_change}
@@ -20,7 +19,7 @@ use Rattle.gix_odb_world.specs.Event.{OfNothing, Event}
 use Rattle.gix_odb_world.specs.Status.{Status, Free, Resting, Working, status_of, status_after, with_status}
 use Rattle.gix_odb_world.specs.Run.{disk_after, disk_after_event, disk_after_change, IsTurnOf}
 use Rattle.gix_odb_world.specs.Running.{Runs}
-use Rattle.gix_odb_world.specs.Valid.{phase_of, phase_after, why_not, why_not_after, why_not_running, misuse_of}
+use Rattle.gix_odb_world.specs.Valid.{is_openable, misuse_of, phase_after, phase_of, why_not_after, why_not_change, why_not_idle, why_not_open, why_not_running}
 use Rattle.gix_odb_world.specs.Headline.{Law, Suits}
 use Rattle.gix_odb_world.specs.Changes.{ChangesAs}
 use Rattle.gix_odb_world.specs.World.{Explains, GoesOn, Continues, IsRunOf, Matches, handle_at}
@@ -46,9 +45,13 @@ phase_same first events world handle explains = phase_of-matched (status_of even
 
 pub why_not-same : (first : Volume) (events : List Event) (world : World) (step : Step) → Explains first events world
     → why_not_after first events step ≡ why_not_now world step
-why_not-same first events world step explains =
-    ap (λ phases. why_not phases (disk_after first events) step) (fun_ext (λ handle. phase_same first events world handle explains))
-    ∙ ap (λ disk. why_not (phase_now world) disk step) (sym explains.disk)
+why_not-same first events world (steps.Open handle path folders replacements options) explains =
+    ap (λ phase. why_not_open phase (is_openable path folders replacements)) (phase_same first events world handle explains)
+why_not-same first events world (steps.Close handle) explains = ap why_not_idle (phase_same first events world handle explains)
+why_not-same first events world (steps.Ignore handle) explains = ap why_not_idle (phase_same first events world handle explains)
+why_not-same first events world (steps.Start handle call) explains = ap why_not_idle (phase_same first events world handle explains)
+why_not-same first events world (steps.Turn handle) explains = ap why_not_running (phase_same first events world handle explains)
+why_not-same first events world (steps.Disk change) explains = ap (λ disk. why_not_change disk change) (sym explains.disk)
 
 -- ---- one event more
 

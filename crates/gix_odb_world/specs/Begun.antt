@@ -11,20 +11,22 @@ use Rattle.gix_odb_world.specs.declared.step.Outcome.TheVariants as outcomes
 use Rattle.gix_odb_world.specs.Event.{Event}
 use Rattle.gix_odb_world.specs.Status.{MakeCall, OpenStore, Store, Task}
 
--- the event that has the number `begun` started a call on a handle
+-- the event that has the number `begun` was applied, and started a call on a handle
 pub record BegunBy (events : List Event) (handle begun : ℕ) (call : Call) : Type 0 where
   pub place : ℕ
   pub number : begun ≡ place + 1
   pub event : Event
   pub there : slice_get events place ≡ Some event
+  pub applied : event.outcome ≡ outcomes.Applied
   pub starts : event.step ≡ steps.Start handle call
 
--- the event that has the number `begun` is the open step of a store under a handle's number
+-- the event that has the number `begun` was applied, and is the open step of a store under a handle's number
 pub record OpenedBy (events : List Event) (handle begun : ℕ) (store : Store) : Type 0 where
   pub place : ℕ
   pub number : begun ≡ place + 1
   pub event : Event
   pub there : slice_get events place ≡ Some event
+  pub applied : event.outcome ≡ outcomes.Applied
   pub path : Path
   pub folders : List Path
   pub replacements : List (ObjectId × ObjectId)

@@ -7,6 +7,7 @@ use Rattle.odb_disk.specs.declared.ask.DiskAsk.{DiskAsk}
 use Rattle.odb_tree.specs.declared.change.Change.{Change}
 use Rattle.gix_odb.specs.declared.call.Reply.{Reply}
 use Rattle.gix_odb_world.specs.declared.step.Step.{Step}
+use Rattle.gix_odb_world.specs.declared.step.Step.TheVariants as steps
 use Rattle.gix_odb_world.specs.declared.step.Outcome.{Outcome}
 use Rattle.gix_odb_world.specs.declared.step.Why.{Why}
 use Rattle.gix_odb_world.specs.declared.record.Did.{Did}
@@ -19,7 +20,7 @@ use Rattle.gix_odb_world.specs.Status.{refuses_opening}
 use Rattle.gix_odb_world.specs.WorkOrder.{fed_on}
 use Rattle.gix_odb_world.specs.declared.world.World.{World}
 use Rattle.gix_odb_world.specs.World.{handle_at}
-use Rattle.gix_odb_world.specs.Valid.{Phase, NoneThere, Idle, Running, why_not}
+use Rattle.gix_odb_world.specs.Valid.{Phase, NoneThere, Idle, Running, is_openable, why_not_change, why_not_idle, why_not_open, why_not_running}
 
 abbrev pub phase_of_work : Option Work → Phase
 phase_of_work None = Idle
@@ -36,7 +37,12 @@ phase_now world number = phase_of_handle (handle_at world number)
 
 -- the first reason why a step isn't valid, by the world's own table and disk
 abbrev pub why_not_now : World → Step → Option Why
-why_not_now world step = why_not (phase_now world) world.disk step
+why_not_now world (steps.Open handle path folders replacements options) = why_not_open (phase_now world handle) (is_openable path folders replacements)
+why_not_now world (steps.Close handle) = why_not_idle (phase_now world handle)
+why_not_now world (steps.Ignore handle) = why_not_idle (phase_now world handle)
+why_not_now world (steps.Start handle call) = why_not_idle (phase_now world handle)
+why_not_now world (steps.Turn handle) = why_not_running (phase_now world handle)
+why_not_now world (steps.Disk change) = why_not_change world.disk change
 
 -- a handle with other work
 abbrev pub with_work : Option Work → Option Handle → Option Handle

@@ -9,6 +9,7 @@ use Rattle.gix_hash.specs.declared.object_id.ObjectId.{ObjectId}
 use Rattle.gix_hash.specs.ObjectId.{id_cmp}
 use Rattle.odb_disk.specs.MemDisk.{Volume}
 use Rattle.odb_tree.specs.Tree.Change.{is_possible}
+use Rattle.odb_tree.specs.declared.change.Change.{Change}
 use Rattle.gix_odb_world.specs.declared.step.Step.{Step}
 use Rattle.gix_odb_world.specs.declared.step.Step.TheVariants as steps
 use Rattle.gix_odb_world.specs.declared.step.Outcome.{Outcome}
@@ -68,22 +69,22 @@ why_not_running NoneThere = Some NoHandle
 why_not_running Idle = Some NotRunning
 why_not_running Running = None
 
+-- another program's change needs a place in the tree
+abbrev pub why_not_change : Volume → Change → Option Why
+why_not_change disk change = if is_possible disk.state change then None else Some ImpossibleChange
+
 -- what counts of a handle for validity after the events of a run
 abbrev pub phase_after : List Event → (handle : ℕ) → Phase
 phase_after events handle = phase_of (status_of events handle)
 
--- the first reason why a step isn't valid, by what counts of each handle and by the disk, or nothing where it is
-abbrev pub why_not : (phases : (handle : ℕ) → Phase) → Volume → Step → Option Why
-why_not phases disk (steps.Open handle path folders replacements options) = why_not_open (phases handle) (is_openable path folders replacements)
-why_not phases disk (steps.Close handle) = why_not_idle (phases handle)
-why_not phases disk (steps.Ignore handle) = why_not_idle (phases handle)
-why_not phases disk (steps.Start handle call) = why_not_idle (phases handle)
-why_not phases disk (steps.Turn handle) = why_not_running (phases handle)
-why_not phases disk (steps.Disk change) = if is_possible disk.state change then None else Some ImpossibleChange
-
--- the same after the events of a run
+-- The first reason why a step isn't valid after the events of a run, or nothing where it is. Each step sees the whole history.
 abbrev pub why_not_after : Volume → List Event → Step → Option Why
-why_not_after first events step = why_not (phase_after events) (disk_after first events) step
+why_not_after first events (steps.Open handle path folders replacements options) = why_not_open (phase_after events handle) (is_openable path folders replacements)
+why_not_after first events (steps.Close handle) = why_not_idle (phase_after events handle)
+why_not_after first events (steps.Ignore handle) = why_not_idle (phase_after events handle)
+why_not_after first events (steps.Start handle call) = why_not_idle (phase_after events handle)
+why_not_after first events (steps.Turn handle) = why_not_running (phase_after events handle)
+why_not_after first events (steps.Disk change) = why_not_change (disk_after first events) change
 
 -- the reason that an outcome gives
 abbrev pub misuse_of : Outcome → Option Why

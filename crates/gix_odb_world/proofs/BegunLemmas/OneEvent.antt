@@ -120,6 +120,7 @@ module _ (events : List Event) (e : Event) where
         number = o.number;
         event = o.event;
         there = slice_get-kept events e o.place o.event o.there;
+        applied = o.applied;
         path = o.path;
         folders = o.folders;
         replacements = o.replacements;
@@ -131,18 +132,19 @@ module _ (events : List Event) (e : Event) where
 
   begun_kept : (handle begun : ℕ) (store : Store) (task : Task) → BegunAs events handle begun store task → BegunAs whole handle begun store task
   begun_kept handle begun store OpenStore o = opened_kept handle begun store o
-  begun_kept handle begun store (MakeCall call) b = record { place = b.place; number = b.number; event = b.event; there = slice_get-kept events e b.place b.event b.there; starts = b.starts }
+  begun_kept handle begun store (MakeCall call) b = record { place = b.place; number = b.number; event = b.event; there = slice_get-kept events e b.place b.event b.there; applied = b.applied; starts = b.starts }
 
   -- the last event opens a store
   pub opened_now : (handle : ℕ) (path : Path) (folders : List Path) (replacements : List (ObjectId × ObjectId)) (options : Options)
-      → e.step ≡ steps.Open handle path folders replacements options
+      → e.step ≡ steps.Open handle path folders replacements options → e.outcome ≡ outcomes.Applied
       → OpenedBy whole handle (length events + 1) (store_at (length events + 1) path folders replacements options)
-  opened_now handle path folders replacements options opens =
+  opened_now handle path folders replacements options opens applied =
       record {
         place = length events;
         number = refl;
         event = e;
         there = slice_get-last events e;
+        applied = applied;
         path = path;
         folders = folders;
         replacements = replacements;
@@ -205,13 +207,13 @@ module _ (events : List Event) (e : Event) where
     stems_ignoring (Working running) idle step applied stems = absurd (cc idle)
 
     pub stems_started : (call : Call) (status : Status) → None ≡ why_not_idle (phase_of status) → e.step ≡ steps.Start handle call
-        → Stems events handle status → Stems whole handle (started (length events + 1) call status)
-    stems_started call Free idle step stems = tt
-    stems_started call (Resting store ignoring) idle step stems = (
+        → e.outcome ≡ outcomes.Applied → Stems events handle status → Stems whole handle (started (length events + 1) call status)
+    stems_started call Free idle step applied stems = tt
+    stems_started call (Resting store ignoring) idle step applied stems = (
       holds_kept store ignoring (λ _ is. subst (IsOpenOf handle) step is) (λ _ is. subst (IsIgnoreOf handle) step is) stems,
-      record { begins = record { place = length events; number = refl; event = e; there = slice_get-last events e; starts = step }; latest = none_after (IsTaskOf handle) },
+      record { begins = record { place = length events; number = refl; event = e; there = slice_get-last events e; applied = applied; starts = step }; latest = none_after (IsTaskOf handle) },
     )
-    stems_started call (Working running) idle step stems = absurd (cc idle)
+    stems_started call (Working running) idle step applied stems = absurd (cc idle)
 
 stems_rest : (events : List Event) (handle : ℕ) (store : Store) (ignoring frees : Bool) → HoldsStore events handle store ignoring
     → Stems events handle (if frees then Free else Resting store ignoring)
