@@ -22,12 +22,13 @@ use Rattle.gix_odb.specs.declared.query.Query.{Query}
 use Rattle.gix_odb.specs.declared.query.Query.TheVariants.{Find, Header, Test}
 use Rattle.gix_odb_world.specs.Asks.{AppendsHeader, AppendsPiece, AsksInOrder, AsksToWrite, MakesDirectory, MakesFile, Removes, Renames}
 use Rattle.gix_odb.specs.Contents.{folder_list, sought}
+use Rattle.gix_odb_world.specs.AtWork.{nothing_in_front}
 use Rattle.gix_odb_world.specs.Event.{Event}
 use Rattle.gix_odb_world.specs.Status.{Running, Store, MakeCall, OpenStore}
 use Rattle.gix_odb.specs.LookOrder.{ask_at, asking}
 use Rattle.gix_odb.specs.OpenOrder as openings
 use Rattle.gix_odb_world.specs.Run.{FailedSince, tree_at}
-use Rattle.gix_odb_world.specs.Running.Write.{IsWriting, StandsAt, job_to_write}
+use Rattle.gix_odb_world.specs.Running.Write.{IsAtOwnWrite, IsWriting, StandsAt, job_to_write}
 use Rattle.gix_odb_world.specs.Running.Query.{Seeks, call_of}
 use Rattle.gix_odb_world.specs.Writing.{DoneSince, ToWrite, call_to_write, to_write}
 use Rattle.gix_odb_world.proofs.WriteFive.{below, made_before}
@@ -41,21 +42,21 @@ module _ (first : Volume) (events : List Event) (handle : ℕ) (store : Store) (
       let same : asks.Look store.parts.objects true ≡ ask = cc looks in
       (none, sym same)
 
-  by_query : (query : Query) (id : ObjectId) (folder : Path) (ask : DiskAsk) → id ≡ sought store.parts ignoring query → slice_get (folder_list store.parts) turns ≡ Some folder → disk_ask_of (asking store.parts.limit query id folder) ≡ Some ask
+  by_query : (query : Query) (id : ObjectId) (folder : Path) (ask : DiskAsk) (place : ℕ) → turns ≡ nothing_in_front + place → id ≡ sought store.parts ignoring query → slice_get (folder_list store.parts) place ≡ Some folder → disk_ask_of (asking store.parts.limit query id folder) ≡ Some ask
       → AsksInOrder first events handle store ignoring begun turns (MakeCall (call_of query)) ask
-  by_query (Find asked) id folder ask is place e =
-      let same : asks.Read (loose_path folder id) ≡ ask = cc e in record { folder = folder; place = place; is = sym same ∙ ap (λ i. asks.Read (loose_path folder i)) is }
-  by_query (Header asked) id folder ask is place e =
-      let same : asks.Read (loose_path folder id) ≡ ask = cc e in record { folder = folder; place = place; is = sym same ∙ ap (λ i. asks.Read (loose_path folder i)) is }
-  by_query (Test asked) id folder ask is place e =
-      let same : asks.Look (loose_path folder id) true ≡ ask = cc e in record { folder = folder; place = place; is = sym same ∙ ap (λ i. asks.Look (loose_path folder i) true) is }
+  by_query (Find asked) id folder ask place had is there e =
+      let same : asks.Read (loose_path folder id) ≡ ask = cc e in record { own = place; turn = had; asks = record { folder = folder; place = there; is = sym same ∙ ap (λ i. asks.Read (loose_path folder i)) is } }
+  by_query (Header asked) id folder ask place had is there e =
+      let same : asks.Read (loose_path folder id) ≡ ask = cc e in record { own = place; turn = had; asks = record { folder = folder; place = there; is = sym same ∙ ap (λ i. asks.Read (loose_path folder i)) is } }
+  by_query (Test asked) id folder ask place had is there e =
+      let same : asks.Look (loose_path folder id) true ≡ ask = cc e in record { own = place; turn = had; asks = record { folder = folder; place = there; is = sym same ∙ ap (λ i. asks.Look (loose_path folder i) true) is } }
 
   -- a query asks the folder of its turn
-  pub in_order_query : (state : LookState) (ask : DiskAsk) (place : ℕ) → turns ≡ place → state.head.id ≡ sought store.parts ignoring state.head.query
+  pub in_order_query : (state : LookState) (ask : DiskAsk) (place : ℕ) → turns ≡ nothing_in_front + place → state.head.id ≡ sought store.parts ignoring state.head.query
       → Seeks (tree_at first events) (FailedSince events handle begun) store begun (length events) place state.head.query state.head.id state.stage → ask_at state.stage ≡ Some ask
       → AsksInOrder first events handle store ignoring begun turns (MakeCall (call_of state.head.query)) ask
   in_order_query state ask place had is seeks asked =
-      by_query state.head.query state.head.id seeks.folder ask is (ap (slice_get (folder_list store.parts)) had ∙ seeks.there) (ap ask_at (sym seeks.stage_is) ∙ asked)
+      by_query state.head.query state.head.id seeks.folder ask place had is seeks.there (ap ask_at (sym seeks.stage_is) ∙ asked)
 
 module _ (first : Volume) (events : List Event) (handle begun turns : ℕ) (w : ToWrite) where
   abbrev Asks : DiskAsk → Type 0
@@ -95,10 +96,15 @@ module _ (first : Volume) (events : List Event) (handle begun turns : ℕ) (w : 
   at_stage (stages.Removing number refusal) s = Removes number (made (stages.Removing number refusal) number refl s)
 
 -- a running write asks in its turn
-pub in_order_write : (first : Volume) (events : List Event) (handle : ℕ) (running : Running) (folder : LooseCall) (writes : IsWriting first events handle running folder)
-    → AsksInOrder first events handle running.store running.ignoring running.begun running.turns (MakeCall (call_to_write writes.write)) (ask_at_stage writes.write writes.stage)
-in_order_write first events handle running folder writes =
+pub in_order_write : (first : Volume) (events : List Event) (handle : ℕ) (running : Running) (folder : LooseCall)
+    → (at : IsAtOwnWrite first events handle running nothing_in_front folder)
+    → AsksInOrder first events handle running.store running.ignoring running.begun running.turns (MakeCall (call_to_write at.writing.write)) (ask_at_stage at.writing.write at.writing.stage)
+in_order_write first events handle running folder at =
+    let writes : IsWriting first events handle running folder = at.writing in
     let w : ToWrite = writes.write in
-    subst (λ turns. AsksToWrite first events handle running.begun turns (to_write running.store.parts.objects w.kind w.size w.bytes w.known) (ask_at_stage w writes.stage)) (sym writes.turns)
-    (subst (λ objects. AsksToWrite first events handle running.begun writes.own (to_write objects w.kind w.size w.bytes w.known) (ask_at_stage w writes.stage)) writes.into
-    (at_stage first events handle running.begun writes.own w writes.stage writes.stands))
+    record {
+      own = writes.own;
+      turn = at.turns;
+      asks = subst (λ objects. AsksToWrite first events handle running.begun writes.own (to_write objects w.kind w.size w.bytes w.known) (ask_at_stage w writes.stage)) writes.into
+      (at_stage first events handle running.begun writes.own w writes.stage writes.stands);
+    }

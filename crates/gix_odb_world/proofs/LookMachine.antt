@@ -23,6 +23,7 @@ use Rattle.gix_odb.specs.declared.look_state.Stage.TheVariants as stages
 use Rattle.gix_odb.specs.declared.query.Query.{Query}
 use Rattle.gix_odb.specs.declared.query.Query.TheVariants.{Find, Header, Test}
 use Rattle.gix_odb_world.specs.Bound.{bound_of_call, bound_of_task, bytes_to_write, default_changes, laps_without_change, turns_each, turns_of_folder, turns_of_lap}
+use Rattle.gix_odb_world.specs.AtWork.{nothing_in_front}
 use Rattle.gix_odb_world.specs.Event.{Event}
 use Rattle.gix_odb_world.specs.Handle.{IsHandleOf}
 use Rattle.gix_odb_world.specs.Machine.{placed}
@@ -89,7 +90,7 @@ looking_still : (store : Store) (stage : Stage) (ask : DiskAsk) → ask_at stage
 looking_still store (stages.Loose round call) ask is = call_asks_still call ask is
 looking_still store (stages.Done reply) ask is = absurd (cc is)
 
-module _ (first : Volume) (events : List Event) (handle : ℕ) (running : Running) (state : LookState) (knows : IsLooking first events handle running state) where
+module _ (first : Volume) (events : List Event) (handle : ℕ) (running : Running) (state : LookState) (knows : IsLooking first events handle running nothing_in_front state) where
   -- the call of the folder that it asks
   looking_names : (ask : DiskAsk) × (ask_at state.stage ≡ Some ask)
   looking_names =
@@ -137,15 +138,15 @@ module _ (first : Volume) (events : List Event) (handle : ℕ) (running : Runnin
           subst (λ task. Promise first whole handle running.store running.ignoring running.begun task reply) (sym knows.task)
           (by_query state.head.query reply
           (subst (λ n. QueryPromise (tree_at first whole) (FailedSince whole handle running.begun) running.store running.ignoring running.begun n state.head.query reply) count c))
-      from_look (Err after) c = (
+      from_look (Err after) c = let had = knows.turns in (
         record {
           task = knows.task ∙ ap (λ (h : Head). MakeCall (call_of h.query)) (sym c.0);
           place = knows.place + 1;
-          turns = ap (λ n. n + 1) knows.turns;
+          turns = omega (arith, had);
           seeks_id = c.1;
           seeks = subst (λ n. Seeks (tree_at first whole) (FailedSince whole handle running.begun) running.store running.begun n (knows.place + 1) after.head.query after.head.id after.stage) count c.2;
         },
-        few_queries running.store running.turns (subst (λ n. n + 1 < length (folder_list running.store.parts)) (sym knows.turns) c.3),
+        few_queries running.store running.turns (let few = c.3 in omega (arith, had, few)),
       )
 
       looking_comes : MachineComes first events e handle running looking (looks.result_of (looks.fed running.store.parts.folders running.store.parts.limit state (answer_now (disk_after first events) ask)))
@@ -166,7 +167,7 @@ looking_laws = record {
   tasked = λ first events handle running state knows. knows.task;
   bounded = λ store task state is entries. looking_bounded store task state.head.query is entries;
   still = λ store state ask is. looking_still store state.stage ask is;
-  kept = λ first events e handle running state other knows. looking_push first events e handle running state other knows;
+  kept = λ first events e handle running state other knows. looking_push first events e handle running state other nothing_in_front knows;
   names = looking_names;
   takes = λ first events handle running state ask knows is. looking_takes first events handle running state knows ask is;
   comes = λ first events e handle running since state ask knows is turn. looking_comes first events handle running state knows ask is e since turn;

@@ -1,5 +1,5 @@
 -- What a machine has to show, so that a handle may be at it.
-use Rattle.std.proofs.Common.{◌≡◌, ℕ, ◌+◌, ◌<◌, ◌≤◌, Bool, false, List, [], ◌∷◌, ◌++◌, length, Some, None, Result, Ok, Err, refl, sym, ◌∙◌, subst}
+use Rattle.std.proofs.Common.{◌≡◌, ◌⊎◌, ℕ, ◌+◌, ◌<◌, ◌≤◌, Bool, false, List, [], ◌∷◌, ◌++◌, length, Some, None, Result, Ok, Err, refl, sym, ◌∙◌, subst}
 use Rattle.odb_disk.specs.MemDisk.{Volume}
 use Rattle.odb_disk.specs.Ask.{answer_now}
 use Rattle.odb_disk.specs.StreamAsks.{is_of_streams}
@@ -11,6 +11,7 @@ use Rattle.gix_odb.specs.declared.handle_state.HandleState.{HandleState}
 use Rattle.gix_odb_loose.specs.LooseOrder.{disk_ask_of}
 use Rattle.gix_odb_loose.specs.LooseOrder as loose_order
 use Rattle.gix_odb_loose.specs.declared.call.LooseCall.{LooseCall}
+use Rattle.gix_odb_loose.specs.declared.write_order.WriteStage.TheVariants.{Making}
 use Rattle.gix_odb_world.specs.declared.work.Work.{Work}
 use Rattle.gix_odb_world.specs.Asks.{AsksInOrder}
 use Rattle.gix_odb_world.specs.Bound.{bound_of_task}
@@ -22,7 +23,8 @@ use Rattle.gix_odb_world.specs.Machines.{at}
 use Rattle.gix_odb_world.specs.Promise.{Promise}
 use Rattle.gix_odb_world.specs.Run.{IsTurnOf, change_by, disk_after}
 use Rattle.gix_odb_world.specs.Running.{Knows}
-use Rattle.gix_odb_world.specs.Running.Write.{IsWriting, result_of_write}
+use Rattle.gix_odb_world.specs.Running.Write.{IsWriting, result_of_write, write_at}
+use Rattle.gix_odb_world.specs.Writing.{ToWrite}
 use Rattle.gix_odb_world.specs.Status.{MakeCall, OpenStore, Running, Store, Task, begun_with, gone_on, running_from}
 use Rattle.gix_odb_world.specs.WorkOrder.{ask_on, fed_on, result_in}
 use Rattle.gix_odb_world.proofs.WriteTurn.Common.{IsTurnWith}
@@ -67,7 +69,13 @@ module _ (first : Volume) (events : List Event) (e : Event) (handle : ℕ) (runn
 abbrev pub home : (m : Machine) (state : m.State) → At (m.work state)
 home m state = record { machine = m; state = state; is = refl }
 
--- What a machine has to show of the writes that it may be at.
+-- a write that has made no file yet
+pub record HasNoFile (folder : LooseCall) : Type 0 where
+  pub write : ToWrite
+  pub number : ℕ
+  pub is : folder ≡ write_at write (Making number)
+
+-- What a machine has to show of the writes that it may be at. It need not be at one from its task on: another phase may come in front.
 pub record KeepsWriteLaws (m : Machine) : Type 1 where
   -- where it writes nothing, its call of the disk changes nothing
   pub quiet : (first : Volume) (events : List Event) (handle : ℕ) (running : Running) (state : m.State) (ask : DiskAsk)
@@ -80,10 +88,10 @@ pub record KeepsWriteLaws (m : Machine) : Type 1 where
   pub asks : (store : Store) (state : m.State) (folder : LooseCall) → m.writes state ≡ Some folder → m.ask store state ≡ disk_ask_of folder
   pub ends : (store : Store) (state : m.State) (folder : LooseCall) (answer : DiskAnswer) (reply : Reply) → m.writes state ≡ Some folder
       → result_of_write (loose_order.fed folder answer) ≡ Ok reply → m.feed store state answer ≡ Ok reply
-  -- a state that writes comes after one that does
+  -- a state that writes comes after one that does, unless its write has made no file yet
   pub before : (store : Store) (state next : m.State) (answer : DiskAnswer) (folder : LooseCall) → m.feed store state answer ≡ Err next
       → m.writes next ≡ Some folder
-      → (own : LooseCall) × (m.writes state ≡ Some own)
+      → ((own : LooseCall) × (m.writes state ≡ Some own)) ⊎ HasNoFile folder
 
 pub record KeepsLaws (m : Machine) : Type 1 where
   -- the work of a state is of this machine, at this state

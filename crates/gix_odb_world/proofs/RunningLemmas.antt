@@ -67,8 +67,8 @@ module _ (trees wider : ℕ → Tree) (begun now later : ℕ) (le : now ≤ late
 -- a query knows as much over an event that isn't its turn
 pub looking_push : (first : Volume) (events : List Event) (e : Event) (handle : ℕ) (running : Running) (state : LookState)
     → ¬ (IsTurnOf handle e.step)
-    → IsLooking first events handle running state → IsLooking first (events ++ e ∷ []) handle running state
-looking_push first events e handle running state other knows =
+    → (front : ℕ) → IsLooking first events handle running front state → IsLooking first (events ++ e ∷ []) handle running front state
+looking_push first events e handle running state other front knows =
     let whole : List Event = events ++ e ∷ [] in
     let longer : length events ≤ length (events ++ e ∷ []) = omega (arith, length-append events (e ∷ [])) in
     record {

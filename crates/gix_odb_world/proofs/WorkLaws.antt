@@ -1,5 +1,5 @@
 -- What holds of any work, since the machine that it is of keeps its laws.
-use Rattle.std.proofs.Common.{◌≡◌, ℕ, Bool, false, List, Some, None, Ok, Err, Result, refl, sym, ◌∙◌, ap}
+use Rattle.std.proofs.Common.{◌≡◌, ◌⊎◌, ℕ, Bool, false, List, Some, None, Ok, Err, Result, refl, sym, ◌∙◌, ap}
 use Rattle.odb_disk.specs.MemDisk.{Volume}
 use Rattle.odb_disk.specs.StreamAsks.{is_of_streams}
 use Rattle.odb_disk.specs.declared.ask.DiskAsk.{DiskAsk}
@@ -19,6 +19,7 @@ use Rattle.gix_odb_world.specs.Running.{Knows}
 use Rattle.gix_odb_world.specs.Running.Write.{IsWriting, result_of_write}
 use Rattle.gix_odb_world.specs.Status.{Running, Store}
 use Rattle.gix_odb_world.specs.WorkOrder.{ask_on, fed_on, result_in}
+use Rattle.gix_odb_world.proofs.MachineLaws.{HasNoFile}
 use Rattle.gix_odb_world.proofs.Machines.{laws_at}
 
 -- ---- its code
@@ -65,10 +66,10 @@ left_at : (m : Machine) (result : Result Reply m.State) (left : Work) → placed
 left_at m (Ok reply) left is = absurd (cc is)
 left_at m (Err next) left is = (next, refl, cc is)
 
--- work that is left and writes is left of work that wrote
+-- work that is left and writes is left of work that wrote, unless its write has made no file yet
 pub wrote_before : (store : Store) (work left : Work) (answer : DiskAnswer) (folder : LooseCall) → fed_in store work answer ≡ Err left
     → write_in left ≡ Some folder
-    → (own : LooseCall) × (write_in work ≡ Some own)
+    → ((own : LooseCall) × (write_in work ≡ Some own)) ⊎ HasNoFile folder
 wrote_before store work left answer folder is writes =
     let next = left_at (at work).machine ((at work).machine.feed store (at work).state answer) left is in
     let home_is = (laws_at work).at_home next.0 in

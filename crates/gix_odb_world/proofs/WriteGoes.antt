@@ -20,11 +20,12 @@ use Rattle.gix_odb.specs.declared.write.Error.TheVariants as write_errors
 use Rattle.gix_odb_world.specs.Bound.{bound_of_task}
 use Rattle.gix_odb.specs.CallOrder.{hash_to_write}
 use Rattle.gix_odb.specs.Contents.{folder_list}
+use Rattle.gix_odb_world.specs.AtWork.{nothing_in_front}
 use Rattle.gix_odb_world.specs.Event.{Event}
 use Rattle.gix_odb_world.specs.Status.{Running}
 use Rattle.gix_odb_world.specs.Promise.{Promise}
 use Rattle.gix_odb_world.specs.Run.{disk_after}
-use Rattle.gix_odb_world.specs.Running.Write.{IsWriting, result_of_write, writing}
+use Rattle.gix_odb_world.specs.Running.Write.{IsAtOwnWrite, IsWriting, result_of_write, writing}
 use Rattle.gix_odb_world.specs.Writing.{ToWrite, head_to_write, to_write}
 use Rattle.gix_odb_world.specs.Written.{PromiseOfWrite}
 use Rattle.gix_odb_world.proofs.MachineLaws as laws
@@ -53,7 +54,10 @@ module _ (first : Volume) (events : List Event) (e : Event) (handle : ℕ) (runn
   abbrev ComesTo : Result Reply LooseCall → Type 0
   ComesTo result = laws.MachineComes first events e handle running writing result
 
-  module _ (folder : LooseCall) (writes : IsWriting first events handle running folder) where
+  module _ (folder : LooseCall) (at : IsAtOwnWrite first events handle running nothing_in_front folder) where
+    abbrev writes : IsWriting first events handle running folder
+    writes = at.writing
+
     abbrev w : ToWrite
     w = writes.write
 
@@ -62,14 +66,14 @@ module _ (first : Volume) (events : List Event) (e : Event) (handle : ℕ) (runn
 
     in_time : writes.own + 1 ≤ 22 + pieces_of (length w.bytes) → InTime
     in_time few entries =
-        let had = writes.turns in
-        subst (λ task. running.turns + 1 < bound_of_task running.store task entries) (sym writes.task)
+        let had = at.turns in
+        subst (λ task. running.turns + 1 < bound_of_task running.store task entries) (sym at.task)
         (few_writes running.turns (pieces_of (length w.bytes)) running.store.slots (length (folder_list running.store.parts) * (8 * entries + 16)) (omega (arith, few, had)))
 
     -- what the write promises, into the objects directory of its store
     keeps : (reply : Reply) → PromiseOfWrite first whole handle running.begun w reply → Keeps reply
     keeps reply p =
-        subst (λ task. Promise first whole handle running.store running.ignoring running.begun task reply) (sym writes.task)
+        subst (λ task. Promise first whole handle running.store running.ignoring running.begun task reply) (sym at.task)
         (subst (λ objects. PromiseOfWrite first whole handle running.begun (to_write objects w.kind w.size w.bytes w.known) reply) writes.into p)
 
     module _ (is : IsTurnWith first events e handle (ask_at_stage w writes.stage)) where
@@ -81,17 +85,12 @@ module _ (first : Volume) (events : List Event) (e : Event) (handle : ℕ) (runn
 
       onward_comes : (onward : Onward) → WriteGoes onward → ComesTo (result_of_write (record { stage = written_to (job_at w writes.stage) (advance_to (job_at w writes.stage) onward) }))
       onward_comes (Stage stage) goes =
-          let few = IsAlong-left (head_to_write w) (hash_to_write w.known) w.known w.bytes (Stage stage) goes.past goes.along in (
+          let few = IsAlong-left (head_to_write w) (hash_to_write w.known) w.known w.bytes (Stage stage) goes.past goes.along in
+          let had = at.turns in (
             record {
-              write = w;
-              task = writes.task;
-              into = writes.into;
-              fits = writes.fits;
-              stage = stage;
-              is = refl;
-              own = writes.own + 1;
-              turns = ap (λ n. n + 1) writes.turns;
-              stands = goes;
+              writing = record { write = w; into = writes.into; fits = writes.fits; stage = stage; is = refl; own = writes.own + 1; stands = goes };
+              task = at.task;
+              turns = omega (arith, had);
             },
             in_time (omega (arith, few, goes.had)),
           )

@@ -20,16 +20,18 @@ use Rattle.gix_odb_loose.specs.declared.call.LooseCall.{LooseCall}
 use Rattle.gix_hash.specs.declared.object_id.ObjectId.{ObjectId}
 use Rattle.gix_object.specs.declared.kind.Kind.{Kind}
 use Rattle.gix_odb_loose.proofs.AskLaws.{IsAlong-start}
+use Rattle.gix_odb_loose.specs.declared.write_order.WriteStage.{WriteStage}
 use Rattle.gix_odb_loose.specs.declared.write_order.WriteStage.TheVariants as write_stages
 use Rattle.gix_odb_world.specs.Recorded.{path_recorded}
 use Rattle.gix_odb.specs.CallOrder.{hash_to_write, writing}
 use Rattle.gix_odb.specs.declared.call.Call.TheVariants.{Write}
 use Rattle.gix_odb_world.specs.declared.record.Did.TheVariants.{Disk}
+use Rattle.gix_odb_world.specs.AtWork.{nothing_in_front}
 use Rattle.gix_odb_world.specs.Event.{OfDisk, Event}
 use Rattle.gix_odb_world.specs.Status.{MakeCall, Running, Store, running_from}
 use Rattle.gix_odb_world.specs.Run.{IsTurnOf, disk_after, tree_at}
-use Rattle.gix_odb_world.specs.Running.Write.{HoldsFile, Holds, IsUntouched, IsWriting, content_at}
-use Rattle.gix_odb_world.specs.Writing.{AskedAt, AskedSince, EachTurn, LeftAlone}
+use Rattle.gix_odb_world.specs.Running.Write.{HoldsFile, Holds, IsAtOwnWrite, IsUntouched, IsWriting, StandsAt, content_at}
+use Rattle.gix_odb_world.specs.Writing.{AskedAt, AskedSince, EachTurn, LeftAlone, ToWrite}
 use Rattle.gix_odb_world.proofs.RunLemmas.{slice_get-push, slice_get-last, slice_get-kept, tree_at-before}
 
 -- ---- one event more
@@ -139,52 +141,64 @@ nothing_among x (k, within, is) = omega (arith, within)
 
 -- a write that the event begins has done nothing
 pub writing_begun : (first : Volume) (events : List Event) (e : Event) (handle : ℕ) (store : Store) (ignoring : Bool) (kind : Kind) (size : ℕ) (bytes : List ℕ) (known : Option ObjectId) → size < 2 ^ 64
-    → IsWriting first (events ++ e ∷ []) handle (running_from (length events + 1) (MakeCall (Write kind size bytes known)) store ignoring) (writing store.parts.objects kind size bytes known)
+    → IsAtOwnWrite first (events ++ e ∷ []) handle (running_from (length events + 1) (MakeCall (Write kind size bytes known)) store ignoring) nothing_in_front (writing store.parts.objects kind size bytes known)
 writing_begun first events e handle store ignoring kind size bytes known fits =
     let short : length (events ++ e ∷ []) ≤ length events + 1 = omega (arith, length-append events (e ∷ [])) in
     record {
-      write = record { objects = store.parts.objects; kind = kind; size = size; bytes = bytes; known = known };
-      task = refl;
-      into = refl;
-      fits = fits;
-      stage = write_stages.Making 0;
-      is = refl;
-      own = 0;
-      turns = refl;
-      stands = record {
-        past = [];
-        along = IsAlong-start (write_of (record { objects = store.parts.objects; kind = kind; size = size }) (hash_to_write known) known bytes);
-        had = refl;
-        asked = λ x among. absurd (nothing_among x among);
-        unnamed = each_turn_none (events ++ e ∷ []) handle (length events + 1) _ short;
-        made = each_turn_none (events ++ e ∷ []) handle (length events + 1) _ short;
-        untouched = each_turn_none (events ++ e ∷ []) handle (length events + 1) _ short;
-        holds = tt;
+      writing = record {
+        write = record { objects = store.parts.objects; kind = kind; size = size; bytes = bytes; known = known };
+        into = refl;
+        fits = fits;
+        stage = write_stages.Making 0;
+        is = refl;
+        own = 0;
+        stands = record {
+          past = [];
+          along = IsAlong-start (write_of (record { objects = store.parts.objects; kind = kind; size = size }) (hash_to_write known) known bytes);
+          had = refl;
+          asked = λ x among. absurd (nothing_among x among);
+          unnamed = each_turn_none (events ++ e ∷ []) handle (length events + 1) _ short;
+          made = each_turn_none (events ++ e ∷ []) handle (length events + 1) _ short;
+          untouched = each_turn_none (events ++ e ∷ []) handle (length events + 1) _ short;
+          holds = tt;
+        };
       };
+      task = refl;
+      turns = refl;
     }
 
--- a running write goes on as it is over an event that isn't its turn
+-- what a write knows stands over an event that isn't its turn
+stands_push : (first : Volume) (events : List Event) (e : Event) (handle begun own : ℕ) (w : ToWrite) (stage : WriteStage)
+    → ¬ (IsTurnOf handle e.step)
+    → StandsAt first events handle begun own w stage → StandsAt first (events ++ e ∷ []) handle begun own w stage
+stands_push first events e handle begun own w stage other stands =
+    record {
+      past = stands.past;
+      along = stands.along;
+      had = stands.had;
+      asked = λ x among. asked_kept first events e handle begun x.ask x.answer (stands.asked x among);
+      unnamed = each_turn_push events e handle begun _ stands.unnamed (λ turn. absurd (other turn));
+      made = each_turn_push events e handle begun _ stands.made (λ turn. absurd (other turn));
+      untouched = untouched_push events e handle begun (number_made stage) other stands.untouched;
+      holds = holds_push first events e handle begun w.objects (number_made stage) (content_at w stage) other stands.holds;
+    }
+
+-- a running write goes on as it is, whatever comes in front of it
 pub writing_push : (first : Volume) (events : List Event) (e : Event) (handle : ℕ) (running : Running) (folder : LooseCall)
     → ¬ (IsTurnOf handle e.step)
-    → IsWriting first events handle running folder → IsWriting first (events ++ e ∷ []) handle running folder
-writing_push first events e handle running folder other writes =
+    → (front : ℕ) → IsAtOwnWrite first events handle running front folder → IsAtOwnWrite first (events ++ e ∷ []) handle running front folder
+writing_push first events e handle running folder other front at =
+    let writes : IsWriting first events handle running folder = at.writing in
     record {
-      write = writes.write;
-      task = writes.task;
-      into = writes.into;
-      fits = writes.fits;
-      stage = writes.stage;
-      is = writes.is;
-      own = writes.own;
-      turns = writes.turns;
-      stands = record {
-        past = writes.stands.past;
-        along = writes.stands.along;
-        had = writes.stands.had;
-        asked = λ x among. asked_kept first events e handle running.begun x.ask x.answer (writes.stands.asked x among);
-        unnamed = each_turn_push events e handle running.begun _ writes.stands.unnamed (λ turn. absurd (other turn));
-        made = each_turn_push events e handle running.begun _ writes.stands.made (λ turn. absurd (other turn));
-        untouched = untouched_push events e handle running.begun (number_made writes.stage) other writes.stands.untouched;
-        holds = holds_push first events e handle running.begun writes.write.objects (number_made writes.stage) (content_at writes.write writes.stage) other writes.stands.holds;
+      writing = record {
+        write = writes.write;
+        into = writes.into;
+        fits = writes.fits;
+        stage = writes.stage;
+        is = writes.is;
+        own = writes.own;
+        stands = stands_push first events e handle running.begun writes.own writes.write writes.stage other writes.stands;
       };
+      task = at.task;
+      turns = at.turns;
     }

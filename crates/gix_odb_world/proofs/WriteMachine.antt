@@ -1,5 +1,5 @@
 -- A write keeps the laws of a machine.
-use Rattle.std.proofs.Common.{◌≡◌, ℕ, ◌+◌, ◌≤◌, Bool, List, [], ◌∷◌, ◌++◌, length, Ok, Option, Some, None, refl, sym, ◌∙◌, ap, subst}
+use Rattle.std.proofs.Common.{◌≡◌, inl, ℕ, ◌+◌, ◌≤◌, Bool, List, [], ◌∷◌, ◌++◌, length, Ok, Option, Some, None, refl, sym, ◌∙◌, ap, subst}
 use Rattle.odb_disk.specs.MemDisk.{Volume}
 use Rattle.odb_disk.specs.Ask.{answer_now}
 use Rattle.odb_disk.specs.declared.ask.DiskAnswer.{DiskAnswer}
@@ -15,10 +15,11 @@ use Rattle.gix_odb.specs.declared.call.Call.TheVariants as call_kinds
 use Rattle.gix_odb.specs.declared.call.Reply.{Reply}
 use Rattle.gix_odb.specs.declared.call_state.CallState.TheVariants.{Writing}
 use Rattle.gix_odb_world.specs.declared.work.Work.TheVariants.{Calling}
+use Rattle.gix_odb_world.specs.AtWork.{nothing_in_front}
 use Rattle.gix_odb_world.specs.Event.{Event}
 use Rattle.gix_odb_world.specs.Machine.{placed}
 use Rattle.gix_odb_world.specs.Run.{disk_after}
-use Rattle.gix_odb_world.specs.Running.Write.{IsWriting, replied_by, result_of_write, writing}
+use Rattle.gix_odb_world.specs.Running.Write.{IsAtOwnWrite, IsWriting, replied_by, result_of_write, writing}
 use Rattle.gix_odb_world.specs.Status.{MakeCall, OpenStore, Running, Store, Task, begun_with, running_from}
 use Rattle.gix_odb_world.specs.WorkOrder.{calling_result}
 use Rattle.gix_odb_world.proofs.AskLemmas.{in_order_write}
@@ -38,26 +39,29 @@ write_placed folder (Some reply) = refl
 write_starts : (first : Volume) (events : List Event) (e : Event) (handle : ℕ) (store : Store) (ignoring : Bool) (task : Task) (folder : LooseCall)
     → IsSized task
     → begun_with store ignoring task ≡ Calling (Writing folder)
-    → IsWriting first (events ++ e ∷ []) handle (running_from (length events + 1) task store ignoring) folder
+    → IsAtOwnWrite first (events ++ e ∷ []) handle (running_from (length events + 1) task store ignoring) nothing_in_front folder
 write_starts first events e handle store ignoring OpenStore folder sized at = absurd (cc at)
 write_starts first events e handle store ignoring (MakeCall (call_kinds.Write kind size bytes id)) folder sized at =
     let same : calls.writing store.parts.objects kind size bytes id ≡ folder = cc at in
-    subst (IsWriting first (events ++ e ∷ []) handle (running_from (length events + 1) (MakeCall (call_kinds.Write kind size bytes id)) store ignoring)) same
+    subst (IsAtOwnWrite first (events ++ e ∷ []) handle (running_from (length events + 1) (MakeCall (call_kinds.Write kind size bytes id)) store ignoring) nothing_in_front) same
     (writing_begun first events e handle store ignoring kind size bytes id sized)
 write_starts first events e handle store ignoring (MakeCall call) folder sized at = absurd (cc at)
 
-module _ (first : Volume) (events : List Event) (handle : ℕ) (running : Running) (folder : LooseCall) (ask : DiskAsk) (knows : IsWriting first events handle running folder) (is : disk_ask_of folder ≡ Some ask) where
+module _ (first : Volume) (events : List Event) (handle : ℕ) (running : Running) (folder : LooseCall) (ask : DiskAsk) (knows : IsAtOwnWrite first events handle running nothing_in_front folder) (is : disk_ask_of folder ≡ Some ask) where
+  abbrev own : IsWriting first events handle running folder
+  own = knows.writing
+
   -- it asks what its stage does
-  same_ask : ask_at_stage knows.write knows.stage ≡ ask
-  same_ask = let both : Some (ask_at_stage knows.write knows.stage) ≡ Some ask = sym (ap disk_ask_of knows.is) ∙ is in cc both
+  same_ask : ask_at_stage own.write own.stage ≡ ask
+  same_ask = let both : Some (ask_at_stage own.write own.stage) ≡ Some ask = sym (ap disk_ask_of own.is) ∙ is in cc both
 
   write_takes : HasTurn first events handle running running.task ask
   write_takes =
       subst (λ a. HasTurn first events handle running running.task a) same_ask
-      (subst (λ task. HasTurn first events handle running task (ask_at_stage knows.write knows.stage)) (sym knows.task)
+      (subst (λ task. HasTurn first events handle running task (ask_at_stage own.write own.stage)) (sym knows.task)
       (record {
         in_order = in_order_write first events handle running folder knows;
-        five = five_written first events handle running folder knows;
+        five = five_written first events handle running folder own;
       }))
 
   machine_comes : (e : Event) → running.begun ≤ length events → IsTurnWith first events e handle ask
@@ -78,9 +82,9 @@ write_asks : (folder own : LooseCall) → Some folder ≡ Some own → disk_ask_
 write_asks folder own is = let same : folder ≡ own = cc is in ap disk_ask_of same
 
 write_known : (first : Volume) (events : List Event) (handle : ℕ) (running : Running) (folder own : LooseCall)
-    → IsWriting first events handle running folder → Some folder ≡ Some own
+    → IsAtOwnWrite first events handle running nothing_in_front folder → Some folder ≡ Some own
     → IsWriting first events handle running own
-write_known first events handle running folder own knows is = let same : folder ≡ own = cc is in subst (IsWriting first events handle running) same knows
+write_known first events handle running folder own knows is = let same : folder ≡ own = cc is in subst (IsWriting first events handle running) same knows.writing
 
 writing_writes : KeepsWriteLaws writing
 writing_writes = record {
@@ -88,7 +92,7 @@ writing_writes = record {
   known = write_known;
   asks = λ store folder own is. write_asks folder own is;
   ends = λ store folder own answer reply is done. write_ends folder own answer reply is done;
-  before = λ store folder next answer own goes is. (folder, refl);
+  before = λ store folder next answer own goes is. inl (folder, refl);
 }
 
 pub writing_laws : KeepsLaws writing
@@ -97,11 +101,11 @@ writing_laws = record {
   asks = λ store ignoring code own folder. refl;
   feeds = λ store ignoring code own folder answer. write_placed (loose_order.fed folder answer) (reply_of (loose_order.fed folder answer));
   starts = write_starts;
-  tasked = λ first events handle running folder knows. record { write = knows.write; task_is = knows.task; stage = knows.stage; is = knows.is };
+  tasked = λ first events handle running folder knows. record { write = knows.writing.write; task_is = knows.task; stage = knows.writing.stage; is = knows.writing.is };
   bounded = λ store task folder is entries. refl;
   still = λ store folder ask is. call_asks_still folder ask is;
-  kept = λ first events e handle running folder other knows. writing_push first events e handle running folder other knows;
-  names = λ first events handle running folder knows. (ask_at_stage knows.write knows.stage, ap disk_ask_of knows.is);
+  kept = λ first events e handle running folder other knows. writing_push first events e handle running folder other nothing_in_front knows;
+  names = λ first events handle running folder knows. (ask_at_stage knows.writing.write knows.writing.stage, ap disk_ask_of knows.writing.is);
   takes = λ first events handle running folder ask knows is. write_takes first events handle running folder ask knows is;
   comes = λ first events e handle running since folder ask knows is turn. machine_comes first events handle running folder ask knows is e since turn;
   writes = writing_writes;

@@ -1,4 +1,4 @@
--- Which call of the disk a turn makes, by the task of its handle and the turns that it has had before.
+-- Which call of the disk a turn makes, by the task of its handle and the turns that its work has had before.
 use Rattle.std.specs.Prelude.{◌≡◌, ℕ, ◌+◌, ◌*◌, ◌<◌, Bool, true, List, length, slice_get, Some}
 use Rattle.odb_base.specs.Path.{Path}
 use Rattle.odb_disk.specs.MemDisk.{Volume}
@@ -12,14 +12,21 @@ use Rattle.gix_odb_loose.specs.WritePieces.{piece_size}
 use Rattle.gix_odb.specs.declared.call.Call.TheVariants as calls
 use Rattle.gix_odb.specs.declared.query.Query.TheVariants.{Find, Header, Test}
 use Rattle.gix_odb.specs.Contents.{folder_list, sought}
+use Rattle.gix_odb_world.specs.AtWork.{nothing_in_front}
 use Rattle.gix_odb_world.specs.Event.{Event}
 use Rattle.gix_odb_world.specs.Status.{Store, MakeCall, OpenStore, Task}
 use Rattle.gix_odb_world.specs.Writing.{DoneSince, ToWrite, name_to_write, to_write}
 
--- In turn t of a query, counted from 0, the t-th folder of the store is asked.
-pub record AsksFolder (store : Store) (turns : ℕ) (of : Path → DiskAsk) (ask : DiskAsk) : Type 0 where
+-- Work behind so many turns of its task asks so in its own turns, which are counted from 0.
+pub record AsksBehind (front turns : ℕ) (Asks : (own : ℕ) → Type 0) : Type 0 where
+  pub own : ℕ
+  pub turn : turns ≡ front + own
+  pub asks : Asks own
+
+-- In its own turn t a query asks the t-th folder of the store.
+pub record AsksFolder (store : Store) (own : ℕ) (of : Path → DiskAsk) (ask : DiskAsk) : Type 0 where
   pub folder : Path
-  pub place : slice_get (folder_list store.parts) turns ≡ Some folder
+  pub place : slice_get (folder_list store.parts) own ≡ Some folder
   pub is : ask ≡ of folder
 
 -- the write has made its temporary file with this number
@@ -27,31 +34,32 @@ abbrev pub HasMadeFile : Volume → List Event → (handle begun : ℕ) → ToWr
 HasMadeFile first past handle begun w number = DoneSince first past handle begun (asks.NewFile (temp_path w.objects number))
 
 -- A write tries one name after another. The file has the number of the last try; then come the header, the data in pieces, the
--- directory and the name, one turn each. Only the removal of the file may come in any turn after its making.
-pub data AsksToWrite (first : Volume) (past : List Event) (handle begun turns : ℕ) (w : ToWrite) : DiskAsk → Type 0 where
-  MakesFile : (number : ℕ) (below : number < temp_names) (turn : turns ≡ number)
-      → AsksToWrite first past handle begun turns w (asks.NewFile (temp_path w.objects number))
-  AppendsHeader : (number : ℕ) (made : HasMadeFile first past handle begun w number) (turn : turns ≡ number + 1)
-      → AsksToWrite first past handle begun turns w (asks.Append (temp_path w.objects number) (header_of w.kind w.size))
-  AppendsPiece : (number : ℕ) (made : HasMadeFile first past handle begun w number) (count : ℕ) (turn : turns ≡ number + 2 + count)
+-- directory and the name, one turn of its own each. Only the removal of the file may come in any turn after its making.
+pub data AsksToWrite (first : Volume) (past : List Event) (handle begun own : ℕ) (w : ToWrite) : DiskAsk → Type 0 where
+  MakesFile : (number : ℕ) (below : number < temp_names) (turn : own ≡ number)
+      → AsksToWrite first past handle begun own w (asks.NewFile (temp_path w.objects number))
+  AppendsHeader : (number : ℕ) (made : HasMadeFile first past handle begun w number) (turn : own ≡ number + 1)
+      → AsksToWrite first past handle begun own w (asks.Append (temp_path w.objects number) (header_of w.kind w.size))
+  AppendsPiece : (number : ℕ) (made : HasMadeFile first past handle begun w number) (count : ℕ) (turn : own ≡ number + 2 + count)
       (some : piece_size * count < length w.bytes)
-      → AsksToWrite first past handle begun turns w (asks.Append (temp_path w.objects number) (piece_at w.size w.bytes (piece_size * count)))
-  MakesDirectory : (number : ℕ) (made : HasMadeFile first past handle begun w number) (turn : turns ≡ number + 2 + pieces_of (length w.bytes))
-      → AsksToWrite first past handle begun turns w (asks.MakeDir (prefix_path w.objects (name_to_write w)))
-  Renames : (number : ℕ) (made : HasMadeFile first past handle begun w number) (turn : turns ≡ number + 3 + pieces_of (length w.bytes))
-      → AsksToWrite first past handle begun turns w (asks.Rename (temp_path w.objects number) (loose_path w.objects (name_to_write w)))
+      → AsksToWrite first past handle begun own w (asks.Append (temp_path w.objects number) (piece_at w.size w.bytes (piece_size * count)))
+  MakesDirectory : (number : ℕ) (made : HasMadeFile first past handle begun w number) (turn : own ≡ number + 2 + pieces_of (length w.bytes))
+      → AsksToWrite first past handle begun own w (asks.MakeDir (prefix_path w.objects (name_to_write w)))
+  Renames : (number : ℕ) (made : HasMadeFile first past handle begun w number) (turn : own ≡ number + 3 + pieces_of (length w.bytes))
+      → AsksToWrite first past handle begun own w (asks.Rename (temp_path w.objects number) (loose_path w.objects (name_to_write w)))
   Removes : (number : ℕ) (made : HasMadeFile first past handle begun w number)
-      → AsksToWrite first past handle begun turns w (asks.Remove (temp_path w.objects number))
+      → AsksToWrite first past handle begun own w (asks.Remove (temp_path w.objects number))
 
 -- What a turn asks, where its handle has had so many turns since the step that set its task: an opening looks at the objects
--- directory; a find and a header read, and a test looks at, the loose path of the sought id in the folder of that number.
+-- directory; a find and a header read, and a test looks at, the loose path of the sought id in the folder of that number. Nothing
+-- comes in front of a query or a write here.
 abbrev pub AsksInOrder : Volume → List Event → (handle : ℕ) → Store → (ignoring : Bool) → (begun turns : ℕ) → Task → DiskAsk → Type 0
 AsksInOrder first past handle store ignoring begun turns OpenStore ask = (turns ≡ 0) × (ask ≡ asks.Look store.parts.objects true)
 AsksInOrder first past handle store ignoring begun turns (MakeCall (calls.Find id)) ask =
-    AsksFolder store turns (λ folder. asks.Read (loose_path folder (sought store.parts ignoring (Find id)))) ask
+    AsksBehind nothing_in_front turns (λ own. AsksFolder store own (λ folder. asks.Read (loose_path folder (sought store.parts ignoring (Find id)))) ask)
 AsksInOrder first past handle store ignoring begun turns (MakeCall (calls.Header id)) ask =
-    AsksFolder store turns (λ folder. asks.Read (loose_path folder (sought store.parts ignoring (Header id)))) ask
+    AsksBehind nothing_in_front turns (λ own. AsksFolder store own (λ folder. asks.Read (loose_path folder (sought store.parts ignoring (Header id)))) ask)
 AsksInOrder first past handle store ignoring begun turns (MakeCall (calls.Test id)) ask =
-    AsksFolder store turns (λ folder. asks.Look (loose_path folder (sought store.parts ignoring (Test id))) true) ask
+    AsksBehind nothing_in_front turns (λ own. AsksFolder store own (λ folder. asks.Look (loose_path folder (sought store.parts ignoring (Test id))) true) ask)
 AsksInOrder first past handle store ignoring begun turns (MakeCall (calls.Write kind size bytes known)) ask =
-    AsksToWrite first past handle begun turns (to_write store.parts.objects kind size bytes known) ask
+    AsksBehind nothing_in_front turns (λ own. AsksToWrite first past handle begun own (to_write store.parts.objects kind size bytes known) ask)

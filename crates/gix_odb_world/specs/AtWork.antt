@@ -15,6 +15,10 @@ pub data Task : Type 0 where
   OpenStore : Task
   MakeCall : (call : Call) → Task
 
+-- how many turns of a task come in front of work that begins with the task; work behind another phase has more in front of it
+abbrev pub nothing_in_front : ℕ
+nothing_in_front = 0
+
 -- What a handle is at: a task in a store, set by the event that has the number `begun`, with so many turns taken, and the work that
 -- is left of it. `ignoring` says whether it ignores replacements.
 pub record Running : Type 0 where

@@ -1,5 +1,5 @@
--- A handle that is at a write after an event was at it before.
-use Rattle.std.proofs.Common.{◌≡◌, ℕ, ◌<◌, Bool, true, false, Ok, Err, Result, refl, sym, ap, ◌∙◌, subst, arith}
+-- A handle that is at a write after an event, whose file is made, was at it before.
+use Rattle.std.proofs.Common.{◌≡◌, inl, inr, ℕ, ◌<◌, Bool, true, false, Ok, Err, Result, refl, sym, ap, ◌∙◌, subst, arith}
 use Rattle.std.specs.Prelude.{if◌then◌else◌, ◌==◌}
 use Rattle.std.proofs.lemmas.Bool.{eqb-true}
 use Rattle.odb_disk.specs.declared.ask.DiskAnswer.{DiskAnswer}
@@ -14,9 +14,10 @@ use Rattle.gix_odb_world.specs.declared.work.Work.{Work}
 use Rattle.gix_odb_world.specs.Event.{Asked, OfNothing, OfDisk, OfCore}
 use Rattle.gix_odb_world.specs.Machines.{fed_in, write_in}
 use Rattle.gix_odb_world.specs.Status.{IsAtWrite, MakeCall, Running, Store, Status, Free, Resting, Working, after_turn_of, applied, come_to, gone_on, ignoring_from, opening_at, refuses_opening, replied, running_from, started, status_after, turned, with_status}
+use Rattle.gix_odb_world.proofs.MachineLaws.{HasNoFile}
 use Rattle.gix_odb_world.proofs.WorkLaws.{wrote_before}
 
--- ---- a handle that is at a write was at it before
+-- ---- a handle at a write that has made its file was at it before
 
 -- a handle is at a write in a store that it began at a step
 pub record AtWrite (store : Store) (begun : ℕ) (status : Status) : Type 0 where
@@ -26,12 +27,20 @@ pub record AtWrite (store : Store) (begun : ℕ) (status : Status) : Type 0 wher
   pub in_store : running.store ≡ store
   pub since : running.begun ≡ begun
 
+-- and the write has made its file
+pub record AtFile (store : Store) (begun : ℕ) (status : Status) : Type 0 where
+  pub at : AtWrite store begun status
+  pub past : ¬ (HasNoFile at.folder)
+
 one_running : (running other : Running) → Working running ≡ Working other → running ≡ other
 one_running running other same = cc same
 
 module _ (store : Store) (begun : ℕ) where
   abbrev Before : Status → Type 0
   Before = AtWrite store begun
+
+  abbrev After : Status → Type 0
+  After = AtFile store begun
 
   no_write_free : ¬ (Before Free)
   no_write_free a = let is = a.at.works in cc is
@@ -50,23 +59,26 @@ module _ (store : Store) (begun : ℕ) where
   ended reply (Working running) = rests running.store running.ignoring (refuses_opening reply)
 
   come_before : (running : Running) (answer : DiskAnswer) (result : Result Reply Work) → fed_in running.store running.work answer ≡ result
-      → Before (come_to running result) → Before (Working running)
-  come_before running answer (Ok reply) is a = absurd (rests running.store running.ignoring (refuses_opening reply) a)
-  come_before running answer (Err left) is a =
+      → After (come_to running result) → Before (Working running)
+  come_before running answer (Ok reply) is f = absurd (rests running.store running.ignoring (refuses_opening reply) f.at)
+  come_before running answer (Err left) is f =
+      let a : Before (Working (gone_on running left)) = f.at in
       let same : gone_on running left ≡ a.running = one_running (gone_on running left) a.running a.at.works in
-      let was = wrote_before running.store running.work left answer a.folder is (ap (λ (r : Running). write_in r.work) same ∙ a.at.writes) in
-      record {
-        running = running;
-        folder = was.0;
-        at = record { works = refl; writes = was.1 };
-        in_store = ap (λ (r : Running). r.store) same ∙ a.in_store;
-        since = ap (λ (r : Running). r.begun) same ∙ a.since;
-      }
+      elim (wrote_before running.store running.work left answer a.folder is (ap (λ (r : Running). write_in r.work) same ∙ a.at.writes)) [
+        | inl was ↦ record {
+          running = running;
+          folder = was.0;
+          at = record { works = refl; writes = was.1 };
+          in_store = ap (λ (r : Running). r.store) same ∙ a.in_store;
+          since = ap (λ (r : Running). r.begun) same ∙ a.since;
+        }
+        | inr none ↦ absurd (f.past none)
+      ]
 
-  turned_before : (asked : Asked) (status : Status) → Before (turned asked status) → Before status
-  turned_before OfNothing status a = a
-  turned_before (OfDisk ask answer) Free a = a
-  turned_before (OfDisk ask answer) (Resting own mode) a = a
+  turned_before : (asked : Asked) (status : Status) → After (turned asked status) → Before status
+  turned_before OfNothing status a = a.at
+  turned_before (OfDisk ask answer) Free a = a.at
+  turned_before (OfDisk ask answer) (Resting own mode) a = a.at
   turned_before (OfDisk ask answer) (Working running) a = come_before running answer (fed_in running.store running.work answer) refl a
   turned_before (OfCore event) status a = absurd event
 
@@ -89,29 +101,29 @@ module _ (store : Store) (begun : ℕ) where
       absurd (omega (arith, at, soon))
 
   module _ (table : ℕ → Status) (handle : ℕ) where
-    set_before : (number : ℕ) (status : Status) → (Before status → Before (table number)) → Before (with_status table number status handle)
+    set_before : (number : ℕ) (status : Status) → (After status → Before (table number)) → After (with_status table number status handle)
         → Before (table handle)
     set_before number status back = by_number (handle == number) refl
       where
-        by_number : (same : Bool) → (handle == number) ≡ same → Before (if same then status else table handle) → Before (table handle)
+        by_number : (same : Bool) → (handle == number) ≡ same → After (if same then status else table handle) → Before (table handle)
         by_number true is a = subst (λ n. Before (table n)) (sym (eqb-true handle number is)) (back a)
-        by_number false is a = a
+        by_number false is a = a.at
 
-    applied_before : (number : ℕ) (step : Step) → begun < number → Before (applied number step table handle) → Before (table handle)
-    applied_before number (steps.Open h path folders replacements options) soon = set_before h _ (opened_before number _ (table h) soon)
-    applied_before number (steps.Close h) soon = set_before h _ (λ b. absurd (no_write_free b))
-    applied_before number (steps.Ignore h) soon = set_before h _ (ignoring_before (table h))
-    applied_before number (steps.Start h call) soon = set_before h _ (started_before number call (table h) soon)
-    applied_before number step soon = λ a. a
+    applied_before : (number : ℕ) (step : Step) → begun < number → After (applied number step table handle) → Before (table handle)
+    applied_before number (steps.Open h path folders replacements options) soon = set_before h _ (λ a. opened_before number _ (table h) soon a.at)
+    applied_before number (steps.Close h) soon = set_before h _ (λ b. absurd (no_write_free b.at))
+    applied_before number (steps.Ignore h) soon = set_before h _ (λ a. ignoring_before (table h) a.at)
+    applied_before number (steps.Start h call) soon = set_before h _ (λ a. started_before number call (table h) soon a.at)
+    applied_before number step soon = λ a. a.at
 
-    after_turn_before : (step : Step) (next : Status → Status) → ((status : Status) → Before (next status) → Before status)
-        → Before (after_turn_of step next table handle) → Before (table handle)
+    after_turn_before : (step : Step) (next : Status → Status) → ((status : Status) → After (next status) → Before status)
+        → After (after_turn_of step next table handle) → Before (table handle)
     after_turn_before (steps.Turn h) next back = set_before h _ (back (table h))
-    after_turn_before step next back = λ a. a
+    after_turn_before step next back = λ a. a.at
 
     pub write_before : (number : ℕ) (step : Step) (outcome : Outcome) (asked : Asked) → begun < number
-        → Before (status_after number step outcome asked table handle) → Before (table handle)
+        → After (status_after number step outcome asked table handle) → Before (table handle)
     write_before number step outcomes.Applied asked soon = applied_before number step soon
     write_before number step outcomes.Pending asked soon = after_turn_before step (turned asked) (turned_before asked)
-    write_before number step (outcomes.Reply reply) asked soon = after_turn_before step (replied reply) (λ status b. absurd (ended reply status b))
-    write_before number step (outcomes.Misuse why) asked soon = λ a. a
+    write_before number step (outcomes.Reply reply) asked soon = after_turn_before step (replied reply) (λ status b. absurd (ended reply status b.at))
+    write_before number step (outcomes.Misuse why) asked soon = λ a. a.at

@@ -10,6 +10,7 @@ use Rattle.gix_odb.specs.declared.look_state.LookState.{LookState}
 use Rattle.gix_odb.specs.declared.query.Query.{Query}
 use Rattle.gix_odb.specs.declared.query.Query.TheVariants.{Find, Header, Test}
 use Rattle.gix_odb_world.specs.declared.work.Work.TheVariants.{Calling}
+use Rattle.gix_odb_world.specs.AtWork.{nothing_in_front}
 use Rattle.gix_odb_world.specs.Event.{Event}
 use Rattle.gix_odb_world.specs.Running.Query.{IsLooking, call_of}
 use Rattle.gix_odb_world.specs.Status.{MakeCall, OpenStore, Store, Task, begun_with, running_from}
@@ -22,7 +23,7 @@ module _ (first : Volume) (events : List Event) (e : Event) (handle : ℕ) (stor
   whole = events ++ e ∷ []
 
   abbrev Begins : Task → LookState → Type 0
-  Begins task state = IsLooking first whole handle (running_from (length events + 1) task store ignoring) state
+  Begins task state = IsLooking first whole handle (running_from (length events + 1) task store ignoring) nothing_in_front state
 
   abbrev begins_at : Query → LookState
   begins_at query = looks.started store.parts.objects store.parts.limit query (sought store.parts ignoring query)

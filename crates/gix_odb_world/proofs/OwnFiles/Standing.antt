@@ -2,6 +2,7 @@
 use Rattle.std.proofs.Common.{◌≡◌, ◌≢◌, ◌⊎◌, inl, inr, ℕ, ◌+◌, ◌<◌, Bool, true, false, List, [], take, Option, Some, None, Ok, refl, sym, ap, ◌∙◌, subst, arith}
 use Rattle.std.specs.Prelude.{slice_get, ◌==◌}
 use Rattle.std.proofs.lemmas.Bool.{eqb-false, eqb-true}
+use Rattle.std.proofs.lemmas.Option.{slice_get_within}
 use Rattle.odb_base.specs.Path.{Path, parent_of}
 use Rattle.odb_base.specs.PathLaws.{parent_of-push, parent_of-some}
 use Rattle.odb_disk.specs.MemDisk.{Volume}
@@ -14,18 +15,39 @@ use Rattle.odb_tree.specs.declared.change.Change.TheVariants.{PutFile}
 use Rattle.odb_tree.proofs.OwnWayLaws.{Cut, OwnSpot, cut_kept, cut_no_file, own_kept}
 use Rattle.gix_odb_loose.specs.WriteOrder.{number_made, temp_name, temp_path}
 use Rattle.gix_odb_loose.specs.declared.call.LooseCall.{LooseCall}
+use Rattle.gix_odb_loose.specs.declared.call.Stage.TheVariants.{Writing}
+use Rattle.gix_odb_loose.specs.declared.write_at_hand.WriteJob.{WriteJob}
+use Rattle.gix_odb_loose.specs.declared.write_order.WriteStage.{WriteStage}
+use Rattle.gix_odb_loose.specs.declared.write_order.WriteStage.TheVariants.{Making}
 use Rattle.gix_odb_loose.proofs.NameLaws.{IsTemporary, temp_path-is, temporary_spot}
+use Rattle.gix_odb.specs.CallOrder.{hash_to_write}
 use Rattle.gix_odb_world.specs.Event.{Event}
 use Rattle.gix_odb_world.specs.Status.{IsAtWrite, Running, Store, Status, status_after, status_of}
 use Rattle.gix_odb_world.specs.Headline.{IsLawful}
 use Rattle.gix_odb_world.specs.Run.{IsTurnOf, tree_at}
 use Rattle.gix_odb_world.specs.Running.{RunsThroughout}
+use Rattle.gix_odb_world.specs.Running.Write.{IsWriting, write_at}
 use Rattle.gix_odb_world.specs.Undisturbed.{CutsOff, HasMade}
-use Rattle.gix_odb_world.specs.Writing.{LeftAlone}
+use Rattle.gix_odb_world.specs.Writing.{LeftAlone, ToWrite, head_to_write}
 use Rattle.gix_odb_world.proofs.FileSteps.{Does, NotTemporary, does, does_first, does_nothing}
 use Rattle.gix_odb_world.proofs.FileSteps.AtWrite.{AtWrite, write_before}
+use Rattle.gix_odb_world.proofs.MachineLaws.{HasNoFile}
 use Rattle.gix_odb_world.proofs.RunSteps.{IsLeft, left_at, status_next}
-use Rattle.gix_odb_world.proofs.OwnFiles.Writer.{one_event, same_tree_on_way, is_tree, made_at_stage, ByWriter}
+use Rattle.gix_odb_world.proofs.OwnFiles.Writer.{one_event, same_tree_on_way, is_tree, made_at_stage, stage_of_made, writing_at, ByWriter}
+
+abbrev job_at : ToWrite → WriteStage → WriteJob
+job_at w stage = record { head = head_to_write w; stage = stage; bytes = w.bytes; hash = hash_to_write w.known; known = w.known }
+
+-- a write at a stage that has a file has made it
+makes_no_more : (w : ToWrite) (stage : WriteStage) (number : ℕ) (folder : LooseCall) → folder ≡ write_at w stage → number_made stage ≡ Some number
+    → ¬ (HasNoFile folder)
+makes_no_more w stage number folder is made none =
+    let same : write_at w stage ≡ write_at none.write (Making none.number) = sym is ∙ none.is in
+    let staged : Writing (job_at w stage) ≡ Writing (job_at none.write (Making none.number)) = ap (λ (call : LooseCall). call.stage) same in
+    let jobs : job_at w stage ≡ job_at none.write (Making none.number) = cc staged in
+    let at : stage ≡ Making none.number = ap (λ (job : WriteJob). job.stage) jobs in
+    let both : None ≡ Some number = ap number_made (sym at) ∙ made in
+    cc both
 
 module _ (first : Volume) (events : List Event) (start : IsTree (tree_of first.state)) (lawful : IsLawful first events) (throughout : RunsThroughout first events) where
   abbrev tree : ℕ → Tree
@@ -102,10 +124,15 @@ module _ (first : Volume) (events : List Event) (start : IsTree (tree_of first.s
     -- a write that runs after the event, and has made its file before it, ran before it
     pub made_before : (handle made : ℕ) (path : Path) → HasMade first events handle made path (now + 1) → made < now
         → HasMade first events handle made path now
+    unfolding at_write_next
     made_before handle made path hm soon =
         let later = hm.later in
         let at = at_write_next now e there handle hm.running hm.folder hm.at in
-        let was = write_before hm.running.store hm.running.begun (status_of (take now events)) handle (now + 1) e.step e.outcome e.asked (omega (arith, later, soon)) at in
+        let within = slice_get_within events now e there in
+        let writes : IsWriting first (take (now + 1) events) handle hm.running hm.folder = writing_at first events start lawful throughout (now + 1) handle hm.running hm.folder (omega (arith, within)) hm.at in
+        let stage = stage_of_made first events start lawful throughout handle made (now + 1) path hm writes in
+        let past = makes_no_more writes.write writes.stage stage.0 hm.folder writes.is stage.1 in
+        let was = write_before hm.running.store hm.running.begun (status_of (take now events)) handle (now + 1) e.step e.outcome e.asked (omega (arith, later, soon)) (record { at = at; past = past }) in
         let since = was.since in
         record {
           running = was.running;

@@ -1,5 +1,5 @@
 -- What a query has seen since it began, and its machine, of which a public clause needs what it asks and where an answer leads it.
-use Rattle.std.specs.Prelude.{◌≡◌, ◌⊎◌, ℕ, List, drop, length, slice_get, Contains, Option, Some, None}
+use Rattle.std.specs.Prelude.{◌≡◌, ◌⊎◌, ℕ, ◌+◌, List, drop, length, slice_get, Contains, Option, Some, None}
 use Rattle.odb_base.specs.Path.{Path}
 use Rattle.odb_disk.specs.MemDisk.{Volume}
 use Rattle.odb_tree.specs.Tree.{Tree}
@@ -22,7 +22,7 @@ use Rattle.gix_odb_world.specs.Causes.{Sometime, LooseCause}
 use Rattle.gix_odb_world.specs.Event.{Event}
 use Rattle.gix_odb_world.specs.Machine.{Machine}
 use Rattle.gix_odb_world.specs.Run.{tree_at, FailedSince}
-use Rattle.gix_odb_world.specs.AtWork.{MakeCall, Running, Store}
+use Rattle.gix_odb_world.specs.AtWork.{MakeCall, Running, Store, nothing_in_front}
 use Rattle.gix_odb_world.specs.Bound.{bound_of_call}
 
 -- a folder was passed: at some moment its loose path led to no file
@@ -55,18 +55,17 @@ call_of (Find id) = calls.Find id
 call_of (Header id) = calls.Header id
 call_of (Test id) = calls.Test id
 
--- What a query knows. Its place among its folders is the number of turns that its handle has had in the task: no other work is in
--- front of it.
-pub record IsLooking (first : Volume) (events : List Event) (handle : ℕ) (running : Running) (state : LookState) : Type 0 where
+-- What a query knows that comes behind so many turns of its task. Its place among its folders is the number of its own turns.
+pub record IsLooking (first : Volume) (events : List Event) (handle : ℕ) (running : Running) (front : ℕ) (state : LookState) : Type 0 where
   pub task : running.task ≡ MakeCall (call_of state.head.query)
   pub place : ℕ
-  pub turns : running.turns ≡ place
+  pub turns : running.turns ≡ front + place
   pub seeks_id : state.head.id ≡ sought running.store.parts running.ignoring state.head.query
   pub seeks : Seeks (tree_at first events) (FailedSince events handle running.begun) running.store running.begun (length events) place state.head.query state.head.id state.stage
 
 -- ---- its machine
 
--- a query as a machine: one folder after another
+-- a query as a machine, with nothing in front of it: one folder after another
 abbrev pub looking : Machine
 looking = record {
   State = LookState;
@@ -76,5 +75,5 @@ looking = record {
   writes = λ state. None;
   IsFor = λ task state. task ≡ MakeCall (call_of state.head.query);
   bound = λ store task entries. bound_of_call store entries None;
-  Knows = λ first events handle running state. IsLooking first events handle running state;
+  Knows = λ first events handle running state. IsLooking first events handle running nothing_in_front state;
 }

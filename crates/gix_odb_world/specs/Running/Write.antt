@@ -23,7 +23,7 @@ use Rattle.gix_odb.specs.declared.call_state.CallState.TheVariants.{Writing}
 use Rattle.gix_odb_world.specs.declared.work.Work.TheVariants.{Calling}
 use Rattle.gix_odb_world.specs.Event.{Event}
 use Rattle.gix_odb_world.specs.Machine.{Machine}
-use Rattle.gix_odb_world.specs.AtWork.{MakeCall, Running, Task}
+use Rattle.gix_odb_world.specs.AtWork.{MakeCall, Running, Task, nothing_in_front}
 use Rattle.gix_odb_world.specs.Bound.{bound_of_task}
 use Rattle.gix_odb_world.specs.Run.{tree_at}
 use Rattle.gix_odb.specs.CallOrder.{hash_to_write, wrote_as}
@@ -73,18 +73,22 @@ pub record StandsAt (first : Volume) (events : List Event) (handle begun own : �
   pub untouched : IsUntouched events handle begun (number_made stage)
   pub holds : Holds first events handle begun w.objects (number_made stage) (content_at w stage)
 
--- A running write: what it is to write, and what it knows. It has had as many turns of its own as its handle has had in the task: no
--- other work is in front of it.
+-- A running write: what it is to write, and what it knows after so many turns of its own. Its handle's task may be another one, of
+-- which other turns came in front.
 pub record IsWriting (first : Volume) (events : List Event) (handle : ℕ) (running : Running) (folder : LooseCall) : Type 0 where
   pub write : ToWrite
-  pub task : running.task ≡ MakeCall (call_to_write write)
   pub into : write.objects ≡ running.store.parts.objects
   pub fits : write.size < 2 ^ 64
   pub stage : WriteStage
   pub is : folder ≡ write_at write stage
   pub own : ℕ
-  pub turns : running.turns ≡ own
   pub stands : StandsAt first events handle running.begun own write stage
+
+-- a write that is the task of its handle, behind so many turns of it
+pub record IsAtOwnWrite (first : Volume) (events : List Event) (handle : ℕ) (running : Running) (front : ℕ) (folder : LooseCall) : Type 0 where
+  pub writing : IsWriting first events handle running folder
+  pub task : running.task ≡ MakeCall (call_to_write writing.write)
+  pub turns : running.turns ≡ front + writing.own
 
 -- ---- its machine
 
@@ -104,7 +108,7 @@ pub record IsForWrite (task : Task) (folder : LooseCall) : Type 0 where
   pub stage : WriteStage
   pub is : folder ≡ write_at write stage
 
--- a write as a machine
+-- a write as a machine, with nothing in front of it
 abbrev pub writing : Machine
 writing = record {
   State = LooseCall;
@@ -114,5 +118,5 @@ writing = record {
   writes = λ folder. Some folder;
   IsFor = λ task folder. IsForWrite task folder;
   bound = λ store task entries. bound_of_task store task entries;
-  Knows = λ first events handle running folder. IsWriting first events handle running folder;
+  Knows = λ first events handle running folder. IsAtOwnWrite first events handle running nothing_in_front folder;
 }
