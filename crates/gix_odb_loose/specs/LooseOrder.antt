@@ -19,6 +19,7 @@ use Rattle.gix_odb_loose.specs.declared.call.LooseReply.TheVariants as replies
 use Rattle.gix_odb_loose.specs.declared.call.LooseCall.{LooseCall}
 use Rattle.gix_odb_loose.specs.WriteOrder.{number_made, temporary_of}
 use Rattle.gix_odb_loose.specs.WriteJobs.{ask_in, advance_by, writes_left}
+use Rattle.gix_odb_loose.specs.declared.write_order.WriteAsk.TheVariants as wants
 use Rattle.gix_odb_loose.specs.declared.write_order.WriteStage.TheVariants as writes
 use Rattle.gix_odb_loose.specs.declared.write_at_hand.Advance.{Advance}
 use Rattle.gix_odb_loose.specs.declared.write_at_hand.Advance.TheVariants as advances
@@ -106,7 +107,7 @@ abbrev pub asks_left : Stage → ℕ
 asks_left (stages.Testing path) = 1
 asks_left (stages.Finding path limit) = 1
 asks_left (stages.Heading path) = 1
-asks_left (stages.Writing job) = writes_left (length job.bytes) job.stage
+asks_left (stages.Writing job) = writes_left (length job.bytes) (wants.Disk job.stage)
 asks_left (stages.Done reply) = 0
 
 abbrev pub temporary_at : Stage → Option Path
