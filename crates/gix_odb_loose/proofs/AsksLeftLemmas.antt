@@ -11,7 +11,7 @@ use Rattle.gix_odb_loose.specs.WriteOrder.{made_by, headed_by, filled_by, folder
 use Rattle.gix_odb_loose.specs.WritePieces.{piece_size, room_behind}
 use Rattle.gix_odb_loose.proofs.RoomLemmas.{whole_piece}
 use Rattle.gix_odb_loose.proofs.WriteJobsLemmas.{fewer_left, ended_fewer}
-use Rattle.gix_odb_loose.specs.WriteJobs.{supplied, name_of, piece_at, piece_of, next_in, advance_to, pieces_of, writes_left, wants_left, onward_left}
+use Rattle.gix_odb_loose.specs.WriteJobs.{supplied, name_of, piece_at, piece_of, next_in, advance_to, pieces_of, onward_ask, writes_left}
 use Rattle.gix_odb_loose.specs.declared.call.LooseCall.{LooseCall}
 use Rattle.gix_odb_loose.specs.declared.call.Stage.{Stage as CallStage}
 use Rattle.gix_odb_loose.specs.declared.call.Stage.TheVariants as calls
@@ -24,7 +24,7 @@ use Rattle.gix_odb_loose.specs.declared.write_order.WriteStage.TheVariants as st
 use Rattle.gix_odb_loose.specs.declared.write_order.Refusal.TheVariants as refusals
 use Rattle.gix_odb_loose.specs.declared.write_at_hand.WriteJob.{WriteJob}
 
-advance_left : (job : WriteJob) (onward : Onward) → asks_left (written_to job (advance_to job onward)) ≡ onward_left (length job.bytes) onward
+advance_left : (job : WriteJob) (onward : Onward) → asks_left (written_to job (advance_to job onward)) ≡ writes_left (length job.bytes) (onward_ask onward)
 advance_left job (Stage stage) = refl
 advance_left job (End end) = refl
 
@@ -39,16 +39,16 @@ module _ (job : WriteJob) where
   -- ---- the end of the data takes no more asks
 
   supply_fill : (number written : ℕ) (b : Bool) → nat_le n written ≡ b
-      → writes_left n (if b then ended_with job.head.size (name_of job) number written else stages.Filling number written) ≤ 4 + pieces_of (n - written)
+      → writes_left n (wants.Disk (if b then ended_with job.head.size (name_of job) number written else stages.Filling number written)) ≤ 4 + pieces_of (n - written)
   supply_fill number written true e = omega (arith, ended_fewer n job.head.size (name_of job) number written)
   supply_fill number written false e = omega arith
 
   supply_strict : (number written : ℕ) (b : Bool) → nat_le n written ≡ b → n ≤ written
-      → writes_left n (if b then ended_with job.head.size (name_of job) number written else stages.Filling number written) < 4
+      → writes_left n (wants.Disk (if b then ended_with job.head.size (name_of job) number written else stages.Filling number written)) < 4
   supply_strict number written true e past = ended_fewer n job.head.size (name_of job) number written
   supply_strict number written false e past = absurd (grind (arith, common_steps, e, past))
 
-  supplied_left : (wanted : WriteAsk) → onward_left n (supplied job wanted) ≤ wants_left n wanted
+  supplied_left : (wanted : WriteAsk) → writes_left n (onward_ask (supplied job wanted)) ≤ writes_left n wanted
   supplied_left (wants.Disk stage) = omega arith
   supplied_left (wants.Data number written) = supply_fill number written (nat_le n written) refl
   supplied_left (wants.Done end) = omega arith
@@ -62,7 +62,7 @@ module _ (job : WriteJob) where
   piece_is written = length-take (room_behind job.head.size written) (drop written job.bytes) ∙ ap (min (room_behind job.head.size written)) (length-drop written job.bytes)
 
   grown_left : (number written : ℕ) (past : Bool) → nat_le n (written + piece written) ≡ past → written + piece written ≤ job.head.size
-      → onward_left n (supplied job (wants.Data number (written + piece written))) < 4 + pieces_of (n - written)
+      → writes_left n (onward_ask (supplied job (wants.Data number (written + piece written)))) < 4 + pieces_of (n - written)
   grown_left number written true e fits =
       let inside : n ≤ written + piece written = grind (arith, common_steps, e) in
       let less = supply_strict number (written + piece written) (nat_le n (written + piece written)) refl inside in omega (arith, less)
@@ -76,11 +76,11 @@ module _ (job : WriteJob) where
       omega (arith, least', fewer)
 
   fits_left : (number written : ℕ) (b : Bool) → nat_le (written + piece written) job.head.size ≡ b
-      → onward_left n (supplied job (if b then wants.Data number (written + piece written) else wants.Disk (stages.Removing number (refusals.SizeMismatch (grown written (piece written)))))) < 4 + pieces_of (n - written)
+      → writes_left n (onward_ask (supplied job (if b then wants.Data number (written + piece written) else wants.Disk (stages.Removing number (refusals.SizeMismatch (grown written (piece written))))))) < 4 + pieces_of (n - written)
   fits_left number written true e = grown_left number written (nat_le n (written + piece written)) refl (grind (arith, common_steps, e))
   fits_left number written false e = omega arith
 
-  filled_left : (number written : ℕ) (given : DiskAnswer) → onward_left n (supplied job (filled_by number written job.head.size (piece written) given)) < 4 + pieces_of (n - written)
+  filled_left : (number written : ℕ) (given : DiskAnswer) → writes_left n (onward_ask (supplied job (filled_by number written job.head.size (piece written) given))) < 4 + pieces_of (n - written)
   filled_left number written answers.Done = fits_left number written (nat_le (written + piece written) job.head.size) refl
   filled_left number written (answers.Meta meta) = omega arith
   filled_left number written (answers.Dir dir) = omega arith
@@ -90,7 +90,7 @@ module _ (job : WriteJob) where
   filled_left number written (answers.Refused error) = omega arith
 
   -- what is asked next, where a stage waits for no data
-  other_left : (stage : WriteStage) (given : DiskAnswer) → written_in stage ≡ None → onward_left n (supplied job (next_write job.head.size 0 stage given)) < writes_left n stage
+  other_left : (stage : WriteStage) (given : DiskAnswer) → written_in stage ≡ None → writes_left n (onward_ask (supplied job (next_write job.head.size 0 stage given))) < writes_left n (wants.Disk stage)
   other_left (stages.Making number) given none = omega (arith, supplied_left (made_by number given), fewer_left n job.head.size (stages.Making number) 0 given tt)
   other_left (stages.Heading number) given none = omega (arith, supplied_left (headed_by number given), fewer_left n job.head.size (stages.Heading number) 0 given tt)
   other_left (stages.Filling number written) given none = absurd (cc none)
@@ -98,7 +98,7 @@ module _ (job : WriteJob) where
   other_left (stages.Moving number id) given none = omega (arith, supplied_left (moved_by number id given), fewer_left n job.head.size (stages.Moving number id) 0 given tt)
   other_left (stages.Removing number refusal) given none = omega arith
 
-  pub stage_left : (stage : WriteStage) (given : DiskAnswer) → onward_left n (supplied job (next_write job.head.size (length (piece_of job.head.size job.bytes (written_in stage))) stage given)) < writes_left n stage
+  pub stage_left : (stage : WriteStage) (given : DiskAnswer) → writes_left n (onward_ask (supplied job (next_write job.head.size (length (piece_of job.head.size job.bytes (written_in stage))) stage given))) < writes_left n (wants.Disk stage)
   stage_left (stages.Making number) given = other_left (stages.Making number) given refl
   stage_left (stages.Heading number) given = other_left (stages.Heading number) given refl
   stage_left (stages.Filling number written) given = filled_left number written given

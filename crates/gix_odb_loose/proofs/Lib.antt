@@ -8,7 +8,6 @@ pub mod AsksLeftLemmas
 pub mod StillAskLaws
 pub mod NameLaws
 mod RunLemmas
-mod TurnLemmas
 pub mod RoomLemmas
 mod WriteJobsLemmas
 mod WriteStreamsLemmas

@@ -1,9 +1,9 @@
--- From the reply that a call comes to over a disk to what the store's calls promise.
-use Rattle.std.specs.Prelude.{◌≡◌, ◌↔◌, ⊤, ℕ, Bool, IsTrue, true, List, Option, Some, None, Result, Ok, Err, IfOk, IfErr, IfSome, refl}
+-- From the disk's one answer to what the store's calls that find promise.
+use Rattle.std.specs.Prelude.{◌≡◌, ◌↔◌, ⊤, ℕ, Bool, IsTrue, true, false, List, Option, Some, None, Result, Ok, Err, IfOk, IfErr, IfSome, refl}
 use Rattle.std.proofs.Common.{sym, ap, ◌∙◌, subst}
-use Rattle.odb_base.specs.Faults.{Rose}
 use Rattle.odb_base.specs.Path.{Path}
-use Rattle.odb_disk.specs.Ask.{AnswersAsk, answer_of, meta_answer, file_answer}
+use Rattle.odb_disk.specs.Ask.{AnswersAsk, answer_of, change_of_ask, meta_answer, file_answer, state_told_after}
+use Rattle.odb_disk.specs.StreamAsks.{is_of_streams}
 use Rattle.odb_tree.specs.Tree.{State, tree_of}
 use Rattle.odb_tree.specs.Tree.Follow.{looked, read_of}
 use Rattle.odb_disk.specs.declared.ask.DiskAsk.{DiskAsk}
@@ -14,35 +14,72 @@ use Rattle.odb_tree.specs.declared.disk_error.DiskError.TheVariants as disk_erro
 use Rattle.gix_hash.specs.declared.object_id.ObjectId.{ObjectId}
 use Rattle.gix_object.specs.Data.{Object}
 use Rattle.gix_object.specs.declared.kind.Kind.{Kind}
-use Rattle.gix_odb_loose.specs.Store.{store_path, store_limit}
-use Rattle.gix_odb_loose.specs.LooseFile.{Reading, loose_path, LeadsToFile, HoldsObject, HoldsHeader}
-use Rattle.gix_odb_loose.specs.Causes.{FindCause, HeaderCause}
-use Rattle.gix_odb_loose.specs.Answers.{ComesTo, AnswersRead, GaveIn}
-use Rattle.gix_odb_loose.specs.LooseOrder.{started}
+use Rattle.gix_odb_loose.specs.Store.{store_limit}
+use Rattle.gix_odb_loose.specs.LooseFile.{Reading, LeadsToFile, HoldsObject, HoldsHeader}
+use Rattle.gix_odb_loose.specs.Causes.{FindCause, HeaderCause, TestCause}
+use Rattle.gix_odb_loose.specs.Answers.{ComesTo, AnswersRead, GaveIn, path_in, Finds, TellsHeader, FindRefused, HeaderRefused, TestRefused}
 use Rattle.gix_odb_loose.specs.LooseOrder.Answered.{tested_by, found_by, header_by}
 use Rattle.gix_odb_loose.proofs.LooseOrderLaws.Read.{found_by-Err, found_by-Err_untold, header_by-Err, header_by-Err_untold, found_by-AnswersRead, header_by-AnswersRead}
-use Rattle.gix_odb_loose.proofs.LooseOrderLaws.Look.{tested_by-Ok}
-use Rattle.gix_odb_loose.specs.Runs.{ComesToReply}
+use Rattle.gix_odb_loose.proofs.LooseOrderLaws.Look.{tested_by-Err, tested_by-Ok}
 use Rattle.gix_odb_loose.specs.declared.find.Error.{Error}
 use Rattle.gix_odb_loose.specs.declared.find.Error.TheVariants as errors
 use Rattle.gix_odb_loose.specs.declared.store.Store.{Store}
-use Rattle.gix_odb_loose.specs.declared.call.LooseJob.TheVariants as jobs
-use Rattle.gix_odb_loose.specs.declared.call.LooseReply.{LooseReply}
-use Rattle.gix_odb_loose.specs.declared.call.LooseReply.TheVariants as replies
 
 -- ---- what a told tree answers
 
-asked_read : (state : Option State) (path : Path) (ask : DiskAsk) (given : DiskAnswer) → Some (asks.Read path) ≡ Some ask → IfSome state (λ s. AnswersAsk given (answer_of (tree_of s) ask))
-    → IfSome state (λ s. AnswersAsk given (file_answer (read_of (tree_of s) path)))
-unfolding answer_of
-asked_read None path ask given is told = tt
-asked_read (Some s) path ask given is told = let same : asks.Read path ≡ ask = cc is in subst (λ a. AnswersAsk given (answer_of (tree_of s) a)) (sym same) told
+-- a look or a read leaves the disk as it was
+abbrev IsReading : DiskAsk → Type 0
+IsReading (asks.Look path follow) = Unit {0}
+IsReading (asks.Read path) = Unit {0}
+IsReading ask = ⊥
 
-asked_look : (state : Option State) (path : Path) (ask : DiskAsk) (given : DiskAnswer) → Some (asks.Look path true) ≡ Some ask → IfSome state (λ s. AnswersAsk given (answer_of (tree_of s) ask))
+reading_state : (s : State) (ask : DiskAsk) (given : DiskAnswer) → IsReading ask → state_told_after (Some s) ask given ≡ Some s
+unfolding change_of_ask
+reading_state s (asks.Look path follow) answers.Done reading = refl
+reading_state s (asks.Read path) answers.Done reading = refl
+reading_state s ask (answers.Meta meta) reading = refl
+reading_state s ask (answers.File bytes time) reading = refl
+reading_state s ask (answers.Dir dir) reading = refl
+reading_state s ask (answers.Entry entry) reading = refl
+reading_state s ask answers.End reading = refl
+reading_state s ask (answers.Refused error) reading = refl
+reading_state s (asks.OpenDir path) answers.Done reading = absurd reading
+reading_state s (asks.NextEntry dir) answers.Done reading = absurd reading
+reading_state s (asks.CloseDir dir) answers.Done reading = absurd reading
+reading_state s (asks.MakeDir path) answers.Done reading = absurd reading
+reading_state s (asks.NewFile path) answers.Done reading = absurd reading
+reading_state s (asks.Append path bytes) answers.Done reading = absurd reading
+reading_state s (asks.Rename from to) answers.Done reading = absurd reading
+reading_state s (asks.Remove path) answers.Done reading = absurd reading
+
+reading_kept : (o : Option State) (ask : DiskAsk) (given : DiskAnswer) → IsReading ask → state_told_after o ask given ≡ o
+reading_kept None ask given reading = refl
+reading_kept (Some s) ask given reading = reading_state s ask given reading
+
+
+pub look_still : (path : Path) (ask : DiskAsk) → ask ≡ asks.Look path true → is_of_streams ask ≡ false
+look_still path ask is = ap is_of_streams is
+
+pub look_kept : (state new : Option State) (path : Path) (ask : DiskAsk) (given : DiskAnswer) → ask ≡ asks.Look path true → new ≡ state_told_after state ask given → new ≡ state
+look_kept state new path ask given is left = left ∙ ap (λ (a : DiskAsk). state_told_after state a given) is ∙ reading_kept state (asks.Look path true) given tt
+
+pub look_told : (state : Option State) (path : Path) (ask : DiskAsk) (given : DiskAnswer) → ask ≡ asks.Look path true → IfSome state (λ s. AnswersAsk given (answer_of (tree_of s) ask))
     → IfSome state (λ s. AnswersAsk given (meta_answer (looked (tree_of s) path true)))
 unfolding answer_of
-asked_look None path ask given is told = tt
-asked_look (Some s) path ask given is told = let same : asks.Look path true ≡ ask = cc is in subst (λ a. AnswersAsk given (answer_of (tree_of s) a)) (sym same) told
+look_told None path ask given is told = tt
+look_told (Some s) path ask given is told = subst (λ a. AnswersAsk given (answer_of (tree_of s) a)) is told
+
+pub read_still : (path : Path) (ask : DiskAsk) → ask ≡ asks.Read path → is_of_streams ask ≡ false
+read_still path ask is = ap is_of_streams is
+
+pub read_kept : (state new : Option State) (path : Path) (ask : DiskAsk) (given : DiskAnswer) → ask ≡ asks.Read path → new ≡ state_told_after state ask given → new ≡ state
+read_kept state new path ask given is left = left ∙ ap (λ (a : DiskAsk). state_told_after state a given) is ∙ reading_kept state (asks.Read path) given tt
+
+pub read_told : (state : Option State) (path : Path) (ask : DiskAsk) (given : DiskAnswer) → ask ≡ asks.Read path → IfSome state (λ s. AnswersAsk given (answer_of (tree_of s) ask))
+    → IfSome state (λ s. AnswersAsk given (file_answer (read_of (tree_of s) path)))
+unfolding answer_of
+read_told None path ask given is told = tt
+read_told (Some s) path ask given is told = subst (λ a. AnswersAsk given (answer_of (tree_of s) a)) is told
 
 -- ---- results and their errors
 
@@ -128,47 +165,35 @@ test_told None path given told result e = tt
 test_told (Some s) path given told (Ok there) e = tested_by-Ok (tree_of s) path given told there e
 test_told (Some s) path given told (Err error) e = tt
 
-module _ (state : Option State) (before now : ℕ) (store : Store) (id : ObjectId) (reply : LooseReply) where
-  -- a find
-  module _ (run : ComesToReply state before now (started store (jobs.Find id)) reply) where
-    found_is : (result : Result (Option (Kind × List ℕ)) Error) → reply ≡ replies.Found result → found_by (loose_path (store_path store) id) (store_limit store) run.given ≡ result
-    found_is result e = cc (e, run.replied)
+-- ---- what the calls of a store answer, which go to the path of an object
 
-    pub find_answers : (result : Result (Option (Kind × List ℕ)) Error) → reply ≡ replies.Found result
-        → IfSome state (λ s. AnswersRead (read_of (tree_of s) (loose_path (store_path store) id)) (λ bytes object. HoldsObject (store_limit store) bytes object.kind object.bytes) (Rose before now) (object_result result))
-    find_answers result e =
-        subst (λ r. IfSome state (λ s. AnswersRead (read_of (tree_of s) (loose_path (store_path store) id)) (λ bytes object. HoldsObject (store_limit store) bytes object.kind object.bytes) (Rose before now) (object_result r))) (found_is result e)
-        (find_told state (loose_path (store_path store) id) (store_limit store) run.given (Rose before now) run.gave.failed (asked_read state (loose_path (store_path store) id) run.ask run.given run.asked run.gave.told))
-
-    pub find_cause : (error : Error) → reply ≡ replies.Found (Err error)
-        → FindCause (loose_path (store_path store) id) (store_limit store) (GaveIn state (loose_path (store_path store) id)) (Rose before now) ⊤ error
-    find_cause error e =
-        find_refused state (loose_path (store_path store) id) (store_limit store) run.given (Rose before now) run.gave.failed
-        (asked_read state (loose_path (store_path store) id) run.ask run.given run.asked run.gave.told) error (found_is (Err error) e)
-
-  -- a look for a header
-  module _ (run : ComesToReply state before now (started store (jobs.Header id)) reply) where
-    header_is : (result : Result (Option (ℕ × Kind)) Error) → reply ≡ replies.Header result → header_by (loose_path (store_path store) id) run.given ≡ result
-    header_is result e = cc (e, run.replied)
-
-    pub header_answers : (result : Result (Option (ℕ × Kind)) Error) → reply ≡ replies.Header result
-        → IfSome state (λ s. AnswersRead (read_of (tree_of s) (loose_path (store_path store) id)) (λ bytes x. HoldsHeader bytes x.1 x.0) (Rose before now) result)
-    header_answers result e =
-        subst (λ r. IfSome state (λ s. AnswersRead (read_of (tree_of s) (loose_path (store_path store) id)) (λ bytes x. HoldsHeader bytes x.1 x.0) (Rose before now) r)) (header_is result e)
-        (header_told state (loose_path (store_path store) id) run.given (Rose before now) run.gave.failed (asked_read state (loose_path (store_path store) id) run.ask run.given run.asked run.gave.told))
-
-    pub header_cause : (result : Result (Option (ℕ × Kind)) Error) → reply ≡ replies.Header result
-        → IfErr result (HeaderCause (loose_path (store_path store) id) (GaveIn state (loose_path (store_path store) id)) (Rose before now) ⊤)
-    header_cause (Ok found) e = tt
-    header_cause (Err error) e =
-        header_refused state (loose_path (store_path store) id) run.given (Rose before now) run.gave.failed
-        (asked_read state (loose_path (store_path store) id) run.ask run.given run.asked run.gave.told) error (header_is (Err error) e)
-
+module _ (state : Option State) (store : Store) (id : ObjectId) (at : Path) (given : DiskAnswer) (Failed : Type 0) (same : at ≡ path_in store id) (cause : given ≡ answers.Refused disk_errors.Failed → Failed) where
   -- a test of presence
-  module _ (run : ComesToReply state before now (started store (jobs.Contains id)) reply) where
-    test_is : (result : Result Bool Error) → reply ≡ replies.Contains result → tested_by (loose_path (store_path store) id) run.given ≡ result
-    test_is result e = cc (e, run.replied)
+  pub test_answers : IfSome state (λ s. AnswersAsk given (meta_answer (looked (tree_of s) at true))) → (result : Result Bool Error) → result ≡ tested_by at given
+      → IfSome state (λ s. IfOk result (λ there. IsTrue there ↔ LeadsToFile (tree_of s) (path_in store id)))
+  test_answers told result is = subst (λ (p : Path). IfSome state (λ s. IfOk result (λ there. IsTrue there ↔ LeadsToFile (tree_of s) p))) same (test_told state at given told result (sym is))
 
-    pub test_answers : (result : Result Bool Error) → reply ≡ replies.Contains result → IfSome state (λ s. IfOk result (λ there. IsTrue there ↔ LeadsToFile (tree_of s) (loose_path (store_path store) id)))
-    test_answers result e =
-        test_told state (loose_path (store_path store) id) run.given (asked_look state (loose_path (store_path store) id) run.ask run.given run.asked run.gave.told) result (test_is result e)
+  pub test_cause : (result : Result Bool Error) → result ≡ tested_by at given → IfErr result (TestRefused store id Failed)
+  test_cause (Ok there) is = tt
+  test_cause (Err error) is = subst (λ (p : Path). TestCause p Failed ⊤ error) same (tested_by-Err at Failed ⊤ given cause (λ _. tt) error (sym is))
+
+  module _ (told : IfSome state (λ s. AnswersAsk given (file_answer (read_of (tree_of s) at)))) where
+    -- a find
+    pub find_answers : (result : Result (Option (Kind × List ℕ)) Error) → result ≡ found_by at (store_limit store) given → IfSome state (λ s. Finds store id s Failed (object_result result))
+    find_answers result is =
+        subst (λ (p : Path). IfSome state (λ s. AnswersRead (read_of (tree_of s) p) (λ bytes object. HoldsObject (store_limit store) bytes object.kind object.bytes) Failed (object_result result))) same
+        (subst (λ (r : Result (Option (Kind × List ℕ)) Error). IfSome state (λ s. AnswersRead (read_of (tree_of s) at) (λ bytes object. HoldsObject (store_limit store) bytes object.kind object.bytes) Failed (object_result r))) (sym is)
+        (find_told state at (store_limit store) given Failed cause told))
+
+    pub find_cause : (error : Error) → Err error ≡ found_by at (store_limit store) given → FindRefused store id state Failed error
+    find_cause error is = subst (λ (p : Path). FindCause p (store_limit store) (GaveIn state p) Failed ⊤ error) same (find_refused state at (store_limit store) given Failed cause told error (sym is))
+
+    -- a look for a header
+    pub header_answers : (result : Result (Option (ℕ × Kind)) Error) → result ≡ header_by at given → IfSome state (λ s. TellsHeader store id s Failed result)
+    header_answers result is =
+        subst (λ (p : Path). IfSome state (λ s. AnswersRead (read_of (tree_of s) p) (λ bytes x. HoldsHeader bytes x.1 x.0) Failed result)) same
+        (subst (λ (r : Result (Option (ℕ × Kind)) Error). IfSome state (λ s. AnswersRead (read_of (tree_of s) at) (λ bytes x. HoldsHeader bytes x.1 x.0) Failed r)) (sym is) (header_told state at given Failed cause told))
+
+    pub header_cause : (result : Result (Option (ℕ × Kind)) Error) → result ≡ header_by at given → IfErr result (HeaderRefused store id state Failed)
+    header_cause (Ok found) is = tt
+    header_cause (Err error) is = subst (λ (p : Path). HeaderCause p (GaveIn state p) Failed ⊤ error) same (header_refused state at given Failed cause told error (sym is))

@@ -15,7 +15,7 @@ use Rattle.gix_odb_loose.specs.WriteAsks.{write_of, onward_along, asks_along, as
 use Rattle.gix_odb_loose.specs.WriteDone.{GetsNameOf, CountsOf, data_at, HasDone, HasDoneTo, HasAsked}
 use Rattle.gix_odb_loose.specs.WriteHistory.WentWell.{tried, IsFoldered}
 use Rattle.gix_odb_loose.specs.WriteHistory.{IsHistory, IsHistoryOnward, IsHistoryOfEnd, data_after}
-use Rattle.gix_odb_loose.specs.WriteJobs.{ask_in, name_of, next_in, onward_left, piece_of, pieces_of, supplied, supplied_with, writes_left}
+use Rattle.gix_odb_loose.specs.WriteJobs.{ask_in, name_of, next_in, onward_ask, piece_of, pieces_of, supplied, supplied_with, writes_left}
 use Rattle.gix_odb_loose.specs.WriteOrder.{ended_with, next_write, prefix_path, write_ask, written_in}
 use Rattle.gix_odb_loose.specs.declared.write_at_hand.Onward.{Onward}
 use Rattle.gix_odb_loose.specs.declared.write_at_hand.Onward.TheVariants.{Stage, End}
@@ -111,12 +111,12 @@ module _ (job : WriteJob) where
       (done_along (next_in (record job { stage = stage }) x.answer) (before ++ x ∷ []) past next behind)
   done_along (End end) before (x ∷ past) done asked = absurd (none_asked end x past asked)
 
-  left_along : (onward : Onward) (past : List Exchange) → Asked onward past → length past + onward_left (length job.bytes) (onward_along job onward (answers_in past)) ≤ onward_left (length job.bytes) onward
+  left_along : (onward : Onward) (past : List Exchange) → Asked onward past → length past + writes_left (length job.bytes) (onward_ask (onward_along job onward (answers_in past))) ≤ writes_left (length job.bytes) (onward_ask onward)
   unfolding onward_along asks_along
   left_along onward [] asked = omega arith
   left_along (Stage stage) (x ∷ past) asked =
       let behind : asks_in past ≡ asks_along job (next_in (record job { stage = stage }) x.answer) (answers_in past) = cc asked in
-      let less : onward_left (length job.bytes) (next_in (record job { stage = stage }) x.answer) < writes_left (length job.bytes) stage = stage_left job stage x.answer in
+      let less : writes_left (length job.bytes) (onward_ask (next_in (record job { stage = stage }) x.answer)) < writes_left (length job.bytes) (wants.Disk stage) = stage_left job stage x.answer in
       let more = left_along (next_in (record job { stage = stage }) x.answer) past behind in
       omega (arith, less, more)
   left_along (End end) (x ∷ past) asked = absurd (none_asked end x past asked)
@@ -134,9 +134,9 @@ module _ (head : WriteHead) (hash : HashKind) (known : Option ObjectId) (bytes :
   IsAlong-done onward past along = subst (λ (o : Onward). HasDoneTo job o past) (sym along.reached) (done_along job (Stage (stages.Making 0)) [] past nothing_done along.asked)
 
   -- They are as many as the measure of its calls has gone down, at most.
-  pub IsAlong-left : (onward : Onward) (past : List Exchange) → IsAlong job onward past → length past + onward_left (length bytes) onward ≤ writes_left (length bytes) (stages.Making 0)
+  pub IsAlong-left : (onward : Onward) (past : List Exchange) → IsAlong job onward past → length past + writes_left (length bytes) (onward_ask onward) ≤ writes_left (length bytes) (wants.Disk (stages.Making 0))
   IsAlong-left onward past along =
-      subst (λ (o : Onward). length past + onward_left (length bytes) o ≤ writes_left (length bytes) (stages.Making 0)) (sym along.reached) (left_along job (Stage (stages.Making 0)) past along.asked)
+      subst (λ (o : Onward). length past + writes_left (length bytes) (onward_ask o) ≤ writes_left (length bytes) (wants.Disk (stages.Making 0))) (sym along.reached) (left_along job (Stage (stages.Making 0)) past along.asked)
 
 -- How many they are.
 pub HasDone-asked : (job : WriteJob) (stage : WriteStage) (past : List Exchange) → HasDone job stage past → HasAsked (length job.bytes) (length past) stage

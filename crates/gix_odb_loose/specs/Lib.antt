@@ -16,4 +16,3 @@ pub mod WriteRuns
 pub mod StreamJobs
 pub mod LooseOrder
 pub mod Replies
-pub mod Runs

@@ -19,10 +19,13 @@ use Rattle.gix_odb_loose.specs.declared.call.LooseReply.TheVariants as replies
 use Rattle.gix_odb_loose.specs.declared.call.LooseCall.{LooseCall}
 use Rattle.gix_odb_loose.specs.WriteOrder.{number_made, temporary_of}
 use Rattle.gix_odb_loose.specs.WriteJobs.{ask_in, advance_by, writes_left}
+use Rattle.gix_odb_loose.specs.declared.write_order.WriteAsk.TheVariants as wants
 use Rattle.gix_odb_loose.specs.declared.write_order.WriteStage.TheVariants as writes
 use Rattle.gix_odb_loose.specs.declared.write_at_hand.Advance.{Advance}
 use Rattle.gix_odb_loose.specs.declared.write_at_hand.Advance.TheVariants as advances
 use Rattle.gix_odb_loose.specs.declared.write_at_hand.WriteJob.{WriteJob}
+use Rattle.gix_odb_loose.specs.declared.call.Fed.{Fed}
+use Rattle.gix_odb_loose.specs.declared.call.Fed.TheVariants as feds
 use Rattle.gix_odb_loose.specs.declared.call.Stage.{Stage}
 use Rattle.gix_odb_loose.specs.declared.call.Stage.TheVariants as stages
 use Rattle.gix_odb_loose.specs.LooseOrder.Answered.{tested_by, found_by, header_by}
@@ -82,13 +85,16 @@ abbrev pub written_to : WriteJob → Advance → Stage
 written_to job (advances.Stage stage) = stages.Writing (record job { stage = stage })
 written_to job (advances.Reply answer) = stages.Done (replies.Wrote answer)
 
--- what an answer leads a write to, if the stage is one
-abbrev pub advance_at : Stage → DiskAnswer → Option Advance
-advance_at (stages.Testing path) answer = None
-advance_at (stages.Finding path limit) answer = None
-advance_at (stages.Heading path) answer = None
-advance_at (stages.Writing job) answer = Some (advance_by job answer)
-advance_at (stages.Done reply) answer = None
+-- what that makes of a call
+abbrev pub fed_to : Advance → Fed
+fed_to (advances.Stage stage) = feds.Stage stage
+fed_to (advances.Reply answer) = feds.Reply (replies.Wrote answer)
+
+abbrev pub stage_after : Stage → Fed → Stage
+stage_after stage (feds.Reply reply) = stages.Done reply
+stage_after (stages.Writing job) (feds.Stage now) = stages.Writing (record job { stage = now })
+stage_after stage (feds.Stage now) = stage
+stage_after stage feds.Same = stage
 
 -- a finding call is done after its one answer, a write at its end; a call that is done stays as it is
 abbrev pub next_stage : Stage → DiskAnswer → Stage
@@ -106,7 +112,7 @@ abbrev pub asks_left : Stage → ℕ
 asks_left (stages.Testing path) = 1
 asks_left (stages.Finding path limit) = 1
 asks_left (stages.Heading path) = 1
-asks_left (stages.Writing job) = writes_left (length job.bytes) job.stage
+asks_left (stages.Writing job) = writes_left (length job.bytes) (wants.Disk job.stage)
 asks_left (stages.Done reply) = 0
 
 abbrev pub temporary_at : Stage → Option Path

@@ -15,27 +15,16 @@ use Rattle.gix_odb_loose.specs.declared.write_order.WriteAsk.{WriteAsk}
 use Rattle.gix_odb_loose.specs.declared.write_order.WriteAsk.TheVariants as wants
 use Rattle.gix_odb_loose.specs.declared.write_order.Refusal.{Refusal}
 use Rattle.gix_odb_loose.specs.declared.write_order.WriteHead.{WriteHead}
-use Rattle.gix_odb_loose.specs.declared.write_order.WriteStage.TheVariants as stages
 use Rattle.gix_odb_loose.specs.StreamJobs.Progress.{Begun}
 use Rattle.gix_odb_loose.specs.StreamJobs.Standing.{StandsAt, LedAt, WaitsAt, BreaksAt, IsAtItsEnd, IsBrokenOff}
 
--- a write by what it asks for next
-abbrev pub IsAt : Begun → Option State → ℕ → Option (List ℕ) → ℕ → StreamJob → WriteAsk → Type 0
-IsAt w state now rest source_now job (wants.Disk stage) = StandsAt w state now rest source_now job stage
-IsAt w state now rest source_now job (wants.Data number written) = WaitsAt w state now rest source_now job number written
-IsAt w state now rest source_now job (wants.Done end) = (job.head ≡ w.head) × IsAtItsEnd w state now rest source_now end
-
+-- a write asks the disk next
 abbrev pub IsUnderway : Begun → Option State → ℕ → Option (List ℕ) → ℕ → StreamJob → Type 0
-IsUnderway w state now rest source_now job = IsAt w state now rest source_now job job.wanted
+IsUnderway w state now rest source_now job = StandsAt w state now rest source_now job job.stage
 
 -- one that memory ran out of
-abbrev pub BreaksBefore : Begun → Option State → ℕ → Option (List ℕ) → ℕ → StreamJob → WriteAsk → Type 0
-BreaksBefore w state now rest source_now job (wants.Disk stage) = BreaksAt w state now rest source_now job stage
-BreaksBefore w state now rest source_now job (wants.Data number written) = BreaksAt w state now rest source_now job (stages.Filling number written)
-BreaksBefore w state now rest source_now job (wants.Done end) = ⊥
-
 abbrev pub IsBroken : Begun → Option State → ℕ → Option (List ℕ) → ℕ → StreamJob → Type 0
-IsBroken w state now rest source_now job = BreaksBefore w state now rest source_now job job.wanted
+IsBroken w state now rest source_now job = BreaksAt w state now rest source_now job job.stage
 
 -- what one turn comes to: the write goes on, ends, or wants memory
 abbrev pub TurnsTo : {E : Type 0} → Begun → Option State → ℕ → Option (List ℕ) → ℕ → StreamJob → Result (Option (Result ObjectId Refusal)) E → Type 0

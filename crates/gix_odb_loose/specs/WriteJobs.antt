@@ -59,23 +59,23 @@ advance_by job answer = advance_to job (next_in job answer)
 abbrev pub pieces_of : ℕ → ℕ
 pieces_of len = (len + (piece_size - 1)) / piece_size
 
+-- where the next piece comes behind so many bytes: a call for each piece, and those of the end
+abbrev pub pieces_left : (most written : ℕ) → ℕ
+pieces_left most written = 4 + pieces_of (most - written)
+
 -- How many calls of the disk are still to come, at most, where so many bytes of data can come in all: all pieces but the last
--- are whole.
-abbrev pub writes_left : (most : ℕ) → WriteStage → ℕ
-writes_left most (stages.Making number) = 6 + pieces_of most + (temp_names - number)
-writes_left most (stages.Heading number) = 5 + pieces_of most
-writes_left most (stages.Filling number written) = 4 + pieces_of (most - written)
-writes_left most (stages.Foldering number id) = 3
-writes_left most (stages.Moving number id) = 2
-writes_left most (stages.Removing number refusal) = 1
+-- are whole. The one measure of a write, by what it asks for next; the asking for data is no call of the disk.
+abbrev pub writes_left : (most : ℕ) → WriteAsk → ℕ
+writes_left most (wants.Disk (stages.Making number)) = 6 + pieces_of most + (temp_names - number)
+writes_left most (wants.Disk (stages.Heading number)) = 5 + pieces_of most
+writes_left most (wants.Disk (stages.Filling number written)) = pieces_left most written
+writes_left most (wants.Disk (stages.Foldering number id)) = 3
+writes_left most (wants.Disk (stages.Moving number id)) = 2
+writes_left most (wants.Disk (stages.Removing number refusal)) = 1
+writes_left most (wants.Data number written) = pieces_left most written
+writes_left most (wants.Done end) = 0
 
--- the same by what is asked for
-abbrev pub wants_left : (most : ℕ) → WriteAsk → ℕ
-wants_left most (wants.Disk stage) = writes_left most stage
-wants_left most (wants.Data number written) = 4 + pieces_of (most - written)
-wants_left most (wants.Done end) = 0
-
--- the same of a write that has its data at hand, by what an answer led to
-abbrev pub onward_left : (most : ℕ) → Onward → ℕ
-onward_left most (Stage stage) = writes_left most stage
-onward_left most (End end) = 0
+-- what a write asks for next that has its data at hand, by what an answer led to
+abbrev pub onward_ask : Onward → WriteAsk
+onward_ask (Stage stage) = wants.Disk stage
+onward_ask (End end) = wants.Done end

@@ -72,12 +72,6 @@ abbrev pub number_made : WriteStage → Option ℕ
 number_made (stages.Making number) = None
 number_made stage = Some (number_in stage)
 
--- the same of what a write asks for, while it goes on
-abbrev pub number_wanted : WriteAsk → Option ℕ
-number_wanted (wants.Disk stage) = number_made stage
-number_wanted (wants.Data number written) = Some number
-number_wanted (wants.Done end) = None
-
 abbrev pub temporary_of : WriteHead → Option ℕ → Option Path
 temporary_of head None = None
 temporary_of head (Some number) = Some (temp_path head.objects number)

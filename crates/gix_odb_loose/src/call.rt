@@ -3,9 +3,10 @@ ghost use Rattle.std.specs.Prelude.{◌≡◌, true, None, Some, is_some, IfOk, 
 ghost use Rattle.gix_hash.specs.ObjectId.{kind_of};
 ghost use Rattle.gix_odb_loose.specs.Store.{store_hash};
 ghost use Rattle.gix_odb_loose.specs.LooseFile.{id_asked};
-ghost use Rattle.gix_odb_loose.specs.LooseOrder.{started, ask_of, disk_ask_of, reply_of, temporary_in, advance_at, written_to, next_stage};
+ghost use Rattle.gix_odb_loose.specs.LooseOrder.{started, ask_of, disk_ask_of, reply_of, temporary_in, next_stage, fed_to, stage_after};
+ghost use Rattle.gix_odb_loose.specs.LooseOrder.Answered.{tested_by, found_by, header_by};
+ghost use Rattle.gix_odb_loose.specs.WriteJobs.{advance_by};
 ghost use Rattle.gix_odb_loose.specs.LooseOrder.{fed as fed_with};
-ghost use Rattle.odb_disk.specs.declared.ask.DiskAnswer.{DiskAnswer as answer_of_disk};
 
 use crate::write_at_hand::{Advance, WriteJob};
 use crate::write_order::{WriteHead, WriteStage};
@@ -63,10 +64,20 @@ pub enum Stage {
     Done(LooseReply),
 }
 
+/// What the answer to its ask makes of a call.
+#[derive(Drop)]
+pub enum Fed {
+    /// A write goes on at this stage.
+    Stage(WriteStage),
+    Reply(LooseReply),
+    /// A call that is done stays as it is.
+    Same,
+}
+
 /// A call of a store on its way.
 ///
 /// `ask` names the next call of the disk, `feed` takes its answer, and so on until the call is done. The path of
-/// the object is made at the start and moved along.
+/// the object is made at the start.
 #[derive(Drop)]
 pub struct LooseCall {
     stage: Stage,
@@ -143,8 +154,8 @@ impl LooseCall {
         ensures fed { OnOk result (self.new ≡ fed_with self.old answer) }
         ensures refused { OnErr result (self.new ≡ self.old) }
     {
-        let advance = self.stage.advance(alloc, &answer)?;
-        self.stage.go_on(answer, advance);
+        let fed = self.stage.fed(alloc, answer)?;
+        self.stage.go_on(fed);
         Ok(())
     }
 
@@ -240,89 +251,88 @@ fn id_copy(alloc: Global, answer: &Result<ObjectId, write::Error>) -> Result<Loo
 }
 
 impl Stage {
-    // What an answer makes of a write, which may want memory.
-    fn advance(&self, alloc: Global, answer: &DiskAnswer) -> Result<Option<Advance>, NoMemory>
-        ensures by_answer { IfOk result (λ made. made ≡ advance_at self.now answer.now) }
+    // What the answer to its ask makes of it.
+    fn fed(&self, alloc: Global, answer: DiskAnswer) -> Result<Fed, NoMemory>
+        ensures fed { IfOk result (λ fed. stage_after self.now fed ≡ next_stage self.now answer) }
     {
         match self {
-            Stage::Writing(job) => Ok(Some(job.advance(alloc, answer)?)),
-            _ => Ok(None),
+            Stage::Testing { path } => test_fed(alloc, path, answer),
+            Stage::Finding { path, limit } => find_fed(alloc, path, *limit, answer),
+            Stage::Heading { path } => header_fed(alloc, path, answer),
+            Stage::Writing(job) => write_fed(alloc, job, answer),
+            Stage::Done(_) => {
+                drop(answer);
+                Ok(Fed::Same)
+            }
         }
     }
 
-    // Goes on by the answer to its ask, and by what it makes of a write.
-    fn go_on(&mut self, answer: DiskAnswer, advance: Option<Advance>)
-        requires by_answer { advance ≡ advance_at self.old answer }
-        ensures next { self.new ≡ next_stage self.old answer }
+    fn go_on(&mut self, fed: Fed)
+        ensures next { self.new ≡ stage_after self.old fed }
     {
-        let meanwhile = Stage::Done(LooseReply::Contains(Ok(false)));
-        let stage = mem::replace(self, meanwhile);
-        drop(mem::replace(self, advanced(stage, answer, advance)));
-    }
-}
-
-// A stage after the answer to its ask, by what this makes of a write.
-fn advanced(stage: Stage, answer: DiskAnswer, advance: Option<Advance>) -> Stage
-    requires by_answer { advance ≡ advance_at stage answer }
-    ensures next { result ≡ next_stage stage answer }
-{
-    match advance {
-        Some(advance) => write_advanced(stage, advance),
-        None => find_answered(stage, answer),
-    }
-}
-
-// A stage of a find after the answer to its ask.
-fn find_answered(stage: Stage, answer: DiskAnswer) -> Stage
-    requires finds { advance_at stage answer ≡ None }
-    ensures next { result ≡ next_stage stage answer }
-{
-    match stage {
-        Stage::Testing { path } => {
-            let there = reply::tested(path, &answer);
-            drop(answer);
-            Stage::Done(LooseReply::Contains(there))
-        }
-        Stage::Finding { path, limit } => {
-            Stage::Done(LooseReply::Found(reply::found(path, limit, answer)))
-        }
-        Stage::Heading { path } => {
-            let header = reply::headed(path, &answer);
-            drop(answer);
-            Stage::Done(LooseReply::Header(header))
-        }
-        other => {
-            drop(answer);
-            other
+        match fed {
+            Fed::Stage(stage) => self.write_on(stage),
+            Fed::Reply(reply) => drop(mem::replace(self, Stage::Done(reply))),
+            Fed::Same => {}
         }
     }
-}
 
-// The stage of a write after its answer.
-fn write_advanced(stage: Stage, advance: Advance) -> Stage
-    ensures next { (answer : answer_of_disk) → advance_at stage answer ≡ Some advance → result ≡ next_stage stage answer }
-{
-    match stage {
-        Stage::Writing(job) => written_on(job, advance),
-        other => other,
-    }
-}
-
-// A write after its answer.
-fn written_on(job: WriteJob, advance: Advance) -> Stage
-    ensures next { result ≡ written_to job advance }
-{
-    match advance {
-        Advance::Stage(stage) => {
-            let mut job = job;
+    fn write_on(&mut self, stage: WriteStage)
+        ensures next { self.new ≡ stage_after self.old (Fed.Stage stage) }
+    {
+        if let Stage::Writing(job) = self {
             job.stage = stage;
-            Stage::Writing(job)
         }
-        Advance::Reply(answer) => Stage::Done(LooseReply::Wrote(answer)),
     }
 }
 
-fn look_at(alloc: Global, path: &PathText) -> Result<DiskAsk, NoMemory>
+fn test_fed(alloc: Global, path: &PathText, answer: DiskAnswer) -> Result<Fed, NoMemory>
+    ensures fed { IfOk result (λ fed. fed ≡ Fed.Reply (LooseReply.Contains (tested_by path.now answer))) }
+{
+    let there = reply::tested(alloc, path, &answer)?;
+    drop(answer);
+    Ok(Fed::Reply(LooseReply::Contains(there)))
+}
+
+fn find_fed(
+    alloc: Global,
+    path: &PathText,
+    limit: Option<u64>,
+    answer: DiskAnswer,
+) -> Result<Fed, NoMemory>
+    ensures fed { IfOk result (λ fed. fed ≡ Fed.Reply (LooseReply.Found (found_by path.now limit answer))) }
+{
+    let found = reply::found(alloc, path, limit, answer)?;
+    Ok(Fed::Reply(LooseReply::Found(found)))
+}
+
+fn header_fed(alloc: Global, path: &PathText, answer: DiskAnswer) -> Result<Fed, NoMemory>
+    ensures fed { IfOk result (λ fed. fed ≡ Fed.Reply (LooseReply.Header (header_by path.now answer))) }
+{
+    let header = reply::headed(alloc, path, &answer)?;
+    drop(answer);
+    Ok(Fed::Reply(LooseReply::Header(header)))
+}
+
+fn write_fed(alloc: Global, job: &WriteJob, answer: DiskAnswer) -> Result<Fed, NoMemory>
+    ensures fed { IfOk result (λ fed. fed ≡ fed_to (advance_by job.now answer)) }
+{
+    let advance = job.advance(alloc, &answer)?;
+    drop(answer);
+    Ok(advanced(advance))
+}
+
+fn advanced(advance: Advance) -> Fed
+    ensures fed { result ≡ fed_to advance }
+{
+    match advance {
+        Advance::Stage(stage) => Fed::Stage(stage),
+        Advance::Reply(reply) => Fed::Reply(LooseReply::Wrote(reply)),
+    }
+}
+
+/// A look at a path, links followed.
+pub fn look_at(alloc: Global, path: &PathText) -> Result<DiskAsk, NoMemory>
     ensures ask { IfOk result (λ ask. ask ≡ DiskAsk.Look path.now true) }
 {
     Ok(DiskAsk::Look {
@@ -331,7 +341,8 @@ fn look_at(alloc: Global, path: &PathText) -> Result<DiskAsk, NoMemory>
     })
 }
 
-fn read_of(alloc: Global, path: &PathText) -> Result<DiskAsk, NoMemory>
+/// A read of a path.
+pub fn read_of(alloc: Global, path: &PathText) -> Result<DiskAsk, NoMemory>
     ensures ask { IfOk result (λ ask. ask ≡ DiskAsk.Read path.now) }
 {
     Ok(DiskAsk::Read {

@@ -1,4 +1,4 @@
-//! What is made of the answer of the disk. Nothing else decides.
+//! What is made of the answer of the disk. Nothing else decides. The path is copied where an error tells it.
 ghost use Rattle.std.specs.Prelude.{◌≡◌, ◌≤◌, ◌↔◌, ℕ, List, length, drop, IfOk, IfErr, IsTrue};
 ghost use Rattle.gix_odb_loose.specs.LooseOrder.Answered.{tested_by, found_by, header_by, object_from, header_from, spelled_in, unread_by, flaw_error};
 ghost use Rattle.gix_odb_loose.specs.LooseFile.{is_above};
@@ -6,8 +6,9 @@ ghost use Rattle.gix_odb_loose.specs.LooseOrder.Answered.{unreadable as unreadab
 
 use crate::find::{Action, Error};
 use gix_object::{Kind, decode};
-use odb_base::{ByteList, PathText};
+use odb_base::{ByteList, NoMemory, PathText};
 use odb_disk::{DiskAnswer, DiskError};
+use std::alloc::Global;
 
 /// What a file lacks.
 pub enum Flaw {
@@ -18,86 +19,104 @@ pub enum Flaw {
 }
 
 /// The answer of a test to a look at the path.
-pub fn tested(path: PathText, answer: &DiskAnswer) -> Result<bool, Error>
-    ensures answer { result ≡ tested_by path answer.now }
+pub fn tested(
+    alloc: Global,
+    path: &PathText,
+    answer: &DiskAnswer,
+) -> Result<Result<bool, Error>, NoMemory>
+    ensures answer { IfOk result (λ told. told ≡ tested_by path.now answer.now) }
 {
     match answer {
-        DiskAnswer::Meta(meta) => Ok(matches!(meta.kind, odb_disk::Kind::File)),
-        DiskAnswer::Refused(DiskError::Failed) => Err(unreadable(path)),
-        DiskAnswer::Refused(DiskError::NoMemory) => Err(Error::NoMemory),
-        _ => Ok(false),
+        DiskAnswer::Meta(meta) => Ok(Ok(matches!(meta.kind, odb_disk::Kind::File))),
+        DiskAnswer::Refused(DiskError::Failed) => Ok(Err(unreadable(alloc, path)?)),
+        DiskAnswer::Refused(DiskError::NoMemory) => Ok(Err(Error::NoMemory)),
+        _ => Ok(Ok(false)),
     }
 }
 
 /// The answer of a find to a read of the path.
 pub fn found(
-    path: PathText,
+    alloc: Global,
+    path: &PathText,
     limit: Option<u64>,
     answer: DiskAnswer,
-) -> Result<Option<(Kind, ByteList)>, Error>
-    ensures answer { result ≡ found_by path limit answer }
+) -> Result<Result<Option<(Kind, ByteList)>, Error>, NoMemory>
+    ensures answer { IfOk result (λ told. told ≡ found_by path.now limit answer) }
 {
     match answer {
-        DiskAnswer::File { bytes, .. } => object_in(path, limit, bytes),
-        other => unread(path, &other),
+        DiskAnswer::File { bytes, .. } => object_in(alloc, path, limit, bytes),
+        other => unread(alloc, path, &other),
     }
 }
 
 /// The answer of a look for a header to a read of the path.
-pub fn headed(path: PathText, answer: &DiskAnswer) -> Result<Option<(u64, Kind)>, Error>
-    ensures answer { result ≡ header_by path answer.now }
+pub fn headed(
+    alloc: Global,
+    path: &PathText,
+    answer: &DiskAnswer,
+) -> Result<Result<Option<(u64, Kind)>, Error>, NoMemory>
+    ensures answer { IfOk result (λ told. told ≡ header_by path.now answer.now) }
 {
     match answer {
-        DiskAnswer::File { bytes, .. } => header_in(path, bytes.as_slice()),
-        other => unread(path, other),
+        DiskAnswer::File { bytes, .. } => header_in(alloc, path, bytes.as_slice()),
+        other => unread(alloc, path, other),
     }
 }
 
 // The answer to a read that gave no file.
-fn unread<T>(path: PathText, answer: &DiskAnswer) -> Result<Option<T>, Error>
-    ensures answer { result ≡ unread_by path answer.now }
+fn unread<T>(
+    alloc: Global,
+    path: &PathText,
+    answer: &DiskAnswer,
+) -> Result<Result<Option<T>, Error>, NoMemory>
+    ensures answer { IfOk result (λ told. told ≡ unread_by path.now answer.now) }
 {
     match answer {
-        DiskAnswer::Refused(DiskError::Absent) => Ok(None),
-        DiskAnswer::Refused(DiskError::NoMemory) => Err(Error::NoMemory),
-        _ => Err(unreadable(path)),
+        DiskAnswer::Refused(DiskError::Absent) => Ok(Ok(None)),
+        DiskAnswer::Refused(DiskError::NoMemory) => Ok(Err(Error::NoMemory)),
+        _ => Ok(Err(unreadable(alloc, path)?)),
     }
 }
 
 // The object that a file holds, whose bytes are moved and not copied.
 fn object_in(
-    path: PathText,
+    alloc: Global,
+    path: &PathText,
     limit: Option<u64>,
     bytes: ByteList,
-) -> Result<Option<(Kind, ByteList)>, Error>
-    ensures object { result ≡ object_from path limit (spelled_in bytes) }
+) -> Result<Result<Option<(Kind, ByteList)>, Error>, NoMemory>
+    ensures object { IfOk result (λ told. told ≡ object_from path.now limit (spelled_in bytes)) }
 {
     let (kind, expected, header_len) = match spelled(bytes.as_slice()) {
         Ok(header) => header,
-        Err(flaw) => return Err(flawed(path, flaw)),
+        Err(flaw) => return Ok(Err(flawed(alloc, path, flaw)?)),
     };
     if exceeds(limit, expected) {
-        return Err(Error::OutOfMemory { size: expected });
+        return Ok(Err(Error::OutOfMemory { size: expected }));
     }
     let data = behind(bytes, header_len);
     let actual = data.len() as u64;
     if actual != expected {
-        return Err(Error::SizeMismatch {
+        return Ok(Err(Error::SizeMismatch {
             actual,
             expected,
-            path,
-        });
+            path: path.try_clone(alloc)?,
+        }));
     }
-    Ok(Some((kind, data)))
+    Ok(Ok(Some((kind, data))))
 }
 
 // The header of a file.
-fn header_in(path: PathText, bytes: &[u8]) -> Result<Option<(u64, Kind)>, Error>
-    ensures header { result ≡ header_from path (spelled_in bytes.now) }
+fn header_in(
+    alloc: Global,
+    path: &PathText,
+    bytes: &[u8],
+) -> Result<Result<Option<(u64, Kind)>, Error>, NoMemory>
+    ensures header { IfOk result (λ told. told ≡ header_from path.now (spelled_in bytes.now)) }
 {
     match spelled(bytes) {
-        Ok((kind, size, _)) => Ok(Some((size, kind))),
-        Err(flaw) => Err(flawed(path, flaw)),
+        Ok((kind, size, _)) => Ok(Ok(Some((size, kind)))),
+        Err(flaw) => Ok(Err(flawed(alloc, path, flaw)?)),
     }
 }
 
@@ -135,20 +154,20 @@ fn exceeds(limit: Option<u64>, size: u64) -> bool
     }
 }
 
-fn flawed(path: PathText, flaw: Flaw) -> Error
-    ensures error { result ≡ flaw_error path flaw }
+fn flawed(alloc: Global, path: &PathText, flaw: Flaw) -> Result<Error, NoMemory>
+    ensures error { IfOk result (λ error. error ≡ flaw_error path.now flaw) }
 {
     match flaw {
-        Flaw::Empty => unreadable(path),
-        Flaw::NoHeader => Error::Decode,
+        Flaw::Empty => unreadable(alloc, path),
+        Flaw::NoHeader => Ok(Error::Decode),
     }
 }
 
-fn unreadable(path: PathText) -> Error
-    ensures error { result ≡ unreadable_at path }
+fn unreadable(alloc: Global, path: &PathText) -> Result<Error, NoMemory>
+    ensures error { IfOk result (λ error. error ≡ unreadable_at path.now) }
 {
-    Error::Io {
+    Ok(Error::Io {
         action: Action::OpenOrMap,
-        path,
-    }
+        path: path.try_clone(alloc)?,
+    })
 }

@@ -1,22 +1,20 @@
 //! A folder of loose objects as a value, and its calls that find.
-ghost use Rattle.std.specs.Prelude.{◌≡◌, ◌<◌, ◌≤◌, ◌↔◌, [], Some, None, IfOk, IfErr, IfSome, OnOk, OnErr, IsTrue};
+ghost use Rattle.std.specs.Prelude.{◌≡◌, ◌≤◌, ◌↔◌, true, [], None, IfOk, IfErr, IfSome, OnErr, IsTrue};
 ghost use Rattle.odb_base.specs.Faults.{Rose};
 ghost use Rattle.odb_tree.specs.Tree.{tree_of};
+ghost use Rattle.odb_tree.specs.Tree.Follow.{looked, read_of};
+ghost use Rattle.odb_disk.specs.Ask.{AnswersAsk, meta_answer, file_answer};
 ghost use Rattle.gix_hash.specs.ObjectId.{kind_of};
 ghost use Rattle.gix_object.specs.Data.{found_of};
 ghost use Rattle.gix_odb_loose.specs.Store.{store_path, store_hash, store_limit};
-ghost use Rattle.gix_odb_loose.specs.LooseFile.{id_asked, IsFinding, LeadsToFile};
+ghost use Rattle.gix_odb_loose.specs.LooseFile.{LeadsToFile};
 ghost use Rattle.gix_odb_loose.specs.Answers.{path_in, put_in, Finds, TellsHeader, FindRefused, HeaderRefused, TestRefused};
-ghost use Rattle.gix_odb_loose.specs.LooseOrder.{started, asks_left, disk_ask_of, reply_of};
-ghost use Rattle.gix_odb_loose.specs.Runs.{ComesToReply, HasReplied, Turns, Broke};
-ghost use Rattle.gix_odb_loose.specs.declared.call.LooseJob.{LooseJob as job_of};
-ghost use Rattle.gix_odb_loose.specs.declared.store.Store.{Store as store_of};
 
-use crate::{LooseCall, LooseJob, LooseReply, find, paths};
+use crate::{call, find, paths, reply};
 use gix_hash::ObjectId;
 use gix_object::{Data, Kind};
 use odb_base::{NoMemory, PathText};
-use odb_disk::{Disk, DiskAsk};
+use odb_disk::{Disk, DiskAnswer, DiskError};
 use std::alloc::Global;
 
 /// The options of a store. The default has no limit.
@@ -129,10 +127,10 @@ impl Store {
         ensures later { D.faults disk.old ≤ D.faults disk.new }
         ensures streams { D.streams disk.new ≡ D.streams disk.old }
     {
-        match self.run(alloc, disk, LooseJob::Contains(*id))? {
-            LooseReply::Contains(answer) => answer,
-            _ => unreachable!("a test replies whether the object is there"),
-        }
+        let path = self.object_path(alloc, id)?;
+        let answer = look(alloc, disk, &path)?;
+        let there = reply::tested(alloc, &path, &answer)?;
+        there
     }
 
     /// Finds an object, whose data are put into `out`, cleared before. Where none is found, or the find is refused,
@@ -189,14 +187,16 @@ impl Store {
         ensures streams { D.streams disk.new ≡ D.streams disk.old }
     {
         out.clear();
-        match self.run(alloc, disk, LooseJob::Find(*id))? {
-            LooseReply::Found(Ok(Some((kind, bytes)))) => {
+        let path = self.object_path(alloc, id)?;
+        let answer = read(alloc, disk, &path)?;
+        let found = reply::found(alloc, &path, self.options.alloc_limit_bytes, answer)?;
+        match found {
+            Ok(Some((kind, bytes))) => {
                 *out = bytes.into_vec();
                 Ok(Some(kind))
             }
-            LooseReply::Found(Ok(None)) => Ok(None),
-            LooseReply::Found(Err(error)) => Err(error),
-            _ => unreachable!("a find replies what was found"),
+            Ok(None) => Ok(None),
+            Err(error) => Err(error),
         }
     }
 
@@ -219,98 +219,37 @@ impl Store {
         ensures later { D.faults disk.old ≤ D.faults disk.new }
         ensures streams { D.streams disk.new ≡ D.streams disk.old }
     {
-        match self.run(alloc, disk, LooseJob::Header(*id))? {
-            LooseReply::Header(answer) => answer,
-            _ => unreachable!("a look for a header replies a header"),
-        }
-    }
-
-    // The reply of a call, whose asks are carried out one after another.
-    fn run<D: Disk>(
-        &self,
-        alloc: Global,
-        disk: &mut D,
-        job: LooseJob,
-    ) -> Result<LooseReply, NoMemory>
-        requires hash { kind_of (id_asked (store_hash self.now) job) ≡ store_hash self.now }
-        requires finding { IsFinding job }
-        ensures reply { IfOk result
-            (ComesToReply (D.state disk.old) (D.faults disk.old) (D.faults disk.new) (started self.now job)) }
-        ensures kept { D.state disk.new ≡ D.state disk.old }
-        ensures later { D.faults disk.old ≤ D.faults disk.new }
-        ensures streams { D.streams disk.new ≡ D.streams disk.old }
-    {
-        let mut call = LooseCall::start(alloc, self, job)?;
-        match turn_through(alloc, disk, &mut call) {
-            Ok(()) => Ok(reply_in(call)),
-            Err(NoMemory) => {
-                drop(call);
-                Err(NoMemory)
-            }
-        }
+        let path = self.object_path(alloc, id)?;
+        let answer = read(alloc, disk, &path)?;
+        let header = reply::headed(alloc, &path, &answer)?;
+        header
     }
 }
 
-// The reply of a call that asks nothing more.
-fn reply_in(call: LooseCall) -> LooseReply
-    requires done { disk_ask_of call ≡ None }
-    ensures reply { reply_of call ≡ Some result }
-{
-    match call.into_reply() {
-        Some(reply) => reply,
-        None => unreachable!("a call without an ask has its reply"),
-    }
-}
-
-// All calls of the disk of a call that finds.
-fn turn_through<D: Disk>(alloc: Global, disk: &mut D, call: &mut LooseCall) -> Result<(), NoMemory>
-    ensures through { (store : store_of) (job : job_of) → IsFinding job → call.old ≡ started store job →
-        OnOk result (HasReplied (D.state disk.old) (D.faults disk.old) (D.faults disk.new) (started store job) call.new) }
-    ensures done { OnOk result (disk_ask_of call.new ≡ None) }
-    ensures kept { (store : store_of) (job : job_of) → IsFinding job → call.old ≡ started store job → D.state disk.new ≡ D.state disk.old }
+// The disk's answer to a look at a path, links followed.
+fn look<D: Disk>(alloc: Global, disk: &mut D, path: &PathText) -> Result<DiskAnswer, NoMemory>
+    ensures told { IfOk result (λ given. IfSome (D.state disk.old) (λ s. AnswersAsk given (meta_answer (looked (tree_of s) path.now true)))) }
+    ensures cause { IfOk result (λ given. given ≡ DiskAnswer.Refused DiskError.Failed → Rose (D.faults disk.old) (D.faults disk.new)) }
+    ensures kept { D.state disk.new ≡ D.state disk.old }
     ensures later { D.faults disk.old ≤ D.faults disk.new }
     ensures streams { D.streams disk.new ≡ D.streams disk.old }
 {
-    'turns: while turn(alloc, disk, call)? {}
-    Ok(())
-}
-
-// One call of the disk, and its answer to the call of the store: whether there was one to make.
-fn turn<D: Disk>(alloc: Global, disk: &mut D, call: &mut LooseCall) -> Result<bool, NoMemory>
-    ensures turned { IfOk result (λ more.
-        Turns more (D.state disk.old) (D.state disk.new) (D.faults disk.old) (D.faults disk.new) call.old call.new) }
-    ensures fewer { IfOk result (λ more. IsTrue more → asks_left call.new.stage < asks_left call.old.stage) }
-    ensures broke { OnErr result (Broke (D.state disk.old) (D.state disk.new) call.old call.new) }
-    ensures later { D.faults disk.old ≤ D.faults disk.new }
-    ensures streams { D.streams disk.new ≡ D.streams disk.old }
-{
-    match call.disk_ask(alloc)? {
-        Some(ask) => {
-            let more = ask_once(alloc, disk, call, &ask);
-            drop(ask);
-            more
-        }
-        None => Ok(false),
-    }
-}
-
-// This call of the disk, which is the next of the call, and its answer.
-#[tactic(auto, using(crate::proofs::StillAskLaws::call_asks_still))]
-fn ask_once<D: Disk>(
-    alloc: Global,
-    disk: &mut D,
-    call: &mut LooseCall,
-    ask: &DiskAsk,
-) -> Result<bool, NoMemory>
-    requires asked { disk_ask_of call.old ≡ Some ask.now }
-    ensures turned { IfOk result (λ more.
-        Turns more (D.state disk.old) (D.state disk.new) (D.faults disk.old) (D.faults disk.new) call.old call.new) }
-    ensures fewer { IfOk result (λ more. IsTrue more → asks_left call.new.stage < asks_left call.old.stage) }
-    ensures broke { OnErr result (Broke (D.state disk.old) (D.state disk.new) call.old call.new) }
-    ensures later { D.faults disk.old ≤ D.faults disk.new }
-    ensures streams { D.streams disk.new ≡ D.streams disk.old }
-{
+    let ask = call::look_at(alloc, path)?;
     let answer = ask.carry_out(alloc, disk);
-    call.feed(alloc, answer)?;
-    Ok(true)
+    drop(ask);
+    Ok(answer)
+}
+
+// The disk's answer to a read of a path.
+fn read<D: Disk>(alloc: Global, disk: &mut D, path: &PathText) -> Result<DiskAnswer, NoMemory>
+    ensures told { IfOk result (λ given. IfSome (D.state disk.old) (λ s. AnswersAsk given (file_answer (read_of (tree_of s) path.now)))) }
+    ensures cause { IfOk result (λ given. given ≡ DiskAnswer.Refused DiskError.Failed → Rose (D.faults disk.old) (D.faults disk.new)) }
+    ensures kept { D.state disk.new ≡ D.state disk.old }
+    ensures later { D.faults disk.old ≤ D.faults disk.new }
+    ensures streams { D.streams disk.new ≡ D.streams disk.old }
+{
+    let ask = call::read_of(alloc, path)?;
+    let answer = ask.carry_out(alloc, disk);
+    drop(ask);
+    Ok(answer)
 }

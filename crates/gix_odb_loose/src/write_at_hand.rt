@@ -5,7 +5,7 @@ ghost use Rattle.gix_odb_loose.specs.WriteOrder.{number_made, temporary_of};
 ghost use Rattle.gix_odb_loose.specs.WriteNames.{name_for};
 
 use crate::naming::Naming;
-use crate::write_order::{Refusal, WriteAsk, WriteHead, WriteStage, ended, room};
+use crate::write_order::{Refusal, WriteAsk, WriteHead, WriteStage, ended};
 use crate::{paths, write};
 use gix_hash::ObjectId;
 use odb_base::{ByteList, NoMemory, PathText};
@@ -46,10 +46,26 @@ impl WriteJob {
     {
         match self.stage.filling() {
             None => &[],
-            Some(written) => piece_behind(self.bytes.as_slice(), self.head.size, written),
+            Some(written) => self.piece_behind(written),
         }
     }
 
+    // The piece that stands behind so many bytes: as many as the machine takes, or those that are left.
+    fn piece_behind(&self, written: u64) -> &[u8]
+        ensures piece { result.now ≡ piece_at self.now.head.size self.now.bytes written }
+    {
+        let bytes = self.bytes.as_slice();
+        let len = bytes.len();
+        if len as u64 <= written {
+            return &[];
+        }
+        let start = written as usize;
+        let rest = &bytes[start..];
+        let count = self.head.most(written).min(rest.len() as u64) as usize;
+        &rest[..count]
+    }
+
+    /// The call of the disk that comes next.
     pub fn disk_ask(&self, alloc: Global) -> Result<DiskAsk, NoMemory>
         ensures ask { IfOk result (λ ask. ask ≡ ask_in self.now) }
     {
@@ -110,18 +126,4 @@ impl WriteJob {
         naming.update(self.bytes.as_slice());
         Ok(naming.finish())
     }
-}
-
-// The piece that stands behind so many bytes.
-fn piece_behind(bytes: &[u8], size: u64, written: u64) -> &[u8]
-    ensures piece { result.now ≡ piece_at size bytes.now written }
-{
-    let len = bytes.len();
-    if len as u64 <= written {
-        return &[];
-    }
-    let start = written as usize;
-    let rest = &bytes[start..];
-    let count = room(size, written).min(rest.len() as u64) as usize;
-    &rest[..count]
 }

@@ -1,7 +1,7 @@
 //! A write as a machine: it asks for calls of the disk and for its data, piece by piece. What stands in front hands it the
 //! data, and tells it their end.
 ghost use Rattle.std.specs.Prelude.{◌≡◌, IfOk};
-ghost use Rattle.gix_odb_loose.specs.WriteOrder.{write_ask, written_in, number_made, number_wanted, next_write};
+ghost use Rattle.gix_odb_loose.specs.WriteOrder.{write_ask, written_in, number_made, next_write};
 ghost use Rattle.gix_odb_loose.specs.WriteOrder.{ended_with, source_failed};
 ghost use Rattle.gix_odb_loose.specs.WritePieces.{room_behind};
 ghost use Rattle.gix_odb_loose.specs.WriteOrder.{made_by, headed_by, filled_by, foldered_by, moved_by, refused_by, error_from, wrote_by};
@@ -58,6 +58,7 @@ pub enum WriteAsk {
     /// The call of the disk of this stage.
     Disk(WriteStage),
     /// The next piece of the data, or their end, behind so many bytes of data in the temporary file of this number.
+    /// `WriteHead::most` says how many bytes the machine takes.
     Data { number: u64, written: u64 },
     /// Nothing more: the write ended so.
     Done(Result<ObjectId, Refusal>),
@@ -109,19 +110,6 @@ impl WriteStage {
             WriteStage::Foldering { number, id } => foldered(number, id, answer),
             WriteStage::Moving { number, id } => moved(number, id, answer),
             WriteStage::Removing { refusal, .. } => WriteAsk::Done(Err(refusal)),
-        }
-    }
-}
-
-impl WriteAsk {
-    /// The number of the temporary file, where it was made and the write goes on.
-    pub fn number_made(&self) -> Option<u64>
-        ensures number { result ≡ number_wanted self.now }
-    {
-        match self {
-            WriteAsk::Disk(stage) => stage.number_made(),
-            WriteAsk::Data { number, .. } => Some(*number),
-            WriteAsk::Done(_) => None,
         }
     }
 }
@@ -195,6 +183,18 @@ impl WriteHead {
         })
     }
 
+    /// The most bytes that the machine takes as the next piece, behind so many. One byte above the size is taken, and shows
+    /// that there are too many.
+    pub fn most(&self, written: u64) -> u64
+        ensures most { result ≡ room_behind self.now.size written }
+    {
+        if written < self.size {
+            PIECE_SIZE.min((self.size - written).saturating_add(1))
+        } else {
+            1
+        }
+    }
+
     /// What a write answers that ended so.
     pub fn reply(
         &self,
@@ -252,17 +252,6 @@ pub fn failed(number: u64) -> WriteStage
     WriteStage::Removing {
         number,
         refusal: Refusal::Io(Message::StreamData),
-    }
-}
-
-/// The most bytes that the next piece may have, behind so many.
-pub fn room(size: u64, written: u64) -> u64
-    ensures room { result ≡ room_behind size written }
-{
-    if written < size {
-        PIECE_SIZE.min((size - written).saturating_add(1))
-    } else {
-        1
     }
 }
 

@@ -1,4 +1,5 @@
-//! A write whose data come from a source, a piece at a time: the source is read where the machine asks for data.
+//! A write whose data come from a source, a piece at a time: the source is read where the machine asks for data, so that
+//! between two turns a write stands at a stage that asks the disk.
 ghost use Rattle.std.specs.Prelude.{◌≡◌, ◌<◌, ◌≤◌, ◌++◌, ℕ, List, [], length, nat_lt, false, Option, IfOk, OnOk, Some, None};
 ghost use Rattle.odb_disk.specs.StreamAsks.{is_of_streams};
 ghost use Rattle.odb_tree.specs.Tree.{State};
@@ -9,14 +10,14 @@ ghost use Rattle.gix_hash.specs.declared.kind.Kind.{Kind as hash_kind};
 ghost use Rattle.gix_hash.specs.declared.object_id.ObjectId.{ObjectId as id_of_object};
 ghost use Rattle.gix_odb_loose.specs.WriteNames.{Names};
 ghost use Rattle.gix_odb_loose.specs.StreamJobs.Progress.{Begun};
-ghost use Rattle.gix_odb_loose.specs.StreamJobs.AtStage.{turns_at};
-ghost use Rattle.gix_odb_loose.specs.StreamJobs.Standing.{StandsAt, WaitsAt, IsEnded, IsBrokenOff};
+ghost use Rattle.gix_odb_loose.specs.StreamJobs.AtStage.{calls_left};
+ghost use Rattle.gix_odb_loose.specs.StreamJobs.Standing.{LedAt, WaitsAt, IsEnded, IsBrokenOff};
 ghost use Rattle.gix_odb_loose.specs.StreamJobs.{IsUnderway, IsSomeUnderway, Leads, LeadsTo, GoesOn, TurnsTo, RunsTo, IsBroken};
 
 use crate::fetch::{Fetched, next_piece};
 use crate::naming::Naming;
 use crate::paths;
-use crate::write_order::{Refusal, WriteAsk, WriteHead, WriteStage, ended, failed, room};
+use crate::write_order::{Refusal, WriteAsk, WriteHead, WriteStage, ended, failed};
 use gix_hash::ObjectId;
 use odb_base::{ByteList, NoMemory, PathText};
 use odb_disk::{Disk, DiskAsk, Source};
@@ -27,8 +28,7 @@ use std::mem;
 #[derive(Drop)]
 pub struct StreamJob {
     pub head: WriteHead,
-    /// What the machine asks for next.
-    pub wanted: WriteAsk,
+    pub stage: WriteStage,
     pub naming: Naming,
     /// The piece that is to be appended. It is empty elsewhere.
     pub piece: ByteList,
@@ -47,7 +47,7 @@ impl StreamJob {
         known: Option<ObjectId>,
     ) -> Result<StreamJob, NoMemory>
         ensures head { IfOk result (λ job. job.head ≡ head) }
-        ensures wanted { IfOk result (λ job. job.wanted ≡ WriteAsk.Disk (WriteStage.Making 0)) }
+        ensures stage { IfOk result (λ job. job.stage ≡ WriteStage.Making 0) }
         ensures piece { IfOk result (λ job. job.piece ≡ []) }
         ensures has_ended { IfOk result (λ job. job.has_ended ≡ false) }
         ensures naming { IfOk result (λ job. Names known hash head [] job.naming) }
@@ -57,7 +57,7 @@ impl StreamJob {
         let removal = removal_of(alloc, &head.objects, 0)?;
         Ok(StreamJob {
             head,
-            wanted: WriteAsk::Disk(WriteStage::Making { number: 0 }),
+            stage: WriteStage::Making { number: 0 },
             naming,
             piece: ByteList::new(alloc),
             has_ended: false,
@@ -65,7 +65,7 @@ impl StreamJob {
         })
     }
 
-    /// One thing that the machine asks for: a call of the disk, or the reading of data. How the write ends, if it does.
+    /// One call of the disk, and the reading of the next piece where its answer leads to that. How the write ends, if it does.
     ///
     /// Where memory runs out, the removal of the temporary file is ready, if one was made.
     pub fn turn<D: Disk, S: Source>(
@@ -79,23 +79,13 @@ impl StreamJob {
             TurnsTo w (D.state disk.new) (D.faults disk.new) (S.left from.new) (S.faults from.new) self.new result }
         ensures fewer { (w : Begun) →
             IsUnderway w (D.state disk.old) (D.faults disk.old) (S.left from.old) (S.faults from.old) self.old →
-            IfOk result (λ end. end ≡ None → turns_at self.new self.new.wanted < turns_at self.old self.old.wanted) }
+            IfOk result (λ end. end ≡ None → calls_left self.new (WriteAsk.Disk self.new.stage) < calls_left self.old (WriteAsk.Disk self.old.stage)) }
         ensures head { self.new.head ≡ self.old.head }
         ensures later { D.faults disk.old ≤ D.faults disk.new }
         ensures streams { D.streams disk.new ≡ D.streams disk.old }
     {
-        match self.wanted {
-            WriteAsk::Disk(stage) => {
-                let wanted = self.asked(alloc, disk, stage)?;
-                self.go_on(alloc, wanted)?;
-                Ok(None)
-            }
-            WriteAsk::Data { number, written } => {
-                self.read_on(alloc, from, number, written)?;
-                Ok(None)
-            }
-            WriteAsk::Done(end) => Ok(Some(end)),
-        }
+        let wanted = self.asked(alloc, disk)?;
+        self.go_on(alloc, from, wanted)
     }
 
     /// All turns of a write that is underway: how it ends. Where memory runs out, the removal of the temporary file is
@@ -136,29 +126,24 @@ impl StreamJob {
             IsBroken w (D.state disk.old) (D.faults disk.old) rest source_now self.now →
             D.streams disk.new ≡ D.streams disk.old }
     {
-        if self.wanted.number_made().is_some() {
+        if self.stage.number_made().is_some() {
             let _ = self.removal.carry_out(alloc, disk);
         }
     }
 
-    // The call of the disk of a stage: what its answer leads to.
-    fn asked<D: Disk>(
-        &mut self,
-        alloc: Global,
-        disk: &mut D,
-        stage: WriteStage,
-    ) -> Result<WriteAsk, NoMemory>
-        requires stands { self.old.wanted ≡ WriteAsk.Disk stage }
+    // The call of the disk of its stage: what the answer leads to.
+    fn asked<D: Disk>(&mut self, alloc: Global, disk: &mut D) -> Result<WriteAsk, NoMemory>
         ensures leads { (w : Begun) (rest : Option (List ℕ)) (source_now : ℕ) →
-            StandsAt w (D.state disk.old) (D.faults disk.old) rest source_now self.old stage →
+            IsUnderway w (D.state disk.old) (D.faults disk.old) rest source_now self.old →
             LeadsTo w (D.state disk.new) (D.faults disk.new) rest source_now self.new result }
         ensures fewer { (w : Begun) (rest : Option (List ℕ)) (source_now : ℕ) →
-            StandsAt w (D.state disk.old) (D.faults disk.old) rest source_now self.old stage →
-            IfOk result (λ wanted. turns_at self.new wanted < turns_at self.old (WriteAsk.Disk stage)) }
+            IsUnderway w (D.state disk.old) (D.faults disk.old) rest source_now self.old →
+            IfOk result (λ wanted. calls_left self.new wanted < calls_left self.old (WriteAsk.Disk self.old.stage)) }
         ensures head { self.new.head ≡ self.old.head }
         ensures later { D.faults disk.old ≤ D.faults disk.new }
         ensures streams { D.streams disk.new ≡ D.streams disk.old }
     {
+        let stage = self.stage;
         let len = self.piece.len() as u64;
         let ask = self.ask(alloc, &stage)?;
         let answer = ask.carry_out(alloc, disk);
@@ -179,16 +164,44 @@ impl StreamJob {
         self.head.disk_ask(alloc, stage, piece)
     }
 
-    // Goes on to what is asked for next. The removal of a file that is to be made is made ready.
-    fn go_on(&mut self, alloc: Global, wanted: WriteAsk) -> Result<(), NoMemory>
-        ensures goes_on { (w : Begun) (state : Option State) (now : ℕ) (rest : Option (List ℕ)) (source_now : ℕ) →
-            Leads w state now rest source_now self.old wanted → GoesOn w state now rest source_now self.new result }
-        ensures same { OnOk result (turns_at self.new self.new.wanted ≡ turns_at self.old wanted) }
+    // Goes on to what an answer led to: a stage, the next piece of the data, or the end.
+    fn go_on<S: Source>(
+        &mut self,
+        alloc: Global,
+        from: &mut S,
+        wanted: WriteAsk,
+    ) -> Result<Option<Result<ObjectId, Refusal>>, NoMemory>
+        ensures goes_on { (w : Begun) (state : Option State) (now : ℕ) →
+            Leads w state now (S.left from.old) (S.faults from.old) self.old wanted →
+            TurnsTo w state now (S.left from.new) (S.faults from.new) self.new result }
+        ensures fewer { (w : Begun) (state : Option State) (now : ℕ) →
+            Leads w state now (S.left from.old) (S.faults from.old) self.old wanted →
+            IfOk result (λ end. end ≡ None → calls_left self.new (WriteAsk.Disk self.new.stage) ≤ calls_left self.old wanted) }
         ensures head { self.new.head ≡ self.old.head }
     {
-        self.wanted = wanted;
         match wanted {
-            WriteAsk::Disk(WriteStage::Making { number }) => {
+            WriteAsk::Disk(stage) => {
+                self.stand(alloc, stage)?;
+                Ok(None)
+            }
+            WriteAsk::Data { number, written } => {
+                self.read_on(alloc, from, number, written)?;
+                Ok(None)
+            }
+            WriteAsk::Done(end) => Ok(Some(end)),
+        }
+    }
+
+    // Stands at a stage that an answer led to. The removal of a file that is to be made is made ready.
+    fn stand(&mut self, alloc: Global, stage: WriteStage) -> Result<(), NoMemory>
+        ensures goes_on { (w : Begun) (state : Option State) (now : ℕ) (rest : Option (List ℕ)) (source_now : ℕ) →
+            LedAt w state now rest source_now self.old stage → GoesOn w state now rest source_now self.new result }
+        ensures same { OnOk result (calls_left self.new (WriteAsk.Disk self.new.stage) ≡ calls_left self.old (WriteAsk.Disk stage)) }
+        ensures head { self.new.head ≡ self.old.head }
+    {
+        self.stage = stage;
+        match stage {
+            WriteStage::Making { number } => {
                 let removal = removal_of(alloc, &self.head.objects, number)?;
                 drop(mem::replace(&mut self.removal, removal));
                 Ok(())
@@ -197,7 +210,7 @@ impl StreamJob {
         }
     }
 
-    // Reads the next piece, or tells the end of the data, or that the source failed.
+    // Reads the next piece behind so many bytes, or tells the end of the data, or that the source failed.
     fn read_on<S: Source>(
         &mut self,
         alloc: Global,
@@ -205,29 +218,28 @@ impl StreamJob {
         number: u64,
         written: u64,
     ) -> Result<(), NoMemory>
-        requires waits { self.old.wanted ≡ WriteAsk.Data number written }
         ensures goes_on { (w : Begun) (state : Option State) (now : ℕ) →
             WaitsAt w state now (S.left from.old) (S.faults from.old) self.old number written →
             GoesOn w state now (S.left from.new) (S.faults from.new) self.new result }
         ensures fewer { (w : Begun) (state : Option State) (now : ℕ) →
             WaitsAt w state now (S.left from.old) (S.faults from.old) self.old number written →
-            OnOk result (turns_at self.new self.new.wanted < turns_at self.old (WriteAsk.Data number written)) }
+            OnOk result (calls_left self.new (WriteAsk.Disk self.new.stage) ≤ calls_left self.old (WriteAsk.Data number written)) }
         ensures head { self.new.head ≡ self.old.head }
     {
+        self.stage = WriteStage::Filling { number, written };
         if self.has_ended {
             self.end(number, written);
             return Ok(());
         }
-        let most = room(self.head.size, written) as usize;
+        let most = self.head.most(written) as usize;
         match next_piece(alloc, from, most)? {
             Fetched::Failed => {
-                self.wanted = WriteAsk::Disk(failed(number));
+                self.stage = failed(number);
                 Ok(())
             }
             Fetched::Piece(piece) => {
                 self.take(piece, most);
                 if !self.piece.is_empty() {
-                    self.wanted = WriteAsk::Disk(WriteStage::Filling { number, written });
                     return Ok(());
                 }
                 self.end(number, written);
@@ -243,7 +255,7 @@ impl StreamJob {
         ensures naming { (known : Option id_of_object) (hash : hash_kind) (head : head_of_write) (before : List ℕ) →
             Names known hash head before self.old.naming → Names known hash head (before ++ piece) self.new.naming }
         ensures head { self.new.head ≡ self.old.head }
-        ensures wanted { self.new.wanted ≡ self.old.wanted }
+        ensures stage { self.new.stage ≡ self.old.stage }
         ensures removal { self.new.removal ≡ self.old.removal }
     {
         self.has_ended = piece.len() < most;
@@ -253,13 +265,13 @@ impl StreamJob {
 
     // Tells the end of the data, behind so many bytes.
     fn end(&mut self, number: u64, written: u64)
-        ensures wanted { IsEnded number written self.old self.new }
+        ensures ended { IsEnded number written self.old.head.size self.old.naming self.new.stage }
         ensures head { self.new.head ≡ self.old.head }
         ensures removal { self.new.removal ≡ self.old.removal }
     {
         let unnamed = Naming::Known(ObjectId::null(gix_hash::Kind::Sha1));
         let id = mem::replace(&mut self.naming, unnamed).finish();
-        self.wanted = WriteAsk::Disk(ended(number, written, self.head.size, id));
+        self.stage = ended(number, written, self.head.size, id);
     }
 }
 

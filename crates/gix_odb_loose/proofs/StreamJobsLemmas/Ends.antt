@@ -5,7 +5,6 @@ use Rattle.std.proofs.Common.{inl, inr, sym, ap, ◌∙◌, subst, arith}
 use Rattle.odb_base.specs.Faults.{Rose}
 use Rattle.odb_disk.specs.Ask.{AnswersAsk, answer_of, state_told_after}
 use Rattle.odb_tree.specs.Tree.{State, IsTree, tree_of}
-use Rattle.odb_disk.specs.StreamAsks.{is_of_streams}
 use Rattle.odb_disk.specs.declared.ask.DiskAsk.{DiskAsk}
 use Rattle.odb_disk.specs.declared.ask.DiskAsk.TheVariants as asks
 use Rattle.odb_disk.specs.declared.ask.DiskAnswer.{DiskAnswer}
@@ -17,20 +16,18 @@ use Rattle.gix_odb_loose.specs.WriteHistory.Refused.{IsFailedRead}
 use Rattle.gix_odb_loose.specs.WriteHistory.{IsRemovedAfter}
 use Rattle.gix_odb_loose.specs.WriteHistory.WentWell.{tried}
 use Rattle.gix_odb_loose.specs.WriteNames.{Names}
-use Rattle.gix_odb_loose.specs.WriteOrder.{temp_path, number_made, number_wanted}
+use Rattle.gix_odb_loose.specs.WriteOrder.{temp_path, number_made}
 use Rattle.gix_odb_loose.specs.StreamJobs.Progress.{Begun, SourceFailed, IsSpared, LostAt}
 use Rattle.gix_odb_loose.specs.StreamJobs.SameAsks.{at_hand}
 use Rattle.gix_odb_loose.specs.StreamJobs.Standing.{StandsAt, IsAtItsEnd, BreaksAt, IsBrokenOff}
-use Rattle.gix_odb_loose.specs.StreamJobs.{IsAt, IsUnderway, BreaksBefore, IsBroken, LeadsTo, TurnsTo, RunsTo}
+use Rattle.gix_odb_loose.specs.StreamJobs.{IsUnderway, IsBroken, LeadsTo, TurnsTo, RunsTo}
 use Rattle.gix_odb_loose.specs.StreamJobs.AtStage.{IsReady, removal_at}
 use Rattle.gix_odb_loose.specs.declared.write_streamed.StreamJob.{StreamJob}
 use Rattle.gix_odb_loose.specs.declared.write_order.WriteAsk.{WriteAsk}
-use Rattle.gix_odb_loose.specs.declared.write_order.WriteAsk.TheVariants as wants
 use Rattle.gix_odb_loose.specs.declared.write_order.Refusal.{Refusal}
 use Rattle.gix_odb_loose.specs.declared.write_order.WriteStage.{WriteStage}
 use Rattle.gix_odb_loose.specs.declared.write_order.WriteStage.TheVariants as stages
 use Rattle.gix_odb_loose.proofs.AskLaws.{IsAlong-start}
-use Rattle.gix_odb_loose.proofs.StillAskLaws.{removal_still}
 use Rattle.gix_odb_loose.proofs.WriteStreamsLemmas.{Draws-none}
 use Rattle.gix_odb_loose.proofs.StreamJobsLemmas.SameAsks.{cuts_at, cut_off}
 use Rattle.gix_odb_loose.proofs.StreamJobsLemmas.Turn.{did_next}
@@ -42,18 +39,29 @@ pub turns_broken : {E : Type 0} (w : Begun) (state : Option State) (now : ℕ) (
 turns_broken w state now rest source_now job (Ok x) err broken = absurd (cc err)
 turns_broken w state now rest source_now job (Err error) err broken = broken
 
-pub leads_broken : {E : Type 0} (w : Begun) (state : Option State) (now : ℕ) (rest : Option (List ℕ)) (source_now : ℕ) (job : StreamJob) (result : Result WriteAsk E) → IsErr result → IsBroken w state now rest source_now job → LeadsTo w state now rest source_now job result
+pub leads_broken : {E : Type 0} (w : Begun) (state : Option State) (now : ℕ) (rest : Option (List ℕ)) (source_now : ℕ) (job : StreamJob) (result : Result WriteAsk E) → IsErr result → IsBroken w state now rest source_now job
+    → LeadsTo w state now rest source_now job result
 leads_broken w state now rest source_now job (Ok x) err broken = absurd (cc err)
 leads_broken w state now rest source_now job (Err error) err broken = broken
 
 -- memory ran out before the next ask
-pub broken_first : (w : Begun) (state : Option State) (now : ℕ) (rest : Option (List ℕ)) (source_now : ℕ) (job fed : StreamJob) (stage : WriteStage) → fed ≡ record job { piece = [] } → job.wanted ≡ wants.Disk stage → StandsAt w state now rest source_now job stage
+pub broken_first : (w : Begun) (state : Option State) (now : ℕ) (rest : Option (List ℕ)) (source_now : ℕ) (job fed : StreamJob) → fed ≡ record job { piece = [] } → IsUnderway w state now rest source_now job
     → IsBroken w state now rest source_now fed
-broken_first w state now rest source_now job fed stage same asked at =
-    subst (λ (a : WriteAsk). BreaksBefore w state now rest source_now fed a) (sym (ap (λ (j : StreamJob). j.wanted) same ∙ asked))
-    (record { past = at.past; appended = at.appended; all = at.all; did = at.did; took = at.took; removal = ready stage (ap (λ (j : StreamJob). j.removal) same ∙ at.removal); history = at.history; spared = lost; follows = λ bytes told. cuts_at w bytes (SourceFailed w source_now) stage at.past (at.follows bytes told) })
+broken_first w state now rest source_now job fed same at =
+    subst (λ (s : WriteStage). BreaksAt w state now rest source_now fed s) (sym (ap (λ (j : StreamJob). j.stage) same))
+    (record {
+      past = at.past;
+      appended = at.appended;
+      all = at.all;
+      did = at.did;
+      took = at.took;
+      removal = ready job.stage (ap (λ (j : StreamJob). j.removal) same ∙ at.removal);
+      history = at.history;
+      spared = lost;
+      follows = λ bytes told. cuts_at w bytes (SourceFailed w source_now) job.stage at.past (at.follows bytes told);
+    })
   where
-    lost : IsSpared w source_now ⊎ LostAt w stage at.past
+    lost : IsSpared w source_now ⊎ LostAt w job.stage at.past
     lost = elim at.spared [ inl spared ↦ inl spared | inr failed ↦ inr (record { number = failed.number; appended = failed.appended; filled = failed.filled; made = ap number_made failed.is }) ]
 
     ready : (stage : WriteStage) → fed.removal ≡ removal_at w stage → IsReady w fed.removal stage
@@ -68,14 +76,14 @@ broken_first w state now rest source_now job fed stage same asked at =
 
 module _ (w : Begun) (state : Option State) (now : ℕ) (rest : Option (List ℕ)) (source_now : ℕ) (job : StreamJob) where
   -- no file was made
-  off_unmade : (stage : WriteStage) → is_some (number_made stage) ≡ false → BreaksAt w state now rest source_now job stage → IsBrokenOff w state now rest source_now
-  off_unmade (stages.Making number) e at =
+  pub clear_unmade : (stage : WriteStage) → is_some (number_made stage) ≡ false → BreaksAt w state now rest source_now job stage → IsBrokenOff w state now rest source_now
+  clear_unmade (stages.Making number) e at =
       record { past = at.past; all = at.all; did = at.did; run = record { stage = stages.Making number; appended = at.appended; before = at.past; history = at.history; removed = refl }; took = at.took; spared = elim at.spared [ inl spared ↦ inl spared | inr lost ↦ absurd (let none = lost.made in cc none) ]; follows = λ bytes told. cut_off w bytes (stages.Making number) at.past at.past (at.follows bytes told) refl }
-  off_unmade (stages.Heading number) e at = absurd (cc e)
-  off_unmade (stages.Filling number written) e at = absurd (cc e)
-  off_unmade (stages.Foldering number id) e at = absurd (cc e)
-  off_unmade (stages.Moving number id) e at = absurd (cc e)
-  off_unmade (stages.Removing number refusal) e at = absurd (cc e)
+  clear_unmade (stages.Heading number) e at = absurd (cc e)
+  clear_unmade (stages.Filling number written) e at = absurd (cc e)
+  clear_unmade (stages.Foldering number id) e at = absurd (cc e)
+  clear_unmade (stages.Moving number id) e at = absurd (cc e)
+  clear_unmade (stages.Removing number refusal) e at = absurd (cc e)
 
   module _ (new : Option State) (later : ℕ) (answer : DiskAnswer) (given : IfSome state (λ s. AnswersAsk answer (answer_of (tree_of s) job.removal))) (left : new ≡ state_told_after state job.removal answer) (more : now ≤ later)
       (cause : answer ≡ answers.Refused disk_errors.Failed → Rose now later) (tree : IfSome state (λ s. IsTree (tree_of s))) where
@@ -114,46 +122,21 @@ module _ (w : Begun) (state : Option State) (now : ℕ) (rest : Option (List ℕ
         removal_asked = subst (λ (n : Option ℕ). IsRemovedAfter w.head n at.past (at.past ++ exchanged job.removal answer ∷ [])) (sym made) (answer, ap (λ (a : DiskAsk). at.past ++ exchanged a answer ∷ []) ready)
 
     -- the file that was made was asked to be removed
-    off_removed : (stage : WriteStage) → is_some (number_made stage) ≡ true → BreaksAt w state now rest source_now job stage → IsBrokenOff w new later rest source_now
-    off_removed (stages.Making number) e at = absurd (cc e)
-    off_removed (stages.Heading number) e at = removed number (stages.Heading number) at.removal refl at
-    off_removed (stages.Filling number written) e at = removed number (stages.Filling number written) at.removal refl at
-    off_removed (stages.Foldering number id) e at = removed number (stages.Foldering number id) at.removal refl at
-    off_removed (stages.Moving number id) e at = removed number (stages.Moving number id) at.removal refl at
-    off_removed (stages.Removing number refusal) e at = removed number (stages.Removing number refusal) at.removal refl at
-
--- by what was asked for
-module _ (w : Begun) (state : Option State) (now : ℕ) (rest : Option (List ℕ)) (source_now : ℕ) (job : StreamJob) where
-  pub clear_unmade : (wanted : WriteAsk) → is_some (number_wanted wanted) ≡ false → BreaksBefore w state now rest source_now job wanted → IsBrokenOff w state now rest source_now
-  clear_unmade (wants.Disk stage) none at = off_unmade w state now rest source_now job stage none at
-  clear_unmade (wants.Data number written) none at = absurd (cc none)
-  clear_unmade (wants.Done end) none at = absurd at
-
-  pub clear_ready : (wanted : WriteAsk) → is_some (number_wanted wanted) ≡ true → BreaksBefore w state now rest source_now job wanted → is_of_streams job.removal ≡ false
-  clear_ready (wants.Disk stage) made at = removal_still w job.removal stage made at.removal
-  clear_ready (wants.Data number written) made at = removal_still w job.removal (stages.Filling number written) refl at.removal
-  clear_ready (wants.Done end) made at = absurd at
-
-  module _ (new : Option State) (later : ℕ) (answer : DiskAnswer) (given : IfSome state (λ s. AnswersAsk answer (answer_of (tree_of s) job.removal))) (left : new ≡ state_told_after state job.removal answer) (more : now ≤ later)
-      (cause : answer ≡ answers.Refused disk_errors.Failed → Rose now later) (tree : IfSome state (λ s. IsTree (tree_of s))) where
-    pub clear_removed : (wanted : WriteAsk) → is_some (number_wanted wanted) ≡ true → BreaksBefore w state now rest source_now job wanted → IsBrokenOff w new later rest source_now
-    clear_removed (wants.Disk stage) made at = off_removed w state now rest source_now job new later answer given left more cause tree stage made at
-    clear_removed (wants.Data number written) made at = off_removed w state now rest source_now job new later answer given left more cause tree (stages.Filling number written) refl at
-    clear_removed (wants.Done end) made at = absurd at
-
--- what it is about stays
-pub underway_head : (w : Begun) (state : Option State) (now : ℕ) (rest : Option (List ℕ)) (source_now : ℕ) (job : StreamJob) (wanted : WriteAsk) → IsAt w state now rest source_now job wanted → job.head ≡ w.head
-underway_head w state now rest source_now job (wants.Disk stage) at = at.head
-underway_head w state now rest source_now job (wants.Data number written) at = at.head
-underway_head w state now rest source_now job (wants.Done end) at = at.0
+    pub clear_removed : (stage : WriteStage) → is_some (number_made stage) ≡ true → BreaksAt w state now rest source_now job stage → IsBrokenOff w new later rest source_now
+    clear_removed (stages.Making number) e at = absurd (cc e)
+    clear_removed (stages.Heading number) e at = removed number (stages.Heading number) at.removal refl at
+    clear_removed (stages.Filling number written) e at = removed number (stages.Filling number written) at.removal refl at
+    clear_removed (stages.Foldering number id) e at = removed number (stages.Foldering number id) at.removal refl at
+    clear_removed (stages.Moving number id) e at = removed number (stages.Moving number id) at.removal refl at
+    clear_removed (stages.Removing number refusal) e at = removed number (stages.Removing number refusal) at.removal refl at
 
 -- ---- where it begins
 
-pub stands_first : (w : Begun) (job : StreamJob) → job.head ≡ w.head → job.wanted ≡ wants.Disk (stages.Making 0) → job.has_ended ≡ false → Names w.known w.hash w.head [] job.naming → job.removal ≡ asks.Remove (temp_path w.head.objects 0)
+pub stands_first : (w : Begun) (job : StreamJob) → job.head ≡ w.head → job.stage ≡ stages.Making 0 → job.has_ended ≡ false → Names w.known w.hash w.head [] job.naming → job.removal ≡ asks.Remove (temp_path w.head.objects 0)
     → IsUnderway w w.state w.faults w.left w.source_faults job
 unfolding tried AreGiven left_by
-stands_first w job head asked ended named removal =
-    subst (λ (a : WriteAsk). IsAt w w.state w.faults w.left w.source_faults job a) (sym asked)
+stands_first w job head stage ended named removal =
+    subst (λ (s : WriteStage). StandsAt w w.state w.faults w.left w.source_faults job s) (sym stage)
     (record {
       past = [];
       appended = [];

@@ -4,6 +4,7 @@ use Rattle.std.specs.Prelude.{◌≡◌, ◌≢◌, ℕ, true, false, nat_lt, Li
 use Rattle.std.proofs.Common.{inl, inr, sym, ap, ◌∙◌, subst}
 use Rattle.odb_base.specs.Faults.{Rose}
 use Rattle.odb_tree.specs.Tree.{State}
+use Rattle.odb_disk.specs.declared.ask.DiskAsk.{DiskAsk}
 use Rattle.gix_hash.specs.declared.kind.Kind.{Kind as HashKind}
 use Rattle.gix_hash.specs.declared.object_id.ObjectId.{ObjectId}
 use Rattle.gix_odb_loose.specs.WriteNames.{Names}
@@ -11,11 +12,10 @@ use Rattle.gix_odb_loose.specs.WriteOrder.{number_made, ended_with, source_faile
 use Rattle.gix_odb_loose.specs.WritePieces.{room_behind}
 use Rattle.gix_odb_loose.specs.StreamJobs.Progress.{Begun, SourceFailed}
 use Rattle.gix_odb_loose.specs.StreamJobs.Reads.{Loses, Takes}
-use Rattle.gix_odb_loose.specs.StreamJobs.Standing.{LedAt, WaitsAt, BreaksAt, IsEnded}
-use Rattle.gix_odb_loose.specs.StreamJobs.{IsAt, IsUnderway, BreaksBefore, IsBroken, GoesOn, Leads}
+use Rattle.gix_odb_loose.specs.StreamJobs.AtStage.{IsReady}
+use Rattle.gix_odb_loose.specs.StreamJobs.Standing.{StandsAt, LedAt, WaitsAt, BreaksAt, IsEnded}
+use Rattle.gix_odb_loose.specs.StreamJobs.{IsUnderway, IsBroken, GoesOn}
 use Rattle.gix_odb_loose.specs.declared.write_streamed.StreamJob.{StreamJob}
-use Rattle.gix_odb_loose.specs.declared.write_order.WriteAsk.{WriteAsk}
-use Rattle.gix_odb_loose.specs.declared.write_order.WriteAsk.TheVariants as wants
 use Rattle.gix_odb_loose.specs.declared.write_order.WriteHead.{WriteHead}
 use Rattle.gix_odb_loose.specs.declared.write_order.WriteStage.{WriteStage}
 use Rattle.gix_odb_loose.specs.declared.write_order.WriteStage.TheVariants as stages
@@ -29,23 +29,23 @@ module _ (w : Begun) (state : Option State) (now : ℕ) (rest : Option (List ℕ
   size_is = ap (λ (h : WriteHead). h.size) waits.head
 
   -- the source is at its end
-  pub on_end : job.has_ended ≡ true → (new : StreamJob) → new.head ≡ job.head → new.removal ≡ job.removal → IsEnded number written job new → IsUnderway w state now rest source_now new
+  pub on_end : job.has_ended ≡ true → (new : StreamJob) → new.head ≡ job.head → new.removal ≡ job.removal → IsEnded number written job.head.size job.naming new.stage → IsUnderway w state now rest source_now new
   on_end last new head removal ended =
       stands_ended w state now rest source_now job number written waits (waits.holds.0.ended last) new head removal
-      (ended.wanted ∙ ap (λ (id : ObjectId). wants.Disk (ended_with job.head.size id number written)) (ended.named w.known w.hash w.head waits.all waits.holds.0.named))
+      (ended.is ∙ ap (λ (id : ObjectId). ended_with job.head.size id number written) (ended.named w.known w.hash w.head waits.all waits.holds.0.named))
 
   module _ (most : ℕ) (room : most ≡ room_behind job.head.size written) (last : Option (List ℕ)) (later : ℕ) where
     abbrev room_is : most ≡ room_behind w.head.size written
     room_is = room ∙ ap (λ (n : ℕ). room_behind n written) size_is
 
-    pub on_lost : job.wanted ≡ wants.Data number written → Loses most rest last source_now later → IsBroken w state now last later job
-    on_lost asked loses =
-        subst (λ (a : WriteAsk). BreaksBefore w state now last later job a) (sym asked)
-        (breaks_lost w state now rest source_now job number written waits last later (subst (λ (n : ℕ). Loses n rest last source_now later) room_is loses) job refl)
+    pub on_lost : Loses most rest last source_now later → (new : StreamJob) → new.removal ≡ job.removal → new.stage ≡ stages.Filling number written → IsBroken w state now last later new
+    on_lost loses new removal is =
+        subst (λ (s : WriteStage). BreaksAt w state now last later new s) (sym is)
+        (breaks_lost w state now rest source_now job number written waits last later (subst (λ (n : ℕ). Loses n rest last source_now later) room_is loses) new removal)
 
-    pub on_failed : Rose source_now later → Loses most rest last source_now later → (new : StreamJob) → new.head ≡ job.head → new.removal ≡ job.removal → new.wanted ≡ wants.Disk (source_failed number) → IsUnderway w state now last later new
+    pub on_failed : Rose source_now later → Loses most rest last source_now later → (new : StreamJob) → new.head ≡ job.head → new.removal ≡ job.removal → new.stage ≡ source_failed number → IsUnderway w state now last later new
     on_failed rose loses new head removal is =
-        subst (λ (a : WriteAsk). IsAt w state now last later new a) (sym is)
+        subst (λ (s : WriteStage). StandsAt w state now last later new s) (sym is)
         (stands_failed w state now rest source_now job number written waits last later (subst (λ (n : ℕ). Loses n rest last source_now later) room_is loses) rose new head removal)
 
     module _ (piece : List ℕ) (takes : Takes most rest last source_now later piece) (taken : StreamJob) (head : taken.head ≡ job.head) (removal : taken.removal ≡ job.removal) (is : taken.piece ≡ piece)
@@ -60,18 +60,18 @@ module _ (w : Begun) (state : Option State) (now : ℕ) (rest : Option (List ℕ
       abbrev names : Names w.known w.hash w.head (waits.all ++ piece) taken.naming
       names = named w.known w.hash w.head waits.all waits.holds.0.named
 
-      pub on_piece : taken.piece ≢ [] → taken.wanted ≡ wants.Disk (stages.Filling number written) → IsUnderway w state now last later taken
-      on_piece some asked =
-          subst (λ (a : WriteAsk). IsAt w state now last later taken a) (sym asked)
+      pub on_piece : taken.piece ≢ [] → taken.stage ≡ stages.Filling number written → IsUnderway w state now last later taken
+      on_piece some at =
+          subst (λ (s : WriteStage). StandsAt w state now last later taken s) (sym at)
           (stands_piece w state now rest source_now job number written waits last later piece takes_room taken head removal is ended_is names open' some)
 
-      pub on_nothing : taken.piece ≡ [] → (new : StreamJob) → new.head ≡ taken.head → new.removal ≡ taken.removal → IsEnded number written taken new → IsUnderway w state now last later new
+      pub on_nothing : taken.piece ≡ [] → (new : StreamJob) → new.head ≡ taken.head → new.removal ≡ taken.removal → IsEnded number written taken.head.size taken.naming new.stage → IsUnderway w state now last later new
       unfolding fed_nothing
       on_nothing none new head' removal' ended' =
           let waits' = fed_nothing w state now rest source_now job number written waits last later piece takes_room taken head removal is ended_is names open' none in
           let at_end = at_end_nothing w state now rest source_now job number written waits last later piece takes_room taken head removal is ended_is names open' none in
           stands_ended w state now last later taken number written waits' at_end new head' removal'
-          (ended'.wanted ∙ ap (λ (id : ObjectId). wants.Disk (ended_with taken.head.size id number written)) (ended'.named w.known w.hash w.head waits'.all names))
+          (ended'.is ∙ ap (λ (id : ObjectId). ended_with taken.head.size id number written) (ended'.named w.known w.hash w.head waits'.all names))
 
 pub goes_on_broken : {E : Type 0} (w : Begun) (state : Option State) (now : ℕ) (rest : Option (List ℕ)) (source_now : ℕ) (job : StreamJob) (result : Result (Unit {0}) E) → IsErr result → IsBroken w state now rest source_now job → GoesOn w state now rest source_now job result
 goes_on_broken w state now rest source_now job (Ok x) err broken = absurd (cc err)
@@ -79,23 +79,19 @@ goes_on_broken w state now rest source_now job (Err error) err broken = broken
 
 -- ---- where an answer led
 
-module _ (w : Begun) (state : Option State) (now : ℕ) (rest : Option (List ℕ)) (source_now : ℕ) (job : StreamJob) (asked : WriteAsk) where
-  -- memory ran out for it
-  led_breaks : (stage : WriteStage) → LedAt w state now rest source_now job stage → BreaksAt w state now rest source_now (record job { wanted = asked }) stage
-  led_breaks stage led =
-      record {
-        past = led.past;
-        appended = led.appended;
-        all = led.all;
-        did = led.did;
-        took = led.took;
-        removal = led.removal;
-        history = led.history;
-        spared = elim led.spared [ inl spared ↦ inl spared | inr failed ↦ inr (record { number = failed.number; appended = failed.appended; filled = failed.filled; made = ap number_made failed.is }) ];
-        follows = λ bytes told. cuts_at w bytes (SourceFailed w source_now) stage led.past (led.follows bytes told);
-      }
-
-  pub led_broken : (stage : WriteStage) (wanted : WriteAsk) → wanted ≡ wants.Disk stage → Leads w state now rest source_now job wanted → BreaksBefore w state now rest source_now (record job { wanted = asked }) wanted
-  led_broken stage wanted is led =
-      subst (λ (a : WriteAsk). BreaksBefore w state now rest source_now (record job { wanted = asked }) a) (sym is)
-      (led_breaks stage (subst (λ (a : WriteAsk). Leads w state now rest source_now job a) is led))
+-- memory ran out for it
+pub led_broken : (w : Begun) (state : Option State) (now : ℕ) (rest : Option (List ℕ)) (source_now : ℕ) (job new : StreamJob) (stage : WriteStage) → new.removal ≡ job.removal → new.stage ≡ stage → LedAt w state now rest source_now job stage
+    → IsBroken w state now rest source_now new
+led_broken w state now rest source_now job new stage same is led =
+    subst (λ (s : WriteStage). BreaksAt w state now rest source_now new s) (sym is)
+    (record {
+      past = led.past;
+      appended = led.appended;
+      all = led.all;
+      did = led.did;
+      took = led.took;
+      removal = subst (λ (r : DiskAsk). IsReady w r stage) (sym same) led.removal;
+      history = led.history;
+      spared = elim led.spared [ inl spared ↦ inl spared | inr failed ↦ inr (record { number = failed.number; appended = failed.appended; filled = failed.filled; made = ap number_made failed.is }) ];
+      follows = λ bytes told. cuts_at w bytes (SourceFailed w source_now) stage led.past (led.follows bytes told);
+    })

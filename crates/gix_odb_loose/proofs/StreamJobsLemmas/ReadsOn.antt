@@ -18,14 +18,13 @@ use Rattle.gix_odb_loose.specs.StreamJobs.SameAsks.{at_hand}
 use Rattle.gix_odb_loose.specs.StreamJobs.Reads.{Loses, Takes}
 use Rattle.gix_odb_loose.specs.StreamJobs.AtStage.{HasPiece, IsNext}
 use Rattle.gix_odb_loose.specs.StreamJobs.Standing.{StandsAt, WaitsAt, BreaksAt}
-use Rattle.gix_odb_loose.specs.StreamJobs.{IsAt, IsUnderway}
+use Rattle.gix_odb_loose.specs.StreamJobs.{IsUnderway}
 use Rattle.gix_odb_loose.specs.WriteStreams.{Draws, IsAtEnd, OtherLength}
 use Rattle.gix_odb_loose.specs.declared.write_streamed.StreamJob.{StreamJob}
 use Rattle.gix_odb_loose.specs.declared.write_at_hand.Onward.TheVariants.{Stage}
-use Rattle.gix_odb_loose.specs.declared.write_order.WriteAsk.{WriteAsk}
-use Rattle.gix_odb_loose.specs.declared.write_order.WriteAsk.TheVariants as wants
 use Rattle.gix_odb_loose.specs.declared.write_order.Refusal.TheVariants as refusals
 use Rattle.gix_odb_loose.specs.declared.write_order.WriteHead.{WriteHead}
+use Rattle.gix_odb_loose.specs.declared.write_order.WriteStage.{WriteStage}
 use Rattle.gix_odb_loose.specs.declared.write_order.WriteStage.TheVariants as stages
 use Rattle.gix_odb_loose.proofs.RoomLemmas.{has_room, room_within}
 use Rattle.gix_odb_loose.proofs.WriteStreamsLemmas.{Draws-more, Draws-end, Draws-length}
@@ -113,10 +112,10 @@ module _ (w : Begun) (state : Option State) (now : ℕ) where
             follows = λ bytes is. inl (subst (λ (b : Bool). IsAlong (at_hand w bytes) (Stage (if b then stages.Foldering number id else stages.Removing number (refusals.SizeMismatch written))) fed.past) e (ended_follows bytes is));
           }
 
-      pub stands_ended : new.wanted ≡ wants.Disk (ended_with job.head.size id number written) → IsUnderway w state now rest source_now new
+      pub stands_ended : new.stage ≡ ended_with job.head.size id number written → IsUnderway w state now rest source_now new
       stands_ended is =
           let size : job.head.size ≡ w.head.size = ap (λ (h : WriteHead). h.size) fed.head in
-          subst (λ (a : WriteAsk). IsAt w state now rest source_now new a) (sym (is ∙ ap (λ (n : ℕ). wants.Disk (ended_with n id number written)) size)) (by_length (written == w.head.size) refl)
+          subst (λ (s : WriteStage). StandsAt w state now rest source_now new s) (sym (is ∙ ap (λ (n : ℕ). ended_with n id number written) size)) (by_length (written == w.head.size) refl)
 
     -- bytes are lost
     module _ (last : Option (List ℕ)) (later : ℕ) (loses : Loses (room_behind w.head.size written) rest last source_now later) where

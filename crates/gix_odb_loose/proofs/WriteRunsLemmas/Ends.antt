@@ -36,7 +36,6 @@ use Rattle.gix_odb_loose.specs.declared.write.Error.{Error}
 use Rattle.gix_odb_loose.specs.declared.write.Error.TheVariants as errors
 use Rattle.gix_odb_loose.specs.declared.write_order.Refusal.{Refusal}
 use Rattle.gix_odb_loose.specs.declared.write_order.Refusal.TheVariants as refusals
-use Rattle.gix_odb_loose.specs.declared.write_order.WriteAsk.TheVariants as wants
 use Rattle.gix_odb_loose.specs.declared.write_order.WriteHead.{WriteHead}
 use Rattle.gix_odb_loose.specs.declared.write_order.WriteStage.TheVariants as stages
 use Rattle.gix_odb_loose.specs.declared.write.Message.TheVariants as messages
@@ -219,15 +218,15 @@ for_memory (Err error) h = ap (λ (e : Error). Err e) h
 -- ---- how it begins
 
 pub new_underway : (w : Begun) (job : StreamJob) → IsNew w.head w.hash w.known job → IsUnderway w w.state w.faults w.left w.source_faults job
-new_underway w job new = stands_first w job new.about new.wanted new.has_ended new.naming new.removal
+new_underway w job new = stands_first w job new.about new.stage new.has_ended new.naming new.removal
 
-pub new_in : {E : Type 0} (head made : WriteHead) (hash taken : HashKind) (known : Option ObjectId) (result : Result StreamJob E) → made ≡ head → taken ≡ hash → IfOk result (λ job. job.head ≡ made) → IfOk result (λ job. job.wanted ≡ wants.Disk (stages.Making 0))
+pub new_in : {E : Type 0} (head made : WriteHead) (hash taken : HashKind) (known : Option ObjectId) (result : Result StreamJob E) → made ≡ head → taken ≡ hash → IfOk result (λ job. job.head ≡ made) → IfOk result (λ job. job.stage ≡ stages.Making 0)
     → IfOk result (λ job. job.has_ended ≡ false) → IfOk result (λ job. Names known taken made [] job.naming) → IfOk result (λ job. job.removal ≡ asks.Remove (temp_path made.objects 0)) → IfOk result (IsNew head hash known)
-new_in head made hash taken known (Err error) same hash_is heads asked ended naming removal = tt
-new_in head made hash taken known (Ok job) same hash_is heads asked ended naming removal =
+new_in head made hash taken known (Err error) same hash_is heads stage ended naming removal = tt
+new_in head made hash taken known (Ok job) same hash_is heads stage ended naming removal =
     record {
       about = heads ∙ same;
-      wanted = asked;
+      stage = stage;
       has_ended = ended;
       naming = subst (λ (h : HashKind). Names known h head [] job.naming) hash_is (subst (λ (h : WriteHead). Names known taken h [] job.naming) same naming);
       removal = removal ∙ ap (λ (h : WriteHead). asks.Remove (temp_path h.objects 0)) same;

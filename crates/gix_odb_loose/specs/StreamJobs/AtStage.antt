@@ -4,7 +4,7 @@ use Rattle.odb_disk.specs.declared.ask.DiskAsk.{DiskAsk}
 use Rattle.odb_disk.specs.declared.ask.DiskAsk.TheVariants as asks
 use Rattle.gix_hash.specs.declared.kind.Kind.{Kind as HashKind}
 use Rattle.gix_hash.specs.declared.object_id.ObjectId.{ObjectId}
-use Rattle.gix_odb_loose.specs.WriteJobs.{wants_left, writes_left}
+use Rattle.gix_odb_loose.specs.WriteJobs.{writes_left}
 use Rattle.gix_odb_loose.specs.WritePieces.{IsInPieces, room_behind}
 use Rattle.gix_odb_loose.specs.WriteNames.{name_for, Names}
 use Rattle.gix_odb_loose.specs.WriteOrder.{temp_path, number_in}
@@ -64,24 +64,23 @@ IsReady w removal stage = removal ≡ removal_at w stage
 -- a write that has asked nothing and read nothing
 pub record IsNew (head : WriteHead) (hash : HashKind) (known : Option ObjectId) (job : StreamJob) : Type 0 where
   pub about : job.head ≡ head
-  pub wanted : job.wanted ≡ wants.Disk (stages.Making 0)
+  pub stage : job.stage ≡ stages.Making 0
   pub has_ended : job.has_ended ≡ false
   pub naming : Names known hash head [] job.naming
   pub removal : job.removal ≡ asks.Remove (temp_path head.objects 0)
 
--- ---- the turns that are left
+-- ---- the calls that are left
 
 -- how many bytes of data can come in all, at most: those that came where the source is at its end, else one above the size
 abbrev pub most_of : StreamJob → (written : ℕ) → ℕ
 most_of job written = if job.has_ended then written + length job.piece else job.head.size + 1
 
--- behind how many bytes a stage stands
-abbrev pub written_at : WriteStage → ℕ
-written_at (stages.Filling number written) = written
-written_at stage = 0
+-- behind how many bytes of data it stands
+abbrev pub written_at : WriteAsk → ℕ
+written_at (wants.Disk (stages.Filling number written)) = written
+written_at (wants.Data number written) = written
+written_at wanted = 0
 
--- how many turns a write has left, at most: two for each call of the disk, of which one reads its data
-abbrev pub turns_at : StreamJob → WriteAsk → ℕ
-turns_at job (wants.Disk stage) = 2 * writes_left (most_of job (written_at stage)) stage
-turns_at job (wants.Data number written) = 2 * wants_left (most_of job written) (wants.Data number written) + 1
-turns_at job (wants.Done end) = 0
+-- how many calls of the disk it has left, at most, by what it asks for next
+abbrev pub calls_left : StreamJob → WriteAsk → ℕ
+calls_left job wanted = writes_left (most_of job (written_at wanted)) wanted

@@ -12,10 +12,10 @@ use Rattle.gix_odb_loose.specs.WriteAsks.{IsAlong, IsCutOff}
 use Rattle.gix_odb_loose.specs.WriteJobs.{supplied_with}
 use Rattle.gix_odb_loose.specs.WriteOrder.{ended_with}
 use Rattle.gix_odb_loose.specs.WriteStreams.{OtherLength}
+use Rattle.gix_odb_loose.specs.declared.naming.Naming.{Naming}
 use Rattle.gix_odb_loose.specs.declared.write_streamed.StreamJob.{StreamJob}
 use Rattle.gix_odb_loose.specs.declared.write.Message.TheVariants as messages
 use Rattle.gix_odb_loose.specs.declared.write_at_hand.Onward.TheVariants.{Stage}
-use Rattle.gix_odb_loose.specs.declared.write_order.WriteAsk.TheVariants as wants
 use Rattle.gix_odb_loose.specs.declared.write_order.Refusal.{Refusal}
 use Rattle.gix_odb_loose.specs.declared.write_order.Refusal.TheVariants as refusals
 use Rattle.gix_odb_loose.specs.declared.write_order.WriteHead.{WriteHead}
@@ -75,10 +75,10 @@ pub record BreaksAt (w : Begun) (state : Option State) (now : ℕ) (rest : Optio
   pub follows : (bytes : List ℕ) → w.left ≡ Some bytes → CutsAt (at_hand w bytes) stage past
 
 -- the end of the data was told, with the id that the naming of the data gives
-pub record IsEnded (number written : ℕ) (job ended : StreamJob) : Type 0 where
+pub record IsEnded (number written size : ℕ) (naming : Naming) (stage : WriteStage) : Type 0 where
   pub id : ObjectId
-  pub wanted : ended.wanted ≡ wants.Disk (ended_with job.head.size id number written)
-  pub named : (known : Option ObjectId) (hash : HashKind) (head : WriteHead) (all : List ℕ) → Names known hash head all job.naming → id ≡ name_for known hash head all
+  pub is : stage ≡ ended_with size id number written
+  pub named : (known : Option ObjectId) (hash : HashKind) (head : WriteHead) (all : List ℕ) → Names known hash head all naming → id ≡ name_for known hash head all
 
 -- ---- the end of a write
 

@@ -1,7 +1,6 @@
 use Rattle.std.proofs.Common.{◌∙◌, subst}
 use Rattle.gix_odb_loose.specs.StreamJobs.{IsToldBy}
 use Rattle.gix_odb_loose.proofs.WriteRunsLemmas.Ends.{for_memory, runs_broken, runs_told, ended_told, took_from}
-use Rattle.gix_odb_loose.proofs.StreamJobsLemmas.Ends.{underway_head}
 use Rattle.gix_odb_loose.proofs.store_writes.answered.Goals as goal
 
 -- memory ran out on the way
@@ -13,7 +12,7 @@ returns-in_err-end-clause-taken g c = λ w at. let off = c.in_err-end.ensures.ra
 
 pub returns-clause-run : goal.returns-clause-run
 returns-clause-run g c =
-    λ w at. runs_told w _ _ _ _ c.in_ok-end.end (c.in_ok-end.ensures.ran w at) c.told.result (subst (λ h. IsToldBy h c.in_ok-end.end c.told.result) (c.in_ok-end.ensures.head ∙ underway_head w _ _ _ _ c.args.job.now c.args.job.now.wanted at) c.told.ensures.answer)
+    λ w at. runs_told w _ _ _ _ c.in_ok-end.end (c.in_ok-end.ensures.ran w at) c.told.result (subst (λ h. IsToldBy h c.in_ok-end.end c.told.result) (c.in_ok-end.ensures.head ∙ at.head) c.told.ensures.answer)
 
 pub returns-clause-taken : goal.returns-clause-taken
 returns-clause-taken g c = λ w at. let end = c.in_ok-end.ensures.ran w at in took_from w _ _ end.all end.took
@@ -21,4 +20,4 @@ returns-clause-taken g c = λ w at. let end = c.in_ok-end.ensures.ran w at in to
 pub returns-clause-ended : goal.returns-clause-ended
 returns-clause-ended g c =
     let some = c.requires.underway in
-    ended_told some.0 _ _ _ _ c.in_ok-end.end (c.in_ok-end.ensures.ran some.0 some.1) c.told.result (subst (λ h. IsToldBy h c.in_ok-end.end c.told.result) (c.in_ok-end.ensures.head ∙ underway_head some.0 _ _ _ _ c.args.job.now c.args.job.now.wanted some.1) c.told.ensures.answer)
+    ended_told some.0 _ _ _ _ c.in_ok-end.end (c.in_ok-end.ensures.ran some.0 some.1) c.told.result (subst (λ h. IsToldBy h c.in_ok-end.end c.told.result) (c.in_ok-end.ensures.head ∙ some.1.head) c.told.ensures.answer)

@@ -2,17 +2,20 @@ use Rattle.std.proofs.Common.{Some, None, Ok, Err}
 use Rattle.gix_odb_loose.proofs.RunLemmas.{find_answers, find_cause}
 use Rattle.gix_odb_loose.proofs.store.Store.find_into.Goals as goal
 
--- the bytes put there are those of the reply
-pub returns-in-Found-Ok-Some-clause-answer : goal.returns-in-Found-Ok-Some-clause-answer
-returns-in-Found-Ok-Some-clause-answer g c =
+-- the bytes put there are those of the file
+pub returns-in-Ok-Some-clause-answer : goal.returns-in-Ok-Some-clause-answer
+returns-in-Ok-Some-clause-answer g c =
     rw (c.into_vec.ensures.items)
-    (find_answers _ _ _ c.args.self.now c.args.id.now _ c.in_ok-alloc.ensures.reply (Ok (Some (c.in-Found-Ok-Some.kind, c.in-Found-Ok-Some.bytes))) (cc c.in-Found-Ok-Some.is))
+    (find_answers _ c.args.self.now c.args.id.now _ _ _ c.in_ok-path.ensures.path c.in_ok-answer.ensures.cause c.in_ok-answer.ensures.told (Ok (Some (c.in-Ok-Some.kind, c.in-Ok-Some.bytes))) (cc (c.in-Ok-Some.is, c.in-Ok-Some.field-0-is, c.in_ok-found.ensures.answer)))
 
-pub returns-in-Found-Ok-None-clause-answer : goal.returns-in-Found-Ok-None-clause-answer
-returns-in-Found-Ok-None-clause-answer g c = find_answers _ _ _ c.args.self.now c.args.id.now _ c.in_ok-alloc.ensures.reply (Ok None) (cc c.in-Found-Ok-None.is)
+pub returns-in-Ok-None-clause-answer : goal.returns-in-Ok-None-clause-answer
+returns-in-Ok-None-clause-answer g c =
+    find_answers _ c.args.self.now c.args.id.now _ _ _ c.in_ok-path.ensures.path c.in_ok-answer.ensures.cause c.in_ok-answer.ensures.told (Ok None) (cc (c.in-Ok-None.is, c.in-Ok-None.field-0-is, c.in_ok-found.ensures.answer))
 
-pub returns-in-Found-Err-clause-answer : goal.returns-in-Found-Err-clause-answer
-returns-in-Found-Err-clause-answer g c = find_answers _ _ _ c.args.self.now c.args.id.now _ c.in_ok-alloc.ensures.reply (Err c.in-Found-Err.error) (cc c.in-Found-Err.is)
+pub returns-clause-answer : goal.returns-clause-answer
+returns-clause-answer g c =
+    find_answers _ c.args.self.now c.args.id.now _ _ _ c.in_ok-path.ensures.path c.in_ok-answer.ensures.cause c.in_ok-answer.ensures.told (Err c.in-Err.error) (cc (c.in-Err.is, c.in-Err.error-is, c.in_ok-found.ensures.answer))
 
-pub returns-in-Found-Err-clause-cause : goal.returns-in-Found-Err-clause-cause
-returns-in-Found-Err-clause-cause g c = find_cause _ _ _ c.args.self.now c.args.id.now _ c.in_ok-alloc.ensures.reply c.in-Found-Err.error (cc c.in-Found-Err.is)
+pub returns-clause-cause : goal.returns-clause-cause
+returns-clause-cause g c =
+    find_cause _ c.args.self.now c.args.id.now _ _ _ c.in_ok-path.ensures.path c.in_ok-answer.ensures.cause c.in_ok-answer.ensures.told c.in-Err.error (cc (c.in-Err.is, c.in-Err.error-is, c.in_ok-found.ensures.answer))

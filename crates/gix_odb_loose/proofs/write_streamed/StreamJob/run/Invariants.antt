@@ -1,7 +1,8 @@
 use Rattle.std.proofs.Common.{◌≡◌, ◌≤◌}
-use Rattle.gix_odb_loose.specs.StreamJobs.AtStage.{turns_at}
+use Rattle.gix_odb_loose.specs.StreamJobs.AtStage.{calls_left}
 use Rattle.gix_odb_loose.specs.StreamJobs.Progress.{Begun}
 use Rattle.gix_odb_loose.specs.StreamJobs.{IsSomeUnderway, IsUnderway}
+use Rattle.gix_odb_loose.specs.declared.write_order.WriteAsk.TheVariants as wants
 use Rattle.gix_odb_loose.proofs.write_streamed.StreamJob.run.Given as goal
 
 -- a write that is underway stays so
@@ -17,4 +18,4 @@ invariant-turns g l = record {
 }
 
 abbrev pub decreases-turns : goal.decreases-turns
-decreases-turns g l = turns_at l.self l.self.wanted
+decreases-turns g l = calls_left l.self (wants.Disk l.self.stage)

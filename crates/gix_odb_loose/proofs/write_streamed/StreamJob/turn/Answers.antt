@@ -1,17 +1,9 @@
-use Rattle.gix_odb_loose.proofs.StreamJobsLemmas.Ends.{turns_broken}
+use Rattle.gix_odb_loose.proofs.StreamJobsLemmas.Turns.{fewer_on}
 use Rattle.gix_odb_loose.proofs.write_streamed.StreamJob.turn.Goals as goal
 
--- an answer led on, and what comes next wants memory
-pub returns-in_err-go_on-in-Disk-clause-turned : goal.returns-in_err-go_on-in-Disk-clause-turned
-returns-in_err-go_on-in-Disk-clause-turned g c =
-    λ w underway.
-    let stands = rw c.in-Disk.is at underway in
-    let leads = c.in_ok-wanted-in-Disk.ensures.leads w _ _ stands in
-    turns_broken w _ _ _ _ c.go_on.new.self c.from_residual-in_err-go_on-in-Disk.result c.from_residual-in_err-go_on-in-Disk.ensures.0 (c.in_err-go_on-in-Disk.ensures.goes_on w _ _ _ _ leads)
+pub returns-clause-turned : goal.returns-clause-turned
+returns-clause-turned g c = λ w at. c.go_on.ensures.goes_on w _ _ (c.in_ok-wanted.ensures.leads w _ _ at)
 
-pub returns-in_ok-go_on-in-Disk-clause-turned : goal.returns-in_ok-go_on-in-Disk-clause-turned
-returns-in_ok-go_on-in-Disk-clause-turned g c =
-    λ w underway.
-    let stands = rw c.in-Disk.is at underway in
-    let leads = c.in_ok-wanted-in-Disk.ensures.leads w _ _ stands in
-    c.in_ok-go_on-in-Disk.ensures.goes_on w _ _ _ _ leads
+pub returns-clause-fewer : goal.returns-clause-fewer
+returns-clause-fewer g c =
+    λ w at. fewer_on _ _ _ c.go_on.result (c.go_on.ensures.fewer w _ _ (c.in_ok-wanted.ensures.leads w _ _ at)) (c.in_ok-wanted.ensures.fewer w _ _ at)
