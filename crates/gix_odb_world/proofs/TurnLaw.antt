@@ -34,6 +34,7 @@ use Rattle.gix_odb_world.specs.Table.{after_turn}
 use Rattle.gix_odb_world.proofs.RunLemmas.{disk_after-push}
 use Rattle.gix_odb_world.proofs.BegunLemmas.{stems_now}
 use Rattle.gix_odb_world.proofs.BegunLemmas.OneEvent.{Stems, one_task}
+use Rattle.gix_odb_world.proofs.BegunLemmas.Turns.{Counts, counts_now}
 use Rattle.gix_odb_world.proofs.WriteTurn.Common.{IsTurnWith}
 use Rattle.gix_odb_world.proofs.FailedLemmas.{has_failed-now}
 use Rattle.gix_odb_world.proofs.MachineLaws.{ComesTo, HasTurn}
@@ -68,6 +69,10 @@ module _ (first : Volume) (events : List Event) (old : World) (number : ℕ) (ru
   -- from which steps the work is
   stems : Stems events number (Working running)
   stems = subst (Stems events number) status (stems_now first events explains.lawful number)
+
+  -- how many turns it had
+  counts : Counts events number (Working running)
+  counts = subst (Counts events number) status (counts_now first events explains.lawful number)
 
   -- the call of the disk that the work names
   abbrev pub act : Names running.store running.work
@@ -128,6 +133,7 @@ module _ (first : Volume) (events : List Event) (old : World) (number : ℕ) (ru
         record {
           begins = stems.1.begins;
           latest = stems.1.latest;
+          counted = counts.1;
           opened = stems.0;
           ask = act.ask;
           asks = act.asks;

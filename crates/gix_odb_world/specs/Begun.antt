@@ -1,5 +1,5 @@
--- From which steps a handle has its task, its store and its mode.
-use Rattle.std.specs.Prelude.{◌≡◌, ◌↔◌, ℕ, ◌+◌, ◌≤◌, Bool, true, List, slice_get, Some}
+-- From which steps a handle has its task, its store and its mode, and how many turns it took since.
+use Rattle.std.specs.Prelude.{◌≡◌, ◌↔◌, ℕ, ◌+◌, ◌≤◌, Bool, true, false, ◌==◌, List, count_by, drop, slice_get, Some}
 use Rattle.odb_base.specs.Path.{Path}
 use Rattle.gix_hash.specs.declared.object_id.ObjectId.{ObjectId}
 use Rattle.gix_odb.specs.declared.call.Call.{Call}
@@ -79,3 +79,14 @@ pub record HoldsStore (events : List Event) (handle : ℕ) (store : Store) (igno
   pub step : IsOpenStore events handle store
   pub latest : NoneSince (IsOpenOf handle) events store.opened
   pub mode : (ignoring ≡ true) ↔ AppliedSince (IsIgnoreOf handle) events store.opened
+
+-- ---- the turns of a handle
+
+-- whether a step is a turn of the handle
+abbrev pub is_turn_of : (handle : ℕ) → Step → Bool
+is_turn_of handle (steps.Turn other) = handle == other
+is_turn_of handle step = false
+
+-- how many turns the handle took after the event that has a number
+abbrev pub turns_since : List Event → (handle number : ℕ) → ℕ
+turns_since events handle number = count_by (λ e. is_turn_of handle e.step) (drop number events)

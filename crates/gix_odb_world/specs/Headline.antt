@@ -19,7 +19,7 @@ use Rattle.gix_odb_world.specs.declared.work.Work.{Work}
 use Rattle.gix_odb_world.specs.Event.{OfDisk, Event}
 use Rattle.gix_odb_world.specs.Status.{Running, Task, Working, status_of}
 use Rattle.gix_odb_world.specs.Run.{change_by, did_of_asked, disk_after, tree_at}
-use Rattle.gix_odb_world.specs.Begun.{BegunAs, HoldsStore, IsTaskOf, NoneSince}
+use Rattle.gix_odb_world.specs.Begun.{BegunAs, HoldsStore, IsTaskOf, NoneSince, turns_since}
 use Rattle.gix_odb_world.specs.Changes.{ChangesAs, ChangesInTask}
 use Rattle.gix_odb_world.specs.Undisturbed.{WritesStandAlone}
 use Rattle.gix_odb_world.specs.WholeNames.{NamesStayWhole}
@@ -68,6 +68,8 @@ pub record Works (first : Volume) (past : List Event) (handle : ℕ) (running : 
   -- the step that began the work set its task, and is the latest of its handle that set one
   pub begins : BegunAs past handle running.begun running.store running.task
   pub latest : NoneSince (IsTaskOf handle) past running.begun
+  -- the turns that it tells are all that its handle took since
+  pub counted : running.turns ≡ turns_since past handle running.begun
   -- in the store of the latest open step of its handle, and in the mode of the steps since
   pub opened : HoldsStore past handle running.store running.ignoring
   -- the call of the disk, which the event tells with its answer

@@ -132,7 +132,8 @@ module _ (events : List Event) (e : Event) where
 
   begun_kept : (handle begun : ℕ) (store : Store) (task : Task) → BegunAs events handle begun store task → BegunAs whole handle begun store task
   begun_kept handle begun store OpenStore o = opened_kept handle begun store o
-  begun_kept handle begun store (MakeCall call) b = record { place = b.place; number = b.number; event = b.event; there = slice_get-kept events e b.place b.event b.there; applied = b.applied; starts = b.starts }
+  begun_kept handle begun store (MakeCall call) b =
+      record { place = b.place; number = b.number; event = b.event; there = slice_get-kept events e b.place b.event b.there; applied = b.applied; starts = b.starts }
 
   -- the last event opens a store
   pub opened_now : (handle : ℕ) (path : Path) (folders : List Path) (replacements : List (ObjectId × ObjectId)) (options : Options)

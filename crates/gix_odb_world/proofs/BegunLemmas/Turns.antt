@@ -1,0 +1,222 @@
+-- The turns that running work tells are those that its handle took since the work began, after each event of a lawful run.
+use Rattle.std.proofs.Common.{◌≡◌, ℕ, zero, suc, ◌+◌, ◌≤◌, Bool, true, false, cond, List, [], ◌∷◌, ◌++◌, length, take, drop, Some, Result, Ok, Err, refl, sym, ◌∙◌, ap, subst, arith, inl, inr}
+use Rattle.std.specs.Prelude.{slice_get, ◌==◌, if◌then◌else◌, count_by}
+use Rattle.std.proofs.lemmas.Bool.{eqb-true}
+use Rattle.std.proofs.lemmas.List.{drop-append-le, drop_all, length-append}
+use Rattle.std.proofs.lemmas.List.Sums.{sum_by_push}
+use Rattle.std.proofs.Math.Seq.{take-length}
+use Rattle.odb_disk.specs.MemDisk.{Volume}
+use Rattle.odb_base.specs.Path.{Path}
+use Rattle.gix_hash.specs.declared.object_id.ObjectId.{ObjectId}
+use Rattle.gix_odb.specs.declared.call.Call.{Call}
+use Rattle.gix_odb.specs.declared.call.Reply.{Reply}
+use Rattle.gix_odb.specs.declared.init.Options.{Options}
+use Rattle.gix_odb_world.specs.declared.step.Step.{Step}
+use Rattle.gix_odb_world.specs.declared.step.Step.TheVariants as steps
+use Rattle.gix_odb_world.specs.declared.step.Outcome.{Outcome}
+use Rattle.gix_odb_world.specs.declared.step.Outcome.TheVariants as outcomes
+use Rattle.gix_odb_world.specs.declared.step.Why.{Why}
+use Rattle.gix_odb_world.specs.declared.work.Work.{Work}
+use Rattle.gix_odb_world.specs.Event.{Asked, OfNothing, OfDisk, OfCore, Event}
+use Rattle.gix_odb_world.specs.Status.{MakeCall, OpenStore, Running, Status, Store, Task, Free, Resting, Working}
+use Rattle.gix_odb_world.specs.Status.{come_to, ignoring_from, opening_at, refuses_opening, replied, running_from, started, status_after, status_of, statuses_from, store_at, turned, with_status}
+use Rattle.gix_odb_world.specs.Begun.{is_turn_of, turns_since}
+use Rattle.gix_odb_world.specs.Machines.{fed_in}
+use Rattle.gix_odb_world.specs.Run.{did_of_asked}
+use Rattle.gix_odb_world.specs.Valid.{misuse_of, phase_of, why_not_after, why_not_running}
+use Rattle.gix_odb_world.specs.Headline.{IsLawful, IsTurn, Law, Suits, TellsCall}
+use Rattle.gix_odb_world.proofs.RunLemmas.{status_of-push}
+use Rattle.gix_odb_world.proofs.RunSteps.{event_or_end, none_beyond, take_next}
+
+-- running work tells as many turns as its handle took since it began
+abbrev pub Counts : List Event → (handle : ℕ) → Status → Type 0
+Counts events handle (Working running) = (running.begun ≤ length events) × (running.turns ≡ turns_since events handle running.begun)
+Counts events handle status = Unit {0}
+
+-- ---- one event more
+
+-- what a step adds, by whether it is a turn
+abbrev added : Bool → ℕ
+added is = cond is 1 0
+
+module _ (past : List Event) (e : Event) where
+  abbrev whole : List Event
+  whole = past ++ e ∷ []
+
+  whole_length : length whole ≡ length past + 1
+  whole_length = length-append past (e ∷ [])
+
+  turns_since-push : (handle number : ℕ) → number ≤ length past
+      → turns_since whole handle number ≡ turns_since past handle number + added (is_turn_of handle e.step)
+  turns_since-push handle number within =
+      ap (count_by (λ (x : Event). is_turn_of handle x.step)) (drop-append-le number past (e ∷ []) within)
+      ∙ sum_by_push (λ (x : Event). added (is_turn_of handle x.step)) (drop number past) e
+
+  -- one that is no turn of the handle adds none
+  counts_kept : (handle : ℕ) (status : Status) → is_turn_of handle e.step ≡ false → Counts past handle status → Counts whole handle status
+  counts_kept handle Free other counts = tt
+  counts_kept handle (Resting store ignoring) other counts = tt
+  counts_kept handle (Working running) other counts =
+      let now = turns_since-push handle running.begun counts.0 in
+      let none : added (is_turn_of handle e.step) ≡ 0 = ap added other in
+      let count = whole_length in
+      let within = counts.0 in
+      (omega (arith, within, count), omega (arith, counts.1, now, none))
+
+  -- a turn of it adds one
+  counts_more : (handle : ℕ) (running : Running) (left : Work) → is_turn_of handle e.step ≡ true → Counts past handle (Working running)
+      → Counts whole handle (Working (record running { turns = running.turns + 1; work = left }))
+  counts_more handle running left turn counts =
+      let now = turns_since-push handle running.begun counts.0 in
+      let one : added (is_turn_of handle e.step) ≡ 1 = ap added turn in
+      let count = whole_length in
+      let within = counts.0 in
+      (omega (arith, within, count), omega (arith, counts.1, now, one))
+
+  -- work that the last event began has had none
+  counts_new : (handle : ℕ) (task : Task) (store : Store) (ignoring : Bool) → Counts whole handle (Working (running_from (length past + 1) task store ignoring))
+  counts_new handle task store ignoring =
+      let count = whole_length in
+      (omega (arith, count), sym (ap (count_by (λ (x : Event). is_turn_of handle x.step)) (drop_all (length past + 1) whole (omega (arith, count)))))
+
+  counts_rest : (handle : ℕ) (store : Store) (ignoring frees : Bool) → Counts whole handle (if frees then Free else Resting store ignoring)
+  counts_rest handle store ignoring true = tt
+  counts_rest handle store ignoring false = tt
+
+  -- ---- what a step makes of its handle
+
+  counts_ignoring : (handle : ℕ) (status : Status) → is_turn_of handle e.step ≡ false → Counts past handle status → Counts whole handle (ignoring_from status)
+  counts_ignoring handle Free other counts = tt
+  counts_ignoring handle (Resting store ignoring) other counts = tt
+  counts_ignoring handle (Working running) other counts = counts_kept handle (Working running) other counts
+
+  counts_started : (handle : ℕ) (call : Call) (status : Status) → is_turn_of handle e.step ≡ false → Counts past handle status
+      → Counts whole handle (started (length past + 1) call status)
+  counts_started handle call Free other counts = tt
+  counts_started handle call (Resting store ignoring) other counts = counts_new handle (MakeCall call) store ignoring
+  counts_started handle call (Working running) other counts = counts_kept handle (Working running) other counts
+
+  counts_come : (handle : ℕ) (running : Running) (result : Result Reply Work) → is_turn_of handle e.step ≡ true
+      → Counts past handle (Working running) → Counts whole handle (come_to running result)
+  counts_come handle running (Ok reply) turn counts = counts_rest handle running.store running.ignoring (refuses_opening reply)
+  counts_come handle running (Err left) turn counts = counts_more handle running left turn counts
+
+  counts_turned : (handle : ℕ) (asked : Asked) (status : Status) → TellsCall (did_of_asked asked) → is_turn_of handle e.step ≡ true
+      → Counts past handle status → Counts whole handle (turned asked status)
+  counts_turned handle OfNothing status tells turn counts = absurd tells
+  counts_turned handle (OfDisk ask answer) Free tells turn counts = tt
+  counts_turned handle (OfDisk ask answer) (Resting store ignoring) tells turn counts = tt
+  counts_turned handle (OfDisk ask answer) (Working running) tells turn counts = counts_come handle running (fed_in running.store running.work answer) turn counts
+  counts_turned handle (OfCore event) status tells turn counts = absurd event
+
+  counts_replied : (handle : ℕ) (reply : Reply) (status : Status) → Counts whole handle (replied reply status)
+  counts_replied handle reply Free = tt
+  counts_replied handle reply (Resting store ignoring) = tt
+  counts_replied handle reply (Working running) = counts_rest handle running.store running.ignoring (refuses_opening reply)
+
+-- ---- what an event makes of all handles
+
+module _ (first : Volume) (past : List Event) (e : Event) (law : Law first past e) (before : (handle : ℕ) → Counts past handle (status_of past handle)) where
+  abbrev now : List Event
+  now = past ++ e ∷ []
+
+  abbrev table : ℕ → Status
+  table = status_of past
+
+  -- a handle that the step doesn't turn
+  apart : (handle : ℕ) → is_turn_of handle e.step ≡ false → Counts now handle (table handle)
+  apart handle other = counts_kept past e handle (table handle) other (before handle)
+
+  -- a handle that isn't the step's, where the step is its own handle's turn or none
+  counts_set : (number : ℕ) (status : Status) → Counts now number status → ((handle : ℕ) → (handle == number) ≡ false → is_turn_of handle e.step ≡ false)
+      → (handle : ℕ) → Counts now handle (with_status table number status handle)
+  counts_set number status here others handle = by_number (handle == number) refl
+    where
+      by_number : (same : Bool) → (handle == number) ≡ same → Counts now handle (if same then status else table handle)
+      by_number true is = subst (λ h. Counts now h status) (sym (eqb-true handle number is)) here
+      by_number false is = apart handle (others handle is)
+
+  counts_opened : (number : ℕ) (path : Path) (folders : List Path) (replacements : List (ObjectId × ObjectId)) (options : Options)
+      → e.step ≡ steps.Open number path folders replacements options → (handle : ℕ)
+      → Counts now handle (with_status table number (opening_at (length past + 1) (store_at (length past + 1) path folders replacements options)) handle)
+  counts_opened number path folders replacements options is =
+      counts_set number (opening_at (length past + 1) (store_at (length past + 1) path folders replacements options))
+      (counts_new past e number OpenStore (store_at (length past + 1) path folders replacements options) false) (λ h _. ap (is_turn_of h) is)
+
+  counts_applied : (step : Step) → e.step ≡ step → ¬ (IsTurn step) → (handle : ℕ)
+      → Counts now handle (status_after (length past + 1) step outcomes.Applied e.asked table handle)
+  counts_applied (steps.Open number path folders replacements options) is no_turn handle = counts_opened number path folders replacements options is handle
+  counts_applied (steps.Close number) is no_turn handle = counts_set number Free tt (λ h _. ap (is_turn_of h) is) handle
+  counts_applied (steps.Ignore number) is no_turn handle =
+      counts_set number (ignoring_from (table number)) (counts_ignoring past e number (table number) (ap (is_turn_of number) is) (before number)) (λ h _. ap (is_turn_of h) is) handle
+  counts_applied (steps.Start number call) is no_turn handle =
+      counts_set number (started (length past + 1) call (table number))
+      (counts_started past e number call (table number) (ap (is_turn_of number) is) (before number)) (λ h _. ap (is_turn_of h) is) handle
+  counts_applied (steps.Turn number) is no_turn handle = absurd (no_turn tt)
+  counts_applied (steps.Disk change) is no_turn handle = apart handle (ap (is_turn_of handle) is)
+
+  own_turn : (number : ℕ) → e.step ≡ steps.Turn number → is_turn_of number e.step ≡ true
+  own_turn number is = let same : (number == number) ≡ true = grind arith in ap (is_turn_of number) is ∙ same
+
+  counts_pending : (step : Step) → e.step ≡ step → IsTurn step → TellsCall (did_of_asked e.asked) → (handle : ℕ)
+      → Counts now handle (status_after (length past + 1) step outcomes.Pending e.asked table handle)
+  counts_pending (steps.Turn number) is turn tells handle =
+      counts_set number (turned e.asked (table number)) (counts_turned past e number e.asked (table number) tells (own_turn number is) (before number))
+      (λ h other. ap (is_turn_of h) is ∙ other) handle
+  counts_pending step is turn tells handle = absurd turn
+
+  counts_answered : (step : Step) (reply : Reply) → e.step ≡ step → IsTurn step → (handle : ℕ)
+      → Counts now handle (status_after (length past + 1) step (outcomes.Reply reply) e.asked table handle)
+  counts_answered (steps.Turn number) reply is turn handle =
+      counts_set number (replied reply (table number)) (counts_replied past e number reply (table number)) (λ h other. ap (is_turn_of h) is ∙ other) handle
+  counts_answered step reply is turn handle = absurd turn
+
+  -- a misused turn is none of a handle that runs a call
+  counts_refused : (handle : ℕ) (why : Why) (status : Status) → Some why ≡ why_not_running (phase_of status) → Counts past handle status → Counts now handle status
+  counts_refused handle why Free valid counts = tt
+  counts_refused handle why (Resting store ignoring) valid counts = tt
+  counts_refused handle why (Working running) valid counts = absurd (cc valid)
+
+  counts_misused : (step : Step) (why : Why) → e.step ≡ step → Some why ≡ why_not_after first past step → (handle : ℕ) → Counts now handle (table handle)
+  counts_misused (steps.Turn number) why is valid handle = by_number (handle == number) refl
+    where
+      by_number : (same : Bool) → (handle == number) ≡ same → Counts now handle (table handle)
+      by_number true same =
+          counts_refused handle why (table handle) (subst (λ n. Some why ≡ why_not_running (phase_of (status_of past n))) (sym (eqb-true handle number same)) valid) (before handle)
+      by_number false other = apart handle (ap (is_turn_of handle) is ∙ other)
+  counts_misused step why is valid handle = apart handle (ap (is_turn_of handle) is)
+
+  counts_by : (outcome : Outcome) → Suits e.step outcome e.entry.did → misuse_of outcome ≡ why_not_after first past e.step → (handle : ℕ)
+      → Counts now handle (status_after (length past + 1) e.step outcome e.asked table handle)
+  counts_by outcomes.Applied suits valid handle = counts_applied e.step refl suits.0 handle
+  counts_by outcomes.Pending suits valid handle = counts_pending e.step refl suits.0 (subst TellsCall law.did suits.1) handle
+  counts_by (outcomes.Reply reply) suits valid handle = counts_answered e.step reply refl suits handle
+  counts_by (outcomes.Misuse why) suits valid handle = counts_misused e.step why refl valid handle
+
+-- ---- along a run
+
+counts_none : (handle : ℕ) → Counts [] handle (status_of [] handle)
+unfolding statuses_from
+counts_none handle = tt
+
+module _ (first : Volume) (events : List Event) (lawful : IsLawful first events) where
+  counts_next : (place : ℕ) (e : Event) → slice_get events place ≡ Some e
+      → ((handle : ℕ) → Counts (take place events) handle (status_of (take place events) handle)) → (handle : ℕ)
+      → Counts (take (place + 1) events) handle (status_of (take (place + 1) events) handle)
+  counts_next place e there before handle =
+      let past : List Event = take place events in
+      let law : Law first past e = lawful place e there in
+      subst (λ es. Counts es handle (status_of es handle)) (sym (take_next events place e there))
+      (subst (λ (table : ℕ → Status). Counts (past ++ e ∷ []) handle (table handle)) (sym (status_of-push past e)) (counts_by first past e law before e.outcome law.suits law.valid handle))
+
+  counts_at : (place : ℕ) → place ≤ length events → (handle : ℕ) → Counts (take place events) handle (status_of (take place events) handle)
+  counts_at zero within handle = counts_none handle
+  counts_at (suc place) within handle = elim (event_or_end events place) [
+    | inl at ↦
+        let next : place + 1 ≡ suc place = omega arith in
+        subst (λ n. Counts (take n events) handle (status_of (take n events) handle)) next (counts_next place at.0 at.1 (counts_at place (omega (arith, within))) handle)
+    | inr none ↦ let beyond = none_beyond events place none in absurd (omega (arith, within, beyond))
+  ]
+
+  pub counts_now : (handle : ℕ) → Counts events handle (status_of events handle)
+  counts_now handle = subst (λ es. Counts es handle (status_of es handle)) (take-length events) (counts_at (length events) (omega arith) handle)
