@@ -1,4 +1,5 @@
--- What a machine has to show, so that a handle may be at it.
+-- What a machine has to show, so that a handle may be at it. The laws are no fields of the machine: they speak of statuses and promises,
+-- which are folded by the machines and so stand above them.
 use Rattle.std.proofs.Common.{◌≡◌, ◌⊎◌, ℕ, ◌+◌, ◌<◌, ◌≤◌, Bool, false, List, [], ◌∷◌, ◌++◌, length, Option, Some, None, Result, Ok, Err, refl, sym, ap, ◌∙◌, subst}
 use Rattle.odb_disk.specs.MemDisk.{Volume}
 use Rattle.odb_disk.specs.Ask.{answer_now}

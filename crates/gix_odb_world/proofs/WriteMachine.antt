@@ -53,7 +53,8 @@ write_starts first events e handle store ignoring (MakeCall (call_kinds.Write ki
     (writing_begun first events e handle store ignoring kind size bytes id sized)
 write_starts first events e handle store ignoring (MakeCall call) folder sized at = absurd (cc at)
 
-module _ (first : Volume) (events : List Event) (handle : ℕ) (running : Running) (folder : LooseCall) (ask : DiskAsk) (knows : IsAtOwnWrite first events handle running nothing_in_front folder) (is : disk_ask_of folder ≡ Some ask) where
+module _ (first : Volume) (events : List Event) (handle : ℕ) (running : Running) (folder : LooseCall) (ask : DiskAsk)
+    (knows : IsAtOwnWrite first events handle running nothing_in_front folder) (is : disk_ask_of folder ≡ Some ask) where
   abbrev own : IsWriting first events handle running folder
   own = knows.writing
 

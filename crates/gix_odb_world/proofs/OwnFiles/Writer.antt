@@ -47,7 +47,6 @@ use Rattle.gix_odb_world.proofs.FileSteps.{IsNewAt, WriterMoves, new_at, writer_
 use Rattle.gix_odb_world.proofs.FileSteps.AtWrite.{AtWrite, ended}
 use Rattle.gix_odb_world.proofs.RunSteps.{IsTurned, front_of_front, is_tree_at, there_in_front, there_in_whole}
 use Rattle.gix_odb_world.proofs.WriteAsk.{made_done}
-use Rattle.gix_odb_world.proofs.WriteAsk.Quiet.{change_by-quiet}
 use Rattle.gix_odb_world.proofs.WriteTurn.{ask_at_stage, done_at}
 use Rattle.gix_odb_world.proofs.WorkLaws.{asks_as_write, ends_as_write, knows_write, quiet_unless_writing}
 

@@ -1,5 +1,5 @@
 -- What a turn does that asks so: what its record says, what it changes, and what the code of it does.
-use Rattle.std.proofs.Common.{◌≡◌, ℕ, Bool, false, List, Option, Some, None, Ok, Err, Result, refl, sym, ap, ◌∙◌, subst}
+use Rattle.std.proofs.Common.{◌≡◌, ℕ, false, List, Option, Some, None, Ok, Err, Result, refl, ap}
 use Rattle.std.specs.Prelude.{if◌then◌else◌}
 use Rattle.odb_tree.specs.Tree.{IsTree, tree_of}
 use Rattle.odb_disk.specs.MemDisk.{Volume}
