@@ -42,14 +42,19 @@ module _ (first : Volume) (events : List Event) (handle : ℕ) (store : Store) (
       let same : asks.Look store.parts.objects true ≡ ask = cc looks in
       (none, sym same)
 
-  by_query : (query : Query) (id : ObjectId) (folder : Path) (ask : DiskAsk) (place : ℕ) → turns ≡ nothing_in_front + place → id ≡ sought store.parts ignoring query → slice_get (folder_list store.parts) place ≡ Some folder → disk_ask_of (asking store.parts.limit query id folder) ≡ Some ask
+  by_query : (query : Query) (id : ObjectId) (folder : Path) (ask : DiskAsk) (place : ℕ) → turns ≡ nothing_in_front + place
+      → id ≡ sought store.parts ignoring query → slice_get (folder_list store.parts) place ≡ Some folder
+      → disk_ask_of (asking store.parts.limit query id folder) ≡ Some ask
       → AsksInOrder first events handle store ignoring begun turns (MakeCall (call_of query)) ask
   by_query (Find asked) id folder ask place had is there e =
-      let same : asks.Read (loose_path folder id) ≡ ask = cc e in record { own = place; turn = had; asks = record { folder = folder; place = there; is = sym same ∙ ap (λ i. asks.Read (loose_path folder i)) is } }
+      let same : asks.Read (loose_path folder id) ≡ ask = cc e in
+      record { own = place; turn = had; asks = record { folder = folder; place = there; is = sym same ∙ ap (λ i. asks.Read (loose_path folder i)) is } }
   by_query (Header asked) id folder ask place had is there e =
-      let same : asks.Read (loose_path folder id) ≡ ask = cc e in record { own = place; turn = had; asks = record { folder = folder; place = there; is = sym same ∙ ap (λ i. asks.Read (loose_path folder i)) is } }
+      let same : asks.Read (loose_path folder id) ≡ ask = cc e in
+      record { own = place; turn = had; asks = record { folder = folder; place = there; is = sym same ∙ ap (λ i. asks.Read (loose_path folder i)) is } }
   by_query (Test asked) id folder ask place had is there e =
-      let same : asks.Look (loose_path folder id) true ≡ ask = cc e in record { own = place; turn = had; asks = record { folder = folder; place = there; is = sym same ∙ ap (λ i. asks.Look (loose_path folder i) true) is } }
+      let same : asks.Look (loose_path folder id) true ≡ ask = cc e in
+      record { own = place; turn = had; asks = record { folder = folder; place = there; is = sym same ∙ ap (λ i. asks.Look (loose_path folder i) true) is } }
 
   -- a query asks the folder of its turn
   pub in_order_query : (state : LookState) (ask : DiskAsk) (place : ℕ) → turns ≡ nothing_in_front + place → state.head.id ≡ sought store.parts ignoring state.head.query
@@ -106,5 +111,5 @@ in_order_write first events handle running folder at =
       own = writes.own;
       turn = at.turns;
       asks = subst (λ objects. AsksToWrite first events handle running.begun writes.own (to_write objects w.kind w.size w.bytes w.known) (ask_at_stage w writes.stage)) writes.into
-      (at_stage first events handle running.begun writes.own w writes.stage writes.stands);
+          (at_stage first events handle running.begun writes.own w writes.stage writes.stands);
     }

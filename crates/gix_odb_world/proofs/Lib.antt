@@ -26,6 +26,7 @@ mod WorkLaws
 mod StartLemmas
 mod StepLemmas
 mod TurnLaw
+mod DiskTurns
 mod TurnLemmas
 mod WorldLemmas
 mod WriteKept

@@ -1,7 +1,7 @@
 -- A query keeps the laws of a machine.
 pub mod Begun
 pub mod Comes
-use Rattle.std.proofs.Common.{◌≡◌, ℕ, ◌+◌, ◌*◌, ◌<◌, ◌≤◌, Bool, false, List, [], ◌∷◌, ◌++◌, length, None, Some, Ok, Err, Result, refl, sym, ◌∙◌, ap, subst, arith}
+use Rattle.std.proofs.Common.{◌≡◌, ℕ, ◌+◌, ◌*◌, ◌<◌, ◌≤◌, Bool, false, List, [], ◌∷◌, ◌++◌, length, Option, None, Some, Ok, Err, Result, refl, sym, ◌∙◌, ap, subst, arith}
 use Rattle.std.proofs.Math.Nat.{mul-le-mul}
 use Rattle.odb_tree.specs.Tree.{tree_of}
 use Rattle.odb_disk.specs.MemDisk.{Volume}
@@ -15,6 +15,7 @@ use Rattle.gix_odb.specs.Contents.{folder_list}
 use Rattle.gix_odb.specs.LookOrder.{ask_at}
 use Rattle.gix_odb.specs.LookOrder as looks
 use Rattle.gix_odb.specs.declared.call.Reply.{Reply}
+use Rattle.gix_odb.specs.declared.call_state.CallState.TheVariants.{Looking}
 use Rattle.gix_odb.specs.declared.handle_state.HandleState.{HandleState}
 use Rattle.gix_odb.specs.declared.look_state.Head.{Head}
 use Rattle.gix_odb.specs.declared.look_state.LookState.{LookState}
@@ -22,21 +23,22 @@ use Rattle.gix_odb.specs.declared.look_state.Stage.{Stage}
 use Rattle.gix_odb.specs.declared.look_state.Stage.TheVariants as stages
 use Rattle.gix_odb.specs.declared.query.Query.{Query}
 use Rattle.gix_odb.specs.declared.query.Query.TheVariants.{Find, Header, Test}
+use Rattle.gix_odb_world.specs.declared.work.Work.TheVariants.{Calling}
 use Rattle.gix_odb_world.specs.Bound.{bound_of_call, bound_of_task, bytes_to_write, default_changes, laps_without_change, turns_each, turns_of_folder, turns_of_lap}
 use Rattle.gix_odb_world.specs.AtWork.{nothing_in_front}
-use Rattle.gix_odb_world.specs.Event.{Event}
+use Rattle.gix_odb_world.specs.Event.{Event, from_disk, to_disk}
 use Rattle.gix_odb_world.specs.Handle.{IsHandleOf}
 use Rattle.gix_odb_world.specs.Machine.{placed}
 use Rattle.gix_odb_world.specs.Promise.{Promise, QueryPromise}
 use Rattle.gix_odb_world.specs.Run.{FailedSince, change_by, disk_after, tree_at}
 use Rattle.gix_odb_world.specs.Running.Query.{IsLooking, Seeks, call_of, looking}
 use Rattle.gix_odb_world.specs.Status.{MakeCall, Running, Store, Task}
-use Rattle.gix_odb_world.specs.WorkOrder.{calling_result}
+use Rattle.gix_odb_world.specs.WorkOrder.{calling_result, fed_after, result_in}
 use Rattle.gix_odb_world.proofs.AskLemmas.{in_order_query}
 use Rattle.gix_odb_world.proofs.FolderLemmas.{ask_found}
 use Rattle.gix_odb_world.proofs.LookMachine.Begun.{looking_starts}
 use Rattle.gix_odb_world.proofs.LookMachine.Comes.{LookComes, look_comes}
-use Rattle.gix_odb_world.proofs.MachineLaws.{HasTurn, KeepsLaws, MachineComes, quiet_turn, writes_nothing}
+use Rattle.gix_odb_world.proofs.MachineLaws.{HasTurn, KeepsLaws, MachineComes, comes_disk, never_ends, quiet_turn, same_ask, takes_disk, writes_nothing}
 use Rattle.gix_odb_world.proofs.QuietTurn.{failed_earlier, fails_now, shown_now, whole_length}
 use Rattle.gix_odb_world.proofs.RunLemmas.{failed-kept, tree_at-before}
 use Rattle.gix_odb_world.proofs.RunningLemmas.{looking_push}
@@ -49,10 +51,10 @@ looking_placed : (result : Result Reply LookState) → calling_result (looking_r
 looking_placed (Ok reply) = refl
 looking_placed (Err state) = refl
 
-looking_feeds : (store : Store) (ignoring : Bool) (code : HandleState) → IsHandleOf store ignoring code → (state : LookState) (answer : DiskAnswer)
-    → calling_result (looking_result (looks.result_of (looks.fed code.store.value.folders code.store.value.alloc_limit_bytes state answer)))
-    ≡ placed looking (looks.result_of (looks.fed store.parts.folders store.parts.limit state answer))
-looking_feeds store ignoring code own state answer =
+looking_feeds : (store : Store) (ignoring : Bool) (code : HandleState) → IsHandleOf store ignoring code → (state : LookState) (answer : Option DiskAnswer)
+    → result_in (fed_after code (Calling (Looking state)) answer) ≡ placed looking (looking.feed store state (from_disk answer))
+looking_feeds store ignoring code own state None = looking_placed (looks.result_of state)
+looking_feeds store ignoring code own state (Some answer) =
     ap (λ folders. calling_result (looking_result (looks.result_of (looks.fed folders code.store.value.alloc_limit_bytes state answer)))) own.folders
     ∙ (ap (λ limit. calling_result (looking_result (looks.result_of (looks.fed store.parts.folders limit state answer)))) own.limit
     ∙ looking_placed (looks.result_of (looks.fed store.parts.folders store.parts.limit state answer)))
@@ -166,10 +168,18 @@ looking_laws = record {
   starts = looking_starts;
   tasked = λ first events handle running state knows. knows.task;
   bounded = λ store task state is entries. looking_bounded store task state.head.query is entries;
-  still = λ store state ask is. looking_still store state.stage ask is;
+  still = λ store state ask is. looking_still store state.stage ask (same_ask (looks.ask_of state) ask is);
   kept = λ first events e handle running state other knows. looking_push first events e handle running state other nothing_in_front knows;
-  names = looking_names;
-  takes = λ first events handle running state ask knows is. looking_takes first events handle running state knows ask is;
-  comes = λ first events e handle running since state ask knows is turn. looking_comes first events handle running state knows ask is e since turn;
-  writes = writes_nothing looking (λ state. refl) (λ first events handle running state ask knows is. looking_quiet first events handle running state knows ask is);
+  takes = λ first events handle running state knows.
+      let ask = looking_names first events handle running state knows in
+      takes_disk first events handle running running.task (looking.ask running.store state) ask.0 (ap to_disk ask.1)
+      (looking_takes first events handle running state knows ask.0 ask.1);
+  ends = λ first events handle running state knows none.
+      let ask = looking_names first events handle running state knows in absurd (never_ends (looking.ask running.store state) ask.0 (ap to_disk ask.1) none);
+  comes = λ first events e handle running since state knows.
+      let ask = looking_names first events handle running state knows in
+      comes_disk first events e handle (λ answer. MachineComes first events e handle running looking (looking.feed running.store state answer))
+      (looking.ask running.store state) ask.0 (ap to_disk ask.1) (looking_comes first events handle running state knows ask.0 ask.1 e since);
+  writes = writes_nothing looking (λ state. refl)
+      (λ first events handle running state ask knows is. looking_quiet first events handle running state knows ask (same_ask (looks.ask_of state) ask is));
 }

@@ -1,7 +1,9 @@
--- What a machine has to show, so that a handle may be at it.
-use Rattle.std.proofs.Common.{◌≡◌, ◌⊎◌, ℕ, ◌+◌, ◌<◌, ◌≤◌, Bool, false, List, [], ◌∷◌, ◌++◌, length, Some, None, Result, Ok, Err, refl, sym, ◌∙◌, subst}
+-- What a machine has to show, so that a handle may be at it. The laws are no fields of the machine: they speak of statuses and promises,
+-- which are folded by the machines and so stand above them.
+use Rattle.std.proofs.Common.{◌≡◌, ◌⊎◌, ℕ, ◌+◌, ◌<◌, ◌≤◌, Bool, false, List, [], ◌∷◌, ◌++◌, length, Option, Some, None, Result, Ok, Err, refl, sym, ap, ◌∙◌, subst}
 use Rattle.odb_disk.specs.MemDisk.{Volume}
 use Rattle.odb_disk.specs.Ask.{answer_now}
+use Rattle.odb_tree.specs.Tree.{IsTree, tree_of}
 use Rattle.odb_disk.specs.StreamAsks.{is_of_streams}
 use Rattle.odb_disk.specs.declared.ask.DiskAsk.{DiskAsk}
 use Rattle.odb_disk.specs.declared.ask.DiskAnswer.{DiskAnswer}
@@ -12,27 +14,52 @@ use Rattle.gix_odb_loose.specs.LooseOrder.{disk_ask_of}
 use Rattle.gix_odb_loose.specs.LooseOrder as loose_order
 use Rattle.gix_odb_loose.specs.declared.call.LooseCall.{LooseCall}
 use Rattle.gix_odb_loose.specs.declared.write_order.WriteStage.TheVariants.{Making}
+use Rattle.gix_odb_world.specs.declared.record.Did.TheVariants.{Nothing}
 use Rattle.gix_odb_world.specs.declared.work.Work.{Work}
-use Rattle.gix_odb_world.specs.Asks.{AsksInOrder}
+use Rattle.gix_odb_world.specs.Asks.{AsksInOrder, MayEndUnasked}
 use Rattle.gix_odb_world.specs.Bound.{bound_of_task}
 use Rattle.gix_odb_world.specs.Changes.{ChangesInTask}
-use Rattle.gix_odb_world.specs.Event.{Event}
+use Rattle.gix_odb_world.specs.Event.{Answer, Ask, Event, FromDisk, OfNothing, ToCore, ToDisk, answered, from_disk, to_disk}
 use Rattle.gix_odb_world.specs.Handle.{IsHandleOf}
 use Rattle.gix_odb_world.specs.Machine.{At, Machine, placed}
 use Rattle.gix_odb_world.specs.Machines.{at}
 use Rattle.gix_odb_world.specs.Promise.{Promise}
-use Rattle.gix_odb_world.specs.Run.{IsTurnOf, change_by, disk_after}
+use Rattle.gix_odb_world.specs.Run.{IsTurnOf, change_by, disk_after, told_now}
 use Rattle.gix_odb_world.specs.Running.{Knows}
 use Rattle.gix_odb_world.specs.Running.Write.{IsWriting, result_of_write, write_at}
 use Rattle.gix_odb_world.specs.Writing.{ToWrite}
 use Rattle.gix_odb_world.specs.Status.{MakeCall, OpenStore, Running, Store, Task, begun_with, gone_on, running_from}
-use Rattle.gix_odb_world.specs.WorkOrder.{ask_on, fed_on, result_in}
+use Rattle.gix_odb_world.specs.WorkOrder.{ask_on, fed_after, result_in}
 use Rattle.gix_odb_world.proofs.WriteTurn.Common.{IsTurnWith}
 
 -- the turn of a task's call of the disk, and the change that this makes
 pub record HasTurn (first : Volume) (events : List Event) (handle : ℕ) (running : Running) (task : Task) (ask : DiskAsk) : Type 0 where
   pub in_order : AsksInOrder first events handle running.store running.ignoring running.begun running.turns task ask
   pub five : ChangesInTask first events handle running.store running.begun task ask (change_by (disk_after first events) ask)
+
+-- what a turn asks for comes in the order of its task, and makes a change that the task may make
+abbrev pub TakesTurn : Volume → List Event → (handle : ℕ) → Running → Task → Option Ask → Type 0
+TakesTurn first events handle running task None = MayEndUnasked task
+TakesTurn first events handle running task (Some (ToDisk ask)) = HasTurn first events handle running task ask
+TakesTurn first events handle running task (Some (ToCore event)) = ⊥
+
+-- the last event is a turn of the handle in which nothing was asked
+pub record IsTurnUnasked (first : Volume) (events : List Event) (e : Event) (handle : ℕ) : Type 0 where
+  pub turn : IsTurnOf handle e.step
+  pub did : e.entry.did ≡ Nothing
+  pub asked : e.asked ≡ OfNothing
+  pub change : e.entry.change ≡ None
+  pub tree : IsTree (tree_of (disk_after first events).state)
+
+-- the last event is a turn of the handle that asked so
+abbrev pub IsTurnAsking : Volume → List Event → Event → (handle : ℕ) → Option Ask → Type 0
+IsTurnAsking first events e handle None = IsTurnUnasked first events e handle
+IsTurnAsking first events e handle (Some (ToDisk ask)) = IsTurnWith first events e handle ask
+IsTurnAsking first events e handle (Some (ToCore event)) = ⊥
+
+-- the answer to what is asked after some events
+abbrev pub answer_after : Volume → List Event → Option Ask → Option Answer
+answer_after first events ask = answered (told_now (disk_after first events) ask)
 
 -- the size of what a task is to write has 64 bits
 abbrev pub IsSized : Task → Type 0
@@ -80,16 +107,16 @@ pub record KeepsWriteLaws (m : Machine) : Type 1 where
   -- where it writes nothing, its call of the disk changes nothing
   pub quiet : (first : Volume) (events : List Event) (handle : ℕ) (running : Running) (state : m.State) (ask : DiskAsk)
       → m.Knows first events handle running state
-      → m.writes state ≡ None → m.ask running.store state ≡ Some ask → change_by (disk_after first events) ask ≡ None
+      → m.writes state ≡ None → m.ask running.store state ≡ Some (ToDisk ask) → change_by (disk_after first events) ask ≡ None
   -- where it writes, it knows what a write does, asks what the write asks, and ends where the write ends
   pub known : (first : Volume) (events : List Event) (handle : ℕ) (running : Running) (state : m.State) (folder : LooseCall)
       → m.Knows first events handle running state
       → m.writes state ≡ Some folder → IsWriting first events handle running folder
-  pub asks : (store : Store) (state : m.State) (folder : LooseCall) → m.writes state ≡ Some folder → m.ask store state ≡ disk_ask_of folder
+  pub asks : (store : Store) (state : m.State) (folder : LooseCall) → m.writes state ≡ Some folder → m.ask store state ≡ to_disk (disk_ask_of folder)
   pub ends : (store : Store) (state : m.State) (folder : LooseCall) (answer : DiskAnswer) (reply : Reply) → m.writes state ≡ Some folder
-      → result_of_write (loose_order.fed folder answer) ≡ Ok reply → m.feed store state answer ≡ Ok reply
+      → result_of_write (loose_order.fed folder answer) ≡ Ok reply → m.feed store state (Some (FromDisk answer)) ≡ Ok reply
   -- a state that writes comes after one that does, unless its write has made no file yet
-  pub before : (store : Store) (state next : m.State) (answer : DiskAnswer) (folder : LooseCall) → m.feed store state answer ≡ Err next
+  pub before : (store : Store) (state next : m.State) (answer : Option Answer) (folder : LooseCall) → m.feed store state answer ≡ Err next
       → m.writes next ≡ Some folder
       → ((own : LooseCall) × (m.writes state ≡ Some own)) ⊎ HasNoFile folder
 
@@ -98,9 +125,9 @@ pub record KeepsLaws (m : Machine) : Type 1 where
   pub at_home : (state : m.State) → at (m.work state) ≡ home m state
   -- the code of the work asks and goes on as the machine does
   pub asks : (store : Store) (ignoring : Bool) (code : HandleState) → IsHandleOf store ignoring code → (state : m.State)
-      → ask_on code (m.work state) ≡ m.ask store state
-  pub feeds : (store : Store) (ignoring : Bool) (code : HandleState) → IsHandleOf store ignoring code → (state : m.State) (answer : DiskAnswer)
-      → result_in (fed_on code (m.work state) answer) ≡ placed m (m.feed store state answer)
+      → to_disk (ask_on code (m.work state)) ≡ m.ask store state
+  pub feeds : (store : Store) (ignoring : Bool) (code : HandleState) → IsHandleOf store ignoring code → (state : m.State) (answer : Option DiskAnswer)
+      → result_in (fed_after code (m.work state) answer) ≡ placed m (m.feed store state (from_disk answer))
   -- where a task begins at a state, that is all that it knows
   pub starts : (first : Volume) (events : List Event) (e : Event) (handle : ℕ) (store : Store) (ignoring : Bool) (task : Task) (state : m.State)
       → IsSized task
@@ -112,30 +139,49 @@ pub record KeepsLaws (m : Machine) : Type 1 where
   pub bounded : (store : Store) (task : Task) (state : m.State) → m.IsFor task state → (entries : ℕ)
       → m.bound store task entries ≡ bound_of_task store task entries
   -- it names no call of streams
-  pub still : (store : Store) (state : m.State) (ask : DiskAsk) → m.ask store state ≡ Some ask → is_of_streams ask ≡ false
+  pub still : (store : Store) (state : m.State) (ask : DiskAsk) → m.ask store state ≡ Some (ToDisk ask) → is_of_streams ask ≡ false
   -- an event that isn't its turn leaves what it knows
   pub kept : (first : Volume) (events : List Event) (e : Event) (handle : ℕ) (running : Running) (state : m.State) → ¬ (IsTurnOf handle e.step)
       → m.Knows first events handle running state → m.Knows first (events ++ e ∷ []) handle running state
-  -- where it knows something, it names a call of the disk
-  pub names : (first : Volume) (events : List Event) (handle : ℕ) (running : Running) (state : m.State) → m.Knows first events handle running state
-      → (ask : DiskAsk) × (m.ask running.store state ≡ Some ask)
-  -- which comes in the order of its task, and makes a change that the task may make
-  pub takes : (first : Volume) (events : List Event) (handle : ℕ) (running : Running) (state : m.State) (ask : DiskAsk)
-      → m.Knows first events handle running state
-      → m.ask running.store state ≡ Some ask → HasTurn first events handle running running.task ask
+  -- what it asks for comes in the order of its task, and makes a change that the task may make
+  pub takes : (first : Volume) (events : List Event) (handle : ℕ) (running : Running) (state : m.State) → m.Knows first events handle running state
+      → TakesTurn first events handle running running.task (m.ask running.store state)
+  -- where it asks for nothing, it has its reply
+  pub ends : (first : Volume) (events : List Event) (handle : ℕ) (running : Running) (state : m.State) → m.Knows first events handle running state
+      → m.ask running.store state ≡ None → (reply : Reply) × (m.feed running.store state None ≡ Ok reply)
   -- the turn leads to a reply that keeps the promise of the task, or on
   pub comes : (first : Volume) (events : List Event) (e : Event) (handle : ℕ) (running : Running) → running.begun ≤ length events
-      → (state : m.State) (ask : DiskAsk)
-      → m.Knows first events handle running state → m.ask running.store state ≡ Some ask → IsTurnWith first events e handle ask
-      → MachineComes first events e handle running m (m.feed running.store state (answer_now (disk_after first events) ask))
+      → (state : m.State) → m.Knows first events handle running state → IsTurnAsking first events e handle (m.ask running.store state)
+      → MachineComes first events e handle running m (m.feed running.store state (answer_after first events (m.ask running.store state)))
   pub writes : KeepsWriteLaws m
+
+-- ---- machines that ask the disk in each turn
+
+-- what is asked of the disk is that call
+pub same_ask : (asked : Option DiskAsk) (ask : DiskAsk) → to_disk asked ≡ Some (ToDisk ask) → asked ≡ Some ask
+same_ask None ask is = absurd (cc is)
+same_ask (Some own) ask is = let both : own ≡ ask = cc is in ap Some both
+
+pub takes_disk : (first : Volume) (events : List Event) (handle : ℕ) (running : Running) (task : Task) (asked : Option Ask) (ask : DiskAsk)
+    → asked ≡ Some (ToDisk ask) → HasTurn first events handle running task ask → TakesTurn first events handle running task asked
+takes_disk first events handle running task asked ask is turn = subst (TakesTurn first events handle running task) (sym is) turn
+
+pub never_ends : (asked : Option Ask) (ask : DiskAsk) → asked ≡ Some (ToDisk ask) → asked ≡ None → ⊥
+never_ends asked ask is none = let both : None ≡ Some (ToDisk ask) = sym none ∙ is in cc both
+
+pub comes_disk : (first : Volume) (events : List Event) (e : Event) (handle : ℕ) (Comes : Option Answer → Type 0) (asked : Option Ask) (ask : DiskAsk)
+    → asked ≡ Some (ToDisk ask)
+    → (IsTurnWith first events e handle ask → Comes (Some (FromDisk (answer_now (disk_after first events) ask))))
+    → IsTurnAsking first events e handle asked → Comes (answer_after first events asked)
+comes_disk first events e handle Comes asked ask is comes turn =
+    subst (λ a. IsTurnAsking first events e handle a → Comes (answer_after first events a)) (sym is) comes turn
 
 -- ---- machines that make no change
 
 -- one that never writes has only to show that its calls of the disk change nothing
 pub writes_nothing : (m : Machine) → ((state : m.State) → m.writes state ≡ None)
     → ((first : Volume) (events : List Event) (handle : ℕ) (running : Running) (state : m.State) (ask : DiskAsk) → m.Knows first events handle running state
-    → m.ask running.store state ≡ Some ask → change_by (disk_after first events) ask ≡ None)
+    → m.ask running.store state ≡ Some (ToDisk ask) → change_by (disk_after first events) ask ≡ None)
     → KeepsWriteLaws m
 writes_nothing m none quiet = record {
   quiet = λ first events handle running state ask knows no asks. quiet first events handle running state ask knows asks;

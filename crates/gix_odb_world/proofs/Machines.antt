@@ -1,20 +1,24 @@
 -- Each work's machine keeps its laws. A further machine has one line here.
-use Rattle.std.proofs.Common.{◌≡◌, Bool, false, None, Some, refl}
+use Rattle.std.proofs.Common.{◌≡◌, Bool, false, Option, None, Some, Ok, refl}
 use Rattle.odb_disk.specs.StreamAsks.{is_of_streams}
+use Rattle.odb_disk.specs.declared.ask.DiskAnswer.{DiskAnswer}
 use Rattle.odb_disk.specs.declared.ask.DiskAsk.{DiskAsk}
 use Rattle.gix_odb.specs.declared.call.Call.TheVariants as call_kinds
 use Rattle.gix_odb.specs.declared.call.Reply.{Reply}
 use Rattle.gix_odb.specs.declared.call_state.CallState.TheVariants.{Looking, Writing, Written}
+use Rattle.gix_odb.specs.declared.handle_state.HandleState.{HandleState}
 use Rattle.gix_odb_world.specs.declared.work.Work.{Work}
 use Rattle.gix_odb_world.specs.declared.work.Work.TheVariants.{Opening, Calling}
+use Rattle.gix_odb_world.specs.Event.{ToDisk}
 use Rattle.gix_odb_world.specs.Machines.{at, ended}
 use Rattle.gix_odb_world.specs.Status.{MakeCall, OpenStore, Store, Task, begun_with}
+use Rattle.gix_odb_world.specs.WorkOrder.{fed_after, result_in}
 use Rattle.gix_odb_world.proofs.LookMachine.{looking_laws}
 use Rattle.gix_odb_world.proofs.MachineLaws.{KeepsLaws, writes_nothing}
 use Rattle.gix_odb_world.proofs.OpeningMachine.{opening_laws}
 use Rattle.gix_odb_world.proofs.WriteMachine.{writing_laws}
 
-nothing_asked : (ask : DiskAsk) → None ≡ Some ask → is_of_streams ask ≡ false
+nothing_asked : (ask : DiskAsk) → None ≡ Some (ToDisk ask) → is_of_streams ask ≡ false
 nothing_asked ask is = absurd (cc is)
 
 -- no task begins with a reply
@@ -23,20 +27,24 @@ never_starts store ignoring OpenStore reply at = cc at
 never_starts store ignoring (MakeCall (call_kinds.Find id)) reply at = cc at
 never_starts store ignoring (MakeCall call) reply at = cc at
 
+ended_feeds : (code : HandleState) (reply : Reply) (answer : Option DiskAnswer) → result_in (fed_after code (Calling (Written reply)) answer) ≡ Ok reply
+ended_feeds code reply None = refl
+ended_feeds code reply (Some answer) = refl
+
 -- no handle is at a write that has its reply
 ended_laws : KeepsLaws ended
 ended_laws = record {
   at_home = λ reply. refl;
   asks = λ store ignoring code own reply. refl;
-  feeds = λ store ignoring code own reply answer. refl;
+  feeds = λ store ignoring code own reply answer. ended_feeds code reply answer;
   starts = λ first events e handle store ignoring task reply sized is. absurd (never_starts store ignoring task reply is);
   tasked = λ first events handle running reply knows. knows;
   bounded = λ store task reply is entries. absurd is;
   still = λ store reply ask is. nothing_asked ask is;
   kept = λ first events e handle running reply other knows. knows;
-  names = λ first events handle running reply knows. absurd knows;
-  takes = λ first events handle running reply ask knows is. absurd knows;
-  comes = λ first events e handle running since reply ask knows is turn. absurd knows;
+  takes = λ first events handle running reply knows. absurd knows;
+  ends = λ first events handle running reply knows none. absurd knows;
+  comes = λ first events e handle running since reply knows turn. absurd knows;
   writes = writes_nothing ended (λ reply. refl) (λ first events handle running reply ask knows is. absurd knows);
 }
 

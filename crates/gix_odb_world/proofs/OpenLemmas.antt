@@ -61,7 +61,7 @@ pub opened : (old mid new : World) (number : ℕ) (path : Path) (folders : List 
 opened old mid new number path folders replacements options state free good begun sets notes =
     applied old mid new (steps.Open number path folders replacements options) number (Some (record { state = state; work = Some (Opening Looking) }))
     (λ n status. opening_at n (store_at n path folders replacements options))
-    (ap (why_not_open (phase_of_handle (handle_at old number))) good ∙ free) sets notes (λ turn. turn, refl) refl (λ other turn. cc) (λ n table. refl)
+    (ap (why_not_open (phase_of_handle (handle_at old number))) good ∙ free) sets notes (λ turn. turn, tt) refl (λ other turn. cc) (λ n table. refl)
     (λ n status match. (replacements_same path folders replacements options n state good begun, refl))
     (λ first events e status opens no_turn runs. runs_opening first events e number (store_at (length events + 1) path folders replacements options))
 
@@ -81,7 +81,7 @@ pub closed : (old mid new : World) (number : ℕ) → why_not_now old (steps.Clo
     → SetsHandle old mid number None → Notes mid new outcomes.Applied Nothing None → Continues old (steps.Close number) new
 closed old mid new number reason sets notes =
     applied old mid new (steps.Close number) number None (λ n status. Free)
-    reason sets notes (λ turn. turn, refl) refl (λ other turn. cc) (λ n table. refl) (λ n status match. tt) (λ first events e status starts no_turn runs. tt)
+    reason sets notes (λ turn. turn, tt) refl (λ other turn. cc) (λ n table. refl) (λ n status match. tt) (λ first events e status starts no_turn runs. tt)
 
 -- ---- the mode of an idle handle
 
@@ -107,6 +107,6 @@ pub ignored : (old mid new : World) (number : ℕ) → why_not_now old (steps.Ig
     → Continues old (steps.Ignore number) new
 ignored old mid new number reason sets notes =
     applied old mid new (steps.Ignore number) number (with_ignoring (handle_at old number)) (λ n status. ignoring_from status)
-    reason sets notes (λ turn. turn, refl) refl (λ other turn. cc) (λ n table. refl)
+    reason sets notes (λ turn. turn, tt) refl (λ other turn. cc) (λ n table. refl)
     (λ n status match. matches_ignoring status (handle_at old number) reason match)
     (λ first events e status starts. runs_ignoring number first events e status)

@@ -1,6 +1,6 @@
 -- An opening keeps the laws of a machine.
 pub mod Look
-use Rattle.std.proofs.Common.{◌≡◌, ℕ, ◌+◌, ◌*◌, ◌<◌, ◌≤◌, Bool, true, false, cond, List, [], ◌∷◌, ◌++◌, length, Some, None, refl, sym, ◌∙◌, ap, subst, arith}
+use Rattle.std.proofs.Common.{◌≡◌, ℕ, ◌+◌, ◌*◌, ◌<◌, ◌≤◌, Bool, true, false, cond, List, [], ◌∷◌, ◌++◌, length, Option, Some, None, refl, sym, ◌∙◌, ap, subst, arith}
 use Rattle.std.proofs.lemmas.List.{length-append}
 use Rattle.odb_tree.specs.Tree.{tree_of}
 use Rattle.odb_tree.specs.declared.disk_error.DiskError.TheVariants as disk_errors
@@ -20,17 +20,17 @@ use Rattle.gix_odb.specs.declared.open_state.OpenState.{OpenState}
 use Rattle.gix_odb.specs.declared.open_state.OpenState.TheVariants as opens
 use Rattle.gix_odb_world.specs.declared.work.Work.TheVariants.{Opening}
 use Rattle.gix_odb_world.specs.Bound.{bound_of_task, turn_bound}
-use Rattle.gix_odb_world.specs.Event.{Event}
+use Rattle.gix_odb_world.specs.Event.{Event, from_disk, to_disk}
 use Rattle.gix_odb_world.specs.Handle.{IsHandleOf}
 use Rattle.gix_odb_world.specs.Machine.{placed}
 use Rattle.gix_odb_world.specs.Promise.{OpeningPromise, Promise}
 use Rattle.gix_odb_world.specs.Run.{FailedSince, IsTurnOf, change_by, disk_after, tree_at}
 use Rattle.gix_odb_world.specs.Running.Opening.{IsOpening, opening, result_of_opening}
 use Rattle.gix_odb_world.specs.Status.{MakeCall, OpenStore, Running, Store, Task, begun_with, running_from}
-use Rattle.gix_odb_world.specs.WorkOrder.{opening_result}
+use Rattle.gix_odb_world.specs.WorkOrder.{fed_after, opening_result, result_in}
 use Rattle.gix_odb_world.proofs.AskLemmas.{in_order_opening}
 use Rattle.gix_odb_world.proofs.FolderLemmas.{look_quiet}
-use Rattle.gix_odb_world.proofs.MachineLaws.{HasTurn, IsSized, KeepsLaws, MachineComes, quiet_turn, writes_nothing}
+use Rattle.gix_odb_world.proofs.MachineLaws.{HasTurn, IsSized, KeepsLaws, MachineComes, comes_disk, never_ends, quiet_turn, same_ask as own_ask, takes_disk, writes_nothing}
 use Rattle.gix_odb_world.proofs.OpeningMachine.Look.{look_keeps}
 use Rattle.gix_odb_world.proofs.QuietTurn.{fails_now, shown_now, whole_length}
 use Rattle.gix_odb_world.proofs.RunLemmas.{failed_before, none_failed_yet}
@@ -43,9 +43,10 @@ opening_placed : (state : OpenState) → opening_result state ≡ placed opening
 opening_placed opens.Looking = refl
 opening_placed (opens.Done reply) = refl
 
-opening_feeds : (store : Store) (ignoring : Bool) (code : HandleState) → IsHandleOf store ignoring code → (state : OpenState) (answer : DiskAnswer)
-    → opening_result (openings.fed code.store.value.slots state answer) ≡ placed opening (result_of_opening (openings.fed store.slots state answer))
-opening_feeds store ignoring code own state answer =
+opening_feeds : (store : Store) (ignoring : Bool) (code : HandleState) → IsHandleOf store ignoring code → (state : OpenState) (answer : Option DiskAnswer)
+    → result_in (fed_after code (Opening state) answer) ≡ placed opening (opening.feed store state (from_disk answer))
+opening_feeds store ignoring code own state None = opening_placed state
+opening_feeds store ignoring code own state (Some answer) =
     ap (λ slots. opening_result (openings.fed slots state answer)) own.slots ∙ opening_placed (openings.fed store.slots state answer)
 
 -- ---- its beginning
@@ -126,18 +127,31 @@ opening_bounded : (store : Store) (task : Task) → task ≡ OpenStore → (entr
     → turn_bound 0 (length (folder_list store.parts)) 0 entries None ≡ bound_of_task store task entries
 opening_bounded store task is entries = subst (λ t. turn_bound 0 (length (folder_list store.parts)) 0 entries None ≡ bound_of_task store t entries) (sym is) refl
 
+opening_ask : (first : Volume) (events : List Event) (handle : ℕ) (running : Running) (state : OpenState) → IsOpening events handle running state
+    → (ask : DiskAsk) × (openings.ask_of running.store.parts.objects state ≡ Some ask)
+opening_ask first events handle running state knows = (asks.Look running.store.parts.objects true, ap (openings.ask_of running.store.parts.objects) knows.looks)
+
 pub opening_laws : KeepsLaws opening
 opening_laws = record {
   at_home = λ state. refl;
-  asks = λ store ignoring code own state. ap (λ objects. openings.ask_of objects state) own.objects;
+  asks = λ store ignoring code own state. ap (λ objects. to_disk (openings.ask_of objects state)) own.objects;
   feeds = opening_feeds;
   starts = opening_starts;
   tasked = λ first events handle running state knows. knows.task;
   bounded = λ store task state is entries. opening_bounded store task is entries;
-  still = opening_still;
+  still = λ store state ask is. opening_still store state ask (own_ask (openings.ask_of store.parts.objects state) ask is);
   kept = λ first events e handle running state other knows. opening_kept events e handle running state other knows;
-  names = λ first events handle running state knows. (asks.Look running.store.parts.objects true, ap (openings.ask_of running.store.parts.objects) knows.looks);
-  takes = λ first events handle running state ask knows is. opening_takes first events handle running state ask knows is;
-  comes = λ first events e handle running since state ask knows is turn. opening_comes first events handle running state ask knows is e since turn;
-  writes = writes_nothing opening (λ state. refl) opening_quiet;
+  takes = λ first events handle running state knows.
+      let ask = opening_ask first events handle running state knows in
+      takes_disk first events handle running running.task (opening.ask running.store state) ask.0 (ap to_disk ask.1)
+      (opening_takes first events handle running state ask.0 knows ask.1);
+  ends = λ first events handle running state knows none.
+      let ask = opening_ask first events handle running state knows in absurd (never_ends (opening.ask running.store state) ask.0 (ap to_disk ask.1) none);
+  comes = λ first events e handle running since state knows.
+      let ask = opening_ask first events handle running state knows in
+      comes_disk first events e handle (λ answer. MachineComes first events e handle running opening (opening.feed running.store state answer))
+      (opening.ask running.store state) ask.0 (ap to_disk ask.1) (opening_comes first events handle running state ask.0 knows ask.1 e since);
+  writes = writes_nothing opening (λ state. refl)
+      (λ first events handle running state ask knows is.
+      opening_quiet first events handle running state ask knows (own_ask (openings.ask_of running.store.parts.objects state) ask is));
 }

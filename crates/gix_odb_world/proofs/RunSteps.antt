@@ -20,11 +20,12 @@ use Rattle.gix_odb_world.specs.declared.step.Step.TheVariants as steps
 use Rattle.gix_odb_world.specs.declared.step.Why.{Why}
 use Rattle.gix_odb_world.specs.Event.{Asked, OfNothing, OfDisk, OfCore, Event}
 use Rattle.gix_odb_world.specs.Status.{Running, Status, Free, Resting, Working, status_of, status_after}
-use Rattle.gix_odb_world.specs.Headline.{IsLawful, IsTurn, Law, Suits, Turns, Works}
+use Rattle.gix_odb_world.specs.Headline.{IsLawful, IsTurn, Law, LeavesDisk, Suits, Turns}
 use Rattle.gix_odb_world.specs.Changes.{ChangesAs, change_applied}
 use Rattle.gix_odb_world.specs.Run.{change_by, did_of_asked, disk_after, disk_after_event, disk_after_asked, tree_at}
 use Rattle.gix_odb_world.specs.Undisturbed.{IsOutside}
 use Rattle.gix_odb_world.specs.Valid.{misuse_of, phase_of, why_not_after, why_not_running}
+use Rattle.gix_odb_world.proofs.DiskTurns.{CallsDisk, calls_disk}
 use Rattle.gix_odb_world.proofs.RunLemmas.{disk_after-push, status_of-push}
 pub use Rattle.gix_odb_world.proofs.RunSteps.Fronts.{event_or_end, front_of_front, length_take, none_beyond, take_next, take_none, there_in_front, there_in_whole}
 
@@ -35,7 +36,7 @@ pub record IsTurned (first : Volume) (past : List Event) (e : Event) : Type 0 wh
   pub handle : ℕ
   pub running : Running
   pub turn : Turns past e handle running
-  pub works : Works first past handle running e
+  pub works : CallsDisk first past handle running e
 
 -- another program made a change, which was possible
 pub record IsMade (first : Volume) (past : List Event) (e : Event) : Type 0 where
@@ -69,7 +70,12 @@ possible_by false why valid = absurd (cc)
 none_asked : (asked : Asked) → Nothing ≡ did_of_asked asked → asked ≡ OfNothing
 none_asked OfNothing is = refl
 none_asked (OfDisk ask answer) is = absurd (cc is)
-none_asked (OfCore event) is = absurd event
+none_asked (OfCore event answer) is = absurd event
+
+left_disk : (asked : Asked) → LeavesDisk asked → did_of_asked asked ≡ Nothing
+left_disk OfNothing left = refl
+left_disk (OfDisk ask answer) left = absurd left
+left_disk (OfCore event answer) left = refl
 
 turn_step : (step : Step) → IsTurn step → (handle : ℕ) × (step ≡ steps.Turn handle)
 turn_step (steps.Turn handle) turn = (handle, refl)
@@ -81,7 +87,7 @@ module _ (first : Volume) (past : List Event) (e : Event) (law : Law first past 
       let t = turn_step e.step is in
       let a = at_work (status_of past t.0) (subst (λ s. None ≡ why_not_after first past s) t.1 valid) in
       let turn : Turns past e t.0 a.0 = record { step = t.1; status = a.1 } in
-      Turned (record { handle = t.0; running = a.0; turn = turn; works = law.worked t.0 a.0 turn })
+      Turned (record { handle = t.0; running = a.0; turn = turn; works = calls_disk first past t.0 a.0 e (law.worked t.0 a.0 turn) })
 
   quiet : e.entry.change ≡ None → e.entry.did ≡ Nothing → Kind first past e
   quiet none did = Quiet (record { none = none; did = did; asked = none_asked e.asked (sym did ∙ law.did) })
@@ -93,12 +99,12 @@ module _ (first : Volume) (past : List Event) (e : Event) (law : Law first past 
       Made (record { change = change; outside = (change, s, o); makes = made; did = did; asked = none_asked e.asked (sym did ∙ law.did); possible = possible_by _ _ valid })
   kind_applied step s o other did made valid = quiet made did
 
-  kind_by : (outcome : Outcome) → e.outcome ≡ outcome → Suits e.step outcome e.entry.did → ChangesAs e.step outcome e.entry.change
+  kind_by : (outcome : Outcome) → e.outcome ≡ outcome → Suits e.step outcome e.asked → ChangesAs e.step outcome e.entry.change
       → misuse_of outcome ≡ why_not_after first past e.step → Kind first past e
-  kind_by outcomes.Applied o suits made valid = kind_applied e.step refl o suits.0 suits.1 made valid
+  kind_by outcomes.Applied o suits made valid = kind_applied e.step refl o suits.0 (law.did ∙ left_disk e.asked suits.1) made valid
   kind_by outcomes.Pending o suits made valid = turned suits.0 valid
   kind_by (outcomes.Reply reply) o suits made valid = turned suits valid
-  kind_by (outcomes.Misuse why) o suits made valid = quiet made suits
+  kind_by (outcomes.Misuse why) o suits made valid = quiet made (law.did ∙ ap did_of_asked suits)
 
   pub kind_of : Kind first past e
   kind_of = kind_by e.outcome refl law.suits law.change law.valid

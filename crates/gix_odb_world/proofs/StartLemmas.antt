@@ -62,7 +62,7 @@ pub begun : (old mid new : World) (number : ℕ) (call : Call) (handle : Handle)
     → Continues old (steps.Start number call) new
 begun old mid new number call handle work sized reason there is sets notes =
     applied old mid new (steps.Start number call) number (with_work (Some work) (handle_at old number)) (λ n status. started n call status)
-    reason sets notes (λ turn. turn, refl) refl (λ other turn. cc) (λ n table. refl)
+    reason sets notes (λ turn. turn, tt) refl (λ other turn. cc) (λ n table. refl)
     (λ n status match.
     subst (λ (h : Option Handle). Matches (started n call status) (with_work (Some work) h)) (sym there)
     (matches_started n call status handle work (subst (λ (h : Option Handle). why_not_idle (phase_of_handle h) ≡ None) there reason) is (subst (Matches status) there match)))

@@ -83,7 +83,7 @@ abbrev quiet : Step → Outcome → Option Change → ℕ → Event
 quiet step outcome change faults = record { step = step; outcome = outcome; entry = record { did = Nothing; change = change; faults = faults }; asked = OfNothing }
 
 -- a turn that is no misuse gives a reply, or its call goes on
-no_quiet_turn : (handle : ℕ) (outcome : Outcome) → Suits (steps.Turn handle) outcome Nothing → misuse_of outcome ≡ None
+no_quiet_turn : (handle : ℕ) (outcome : Outcome) → Suits (steps.Turn handle) outcome OfNothing → misuse_of outcome ≡ None
     → ((reply : Reply) → outcome ≢ outcomes.Reply reply) → outcome ≢ outcomes.Pending → ⊥
 no_quiet_turn handle outcomes.Applied suits valid no_reply not_pending = suits.0 tt
 no_quiet_turn handle outcomes.Pending suits valid no_reply not_pending = not_pending refl
@@ -92,7 +92,7 @@ no_quiet_turn handle (outcomes.Misuse why) suits valid no_reply not_pending = cc
 
 -- it is lawful where it is no reply, and no call goes on
 law_quiet : (first : Volume) (past : List Event) (step : Step) (outcome : Outcome) (change : Option Change) (faults : ℕ)
-    → misuse_of outcome ≡ why_not_after first past step → Suits step outcome Nothing → ChangesAs step outcome change
+    → misuse_of outcome ≡ why_not_after first past step → Suits step outcome OfNothing → ChangesAs step outcome change
     → faults ≡ (disk_after_change (disk_after first past) change).calls.faults → ((reply : Reply) → outcome ≢ outcomes.Reply reply)
     → outcome ≢ outcomes.Pending
     → Law first past (quiet step outcome change faults)
@@ -107,7 +107,7 @@ law_quiet first past step outcome change faults valid suits made counted no_repl
       worked = λ handle running turn.
           let valid_turn : misuse_of outcome ≡ None =
           subst (λ s. misuse_of outcome ≡ why_not_after first past s) turn.step valid ∙ ap (λ s. why_not_running (phase_of s)) turn.status in
-          absurd (no_quiet_turn handle outcome (subst (λ s. Suits s outcome Nothing) turn.step suits) valid_turn no_reply not_pending);
+          absurd (no_quiet_turn handle outcome (subst (λ s. Suits s outcome OfNothing) turn.step suits) valid_turn no_reply not_pending);
       promise = λ handle running task reply turn began is. absurd (no_reply reply is);
       in_time = λ handle running task entries turn began is most. absurd (not_pending is);
     }
@@ -147,7 +147,7 @@ table_noted old mid new number handle outcome did change sets notes other =
 -- a step sets one handle, and its status goes on as the handle does
 pub applied : (old mid new : World) (step : Step) (number : ℕ) (handle : Option Handle) (next : ℕ → Status → Status)
     → why_not_now old step ≡ None → SetsHandle old mid number handle → Notes mid new outcomes.Applied Nothing None
-    → Suits step outcomes.Applied Nothing → ChangesAs step outcomes.Applied None → ((other : ℕ) → ¬ IsTurnOf other step)
+    → Suits step outcomes.Applied OfNothing → ChangesAs step outcomes.Applied None → ((other : ℕ) → ¬ IsTurnOf other step)
     → ((n : ℕ) (table : ℕ → Status) → status_after n step outcomes.Applied OfNothing table ≡ with_status table number (next n (table number)))
     → ((n : ℕ) (status : Status) → Matches status (handle_at old number) → Matches (next n status) handle)
     → ((first : Volume) (events : List Event) (e : Event) (status : Status) → e.step ≡ step → ((other : ℕ) → ¬ IsTurnOf other e.step) → Runs first events number status → Runs first (events ++ e ∷ []) number (next (length events + 1) status))
@@ -183,7 +183,7 @@ changed old new disk change made possible after made_is notes first events expla
     let here : disk ≡ after_outside_change old.disk made = after ∙ ap (λ c. after_outside_change old.disk c) (sym made_is) in (
       outcomes.Applied,
       goes_on first events old new e explains
-          (law_quiet first events step outcomes.Applied (Some made) disk.calls.faults same (λ turn. turn, refl) (ap Some made_is) (ap (λ (d : Volume). d.calls.faults) now) (λ reply is. cc) (λ is. cc))
+          (law_quiet first events step outcomes.Applied (Some made) disk.calls.faults same (λ turn. turn, tt) (ap Some made_is) (ap (λ (d : Volume). d.calls.faults) now) (λ reply is. cc) (λ is. cc))
           notes.outcomes notes.records
           (notes.disk ∙ here)
           (λ handle. subst (λ handles. Matches (status_of events handle) (handle_at (record new { handles = handles }) handle)) (sym notes.handles) (explains.handles handle))

@@ -1,44 +1,39 @@
 -- The event of a turn is lawful, and the handle does after it what its status says.
+pub mod Asking
 pub mod Comes
 use Rattle.std.proofs.Common.{◌≡◌, ℕ, ◌+◌, ◌<◌, ◌≤◌, Bool, true, false, List, [], ◌∷◌, ◌++◌, length, Option, Some, None, Ok, Err, Result, refl, sym, ◌∙◌, ap, subst, arith}
 use Rattle.std.specs.Prelude.{if◌then◌else◌}
 use Rattle.std.proofs.lemmas.List.{length-append}
 use Rattle.odb_tree.specs.Tree.{IsTree, tree_of}
 use Rattle.odb_tree.specs.declared.change.Change.{Change}
-use Rattle.odb_disk.specs.MemDisk.{Volume, next_fails}
-use Rattle.odb_disk.specs.Ask.{after_ask, answer_now, op_of}
-use Rattle.odb_disk.specs.declared.ask.DiskAsk.{DiskAsk}
-use Rattle.odb_disk.specs.declared.ask.DiskAnswer.{DiskAnswer}
-use Rattle.gix_odb_world.specs.Recorded.{path_recorded}
+use Rattle.odb_disk.specs.MemDisk.{Volume}
 use Rattle.gix_odb_world.specs.declared.step.Step.TheVariants as steps
 use Rattle.gix_odb_world.specs.declared.step.Outcome.TheVariants as outcomes
 use Rattle.gix_odb.specs.declared.call.Reply.{Reply}
-use Rattle.gix_odb_world.specs.declared.record.Did.TheVariants.{Disk}
 use Rattle.gix_odb.specs.declared.handle_state.HandleState.{HandleState}
 use Rattle.gix_odb_world.specs.declared.work.Work.{Work}
 use Rattle.gix_odb_world.specs.declared.world.World.{World}
 use Rattle.gix_odb_world.specs.Bound.{bound_of_task}
-use Rattle.gix_odb_world.specs.Event.{OfDisk, Event}
+use Rattle.gix_odb_world.specs.Event.{Ask, Asked, OfNothing, Event, answered}
 use Rattle.gix_odb_world.specs.Status.{Free, Resting, Running, Status, Task, Working, come_to, refuses_opening, replied, status_of, turned}
 use Rattle.gix_odb_world.specs.Handle.{IsHandleOf}
-use Rattle.gix_odb_world.specs.Run.{change_by, did_of, has_failed}
+use Rattle.gix_odb_world.specs.Run.{change_asked, did_asked, did_of_asked, disk_after, disk_after_asked, told_now}
 use Rattle.gix_odb_world.specs.Begun.{BegunAs}
 use Rattle.gix_odb_world.specs.Running.{Runs}
 use Rattle.gix_odb_world.specs.Valid.{phase_of, why_not_running, misuse_of}
-use Rattle.gix_odb_world.specs.Headline.{Law, Turns, Works, Suits, outcome_of}
-use Rattle.gix_odb_world.specs.Changes.{ChangesAs, ChangesInTask}
+use Rattle.gix_odb_world.specs.Headline.{FailsAsListed, Law, Turns, Works, outcome_of}
+use Rattle.gix_odb_world.specs.Changes.{ChangesAs, ChangesAsAsked}
 use Rattle.gix_odb_world.specs.Promise.{Promise}
-use Rattle.gix_odb_world.specs.Machines.{fed_in}
+use Rattle.gix_odb_world.specs.Machines.{ask_in, fed_in}
 use Rattle.gix_odb_world.specs.World.{Explains, Matches}
 use Rattle.gix_odb_world.specs.Table.{after_turn}
 use Rattle.gix_odb_world.proofs.RunLemmas.{disk_after-push}
 use Rattle.gix_odb_world.proofs.BegunLemmas.{stems_now}
 use Rattle.gix_odb_world.proofs.BegunLemmas.OneEvent.{Stems, one_task}
 use Rattle.gix_odb_world.proofs.BegunLemmas.Turns.{Counts, counts_now}
-use Rattle.gix_odb_world.proofs.WriteTurn.Common.{IsTurnWith}
-use Rattle.gix_odb_world.proofs.FailedLemmas.{has_failed-now}
-use Rattle.gix_odb_world.proofs.MachineLaws.{ComesTo, HasTurn}
-use Rattle.gix_odb_world.proofs.TurnLaw.Comes.{Names, act_of, come_of, turn_of}
+use Rattle.gix_odb_world.proofs.MachineLaws.{ComesTo, IsTurnAsking, TakesTurn}
+use Rattle.gix_odb_world.proofs.TurnLaw.Asking.{did_told, fails_listed, five_of, order_of, suits_turn, told_nothing, turn_asking}
+use Rattle.gix_odb_world.proofs.TurnLaw.Comes.{come_of, end_of, turn_of}
 use Rattle.gix_odb_world.proofs.WorkLaws.{ask_still}
 
 -- ---- the event of a turn
@@ -47,11 +42,6 @@ use Rattle.gix_odb_world.proofs.WorkLaws.{ask_still}
 misuse_of-turn : (result : Result Reply Work) → misuse_of (outcome_of result) ≡ None
 misuse_of-turn (Ok reply) = refl
 misuse_of-turn (Err work) = refl
-
-suits_turn : (number : ℕ) (result : Result Reply Work) (ask : DiskAsk) (answer : DiskAnswer)
-    → Suits (steps.Turn number) (outcome_of result) (did_of ask answer)
-suits_turn number (Ok reply) ask answer = tt
-suits_turn number (Err work) ask answer = (tt, tt)
 
 changes_turn : (number : ℕ) (result : Result Reply Work) (change : Option Change) → ChangesAs (steps.Turn number) (outcome_of result) change
 changes_turn number (Ok reply) change = tt
@@ -74,44 +64,52 @@ module _ (first : Volume) (events : List Event) (old : World) (number : ℕ) (ru
   counts : Counts events number (Working running)
   counts = subst (Counts events number) status (counts_now first events explains.lawful number)
 
-  -- the call of the disk that the work names
-  abbrev pub act : Names running.store running.work
-  act = act_of first events number running running.work runs.1
+  -- what the work asks for
+  abbrev pub ask : Option Ask
+  ask = ask_in running.store running.work
 
-  abbrev pub given : DiskAnswer
-  given = answer_now old.disk act.ask
+  abbrev pub told : Asked
+  told = told_now old.disk ask
+
+  abbrev pub made : Option Change
+  made = change_asked old.disk ask
 
   -- what the turn comes to
   abbrev pub after : Result Reply Work
-  after = fed_in running.store running.work given
+  after = fed_in running.store running.work (answered told)
 
-  module _ (tree : IsTree (tree_of old.disk.state)) (faults : ℕ) (counted : faults ≡ (after_ask old.disk act.ask).calls.faults) where
+  module _ (tree : IsTree (tree_of old.disk.state)) (faults : ℕ) (counted : faults ≡ (disk_after_asked old.disk told made).calls.faults) where
     abbrev pub event : Event
-    event = record { step = steps.Turn number; outcome = outcome_of after; entry = record { did = did_of act.ask given; change = change_by old.disk act.ask; faults = faults }; asked = OfDisk act.ask given }
+    event = record { step = steps.Turn number; outcome = outcome_of after; entry = record { did = did_of_asked told; change = made; faults = faults }; asked = told }
 
     abbrev pub whole : List Event
     whole = events ++ event ∷ []
 
-    listed : has_failed given ≡ next_fails old.disk
-    listed = has_failed-now old.disk act.ask (ask_still running.store running.work act.ask act.asks)
+    did_is : event.entry.did ≡ did_asked (disk_after first events) ask
+    did_is = did_told old.disk ask (ask_still running.store running.work) ∙ ap (λ d. did_asked d ask) explains.disk
 
-    turn_is : IsTurnWith first events event number act.ask
-    turn_is =
-        record {
-          turn = refl;
-          did = ap (Disk (op_of act.ask) (path_recorded act.ask)) (listed ∙ ap next_fails explains.disk);
-          asked = ap (λ d. OfDisk act.ask (answer_now d act.ask)) explains.disk;
-          change = ap (λ d. change_by d act.ask) explains.disk;
-          tree = subst (λ (d : Volume). IsTree (tree_of d.state)) explains.disk tree;
-        }
+    told_is : event.asked ≡ told_now (disk_after first events) ask
+    told_is = ap (λ d. told_now d ask) explains.disk
+
+    change_is : event.entry.change ≡ change_asked (disk_after first events) ask
+    change_is = ap (λ d. change_asked d ask) explains.disk
+
+    turn_is : IsTurnAsking first events event number ask
+    turn_is = turn_asking first events event number ask refl did_is told_is change_is (subst (λ (d : Volume). IsTree (tree_of d.state)) explains.disk tree)
 
     abbrev pub WorkNow : Result Reply Work → Type 0
     WorkNow result = ComesTo first events event number running result
 
     pub come : WorkNow after
-    come = subst (λ d. WorkNow (fed_in running.store running.work (answer_now d act.ask))) (sym explains.disk) (come_of first events event number running runs.0 running.work runs.1 turn_is)
+    come = subst (λ d. WorkNow (fed_in running.store running.work (answered (told_now d ask)))) (sym explains.disk) (come_of first events event number running runs.0 running.work runs.1 turn_is)
 
     -- ---- its law
+
+    -- one in which nothing was asked has its reply
+    ended : told ≡ OfNothing → (reply : Reply) × (after ≡ Ok reply)
+    ended nothing =
+        let end = end_of first events number running running.work runs.1 (told_nothing old.disk ask nothing) in
+        (end.0, ap (λ a. fed_in running.store running.work (answered a)) nothing ∙ end.1)
 
     promised : (result : Result Reply Work) → WorkNow result → (reply : Reply) → outcome_of result ≡ outcomes.Reply reply
         → Promise first whole number running.store running.ignoring running.begun running.task reply
@@ -125,7 +123,7 @@ module _ (first : Volume) (events : List Event) (old : World) (number : ℕ) (ru
     timed (Ok own) now is entries = absurd (cc is)
     timed (Err left) now is entries = now.1 entries
 
-    turns : HasTurn first events number running running.task act.ask
+    turns : TakesTurn first events number running running.task ask
     turns = turn_of first events number running running.work runs.1
 
     works : Works first events number running event
@@ -135,14 +133,14 @@ module _ (first : Volume) (events : List Event) (old : World) (number : ℕ) (ru
           latest = stems.1.latest;
           counted = counts.1;
           opened = stems.0;
-          ask = act.ask;
-          asks = act.asks;
-          in_order = turns.in_order;
-          asked = turn_is.did;
-          told = turn_is.asked;
-          goes = ap (λ d. outcome_of (fed_in running.store running.work (answer_now d act.ask))) explains.disk;
-          changed = turn_is.change;
-          five = subst (ChangesInTask first events number running.store running.begun running.task act.ask) (sym turn_is.change) turns.five;
+          ask = ask;
+          asks = refl;
+          in_order = order_of first events number running running.task ask turns;
+          asked = did_is;
+          told = told_is;
+          goes = refl;
+          changed = change_is;
+          five = subst (ChangesAsAsked first events number running.store running.begun running.task ask) (sym change_is) (five_of first events number running running.task ask turns);
         }
 
     -- what holds of the task holds of any that the same step set
@@ -159,10 +157,10 @@ module _ (first : Volume) (events : List Event) (old : World) (number : ℕ) (ru
     law =
         record {
           valid = misuse_of-turn after ∙ ap (λ s. why_not_running (phase_of s)) (sym status);
-          suits = suits_turn number after act.ask given;
+          suits = suits_turn number after told ended;
           change = changes_turn number after event.entry.change;
-          failed = listed ∙ ap next_fails explains.disk;
-          faults = counted ∙ (ap (λ d. (after_ask d act.ask).calls.faults) explains.disk ∙ ap (λ (d : Volume). d.calls.faults) (sym (disk_after-push first events event)));
+          failed = subst (FailsAsListed (disk_after first events)) (sym did_is) (fails_listed (disk_after first events) ask);
+          faults = counted ∙ (ap (λ d. (disk_after_asked d told made).calls.faults) explains.disk ∙ ap (λ (d : Volume). d.calls.faults) (sym (disk_after-push first events event)));
           did = refl;
           worked = of_turn (λ h r. Works first events h r event) works;
           promise = λ handle other task reply turns_it began is.
@@ -177,7 +175,7 @@ module _ (first : Volume) (events : List Event) (old : World) (number : ℕ) (ru
 
     abbrev pub status_next : Result Reply Work → Status
     status_next (Ok reply) = replied reply (Working running)
-    status_next (Err left) = turned (OfDisk act.ask given) (Working running)
+    status_next (Err left) = turned told (Working running)
 
     matches_rest : (state : HandleState) → IsHandleOf running.store running.ignoring state → (frees : Bool)
         → Matches (if frees then Free else Resting running.store running.ignoring) (if frees then None else Some (record { state = state; work = None }))

@@ -2,11 +2,10 @@
 use Rattle.std.proofs.Common.{◌≡◌, ℕ, ◌+◌, Bool, true, false, List, [], ◌∷◌, ◌++◌, length, Some, None, Ok, Err, Option, Result, refl, sym, ◌∙◌, ap, subst}
 use Rattle.std.specs.Prelude.{if◌then◌else◌, ◌==◌}
 use Rattle.odb_disk.specs.MemDisk.{Volume}
-use Rattle.odb_disk.specs.Ask.{answer_now, after_ask, change_of_ask}
+use Rattle.odb_disk.specs.StreamAsks.{is_of_streams}
 use Rattle.odb_tree.specs.Tree.{IsTree, tree_of}
-use Rattle.odb_tree.specs.Tree.Write.{written}
 use Rattle.odb_tree.specs.declared.change.Change.{Change}
-use Rattle.odb_disk.specs.declared.ask.DiskAnswer.{DiskAnswer}
+use Rattle.odb_disk.specs.declared.ask.DiskAsk.{DiskAsk}
 use Rattle.gix_odb_world.specs.declared.step.Step.TheVariants as steps
 use Rattle.gix_odb_world.specs.declared.step.Outcome.{Outcome}
 use Rattle.gix_odb.specs.declared.call.Reply.{Reply}
@@ -15,25 +14,23 @@ use Rattle.gix_odb_world.specs.declared.handle.Handle.{Handle}
 use Rattle.gix_odb.specs.declared.handle_state.HandleState.{HandleState}
 use Rattle.gix_odb_world.specs.declared.work.Work.{Work}
 use Rattle.gix_odb_world.specs.declared.world.World.{World}
-use Rattle.gix_odb_world.specs.Event.{Asked, OfDisk, Event}
+use Rattle.gix_odb_world.specs.Event.{Ask, Asked, Event, answered, from_disk, to_disk}
 use Rattle.gix_odb_world.specs.Machines.{ask_in, fed_in}
 use Rattle.gix_odb_world.specs.Status.{Running, Store, Status, Free, Resting, Working, replied, status_of, turned}
 use Rattle.gix_odb_world.specs.Status as statuses
 use Rattle.gix_odb_world.specs.Handle.{IsHandleOf}
 use Rattle.gix_odb_world.specs.Running.{Runs}
 use Rattle.gix_odb_world.specs.Headline.{outcome_of}
-use Rattle.gix_odb_world.specs.WorkOrder.{ask_on, fed_on, result_in}
+use Rattle.gix_odb_world.specs.WorkOrder.{ask_on, fed_after, result_in}
 use Rattle.gix_odb_world.specs.World.{Explains, Continues, GoesOn, Matches, handle_at}
 use Rattle.gix_odb_world.specs.Table.{SetsHandle, Notes, after_turn, change_now, did_now, disk_now, work_now}
 use Rattle.gix_odb_world.proofs.RunsLemmas.{runs_set}
 use Rattle.gix_odb_world.proofs.StepLemmas.{goes_on, table_noted}
-use Rattle.gix_odb_world.specs.Run.{change_by, did_of}
-use Rattle.gix_odb_world.proofs.FailedLemmas.{has_failed-now}
-use Rattle.gix_odb_world.proofs.TurnLaw.Comes.{Names}
+use Rattle.gix_odb_world.specs.Run.{change_asked, did_of_asked, disk_after_asked, told_now}
 use Rattle.gix_odb_world.proofs.WorkLaws.{ask_still, code_asks, code_feeds}
-use Rattle.gix_odb_world.proofs.WriteAsk.Quiet.{after_ask-change}
+use Rattle.gix_odb_world.proofs.TurnLaw.Asking.{answer_on, answer_on-told, change_now-asked, did_now-told, disk_now-asked, work_now-fed}
 use Rattle.gix_odb_world.proofs.WorldLemmas.{matches_set}
-use Rattle.gix_odb_world.proofs.TurnLaw.{act, come, event, law, matches_next, runs_next}
+use Rattle.gix_odb_world.proofs.TurnLaw.{come, event, law, matches_next, runs_next}
 
 -- a status after a turn that left its work so
 abbrev next_from : Asked → Status → Result Reply Work → Status
@@ -75,27 +72,31 @@ module _ (old took mid new : World) (disk : Volume) (number : ℕ) (state : Hand
       → (o : Outcome) × GoesOn first events (steps.Turn number) o new
   goes_at running status at own =
       let store : Store = running.store in
-      let does : Names store running.work = act first events old number running explains status in
-      let answer : DiskAnswer = answer_now old.disk does.ask in
+      let code : Option DiskAsk = ask_on state work in
+      let ask : Option Ask = ask_in store running.work in
+      let told : Asked = told_now old.disk ask in
+      let made : Option Change = change_asked old.disk ask in
       let same_disk : took.disk ≡ old.disk = took_it.takes.disk in
-      let asked : ask_on state work ≡ Some does.ask = code_asks store running.ignoring state own work ∙ (ap (ask_in store) (sym at) ∙ does.asks) in
-      let did_is : did ≡ did_of does.ask answer = took_it.did_is ∙ (ap (did_now took.disk) asked ∙ ap (λ d. did_now d (Some does.ask)) same_disk) in
-      let result : Result Reply Work = fed_in store running.work answer in
-      let left_is : left ≡ fed_on state work answer =
-      took_it.after_is ∙ (ap (work_now took.disk state work) asked ∙ ap (λ d. work_now d state work (Some does.ask)) same_disk) in
-      let result_is : result_in left ≡ fed_in store running.work answer =
-      ap result_in left_is ∙ (code_feeds store running.ignoring state own work answer ∙ ap (λ w. fed_in store w answer) (sym at)) in
-      let called : disk ≡ after_ask old.disk does.ask = took_it.disk_is ∙ (ap (disk_now took.disk) asked ∙ ap (λ d. after_ask d does.ask) same_disk) in
-      let disk_is : disk ≡ record (after_ask old.disk does.ask) { state = written old.disk.state (change_by old.disk does.ask) } = called ∙ after_ask-change old.disk does.ask in
-      let change_is : change ≡ change_by old.disk does.ask =
-      took_it.change_is ∙ (ap (change_now took.disk) asked ∙ (ap (λ d. change_now d (Some does.ask)) same_disk ∙ ap (λ b. if b then None else change_of_ask (tree_of old.disk.state) does.ask) (has_failed-now old.disk does.ask (ask_still store running.work does.ask does.asks)))) in
+      let asks_it : to_disk code ≡ ask = code_asks store running.ignoring state own work ∙ ap (ask_in store) (sym at) in
+      let still : (call : DiskAsk) → code ≡ Some call → is_of_streams call ≡ false = λ call is. ask_still store running.work call (sym asks_it ∙ ap to_disk is) in
+      let did_is : did ≡ did_of_asked told =
+      took_it.did_is ∙ (ap (λ d. did_now d code) same_disk ∙ (did_now-told old.disk code ∙ ap (λ a. did_of_asked (told_now old.disk a)) asks_it)) in
+      let result : Result Reply Work = fed_in store running.work (answered told) in
+      let left_is : left ≡ fed_after state work (answer_on old.disk code) =
+      took_it.after_is ∙ (ap (λ d. work_now d state work code) same_disk ∙ work_now-fed old.disk state work code) in
+      let given : from_disk (answer_on old.disk code) ≡ answered told = answer_on-told old.disk code ∙ ap (λ a. answered (told_now old.disk a)) asks_it in
+      let result_is : result_in left ≡ result =
+      ap result_in left_is ∙ (code_feeds store running.ignoring state own work (answer_on old.disk code) ∙ (ap (fed_in store work) given ∙ ap (λ w. fed_in store w (answered told)) (sym at))) in
+      let disk_is : disk ≡ disk_after_asked old.disk told made =
+      took_it.disk_is ∙ (ap (λ d. disk_now d code) same_disk ∙ (disk_now-asked old.disk code ∙ ap (λ a. disk_after_asked old.disk (told_now old.disk a) (change_asked old.disk a)) asks_it)) in
+      let change_is : change ≡ made =
+      took_it.change_is ∙ (ap (λ d. change_now d code) same_disk ∙ (change_now-asked old.disk code still ∙ ap (change_asked old.disk) asks_it)) in
       let tree : IsTree (tree_of old.disk.state) = subst (λ (d : Volume). IsTree (tree_of d.state)) same_disk took_it.tree in
       let outcome_is : outcome ≡ outcome_of result = took_it.outcome_is ∙ ap outcome_of result_is in
       let handle_is : handle ≡ after_turn state result = took_it.handle_is ∙ ap (after_turn state) result_is in
-      let counted : mid.disk.calls.faults ≡ (after_ask old.disk does.ask).calls.faults = ap (λ (d : Volume). d.calls.faults) (took_it.sets.disk ∙ called) in
+      let counted : mid.disk.calls.faults ≡ (disk_after_asked old.disk told made).calls.faults = ap (λ (d : Volume). d.calls.faults) (took_it.sets.disk ∙ disk_is) in
       let e : Event = event first events old number running explains status tree mid.disk.calls.faults counted in
       let table : ℕ → Status = status_of events in
-      let told : Asked = OfDisk does.ask answer in
       let next : Status = next_from told (table number) result in
       let next_same : next ≡ next_from told (Working running) result = next_is told running (table number) result status in
       let put : (other : ℕ) → handle_at new other ≡ (if other == number then handle else handle_at old other) =
@@ -117,7 +118,7 @@ module _ (old took mid new : World) (disk : Volume) (number : ℕ) (state : Hand
             (took_it.notes.records
             ∙ (ap (λ rs. rs ++ record { did = did; change = change; faults = mid.disk.calls.faults } ∷ []) (took_it.sets.records ∙ took_it.takes.records)
             ∙ (ap (λ d. old.records ++ record { did = d; change = change; faults = mid.disk.calls.faults } ∷ []) did_is
-            ∙ ap (λ c. old.records ++ record { did = did_of does.ask answer; change = c; faults = mid.disk.calls.faults } ∷ []) change_is)))
+            ∙ ap (λ c. old.records ++ record { did = did_of_asked told; change = c; faults = mid.disk.calls.faults } ∷ []) change_is)))
             (took_it.notes.disk ∙ (took_it.sets.disk ∙ disk_is))
             (λ other. rw (status_after-turn (length events + 1) number told result table) (matches_set old new table number next handle explains.handles put here other))
             (λ other. rw (status_after-turn (length events + 1) number told result table) (runs_set first events e table number next explains.running (λ o apart turns_it. apart (cc turns_it)) on other)),

@@ -1,5 +1,5 @@
 -- What holds of any work, since the machine that it is of keeps its laws.
-use Rattle.std.proofs.Common.{◌≡◌, ◌⊎◌, ℕ, Bool, false, List, Some, None, Ok, Err, Result, refl, sym, ◌∙◌, ap}
+use Rattle.std.proofs.Common.{◌≡◌, ◌⊎◌, ℕ, Bool, false, List, Option, Some, None, Ok, Err, Result, refl, sym, ◌∙◌, ap}
 use Rattle.odb_disk.specs.MemDisk.{Volume}
 use Rattle.odb_disk.specs.StreamAsks.{is_of_streams}
 use Rattle.odb_disk.specs.declared.ask.DiskAsk.{DiskAsk}
@@ -10,7 +10,7 @@ use Rattle.gix_odb_loose.specs.LooseOrder.{disk_ask_of}
 use Rattle.gix_odb_loose.specs.LooseOrder as loose_order
 use Rattle.gix_odb_loose.specs.declared.call.LooseCall.{LooseCall}
 use Rattle.gix_odb_world.specs.declared.work.Work.{Work}
-use Rattle.gix_odb_world.specs.Event.{Event}
+use Rattle.gix_odb_world.specs.Event.{Answer, Event, FromDisk, ToDisk, from_disk, to_disk}
 use Rattle.gix_odb_world.specs.Handle.{IsHandleOf}
 use Rattle.gix_odb_world.specs.Machine.{At, Machine, placed}
 use Rattle.gix_odb_world.specs.Machines.{at, ask_in, fed_in, write_in}
@@ -18,7 +18,7 @@ use Rattle.gix_odb_world.specs.Run.{change_by, disk_after}
 use Rattle.gix_odb_world.specs.Running.{Knows}
 use Rattle.gix_odb_world.specs.Running.Write.{IsWriting, result_of_write}
 use Rattle.gix_odb_world.specs.Status.{Running, Store}
-use Rattle.gix_odb_world.specs.WorkOrder.{ask_on, fed_on, result_in}
+use Rattle.gix_odb_world.specs.WorkOrder.{ask_on, fed_after, result_in}
 use Rattle.gix_odb_world.proofs.MachineLaws.{HasNoFile}
 use Rattle.gix_odb_world.proofs.Machines.{laws_at}
 
@@ -26,24 +26,24 @@ use Rattle.gix_odb_world.proofs.Machines.{laws_at}
 
 -- the code of a handle asks what the work names
 pub code_asks : (store : Store) (ignoring : Bool) (code : HandleState) → IsHandleOf store ignoring code → (work : Work)
-    → ask_on code work ≡ ask_in store work
-code_asks store ignoring code own work = ap (ask_on code) (sym (at work).is) ∙ (laws_at work).asks store ignoring code own (at work).state
+    → to_disk (ask_on code work) ≡ ask_in store work
+code_asks store ignoring code own work = ap (λ w. to_disk (ask_on code w)) (sym (at work).is) ∙ (laws_at work).asks store ignoring code own (at work).state
 
 -- and goes on as the work does
-pub code_feeds : (store : Store) (ignoring : Bool) (code : HandleState) → IsHandleOf store ignoring code → (work : Work) (answer : DiskAnswer)
-    → result_in (fed_on code work answer) ≡ fed_in store work answer
+pub code_feeds : (store : Store) (ignoring : Bool) (code : HandleState) → IsHandleOf store ignoring code → (work : Work) (answer : Option DiskAnswer)
+    → result_in (fed_after code work answer) ≡ fed_in store work (from_disk answer)
 code_feeds store ignoring code own work answer =
-    ap (λ w. result_in (fed_on code w answer)) (sym (at work).is) ∙ (laws_at work).feeds store ignoring code own (at work).state answer
+    ap (λ w. result_in (fed_after code w answer)) (sym (at work).is) ∙ (laws_at work).feeds store ignoring code own (at work).state answer
 
 -- no work names a call of streams
-pub ask_still : (store : Store) (work : Work) (ask : DiskAsk) → ask_in store work ≡ Some ask → is_of_streams ask ≡ false
+pub ask_still : (store : Store) (work : Work) (ask : DiskAsk) → ask_in store work ≡ Some (ToDisk ask) → is_of_streams ask ≡ false
 ask_still store work ask is = (laws_at work).still store (at work).state ask is
 
 -- ---- its writes
 
 module _ (first : Volume) (events : List Event) (handle : ℕ) (running : Running) (work : Work) (knows : Knows first events handle running work) where
   -- work that writes nothing changes nothing
-  pub quiet_unless_writing : (ask : DiskAsk) → write_in work ≡ None → ask_in running.store work ≡ Some ask
+  pub quiet_unless_writing : (ask : DiskAsk) → write_in work ≡ None → ask_in running.store work ≡ Some (ToDisk ask)
       → change_by (disk_after first events) ask ≡ None
   quiet_unless_writing ask none is = (laws_at work).writes.quiet first events handle running (at work).state ask knows none is
 
@@ -52,12 +52,12 @@ module _ (first : Volume) (events : List Event) (handle : ℕ) (running : Runnin
   knows_write folder is = (laws_at work).writes.known first events handle running (at work).state folder knows is
 
 -- it asks what its write asks
-pub asks_as_write : (store : Store) (work : Work) (folder : LooseCall) → write_in work ≡ Some folder → ask_in store work ≡ disk_ask_of folder
+pub asks_as_write : (store : Store) (work : Work) (folder : LooseCall) → write_in work ≡ Some folder → ask_in store work ≡ to_disk (disk_ask_of folder)
 asks_as_write store work folder is = (laws_at work).writes.asks store (at work).state folder is
 
 -- it ends where its write ends
 pub ends_as_write : (store : Store) (work : Work) (folder : LooseCall) (answer : DiskAnswer) (reply : Reply) → write_in work ≡ Some folder
-    → result_of_write (loose_order.fed folder answer) ≡ Ok reply → fed_in store work answer ≡ Ok reply
+    → result_of_write (loose_order.fed folder answer) ≡ Ok reply → fed_in store work (Some (FromDisk answer)) ≡ Ok reply
 ends_as_write store work folder answer reply is done = ap (placed (at work).machine) ((laws_at work).writes.ends store (at work).state folder answer reply is done)
 
 -- what is left of work is that of its machine at another state
@@ -67,7 +67,7 @@ left_at m (Ok reply) left is = absurd (cc is)
 left_at m (Err next) left is = (next, refl, cc is)
 
 -- work that is left and writes is left of work that wrote, unless its write has made no file yet
-pub wrote_before : (store : Store) (work left : Work) (answer : DiskAnswer) (folder : LooseCall) → fed_in store work answer ≡ Err left
+pub wrote_before : (store : Store) (work left : Work) (answer : Option Answer) (folder : LooseCall) → fed_in store work answer ≡ Err left
     → write_in left ≡ Some folder
     → ((own : LooseCall) × (write_in work ≡ Some own)) ⊎ HasNoFile folder
 wrote_before store work left answer folder is writes =

@@ -141,7 +141,8 @@ nothing_among x (k, within, is) = omega (arith, within)
 
 -- a write that the event begins has done nothing
 pub writing_begun : (first : Volume) (events : List Event) (e : Event) (handle : ℕ) (store : Store) (ignoring : Bool) (kind : Kind) (size : ℕ) (bytes : List ℕ) (known : Option ObjectId) → size < 2 ^ 64
-    → IsAtOwnWrite first (events ++ e ∷ []) handle (running_from (length events + 1) (MakeCall (Write kind size bytes known)) store ignoring) nothing_in_front (writing store.parts.objects kind size bytes known)
+    → IsAtOwnWrite first (events ++ e ∷ []) handle (running_from (length events + 1) (MakeCall (Write kind size bytes known)) store ignoring) nothing_in_front
+    (writing store.parts.objects kind size bytes known)
 writing_begun first events e handle store ignoring kind size bytes known fits =
     let short : length (events ++ e ∷ []) ≤ length events + 1 = omega (arith, length-append events (e ∷ [])) in
     record {

@@ -14,16 +14,17 @@ use Rattle.gix_odb.specs.CallOrder.{result_of, written_by}
 use Rattle.gix_odb.specs.declared.call.Call.TheVariants as call_kinds
 use Rattle.gix_odb.specs.declared.call.Reply.{Reply}
 use Rattle.gix_odb.specs.declared.call_state.CallState.TheVariants.{Writing}
+use Rattle.gix_odb.specs.declared.handle_state.HandleState.{HandleState}
 use Rattle.gix_odb_world.specs.declared.work.Work.TheVariants.{Calling}
 use Rattle.gix_odb_world.specs.AtWork.{nothing_in_front}
-use Rattle.gix_odb_world.specs.Event.{Event}
+use Rattle.gix_odb_world.specs.Event.{Event, from_disk, to_disk}
 use Rattle.gix_odb_world.specs.Machine.{placed}
 use Rattle.gix_odb_world.specs.Run.{disk_after}
 use Rattle.gix_odb_world.specs.Running.Write.{IsAtOwnWrite, IsWriting, replied_by, result_of_write, writing}
 use Rattle.gix_odb_world.specs.Status.{MakeCall, OpenStore, Running, Store, Task, begun_with, running_from}
-use Rattle.gix_odb_world.specs.WorkOrder.{calling_result}
+use Rattle.gix_odb_world.specs.WorkOrder.{calling_result, fed_after, result_in}
 use Rattle.gix_odb_world.proofs.AskLemmas.{in_order_write}
-use Rattle.gix_odb_world.proofs.MachineLaws.{HasTurn, IsSized, KeepsLaws, KeepsWriteLaws, MachineComes}
+use Rattle.gix_odb_world.proofs.MachineLaws.{HasTurn, IsSized, KeepsLaws, KeepsWriteLaws, MachineComes, comes_disk, never_ends, same_ask as own_ask, takes_disk}
 use Rattle.gix_odb_world.proofs.WriteFive.{five_written}
 use Rattle.gix_odb_world.proofs.WriteGoes.{write_comes}
 use Rattle.gix_odb_world.proofs.WriteKept.{writing_begun, writing_push}
@@ -34,6 +35,11 @@ write_placed : (folder : LooseCall) (reply : Option LooseReply)
     → calling_result (result_of (written_by folder reply)) ≡ placed writing (replied_by folder reply)
 write_placed folder None = refl
 write_placed folder (Some reply) = refl
+
+write_feeds : (store : Store) (code : HandleState) (folder : LooseCall) (answer : Option DiskAnswer)
+    → result_in (fed_after code (Calling (Writing folder)) answer) ≡ placed writing (writing.feed store folder (from_disk answer))
+write_feeds store code folder None = refl
+write_feeds store code folder (Some answer) = write_placed (loose_order.fed folder answer) (reply_of (loose_order.fed folder answer))
 
 -- a state at which a task begins is that of its write
 write_starts : (first : Volume) (events : List Event) (e : Event) (handle : ℕ) (store : Store) (ignoring : Bool) (task : Task) (folder : LooseCall)
@@ -47,7 +53,8 @@ write_starts first events e handle store ignoring (MakeCall (call_kinds.Write ki
     (writing_begun first events e handle store ignoring kind size bytes id sized)
 write_starts first events e handle store ignoring (MakeCall call) folder sized at = absurd (cc at)
 
-module _ (first : Volume) (events : List Event) (handle : ℕ) (running : Running) (folder : LooseCall) (ask : DiskAsk) (knows : IsAtOwnWrite first events handle running nothing_in_front folder) (is : disk_ask_of folder ≡ Some ask) where
+module _ (first : Volume) (events : List Event) (handle : ℕ) (running : Running) (folder : LooseCall) (ask : DiskAsk)
+    (knows : IsAtOwnWrite first events handle running nothing_in_front folder) (is : disk_ask_of folder ≡ Some ask) where
   abbrev own : IsWriting first events handle running folder
   own = knows.writing
 
@@ -78,8 +85,8 @@ write_ends : (folder own : LooseCall) (answer : DiskAnswer) (reply : Reply) → 
     → result_of_write (loose_order.fed folder answer) ≡ Ok reply
 write_ends folder own answer reply is done = let same : folder ≡ own = cc is in subst (λ f. result_of_write (loose_order.fed f answer) ≡ Ok reply) (sym same) done
 
-write_asks : (folder own : LooseCall) → Some folder ≡ Some own → disk_ask_of folder ≡ disk_ask_of own
-write_asks folder own is = let same : folder ≡ own = cc is in ap disk_ask_of same
+write_asks : (folder own : LooseCall) → Some folder ≡ Some own → to_disk (disk_ask_of folder) ≡ to_disk (disk_ask_of own)
+write_asks folder own is = let same : folder ≡ own = cc is in ap (λ f. to_disk (disk_ask_of f)) same
 
 write_known : (first : Volume) (events : List Event) (handle : ℕ) (running : Running) (folder own : LooseCall)
     → IsAtOwnWrite first events handle running nothing_in_front folder → Some folder ≡ Some own
@@ -95,18 +102,31 @@ writing_writes = record {
   before = λ store folder next answer own goes is. inl (folder, refl);
 }
 
+-- the call that its stage makes
+write_ask : (first : Volume) (events : List Event) (handle : ℕ) (running : Running) (folder : LooseCall)
+    → IsAtOwnWrite first events handle running nothing_in_front folder
+    → (ask : DiskAsk) × (disk_ask_of folder ≡ Some ask)
+write_ask first events handle running folder knows = (ask_at_stage knows.writing.write knows.writing.stage, ap disk_ask_of knows.writing.is)
+
 pub writing_laws : KeepsLaws writing
 writing_laws = record {
   at_home = λ folder. refl;
   asks = λ store ignoring code own folder. refl;
-  feeds = λ store ignoring code own folder answer. write_placed (loose_order.fed folder answer) (reply_of (loose_order.fed folder answer));
+  feeds = λ store ignoring code own folder answer. write_feeds store code folder answer;
   starts = write_starts;
   tasked = λ first events handle running folder knows. record { write = knows.writing.write; task_is = knows.task; stage = knows.writing.stage; is = knows.writing.is };
   bounded = λ store task folder is entries. refl;
-  still = λ store folder ask is. call_asks_still folder ask is;
+  still = λ store folder ask is. call_asks_still folder ask (own_ask (disk_ask_of folder) ask is);
   kept = λ first events e handle running folder other knows. writing_push first events e handle running folder other nothing_in_front knows;
-  names = λ first events handle running folder knows. (ask_at_stage knows.writing.write knows.writing.stage, ap disk_ask_of knows.writing.is);
-  takes = λ first events handle running folder ask knows is. write_takes first events handle running folder ask knows is;
-  comes = λ first events e handle running since folder ask knows is turn. machine_comes first events handle running folder ask knows is e since turn;
+  takes = λ first events handle running folder knows.
+      let ask = write_ask first events handle running folder knows in
+      takes_disk first events handle running running.task (writing.ask running.store folder) ask.0 (ap to_disk ask.1)
+      (write_takes first events handle running folder ask.0 knows ask.1);
+  ends = λ first events handle running folder knows none.
+      let ask = write_ask first events handle running folder knows in absurd (never_ends (writing.ask running.store folder) ask.0 (ap to_disk ask.1) none);
+  comes = λ first events e handle running since folder knows.
+      let ask = write_ask first events handle running folder knows in
+      comes_disk first events e handle (λ answer. MachineComes first events e handle running writing (writing.feed running.store folder answer))
+      (writing.ask running.store folder) ask.0 (ap to_disk ask.1) (machine_comes first events handle running folder ask.0 knows ask.1 e since);
   writes = writing_writes;
 }

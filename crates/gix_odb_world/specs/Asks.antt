@@ -1,5 +1,5 @@
 -- Which call of the disk a turn makes, by the task of its handle and the turns that its work has had before.
-use Rattle.std.specs.Prelude.{◌≡◌, ℕ, ◌+◌, ◌*◌, ◌<◌, Bool, true, List, length, slice_get, Some}
+use Rattle.std.specs.Prelude.{◌≡◌, ℕ, ◌+◌, ◌*◌, ◌<◌, Bool, true, List, length, slice_get, Option, Some, None}
 use Rattle.odb_base.specs.Path.{Path}
 use Rattle.odb_disk.specs.MemDisk.{Volume}
 use Rattle.odb_disk.specs.declared.ask.DiskAsk.{DiskAsk}
@@ -13,7 +13,7 @@ use Rattle.gix_odb.specs.declared.call.Call.TheVariants as calls
 use Rattle.gix_odb.specs.declared.query.Query.TheVariants.{Find, Header, Test}
 use Rattle.gix_odb.specs.Contents.{folder_list, sought}
 use Rattle.gix_odb_world.specs.AtWork.{nothing_in_front}
-use Rattle.gix_odb_world.specs.Event.{Event}
+use Rattle.gix_odb_world.specs.Event.{Ask, Event, ToCore, ToDisk}
 use Rattle.gix_odb_world.specs.Status.{Store, MakeCall, OpenStore, Task}
 use Rattle.gix_odb_world.specs.Writing.{DoneSince, ToWrite, name_to_write, to_write}
 
@@ -63,3 +63,14 @@ AsksInOrder first past handle store ignoring begun turns (MakeCall (calls.Test i
     AsksBehind nothing_in_front turns (λ own. AsksFolder store own (λ folder. asks.Look (loose_path folder (sought store.parts ignoring (Test id))) true) ask)
 AsksInOrder first past handle store ignoring begun turns (MakeCall (calls.Write kind size bytes known)) ask =
     AsksBehind nothing_in_front turns (λ own. AsksToWrite first past handle begun own (to_write store.parts.objects kind size bytes known) ask)
+
+-- Whether a task may end in a turn that asks for nothing, since its work has ended before it asks: none of these does.
+abbrev pub MayEndUnasked : Task → Type 0
+MayEndUnasked OpenStore = ⊥
+MayEndUnasked (MakeCall call) = ⊥
+
+-- What a turn asks for, if it asks for anything. No task of these asks for an event of a core.
+abbrev pub AsksAsTask : Volume → List Event → (handle : ℕ) → Store → (ignoring : Bool) → (begun turns : ℕ) → Task → Option Ask → Type 0
+AsksAsTask first past handle store ignoring begun turns task None = MayEndUnasked task
+AsksAsTask first past handle store ignoring begun turns task (Some (ToDisk ask)) = AsksInOrder first past handle store ignoring begun turns task ask
+AsksAsTask first past handle store ignoring begun turns task (Some (ToCore event)) = ⊥

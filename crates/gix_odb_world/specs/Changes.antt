@@ -17,7 +17,7 @@ use Rattle.gix_odb_world.specs.declared.step.Step.{Step}
 use Rattle.gix_odb_world.specs.declared.step.Step.TheVariants as steps
 use Rattle.gix_odb_world.specs.declared.step.Outcome.{Outcome}
 use Rattle.gix_odb_world.specs.declared.step.Outcome.TheVariants as outcomes
-use Rattle.gix_odb_world.specs.Event.{Event}
+use Rattle.gix_odb_world.specs.Event.{Ask, Event, ToCore, ToDisk}
 use Rattle.gix_odb_world.specs.Status.{Store, MakeCall, Task}
 use Rattle.gix_odb_world.specs.Run.{disk_after}
 use Rattle.gix_odb_world.specs.Writing.{DoneSince, ToWrite, name_to_write, to_write}
@@ -62,3 +62,9 @@ ChangesInTask first past handle store begun task ask None = Unit {0}
 ChangesInTask first past handle store begun (MakeCall (Write kind size bytes known)) ask (Some change) =
     ChangesInWrite first past handle begun (to_write store.parts.objects kind size bytes known) ask change
 ChangesInTask first past handle store begun task ask (Some change) = ⊥
+
+-- the same of what a turn asks for, if it asks for anything: only a call of the disk changes the tree
+abbrev pub ChangesAsAsked : Volume → List Event → (handle : ℕ) → Store → (begun : ℕ) → Task → Option Ask → Option Change → Type 0
+ChangesAsAsked first past handle store begun task None change = change ≡ None
+ChangesAsAsked first past handle store begun task (Some (ToDisk ask)) change = ChangesInTask first past handle store begun task ask change
+ChangesAsAsked first past handle store begun task (Some (ToCore event)) change = change ≡ None

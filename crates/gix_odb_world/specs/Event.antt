@@ -1,21 +1,49 @@
 -- A run as a list of events.
+use Rattle.std.specs.Prelude.{Option, Some, None}
 use Rattle.odb_disk.specs.declared.ask.DiskAnswer.{DiskAnswer}
 use Rattle.odb_disk.specs.declared.ask.DiskAsk.{DiskAsk}
 use Rattle.gix_odb_world.specs.declared.step.Step.{Step}
 use Rattle.gix_odb_world.specs.declared.step.Outcome.{Outcome}
 use Rattle.gix_odb_world.specs.declared.record.Record.{Record}
 
--- an event of a store's core; there is none yet
+-- an event of a store's core, and what a core answers to one; there is none yet
 abbrev pub CoreEvent : Type 0
 CoreEvent = ⊥
 
--- what was asked in an event, beside its step: nothing; a call of the disk, with its answer; or an event of a core
+abbrev pub CoreAnswer : Type 0
+CoreAnswer = ⊥
+
+-- what work asks for: a call of the disk, or an event of a core
+pub data Ask : Type 0 where
+  ToDisk : (ask : DiskAsk) → Ask
+  ToCore : (event : CoreEvent) → Ask
+
+-- what it is answered
+pub data Answer : Type 0 where
+  FromDisk : (answer : DiskAnswer) → Answer
+  FromCore : (answer : CoreAnswer) → Answer
+
+abbrev pub to_disk : Option DiskAsk → Option Ask
+to_disk None = None
+to_disk (Some ask) = Some (ToDisk ask)
+
+abbrev pub from_disk : Option DiskAnswer → Option Answer
+from_disk None = None
+from_disk (Some answer) = Some (FromDisk answer)
+
+-- what was asked in an event, beside its step: nothing; a call of the disk, or an event of a core, with the answer
 pub data Asked : Type 0 where
   OfNothing : Asked
   OfDisk : (ask : DiskAsk) (answer : DiskAnswer) → Asked
-  OfCore : (event : CoreEvent) → Asked
+  OfCore : (event : CoreEvent) (answer : CoreAnswer) → Asked
 
--- a step, what it came to, its record, and what it asked
+-- the answer to what was asked, if anything was
+abbrev pub answered : Asked → Option Answer
+answered OfNothing = None
+answered (OfDisk ask answer) = Some (FromDisk answer)
+answered (OfCore event answer) = Some (FromCore answer)
+
+-- a step, what it came to, its record, and what was asked in it
 pub record Event : Type 0 where
   pub step : Step
   pub outcome : Outcome

@@ -2,11 +2,8 @@
 -- what is found was held by the store's files, a not-found means that no sound object lay still, a write names its
 -- object last and changes nothing else of the tree than five changes tell, each call ends within its bound, and each
 -- error has its cause.
-use Rattle.std.specs.Prelude.{◌≡◌, ℕ, ◌+◌, ◌<◌, List, [], ◌∷◌, ◌++◌, map, length, take, slice_get, Some, Result, Ok, Err}
+use Rattle.std.specs.Prelude.{◌≡◌, ℕ, ◌+◌, ◌<◌, List, [], ◌∷◌, ◌++◌, map, length, take, slice_get, Option, Some, Result, Ok, Err}
 use Rattle.odb_disk.specs.MemDisk.{Volume, next_fails}
-use Rattle.odb_disk.specs.Ask.{op_of, answer_now}
-use Rattle.odb_disk.specs.declared.ask.DiskAsk.{DiskAsk}
-use Rattle.gix_odb_world.specs.Recorded.{path_recorded}
 use Rattle.gix_odb.specs.declared.call.Reply.{Reply}
 use Rattle.gix_odb_world.specs.declared.step.Step.{Step}
 use Rattle.gix_odb_world.specs.declared.step.Step.TheVariants as steps
@@ -16,16 +13,16 @@ use Rattle.gix_odb_world.specs.declared.record.Did.{Did}
 use Rattle.gix_odb_world.specs.declared.record.Did.TheVariants.{Nothing, Disk}
 use Rattle.gix_odb_world.specs.declared.record.Run.{Run}
 use Rattle.gix_odb_world.specs.declared.work.Work.{Work}
-use Rattle.gix_odb_world.specs.Event.{OfDisk, Event}
+use Rattle.gix_odb_world.specs.Event.{Ask, Asked, OfNothing, OfDisk, OfCore, Event, answered}
 use Rattle.gix_odb_world.specs.Status.{Running, Task, Working, status_of}
-use Rattle.gix_odb_world.specs.Run.{change_by, did_of_asked, disk_after, tree_at}
+use Rattle.gix_odb_world.specs.Run.{change_asked, did_asked, did_of_asked, disk_after, told_now, tree_at}
 use Rattle.gix_odb_world.specs.Begun.{BegunAs, HoldsStore, IsTaskOf, NoneSince, turns_since}
-use Rattle.gix_odb_world.specs.Changes.{ChangesAs, ChangesInTask}
+use Rattle.gix_odb_world.specs.Changes.{ChangesAs, ChangesAsAsked}
 use Rattle.gix_odb_world.specs.Undisturbed.{WritesStandAlone}
 use Rattle.gix_odb_world.specs.WholeNames.{NamesStayWhole}
 use Rattle.gix_odb_world.specs.Machines.{ask_in, fed_in}
 use Rattle.gix_odb_world.specs.Valid.{why_not_after, misuse_of}
-use Rattle.gix_odb_world.specs.Asks.{AsksInOrder}
+use Rattle.gix_odb_world.specs.Asks.{AsksAsTask}
 use Rattle.gix_odb_world.specs.Bound.{HasAtMost, bound_of_task}
 use Rattle.gix_odb_world.specs.Promise.{Promise}
 
@@ -34,18 +31,25 @@ abbrev pub IsTurn : Step → Type 0
 IsTurn (steps.Turn handle) = Unit {0}
 IsTurn step = ⊥
 
--- a record tells a call of the disk
-abbrev pub TellsCall : Did → Type 0
-TellsCall Nothing = ⊥
-TellsCall (Disk op path failed) = Unit {0}
+-- something was asked: a call of the disk, or an event of a core
+abbrev pub AsksSomething : Asked → Type 0
+AsksSomething OfNothing = ⊥
+AsksSomething (OfDisk ask answer) = Unit {0}
+AsksSomething (OfCore event answer) = Unit {0}
 
--- The outcomes that a step may have, and what its record did: a turn makes at most one call of the disk, and
--- makes one where its call goes on; all other steps, and all misused ones, did nothing.
-abbrev pub Suits : Step → Outcome → Did → Type 0
-Suits step outcomes.Applied did = (¬ (IsTurn step)) × (did ≡ Nothing)
-Suits step outcomes.Pending did = IsTurn step × TellsCall did
-Suits step (outcomes.Reply reply) did = IsTurn step
-Suits step (outcomes.Misuse why) did = did ≡ Nothing
+-- no call of the disk was made; an event of a core may have been
+abbrev pub LeavesDisk : Asked → Type 0
+LeavesDisk OfNothing = Unit {0}
+LeavesDisk (OfDisk ask answer) = ⊥
+LeavesDisk (OfCore event answer) = Unit {0}
+
+-- The outcomes that a step may have, and what was asked in it: a turn asks for at most one thing, and asks for one where its call
+-- goes on; all other steps make no call of the disk; in misused ones nothing was asked.
+abbrev pub Suits : Step → Outcome → Asked → Type 0
+Suits step outcomes.Applied asked = (¬ (IsTurn step)) × LeavesDisk asked
+Suits step outcomes.Pending asked = IsTurn step × AsksSomething asked
+Suits step (outcomes.Reply reply) asked = IsTurn step
+Suits step (outcomes.Misuse why) asked = asked ≡ OfNothing
 
 -- a call of the disk fails exactly where its number is listed
 abbrev pub FailsAsListed : Volume → Did → Type 0
@@ -62,8 +66,8 @@ abbrev pub outcome_of : Result Reply Work → Outcome
 outcome_of (Ok reply) = outcomes.Reply reply
 outcome_of (Err work) = outcomes.Pending
 
--- A turn makes the one call of the disk that its work names at its stage. Its outcome is the reply where the work is
--- done after the disk's answer, and else that the work goes on.
+-- A turn carries out the one thing that its work asks for at its stage, a call of the disk or an event of a core, if it asks for any.
+-- Its outcome is the reply where the work is done after the answer, and else that the work goes on.
 pub record Works (first : Volume) (past : List Event) (handle : ℕ) (running : Running) (e : Event) : Type 0 where
   -- the step that began the work set its task, and is the latest of its handle that set one
   pub begins : BegunAs past handle running.begun running.store running.task
@@ -72,23 +76,23 @@ pub record Works (first : Volume) (past : List Event) (handle : ℕ) (running : 
   pub counted : running.turns ≡ turns_since past handle running.begun
   -- in the store of the latest open step of its handle, and in the mode of the steps since
   pub opened : HoldsStore past handle running.store running.ignoring
-  -- the call of the disk, which the event tells with its answer
-  pub ask : DiskAsk
-  pub asks : ask_in running.store running.work ≡ Some ask
-  -- which is the one of this turn of the task: of turn t of a find, the read of the loose path in the t-th folder
-  pub in_order : AsksInOrder first past handle running.store running.ignoring running.begun running.turns running.task ask
-  pub asked : e.entry.did ≡ Disk (op_of ask) (path_recorded ask) (next_fails (disk_after first past))
-  pub told : e.asked ≡ OfDisk ask (answer_now (disk_after first past) ask)
-  pub goes : e.outcome ≡ outcome_of (fed_in running.store running.work (answer_now (disk_after first past) ask))
+  -- what it asks for, which the event tells with its answer
+  pub ask : Option Ask
+  pub asks : ask_in running.store running.work ≡ ask
+  -- which is a call of the disk, and the one of this turn of the task: of turn t of a find, the read of the loose path in the t-th folder
+  pub in_order : AsksAsTask first past handle running.store running.ignoring running.begun running.turns running.task ask
+  pub asked : e.entry.did ≡ did_asked (disk_after first past) ask
+  pub told : e.asked ≡ told_now (disk_after first past) ask
+  pub goes : e.outcome ≡ outcome_of (fed_in running.store running.work (answered e.asked))
   -- the change of the record is that of the call
-  pub changed : e.entry.change ≡ change_by (disk_after first past) ask
-  pub five : ChangesInTask first past handle running.store running.begun running.task ask e.entry.change
+  pub changed : e.entry.change ≡ change_asked (disk_after first past) ask
+  pub five : ChangesAsAsked first past handle running.store running.begun running.task ask e.entry.change
 
 -- What an event may be after those before it.
 pub record Law (first : Volume) (past : List Event) (e : Event) : Type 0 where
   -- it is misused exactly where the step isn't valid, with the first reason
   pub valid : misuse_of e.outcome ≡ why_not_after first past e.step
-  pub suits : Suits e.step e.outcome e.entry.did
+  pub suits : Suits e.step e.outcome e.asked
   pub change : ChangesAs e.step e.outcome e.entry.change
   pub failed : FailsAsListed (disk_after first past) e.entry.did
   -- the record has the disk's count of faults after the step

@@ -1,22 +1,21 @@
 -- A machine: work of one kind that a handle may be at. A public clause needs of it what it asks and where an answer leads it.
-use Rattle.std.specs.Prelude.{◌≡◌, ℕ, List, Option, Result, Ok, Err}
+use Rattle.std.specs.Prelude.{◌≡◌, ℕ, List, Option, Some, None, Result, Ok, Err}
 use Rattle.odb_disk.specs.MemDisk.{Volume}
-use Rattle.odb_disk.specs.declared.ask.DiskAsk.{DiskAsk}
 use Rattle.odb_disk.specs.declared.ask.DiskAnswer.{DiskAnswer}
 use Rattle.gix_odb.specs.declared.call.Reply.{Reply}
 use Rattle.gix_odb_loose.specs.declared.call.LooseCall.{LooseCall}
 use Rattle.gix_odb_world.specs.declared.work.Work.{Work}
 use Rattle.gix_odb_world.specs.AtWork.{Running, Store, Task}
-use Rattle.gix_odb_world.specs.Event.{Event}
+use Rattle.gix_odb_world.specs.Event.{Answer, Ask, Event, FromCore, FromDisk}
 
 -- A machine has states of its own, each with a place among all work.
 pub record Machine : Type 1 where
   pub State : Type 0
   pub work : State → Work
-  -- in a store it names a call of the disk at a state, unless it is done
-  pub ask : Store → State → Option DiskAsk
-  -- the answer takes it to its reply or to another state
-  pub feed : Store → State → DiskAnswer → Result Reply State
+  -- in a store it asks for something at a state, unless it is done
+  pub ask : Store → State → Option Ask
+  -- the answer takes it to its reply or to another state; where it asked for nothing, it has its reply without one
+  pub feed : Store → State → Option Answer → Result Reply State
   -- the call of the objects directory by which it writes an object, if it writes one
   pub writes : State → Option LooseCall
   -- the tasks at which it may be in a state
@@ -25,6 +24,12 @@ pub record Machine : Type 1 where
   pub bound : Store → Task → (entries : ℕ) → ℕ
   -- what a handle at a state knows of the events since its task was set, and how its turns are counted
   pub Knows : Volume → List Event → (handle : ℕ) → Running → State → Type 0
+
+-- what the answer makes of work that asks the disk alone, by what is made of it without an answer and with one of the disk's
+abbrev pub by_answer : {R : Type 0} → (unasked : R) → (DiskAnswer → R) → Option Answer → R
+by_answer unasked fed None = unasked
+by_answer unasked fed (Some (FromDisk answer)) = fed answer
+by_answer unasked fed (Some (FromCore answer)) = absurd answer
 
 -- some work is that of a machine at a state
 pub record At (work : Work) : Type 1 where

@@ -1,13 +1,13 @@
--- Which machine each kind of work is of, and what it asks and comes to. A further machine has one line here.
+-- Which machine each kind of work is of, and what it asks and comes to. A further machine has one line here. A status keeps the code's
+-- `Work`, and a function by its cases computes to a machine and its state; a sum of machines would need that function beside it.
 use Rattle.std.specs.Prelude.{Option, None, Result, Ok, refl}
-use Rattle.odb_disk.specs.declared.ask.DiskAsk.{DiskAsk}
-use Rattle.odb_disk.specs.declared.ask.DiskAnswer.{DiskAnswer}
 use Rattle.gix_odb.specs.declared.call.Reply.{Reply}
 use Rattle.gix_odb.specs.declared.call_state.CallState.TheVariants.{Looking, Writing, Written}
 use Rattle.gix_odb_loose.specs.declared.call.LooseCall.{LooseCall}
 use Rattle.gix_odb_world.specs.declared.work.Work.{Work}
 use Rattle.gix_odb_world.specs.declared.work.Work.TheVariants.{Opening, Calling}
 use Rattle.gix_odb_world.specs.AtWork.{Store}
+use Rattle.gix_odb_world.specs.Event.{Answer, Ask}
 use Rattle.gix_odb_world.specs.Machine.{At, Machine, placed}
 use Rattle.gix_odb_world.specs.Running.Opening.{opening}
 use Rattle.gix_odb_world.specs.Running.Query.{looking}
@@ -33,12 +33,12 @@ at (Calling (Looking state)) = record { machine = looking; state = state; is = r
 at (Calling (Writing folder)) = record { machine = writing; state = folder; is = refl }
 at (Calling (Written reply)) = record { machine = ended; state = reply; is = refl }
 
--- the call of the disk that work names in a store, unless it is done
-abbrev pub ask_in : Store → Work → Option DiskAsk
+-- what work asks for in a store, unless it is done
+abbrev pub ask_in : Store → Work → Option Ask
 ask_in store work = (at work).machine.ask store (at work).state
 
 -- the reply to which the answer takes work, or the work that is left
-abbrev pub fed_in : Store → Work → DiskAnswer → Result Reply Work
+abbrev pub fed_in : Store → Work → Option Answer → Result Reply Work
 fed_in store work answer = placed (at work).machine ((at work).machine.feed store (at work).state answer)
 
 -- the call of the objects directory by which work writes an object, if it writes one

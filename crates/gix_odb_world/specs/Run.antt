@@ -2,7 +2,7 @@
 use Rattle.std.specs.Prelude.{◌≡◌, ℕ, ◌≤◌, Bool, true, false, List, fold, take, slice_get, Option, Some, None, if◌then◌else◌}
 use Rattle.odb_tree.specs.Tree.{Tree, tree_of}
 use Rattle.odb_tree.specs.Tree.Write.{written}
-use Rattle.odb_disk.specs.Ask.{after_ask, change_of_ask, op_of}
+use Rattle.odb_disk.specs.Ask.{after_ask, answer_now, change_of_ask, op_of}
 use Rattle.odb_disk.specs.MemDisk.{Volume, next_fails, after_outside_change}
 use Rattle.odb_disk.specs.declared.ask.DiskAnswer.{DiskAnswer}
 use Rattle.odb_disk.specs.declared.ask.DiskAnswer.TheVariants as answers
@@ -14,7 +14,7 @@ use Rattle.gix_odb_world.specs.declared.record.Did.{Did}
 use Rattle.gix_odb_world.specs.declared.record.Did.TheVariants.{Nothing, Disk}
 use Rattle.gix_odb_world.specs.declared.step.Step.{Step}
 use Rattle.gix_odb_world.specs.declared.step.Step.TheVariants as steps
-use Rattle.gix_odb_world.specs.Event.{Asked, OfNothing, OfDisk, OfCore, Event}
+use Rattle.gix_odb_world.specs.Event.{Ask, Asked, OfNothing, OfDisk, OfCore, ToCore, ToDisk, Event}
 
 abbrev pub disk_after_change : Volume → Option Change → Volume
 disk_after_change disk None = disk
@@ -25,7 +25,7 @@ disk_after_change disk (Some change) = after_outside_change disk change
 abbrev pub disk_after_asked : Volume → Asked → Option Change → Volume
 disk_after_asked disk OfNothing change = disk_after_change disk change
 disk_after_asked disk (OfDisk ask answer) change = record (after_ask disk ask) { state = written disk.state change }
-disk_after_asked disk (OfCore event) change = disk_after_change disk change
+disk_after_asked disk (OfCore event answer) change = disk_after_change disk change
 
 -- the disk after an event: after what it asked, with the change of its record
 abbrev pub disk_after_event : Volume → Event → Volume
@@ -48,7 +48,25 @@ did_of ask answer = Disk (op_of ask) (path_recorded ask) (has_failed answer)
 abbrev pub did_of_asked : Asked → Did
 did_of_asked OfNothing = Nothing
 did_of_asked (OfDisk ask answer) = did_of ask answer
-did_of_asked (OfCore event) = Nothing
+did_of_asked (OfCore event answer) = Nothing
+
+-- what an event tells that asked so: a call of the disk has the answer that the disk gives then
+abbrev pub told_now : Volume → Option Ask → Asked
+told_now disk None = OfNothing
+told_now disk (Some (ToDisk ask)) = OfDisk ask (answer_now disk ask)
+told_now disk (Some (ToCore event)) = absurd event
+
+-- the record of what was asked so: a call of the disk fails where its number is listed
+abbrev pub did_asked : Volume → Option Ask → Did
+did_asked disk None = Nothing
+did_asked disk (Some (ToDisk ask)) = Disk (op_of ask) (path_recorded ask) (next_fails disk)
+did_asked disk (Some (ToCore event)) = Nothing
+
+-- the change that what was asked so makes: only a call of the disk makes one
+abbrev pub change_asked : Volume → Option Ask → Option Change
+change_asked disk None = None
+change_asked disk (Some (ToDisk ask)) = change_by disk ask
+change_asked disk (Some (ToCore event)) = None
 
 -- the disk after all events
 unfoldable pub disk_after : Volume → List Event → Volume

@@ -20,7 +20,7 @@ use Rattle.gix_odb_world.specs.declared.step.Outcome.{Outcome}
 use Rattle.gix_odb_world.specs.declared.step.Outcome.TheVariants as outcomes
 use Rattle.gix_odb_world.specs.declared.work.Work.{Work}
 use Rattle.gix_odb_world.specs.declared.work.Work.TheVariants.{Opening, Calling}
-use Rattle.gix_odb_world.specs.Event.{Asked, OfDisk, Event}
+use Rattle.gix_odb_world.specs.Event.{Asked, Event, answered}
 
 -- what a handle does: nothing, since no handle has the number; rest; or work
 pub data Status : Type 0 where
@@ -84,9 +84,9 @@ abbrev pub come_to : Running → Result Reply Work → Status
 come_to running (Ok reply) = after_reply running.store running.ignoring reply
 come_to running (Err left) = Working (gone_on running left)
 
--- a turn after which the work goes on, by what it asked
+-- a turn after which the work goes on, by what it was answered
 abbrev pub turned : Asked → Status → Status
-turned (OfDisk ask answer) (Working running) = come_to running (fed_in running.store running.work answer)
+turned asked (Working running) = come_to running (fed_in running.store running.work (answered asked))
 turned asked status = status
 
 abbrev pub replied : Reply → Status → Status

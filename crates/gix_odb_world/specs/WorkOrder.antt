@@ -1,5 +1,5 @@
 -- What the code of a handle's work asks, and what an answer makes of it. No public clause cites this.
-use Rattle.std.specs.Prelude.{Option, Result, Ok, Err}
+use Rattle.std.specs.Prelude.{Option, Some, None, Result, Ok, Err}
 use Rattle.odb_disk.specs.declared.ask.DiskAsk.{DiskAsk}
 use Rattle.odb_disk.specs.declared.ask.DiskAnswer.{DiskAnswer}
 use Rattle.gix_odb.specs.CallOrder as calls
@@ -21,6 +21,11 @@ ask_on handle (Calling state) = calls.ask_of state
 abbrev pub fed_on : HandleState → Work → DiskAnswer → Work
 fed_on handle (Opening state) answer = Opening (openings.fed handle.store.value.slots state answer)
 fed_on handle (Calling state) answer = Calling (calls.fed handle.store.value.folders handle.store.value.alloc_limit_bytes state answer)
+
+-- the work of a handle after a turn, where it asked for nothing or had its answer
+abbrev pub fed_after : HandleState → Work → Option DiskAnswer → Work
+fed_after handle work None = work
+fed_after handle work (Some answer) = fed_on handle work answer
 
 abbrev pub opening_result : OpenState → Result Reply Work
 opening_result opens.Looking = Err (Opening opens.Looking)

@@ -14,7 +14,7 @@ use Rattle.gix_odb.specs.declared.init.Slots.TheVariants.{Given}
 use Rattle.gix_odb_world.specs.declared.step.Step.{Step}
 use Rattle.gix_odb_world.specs.declared.step.Step.TheVariants as steps
 use Rattle.gix_odb_world.specs.declared.step.Outcome.TheVariants as outcomes
-use Rattle.gix_odb_world.specs.Event.{Asked, OfNothing, OfDisk, OfCore, Event}
+use Rattle.gix_odb_world.specs.Event.{Asked, Event, answered}
 use Rattle.gix_odb_world.specs.declared.work.Work.{Work}
 use Rattle.gix_odb_world.specs.Machines.{fed_in}
 use Rattle.gix_odb_world.specs.Status.{MakeCall, OpenStore, Running, Status, Store, Task, Free, Resting, Working, come_to, ignoring_from, refuses_opening, replied, started, store_at, turned}
@@ -229,11 +229,9 @@ stems_come events handle running (Err left) stems = (stems.0, record { begins = 
 
 pub stems_turned : (events : List Event) (handle : ℕ) (asked : Asked) (status : Status) → Stems events handle status
     → Stems events handle (turned asked status)
-stems_turned events handle OfNothing status stems = stems
-stems_turned events handle (OfDisk ask answer) Free stems = tt
-stems_turned events handle (OfDisk ask answer) (Resting store ignoring) stems = stems
-stems_turned events handle (OfDisk ask answer) (Working running) stems = stems_come events handle running (fed_in running.store running.work answer) stems
-stems_turned events handle (OfCore event) status stems = absurd event
+stems_turned events handle asked Free stems = tt
+stems_turned events handle asked (Resting store ignoring) stems = stems
+stems_turned events handle asked (Working running) stems = stems_come events handle running (fed_in running.store running.work (answered asked)) stems
 
 pub stems_replied : (events : List Event) (handle : ℕ) (reply : Reply) (status : Status) → Stems events handle status
     → Stems events handle (replied reply status)

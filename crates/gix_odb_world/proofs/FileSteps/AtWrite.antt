@@ -1,8 +1,7 @@
 -- A handle that is at a write after an event, whose file is made, was at it before.
-use Rattle.std.proofs.Common.{◌≡◌, inl, inr, ℕ, ◌<◌, Bool, true, false, Ok, Err, Result, refl, sym, ap, ◌∙◌, subst, arith}
+use Rattle.std.proofs.Common.{◌≡◌, inl, inr, ℕ, ◌<◌, Bool, true, false, Option, Ok, Err, Result, refl, sym, ap, ◌∙◌, subst, arith}
 use Rattle.std.specs.Prelude.{if◌then◌else◌, ◌==◌}
 use Rattle.std.proofs.lemmas.Bool.{eqb-true}
-use Rattle.odb_disk.specs.declared.ask.DiskAnswer.{DiskAnswer}
 use Rattle.gix_odb_loose.specs.declared.call.LooseCall.{LooseCall}
 use Rattle.gix_odb.specs.declared.call.Call.{Call}
 use Rattle.gix_odb.specs.declared.call.Reply.{Reply}
@@ -11,7 +10,7 @@ use Rattle.gix_odb_world.specs.declared.step.Outcome.TheVariants as outcomes
 use Rattle.gix_odb_world.specs.declared.step.Step.{Step}
 use Rattle.gix_odb_world.specs.declared.step.Step.TheVariants as steps
 use Rattle.gix_odb_world.specs.declared.work.Work.{Work}
-use Rattle.gix_odb_world.specs.Event.{Asked, OfNothing, OfDisk, OfCore}
+use Rattle.gix_odb_world.specs.Event.{Answer, Asked, answered}
 use Rattle.gix_odb_world.specs.Machines.{fed_in, write_in}
 use Rattle.gix_odb_world.specs.Status.{IsAtWrite, MakeCall, Running, Store, Status, Free, Resting, Working, after_turn_of, applied, come_to, gone_on, ignoring_from, opening_at, refuses_opening, replied, running_from, started, status_after, turned, with_status}
 use Rattle.gix_odb_world.proofs.MachineLaws.{HasNoFile}
@@ -58,7 +57,7 @@ module _ (store : Store) (begun : ℕ) where
   ended reply (Resting own mode) = no_write_resting own mode
   ended reply (Working running) = rests running.store running.ignoring (refuses_opening reply)
 
-  come_before : (running : Running) (answer : DiskAnswer) (result : Result Reply Work) → fed_in running.store running.work answer ≡ result
+  come_before : (running : Running) (answer : Option Answer) (result : Result Reply Work) → fed_in running.store running.work answer ≡ result
       → After (come_to running result) → Before (Working running)
   come_before running answer (Ok reply) is f = absurd (rests running.store running.ignoring (refuses_opening reply) f.at)
   come_before running answer (Err left) is f =
@@ -76,11 +75,9 @@ module _ (store : Store) (begun : ℕ) where
       ]
 
   turned_before : (asked : Asked) (status : Status) → After (turned asked status) → Before status
-  turned_before OfNothing status a = a.at
-  turned_before (OfDisk ask answer) Free a = a.at
-  turned_before (OfDisk ask answer) (Resting own mode) a = a.at
-  turned_before (OfDisk ask answer) (Working running) a = come_before running answer (fed_in running.store running.work answer) refl a
-  turned_before (OfCore event) status a = absurd event
+  turned_before asked Free a = a.at
+  turned_before asked (Resting own mode) a = a.at
+  turned_before asked (Working running) a = come_before running (answered asked) (fed_in running.store running.work (answered asked)) refl a
 
   ignoring_before : (status : Status) → Before (ignoring_from status) → Before status
   ignoring_before Free a = a

@@ -129,10 +129,12 @@ module _ (first : Volume) (events : List Event) (start : IsTree (tree_of first.s
         let later = hm.later in
         let at = at_write_next now e there handle hm.running hm.folder hm.at in
         let within = slice_get_within events now e there in
-        let writes : IsWriting first (take (now + 1) events) handle hm.running hm.folder = writing_at first events start lawful throughout (now + 1) handle hm.running hm.folder (omega (arith, within)) hm.at in
+        let writes : IsWriting first (take (now + 1) events) handle hm.running hm.folder =
+        writing_at first events start lawful throughout (now + 1) handle hm.running hm.folder (omega (arith, within)) hm.at in
         let stage = stage_of_made first events start lawful throughout handle made (now + 1) path hm writes in
         let past = makes_no_more writes.write writes.stage stage.0 hm.folder writes.is stage.1 in
-        let was = write_before hm.running.store hm.running.begun (status_of (take now events)) handle (now + 1) e.step e.outcome e.asked (omega (arith, later, soon)) (record { at = at; past = past }) in
+        let was =
+        write_before hm.running.store hm.running.begun (status_of (take now events)) handle (now + 1) e.step e.outcome e.asked (omega (arith, later, soon)) (record { at = at; past = past }) in
         let since = was.since in
         record {
           running = was.running;

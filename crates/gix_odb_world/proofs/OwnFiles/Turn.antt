@@ -20,12 +20,13 @@ use Rattle.gix_odb_loose.specs.declared.write_order.WriteStage.TheVariants as st
 use Rattle.gix_odb_world.specs.declared.step.Outcome.TheVariants as outcomes
 use Rattle.gix_odb_world.specs.Event.{Event}
 use Rattle.gix_odb_world.specs.Status.{status_of}
-use Rattle.gix_odb_world.specs.Headline.{IsLawful, Works, outcome_of}
+use Rattle.gix_odb_world.specs.Headline.{IsLawful, outcome_of}
 use Rattle.gix_odb_world.specs.Run.{IsTurnOf, disk_after, tree_at}
 use Rattle.gix_odb_world.specs.Running.{RunsThroughout}
 use Rattle.gix_odb_world.specs.Running.Write.{IsWriting, result_of_write, write_at}
 use Rattle.gix_odb_world.specs.Undisturbed.{HasMade}
 use Rattle.gix_odb_world.specs.Writing.{IsRename}
+use Rattle.gix_odb_world.proofs.DiskTurns.{CallsDisk, calls_disk}
 use Rattle.gix_odb_world.proofs.FileSteps.{WriterMoves, does_nothing}
 use Rattle.gix_odb_world.proofs.RunSteps.{there_in_front}
 use Rattle.gix_odb_world.proofs.WorkLaws.{ends_as_write}
@@ -38,8 +39,8 @@ module _ (first : Volume) (events : List Event) (start : IsTree (tree_of first.s
 
   module _ (now : ℕ) (e : Event) (there : slice_get events now ≡ Some e) where
     module _ (handle made : ℕ) (path : Path) (hm : HasMade first events handle made path now) (turn : IsTurnOf handle e.step) where
-      works : Works first (take now events) handle hm.running e
-      works = (lawful now e there).worked handle hm.running (record { step = turn; status = hm.at.works })
+      works : CallsDisk first (take now events) handle hm.running e
+      works = calls_disk first (take now events) handle hm.running e ((lawful now e there).worked handle hm.running (record { step = turn; status = hm.at.works }))
 
       writes : IsWriting first (take now events) handle hm.running hm.folder
       writes = writing_at first events start lawful throughout now handle hm.running hm.folder (within_events first events start lawful throughout now e there) hm.at

@@ -33,15 +33,16 @@ use Rattle.gix_odb_world.specs.declared.step.Outcome.{Outcome}
 use Rattle.gix_odb_world.specs.declared.step.Outcome.TheVariants as outcomes
 use Rattle.gix_odb_world.specs.declared.step.Step.{Step}
 use Rattle.gix_odb_world.specs.declared.step.Step.TheVariants as steps
-use Rattle.gix_odb_world.specs.Event.{Asked, Event}
+use Rattle.gix_odb_world.specs.Event.{Asked, Event, ToDisk, to_disk}
 use Rattle.gix_odb_world.specs.Machines.{write_in}
 use Rattle.gix_odb_world.specs.Status.{IsAtWrite, Running, Store, Status, Working, replied, status_after, status_of}
-use Rattle.gix_odb_world.specs.Headline.{IsLawful, Works, outcome_of}
+use Rattle.gix_odb_world.specs.Headline.{IsLawful, outcome_of}
 use Rattle.gix_odb_world.specs.Run.{IsTurnOf, change_by, disk_after, tree_at}
 use Rattle.gix_odb_world.specs.Running.{Knows, Runs, RunsThroughout}
 use Rattle.gix_odb_world.specs.Running.Write.{IsWriting, result_of_write, write_at}
 use Rattle.gix_odb_world.specs.Undisturbed.{HasMade}
 use Rattle.gix_odb_world.specs.Writing.{AskedAt, IsMaking, IsNewFile, ToWrite, head_to_write, name_to_write}
+use Rattle.gix_odb_world.proofs.DiskTurns.{CallsDisk, calls_disk}
 use Rattle.gix_odb_world.proofs.FileSteps.{IsNewAt, WriterMoves, new_at, writer_moves}
 use Rattle.gix_odb_world.proofs.FileSteps.AtWrite.{AtWrite, ended}
 use Rattle.gix_odb_world.proofs.RunSteps.{IsTurned, front_of_front, is_tree_at, there_in_front, there_in_whole}
@@ -165,15 +166,15 @@ module _ (first : Volume) (events : List Event) (start : IsTree (tree_of first.s
   -- what a turn of a write asks, by its stage
   pub ask_of_write : (place : ℕ) (e : Event) (handle : ℕ) (running : Running) (folder : LooseCall) → write_in running.work ≡ Some folder
       → (writes : IsWriting first (take place events) handle running folder)
-      (works : Works first (take place events) handle running e) → works.ask ≡ ask_at_stage writes.write writes.stage
+      (works : CallsDisk first (take place events) handle running e) → works.ask ≡ ask_at_stage writes.write writes.stage
   ask_of_write place e handle running folder write writes works =
-      let asks_it : Some works.ask ≡ Some (ask_at_stage writes.write writes.stage) =
-      sym works.asks ∙ (asks_as_write running.store running.work folder write ∙ ap disk_ask_of writes.is) in
+      let asks_it : Some (ToDisk works.ask) ≡ Some (ToDisk (ask_at_stage writes.write writes.stage)) =
+      sym works.asks ∙ (asks_as_write running.store running.work folder write ∙ ap (λ f. to_disk (disk_ask_of f)) writes.is) in
       cc asks_it
 
   pub moves_of : (place : ℕ) (e : Event) (handle : ℕ) (running : Running) (folder : LooseCall) → write_in running.work ≡ Some folder
       → (writes : IsWriting first (take place events) handle running folder)
-      (works : Works first (take place events) handle running e) (c : Change) → e.entry.change ≡ Some c
+      (works : CallsDisk first (take place events) handle running e) (c : Change) → e.entry.change ≡ Some c
       → WriterMoves (tree place) running.store.parts.objects writes.stage c
   moves_of place e handle running folder write writes works c is =
       let ask = ask_of_write place e handle running folder write writes works in
@@ -223,8 +224,8 @@ module _ (first : Volume) (events : List Event) (start : IsTree (tree_of first.s
       writes : IsWriting first (take place events) handle running folder
       writes = writing_at place handle running folder (within_events place e there) at
 
-      works : Works first (take place events) handle running e
-      works = (lawful place e there).worked handle running (record { step = turn; status = at.works })
+      works : CallsDisk first (take place events) handle running e
+      works = calls_disk first (take place events) handle running e ((lawful place e there).worked handle running (record { step = turn; status = at.works }))
 
       by_stage : (stage : WriteStage) → writes.stage ≡ stage → WriterMoves (tree place) objects stage (Rename from to)
           → (id : ObjectId) × (e.outcome ≡ outcomes.Reply (replies.Wrote id))

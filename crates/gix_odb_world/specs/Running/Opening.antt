@@ -8,8 +8,8 @@ use Rattle.gix_odb.specs.declared.open_state.OpenState.TheVariants as opens
 use Rattle.gix_odb_world.specs.declared.work.Work.TheVariants.{Opening}
 use Rattle.gix_odb_world.specs.AtWork.{OpenStore, Running}
 use Rattle.gix_odb_world.specs.Bound.{turn_bound}
-use Rattle.gix_odb_world.specs.Event.{Event}
-use Rattle.gix_odb_world.specs.Machine.{Machine}
+use Rattle.gix_odb_world.specs.Event.{Event, to_disk}
+use Rattle.gix_odb_world.specs.Machine.{Machine, by_answer}
 use Rattle.gix_odb_world.specs.Run.{FailedSince}
 
 -- before its one turn an opening has seen nothing
@@ -31,8 +31,8 @@ abbrev pub opening : Machine
 opening = record {
   State = OpenState;
   work = λ state. Opening state;
-  ask = λ store state. openings.ask_of store.parts.objects state;
-  feed = λ store state answer. result_of_opening (openings.fed store.slots state answer);
+  ask = λ store state. to_disk (openings.ask_of store.parts.objects state);
+  feed = λ store state answer. by_answer (result_of_opening state) (λ told. result_of_opening (openings.fed store.slots state told)) answer;
   writes = λ state. None;
   IsFor = λ task state. task ≡ OpenStore;
   bound = λ store task entries. turn_bound 0 (length (folder_list store.parts)) 0 entries None;

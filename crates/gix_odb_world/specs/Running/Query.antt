@@ -19,8 +19,8 @@ use Rattle.gix_odb.specs.LookOrder.{asking, round_at}
 use Rattle.gix_odb.specs.LookOrder as looks
 use Rattle.gix_odb.specs.Contents.{folder_list, sought}
 use Rattle.gix_odb_world.specs.Causes.{Sometime, LooseCause}
-use Rattle.gix_odb_world.specs.Event.{Event}
-use Rattle.gix_odb_world.specs.Machine.{Machine}
+use Rattle.gix_odb_world.specs.Event.{Event, to_disk}
+use Rattle.gix_odb_world.specs.Machine.{Machine, by_answer}
 use Rattle.gix_odb_world.specs.Run.{tree_at, FailedSince}
 use Rattle.gix_odb_world.specs.AtWork.{MakeCall, Running, Store, nothing_in_front}
 use Rattle.gix_odb_world.specs.Bound.{bound_of_call}
@@ -70,8 +70,8 @@ abbrev pub looking : Machine
 looking = record {
   State = LookState;
   work = λ state. Calling (Looking state);
-  ask = λ store state. looks.ask_of state;
-  feed = λ store state answer. looks.result_of (looks.fed store.parts.folders store.parts.limit state answer);
+  ask = λ store state. to_disk (looks.ask_of state);
+  feed = λ store state answer. by_answer (looks.result_of state) (λ told. looks.result_of (looks.fed store.parts.folders store.parts.limit state told)) answer;
   writes = λ state. None;
   IsFor = λ task state. task ≡ MakeCall (call_of state.head.query);
   bound = λ store task entries. bound_of_call store entries None;

@@ -21,8 +21,8 @@ use Rattle.gix_odb_loose.specs.declared.write_order.WriteStage.TheVariants as wr
 use Rattle.gix_odb.specs.declared.call.Reply.{Reply}
 use Rattle.gix_odb.specs.declared.call_state.CallState.TheVariants.{Writing}
 use Rattle.gix_odb_world.specs.declared.work.Work.TheVariants.{Calling}
-use Rattle.gix_odb_world.specs.Event.{Event}
-use Rattle.gix_odb_world.specs.Machine.{Machine}
+use Rattle.gix_odb_world.specs.Event.{Event, to_disk}
+use Rattle.gix_odb_world.specs.Machine.{Machine, by_answer}
 use Rattle.gix_odb_world.specs.AtWork.{MakeCall, Running, Task, nothing_in_front}
 use Rattle.gix_odb_world.specs.Bound.{bound_of_task}
 use Rattle.gix_odb_world.specs.Run.{tree_at}
@@ -113,8 +113,8 @@ abbrev pub writing : Machine
 writing = record {
   State = LooseCall;
   work = λ folder. Calling (Writing folder);
-  ask = λ store folder. disk_ask_of folder;
-  feed = λ store folder answer. result_of_write (loose_order.fed folder answer);
+  ask = λ store folder. to_disk (disk_ask_of folder);
+  feed = λ store folder answer. by_answer (Err folder) (λ told. result_of_write (loose_order.fed folder told)) answer;
   writes = λ folder. Some folder;
   IsFor = λ task folder. IsForWrite task folder;
   bound = λ store task entries. bound_of_task store task entries;
