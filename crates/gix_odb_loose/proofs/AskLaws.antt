@@ -26,7 +26,8 @@ module _ (job : WriteJob) where
   onward_push onward [] answer = refl
   onward_push onward (first ∷ given) answer = onward_push (onward_by job onward first) given answer
 
-  asks_push : (onward : Onward) (given : List DiskAnswer) (answer : DiskAnswer) → asks_along job onward (given ++ answer ∷ []) ≡ asks_along job onward given ++ next_asks job (onward_along job onward given)
+  asks_push : (onward : Onward) (given : List DiskAnswer) (answer : DiskAnswer)
+      → asks_along job onward (given ++ answer ∷ []) ≡ asks_along job onward given ++ next_asks job (onward_along job onward given)
   unfolding onward_along asks_along
   asks_push onward [] answer = append-nil (next_asks job onward)
   asks_push onward (first ∷ given) answer =
@@ -90,7 +91,8 @@ module _ (job : WriteJob) where
   asked_behind (Stage stage) x past asked = cc asked
   asked_behind (End end) x past asked = absurd (let none : x.ask ∷ asks_in past ≡ [] = asked ∙ nothing_behind end (answers_in past) in cc none)
 
-  both_next : (onward : Onward) (past others : List Exchange) (x y : Exchange) (more rest : List Exchange) → answers_in past ≡ answers_in others → Asked onward (past ++ x ∷ more) → Asked onward (others ++ y ∷ rest) → x.ask ≡ y.ask
+  both_next : (onward : Onward) (past others : List Exchange) (x y : Exchange) (more rest : List Exchange) → answers_in past ≡ answers_in others → Asked onward (past ++ x ∷ more)
+      → Asked onward (others ++ y ∷ rest) → x.ask ≡ y.ask
   both_next onward [] [] x y more rest same asked asked' = next_same onward x y more rest asked asked'
   both_next onward [] (b ∷ others) x y more rest same asked asked' = absurd (cc same)
   both_next onward (a ∷ past) [] x y more rest same asked asked' = absurd (cc same)
@@ -101,17 +103,20 @@ module _ (job : WriteJob) where
       (subst (λ (g : DiskAnswer). Asked (onward_by job onward g) (others ++ y ∷ rest)) (sym first) (asked_behind onward b (others ++ y ∷ rest) asked'))
 
   -- Two writes that were answered alike so far ask the same next, whatever comes after it.
-  pub next_ask_same : (onward other : Onward) (past others : List Exchange) (x y : Exchange) (more rest : List Exchange) → IsAlong job onward (past ++ x ∷ more) → IsAlong job other (others ++ y ∷ rest) → answers_in past ≡ answers_in others → x.ask ≡ y.ask
+  pub next_ask_same : (onward other : Onward) (past others : List Exchange) (x y : Exchange) (more rest : List Exchange) → IsAlong job onward (past ++ x ∷ more)
+      → IsAlong job other (others ++ y ∷ rest) → answers_in past ≡ answers_in others → x.ask ≡ y.ask
   next_ask_same onward other past others x y more rest along along' same = both_next (Stage job.stage) past others x y more rest same along.asked along'.asked
 
   -- ---- a call that has its data at hand
 
-  call_along : (now : WriteJob) (onward : Onward) (past : List Exchange) → now ≡ record job { stage = now.stage } → IsAlong job onward past → IsCallAlong job (written_to now (advance_to now onward)) past
+  call_along : (now : WriteJob) (onward : Onward) (past : List Exchange) → now ≡ record job { stage = now.stage } → IsAlong job onward past
+      → IsCallAlong job (written_to now (advance_to now onward)) past
   call_along now (Stage stage) past same along = (ap (λ (j : WriteJob). record j { stage = stage }) same, along)
   call_along now (End end) past same along = (end, ap (λ (j : WriteJob). wrote_by j.head end) same, along)
 
   -- The answer to its call leads it on.
-  pub IsCallAlong-next : (stage : CallStage) (past : List Exchange) (ask : DiskAsk) (answer : DiskAnswer) → stage_ask stage ≡ Some ask → IsCallAlong job stage past → IsCallAlong job (next_stage stage answer) (past ++ exchanged ask answer ∷ [])
+  pub IsCallAlong-next : (stage : CallStage) (past : List Exchange) (ask : DiskAsk) (answer : DiskAnswer) → stage_ask stage ≡ Some ask → IsCallAlong job stage past
+      → IsCallAlong job (next_stage stage answer) (past ++ exchanged ask answer ∷ [])
   IsCallAlong-next (calls.Testing path) past ask answer asked h = absurd h
   IsCallAlong-next (calls.Finding path limit) past ask answer asked h = absurd h
   IsCallAlong-next (calls.Heading path) past ask answer asked h = absurd h

@@ -90,7 +90,8 @@ module _ (job : WriteJob) where
   filled_left number written (answers.Refused error) = omega arith
 
   -- what is asked next, where a stage waits for no data
-  other_left : (stage : WriteStage) (given : DiskAnswer) → written_in stage ≡ None → writes_left n (onward_ask (supplied job (next_write job.head.size 0 stage given))) < writes_left n (wants.Disk stage)
+  other_left : (stage : WriteStage) (given : DiskAnswer) → written_in stage ≡ None
+      → writes_left n (onward_ask (supplied job (next_write job.head.size 0 stage given))) < writes_left n (wants.Disk stage)
   other_left (stages.Making number) given none = omega (arith, supplied_left (made_by number given), fewer_left n job.head.size (stages.Making number) 0 given tt)
   other_left (stages.Heading number) given none = omega (arith, supplied_left (headed_by number given), fewer_left n job.head.size (stages.Heading number) 0 given tt)
   other_left (stages.Filling number written) given none = absurd (cc none)
@@ -98,7 +99,8 @@ module _ (job : WriteJob) where
   other_left (stages.Moving number id) given none = omega (arith, supplied_left (moved_by number id given), fewer_left n job.head.size (stages.Moving number id) 0 given tt)
   other_left (stages.Removing number refusal) given none = omega arith
 
-  pub stage_left : (stage : WriteStage) (given : DiskAnswer) → writes_left n (onward_ask (supplied job (next_write job.head.size (length (piece_of job.head.size job.bytes (written_in stage))) stage given))) < writes_left n (wants.Disk stage)
+  pub stage_left : (stage : WriteStage) (given : DiskAnswer)
+      → writes_left n (onward_ask (supplied job (next_write job.head.size (length (piece_of job.head.size job.bytes (written_in stage))) stage given))) < writes_left n (wants.Disk stage)
   stage_left (stages.Making number) given = other_left (stages.Making number) given refl
   stage_left (stages.Heading number) given = other_left (stages.Heading number) given refl
   stage_left (stages.Filling number written) given = filled_left number written given

@@ -61,10 +61,12 @@ gives_object limit tree head id bytes time size fits within read =
 
 -- An object that was written is found: where its directory stands at its own names once the calls before the rename were made,
 -- a find in the state that the write left comes to it, whatever else is there.
-pub written_is_found : (store : Store) (kind : Kind) (size : ℕ) (hash : HashKind) (known : Option ObjectId) (source : Option (List ℕ)) (s : State) (new : Option State) (exchanges : List Exchange) (id : ObjectId)
+pub written_is_found : (store : Store) (kind : Kind) (size : ℕ) (hash : HashKind) (known : Option ObjectId) (source : Option (List ℕ)) (s : State) (new : Option State) (exchanges : List Exchange)
+    (id : ObjectId)
     → (writes : Writes (write_head store kind size) hash known source (Some s) new exchanges id) → size < 2 ^ 64 → IsWithin (store_limit store) size
     → ((at_rename : State) → left_by (Some s) writes.moved.before ≡ Some at_rename → StandsPlain (tree_of at_rename) (prefix_path (store_path store) id))
-    → (after : State) → new ≡ Some after → (Failed : Type 0) (result : Result (Option Object) Error) → Finds store id after Failed result → ComesTo Failed result (Some (record { kind = kind; bytes = writes.bytes }))
+    → (after : State) → new ≡ Some after → (Failed : Type 0) (result : Result (Option Object) Error) → Finds store id after Failed result
+    → ComesTo Failed result (Some (record { kind = kind; bytes = writes.bytes }))
 written_is_found store kind size hash known source s new exchanges id writes fits within plain after is Failed result finds =
     let back = writes.read_back in
     let head = write_head store kind size in

@@ -43,7 +43,8 @@ done_is : (made' : Result Change Refusal) → answers.Done ≡ write_answer made
 done_is (Ok change) e = (change, refl)
 done_is (Err refusal) e = absurd (cc e)
 
-stepped : (s : State) (ask : DiskAsk) (made' : Result Change Refusal) → answer_of (tree_of s) ask ≡ write_answer made' → change_of_ask (tree_of s) ask ≡ result_ok made' → answers.Done ≡ answer_of (tree_of s) ask → Stepped s ask made'
+stepped : (s : State) (ask : DiskAsk) (made' : Result Change Refusal) → answer_of (tree_of s) ask ≡ write_answer made' → change_of_ask (tree_of s) ask ≡ result_ok made'
+    → answers.Done ≡ answer_of (tree_of s) ask → Stepped s ask made'
 stepped s ask made' answer change given =
     let d = done_is made' (given ∙ answer) in
     record { change = d.0; is = d.1; leaves = ap (λ (c : Option Change). Some (written s c)) (change ∙ ap (λ (r : Result Change Refusal). result_ok r) d.1) }
@@ -52,7 +53,8 @@ new_file_stepped : (s : State) (path : Path) → IsGiven (Some s) (exchanged (as
 unfolding answer_of change_of_ask
 new_file_stepped s path given = stepped s (asks.NewFile path) (change_of_new_file (tree_of s) path) refl refl given
 
-append_stepped : (s : State) (path : Path) (bytes : List ℕ) → IsGiven (Some s) (exchanged (asks.Append path bytes) answers.Done) → Stepped s (asks.Append path bytes) (change_of_append (tree_of s) path bytes)
+append_stepped : (s : State) (path : Path) (bytes : List ℕ) → IsGiven (Some s) (exchanged (asks.Append path bytes) answers.Done)
+    → Stepped s (asks.Append path bytes) (change_of_append (tree_of s) path bytes)
 unfolding answer_of change_of_ask
 append_stepped s path bytes given = stepped s (asks.Append path bytes) (change_of_append (tree_of s) path bytes) refl refl given
 
@@ -75,7 +77,8 @@ record Holds (path : Path) (bytes : List ℕ) (left : Option State) : Type 0 whe
   file : HasFile (tree_of state) path spot bytes 0
 
 -- a tree after a change of a state, as one of its own
-to_tree : (s : State) (change : Change) (path spot : Path) (bytes : List ℕ) → IsTree (changed (tree_of s) change) → HasFile (changed (tree_of s) change) path spot bytes 0 → (left : Option State) → left ≡ Some (written s (Some change)) → Holds path bytes left
+to_tree : (s : State) (change : Change) (path spot : Path) (bytes : List ℕ) → IsTree (changed (tree_of s) change) → HasFile (changed (tree_of s) change) path spot bytes 0 → (left : Option State)
+    → left ≡ Some (written s (Some change)) → Holds path bytes left
 to_tree s change path spot bytes tree file left is =
     record {
       state = written s (Some change);
@@ -86,30 +89,35 @@ to_tree s change path spot bytes tree file left is =
     }
 
 -- it is made
-holds_new : (s : State) → IsTree (tree_of s) → (path : Path) → IsGiven (Some s) (exchanged (asks.NewFile path) answers.Done) → Holds path [] (state_told_after (Some s) (asks.NewFile path) answers.Done)
+holds_new : (s : State) → IsTree (tree_of s) → (path : Path) → IsGiven (Some s) (exchanged (asks.NewFile path) answers.Done)
+    → Holds path [] (state_told_after (Some s) (asks.NewFile path) answers.Done)
 holds_new s tree path given =
     let step = new_file_stepped s path given in
     let file = has_new_file (tree_of s) tree path step.change step.is in
     to_tree s step.change path file.0 [] (IsTree-changed (tree_of s) step.change tree (new_file_possible (tree_of s) tree path step.change step.is)) file.1 _ step.leaves
 
 -- a piece is appended
-holds_more : (path : Path) (bytes more : List ℕ) (left : Option State) → Holds path bytes left → IsGiven left (exchanged (asks.Append path more) answers.Done) → Holds path (bytes ++ more) (state_told_after left (asks.Append path more) answers.Done)
+holds_more : (path : Path) (bytes more : List ℕ) (left : Option State) → Holds path bytes left → IsGiven left (exchanged (asks.Append path more) answers.Done)
+    → Holds path (bytes ++ more) (state_told_after left (asks.Append path more) answers.Done)
 holds_more path bytes more left h given =
     let step = append_stepped h.state path more (subst (λ (o : Option State). IsGiven o (exchanged (asks.Append path more) answers.Done)) h.is given) in
     to_tree h.state step.change path h.spot (bytes ++ more) (IsTree-changed (tree_of h.state) step.change h.tree (append_possible (tree_of h.state) h.tree path step.change more step.is))
     (has_more (tree_of h.state) h.tree path h.spot bytes 0 h.file more step.change step.is) _ (ap (λ (o : Option State). state_told_after o (asks.Append path more) answers.Done) h.is ∙ step.leaves)
 
 -- pieces are appended
-holds_pieces : (path : Path) (pieces : List (List ℕ)) (bytes : List ℕ) (left : Option State) → Holds path bytes left → AreGiven left (map (λ piece. exchanged (asks.Append path piece) answers.Done) pieces)
+holds_pieces : (path : Path) (pieces : List (List ℕ)) (bytes : List ℕ) (left : Option State) → Holds path bytes left
+    → AreGiven left (map (λ piece. exchanged (asks.Append path piece) answers.Done) pieces)
     → Holds path (bytes ++ concat pieces) (left_by left (map (λ piece. exchanged (asks.Append path piece) answers.Done) pieces))
 unfolding AreGiven left_by
 holds_pieces path [] bytes left h given = subst (λ (b : List ℕ). Holds path b left) (sym (append-nil bytes)) h
 holds_pieces path (piece ∷ pieces) bytes left h given =
-    subst (λ (b : List ℕ). Holds path b (left_by (state_told_after left (asks.Append path piece) answers.Done) (map (λ p. exchanged (asks.Append path p) answers.Done) pieces))) (append_assoc bytes piece (concat pieces))
+    subst (λ (b : List ℕ). Holds path b (left_by (state_told_after left (asks.Append path piece) answers.Done) (map (λ p. exchanged (asks.Append path p) answers.Done) pieces)))
+    (append_assoc bytes piece (concat pieces))
     (holds_pieces path pieces (bytes ++ piece) (state_told_after left (asks.Append path piece) answers.Done) (holds_more path bytes piece left h given.0) given.1)
 
 -- a directory is made, or was there
-holds_there : (path folder : Path) (bytes : List ℕ) (left : Option State) (answer : DiskAnswer) → IsThere answer → Holds path bytes left → IsGiven left (exchanged (asks.MakeDir folder) answer) → Holds path bytes (state_told_after left (asks.MakeDir folder) answer)
+holds_there : (path folder : Path) (bytes : List ℕ) (left : Option State) (answer : DiskAnswer) → IsThere answer → Holds path bytes left → IsGiven left (exchanged (asks.MakeDir folder) answer)
+    → Holds path bytes (state_told_after left (asks.MakeDir folder) answer)
 holds_there path folder bytes left answers.Done there h given =
     let step = make_dir_stepped h.state folder (subst (λ (o : Option State). IsGiven o (exchanged (asks.MakeDir folder) answers.Done)) h.is given) in
     let change = make_dir_change (tree_of h.state) folder step.change step.is in
@@ -158,7 +166,8 @@ module _ (head : WriteHead) (number : ℕ) (id : ObjectId) (bytes : List ℕ) (s
   holds_made given =
       let x = exchanged (asks.NewFile temporary) answers.Done in
       let last = subst (λ (o : Option State). IsGiven o x) (tried_left number) (last_given (tried head number) x given) in
-      subst (Holds temporary []) (sym (left_by-push (Some s) (tried head number) x ∙ ap (λ (o : Option State). state_told_after o (asks.NewFile temporary) answers.Done) (tried_left number))) (holds_new s tree temporary last)
+      subst (Holds temporary []) (sym (left_by-push (Some s) (tried head number) x ∙ ap (λ (o : Option State). state_told_after o (asks.NewFile temporary) answers.Done) (tried_left number)))
+      (holds_new s tree temporary last)
 
   holds_headed : AreGiven (Some s) (headed head number) → Holds temporary (header_of head.kind head.size) (left_by (Some s) (headed head number))
   holds_headed given =
@@ -182,7 +191,8 @@ module _ (head : WriteHead) (number : ℕ) (id : ObjectId) (bytes : List ℕ) (s
       (holds_there temporary (prefix_path head.objects id) (header_of head.kind head.size ++ bytes) _ is.answer is.there (holds_filled is.before is.filled (before_given is.before x all)) (last_given is.before x all))
 
   -- an object that got its name is read back
-  pub moved_reads_back : (past : List Exchange) → (is : IsMoved head number id bytes past) → AreGiven (Some s) past → ReadsBack head number id bytes (left_by (Some s) is.before) (left_by (Some s) past)
+  pub moved_reads_back : (past : List Exchange) → (is : IsMoved head number id bytes past) → AreGiven (Some s) past
+      → ReadsBack head number id bytes (left_by (Some s) is.before) (left_by (Some s) past)
   moved_reads_back past is given =
       let to = loose_path head.objects id in
       let x = exchanged (asks.Rename temporary to) answers.Done in

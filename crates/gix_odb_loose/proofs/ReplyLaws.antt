@@ -100,7 +100,8 @@ module _ (path : Path) (limit : Option ℕ) (id : ObjectId) (tree : Tree) (given
   -- ---- a test of presence
 
   module _ (asked : AnswersAsk given (meta_answer (looked tree path true))) where
-    test_held : (result : Result Bool Error) → tested_by path given ≡ result → (answer : Answer) → answer_in (replies.Contains result) ≡ Some answer → Gives (read_of tree path) (λ bytes. Holds limit (jobs.Contains id) bytes answer)
+    test_held : (result : Result Bool Error) → tested_by path given ≡ result → (answer : Answer) → answer_in (replies.Contains result) ≡ Some answer
+        → Gives (read_of tree path) (λ bytes. Holds limit (jobs.Contains id) bytes answer)
     test_held (Ok true) is answer e =
         let same : Presence ≡ answer = cc e in
         subst (λ a. Gives (read_of tree path) (λ bytes. Holds limit (jobs.Contains id) bytes a)) same ((tested_by-Ok tree path given asked true is).0 refl)
@@ -125,23 +126,27 @@ module _ (path : Path) (limit : Option ℕ) (id : ObjectId) (tree : Tree) (given
 
 -- ---- each call
 
-asks_read : (path : Path) (ask : DiskAsk) (tree : Tree) (given : DiskAnswer) → Some (asks.Read path) ≡ Some ask → AnswersAsk given (answer_of tree ask) → AnswersAsk given (file_answer (read_of tree path))
+asks_read : (path : Path) (ask : DiskAsk) (tree : Tree) (given : DiskAnswer) → Some (asks.Read path) ≡ Some ask → AnswersAsk given (answer_of tree ask)
+    → AnswersAsk given (file_answer (read_of tree path))
 unfolding answer_of
 asks_read path ask tree given is asked = let same : asks.Read path ≡ ask = cc is in subst (λ a. AnswersAsk given (answer_of tree a)) (sym same) asked
 
-asks_look : (path : Path) (ask : DiskAsk) (tree : Tree) (given : DiskAnswer) → Some (asks.Look path true) ≡ Some ask → AnswersAsk given (answer_of tree ask) → AnswersAsk given (meta_answer (looked tree path true))
+asks_look : (path : Path) (ask : DiskAsk) (tree : Tree) (given : DiskAnswer) → Some (asks.Look path true) ≡ Some ask → AnswersAsk given (answer_of tree ask)
+    → AnswersAsk given (meta_answer (looked tree path true))
 unfolding answer_of
 asks_look path ask tree given is asked = let same : asks.Look path true ≡ ask = cc is in subst (λ a. AnswersAsk given (answer_of tree a)) (sym same) asked
 
 -- the reply of a write answers no find, and isn't its miss or its error
-says_advance : (path : Path) (limit : Option ℕ) (job : LooseJob) (tree : Tree) (Failed Wanting : Type 0) (write : WriteJob) (advance : Advance) (reply : LooseReply) → stage_reply (written_to write advance) ≡ Some reply → Says path limit job tree Failed Wanting reply
+says_advance : (path : Path) (limit : Option ℕ) (job : LooseJob) (tree : Tree) (Failed Wanting : Type 0) (write : WriteJob) (advance : Advance) (reply : LooseReply)
+    → stage_reply (written_to write advance) ≡ Some reply → Says path limit job tree Failed Wanting reply
 says_advance path limit job tree Failed Wanting write (advances.Stage stage) reply r = absurd (cc r)
 says_advance path limit job tree Failed Wanting write (advances.Reply answer) reply r =
     let same : replies.Wrote answer ≡ reply = cc r in
     subst (Says path limit job tree Failed Wanting) same (record { held = λ given e. absurd (cc e); missed = λ miss. absurd miss; refused = λ error e. absurd (cc e) })
 
 -- the reply says what the tree shows that answered the ask
-pub Says-fed : (store : Store) (job : LooseJob) (tree : Tree) (ask : DiskAsk) (given : DiskAnswer) (reply : LooseReply) → disk_ask_of (started store job) ≡ Some ask → AnswersAsk given (answer_of tree ask)
+pub Says-fed : (store : Store) (job : LooseJob) (tree : Tree) (ask : DiskAsk) (given : DiskAnswer) (reply : LooseReply) → disk_ask_of (started store job) ≡ Some ask
+    → AnswersAsk given (answer_of tree ask)
     → (Failed Wanting : Type 0) → (given ≡ answers.Refused disk_errors.Failed → Failed) → (given ≡ answers.Refused disk_errors.NoMemory → Wanting)
     → reply_of (fed (started store job) given) ≡ Some reply
     → Says (loose_path (store_path store) (id_asked (store_hash store) job)) (store_limit store) job tree Failed Wanting reply
@@ -162,7 +167,8 @@ Says-fed store (jobs.Header id) tree ask given reply is asked Failed Wanting fai
     (Says-header path (store_limit store) id tree given Failed Wanting failed wanting (asks_read path ask tree given is asked))
 Says-fed store (jobs.Write kind size bytes id) tree ask given reply is asked Failed Wanting failed wanting r =
     let write = begun store kind size bytes id in
-    says_advance (loose_path (store_path store) (id_asked (store_hash store) (jobs.Write kind size bytes id))) (store_limit store) (jobs.Write kind size bytes id) tree Failed Wanting write (advance_by write given) reply r
+    says_advance (loose_path (store_path store) (id_asked (store_hash store) (jobs.Write kind size bytes id))) (store_limit store) (jobs.Write kind size bytes id) tree Failed Wanting write
+    (advance_by write given) reply r
 
 -- ---- a disk in memory
 
@@ -223,7 +229,8 @@ asks_still store (jobs.Write kind size bytes id) ask is = let same : asks.NewFil
 
 -- The reply to what a disk in memory answers now says what its tree shows; an error by a failed call has a listed number,
 -- and none is for want of memory.
-pub Says-now : (store : Store) (job : LooseJob) (disk : Volume) (ask : DiskAsk) (reply : LooseReply) → disk_ask_of (started store job) ≡ Some ask → reply_of (fed (started store job) (answer_now disk ask)) ≡ Some reply
+pub Says-now : (store : Store) (job : LooseJob) (disk : Volume) (ask : DiskAsk) (reply : LooseReply) → disk_ask_of (started store job) ≡ Some ask
+    → reply_of (fed (started store job) (answer_now disk ask)) ≡ Some reply
     → Says (loose_path (store_path store) (id_asked (store_hash store) job)) (store_limit store) job (tree_of disk.state) (next_fails disk ≡ true) ⊥ reply
 Says-now store job disk ask reply is r =
     by_failing (next_fails disk) refl (subst (λ (a : DiskAnswer). reply_of (fed (started store job) a) ≡ Some reply) (answer_now-still disk ask (asks_still store job ask is)) r)

@@ -56,7 +56,6 @@ reading_kept : (o : Option State) (ask : DiskAsk) (given : DiskAnswer) → IsRea
 reading_kept None ask given reading = refl
 reading_kept (Some s) ask given reading = reading_state s ask given reading
 
-
 pub look_still : (path : Path) (ask : DiskAsk) → ask ≡ asks.Look path true → is_of_streams ask ≡ false
 look_still path ask is = ap is_of_streams is
 
@@ -91,7 +90,8 @@ weaker Failed Rises f (Err errors.Decode) answer h = h
 weaker Failed Rises f (Err (errors.OutOfMemory size)) answer h = h
 weaker Failed Rises f (Err (errors.SizeMismatch actual expected path)) answer h = h
 
-risen_answers : {A : Type 0} (read : Reading) (Holds : List ℕ → A → Type 0) (Failed Rises : Type 0) → (Failed → Rises) → (result : Result (Option A) Error) → AnswersRead read Holds Failed result → AnswersRead read Holds Rises result
+risen_answers : {A : Type 0} (read : Reading) (Holds : List ℕ → A → Type 0) (Failed Rises : Type 0) → (Failed → Rises) → (result : Result (Option A) Error) → AnswersRead read Holds Failed result
+    → AnswersRead read Holds Rises result
 risen_answers read Holds Failed Rises f result h =
     record { found = h.found; finds = λ x g. weaker Failed Rises f result (Some x) (h.finds x g); none = h.none; misses = λ e. weaker Failed Rises f result None (h.misses e) }
 
@@ -111,7 +111,8 @@ pair_object (Ok (Some x)) = refl
 pair_object (Ok None) = refl
 pair_object (Err error) = refl
 
-comes_object : (Failed : Type 0) (result : Result (Option (Kind × List ℕ)) Error) (answer : Option (Kind × List ℕ)) (object : Option Object) → object_result (Ok answer) ≡ Ok object → ComesTo Failed result answer
+comes_object : (Failed : Type 0) (result : Result (Option (Kind × List ℕ)) Error) (answer : Option (Kind × List ℕ)) (object : Option Object) → object_result (Ok answer) ≡ Ok object
+    → ComesTo Failed result answer
     → ComesTo Failed (object_result result) object
 comes_object Failed (Ok (Some x)) answer object is h = let same : object_result (Ok (Some x)) ≡ Ok object = ap (λ a. object_result (Ok a)) h ∙ is in cc same
 comes_object Failed (Ok None) answer object is h = let same : object_result (Ok None) ≡ Ok object = ap (λ a. object_result (Ok a)) h ∙ is in cc same
@@ -133,7 +134,8 @@ object_answers read limit Failed result h =
 
 -- ---- the replies of the three calls
 
-find_told : (state : Option State) (path : Path) (limit : Option ℕ) (given : DiskAnswer) (Rises : Type 0) → (given ≡ answers.Refused disk_errors.Failed → Rises) → IfSome state (λ s. AnswersAsk given (file_answer (read_of (tree_of s) path)))
+find_told : (state : Option State) (path : Path) (limit : Option ℕ) (given : DiskAnswer) (Rises : Type 0) → (given ≡ answers.Refused disk_errors.Failed → Rises)
+    → IfSome state (λ s. AnswersAsk given (file_answer (read_of (tree_of s) path)))
     → IfSome state (λ s. AnswersRead (read_of (tree_of s) path) (λ bytes object. HoldsObject limit bytes object.kind object.bytes) Rises (object_result (found_by path limit given)))
 find_told None path limit given Rises f told = tt
 find_told (Some s) path limit given Rises f told =
@@ -141,25 +143,29 @@ find_told (Some s) path limit given Rises f told =
     (risen_answers (read_of (tree_of s) path) (λ bytes x. HoldsObject limit bytes x.0 x.1) (given ≡ answers.Refused disk_errors.Failed) Rises f (found_by path limit given)
     (found_by-AnswersRead path limit (read_of (tree_of s) path) given told))
 
-find_refused : (state : Option State) (path : Path) (limit : Option ℕ) (given : DiskAnswer) (Rises : Type 0) → (given ≡ answers.Refused disk_errors.Failed → Rises) → IfSome state (λ s. AnswersAsk given (file_answer (read_of (tree_of s) path)))
+find_refused : (state : Option State) (path : Path) (limit : Option ℕ) (given : DiskAnswer) (Rises : Type 0) → (given ≡ answers.Refused disk_errors.Failed → Rises)
+    → IfSome state (λ s. AnswersAsk given (file_answer (read_of (tree_of s) path)))
     → (error : Error) → found_by path limit given ≡ Err error → FindCause path limit (GaveIn state path) Rises ⊤ error
 find_refused None path limit given Rises f told error e = found_by-Err_untold path (GaveIn None path) Rises ⊤ given f (λ _. tt) limit (λ _. tt) error e
 find_refused (Some s) path limit given Rises f told error e =
     found_by-Err path (GaveIn (Some s) path) Rises ⊤ given f (λ _. tt) limit (read_of (tree_of s) path) refl told error e
 
-header_told : (state : Option State) (path : Path) (given : DiskAnswer) (Rises : Type 0) → (given ≡ answers.Refused disk_errors.Failed → Rises) → IfSome state (λ s. AnswersAsk given (file_answer (read_of (tree_of s) path)))
+header_told : (state : Option State) (path : Path) (given : DiskAnswer) (Rises : Type 0) → (given ≡ answers.Refused disk_errors.Failed → Rises)
+    → IfSome state (λ s. AnswersAsk given (file_answer (read_of (tree_of s) path)))
     → IfSome state (λ s. AnswersRead (read_of (tree_of s) path) (λ bytes x. HoldsHeader bytes x.1 x.0) Rises (header_by path given))
 header_told None path given Rises f told = tt
 header_told (Some s) path given Rises f told =
     risen_answers (read_of (tree_of s) path) (λ bytes x. HoldsHeader bytes x.1 x.0) (given ≡ answers.Refused disk_errors.Failed) Rises f (header_by path given)
     (header_by-AnswersRead path (read_of (tree_of s) path) given told)
 
-header_refused : (state : Option State) (path : Path) (given : DiskAnswer) (Rises : Type 0) → (given ≡ answers.Refused disk_errors.Failed → Rises) → IfSome state (λ s. AnswersAsk given (file_answer (read_of (tree_of s) path)))
+header_refused : (state : Option State) (path : Path) (given : DiskAnswer) (Rises : Type 0) → (given ≡ answers.Refused disk_errors.Failed → Rises)
+    → IfSome state (λ s. AnswersAsk given (file_answer (read_of (tree_of s) path)))
     → (error : Error) → header_by path given ≡ Err error → HeaderCause path (GaveIn state path) Rises ⊤ error
 header_refused None path given Rises f told error e = header_by-Err_untold path (GaveIn None path) Rises ⊤ given f (λ _. tt) (λ _. tt) error e
 header_refused (Some s) path given Rises f told error e = header_by-Err path (GaveIn (Some s) path) Rises ⊤ given f (λ _. tt) (read_of (tree_of s) path) refl told error e
 
-test_told : (state : Option State) (path : Path) (given : DiskAnswer) → IfSome state (λ s. AnswersAsk given (meta_answer (looked (tree_of s) path true))) → (result : Result Bool Error) → tested_by path given ≡ result
+test_told : (state : Option State) (path : Path) (given : DiskAnswer) → IfSome state (λ s. AnswersAsk given (meta_answer (looked (tree_of s) path true))) → (result : Result Bool Error)
+    → tested_by path given ≡ result
     → IfSome state (λ s. IfOk result (λ there. IsTrue there ↔ LeadsToFile (tree_of s) path))
 test_told None path given told result e = tt
 test_told (Some s) path given told (Ok there) e = tested_by-Ok (tree_of s) path given told there e
@@ -167,7 +173,8 @@ test_told (Some s) path given told (Err error) e = tt
 
 -- ---- what the calls of a store answer, which go to the path of an object
 
-module _ (state : Option State) (store : Store) (id : ObjectId) (at : Path) (given : DiskAnswer) (Failed : Type 0) (same : at ≡ path_in store id) (cause : given ≡ answers.Refused disk_errors.Failed → Failed) where
+module _ (state : Option State) (store : Store) (id : ObjectId) (at : Path) (given : DiskAnswer) (Failed : Type 0) (same : at ≡ path_in store id)
+    (cause : given ≡ answers.Refused disk_errors.Failed → Failed) where
   -- a test of presence
   pub test_answers : IfSome state (λ s. AnswersAsk given (meta_answer (looked (tree_of s) at true))) → (result : Result Bool Error) → result ≡ tested_by at given
       → IfSome state (λ s. IfOk result (λ there. IsTrue there ↔ LeadsToFile (tree_of s) (path_in store id)))

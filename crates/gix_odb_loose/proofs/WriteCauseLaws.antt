@@ -77,7 +77,8 @@ module _ (head : WriteHead) (number : ℕ) where
     where
       by_answer : (answer : DiskAnswer) → IsThere answer → past ≡ h.before ++ exchanged (folder id) answer ∷ [] → DoneIn past (folder id) ⊎ TakenIn past (folder id)
       by_answer answers.Done there is = inl (subst (λ (xs : List Exchange). DoneIn xs (folder id)) (sym is) (last_in h.before (exchanged (folder id) answers.Done)))
-      by_answer (answers.Refused disk_errors.Exists) there is = inr (subst (λ (xs : List Exchange). TakenIn xs (folder id)) (sym is) (last_in h.before (exchanged (folder id) (answers.Refused disk_errors.Exists))))
+      by_answer (answers.Refused disk_errors.Exists) there is =
+          inr (subst (λ (xs : List Exchange). TakenIn xs (folder id)) (sym is) (last_in h.before (exchanged (folder id) (answers.Refused disk_errors.Exists))))
       by_answer (answers.Refused disk_errors.Absent) there is = absurd there
       by_answer (answers.Refused disk_errors.WrongKind) there is = absurd there
       by_answer (answers.Refused disk_errors.LinkLoop) there is = absurd there
@@ -97,8 +98,10 @@ module _ (head : WriteHead) (Named : ObjectId → Type 0) (SourceFailed : Type 0
   -- a cause stays one
   cause_stays : (past more : List Exchange) (error : Error) → Caused past error → Caused (past ++ more) error
   cause_stays past more error h =
-      WriteCause-wider head (RefusedIn past) (RefusedIn (past ++ more)) (TakenIn past) (TakenIn (past ++ more)) (DoneIn past) (DoneIn (past ++ more)) (λ ask making r. (r.0, Contains-append_left past more _ r.1, r.2)) (λ ask t. Contains-append_left past more _ t)
-      (λ ask d. Contains-append_left past more _ d) SourceFailed SourceFailed (λ f. f) Named Named (λ id n. n) (WantedIn past) (WantedIn (past ++ more)) (λ w. (w.0, Contains-append_left past more _ w.1)) Counted Counted (λ n k. k) error h
+      WriteCause-wider head (RefusedIn past) (RefusedIn (past ++ more)) (TakenIn past) (TakenIn (past ++ more)) (DoneIn past) (DoneIn (past ++ more))
+      (λ ask making r. (r.0, Contains-append_left past more _ r.1, r.2)) (λ ask t. Contains-append_left past more _ t)
+      (λ ask d. Contains-append_left past more _ d) SourceFailed SourceFailed (λ f. f) Named Named (λ id n. n) (WantedIn past) (WantedIn (past ++ more))
+      (λ w. (w.0, Contains-append_left past more _ w.1)) Counted Counted (λ n k. k) error h
 
   -- what the last answer shows
   module _ (stage : WriteStage) (past : List Exchange) where
@@ -106,7 +109,8 @@ module _ (head : WriteHead) (Named : ObjectId → Type 0) (SourceFailed : Type 0
     Shown So = IsAnswered head Named So stage past
 
     refused_in : (h : Shown IsRefused) → RefusedIn past (write_ask head h.piece stage)
-    refused_in h = (h.answer, subst (λ (xs : List Exchange). Contains xs (exchanged (write_ask head h.piece stage) h.answer)) (sym h.is) (last_in h.before (exchanged (write_ask head h.piece stage) h.answer)), h.so)
+    refused_in h =
+        (h.answer, subst (λ (xs : List Exchange). Contains xs (exchanged (write_ask head h.piece stage) h.answer)) (sym h.is) (last_in h.before (exchanged (write_ask head h.piece stage) h.answer)), h.so)
 
     wanted_in : Shown Wants → WantedIn past
     wanted_in h = (
@@ -120,7 +124,8 @@ module _ (head : WriteHead) (Named : ObjectId → Type 0) (SourceFailed : Type 0
     before_in So h x c = subst (λ (xs : List Exchange). Contains xs x) (sym h.is) (Contains-append_left h.before _ x c)
 
   -- the pieces that were appended
-  appends_other : (number : ℕ) (appended : List ℕ) (past : List Exchange) (actual : ℕ) → IsFilled head number appended past → CountsOther head.size appended actual → AppendsOther head (DoneIn past) actual
+  appends_other : (number : ℕ) (appended : List ℕ) (past : List Exchange) (actual : ℕ) → IsFilled head number appended past → CountsOther head.size appended actual
+      → AppendsOther head (DoneIn past) actual
   appends_other number appended past actual filled counted =
       record {
         number = number;

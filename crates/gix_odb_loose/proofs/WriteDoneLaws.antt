@@ -42,7 +42,8 @@ module _ (job : WriteJob) where
 
   -- ---- the next piece, or the end of the data
 
-  ended : (number written : ℕ) (past : List Exchange) (same : Bool) → Past job.bytes (if same then stages.Foldering number (name_of job) else stages.Removing number (refusals.SizeMismatch written)) past
+  ended : (number written : ℕ) (past : List Exchange) (same : Bool)
+      → Past job.bytes (if same then stages.Foldering number (name_of job) else stages.Removing number (refusals.SizeMismatch written)) past
       → HasDone job (if same then stages.Foldering number (name_of job) else stages.Removing number (refusals.SizeMismatch written)) past
   ended number written past true history = record { history = history; next = tt }
   ended number written past false history = record { history = history; next = tt }
@@ -87,7 +88,8 @@ module _ (job : WriteJob) where
   pub HasDone-next : (stage : WriteStage) (past : List Exchange) (answer : DiskAnswer) → HasDone job stage past
       → HasDoneTo job (next_in (record job { stage = stage }) answer) (past ++ exchanged (ask_in (record job { stage = stage })) answer ∷ [])
   HasDone-next stage past answer done =
-      settled_to (data_after stage (piece stage) answer (data_at job.bytes stage)) (next_write job.head.size (length (piece stage)) stage answer) (past ++ exchanged (write_ask job.head (piece stage) stage) answer ∷ [])
+      settled_to (data_after stage (piece stage) answer (data_at job.bytes stage)) (next_write job.head.size (length (piece stage)) stage answer)
+      (past ++ exchanged (write_ask job.head (piece stage) stage) answer ∷ [])
       (fed_next job stage answer done.next)
       (IsHistory-next job.head (GetsNameOf job) ⊥ (CountsOf job) stage (data_at job.bytes stage) (piece stage) past answer (counts job stage done.next) (next_piece job stage done.next) done.history)
 
@@ -111,7 +113,8 @@ module _ (job : WriteJob) where
       (done_along (next_in (record job { stage = stage }) x.answer) (before ++ x ∷ []) past next behind)
   done_along (End end) before (x ∷ past) done asked = absurd (none_asked end x past asked)
 
-  left_along : (onward : Onward) (past : List Exchange) → Asked onward past → length past + writes_left (length job.bytes) (onward_ask (onward_along job onward (answers_in past))) ≤ writes_left (length job.bytes) (onward_ask onward)
+  left_along : (onward : Onward) (past : List Exchange) → Asked onward past
+      → length past + writes_left (length job.bytes) (onward_ask (onward_along job onward (answers_in past))) ≤ writes_left (length job.bytes) (onward_ask onward)
   unfolding onward_along asks_along
   left_along onward [] asked = omega arith
   left_along (Stage stage) (x ∷ past) asked =
@@ -134,9 +137,11 @@ module _ (head : WriteHead) (hash : HashKind) (known : Option ObjectId) (bytes :
   IsAlong-done onward past along = subst (λ (o : Onward). HasDoneTo job o past) (sym along.reached) (done_along job (Stage (stages.Making 0)) [] past nothing_done along.asked)
 
   -- They are as many as the measure of its calls has gone down, at most.
-  pub IsAlong-left : (onward : Onward) (past : List Exchange) → IsAlong job onward past → length past + writes_left (length bytes) (onward_ask onward) ≤ writes_left (length bytes) (wants.Disk (stages.Making 0))
+  pub IsAlong-left : (onward : Onward) (past : List Exchange) → IsAlong job onward past
+      → length past + writes_left (length bytes) (onward_ask onward) ≤ writes_left (length bytes) (wants.Disk (stages.Making 0))
   IsAlong-left onward past along =
-      subst (λ (o : Onward). length past + writes_left (length bytes) (onward_ask o) ≤ writes_left (length bytes) (wants.Disk (stages.Making 0))) (sym along.reached) (left_along job (Stage (stages.Making 0)) past along.asked)
+      subst (λ (o : Onward). length past + writes_left (length bytes) (onward_ask o) ≤ writes_left (length bytes) (wants.Disk (stages.Making 0))) (sym along.reached)
+      (left_along job (Stage (stages.Making 0)) past along.asked)
 
 -- How many they are.
 pub HasDone-asked : (job : WriteJob) (stage : WriteStage) (past : List Exchange) → HasDone job stage past → HasAsked (length job.bytes) (length past) stage

@@ -86,7 +86,8 @@ module _ (head : WriteHead) (Named : ObjectId → Type 0) (SourceFailed : Type 0
 
       unheaded : (answer : DiskAnswer) → (answer ≡ answers.Done → ⊥) → Stopped number (refused_by (refusals.Io messages.WriteHeader) answer) (past ++ exchanged header answer ∷ [])
       unheaded answer undone =
-          refused_any head Named (stages.Heading number) [] [] past (refl, is, below) (Stopped number) (refusals.Io messages.WriteHeader) (λ xs row. row) (λ xs want. (stages.Heading number, refl, want)) tt answer undone
+          refused_any head Named (stages.Heading number) [] [] past (refl, is, below) (Stopped number) (refusals.Io messages.WriteHeader) (λ xs row. row)
+          (λ xs want. (stages.Heading number, refl, want)) tt answer undone
 
       headed_next : (answer : DiskAnswer) → Onwards [] (headed_by number answer) (past ++ exchanged header answer ∷ [])
       headed_next answers.Done = (
@@ -115,7 +116,8 @@ module _ (head : WriteHead) (Named : ObjectId → Type 0) (SourceFailed : Type 0
 
       unfilled : (answer : DiskAnswer) → (answer ≡ answers.Done → ⊥) → Stopped number (refused_by (refusals.Io messages.StreamData) answer) (past ++ exchanged append answer ∷ [])
       unfilled answer undone =
-          refused_any head Named (stages.Filling number written) appended piece past (so_far, is) (Stopped number) (refusals.Io messages.StreamData) (λ xs row. inr (written, row)) (λ xs want. (stages.Filling number written, refl, want)) tt answer undone
+          refused_any head Named (stages.Filling number written) appended piece past (so_far, is) (Stopped number) (refusals.Io messages.StreamData) (λ xs row. inr (written, row))
+          (λ xs want. (stages.Filling number written, refl, want)) tt answer undone
 
       all_whole : AreWhole is.pieces
       all_whole = cut_whole is.pieces is.cut (in_pieces.0, ap length is.whole ∙ sym so_far ∙ in_pieces.1)
@@ -138,7 +140,8 @@ module _ (head : WriteHead) (Named : ObjectId → Type 0) (SourceFailed : Type 0
           let long = length-append appended piece in
           (counts.1, (appended ++ piece, more_filled, inr (omega (arith, counts.0, so_far, long), ap (λ (n : ℕ). min n (2 ^ 64 - 1)) counts.0)))
 
-      filled_next : (answer : DiskAnswer) → Onwards (data_after (stages.Filling number written) piece answer appended) (filled_by number written head.size (length piece) answer) (past ++ exchanged append answer ∷ [])
+      filled_next : (answer : DiskAnswer)
+          → Onwards (data_after (stages.Filling number written) piece answer appended) (filled_by number written head.size (length piece) answer) (past ++ exchanged append answer ∷ [])
       filled_next answers.Done = fits_next (nat_le (written + length piece) head.size) refl
       filled_next (answers.Meta meta) = unfilled (answers.Meta meta) (λ e. cc e)
       filled_next (answers.Dir dir) = unfilled (answers.Dir dir) (λ e. cc e)
@@ -153,9 +156,11 @@ module _ (head : WriteHead) (Named : ObjectId → Type 0) (SourceFailed : Type 0
         abbrev folder : DiskAsk
         folder = asks.MakeDir (prefix_path head.objects id)
 
-        unfoldered : (answer : DiskAnswer) → IsRefused folder answer → refused_by refusals.IoRaw answer ≡ refusals.IoRaw → Stopped number (refused_by refusals.IoRaw answer) (past ++ exchanged folder answer ∷ [])
+        unfoldered : (answer : DiskAnswer) → IsRefused folder answer → refused_by refusals.IoRaw answer ≡ refusals.IoRaw
+            → Stopped number (refused_by refusals.IoRaw answer) (past ++ exchanged folder answer ∷ [])
         unfoldered answer refused same =
-            refused_as head Named (stages.Foldering number id) appended [] past (whole, named, is) (Stopped number) refusals.IoRaw (λ xs row. (id, row)) (λ xs want. (stages.Foldering number id, refl, want)) answer refused same
+            refused_as head Named (stages.Foldering number id) appended [] past (whole, named, is) (Stopped number) refusals.IoRaw (λ xs row. (id, row))
+            (λ xs want. (stages.Foldering number id, refl, want)) answer refused same
 
         there : (answer : DiskAnswer) → IsThere answer → IsFoldered head number id appended (past ++ exchanged folder answer ∷ [])
         there answer is_there = record { before = past; answer = answer; filled = is; there = is_there; is = refl }
@@ -174,7 +179,8 @@ module _ (head : WriteHead) (Named : ObjectId → Type 0) (SourceFailed : Type 0
         foldered_next (answers.Refused disk_errors.NotEmpty) = unfoldered (answers.Refused disk_errors.NotEmpty) tt refl
         foldered_next (answers.Refused disk_errors.Failed) = unfoldered (answers.Refused disk_errors.Failed) tt refl
         foldered_next (answers.Refused disk_errors.NoMemory) =
-            wanted head Named (stages.Foldering number id) appended [] past (whole, named, is) (Stopped number) refusals.IoRaw (λ xs row. (id, row)) (λ xs want. (stages.Foldering number id, refl, want))
+            wanted head Named (stages.Foldering number id) appended [] past (whole, named, is) (Stopped number) refusals.IoRaw (λ xs row. (id, row))
+            (λ xs want. (stages.Foldering number id, refl, want))
 
       -- the file gets its name
       module _ (is : IsFoldered head number id appended past) where
@@ -183,7 +189,8 @@ module _ (head : WriteHead) (Named : ObjectId → Type 0) (SourceFailed : Type 0
 
         unmoved : (answer : DiskAnswer) → (answer ≡ answers.Done → ⊥) → Stopped number (refused_by (refusals.Persist id) answer) (past ++ exchanged rename answer ∷ [])
         unmoved answer undone =
-            refused_any head Named (stages.Moving number id) appended [] past (whole, named, is) (Stopped number) (refusals.Persist id) (λ xs row. row) (λ xs want. (stages.Moving number id, refl, want)) tt answer undone
+            refused_any head Named (stages.Moving number id) appended [] past (whole, named, is) (Stopped number) (refusals.Persist id) (λ xs row. row)
+            (λ xs want. (stages.Moving number id, refl, want)) tt answer undone
 
         moved_next : (answer : DiskAnswer) → Onwards appended (moved_by number id answer) (past ++ exchanged rename answer ∷ [])
         moved_next answers.Done = (whole, named, (number, record { before = past; foldered = is; is = refl }))
@@ -205,19 +212,22 @@ module _ (head : WriteHead) (Named : ObjectId → Type 0) (SourceFailed : Type 0
   IsNextPiece stage piece = Unit {0}
 
   -- A write that stands at a stage is carried on by the answer to its ask.
-  pub IsHistory-next : (stage : WriteStage) (appended piece : List ℕ) (past : List Exchange) (answer : DiskAnswer) → CountsTooMany stage piece → IsNextPiece stage piece → IsHistory head Named SourceFailed Counted appended stage past
+  pub IsHistory-next : (stage : WriteStage) (appended piece : List ℕ) (past : List Exchange) (answer : DiskAnswer) → CountsTooMany stage piece → IsNextPiece stage piece
+      → IsHistory head Named SourceFailed Counted appended stage past
       → IsHistoryOnward head Named SourceFailed Counted (data_after stage piece answer appended) (next_write head.size (length piece) stage answer) (past ++ exchanged (write_ask head piece stage) answer ∷ [])
   IsHistory-next (stages.Making number) appended piece past answer counts next is =
       subst (λ (xs : List ℕ). Onwards xs (made_by number answer) (past ++ exchanged (asks.NewFile (temp_path head.objects number)) answer ∷ [])) (sym is.1) (made_next past number is.0 is.2 answer)
   IsHistory-next (stages.Heading number) appended piece past answer counts next is =
-      subst (λ (xs : List ℕ). Onwards xs (headed_by number answer) (past ++ exchanged (asks.Append (temp_path head.objects number) (header_of head.kind head.size)) answer ∷ [])) (sym is.0) (headed_next past number is.1 is.2 answer)
+      subst (λ (xs : List ℕ). Onwards xs (headed_by number answer) (past ++ exchanged (asks.Append (temp_path head.objects number) (header_of head.kind head.size)) answer ∷ [])) (sym is.0)
+      (headed_next past number is.1 is.2 answer)
   IsHistory-next (stages.Filling number written) appended piece past answer counts next is = filled_next past number written appended piece is.0 is.1 counts next.0 next.1 next.2 answer
   IsHistory-next (stages.Foldering number id) appended piece past answer counts next is = foldered_next past number id appended is.0 is.1 is.2 answer
   IsHistory-next (stages.Moving number id) appended piece past answer counts next is = moved_next past number id appended is.0 is.1 is.2 answer
   IsHistory-next (stages.Removing number refusal) appended piece past answer counts next is = inr (number, past, is, (answer, refl))
 
   -- The end of the data carries on a write that asks for data: they are as many as were told, or the write is refused.
-  pub IsHistory-ended : (number written : ℕ) (id : ObjectId) (appended : List ℕ) (past : List Exchange) → Named id → ((written ≡ head.size → ⊥) → (written < head.size) × Counted written) → IsHistory head Named SourceFailed Counted appended (stages.Filling number written) past
+  pub IsHistory-ended : (number written : ℕ) (id : ObjectId) (appended : List ℕ) (past : List Exchange) → Named id → ((written ≡ head.size → ⊥) → (written < head.size) × Counted written)
+      → IsHistory head Named SourceFailed Counted appended (stages.Filling number written) past
       → IsHistory head Named SourceFailed Counted appended (ended_with head.size id number written) past
   IsHistory-ended number written id appended past named counts is = by_length (written == head.size) refl
     where

@@ -15,7 +15,8 @@ use Rattle.gix_odb_loose.specs.declared.write_order.WriteStage.{WriteStage}
 use Rattle.gix_odb_loose.specs.declared.write_order.WriteStage.TheVariants as stages
 
 module _ (most : ℕ) where
-  tries_left : (number : ℕ) (more : Bool) → nat_lt (number + 1) temp_names ≡ more → writes_left most (if more then wants.Disk (stages.Making (number + 1)) else wants.Done (Err (refusals.Io messages.CreateTempFile))) < 6 + pieces_of most + (temp_names - number)
+  tries_left : (number : ℕ) (more : Bool) → nat_lt (number + 1) temp_names ≡ more
+      → writes_left most (if more then wants.Disk (stages.Making (number + 1)) else wants.Done (Err (refusals.Io messages.CreateTempFile))) < 6 + pieces_of most + (temp_names - number)
   tries_left number true e = let below : number + 1 < temp_names = grind (arith, common_steps, e) in omega (arith, below)
   tries_left number false e = omega arith
 
@@ -49,7 +50,8 @@ module _ (most : ℕ) where
   fits_left size number written len true e fewer = let less = fewer (grind (arith, common_steps, e)) in omega (arith, less)
   fits_left size number written len false e fewer = omega arith
 
-  filled_left : (size number written len : ℕ) (answer : DiskAnswer) → (written + len ≤ size → pieces_of (most - (written + len)) < pieces_of (most - written)) → writes_left most (filled_by number written size len answer) < 4 + pieces_of (most - written)
+  filled_left : (size number written len : ℕ) (answer : DiskAnswer) → (written + len ≤ size → pieces_of (most - (written + len)) < pieces_of (most - written))
+      → writes_left most (filled_by number written size len answer) < 4 + pieces_of (most - written)
   filled_left size number written len answers.Done fewer = fits_left size number written len (nat_le (written + len) size) refl fewer
   filled_left size number written len (answers.Meta meta) fewer = omega arith
   filled_left size number written len (answers.Dir dir) fewer = omega arith
@@ -87,7 +89,8 @@ module _ (most : ℕ) where
   LeavesFewer size (stages.Filling number written) len = written + len ≤ size → pieces_of (most - (written + len)) < pieces_of (most - written)
   LeavesFewer size stage len = Unit {0}
 
-  pub fewer_left : (size : ℕ) (stage : WriteStage) (len : ℕ) (answer : DiskAnswer) → LeavesFewer size stage len → writes_left most (next_write size len stage answer) < writes_left most (wants.Disk stage)
+  pub fewer_left : (size : ℕ) (stage : WriteStage) (len : ℕ) (answer : DiskAnswer) → LeavesFewer size stage len
+      → writes_left most (next_write size len stage answer) < writes_left most (wants.Disk stage)
   fewer_left size (stages.Making number) len answer fewer = made_left number answer
   fewer_left size (stages.Heading number) len answer fewer = headed_left number answer
   fewer_left size (stages.Filling number written) len answer fewer = filled_left size number written len answer fewer

@@ -57,7 +57,8 @@ module _ (head : WriteHead) (Named : ObjectId → Type 0) (number : ℕ) where
     in_stopped (refusals.SizeMismatch actual) past h = in_filled h.1.0 past h.1.1
     in_stopped refusals.NoMemory past h = in_answered Wants h.0 past h.1 h.2
 
-    pub history_makes : (stage : WriteStage) (appended : List ℕ) (past : List Exchange) → number_made stage ≡ Some number → IsHistory head Named SourceFailed Counted appended stage past → Contains past making
+    pub history_makes : (stage : WriteStage) (appended : List ℕ) (past : List Exchange) → number_made stage ≡ Some number → IsHistory head Named SourceFailed Counted appended stage past
+        → Contains past making
     history_makes (stages.Making n) appended past e h = absurd (cc e)
     history_makes (stages.Heading n) appended past e h = in_well (stages.Heading n) appended past e h
     history_makes (stages.Filling n written) appended past e h = in_well (stages.Filling n written) appended past e h

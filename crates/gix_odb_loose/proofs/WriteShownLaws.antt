@@ -48,7 +48,8 @@ module _ (head : WriteHead) (Named : ObjectId → Type 0) where
     tried_all zero few = All-nil P
     tried_all (suc n) few = All-push P (tried head n) _ (tried_all n (omega (arith, few))) (makes n (omega (arith, few)) (answers.Refused disk_errors.Exists) refl)
 
-    making_all : (number : ℕ) (So : DiskAsk → DiskAnswer → Type 0) → ((ask : DiskAsk) (answer : DiskAnswer) → So ask answer → is_done answer ≡ false) → (past : List Exchange) → IsAnswered head Named So (stages.Making number) past → All P past
+    making_all : (number : ℕ) (So : DiskAsk → DiskAnswer → Type 0) → ((ask : DiskAsk) (answer : DiskAnswer) → So ask answer → is_done answer ≡ false) → (past : List Exchange)
+        → IsAnswered head Named So (stages.Making number) past → All P past
     making_all number So isnt past h =
         subst (All P) (sym h.is)
         (All-push P h.before (exchanged (asks.NewFile (temp_path head.objects number)) h.answer) (subst (All P) (sym h.well.2) (tried_all number (omega (arith, h.well.0)))) (makes number h.well.0 h.answer (isnt _ h.answer h.so)))
@@ -64,7 +65,8 @@ module _ (head : WriteHead) (Named : ObjectId → Type 0) where
     unmade_all refusals.NoMemory past h = making_all h.0 Wants unwanted past h.1
 
     -- after it is made
-    module _ (number : ℕ) (is_made : number < temp_names → P (exchanged (asks.NewFile (temp_path head.objects number)) answers.Done)) (appends : (bytes : List ℕ) (answer : DiskAnswer) → P (exchanged (asks.Append (temp_path head.objects number) bytes) answer))
+    module _ (number : ℕ) (is_made : number < temp_names → P (exchanged (asks.NewFile (temp_path head.objects number)) answers.Done))
+        (appends : (bytes : List ℕ) (answer : DiskAnswer) → P (exchanged (asks.Append (temp_path head.objects number) bytes) answer))
         (folders : (id : ObjectId) → Named id → (answer : DiskAnswer) → P (exchanged (asks.MakeDir (prefix_path head.objects id)) answer))
         (renames : (id : ObjectId) → Named id → (answer : DiskAnswer) → is_done answer ≡ false → P (exchanged (asks.Rename (temp_path head.objects number) (loose_path head.objects id)) answer)) where
       made_all : number < temp_names → All P (made head number)
@@ -87,17 +89,20 @@ module _ (head : WriteHead) (Named : ObjectId → Type 0) where
       well_all (stages.Moving n id) appended past e h = let same : n ≡ number = cc e in foldered_all id appended past h.1 (subst (λ (m : ℕ). IsFoldered head m id appended past) same h.2)
       well_all (stages.Removing n refusal) appended past e h = absurd h
 
-      last_of : (stage : WriteStage) (appended piece : List ℕ) (past : List Exchange) (answer : DiskAnswer) → number_made stage ≡ Some number → GoesWell head Named appended stage past → is_done answer ≡ false → P (exchanged (write_ask head piece stage) answer)
+      last_of : (stage : WriteStage) (appended piece : List ℕ) (past : List Exchange) (answer : DiskAnswer) → number_made stage ≡ Some number → GoesWell head Named appended stage past
+          → is_done answer ≡ false → P (exchanged (write_ask head piece stage) answer)
       last_of (stages.Making n) appended piece past answer e h isnt_done = absurd (cc e)
       last_of (stages.Heading n) appended piece past answer e h isnt_done =
           let same : n ≡ number = cc e in subst (λ (m : ℕ). P (exchanged (asks.Append (temp_path head.objects m) (header_of head.kind head.size)) answer)) (sym same) (appends (header_of head.kind head.size) answer)
-      last_of (stages.Filling n written) appended piece past answer e h isnt_done = let same : n ≡ number = cc e in subst (λ (m : ℕ). P (exchanged (asks.Append (temp_path head.objects m) piece) answer)) (sym same) (appends piece answer)
+      last_of (stages.Filling n written) appended piece past answer e h isnt_done =
+          let same : n ≡ number = cc e in subst (λ (m : ℕ). P (exchanged (asks.Append (temp_path head.objects m) piece) answer)) (sym same) (appends piece answer)
       last_of (stages.Foldering n id) appended piece past answer e h isnt_done = folders id h.1 answer
       last_of (stages.Moving n id) appended piece past answer e h isnt_done =
           let same : n ≡ number = cc e in subst (λ (m : ℕ). P (exchanged (asks.Rename (temp_path head.objects m) (loose_path head.objects id)) answer)) (sym same) (renames id h.1 answer isnt_done)
       last_of (stages.Removing n refusal) appended piece past answer e h isnt_done = absurd h
 
-      answered_all : (So : DiskAsk → DiskAnswer → Type 0) → ((ask : DiskAsk) (answer : DiskAnswer) → So ask answer → is_done answer ≡ false) → (stage : WriteStage) (past : List Exchange) → number_made stage ≡ Some number → IsAnswered head Named So stage past → All P past
+      answered_all : (So : DiskAsk → DiskAnswer → Type 0) → ((ask : DiskAsk) (answer : DiskAnswer) → So ask answer → is_done answer ≡ false) → (stage : WriteStage) (past : List Exchange)
+          → number_made stage ≡ Some number → IsAnswered head Named So stage past → All P past
       answered_all So isnt stage past e h =
           subst (All P) (sym h.is) (All-push P h.before _ (well_all stage h.appended h.before e h.well) (last_of stage h.appended h.piece h.before h.answer e h.well (isnt _ h.answer h.so)))
 
@@ -111,7 +116,8 @@ module _ (head : WriteHead) (Named : ObjectId → Type 0) where
       stopped_all SourceFailed Counted (refusals.SizeMismatch actual) past h = filled_all h.1.0 past h.1.1
       stopped_all SourceFailed Counted refusals.NoMemory past h = answered_all Wants unwanted h.0 past h.1 h.2
 
-      pub history_all : (SourceFailed : Type 0) (Counted : ℕ → Type 0) (stage : WriteStage) (appended : List ℕ) (past : List Exchange) → number_made stage ≡ Some number → IsHistory head Named SourceFailed Counted appended stage past → All P past
+      pub history_all : (SourceFailed : Type 0) (Counted : ℕ → Type 0) (stage : WriteStage) (appended : List ℕ) (past : List Exchange) → number_made stage ≡ Some number
+          → IsHistory head Named SourceFailed Counted appended stage past → All P past
       history_all SourceFailed Counted (stages.Making n) appended past e h = absurd (cc e)
       history_all SourceFailed Counted (stages.Heading n) appended past e h = well_all (stages.Heading n) appended past e h
       history_all SourceFailed Counted (stages.Filling n written) appended past e h = well_all (stages.Filling n written) appended past e h
@@ -120,7 +126,8 @@ module _ (head : WriteHead) (Named : ObjectId → Type 0) where
       history_all SourceFailed Counted (stages.Removing n refusal) appended past e h =
           let same : n ≡ number = cc e in stopped_all SourceFailed Counted refusal past (subst (λ (m : ℕ). IsStopped head Named SourceFailed Counted m refusal past) same h)
 
-      pub moved_all : (id : ObjectId) (appended : List ℕ) (past : List Exchange) → Named id → P (exchanged (asks.Rename (temp_path head.objects number) (loose_path head.objects id)) answers.Done) → IsMoved head number id appended past → All P past
+      pub moved_all : (id : ObjectId) (appended : List ℕ) (past : List Exchange) → Named id → P (exchanged (asks.Rename (temp_path head.objects number) (loose_path head.objects id)) answers.Done)
+          → IsMoved head number id appended past → All P past
       moved_all id appended past named last h = subst (All P) (sym h.is) (All-push P h.before _ (foldered_all id appended h.before named h.foldered) last)
 
   -- ---- no rename
@@ -144,11 +151,15 @@ module _ (head : WriteHead) (Named : ObjectId → Type 0) where
     -- no rename was done before the end, and no file made but the temporary file
     module _ (appended : List ℕ) (past : List Exchange) where
       unnamed_by : (stage : WriteStage) (number : ℕ) → number_made stage ≡ Some number → IsHistory head Named SourceFailed Counted appended stage past → RenamedNothing past
-      unnamed_by stage number e h = history_all Unnamed (λ n below answer isnt_done. refl) number (λ below. refl) (λ bytes answer. refl) (λ id named answer. refl) (λ id named answer isnt_done. isnt_done) SourceFailed Counted stage appended past e h
+      unnamed_by stage number e h =
+          history_all Unnamed (λ n below answer isnt_done. refl) number (λ below. refl) (λ bytes answer. refl) (λ id named answer. refl)
+          (λ id named answer isnt_done. isnt_done) SourceFailed Counted stage appended past e h
 
-      made_by : (stage : WriteStage) (number : ℕ) → number_made stage ≡ Some number → IsHistory head Named SourceFailed Counted appended stage past → MadeOnly (Some (temp_path head.objects number)) past
+      made_by : (stage : WriteStage) (number : ℕ) → number_made stage ≡ Some number → IsHistory head Named SourceFailed Counted appended stage past
+          → MadeOnly (Some (temp_path head.objects number)) past
       made_by stage number e h =
-          history_all (Made (Some (temp_path head.objects number))) (λ n below answer isnt_done. not_made _ _ answer isnt_done) number (λ below. inr refl) (λ bytes answer. inl refl) (λ id named answer. inl refl) (λ id named answer isnt_done. inl refl) SourceFailed Counted stage appended past e h
+          history_all (Made (Some (temp_path head.objects number))) (λ n below answer isnt_done. not_made _ _ answer isnt_done) number (λ below. inr refl) (λ bytes answer. inl refl)
+          (λ id named answer. inl refl) (λ id named answer isnt_done. inl refl) SourceFailed Counted stage appended past e h
 
       pub history_unnamed : (stage : WriteStage) → IsHistory head Named SourceFailed Counted appended stage past → RenamedNothing past
       history_unnamed (stages.Making number) h = subst (All Unnamed) (sym h.2) (tried_all Unnamed (λ n below answer isnt_done. refl) number (omega (arith, h.0)))
@@ -168,7 +179,8 @@ module _ (head : WriteHead) (Named : ObjectId → Type 0) where
 
     -- some exchanges, and the removal
     module _ (P : Exchange → Type 0) (before past : List Exchange) where
-      removed_all : (number : ℕ) → ((answer : DiskAnswer) → P (exchanged (asks.Remove (temp_path head.objects number)) answer)) → All P before → IsRemovedAfter head (Some number) before past → All P past
+      removed_all : (number : ℕ) → ((answer : DiskAnswer) → P (exchanged (asks.Remove (temp_path head.objects number)) answer)) → All P before → IsRemovedAfter head (Some number) before past
+          → All P past
       removed_all number removes all h = subst (All P) (sym h.1) (All-push P before _ all (removes h.0))
 
     cleared : (number : ℕ) (before past : List Exchange) → MadeOnly (Some (temp_path head.objects number)) before → IsRemovedAfter head (Some number) before past → LeavesNothing head past
@@ -213,9 +225,11 @@ module _ (head : WriteHead) (Named : ObjectId → Type 0) where
     abbrev Own : ℕ → Exchange → Type 0
     Own number x = IsOwn head Named number x.ask
 
-    history_own : (stage : WriteStage) (number : ℕ) (appended : List ℕ) (past : List Exchange) → number_made stage ≡ Some number → IsHistory head Named SourceFailed Counted appended stage past → All (Own number) past
+    history_own : (stage : WriteStage) (number : ℕ) (appended : List ℕ) (past : List Exchange) → number_made stage ≡ Some number → IsHistory head Named SourceFailed Counted appended stage past
+        → All (Own number) past
     history_own stage number appended past e h =
-        history_all (Own number) (λ n below answer isnt_done. (n, below, refl)) number (λ below. (number, below, refl)) (λ bytes answer. refl) (λ id named answer. (id, named, refl)) (λ id named answer isnt_done. (refl, (id, named, refl))) SourceFailed Counted stage appended past e h
+        history_all (Own number) (λ n below answer isnt_done. (n, below, refl)) number (λ below. (number, below, refl)) (λ bytes answer. refl) (λ id named answer. (id, named, refl))
+        (λ id named answer isnt_done. (refl, (id, named, refl))) SourceFailed Counted stage appended past e h
 
     pub refused_own : (refusal : Refusal) (past : List Exchange) → IsRefusedRun head Named SourceFailed Counted refusal past → AreOwn head Named past
     refused_own refusal past run =
@@ -227,8 +241,10 @@ module _ (head : WriteHead) (Named : ObjectId → Type 0) where
     pub broken_own : (past : List Exchange) → IsBrokenRun head Named SourceFailed Counted past → AreOwn head Named past
     broken_own past run = by_stage run.stage run.history run.removed
       where
-        by_number : (stage : WriteStage) (number : ℕ) → number_made stage ≡ Some number → IsHistory head Named SourceFailed Counted run.appended stage run.before → IsRemovedAfter head (Some number) run.before past → AreOwn head Named past
-        by_number stage number e h removed = record { number = number; each = removed_all (Own number) run.before past number (λ answer. refl) (history_own stage number run.appended run.before e h) removed }
+        by_number : (stage : WriteStage) (number : ℕ) → number_made stage ≡ Some number → IsHistory head Named SourceFailed Counted run.appended stage run.before
+            → IsRemovedAfter head (Some number) run.before past → AreOwn head Named past
+        by_number stage number e h removed =
+            record { number = number; each = removed_all (Own number) run.before past number (λ answer. refl) (history_own stage number run.appended run.before e h) removed }
 
         by_stage : (stage : WriteStage) → IsHistory head Named SourceFailed Counted run.appended stage run.before → IsRemovedAfter head (number_made stage) run.before past → AreOwn head Named past
         by_stage (stages.Making number) h removed =
@@ -243,6 +259,8 @@ module _ (head : WriteHead) (Named : ObjectId → Type 0) where
   moved_own number id appended past named h =
       record {
         number = number;
-        each = moved_all (λ (x : Exchange). IsOwn head Named number x.ask) (λ n below answer isnt_done. (n, below, refl)) number (λ below. (number, below, refl)) (λ bytes answer. refl) (λ i n answer. (i, n, refl)) (λ i n answer isnt_done. (refl, (i, n, refl))) id appended past named
+        each =
+            moved_all (λ (x : Exchange). IsOwn head Named number x.ask) (λ n below answer isnt_done. (n, below, refl)) number (λ below. (number, below, refl)) (λ bytes answer. refl)
+            (λ i n answer. (i, n, refl)) (λ i n answer isnt_done. (refl, (i, n, refl))) id appended past named
             (refl, (id, named, refl)) h;
       }

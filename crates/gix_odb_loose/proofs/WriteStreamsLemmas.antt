@@ -42,7 +42,8 @@ refused_any P (Ok x) p = tt
 refused_any P (Err error) p = p
 
 -- a read that took some bytes, which are lost where there is no memory to keep them
-pub loses_read : (most count faults middle now : ℕ) (left rest last : Option (List ℕ)) (kept buffer : List ℕ) → Draws left rest kept → length kept + count ≤ most → Reads rest last buffer (Ok count) → faults ≤ middle → middle ≤ now
+pub loses_read : (most count faults middle now : ℕ) (left rest last : Option (List ℕ)) (kept buffer : List ℕ) → Draws left rest kept → length kept + count ≤ most → Reads rest last buffer (Ok count)
+    → faults ≤ middle → middle ≤ now
     → Loses most left last faults now
 loses_read most count faults middle now left rest last kept buffer drawn few r first second =
     record {

@@ -57,7 +57,8 @@ IsStopped head Named SourceFailed Counted number (refusals.Io messages.StreamDat
     (SourceFailed × ((appended : List ℕ) × IsFilled head number appended past)) ⊎ ((written : ℕ) × IsAnswered head Named IsRefused (stages.Filling number written) past)
 IsStopped head Named SourceFailed Counted number refusals.IoRaw past = (id : ObjectId) × IsAnswered head Named IsRefused (stages.Foldering number id) past
 IsStopped head Named SourceFailed Counted number (refusals.Persist id) past = IsAnswered head Named IsRefused (stages.Moving number id) past
-IsStopped head Named SourceFailed Counted number (refusals.SizeMismatch actual) past = Counted actual × ((appended : List ℕ) × IsFilled head number appended past × CountsOther head.size appended actual)
+IsStopped head Named SourceFailed Counted number (refusals.SizeMismatch actual) past =
+    Counted actual × ((appended : List ℕ) × IsFilled head number appended past × CountsOther head.size appended actual)
 IsStopped head Named SourceFailed Counted number refusals.NoMemory past = (stage : WriteStage) × (number_made stage ≡ Some number) × IsAnswered head Named Wants stage past
 
 -- The exchanges of a write, and the data that they appended, when it stands at a stage: all went well, or it was refused.

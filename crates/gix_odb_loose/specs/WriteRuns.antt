@@ -37,7 +37,8 @@ write_head store kind size = record { objects = store_path store; kind = kind; s
 -- for the paths that an error tells.
 abbrev pub IsRefusedWrite : WriteHead → (Named : ObjectId → Type 0) (SourceFailed : Type 0) (Counted : ℕ → Type 0) → List Exchange → Error → Type 0
 IsRefusedWrite head Named SourceFailed Counted exchanges error =
-    ((refusal : Refusal) × IsRefusedRun head Named SourceFailed Counted refusal exchanges × ((error ≡ error_from head refusal) ⊎ (error ≡ errors.NoMemory))) ⊎ (IsBrokenRun head Named SourceFailed Counted exchanges × (error ≡ errors.NoMemory))
+    ((refusal : Refusal) × IsRefusedRun head Named SourceFailed Counted refusal exchanges × ((error ≡ error_from head refusal) ⊎ (error ≡ errors.NoMemory))) ⊎
+    (IsBrokenRun head Named SourceFailed Counted exchanges × (error ≡ errors.NoMemory))
 
 -- the object gets this id, where the source tells its data
 abbrev pub NamedFrom : WriteHead → HashKind → (known : Option ObjectId) → Option (List ℕ) → ObjectId → Type 0

@@ -1,8 +1,9 @@
 //! A folder of loose objects: a file for each, with a header and then the data.
 //!
 //! What a call finds is what the file at the object's path holds; nothing at that path is no error, and each
-//! error has its cause. `LooseCall` is the order of work of every call, one call of the disk at a time: the finding
-//! calls of `Store` are loops over it, and its writing calls go through the same stages while they read their data.
+//! error has its cause. `LooseCall` is the order of work of every call, one call of the disk at a time. The finding calls
+//! of `Store` make the one call of the disk that it names, and read the answer by the same functions; the writing calls
+//! go through the same stages while they read their data.
 //! Read `store` first; `specs/LooseFile.antt` says what a file holds. The calls that write stand in `store_writes`, the
 //! machine of a write in `write_order`; `write_at_hand` and `write_streamed` hand it its data. `find` and `write` have
 //! the errors.
@@ -29,3 +30,4 @@ mod write_streamed;
 
 pub use call::{LooseAsk, LooseCall, LooseJob, LooseReply};
 pub use store::{Options, Store};
+pub use write_order::PIECE_SIZE;

@@ -18,7 +18,8 @@ use odb_base::{ByteList, NoMemory, PathText};
 use odb_disk::{DiskAnswer, DiskAsk, DiskError};
 use std::alloc::Global;
 
-/// The most bytes of one append. Each piece is held in memory whole, and each costs a call of the disk.
+/// The most bytes of one append: `piece_size` of `specs/WritePieces.antt`. Each piece is held in memory whole, and
+/// each costs a call of the disk.
 pub const PIECE_SIZE: u64 = 65_536;
 
 /// How many temporary names are tried: enough for the writes of one time, and a write ends soon where all are taken, by

@@ -24,14 +24,16 @@ IsMaking (asks.NextEntry dir) = ⊥
 IsMaking (asks.CloseDir dir) = ⊥
 IsMaking (asks.Remove path) = ⊥
 
-module _ (head : WriteHead) (Refuses Refuses' Exists Exists' Done Done' : DiskAsk → Type 0) (refuses : (ask : DiskAsk) → IsMaking ask → Refuses ask → Refuses' ask) (exists : (ask : DiskAsk) → Exists ask → Exists' ask)
+module _ (head : WriteHead) (Refuses Refuses' Exists Exists' Done Done' : DiskAsk → Type 0) (refuses : (ask : DiskAsk) → IsMaking ask → Refuses ask → Refuses' ask)
+    (exists : (ask : DiskAsk) → Exists ask → Exists' ask)
     (done : (ask : DiskAsk) → Done ask → Done' ask) (SourceFailed SourceFailed' : Type 0) (source : SourceFailed → SourceFailed') where
   IoCause-wider : (message : Message) → IoCause head Refuses Exists Done SourceFailed message → IoCause head Refuses' Exists' Done' SourceFailed' message
   IoCause-wider messages.CreateTempFile h = elim h [ inl one ↦ inl (one.0, one.1, refuses _ tt one.2) | inr all ↦ inr (λ number below. exists _ (all number below)) ]
   IoCause-wider messages.WriteHeader h = (h.0, done _ h.1, refuses _ tt h.2)
   IoCause-wider messages.StreamData h = elim h [ inl failed ↦ inl (source failed) | inr one ↦ inr (one.0, one.1, done _ one.2, refuses _ tt one.3) ]
 
-  pub WriteCause-wider : (Named Named' : ObjectId → Type 0) → ((id : ObjectId) → Named id → Named' id) → (Wanting Wanting' : Type 0) → (Wanting → Wanting') → (Counted Counted' : ℕ → Type 0) → ((n : ℕ) → Counted n → Counted' n)
+  pub WriteCause-wider : (Named Named' : ObjectId → Type 0) → ((id : ObjectId) → Named id → Named' id) → (Wanting Wanting' : Type 0) → (Wanting → Wanting') → (Counted Counted' : ℕ → Type 0)
+      → ((n : ℕ) → Counted n → Counted' n)
       → (error : Error) → WriteCause head Named Refuses Exists Done SourceFailed Wanting Counted error → WriteCause head Named' Refuses' Exists' Done' SourceFailed' Wanting' Counted' error
   WriteCause-wider Named Named' named Wanting Wanting' wants Counted Counted' counted (errors.Io message at) h = (h.0, IoCause-wider message h.1)
   WriteCause-wider Named Named' named Wanting Wanting' wants Counted Counted' counted errors.IoRaw h = (h.0, named h.0 h.1, refuses _ tt h.2)

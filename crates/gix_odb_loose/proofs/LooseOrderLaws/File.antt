@@ -58,7 +58,8 @@ end_of path object true same = Err (errors.OutOfMemory object.size)
 end_of path object false true = Ok (Some (object.kind, object.rest))
 end_of path object false false = Err (errors.SizeMismatch (length object.rest) object.size path)
 
-end_of-tests : (path : Path) (object : LooseObject) (above same : Bool) → (let found : Result (Option (Kind × List ℕ)) Error = Ok (Some (object.kind, object.rest)) in if above then Err (errors.OutOfMemory object.size) else if same then found else Err (errors.SizeMismatch (length object.rest) object.size path)) ≡ end_of path object above same
+end_of-tests : (path : Path) (object : LooseObject) (above same : Bool)
+    → (let found : Result (Option (Kind × List ℕ)) Error = Ok (Some (object.kind, object.rest)) in if above then Err (errors.OutOfMemory object.size) else if same then found else Err (errors.SizeMismatch (length object.rest) object.size path)) ≡ end_of path object above same
 end_of-tests path object true same = refl
 end_of-tests path object false true = refl
 end_of-tests path object false false = refl
@@ -74,7 +75,8 @@ ends_found true same path object x e = absurd (cc e)
 ends_found false true path object x e = (refl, refl, cc e, cc e)
 ends_found false false path object x e = absurd (cc e)
 
-object_from-Some : (path : Path) (limit : Option ℕ) (bytes : List ℕ) (spelled : Result LooseObject Flaw) (x : Kind × List ℕ) → spelled_in bytes ≡ spelled → object_from path limit spelled ≡ Ok (Some x) → HoldsObject limit bytes x.0 x.1
+object_from-Some : (path : Path) (limit : Option ℕ) (bytes : List ℕ) (spelled : Result LooseObject Flaw) (x : Kind × List ℕ) → spelled_in bytes ≡ spelled
+    → object_from path limit spelled ≡ Ok (Some x) → HoldsObject limit bytes x.0 x.1
 object_from-Some path limit bytes (Err flaw) x s e = absurd (cc e)
 object_from-Some path limit bytes (Ok object) x s e =
     let ends = ends_found (is_above limit object.size) (length object.rest == object.size) path object x (sym (object_from-end path limit object) ∙ e) in
@@ -158,7 +160,8 @@ module _ (path : Path) (Gave : Reading → Type 0) (Failed Wanting : Type 0) whe
     flaw_cause_found bytes time gave flaws.Empty s = flaw_cause bytes time gave flaws.Empty s
     flaw_cause_found bytes time gave flaws.NoHeader s = flaw_cause bytes time gave flaws.NoHeader s
 
-    sizes_cause : (bytes : List ℕ) (time : ℕ) → Gave (Ok (bytes, time)) → (object : LooseObject) → IsLoose bytes object.kind object.size object.rest → (above same : Bool) → is_above limit object.size ≡ above
+    sizes_cause : (bytes : List ℕ) (time : ℕ) → Gave (Ok (bytes, time)) → (object : LooseObject) → IsLoose bytes object.kind object.size object.rest → (above same : Bool)
+        → is_above limit object.size ≡ above
         → (length object.rest == object.size) ≡ same → (error : Error)
         → end_of path object above same ≡ Err error
         → FindCause path limit Gave Failed Wanting error
@@ -172,12 +175,14 @@ module _ (path : Path) (Gave : Reading → Type 0) (Failed Wanting : Type 0) whe
         subst (FindCause path limit Gave Failed Wanting) is
         (refl, (Ok (bytes, time), gave, record { bytes = bytes; time = time; kind = object.kind; rest = object.rest; given = refl; header = loose; within = a; length_is = refl; differs = eqb-false _ _ l }))
 
-    object_from-Err : (bytes : List ℕ) (time : ℕ) → Gave (Ok (bytes, time)) → (spelled : Result LooseObject Flaw) → spelled_in bytes ≡ spelled → (error : Error) → object_from path limit spelled ≡ Err error
+    object_from-Err : (bytes : List ℕ) (time : ℕ) → Gave (Ok (bytes, time)) → (spelled : Result LooseObject Flaw) → spelled_in bytes ≡ spelled → (error : Error)
+        → object_from path limit spelled ≡ Err error
         → FindCause path limit Gave Failed Wanting error
     object_from-Err bytes time gave (Err flaw) s error e =
         let is : flaw_error path flaw ≡ error = cc e in subst (FindCause path limit Gave Failed Wanting) is (flaw_cause_found bytes time gave flaw s)
     object_from-Err bytes time gave (Ok object) s error e =
-        sizes_cause bytes time gave object (IsLoose-spelled_in bytes object s) (is_above limit object.size) (length object.rest == object.size) refl refl error (sym (object_from-end path limit object) ∙ e)
+        sizes_cause bytes time gave object (IsLoose-spelled_in bytes object s) (is_above limit object.size) (length object.rest == object.size) refl refl error
+        (sym (object_from-end path limit object) ∙ e)
 
     -- the cause of what a file's bytes are refused for, in a find
     pub object_in-Err : (bytes : List ℕ) (time : ℕ) → Gave (Ok (bytes, time)) → (error : Error) → object_in path limit bytes ≡ Err error → FindCause path limit Gave Failed Wanting error

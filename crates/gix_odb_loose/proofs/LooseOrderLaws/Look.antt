@@ -23,7 +23,8 @@ use Rattle.gix_odb_loose.specs.declared.find.Error.TheVariants as errors
 -- a test is refused only by a call that failed, and by want of memory
 pub tested_by-Err : (path : Path) (Failed Wanting : Type 0) (given : DiskAnswer) → (given ≡ answers.Refused disk_errors.Failed → Failed) → (given ≡ answers.Refused disk_errors.NoMemory → Wanting)
     → (error : Error) → tested_by path given ≡ Err error → TestCause path Failed Wanting error
-tested_by-Err path Failed Wanting (answers.Refused disk_errors.Failed) failed wanting error e = let same : unreadable path ≡ error = cc e in subst (TestCause path Failed Wanting) same (refl, refl, failed refl)
+tested_by-Err path Failed Wanting (answers.Refused disk_errors.Failed) failed wanting error e =
+    let same : unreadable path ≡ error = cc e in subst (TestCause path Failed Wanting) same (refl, refl, failed refl)
 tested_by-Err path Failed Wanting (answers.Refused disk_errors.NoMemory) failed wanting error e = let same : errors.NoMemory ≡ error = cc e in subst (TestCause path Failed Wanting) same (wanting refl)
 tested_by-Err path Failed Wanting (answers.Refused disk_errors.Absent) failed wanting error e = absurd (cc e)
 tested_by-Err path Failed Wanting given failed wanting error e = absurd (cc e)

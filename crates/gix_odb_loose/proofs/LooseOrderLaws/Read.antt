@@ -65,7 +65,8 @@ pub read_by-comes : {A : Type 0} (from : List ℕ → Result (Option A) Error) (
     → ComesTo (given ≡ answers.Refused disk_errors.Failed) (read_by from path given) answer
 read_by-comes from path told (answers.Refused disk_errors.Failed) answer is e = refl
 read_by-comes from path told (answers.Refused disk_errors.NoMemory) answer is e = tt
-read_by-comes from path told (answers.Refused disk_errors.Absent) answer is e = comes_ok (answers.Refused disk_errors.Absent ≡ answers.Refused disk_errors.Failed) (read_by from path (answers.Refused disk_errors.Absent)) answer (ap (read_by from path) is ∙ e)
+read_by-comes from path told (answers.Refused disk_errors.Absent) answer is e =
+    comes_ok (answers.Refused disk_errors.Absent ≡ answers.Refused disk_errors.Failed) (read_by from path (answers.Refused disk_errors.Absent)) answer (ap (read_by from path) is ∙ e)
 read_by-comes from path told given answer is e = comes_ok (given ≡ answers.Refused disk_errors.Failed) (read_by from path given) answer (ap (read_by from path) is ∙ e)
 
 -- What a call answers by what a tree's read gives, for any judgement of a file's bytes that holds both ways.
@@ -94,7 +95,8 @@ header_by-AnswersRead path read given is =
 -- ---- the causes of errors, by the answer to a read
 
 -- a read that gave no file, and not a tree's not-found, was unreadable
-unreadable_told : (read : Reading) (given : DiskAnswer) → given ≡ file_answer read → given ≢ answers.Refused disk_errors.Absent → ((bytes : List ℕ) (time : ℕ) → given ≢ answers.File bytes time) → IsUnreadable read
+unreadable_told : (read : Reading) (given : DiskAnswer) → given ≡ file_answer read → given ≢ answers.Refused disk_errors.Absent → ((bytes : List ℕ) (time : ℕ) → given ≢ answers.File bytes time)
+    → IsUnreadable read
 unreadable_told (Ok file) given e some none = absurd (none file.0 file.1 e)
 unreadable_told (Err Absent) given e some none = absurd (some e)
 unreadable_told (Err WrongKind) given e some none = inl refl
@@ -123,7 +125,8 @@ told_is given told asked some room = elim (told_or given told asked) [ inl f ↦
 module _ (path : Path) (Gave : Reading → Type 0) (Failed Wanting : Type 0) (given : DiskAnswer)
     (failed : given ≡ answers.Refused disk_errors.Failed → Failed) (wanting : given ≡ answers.Refused disk_errors.NoMemory → Wanting) where
   -- the causes of a find's errors: the disk's answer is that of a tree's read
-  pub found_by-Err : (limit : Option ℕ) (read : Reading) → Gave read → AnswersAsk given (file_answer read) → (error : Error) → found_by path limit given ≡ Err error → FindCause path limit Gave Failed Wanting error
+  pub found_by-Err : (limit : Option ℕ) (read : Reading) → Gave read → AnswersAsk given (file_answer read) → (error : Error) → found_by path limit given ≡ Err error
+      → FindCause path limit Gave Failed Wanting error
   found_by-Err limit read gave asked error e =
       read_by-cause (object_in path limit) path Gave Failed Wanting (FindCause path limit Gave Failed Wanting) given (λ u. (refl, refl, u)) (λ w. w) failed wanting
       (λ bytes time is x h. object_in-Err path Gave Failed Wanting limit bytes time (subst Gave (file_told read given bytes time asked is) gave) x h)

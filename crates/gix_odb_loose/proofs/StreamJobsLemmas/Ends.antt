@@ -34,18 +34,21 @@ use Rattle.gix_odb_loose.proofs.StreamJobsLemmas.Turn.{did_next}
 
 -- ---- what a turn comes to
 
-pub turns_broken : {E : Type 0} (w : Begun) (state : Option State) (now : ℕ) (rest : Option (List ℕ)) (source_now : ℕ) (job : StreamJob) (result : Result (Option (Result ObjectId Refusal)) E) → IsErr result → IsBroken w state now rest source_now job
+pub turns_broken : {E : Type 0} (w : Begun) (state : Option State) (now : ℕ) (rest : Option (List ℕ)) (source_now : ℕ) (job : StreamJob) (result : Result (Option (Result ObjectId Refusal)) E)
+    → IsErr result → IsBroken w state now rest source_now job
     → TurnsTo w state now rest source_now job result
 turns_broken w state now rest source_now job (Ok x) err broken = absurd (cc err)
 turns_broken w state now rest source_now job (Err error) err broken = broken
 
-pub leads_broken : {E : Type 0} (w : Begun) (state : Option State) (now : ℕ) (rest : Option (List ℕ)) (source_now : ℕ) (job : StreamJob) (result : Result WriteAsk E) → IsErr result → IsBroken w state now rest source_now job
+pub leads_broken : {E : Type 0} (w : Begun) (state : Option State) (now : ℕ) (rest : Option (List ℕ)) (source_now : ℕ) (job : StreamJob) (result : Result WriteAsk E) → IsErr result
+    → IsBroken w state now rest source_now job
     → LeadsTo w state now rest source_now job result
 leads_broken w state now rest source_now job (Ok x) err broken = absurd (cc err)
 leads_broken w state now rest source_now job (Err error) err broken = broken
 
 -- memory ran out before the next ask
-pub broken_first : (w : Begun) (state : Option State) (now : ℕ) (rest : Option (List ℕ)) (source_now : ℕ) (job fed : StreamJob) → fed ≡ record job { piece = [] } → IsUnderway w state now rest source_now job
+pub broken_first : (w : Begun) (state : Option State) (now : ℕ) (rest : Option (List ℕ)) (source_now : ℕ) (job fed : StreamJob) → fed ≡ record job { piece = [] }
+    → IsUnderway w state now rest source_now job
     → IsBroken w state now rest source_now fed
 broken_first w state now rest source_now job fed same at =
     subst (λ (s : WriteStage). BreaksAt w state now rest source_now fed s) (sym (ap (λ (j : StreamJob). j.stage) same))
@@ -78,16 +81,26 @@ module _ (w : Begun) (state : Option State) (now : ℕ) (rest : Option (List ℕ
   -- no file was made
   pub clear_unmade : (stage : WriteStage) → is_some (number_made stage) ≡ false → BreaksAt w state now rest source_now job stage → IsBrokenOff w state now rest source_now
   clear_unmade (stages.Making number) e at =
-      record { past = at.past; all = at.all; did = at.did; run = record { stage = stages.Making number; appended = at.appended; before = at.past; history = at.history; removed = refl }; took = at.took; spared = elim at.spared [ inl spared ↦ inl spared | inr lost ↦ absurd (let none = lost.made in cc none) ]; follows = λ bytes told. cut_off w bytes (stages.Making number) at.past at.past (at.follows bytes told) refl }
+      record {
+        past = at.past;
+        all = at.all;
+        did = at.did;
+        run = record { stage = stages.Making number; appended = at.appended; before = at.past; history = at.history; removed = refl };
+        took = at.took;
+        spared = elim at.spared [ inl spared ↦ inl spared | inr lost ↦ absurd (let none = lost.made in cc none) ];
+        follows = λ bytes told. cut_off w bytes (stages.Making number) at.past at.past (at.follows bytes told) refl;
+      }
   clear_unmade (stages.Heading number) e at = absurd (cc e)
   clear_unmade (stages.Filling number written) e at = absurd (cc e)
   clear_unmade (stages.Foldering number id) e at = absurd (cc e)
   clear_unmade (stages.Moving number id) e at = absurd (cc e)
   clear_unmade (stages.Removing number refusal) e at = absurd (cc e)
 
-  module _ (new : Option State) (later : ℕ) (answer : DiskAnswer) (given : IfSome state (λ s. AnswersAsk answer (answer_of (tree_of s) job.removal))) (left : new ≡ state_told_after state job.removal answer) (more : now ≤ later)
+  module _ (new : Option State) (later : ℕ) (answer : DiskAnswer) (given : IfSome state (λ s. AnswersAsk answer (answer_of (tree_of s) job.removal)))
+      (left : new ≡ state_told_after state job.removal answer) (more : now ≤ later)
       (cause : answer ≡ answers.Refused disk_errors.Failed → Rose now later) (tree : IfSome state (λ s. IsTree (tree_of s))) where
-    removed : (number : ℕ) (stage : WriteStage) → job.removal ≡ asks.Remove (temp_path w.head.objects number) → number_made stage ≡ Some number → BreaksAt w state now rest source_now job stage → IsBrokenOff w new later rest source_now
+    removed : (number : ℕ) (stage : WriteStage) → job.removal ≡ asks.Remove (temp_path w.head.objects number) → number_made stage ≡ Some number → BreaksAt w state now rest source_now job stage
+        → IsBrokenOff w new later rest source_now
     removed number stage ready made at =
         record {
           past = at.past ++ exchanged job.removal answer ∷ [];
@@ -119,7 +132,8 @@ module _ (w : Begun) (state : Option State) (now : ℕ) (rest : Option (List ℕ
             }
 
         removal_asked : IsRemovedAfter w.head (number_made stage) at.past (at.past ++ exchanged job.removal answer ∷ [])
-        removal_asked = subst (λ (n : Option ℕ). IsRemovedAfter w.head n at.past (at.past ++ exchanged job.removal answer ∷ [])) (sym made) (answer, ap (λ (a : DiskAsk). at.past ++ exchanged a answer ∷ []) ready)
+        removal_asked =
+            subst (λ (n : Option ℕ). IsRemovedAfter w.head n at.past (at.past ++ exchanged job.removal answer ∷ [])) (sym made) (answer, ap (λ (a : DiskAsk). at.past ++ exchanged a answer ∷ []) ready)
 
     -- the file that was made was asked to be removed
     pub clear_removed : (stage : WriteStage) → is_some (number_made stage) ≡ true → BreaksAt w state now rest source_now job stage → IsBrokenOff w new later rest source_now
@@ -132,7 +146,8 @@ module _ (w : Begun) (state : Option State) (now : ℕ) (rest : Option (List ℕ
 
 -- ---- where it begins
 
-pub stands_first : (w : Begun) (job : StreamJob) → job.head ≡ w.head → job.stage ≡ stages.Making 0 → job.has_ended ≡ false → Names w.known w.hash w.head [] job.naming → job.removal ≡ asks.Remove (temp_path w.head.objects 0)
+pub stands_first : (w : Begun) (job : StreamJob) → job.head ≡ w.head → job.stage ≡ stages.Making 0 → job.has_ended ≡ false → Names w.known w.hash w.head [] job.naming
+    → job.removal ≡ asks.Remove (temp_path w.head.objects 0)
     → IsUnderway w w.state w.faults w.left w.source_faults job
 unfolding tried AreGiven left_by
 stands_first w job head stage ended named removal =
@@ -153,7 +168,8 @@ stands_first w job head stage ended named removal =
 
 -- ---- what a turn came to, by its result
 
-module _ {E : Type 0} (w : Begun) (state : Option State) (now : ℕ) (rest : Option (List ℕ)) (source_now : ℕ) (job : StreamJob) (result : Result (Option (Result ObjectId Refusal)) E) (turned : TurnsTo w state now rest source_now job result) where
+module _ {E : Type 0} (w : Begun) (state : Option State) (now : ℕ) (rest : Option (List ℕ)) (source_now : ℕ) (job : StreamJob) (result : Result (Option (Result ObjectId Refusal)) E)
+    (turned : TurnsTo w state now rest source_now job result) where
   pub came_on : result ≡ Ok None → IsUnderway w state now rest source_now job
   came_on e = subst (λ (r : Result (Option (Result ObjectId Refusal)) E). TurnsTo w state now rest source_now job r) e turned
 
@@ -165,7 +181,8 @@ module _ {E : Type 0} (w : Begun) (state : Option State) (now : ℕ) (rest : Opt
 
 -- ---- what all turns came to, by their result
 
-module _ {E : Type 0} (w : Begun) (state : Option State) (now : ℕ) (rest : Option (List ℕ)) (source_now : ℕ) (result : Result (Result ObjectId Refusal) E) (ran : RunsTo w state now rest source_now result) where
+module _ {E : Type 0} (w : Begun) (state : Option State) (now : ℕ) (rest : Option (List ℕ)) (source_now : ℕ) (result : Result (Result ObjectId Refusal) E)
+    (ran : RunsTo w state now rest source_now result) where
   pub ran_to : (end : Result ObjectId Refusal) → result ≡ Ok end → IsAtItsEnd w state now rest source_now end
   ran_to end e = subst (RunsTo w state now rest source_now) e ran
 

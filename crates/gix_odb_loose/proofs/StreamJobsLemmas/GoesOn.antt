@@ -1,6 +1,6 @@
 -- How a write reads on, and how it goes on to what an answer led to, as the code has it.
 use Rattle.std.specs.Result.{IsErr}
-use Rattle.std.specs.Prelude.{◌≡◌, ◌≢◌, ℕ, true, false, nat_lt, List, [], ◌++◌, length, Option, Result, Ok, Err, refl}
+use Rattle.std.specs.Prelude.{◌≡◌, ◌≢◌, ℕ, true, false, nat_lt, List, [], ◌++◌, length, Option, Result, Ok, Err}
 use Rattle.std.proofs.Common.{inl, inr, sym, ap, ◌∙◌, subst}
 use Rattle.odb_base.specs.Faults.{Rose}
 use Rattle.odb_tree.specs.Tree.{State}
@@ -24,12 +24,14 @@ use Rattle.gix_odb_loose.proofs.StreamJobsLemmas.ReadsOn.{stands_ended, breaks_l
 
 -- ---- where data are asked for
 
-module _ (w : Begun) (state : Option State) (now : ℕ) (rest : Option (List ℕ)) (source_now : ℕ) (job : StreamJob) (number written : ℕ) (waits : WaitsAt w state now rest source_now job number written) where
+module _ (w : Begun) (state : Option State) (now : ℕ) (rest : Option (List ℕ)) (source_now : ℕ) (job : StreamJob) (number written : ℕ)
+    (waits : WaitsAt w state now rest source_now job number written) where
   abbrev size_is : job.head.size ≡ w.head.size
   size_is = ap (λ (h : WriteHead). h.size) waits.head
 
   -- the source is at its end
-  pub on_end : job.has_ended ≡ true → (new : StreamJob) → new.head ≡ job.head → new.removal ≡ job.removal → IsEnded number written job.head.size job.naming new.stage → IsUnderway w state now rest source_now new
+  pub on_end : job.has_ended ≡ true → (new : StreamJob) → new.head ≡ job.head → new.removal ≡ job.removal → IsEnded number written job.head.size job.naming new.stage
+      → IsUnderway w state now rest source_now new
   on_end last new head removal ended =
       stands_ended w state now rest source_now job number written waits (waits.holds.0.ended last) new head removal
       (ended.is ∙ ap (λ (id : ObjectId). ended_with job.head.size id number written) (ended.named w.known w.hash w.head waits.all waits.holds.0.named))
@@ -43,14 +45,17 @@ module _ (w : Begun) (state : Option State) (now : ℕ) (rest : Option (List ℕ
         subst (λ (s : WriteStage). BreaksAt w state now last later new s) (sym is)
         (breaks_lost w state now rest source_now job number written waits last later (subst (λ (n : ℕ). Loses n rest last source_now later) room_is loses) new removal)
 
-    pub on_failed : Rose source_now later → Loses most rest last source_now later → (new : StreamJob) → new.head ≡ job.head → new.removal ≡ job.removal → new.stage ≡ source_failed number → IsUnderway w state now last later new
+    pub on_failed : Rose source_now later → Loses most rest last source_now later → (new : StreamJob) → new.head ≡ job.head → new.removal ≡ job.removal → new.stage ≡ source_failed number
+        → IsUnderway w state now last later new
     on_failed rose loses new head removal is =
         subst (λ (s : WriteStage). StandsAt w state now last later new s) (sym is)
         (stands_failed w state now rest source_now job number written waits last later (subst (λ (n : ℕ). Loses n rest last source_now later) room_is loses) rose new head removal)
 
-    module _ (piece : List ℕ) (takes : Takes most rest last source_now later piece) (taken : StreamJob) (head : taken.head ≡ job.head) (removal : taken.removal ≡ job.removal) (is : taken.piece ≡ piece)
+    module _ (piece : List ℕ) (takes : Takes most rest last source_now later piece) (taken : StreamJob) (head : taken.head ≡ job.head) (removal : taken.removal ≡ job.removal)
+        (is : taken.piece ≡ piece)
         (ended : taken.has_ended ≡ nat_lt (length piece) most)
-        (named : (known : Option ObjectId) (hash : HashKind) (head : WriteHead) (before : List ℕ) → Names known hash head before job.naming → Names known hash head (before ++ piece) taken.naming) (open' : job.has_ended ≡ false) where
+        (named : (known : Option ObjectId) (hash : HashKind) (head : WriteHead) (before : List ℕ) → Names known hash head before job.naming → Names known hash head (before ++ piece) taken.naming)
+        (open' : job.has_ended ≡ false) where
       takes_room : Takes (room_behind w.head.size written) rest last source_now later piece
       takes_room = subst (λ (n : ℕ). Takes n rest last source_now later piece) room_is takes
 
@@ -65,7 +70,8 @@ module _ (w : Begun) (state : Option State) (now : ℕ) (rest : Option (List ℕ
           subst (λ (s : WriteStage). StandsAt w state now last later taken s) (sym at)
           (stands_piece w state now rest source_now job number written waits last later piece takes_room taken head removal is ended_is names open' some)
 
-      pub on_nothing : taken.piece ≡ [] → (new : StreamJob) → new.head ≡ taken.head → new.removal ≡ taken.removal → IsEnded number written taken.head.size taken.naming new.stage → IsUnderway w state now last later new
+      pub on_nothing : taken.piece ≡ [] → (new : StreamJob) → new.head ≡ taken.head → new.removal ≡ taken.removal → IsEnded number written taken.head.size taken.naming new.stage
+          → IsUnderway w state now last later new
       unfolding fed_nothing
       on_nothing none new head' removal' ended' =
           let waits' = fed_nothing w state now rest source_now job number written waits last later piece takes_room taken head removal is ended_is names open' none in
@@ -73,14 +79,16 @@ module _ (w : Begun) (state : Option State) (now : ℕ) (rest : Option (List ℕ
           stands_ended w state now last later taken number written waits' at_end new head' removal'
           (ended'.is ∙ ap (λ (id : ObjectId). ended_with taken.head.size id number written) (ended'.named w.known w.hash w.head waits'.all names))
 
-pub goes_on_broken : {E : Type 0} (w : Begun) (state : Option State) (now : ℕ) (rest : Option (List ℕ)) (source_now : ℕ) (job : StreamJob) (result : Result (Unit {0}) E) → IsErr result → IsBroken w state now rest source_now job → GoesOn w state now rest source_now job result
+pub goes_on_broken : {E : Type 0} (w : Begun) (state : Option State) (now : ℕ) (rest : Option (List ℕ)) (source_now : ℕ) (job : StreamJob) (result : Result (Unit {0}) E) → IsErr result
+    → IsBroken w state now rest source_now job → GoesOn w state now rest source_now job result
 goes_on_broken w state now rest source_now job (Ok x) err broken = absurd (cc err)
 goes_on_broken w state now rest source_now job (Err error) err broken = broken
 
 -- ---- where an answer led
 
 -- memory ran out for it
-pub led_broken : (w : Begun) (state : Option State) (now : ℕ) (rest : Option (List ℕ)) (source_now : ℕ) (job new : StreamJob) (stage : WriteStage) → new.removal ≡ job.removal → new.stage ≡ stage → LedAt w state now rest source_now job stage
+pub led_broken : (w : Begun) (state : Option State) (now : ℕ) (rest : Option (List ℕ)) (source_now : ℕ) (job new : StreamJob) (stage : WriteStage) → new.removal ≡ job.removal → new.stage ≡ stage
+    → LedAt w state now rest source_now job stage
     → IsBroken w state now rest source_now new
 led_broken w state now rest source_now job new stage same is led =
     subst (λ (s : WriteStage). BreaksAt w state now rest source_now new s) (sym is)

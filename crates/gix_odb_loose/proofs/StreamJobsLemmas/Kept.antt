@@ -10,12 +10,12 @@ use Rattle.odb_disk.specs.declared.ask.DiskAnswer.TheVariants as answers
 use Rattle.odb_tree.specs.declared.disk_error.DiskError.TheVariants as disk_errors
 use Rattle.gix_hash.specs.declared.object_id.ObjectId.{ObjectId}
 use Rattle.gix_odb_loose.specs.Exchanges.{Exchange}
-use Rattle.gix_odb_loose.specs.WriteHistory.{IsHistory, data_after}
+use Rattle.gix_odb_loose.specs.WriteHistory.{data_after}
 use Rattle.gix_odb_loose.specs.WritePieces.{IsInPieces, room_behind}
 use Rattle.gix_odb_loose.proofs.WriteHistoryLaws.{CountsTooMany, IsNextPiece}
 use Rattle.gix_odb_loose.specs.WriteNames.{Names}
 use Rattle.gix_odb_loose.specs.WriteOrder.{temp_names, temp_path, next_write, made_by, headed_by, filled_by, foldered_by, moved_by, grown}
-use Rattle.gix_odb_loose.specs.StreamJobs.Progress.{Begun, NamedBy, SourceFailed, Took}
+use Rattle.gix_odb_loose.specs.StreamJobs.Progress.{Begun, NamedBy, SourceFailed, Took, WentTo}
 use Rattle.gix_odb_loose.specs.StreamJobs.AtStage.{HasPiece, IsNext, Named, Holds, HoldsNone, IsReady, removal_at}
 use Rattle.gix_odb_loose.specs.WriteStreams.{OtherLength}
 use Rattle.gix_odb_loose.specs.declared.write_streamed.StreamJob.{StreamJob}
@@ -68,7 +68,12 @@ module _ (w : Begun) (rest : Option (List ℕ)) (job fed : StreamJob) (removal :
 
       begins : HasPiece w rest 0 appended all [] fed.naming fed.has_ended
       begins =
-          record { is = unread ∙ sym (append-nil appended ∙ none); named = subst (λ (xs : List ℕ). Names w.known w.hash w.head xs fed.naming) (sym unread) still; within = omega arith; ended = λ e. absurd (let both : false ≡ true = sym (ended ∙ open') ∙ e in cc both) }
+          record {
+            is = unread ∙ sym (append-nil appended ∙ none);
+            named = subst (λ (xs : List ℕ). Names w.known w.hash w.head xs fed.naming) (sym unread) still;
+            within = omega arith;
+            ended = λ e. absurd (let both : false ≡ true = sym (ended ∙ open') ∙ e in cc both);
+          }
 
       kept_headed : (answer : DiskAnswer) → Kept appended all (headed_by number answer)
       kept_headed answers.Done = ((begins, λ e. (0, omega arith)), stays)
@@ -79,7 +84,8 @@ module _ (w : Begun) (rest : Option (List ℕ)) (job fed : StreamJob) (removal :
       kept_headed (answers.File found time) = (tt, stays)
       kept_headed (answers.Refused error) = (tt, stays)
 
-    module _ (written : ℕ) (appended all piece : List ℕ) (has : HasPiece w rest written appended all piece job.naming job.has_ended) (next : IsNext w written job.piece job.has_ended) (is_piece : piece ≡ job.piece) where
+    module _ (written : ℕ) (appended all piece : List ℕ) (has : HasPiece w rest written appended all piece job.naming job.has_ended) (next : IsNext w written job.piece job.has_ended)
+        (is_piece : piece ≡ job.piece) where
       more_pieces : length piece ≡ room_behind w.head.size written → written + length piece ≤ w.head.size → IsInPieces (written + length piece)
       more_pieces full fits =
           let whole = whole_piece w.head.size written (length piece) full fits in
@@ -136,7 +142,7 @@ module _ (w : Begun) (rest : Option (List ℕ)) (job fed : StreamJob) (removal :
       kept_moved (answers.Refused error) = (tt, stays)
 
   module _ (source_now : ℕ) (appended all : List ℕ) (past : List Exchange) where
-    pub kept : (stage : WriteStage) (answer : DiskAnswer) → IsHistory w.head (NamedBy w) (SourceFailed w source_now) (OtherLength w.left w.head.size) appended stage past → Holds w rest appended all job stage → job.removal ≡ removal_at w stage
+    pub kept : (stage : WriteStage) (answer : DiskAnswer) → WentTo w source_now appended stage past → Holds w rest appended all job stage → job.removal ≡ removal_at w stage
         → Kept (data_after stage job.piece answer appended) all (next_write w.head.size (length job.piece) stage answer)
     kept (stages.Making number) answer history holds ready = kept_made number ready appended all history.1 holds.0 holds.1 holds.2 answer
     kept (stages.Heading number) answer history holds ready = kept_headed number ready appended all history.0 holds.0 holds.1 holds.2 answer
@@ -146,7 +152,7 @@ module _ (w : Begun) (rest : Option (List ℕ)) (job fed : StreamJob) (removal :
     kept (stages.Removing number refusal) answer history holds ready = tt
 
     -- one byte above the size is counted
-    pub counts : (stage : WriteStage) → IsHistory w.head (NamedBy w) (SourceFailed w source_now) (OtherLength w.left w.head.size) appended stage past → Holds w rest appended all job stage → Took w rest source_now all
+    pub counts : (stage : WriteStage) → WentTo w source_now appended stage past → Holds w rest appended all job stage → Took w rest source_now all
         → CountsTooMany w.head (NamedBy w) (SourceFailed w source_now) (OtherLength w.left w.head.size) stage job.piece
     counts (stages.Making number) history holds took = tt
     counts (stages.Heading number) history holds took = tt
@@ -156,7 +162,8 @@ module _ (w : Begun) (rest : Option (List ℕ)) (job fed : StreamJob) (removal :
         let exact : written + length job.piece ≡ w.head.size + 1 = omega (arith, more, long, took.few) in
         (exact, by_left w.left (Draws-length w.left rest all took.drawn) long exact)
       where
-        by_left : (left : Option (List ℕ)) → IfSome left (λ bytes. length all ≤ length bytes) → written + length job.piece ≡ length all → written + length job.piece ≡ w.head.size + 1 → OtherLength left w.head.size (grown written (length job.piece))
+        by_left : (left : Option (List ℕ)) → IfSome left (λ bytes. length all ≤ length bytes) → written + length job.piece ≡ length all → written + length job.piece ≡ w.head.size + 1
+            → OtherLength left w.head.size (grown written (length job.piece))
         by_left None h long exact = tt
         by_left (Some bytes) h long exact = inr (omega (arith, h, long, exact), ap (λ (n : ℕ). min n (2 ^ 64 - 1)) exact)
     counts (stages.Foldering number id) history holds took = tt

@@ -8,12 +8,11 @@ use Rattle.odb_tree.specs.Tree.{State}
 use Rattle.gix_hash.specs.declared.kind.Kind.{Kind as HashKind}
 use Rattle.gix_hash.specs.declared.object_id.ObjectId.{ObjectId}
 use Rattle.gix_odb_loose.specs.WriteAsks.{IsAlong}
-use Rattle.gix_odb_loose.specs.WriteHistory.{IsHistory}
 use Rattle.gix_odb_loose.proofs.WriteHistoryLaws.{IsHistory-ended}
 use Rattle.gix_odb_loose.specs.WriteNames.{name_for, Names}
 use Rattle.gix_odb_loose.specs.WriteOrder.{ended_with, source_failed}
 use Rattle.gix_odb_loose.specs.WritePieces.{room_behind}
-use Rattle.gix_odb_loose.specs.StreamJobs.Progress.{Begun, NamedBy, SourceFailed, Took}
+use Rattle.gix_odb_loose.specs.StreamJobs.Progress.{Begun, NamedBy, SourceFailed, Took, WentTo}
 use Rattle.gix_odb_loose.specs.StreamJobs.SameAsks.{at_hand}
 use Rattle.gix_odb_loose.specs.StreamJobs.Reads.{Loses, Takes}
 use Rattle.gix_odb_loose.specs.StreamJobs.AtStage.{HasPiece, IsNext}
@@ -32,11 +31,13 @@ use Rattle.gix_odb_loose.proofs.StreamJobsLemmas.SameAsks.{cuts_fed, follows_pie
 
 -- ---- the name and the length of all data
 
-named_from : (left : Option (List ℕ)) (known : Option ObjectId) (hash : HashKind) (head : WriteHead) (all : List ℕ) → IfSome left (λ bytes. bytes ≡ all) → IfSome left (λ bytes. name_for known hash head all ≡ name_for known hash head bytes)
+named_from : (left : Option (List ℕ)) (known : Option ObjectId) (hash : HashKind) (head : WriteHead) (all : List ℕ) → IfSome left (λ bytes. bytes ≡ all)
+    → IfSome left (λ bytes. name_for known hash head all ≡ name_for known hash head bytes)
 named_from None known hash head all h = tt
 named_from (Some bytes) known hash head all h = ap (name_for known hash head) (sym h)
 
-counts_from : (left : Option (List ℕ)) (size written : ℕ) (all : List ℕ) → IfSome left (λ bytes. bytes ≡ all) → written ≡ length all → written ≤ size → (written ≡ size → ⊥) → (written < size) × OtherLength left size written
+counts_from : (left : Option (List ℕ)) (size written : ℕ) (all : List ℕ) → IfSome left (λ bytes. bytes ≡ all) → written ≡ length all → written ≤ size → (written ≡ size → ⊥)
+    → (written < size) × OtherLength left size written
 counts_from None size written all h is within differs = (omega (arith, within, differs), tt)
 counts_from (Some bytes) size written all h is within differs =
     let long : length bytes ≡ length all = ap length h in (omega (arith, within, differs), inl (omega (arith, within, differs, is, long), is ∙ sym long))
@@ -46,7 +47,8 @@ some_bytes [] some = absurd (some refl)
 some_bytes (b ∷ bs) some = omega arith
 
 module _ (w : Begun) (state : Option State) (now : ℕ) where
-  took_more : (rest last : Option (List ℕ)) (source_now later : ℕ) (all more : List ℕ) → Took w rest source_now all → Draws rest last more → length all + length more ≤ w.head.size + 1 → source_now ≤ later → Took w last later (all ++ more)
+  took_more : (rest last : Option (List ℕ)) (source_now later : ℕ) (all more : List ℕ) → Took w rest source_now all → Draws rest last more → length all + length more ≤ w.head.size + 1
+      → source_now ≤ later → Took w last later (all ++ more)
   took_more rest last source_now later all more took drawn few on =
       record {
         drawn = Draws-more w.left rest last all more took.drawn drawn;
@@ -72,15 +74,17 @@ module _ (w : Begun) (state : Option State) (now : ℕ) where
       whole : IfSome w.left (λ bytes. bytes ≡ fed.all)
       whole = Draws-end w.left rest fed.all fed.took.drawn at_end
 
-      ended_history : IsHistory w.head (NamedBy w) (SourceFailed w source_now) (OtherLength w.left w.head.size) fed.appended (ended_with w.head.size id number written) fed.past
+      ended_history : WentTo w source_now fed.appended (ended_with w.head.size id number written) fed.past
       ended_history =
-          IsHistory-ended w.head (NamedBy w) (SourceFailed w source_now) (OtherLength w.left w.head.size) number written id fed.appended fed.past (named_from w.left w.known w.hash w.head fed.all whole)
+          IsHistory-ended w.head (NamedBy w) (SourceFailed w source_now) (OtherLength w.left w.head.size) number written id fed.appended fed.past
+          (named_from w.left w.known w.hash w.head fed.all whole)
           (counts_from w.left w.head.size written fed.all whole so_far fed.holds.0.within) fed.history
 
       ended_follows : (bytes : List ℕ) → w.left ≡ Some bytes → IsAlong (at_hand w bytes) (Stage (ended_with w.head.size id number written)) fed.past
       ended_follows bytes is = follows_end w bytes number written fed.past fed.all (subst (λ (left : Option (List ℕ)). IfSome left (λ bytes. bytes ≡ fed.all)) is whole) so_far (fed.follows bytes is)
 
-      by_length : (same : Bool) → (written == w.head.size) ≡ same → StandsAt w state now rest source_now new (if same then stages.Foldering number id else stages.Removing number (refusals.SizeMismatch written))
+      by_length : (same : Bool) → (written == w.head.size) ≡ same
+          → StandsAt w state now rest source_now new (if same then stages.Foldering number id else stages.Removing number (refusals.SizeMismatch written))
       by_length true e =
           record {
             past = fed.past;
@@ -91,7 +95,7 @@ module _ (w : Begun) (state : Option State) (now : ℕ) where
             head = head ∙ fed.head;
             removal = removal ∙ fed.removal;
             history =
-                subst (λ (b : Bool). IsHistory w.head (NamedBy w) (SourceFailed w source_now) (OtherLength w.left w.head.size) fed.appended (if b then stages.Foldering number id else stages.Removing number (refusals.SizeMismatch written)) fed.past) e ended_history;
+                subst (λ (b : Bool). WentTo w source_now fed.appended (if b then stages.Foldering number id else stages.Removing number (refusals.SizeMismatch written)) fed.past) e ended_history;
             holds = (at_end, all_appended, ap (name_for w.known w.hash w.head) all_appended);
             spared = inl fed.spared;
             follows = λ bytes is. inl (subst (λ (b : Bool). IsAlong (at_hand w bytes) (Stage (if b then stages.Foldering number id else stages.Removing number (refusals.SizeMismatch written))) fed.past) e (ended_follows bytes is));
@@ -106,7 +110,7 @@ module _ (w : Begun) (state : Option State) (now : ℕ) where
             head = head ∙ fed.head;
             removal = removal ∙ fed.removal;
             history =
-                subst (λ (b : Bool). IsHistory w.head (NamedBy w) (SourceFailed w source_now) (OtherLength w.left w.head.size) fed.appended (if b then stages.Foldering number id else stages.Removing number (refusals.SizeMismatch written)) fed.past) e ended_history;
+                subst (λ (b : Bool). WentTo w source_now fed.appended (if b then stages.Foldering number id else stages.Removing number (refusals.SizeMismatch written)) fed.past) e ended_history;
             holds = tt;
             spared = inl fed.spared;
             follows = λ bytes is. inl (subst (λ (b : Bool). IsAlong (at_hand w bytes) (Stage (if b then stages.Foldering number id else stages.Removing number (refusals.SizeMismatch written))) fed.past) e (ended_follows bytes is));
@@ -125,7 +129,17 @@ module _ (w : Begun) (state : Option State) (now : ℕ) where
       -- for want of memory
       pub breaks_lost : (new : StreamJob) → new.removal ≡ job.removal → BreaksAt w state now last later new (stages.Filling number written)
       breaks_lost new removal =
-          record { past = fed.past; appended = fed.appended; all = fed.all ++ loses.lost; did = fed.did; took = took_lost; removal = removal ∙ fed.removal; history = fed.history; spared = inr (record { number = number; appended = fed.appended; filled = fed.history.1; made = refl }); follows = λ bytes is. cuts_fed w bytes number written fed.past (fed.follows bytes is) }
+          record {
+            past = fed.past;
+            appended = fed.appended;
+            all = fed.all ++ loses.lost;
+            did = fed.did;
+            took = took_lost;
+            removal = removal ∙ fed.removal;
+            history = fed.history;
+            spared = inr (record { number = number; appended = fed.appended; filled = fed.history.1; made = refl });
+            follows = λ bytes is. cuts_fed w bytes number written fed.past (fed.follows bytes is);
+          }
 
       -- by a failure of the source
       pub stands_failed : Rose source_now later → (new : StreamJob) → new.head ≡ job.head → new.removal ≡ job.removal → StandsAt w state now last later new (source_failed number)
@@ -148,8 +162,10 @@ module _ (w : Begun) (state : Option State) (now : ℕ) where
           }
 
     -- a piece is taken
-    module _ (last : Option (List ℕ)) (later : ℕ) (piece : List ℕ) (takes : Takes (room_behind w.head.size written) rest last source_now later piece) (new : StreamJob) (head : new.head ≡ job.head) (removal : new.removal ≡ job.removal)
-        (is : new.piece ≡ piece) (ended : new.has_ended ≡ nat_lt (length piece) (room_behind w.head.size written)) (named : Names w.known w.hash w.head (fed.all ++ piece) new.naming) (open' : job.has_ended ≡ false) where
+    module _ (last : Option (List ℕ)) (later : ℕ) (piece : List ℕ) (takes : Takes (room_behind w.head.size written) rest last source_now later piece) (new : StreamJob) (head : new.head ≡ job.head)
+        (removal : new.removal ≡ job.removal)
+        (is : new.piece ≡ piece) (ended : new.has_ended ≡ nat_lt (length piece) (room_behind w.head.size written)) (named : Names w.known w.hash w.head (fed.all ++ piece) new.naming)
+        (open' : job.has_ended ≡ false) where
       pub took_piece : Took w last later (fed.all ++ piece)
       took_piece = took_more rest last source_now later fed.all piece fed.took takes.drawn (few_more piece takes.few) (let same = takes.same in omega (arith, same))
 

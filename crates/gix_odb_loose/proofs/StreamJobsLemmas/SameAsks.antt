@@ -38,7 +38,8 @@ taken_piece room true piece left few at_end full =
     sym (take_all room piece few) ∙ ap (take room) (sym (append-nil piece)) ∙ ap (λ (xs : List ℕ). take room (piece ++ xs)) (sym (at_end refl))
 taken_piece room false piece left few at_end full = sym (take_at piece left room (full refl))
 
-pub piece_next : (bytes appended piece all : List ℕ) (rest : Option (List ℕ)) (room written : ℕ) (ended : Bool) → Draws (Some bytes) rest all → all ≡ appended ++ piece → written ≡ length appended → length piece ≤ room → (ended ≡ true → IsAtEnd rest)
+pub piece_next : (bytes appended piece all : List ℕ) (rest : Option (List ℕ)) (room written : ℕ) (ended : Bool) → Draws (Some bytes) rest all → all ≡ appended ++ piece → written ≡ length appended
+    → length piece ≤ room → (ended ≡ true → IsAtEnd rest)
     → (ended ≡ false → length piece ≡ room) → piece ≡ take room (drop written bytes)
 piece_next bytes appended piece all None room written ended drawn is so_far few at_end full = absurd drawn
 piece_next bytes appended piece all (Some left) room written ended drawn is so_far few at_end full = taken_piece room ended piece left few at_end full ∙ ap (take room) (sym behind)
@@ -68,7 +69,8 @@ module _ (w : Begun) (bytes : List ℕ) where
   ask_is (stages.Moving number id) piece next = refl
   ask_is (stages.Removing number refusal) piece next = refl
 
-  onward_is : (stage : WriteStage) (piece : List ℕ) (answer : DiskAnswer) → IsNextOf stage piece → next_in (record job { stage = stage }) answer ≡ supplied job (next_write w.head.size (length piece) stage answer)
+  onward_is : (stage : WriteStage) (piece : List ℕ) (answer : DiskAnswer) → IsNextOf stage piece
+      → next_in (record job { stage = stage }) answer ≡ supplied job (next_write w.head.size (length piece) stage answer)
   onward_is (stages.Making number) piece answer next = refl
   onward_is (stages.Heading number) piece answer next = refl
   onward_is (stages.Filling number written) piece answer next = ap (λ (p : List ℕ). supplied job (next_write w.head.size (length p) (stages.Filling number written) answer)) (sym next)
@@ -120,7 +122,8 @@ module _ (w : Begun) (bytes : List ℕ) where
     cuts_at stage past follows = elim follows [ inl along ↦ record { reached = stage; made = refl; along = along } | inr fails ↦ fails.cuts ]
 
     -- what a write comes to
-    pub runs_end : (end : Result ObjectId Refusal) (past : List Exchange) (result : Result ObjectId Error) → (result ≡ wrote_by w.head end) ⊎ (result ≡ Err errors.NoMemory) → FollowsToEnd job Stopped end past → RunsAlong job Stopped past result
+    pub runs_end : (end : Result ObjectId Refusal) (past : List Exchange) (result : Result ObjectId Error) → (result ≡ wrote_by w.head end) ⊎ (result ≡ Err errors.NoMemory)
+        → FollowsToEnd job Stopped end past → RunsAlong job Stopped past result
     runs_end end past result is follows =
         elim follows [
           | inl along ↦ inl (end, along, is)
@@ -157,7 +160,8 @@ module _ (w : Begun) (bytes : List ℕ) where
     pub follows_piece : written < length bytes → IsAlong job (Stage (supplied_with job number written)) past → IsAlong job (Stage (stages.Filling number written)) past
     follows_piece less along = waits (nat_le (length bytes) written) refl less along
 
-    ends : (all : List ℕ) (at_end : Bool) → nat_le (length bytes) written ≡ at_end → bytes ≡ all → written ≡ length all → Supplied at_end → IsAlong job (Stage (ended_with w.head.size (name_for w.known w.hash w.head all) number written)) past
+    ends : (all : List ℕ) (at_end : Bool) → nat_le (length bytes) written ≡ at_end → bytes ≡ all → written ≡ length all → Supplied at_end
+        → IsAlong job (Stage (ended_with w.head.size (name_for w.known w.hash w.head all) number written)) past
     ends all true e whole so_far along = subst (λ (xs : List ℕ). IsAlong job (Stage (ended_with w.head.size (name_for w.known w.hash w.head xs) number written)) past) whole along
     ends all false e whole so_far along = absurd (let long = ap length whole in grind (arith, common_steps, e, long, so_far))
 

@@ -12,11 +12,11 @@ use Rattle.odb_tree.specs.declared.disk_error.DiskError.TheVariants as disk_erro
 use Rattle.gix_odb_loose.specs.Exchanges.{Exchange, exchanged, left_by, FailByFaults}
 use Rattle.gix_odb_loose.proofs.ExchangeLaws.{left_by-push, AreGiven-push}
 use Rattle.gix_odb_loose.specs.WriteHistory.Refused.{IsFailedRead}
-use Rattle.gix_odb_loose.specs.WriteHistory.{IsHistory, IsHistoryOnward, data_after}
+use Rattle.gix_odb_loose.specs.WriteHistory.{data_after}
 use Rattle.gix_odb_loose.proofs.WriteHistoryLaws.{IsHistory-next}
 use Rattle.gix_odb_loose.specs.WriteOrder.{write_ask, next_write}
 use Rattle.gix_odb_loose.specs.WritePieces.{room_behind}
-use Rattle.gix_odb_loose.specs.StreamJobs.Progress.{Begun, NamedBy, SourceFailed, IsSpared, FailedAt, Did}
+use Rattle.gix_odb_loose.specs.StreamJobs.Progress.{Begun, NamedBy, SourceFailed, IsSpared, FailedAt, Did, WentToWanted, WentTo}
 use Rattle.gix_odb_loose.specs.StreamJobs.AtStage.{Holds}
 use Rattle.gix_odb_loose.specs.StreamJobs.Standing.{StandsAt}
 use Rattle.gix_odb_loose.specs.StreamJobs.{Leads}
@@ -40,7 +40,8 @@ all_more P xs x all last = All-append P xs (x ∷ []) all (All-cons P x [] last 
 faults_later : (before now later : ℕ) (past : List Exchange) → now ≤ later → FailByFaults before now past → FailByFaults before later past
 faults_later before now later past more failed = λ k d l e. let rose = failed k d l e in grind (arith, more, rose)
 
-module _ (w : Begun) (state new : Option State) (now later : ℕ) (ask : DiskAsk) (answer : DiskAnswer) (given : IfSome state (λ s. AnswersAsk answer (answer_of (tree_of s) ask))) (left : new ≡ state_told_after state ask answer)
+module _ (w : Begun) (state new : Option State) (now later : ℕ) (ask : DiskAsk) (answer : DiskAnswer) (given : IfSome state (λ s. AnswersAsk answer (answer_of (tree_of s) ask)))
+    (left : new ≡ state_told_after state ask answer)
     (more : now ≤ later) (cause : answer ≡ answers.Refused disk_errors.Failed → Rose now later) (tree : IfSome state (λ s. IsTree (tree_of s))) where
   first_tree : (past : List Exchange) → Did w state now past → IfSome w.state (λ s. IsTree (tree_of s))
   unfolding left_by
@@ -59,8 +60,10 @@ module _ (w : Begun) (state new : Option State) (now later : ℕ) (ask : DiskAsk
 -- ---- a whole turn
 
 module _ (w : Begun) (state new : Option State) (now later : ℕ) (rest : Option (List ℕ)) (source_now : ℕ) (job fed : StreamJob) (stage : WriteStage) (ask : DiskAsk) (answer : DiskAnswer)
-    (given : IfSome state (λ s. AnswersAsk answer (answer_of (tree_of s) ask))) (left : new ≡ state_told_after state ask answer) (more : now ≤ later) (cause : answer ≡ answers.Refused disk_errors.Failed → Rose now later) (tree : IfSome state (λ s. IsTree (tree_of s)))
-    (removal : fed.removal ≡ job.removal) (naming : fed.naming ≡ job.naming) (ended : fed.has_ended ≡ job.has_ended) (head : fed.head ≡ job.head) (none : fed.piece ≡ []) (at : StandsAt w state now rest source_now job stage) where
+    (given : IfSome state (λ s. AnswersAsk answer (answer_of (tree_of s) ask))) (left : new ≡ state_told_after state ask answer) (more : now ≤ later)
+    (cause : answer ≡ answers.Refused disk_errors.Failed → Rose now later) (tree : IfSome state (λ s. IsTree (tree_of s)))
+    (removal : fed.removal ≡ job.removal) (naming : fed.naming ≡ job.naming) (ended : fed.has_ended ≡ job.has_ended) (head : fed.head ≡ job.head) (none : fed.piece ≡ [])
+    (at : StandsAt w state now rest source_now job stage) where
   abbrev past' : List Exchange
   past' = at.past ++ exchanged ask answer ∷ []
 
@@ -68,11 +71,12 @@ module _ (w : Begun) (state new : Option State) (now later : ℕ) (rest : Option
   did' = did_next w state new now later ask answer given left more cause tree at.past at.did
 
   -- a piece that is to be appended is the next of the data
-  is_next : (stage : WriteStage) (bytes : List ℕ) → w.left ≡ Some bytes → IsHistory w.head (NamedBy w) (SourceFailed w source_now) (OtherLength w.left w.head.size) at.appended stage at.past → Holds w rest at.appended at.all job stage → IsNextOf w bytes stage job.piece
+  is_next : (stage : WriteStage) (bytes : List ℕ) → w.left ≡ Some bytes → WentTo w source_now at.appended stage at.past → Holds w rest at.appended at.all job stage → IsNextOf w bytes stage job.piece
   is_next (stages.Making number) bytes told history holds = tt
   is_next (stages.Heading number) bytes told history holds = tt
   is_next (stages.Filling number written) bytes told history holds =
-      piece_next bytes at.appended job.piece at.all rest (room_behind w.head.size written) written job.has_ended (subst (λ (l : Option (List ℕ)). Draws l rest at.all) told at.took.drawn) holds.0.is history.0 holds.1.few holds.0.ended holds.1.full
+      piece_next bytes at.appended job.piece at.all rest (room_behind w.head.size written) written job.has_ended
+      (subst (λ (l : Option (List ℕ)). Draws l rest at.all) told at.took.drawn) holds.0.is history.0 holds.1.few holds.0.ended holds.1.full
   is_next (stages.Foldering number id) bytes told history holds = tt
   is_next (stages.Moving number id) bytes told history holds = tt
   is_next (stages.Removing number refusal) bytes told history holds = tt
@@ -114,7 +118,8 @@ module _ (w : Begun) (state new : Option State) (now later : ℕ) (rest : Option
   spared_next : ask ≡ write_ask w.head job.piece stage → SparedTo (next_write w.head.size (length job.piece) stage answer)
   spared_next is = elim at.spared [ inl spared ↦ spared_to (next_write w.head.size (length job.piece) stage answer) spared | inr failed ↦ failed_to is failed ]
 
-  leads_to : (appended : List ℕ) (wanted : WriteAsk) → IsHistoryOnward w.head (NamedBy w) (SourceFailed w source_now) (OtherLength w.left w.head.size) appended wanted past' → Kept w rest job fed removal naming ended appended at.all wanted → Followed wanted → SparedTo wanted
+  leads_to : (appended : List ℕ) (wanted : WriteAsk) → WentToWanted w source_now appended wanted past' → Kept w rest job fed removal naming ended appended at.all wanted → Followed wanted
+      → SparedTo wanted
       → Leads w new later rest source_now fed wanted
   leads_to appended (wants.Disk onward) history kept follows spared =
       record {
@@ -145,28 +150,33 @@ module _ (w : Begun) (state new : Option State) (now later : ℕ) (rest : Option
         spared = spared;
         follows = follows;
       }
-  leads_to appended (wants.Done (Ok id)) history kept follows spared = (head ∙ at.head, record { past = past'; appended = appended; all = at.all; did = did'; took = at.took; ends = (history, kept); spared = spared; follows = follows })
-  leads_to appended (wants.Done (Err refusal)) history kept follows spared = (head ∙ at.head, record { past = past'; appended = appended; all = at.all; did = did'; took = at.took; ends = history; spared = spared; follows = follows })
+  leads_to appended (wants.Done (Ok id)) history kept follows spared =
+      (head ∙ at.head, record { past = past'; appended = appended; all = at.all; did = did'; took = at.took; ends = (history, kept); spared = spared; follows = follows })
+  leads_to appended (wants.Done (Err refusal)) history kept follows spared =
+      (head ∙ at.head, record { past = past'; appended = appended; all = at.all; did = did'; took = at.took; ends = history; spared = spared; follows = follows })
 
   pub leads : ask ≡ write_ask w.head job.piece stage → Leads w new later rest source_now fed (next_write w.head.size (length job.piece) stage answer)
   leads is =
       leads_to (data_after stage job.piece answer at.appended) (next_write w.head.size (length job.piece) stage answer)
-      (subst (λ (a : DiskAsk). IsHistoryOnward w.head (NamedBy w) (SourceFailed w source_now) (OtherLength w.left w.head.size) (data_after stage job.piece answer at.appended) (next_write w.head.size (length job.piece) stage answer) (at.past ++ exchanged a answer ∷ [])) (sym is)
+      (subst (λ (a : DiskAsk). WentToWanted w source_now (data_after stage job.piece answer at.appended) (next_write w.head.size (length job.piece) stage answer) (at.past ++ exchanged a answer ∷ [])) (sym is)
       (IsHistory-next w.head (NamedBy w) (SourceFailed w source_now) (OtherLength w.left w.head.size) stage at.appended job.piece at.past answer (counts w rest job fed removal naming ended source_now at.appended at.all at.past stage at.history at.holds at.took)
       (next_piece w rest job fed removal naming ended source_now at.appended at.all at.past stage at.holds) at.history))
       (kept w rest job fed removal naming ended source_now at.appended at.all at.past stage answer at.history at.holds at.removal) (followed is) (spared_next is)
 
 -- ---- a turn as the code has it
 
-module _ (w : Begun) (state new : Option State) (now later : ℕ) (rest : Option (List ℕ)) (source_now : ℕ) (job fed : StreamJob) (stage : WriteStage) (ask : DiskAsk) (answer : DiskAnswer) (len : ℕ) (wanted : WriteAsk)
-    (at : StandsAt w state now rest source_now job stage) (len_is : len ≡ length job.piece) (asked : ask ≡ write_ask job.head job.piece stage) (same : fed ≡ record job { piece = [] }) (is : wanted ≡ next_write fed.head.size len stage answer) where
+module _ (w : Begun) (state new : Option State) (now later : ℕ) (rest : Option (List ℕ)) (source_now : ℕ) (job fed : StreamJob) (stage : WriteStage) (ask : DiskAsk) (answer : DiskAnswer) (len : ℕ)
+    (wanted : WriteAsk)
+    (at : StandsAt w state now rest source_now job stage) (len_is : len ≡ length job.piece) (asked : ask ≡ write_ask job.head job.piece stage) (same : fed ≡ record job { piece = [] })
+    (is : wanted ≡ next_write fed.head.size len stage answer) where
   head_is : fed.head ≡ job.head
   head_is = ap (λ (j : StreamJob). j.head) same
 
   wanted_is : wanted ≡ next_write w.head.size (length job.piece) stage answer
   wanted_is = is ∙ ap (λ (h : WriteHead). next_write h.size len stage answer) (head_is ∙ at.head) ∙ ap (λ (n : ℕ). next_write w.head.size n stage answer) len_is
 
-  pub turn_leads : IfSome state (λ s. AnswersAsk answer (answer_of (tree_of s) ask)) → new ≡ state_told_after state ask answer → now ≤ later → (answer ≡ answers.Refused disk_errors.Failed → Rose now later) → IfSome state (λ s. IsTree (tree_of s))
+  pub turn_leads : IfSome state (λ s. AnswersAsk answer (answer_of (tree_of s) ask)) → new ≡ state_told_after state ask answer → now ≤ later
+      → (answer ≡ answers.Refused disk_errors.Failed → Rose now later) → IfSome state (λ s. IsTree (tree_of s))
       → Leads w new later rest source_now fed wanted
   turn_leads given left more cause tree =
       subst (λ (a : WriteAsk). Leads w new later rest source_now fed a) (sym wanted_is)

@@ -1,5 +1,5 @@
 -- How many calls of the disk a write from a source has left: fewer after each turn.
-use Rattle.std.specs.Prelude.{◌≡◌, ◌≢◌, ℕ, ◌+◌, ◌-◌, ◌*◌, ◌<◌, ◌≤◌, Bool, true, false, nat_le, List, [], ◌∷◌, length, Option, None, Result, Ok, Err, IfOk, if◌then◌else◌, refl}
+use Rattle.std.specs.Prelude.{◌≡◌, ◌≢◌, ℕ, ◌+◌, ◌-◌, ◌<◌, ◌≤◌, Bool, true, false, nat_le, List, [], ◌∷◌, length, Option, None, Result, Ok, Err, IfOk, if◌then◌else◌, refl}
 use Rattle.std.proofs.Common.{sym, ap, ◌∙◌, subst, arith}
 use Rattle.odb_tree.specs.Tree.{State}
 use Rattle.odb_disk.specs.declared.ask.DiskAnswer.{DiskAnswer}
@@ -45,7 +45,8 @@ module _ (job fed : StreamJob) (head : fed.head ≡ job.head) (ended : fed.has_e
   size_is = ap (λ (h : WriteHead). h.size) head
 
   -- while the source isn't at its end
-  less_open : (stage : WriteStage) (len : ℕ) (answer : DiskAnswer) → job.has_ended ≡ false → LeavesFewer (size + 1) size stage len → calls_left fed (next_write size len stage answer) < calls_left job (wants.Disk stage)
+  less_open : (stage : WriteStage) (len : ℕ) (answer : DiskAnswer) → job.has_ended ≡ false → LeavesFewer (size + 1) size stage len
+      → calls_left fed (next_write size len stage answer) < calls_left job (wants.Disk stage)
   less_open stage len answer open' leaves =
       let wanted : WriteAsk = next_write size len stage answer in
       let fewer : writes_left (size + 1) wanted < writes_left (size + 1) (wants.Disk stage) = fewer_left (size + 1) size stage len answer leaves in
@@ -79,7 +80,8 @@ module _ (job fed : StreamJob) (head : fed.head ≡ job.head) (ended : fed.has_e
         subst (λ (n : ℕ). calls_left fed (filled_by number written size len answer) < 4 + pieces_of (n - written)) (sym most_last) (omega (arith, few, some))
 
   -- once the data are appended
-  settled_less : (stage : WriteStage) (len : ℕ) (answer : DiskAnswer) (left : ℕ) → ((n : ℕ) → writes_left n (wants.Disk stage) ≡ left) → LeavesFewer (most_of fed (written_at (next_write size len stage answer))) size stage len
+  settled_less : (stage : WriteStage) (len : ℕ) (answer : DiskAnswer) (left : ℕ) → ((n : ℕ) → writes_left n (wants.Disk stage) ≡ left)
+      → LeavesFewer (most_of fed (written_at (next_write size len stage answer))) size stage len
       → calls_left fed (next_write size len stage answer) < calls_left job (wants.Disk stage)
   settled_less stage len answer left is leaves =
       let most : ℕ = most_of fed (written_at (next_write size len stage answer)) in
@@ -111,7 +113,8 @@ module _ (job fed : StreamJob) (head : fed.head ≡ job.head) (ended : fed.has_e
     turn_less (stages.Removing number refusal) at = settled_less (stages.Removing number refusal) len answer 1 (λ n. refl) tt
 
 -- as the code has it
-pub turn_fewer : (w : Begun) (state : Option State) (now : ℕ) (rest : Option (List ℕ)) (source_now : ℕ) (job fed : StreamJob) (stage : WriteStage) (answer : DiskAnswer) (len : ℕ) (wanted : WriteAsk) → StandsAt w state now rest source_now job stage
+pub turn_fewer : (w : Begun) (state : Option State) (now : ℕ) (rest : Option (List ℕ)) (source_now : ℕ) (job fed : StreamJob) (stage : WriteStage) (answer : DiskAnswer) (len : ℕ) (wanted : WriteAsk)
+    → StandsAt w state now rest source_now job stage
     → len ≡ length job.piece → fed ≡ record job { piece = [] } → wanted ≡ next_write fed.head.size len stage answer → calls_left fed wanted < calls_left job (wants.Disk stage)
 turn_fewer w state now rest source_now job fed stage answer len wanted at len_is same is =
     let head : fed.head ≡ job.head = ap (λ (j : StreamJob). j.head) same in
@@ -135,7 +138,8 @@ module _ (job new : StreamJob) (number written : ℕ) where
   most_by false few same = omega (arith, same)
 
   -- a piece
-  pub piece_less : (most : ℕ) → most ≡ room_behind job.head.size written → written ≤ job.head.size → job.has_ended ≡ false → new.head ≡ job.head → length new.piece ≤ most → new.stage ≡ stages.Filling number written
+  pub piece_less : (most : ℕ) → most ≡ room_behind job.head.size written → written ≤ job.head.size → job.has_ended ≡ false → new.head ≡ job.head → length new.piece ≤ most
+      → new.stage ≡ stages.Filling number written
       → calls_left new (wants.Disk new.stage) ≤ calls_left job (wants.Data number written)
   piece_less most room within open' head few is =
       let whole = room_within job.head.size written within in
@@ -144,6 +148,7 @@ module _ (job new : StreamJob) (number written : ℕ) where
       subst (λ (s : WriteStage). calls_left new (wants.Disk s) ≤ calls_left job (wants.Data number written)) (sym is) (omega (arith, at_most))
 
 -- a turn is a call of the disk, and what is read behind its answer
-pub fewer_on : {E : Type 0} (left wanted first : ℕ) (result : Result (Option (Result ObjectId Refusal)) E) → IfOk result (λ end. end ≡ None → left ≤ wanted) → wanted < first → IfOk result (λ end. end ≡ None → left < first)
+pub fewer_on : {E : Type 0} (left wanted first : ℕ) (result : Result (Option (Result ObjectId Refusal)) E) → IfOk result (λ end. end ≡ None → left ≤ wanted) → wanted < first
+    → IfOk result (λ end. end ≡ None → left < first)
 fewer_on left wanted first (Ok end) least less = λ e. let few = least e in omega (arith, few, less)
 fewer_on left wanted first (Err error) least less = tt

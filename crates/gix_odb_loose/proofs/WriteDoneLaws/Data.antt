@@ -145,7 +145,8 @@ module _ (job : WriteJob) where
   abbrev piece_for : WriteStage → List ℕ
   piece_for stage = piece_of job.head.size job.bytes (written_in stage)
 
-  pub fed_next : (stage : WriteStage) (answer : DiskAnswer) → HasNext job.head.size job.bytes stage → FedTo (data_after stage (piece_for stage) answer (data_at job.bytes stage)) (next_write job.head.size (length (piece_for stage)) stage answer)
+  pub fed_next : (stage : WriteStage) (answer : DiskAnswer) → HasNext job.head.size job.bytes stage
+      → FedTo (data_after stage (piece_for stage) answer (data_at job.bytes stage)) (next_write job.head.size (length (piece_for stage)) stage answer)
   fed_next (stages.Making number) answer next = fed_made number answer
   fed_next (stages.Heading number) answer next = fed_headed number answer
   fed_next (stages.Filling number written) answer next = fed_filled number written next answer

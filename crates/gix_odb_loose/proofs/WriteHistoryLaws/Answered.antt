@@ -40,7 +40,8 @@ module _ (head : WriteHead) (Named : ObjectId → Type 0) where
     answered : (So : DiskAsk → DiskAnswer → Type 0) (answer : DiskAnswer) → So ask answer → IsAnswered head Named So stage (after answer)
     answered So answer so = record { appended = appended; before = past; well = well; piece = piece; answer = answer; so = so; is = refl }
 
-    module _ (Ends : Refusal → List Exchange → Type 0) (refusal : Refusal) (row : (xs : List Exchange) → IsAnswered head Named IsRefused stage xs → Ends refusal xs) (want : (xs : List Exchange) → IsAnswered head Named Wants stage xs → Ends refusals.NoMemory xs) where
+    module _ (Ends : Refusal → List Exchange → Type 0) (refusal : Refusal) (row : (xs : List Exchange) → IsAnswered head Named IsRefused stage xs → Ends refusal xs)
+        (want : (xs : List Exchange) → IsAnswered head Named Wants stage xs → Ends refusals.NoMemory xs) where
       pub refused_as : (answer : DiskAnswer) → IsRefused ask answer → refused_by refusal answer ≡ refusal → Ends (refused_by refusal answer) (after answer)
       refused_as answer is same = subst (λ (r : Refusal). Ends r (after answer)) (sym same) (row (after answer) (answered IsRefused answer is))
 

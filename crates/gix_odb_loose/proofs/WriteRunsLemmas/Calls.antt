@@ -53,7 +53,8 @@ module _ (head : WriteHead) (Named : ObjectId → Type 0) (Counted : ℕ → Typ
   unfailing_stop number (refusals.SizeMismatch actual) past h = h
   unfailing_stop number refusals.NoMemory past h = h
 
-  unfailing_history : (appended : List ℕ) (stage : WriteStage) (past : List Exchange) → IsHistory head Named SourceFailed Counted appended stage past → IsHistory head Named ⊥ Counted appended stage past
+  unfailing_history : (appended : List ℕ) (stage : WriteStage) (past : List Exchange) → IsHistory head Named SourceFailed Counted appended stage past
+      → IsHistory head Named ⊥ Counted appended stage past
   unfailing_history appended (stages.Making number) past h = h
   unfailing_history appended (stages.Heading number) past h = h
   unfailing_history appended (stages.Filling number written) past h = h
@@ -82,7 +83,8 @@ module _ (head : WriteHead) (hash : HashKind) (content : Content) (state new : O
     by_data : (id : ObjectId) → result ≡ Ok id → (bytes : List ℕ) × (id ≡ object_id hash head.kind bytes) × IfSome (bytes_told content) (λ all. all ≡ bytes)
     by_data id is = let writes = run.wrote id is in (writes.bytes, writes.name ∙ object_named hash head writes.bytes writes.size, writes.whole)
 
-    of_source : (source : Option (List ℕ)) (bytes : List ℕ) (id : ObjectId) → IfSome source (λ all. all ≡ bytes) → id ≡ object_id hash head.kind bytes → IfSome source (λ all. id ≡ object_id hash head.kind all)
+    of_source : (source : Option (List ℕ)) (bytes : List ℕ) (id : ObjectId) → IfSome source (λ all. all ≡ bytes) → id ≡ object_id hash head.kind bytes
+        → IfSome source (λ all. id ≡ object_id hash head.kind all)
     of_source None bytes id whole named = tt
     of_source (Some all) bytes id whole named = named ∙ ap (object_id hash head.kind) (sym whole)
 
@@ -98,7 +100,8 @@ module _ (head : WriteHead) (hash : HashKind) (content : Content) (state new : O
   wrote_known known run = if_ok (λ id. id ≡ known) result (λ id is. (run.wrote id is).name)
 
   -- the source was as long as was told, and is at its end
-  pub wrote_whole : (known : Option ObjectId) (rest : Option (List ℕ)) (faults faults_now : ℕ) → Runs known → TakesFrom head.size (bytes_told content) rest faults faults_now → IfOk result (λ _. IsAtEnd rest)
+  pub wrote_whole : (known : Option ObjectId) (rest : Option (List ℕ)) (faults faults_now : ℕ) → Runs known → TakesFrom head.size (bytes_told content) rest faults faults_now
+      → IfOk result (λ _. IsAtEnd rest)
       → IfOk result (λ _. IsWhole head.size (bytes_told content) rest)
   wrote_whole known rest faults faults_now run takes ended = by_result result refl ended
     where
@@ -112,7 +115,8 @@ module _ (head : WriteHead) (hash : HashKind) (content : Content) (state new : O
       at_end (Some left) (Some rest) all d e = ap (λ (xs : List ℕ). Some xs) e
 
       by_result : (r : Result ObjectId Error) → result ≡ r → IfOk r (λ _. IsAtEnd rest) → IfOk r (λ _. IsWhole head.size (bytes_told content) rest)
-      by_result (Ok id) is e = let writes = run.wrote id is in record { size_is = whole (bytes_told content) writes.bytes writes.whole writes.size; at_end = at_end (bytes_told content) rest takes.all takes.drawn e }
+      by_result (Ok id) is e =
+          let writes = run.wrote id is in record { size_is = whole (bytes_told content) writes.bytes writes.whole writes.size; at_end = at_end (bytes_told content) rest takes.all takes.drawn e }
       by_result (Err error) is e = tt
 
   -- the count of the source is as it was
@@ -149,16 +153,20 @@ module _ (head : WriteHead) (hash : HashKind) (known : Option ObjectId) (lent by
         untouched = run.untouched;
         refused =
             λ error is.
-            WriteCause-wider head (Refuses state (Rose before now) run.exchanges) (Refuses state (Rose before now) run.exchanges) (FoundThere run.exchanges) (FoundThere run.exchanges) (DoneIn run.exchanges) (DoneIn run.exchanges) (λ ask m r. r) (λ ask t. t) (λ ask d. d)
+            WriteCause-wider head (Refuses state (Rose before now) run.exchanges) (Refuses state (Rose before now) run.exchanges) (FoundThere run.exchanges) (FoundThere run.exchanges)
+            (DoneIn run.exchanges) (DoneIn run.exchanges) (λ ask m r. r) (λ ask t. t) (λ ask d. d)
             (Rose 0 0) ⊥ unfailing (NamedFrom head hash known (Some lent)) (NamedFrom head hash known (Some lent)) (λ id n. n) ⊤ ⊤ (λ m. m) (OtherLength (Some lent) head.size) (OtherLength (Some lent) head.size) (λ n k. k) error (run.refused error is);
       }
 
-  pub runs_at_hand : lent ≡ bytes → WriteRuns (write_by head hash known (Streamed (Some lent) 0 0) state new before now result) → WriteRuns (write_by head hash known (AtHand bytes) state new before now result)
+  pub runs_at_hand : lent ≡ bytes → WriteRuns (write_by head hash known (Streamed (Some lent) 0 0) state new before now result)
+      → WriteRuns (write_by head hash known (AtHand bytes) state new before now result)
   runs_at_hand same run = subst (λ (xs : List ℕ). WriteRuns (write_by head hash known (AtHand xs) state new before now result)) same (unfailing_runs run)
 
 -- an object's own kind and data
-pub runs_of_object : (store : Store) (hash : HashKind) (known : Option ObjectId) (kind own : Kind) (bytes held : List ℕ) (state new : Option State) (before now : ℕ) (result : Result ObjectId Error) → kind ≡ own → bytes ≡ held
-    → WriteRuns (write_by (write_head store kind (length bytes)) hash known (AtHand bytes) state new before now result) → WriteRuns (write_by (write_head store own (length held)) hash known (AtHand held) state new before now result)
+pub runs_of_object : (store : Store) (hash : HashKind) (known : Option ObjectId) (kind own : Kind) (bytes held : List ℕ) (state new : Option State) (before now : ℕ) (result : Result ObjectId Error)
+    → kind ≡ own → bytes ≡ held
+    → WriteRuns (write_by (write_head store kind (length bytes)) hash known (AtHand bytes) state new before now result)
+    → WriteRuns (write_by (write_head store own (length held)) hash known (AtHand held) state new before now result)
 runs_of_object store hash known kind own bytes held state new before now result kind_is held_is run =
     subst (λ (xs : List ℕ). WriteRuns (write_by (write_head store own (length xs)) hash known (AtHand xs) state new before now result)) held_is
     (subst (λ (k : Kind). WriteRuns (write_by (write_head store k (length bytes)) hash known (AtHand bytes) state new before now result)) kind_is run)

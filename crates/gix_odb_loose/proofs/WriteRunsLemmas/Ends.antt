@@ -17,12 +17,12 @@ use Rattle.gix_odb_loose.proofs.ReadBackLaws.{moved_reads_back}
 use Rattle.gix_odb_loose.specs.WriteAsks.{RunsAlong}
 use Rattle.gix_odb_loose.specs.WriteHistory.WentWell.{IsMoved, tried}
 use Rattle.gix_odb_loose.specs.WriteHistory.Refused.{RefusedIn, TakenIn, DoneIn, WantedIn, HasCauseIn}
-use Rattle.gix_odb_loose.specs.WriteHistory.{IsRefusedRun, IsBrokenRun}
+use Rattle.gix_odb_loose.specs.WriteHistory.{IsRefusedRun}
 use Rattle.gix_odb_loose.specs.WriteOwn.{AreOwn, LeavesNothing}
 use Rattle.gix_odb_loose.specs.WriteOrder.{error_from, temp_path}
 use Rattle.gix_odb_loose.specs.WriteRuns.RefusedAsks.{Refuses, FoundThere}
 use Rattle.gix_odb_loose.specs.WriteRuns.{IsRefusedWrite, IsStoppedBySource, Writes, WriteRuns}
-use Rattle.gix_odb_loose.specs.StreamJobs.Progress.{write_made, Begun, NamedBy, SourceFailed, IsSpared, Did, Took}
+use Rattle.gix_odb_loose.specs.StreamJobs.Progress.{write_made, Begun, NamedBy, SourceFailed, IsSpared, Did, Took, BrokeOff}
 use Rattle.gix_odb_loose.specs.StreamJobs.SameAsks.{at_hand}
 use Rattle.gix_odb_loose.specs.StreamJobs.AtStage.{IsNew}
 use Rattle.gix_odb_loose.specs.StreamJobs.Standing.{IsAtItsEnd, IsBrokenOff}
@@ -50,12 +50,14 @@ use Rattle.gix_hash.specs.declared.kind.Kind.{Kind as HashKind}
 use Rattle.gix_odb_loose.proofs.WriteRunsLemmas.RefusedAsks.{refuses_in}
 
 -- an object that got its name is read back, where the states are told
-reads_back : (first new : Option State) (head : WriteHead) (number : ℕ) (id : ObjectId) (bytes : List ℕ) (past : List Exchange) → (moved : IsMoved head number id bytes past) → AreGiven first past → new ≡ left_by first past
+reads_back : (first new : Option State) (head : WriteHead) (number : ℕ) (id : ObjectId) (bytes : List ℕ) (past : List Exchange) → (moved : IsMoved head number id bytes past) → AreGiven first past
+    → new ≡ left_by first past
     → (past ≡ []) ⊎ IfSome first (λ s. IsTree (tree_of s)) → IfSome first (λ _. ReadsBack head number id bytes (left_by first moved.before) new)
 reads_back None new head number id bytes past moved given left tree = tt
 reads_back (Some s) new head number id bytes past moved given left tree =
     elim tree [
-      | inl none ↦ absurd (let long = ap length (sym moved.is ∙ none) in omega (arith, long, length-append moved.before (exchanged (asks.Rename (temp_path head.objects number) (loose_path head.objects id)) answers.Done ∷ [])))
+      | inl none ↦ absurd
+          (let long = ap length (sym moved.is ∙ none) in omega (arith, long, length-append moved.before (exchanged (asks.Rename (temp_path head.objects number) (loose_path head.objects id)) answers.Done ∷ [])))
       | inr is ↦ subst (ReadsBack head number id bytes (left_by (Some s) moved.before)) (sym left) (moved_reads_back head number id bytes s is past moved given)
     ]
 
@@ -64,15 +66,18 @@ module _ (w : Begun) (state : Option State) (now : ℕ) (rest : Option (List ℕ
   Runs result = WriteRuns (write_made w state now source_now result)
 
   abbrev Refused : List Exchange → Error → Type 0
-  Refused past error = WriteCause w.head (NamedBy w) (Refuses w.state (Rose w.faults now) past) (FoundThere past) (DoneIn past) (Rose w.source_faults source_now) ⊤ (OtherLength w.left w.head.size) error
+  Refused past error =
+      WriteCause w.head (NamedBy w) (Refuses w.state (Rose w.faults now) past) (FoundThere past) (DoneIn past) (Rose w.source_faults source_now) ⊤ (OtherLength w.left w.head.size) error
 
   abbrev Stopped : List Exchange → Error → Type 0
   Stopped past error = IsRefusedWrite w.head (NamedBy w) (SourceFailed w source_now) (OtherLength w.left w.head.size) past error
 
   -- the cause, as the disk told it
-  cause_told : (past : List Exchange) (error : Error) → Did w state now past → HasCauseIn w.head (NamedBy w) (SourceFailed w source_now) (OtherLength w.left w.head.size) past error → Refused past error
+  cause_told : (past : List Exchange) (error : Error) → Did w state now past → HasCauseIn w.head (NamedBy w) (SourceFailed w source_now) (OtherLength w.left w.head.size) past error
+      → Refused past error
   cause_told past error did h =
-      WriteCause-wider w.head (RefusedIn past) (Refuses w.state (Rose w.faults now) past) (TakenIn past) (FoundThere past) (DoneIn past) (DoneIn past) (refuses_in w.state w.faults now past did.given did.failed) (λ ask t. t) (λ ask d. d) (Rose w.source_faults source_now)
+      WriteCause-wider w.head (RefusedIn past) (Refuses w.state (Rose w.faults now) past) (TakenIn past) (FoundThere past) (DoneIn past) (DoneIn past)
+      (refuses_in w.state w.faults now past did.given did.failed) (λ ask t. t) (λ ask d. d) (Rose w.source_faults source_now)
       (Rose w.source_faults source_now) (λ f. f) (NamedBy w) (NamedBy w) (λ id n. n) (WantedIn past) ⊤ (λ m. tt) (OtherLength w.left w.head.size) (OtherLength w.left w.head.size) (λ n k. k) error h
 
   -- what a refused write shows
@@ -91,7 +96,8 @@ module _ (w : Begun) (state : Option State) (now : ℕ) (rest : Option (List ℕ
   abbrev SparedBy : List Exchange → Result ObjectId Error → Type 0
   SparedBy past result = IsSpared w source_now ⊎ IsStoppedBySource w.head past result
 
-  runs_refused : (past : List Exchange) (error : Error) (result : Result ObjectId Error) → result ≡ Err error → Did w state now past → Shows past error → Asked past result → SparedBy past result → Runs result
+  runs_refused : (past : List Exchange) (error : Error) (result : Result ObjectId Error) → result ≡ Err error → Did w state now past → Shows past error → Asked past result → SparedBy past result
+      → Runs result
   runs_refused past error result is did shows asked spared =
       record {
         exchanges = past;
@@ -144,10 +150,12 @@ module _ (w : Begun) (state : Option State) (now : ℕ) (rest : Option (List ℕ
     abbrev run : IsRefusedRun w.head (NamedBy w) (SourceFailed w source_now) (OtherLength w.left w.head.size) refusal at.past
     run = at.ends
 
-    spared_by : (result : Result ObjectId Error) → (refusal ≡ refusals.Io messages.StreamData → (result ≡ Err (errors.Io messages.StreamData w.head.objects)) ⊎ (result ≡ Err errors.NoMemory)) → SparedBy at.past result
+    spared_by : (result : Result ObjectId Error) → (refusal ≡ refusals.Io messages.StreamData → (result ≡ Err (errors.Io messages.StreamData w.head.objects)) ⊎ (result ≡ Err errors.NoMemory))
+        → SparedBy at.past result
     spared_by result told = elim at.spared [ inl spared ↦ inl spared | inr failed ↦ inr (failed.1, told (let both = failed.0 in cc both)) ]
 
-    shown : (error : Error) → (error ≡ error_from w.head refusal) ⊎ (error ≡ errors.NoMemory) → ((path : Path) → error ≡ errors.Io messages.CreateTempFile path → left_by w.state at.past ≡ w.state) → Refused at.past error → Shows at.past error
+    shown : (error : Error) → (error ≡ error_from w.head refusal) ⊎ (error ≡ errors.NoMemory) → ((path : Path) → error ≡ errors.Io messages.CreateTempFile path → left_by w.state at.past ≡ w.state)
+        → Refused at.past error → Shows at.past error
     shown error is untouched cause =
         record {
           own = refused_own w.head (NamedBy w) (SourceFailed w source_now) (OtherLength w.left w.head.size) refusal at.past run;
@@ -163,14 +171,15 @@ module _ (w : Begun) (state : Option State) (now : ℕ) (rest : Option (List ℕ
         runs_refused at.past (error_from w.head refusal) result is at.did
         (shown (error_from w.head refusal) (inl refl) (λ path e. unmade_left w.head (NamedBy w) (SourceFailed w source_now) (OtherLength w.left w.head.size) w.state refusal path at.past e run)
         (cause_told at.past (error_from w.head refusal) at.did (refused_cause w.head (NamedBy w) (SourceFailed w source_now) (OtherLength w.left w.head.size) refusal at.past run)))
-        (λ bytes told. runs_end w bytes (SourceFailed w source_now) (Err refusal) at.past result (inl is) (at.follows bytes told)) (spared_by result (λ same. inl (is ∙ ap (λ (r : Refusal). Err (error_from w.head r)) same)))
+        (λ bytes told. runs_end w bytes (SourceFailed w source_now) (Err refusal) at.past result (inl is) (at.follows bytes told))
+        (spared_by result (λ same. inl (is ∙ ap (λ (r : Refusal). Err (error_from w.head r)) same)))
 
     pub runs_untold : (result : Result ObjectId Error) → result ≡ Err errors.NoMemory → Runs result
     runs_untold result is =
         runs_refused at.past errors.NoMemory result is at.did (shown errors.NoMemory (inr refl) (λ path e. absurd (cc e)) tt)
         (λ bytes told. runs_end w bytes (SourceFailed w source_now) (Err refusal) at.past result (inr is) (at.follows bytes told)) (spared_by result (λ same. inr is))
 
-  shown_broken : (past : List Exchange) → IsBrokenRun w.head (NamedBy w) (SourceFailed w source_now) (OtherLength w.left w.head.size) past → Shows past errors.NoMemory
+  shown_broken : (past : List Exchange) → BrokeOff w source_now past → Shows past errors.NoMemory
   shown_broken past run =
       record {
         own = broken_own w.head (NamedBy w) (SourceFailed w source_now) (OtherLength w.left w.head.size) past run;
@@ -206,7 +215,8 @@ took_from w rest source_now all took = record { all = all; drawn = took.drawn; f
 pub runs_nothing : (w : Begun) (result : Result ObjectId Error) → result ≡ Err errors.NoMemory → Runs w w.state w.faults w.left w.source_faults result
 unfolding AreGiven left_by tried
 runs_nothing w result is =
-    runs_refused w w.state w.faults w.left w.source_faults [] errors.NoMemory result is (record { given = tt; left = refl; failed = λ k d l. absurd (omega (arith, l)); later = omega arith; tree = inl refl })
+    runs_refused w w.state w.faults w.left w.source_faults [] errors.NoMemory result is
+    (record { given = tt; left = refl; failed = λ k d l. absurd (omega (arith, l)); later = omega arith; tree = inl refl })
     (shown_broken w w.state w.faults w.left w.source_faults [] (record { stage = stages.Making 0; appended = []; before = []; history = (omega arith, refl, refl); removed = refl }))
     (λ bytes told. inr (record { stage = stages.Making 0; before = []; along = IsAlong-start (at_hand w bytes); removed = refl }, inr is)) (inl refl)
 
@@ -220,8 +230,10 @@ for_memory (Err error) h = ap (λ (e : Error). Err e) h
 pub new_underway : (w : Begun) (job : StreamJob) → IsNew w.head w.hash w.known job → IsUnderway w w.state w.faults w.left w.source_faults job
 new_underway w job new = stands_first w job new.about new.stage new.has_ended new.naming new.removal
 
-pub new_in : {E : Type 0} (head made : WriteHead) (hash taken : HashKind) (known : Option ObjectId) (result : Result StreamJob E) → made ≡ head → taken ≡ hash → IfOk result (λ job. job.head ≡ made) → IfOk result (λ job. job.stage ≡ stages.Making 0)
-    → IfOk result (λ job. job.has_ended ≡ false) → IfOk result (λ job. Names known taken made [] job.naming) → IfOk result (λ job. job.removal ≡ asks.Remove (temp_path made.objects 0)) → IfOk result (IsNew head hash known)
+pub new_in : {E : Type 0} (head made : WriteHead) (hash taken : HashKind) (known : Option ObjectId) (result : Result StreamJob E) → made ≡ head → taken ≡ hash → IfOk result (λ job. job.head ≡ made)
+    → IfOk result (λ job. job.stage ≡ stages.Making 0)
+    → IfOk result (λ job. job.has_ended ≡ false) → IfOk result (λ job. Names known taken made [] job.naming) → IfOk result (λ job. job.removal ≡ asks.Remove (temp_path made.objects 0))
+    → IfOk result (IsNew head hash known)
 new_in head made hash taken known (Err error) same hash_is heads stage ended naming removal = tt
 new_in head made hash taken known (Ok job) same hash_is heads stage ended naming removal =
     record {

@@ -49,7 +49,8 @@ by_tree ask made (answers.Refused disk_errors.LinkLoop) a r = told made disk_err
 by_tree ask made (answers.Refused disk_errors.Exists) a r = told made disk_errors.Exists a
 by_tree ask made (answers.Refused disk_errors.NotEmpty) a r = told made disk_errors.NotEmpty a
 
-by_way : (made : Result Change writing.Refusal) (answer : DiskAnswer) → (answer ≡ answers.Refused disk_errors.Exists → made ≡ Err writing.Exists → ⊥) → Never writing.NotEmpty made → ByTree made answer → ByWay answer
+by_way : (made : Result Change writing.Refusal) (answer : DiskAnswer) → (answer ≡ answers.Refused disk_errors.Exists → made ≡ Err writing.Exists → ⊥) → Never writing.NotEmpty made
+    → ByTree made answer → ByWay answer
 by_way made answer taken unfilled h = elim h [ inl failed ↦ inl failed | inr by ↦ inr (on_way by.0 by.1 by.2) ]
   where
     on_way : (refusal : writing.Refusal) → made ≡ Err refusal → answer ≡ answers.Refused (error_of_write refusal) → (error : DiskError) × IsOnWay error × (answer ≡ answers.Refused error)
@@ -98,7 +99,8 @@ given_at [] state k x given less e = absurd (omega arith)
 given_at (y ∷ ys) state zero x given less e = subst (λ (z : Exchange). IfSome state (λ _. GivenBySome z)) e (given_first state y given.0)
 given_at (y ∷ ys) state (suc k) x given less e = from_told state y (GivenBySome x) (given_at ys (state_told_after state y.ask y.answer) k x given.1 (omega (arith, less)) e)
 
-refuses_told : (state : Option State) (Failed : Type 0) (xs : List Exchange) (ask : DiskAsk) (answer : DiskAnswer) → IsMaking ask → Contains xs (exchanged ask answer) → IsRefused ask answer → (answer ≡ answers.Refused disk_errors.Failed → Failed)
+refuses_told : (state : Option State) (Failed : Type 0) (xs : List Exchange) (ask : DiskAsk) (answer : DiskAnswer) → IsMaking ask → Contains xs (exchanged ask answer) → IsRefused ask answer
+    → (answer ≡ answers.Refused disk_errors.Failed → Failed)
     → IfSome state (λ _. GivenBySome (exchanged ask answer)) → Refuses state Failed xs ask
 refuses_told None Failed xs ask answer making has refused failed given = (answer, has, refused, inr tt)
 refuses_told (Some s) Failed xs ask answer making has refused failed given =
@@ -107,9 +109,12 @@ refuses_told (Some s) Failed xs ask answer making has refused failed given =
       | inr by ↦ (answer, has, refused, inr by)
     ]
 
-failed_at : (before now : ℕ) (xs : List Exchange) (ask : DiskAsk) (answer : DiskAnswer) → FailByFaults before now xs → Contains xs (exchanged ask answer) → answer ≡ answers.Refused disk_errors.Failed → Rose before now
+failed_at : (before now : ℕ) (xs : List Exchange) (ask : DiskAsk) (answer : DiskAnswer) → FailByFaults before now xs → Contains xs (exchanged ask answer) → answer ≡ answers.Refused disk_errors.Failed
+    → Rose before now
 failed_at before now xs ask answer fail has e = fail has.0 (exchanged ask answer) has.1 (ap (λ (x : Exchange). x.answer) has.2 ∙ e)
 
-pub refuses_in : (state : Option State) (before now : ℕ) (xs : List Exchange) → AreGiven state xs → FailByFaults before now xs → (ask : DiskAsk) → IsMaking ask → RefusedIn xs ask → Refuses state (Rose before now) xs ask
+pub refuses_in : (state : Option State) (before now : ℕ) (xs : List Exchange) → AreGiven state xs → FailByFaults before now xs → (ask : DiskAsk) → IsMaking ask → RefusedIn xs ask
+    → Refuses state (Rose before now) xs ask
 refuses_in state before now xs given fail ask making refused =
-    refuses_told state (Rose before now) xs ask refused.0 making refused.1 refused.2 (failed_at before now xs ask refused.0 fail refused.1) (given_at xs state refused.1.0 (exchanged ask refused.0) given refused.1.1 refused.1.2)
+    refuses_told state (Rose before now) xs ask refused.0 making refused.1 refused.2 (failed_at before now xs ask refused.0 fail refused.1)
+    (given_at xs state refused.1.0 (exchanged ask refused.0) given refused.1.1 refused.1.2)

@@ -24,7 +24,8 @@ undone_left : (state : Option State) (xs : List Exchange) → All (λ (x : Excha
 unfolding left_by
 undone_left state [] all = refl
 undone_left state (x ∷ xs) all =
-    ap (λ (s : Option State). left_by s xs) (same state x.ask x.answer (All-head (λ (y : Exchange). is_done y.answer ≡ false) x xs all)) ∙ undone_left state xs (All-tail (λ (y : Exchange). is_done y.answer ≡ false) x xs all)
+    ap (λ (s : Option State). left_by s xs) (same state x.ask x.answer (All-head (λ (y : Exchange). is_done y.answer ≡ false) x xs all)) ∙ undone_left state xs
+    (All-tail (λ (y : Exchange). is_done y.answer ≡ false) x xs all)
   where
     same : (s : Option State) (ask : DiskAsk) (answer : DiskAnswer) → is_done answer ≡ false → state_told_after s ask answer ≡ s
     same None ask answer isnt_done = refl
@@ -45,7 +46,8 @@ module _ (head : WriteHead) (Named : ObjectId → Type 0) (SourceFailed : Type 0
       ]
 
   -- where no temporary file could be made, the disk is as it was
-  pub unmade_left : (refusal : Refusal) (path : Path) (past : List Exchange) → error_from head refusal ≡ errors.Io messages.CreateTempFile path → IsRefusedRun head Named SourceFailed Counted refusal past → left_by state past ≡ state
+  pub unmade_left : (refusal : Refusal) (path : Path) (past : List Exchange) → error_from head refusal ≡ errors.Io messages.CreateTempFile path
+      → IsRefusedRun head Named SourceFailed Counted refusal past → left_by state past ≡ state
   unmade_left (refusals.Io messages.CreateTempFile) path past e run = unmade_run past run
   unmade_left (refusals.Io messages.WriteHeader) path past e run = absurd (cc e)
   unmade_left (refusals.Io messages.StreamData) path past e run = absurd (cc e)

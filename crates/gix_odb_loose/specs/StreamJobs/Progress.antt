@@ -11,7 +11,10 @@ use Rattle.gix_odb_loose.specs.WriteHistory.WentWell.{IsFilled}
 use Rattle.gix_odb_loose.specs.WriteNames.{name_for}
 use Rattle.gix_odb_loose.specs.WriteOrder.{number_made}
 use Rattle.gix_odb_loose.specs.WriteRuns.{write_head, Write, Streamed}
-use Rattle.gix_odb_loose.specs.WriteStreams.{Draws}
+use Rattle.gix_odb_loose.specs.WriteHistory.{IsHistory, IsHistoryOnward, IsHistoryOfEnd, IsBrokenRun}
+use Rattle.gix_odb_loose.specs.WriteStreams.{Draws, OtherLength}
+use Rattle.gix_odb_loose.specs.declared.write_order.Refusal.{Refusal}
+use Rattle.gix_odb_loose.specs.declared.write_order.WriteAsk.{WriteAsk}
 use Rattle.gix_odb_loose.specs.declared.write.Error.{Error}
 use Rattle.gix_odb_loose.specs.declared.store.Store.{Store}
 use Rattle.gix_odb_loose.specs.declared.write.Message.TheVariants as messages
@@ -89,3 +92,17 @@ write_made w state now source_now result =
       faults_now = now;
       answer = result;
     }
+
+-- ---- the history of a write, by what it gets its id from and what is told of its source
+
+abbrev pub WentTo : Begun → (source_now : ℕ) (appended : List ℕ) → WriteStage → List Exchange → Type 0
+WentTo w source_now appended stage past = IsHistory w.head (NamedBy w) (SourceFailed w source_now) (OtherLength w.left w.head.size) appended stage past
+
+abbrev pub WentToWanted : Begun → (source_now : ℕ) (appended : List ℕ) → WriteAsk → List Exchange → Type 0
+WentToWanted w source_now appended wanted past = IsHistoryOnward w.head (NamedBy w) (SourceFailed w source_now) (OtherLength w.left w.head.size) appended wanted past
+
+abbrev pub WentToEnd : Begun → (source_now : ℕ) (appended : List ℕ) → Result ObjectId Refusal → List Exchange → Type 0
+WentToEnd w source_now appended end past = IsHistoryOfEnd w.head (NamedBy w) (SourceFailed w source_now) (OtherLength w.left w.head.size) appended end past
+
+abbrev pub BrokeOff : Begun → (source_now : ℕ) → List Exchange → Type 0
+BrokeOff w source_now past = IsBrokenRun w.head (NamedBy w) (SourceFailed w source_now) (OtherLength w.left w.head.size) past

@@ -6,12 +6,11 @@ use Rattle.gix_hash.specs.declared.kind.Kind.{Kind as HashKind}
 use Rattle.gix_hash.specs.declared.object_id.ObjectId.{ObjectId}
 use Rattle.gix_odb_loose.specs.Exchanges.{Exchange}
 use Rattle.gix_odb_loose.specs.WriteHistory.Refused.{IsFailedRead}
-use Rattle.gix_odb_loose.specs.WriteHistory.{GoesWell, IsHistory, IsHistoryOfEnd, IsBrokenRun}
+use Rattle.gix_odb_loose.specs.WriteHistory.{GoesWell}
 use Rattle.gix_odb_loose.specs.WriteNames.{name_for, Names}
 use Rattle.gix_odb_loose.specs.WriteAsks.{IsAlong, IsCutOff}
 use Rattle.gix_odb_loose.specs.WriteJobs.{supplied_with}
 use Rattle.gix_odb_loose.specs.WriteOrder.{ended_with}
-use Rattle.gix_odb_loose.specs.WriteStreams.{OtherLength}
 use Rattle.gix_odb_loose.specs.declared.naming.Naming.{Naming}
 use Rattle.gix_odb_loose.specs.declared.write_streamed.StreamJob.{StreamJob}
 use Rattle.gix_odb_loose.specs.declared.write.Message.TheVariants as messages
@@ -21,7 +20,7 @@ use Rattle.gix_odb_loose.specs.declared.write_order.Refusal.TheVariants as refus
 use Rattle.gix_odb_loose.specs.declared.write_order.WriteHead.{WriteHead}
 use Rattle.gix_odb_loose.specs.declared.write_order.WriteStage.{WriteStage}
 use Rattle.gix_odb_loose.specs.declared.write_order.WriteStage.TheVariants as stages
-use Rattle.gix_odb_loose.specs.StreamJobs.Progress.{Begun, NamedBy, SourceFailed, IsSpared, FailedAt, LostAt, Did, Took}
+use Rattle.gix_odb_loose.specs.StreamJobs.Progress.{Begun, NamedBy, SourceFailed, IsSpared, FailedAt, LostAt, Did, Took, WentToEnd, BrokeOff, WentTo}
 use Rattle.gix_odb_loose.specs.StreamJobs.AtStage.{removal_at, Named, Holds, HoldsNone, IsReady}
 use Rattle.gix_odb_loose.specs.StreamJobs.SameAsks.{at_hand, CutsAt, FollowsAt, FollowsToEnd}
 
@@ -34,7 +33,7 @@ pub record Stands (Ready : DiskAsk → Type 0) (w : Begun) (state : Option State
   pub took : Took w rest source_now all
   pub head : job.head ≡ w.head
   pub removal : Ready job.removal
-  pub history : IsHistory w.head (NamedBy w) (SourceFailed w source_now) (OtherLength w.left w.head.size) appended stage past
+  pub history : WentTo w source_now appended stage past
   pub holds : Holds w rest appended all job stage
   pub spared : IsSpared w source_now ⊎ FailedAt w stage past
   pub follows : (bytes : List ℕ) → w.left ≡ Some bytes → FollowsAt (at_hand w bytes) (SourceFailed w source_now) stage past
@@ -70,7 +69,7 @@ pub record BreaksAt (w : Begun) (state : Option State) (now : ℕ) (rest : Optio
   pub did : Did w state now past
   pub took : Took w rest source_now all
   pub removal : IsReady w job.removal stage
-  pub history : IsHistory w.head (NamedBy w) (SourceFailed w source_now) (OtherLength w.left w.head.size) appended stage past
+  pub history : WentTo w source_now appended stage past
   pub spared : IsSpared w source_now ⊎ LostAt w stage past
   pub follows : (bytes : List ℕ) → w.left ≡ Some bytes → CutsAt (at_hand w bytes) stage past
 
@@ -84,8 +83,8 @@ pub record IsEnded (number written size : ℕ) (naming : Naming) (stage : WriteS
 
 abbrev pub EndsWith : Begun → Option (List ℕ) → ℕ → (appended all : List ℕ) → List Exchange → Result ObjectId Refusal → Type 0
 EndsWith w rest source_now appended all past (Ok id) =
-    IsHistoryOfEnd w.head (NamedBy w) (SourceFailed w source_now) (OtherLength w.left w.head.size) appended (Ok id) past × Named w rest appended all id
-EndsWith w rest source_now appended all past (Err refusal) = IsHistoryOfEnd w.head (NamedBy w) (SourceFailed w source_now) (OtherLength w.left w.head.size) appended (Err refusal) past
+    WentToEnd w source_now appended (Ok id) past × Named w rest appended all id
+EndsWith w rest source_now appended all past (Err refusal) = WentToEnd w source_now appended (Err refusal) past
 
 pub record IsAtItsEnd (w : Begun) (state : Option State) (now : ℕ) (rest : Option (List ℕ)) (source_now : ℕ) (end : Result ObjectId Refusal) : Type 0 where
   pub past : List Exchange
@@ -102,7 +101,7 @@ pub record IsBrokenOff (w : Begun) (state : Option State) (now : ℕ) (rest : Op
   pub past : List Exchange
   pub all : List ℕ
   pub did : Did w state now past
-  pub run : IsBrokenRun w.head (NamedBy w) (SourceFailed w source_now) (OtherLength w.left w.head.size) past
+  pub run : BrokeOff w source_now past
   pub took : Took w rest source_now all
   pub spared : IsSpared w source_now ⊎ IsFailedRead w.head past
   pub follows : (bytes : List ℕ) → w.left ≡ Some bytes → IsCutOff (at_hand w bytes) past

@@ -20,4 +20,5 @@ returns-clause-taken g c = λ w at. let end = c.in_ok-end.ensures.ran w at in to
 pub returns-clause-ended : goal.returns-clause-ended
 returns-clause-ended g c =
     let some = c.requires.underway in
-    ended_told some.0 _ _ _ _ c.in_ok-end.end (c.in_ok-end.ensures.ran some.0 some.1) c.told.result (subst (λ h. IsToldBy h c.in_ok-end.end c.told.result) (c.in_ok-end.ensures.head ∙ some.1.head) c.told.ensures.answer)
+    ended_told some.0 _ _ _ _ c.in_ok-end.end (c.in_ok-end.ensures.ran some.0 some.1) c.told.result
+    (subst (λ h. IsToldBy h c.in_ok-end.end c.told.result) (c.in_ok-end.ensures.head ∙ some.1.head) c.told.ensures.answer)

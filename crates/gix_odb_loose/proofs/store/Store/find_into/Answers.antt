@@ -10,12 +10,15 @@ returns-in-Ok-Some-clause-answer g c =
 
 pub returns-in-Ok-None-clause-answer : goal.returns-in-Ok-None-clause-answer
 returns-in-Ok-None-clause-answer g c =
-    find_answers _ c.args.self.now c.args.id.now _ _ _ c.in_ok-path.ensures.path c.in_ok-answer.ensures.cause c.in_ok-answer.ensures.told (Ok None) (cc (c.in-Ok-None.is, c.in-Ok-None.field-0-is, c.in_ok-found.ensures.answer))
+    find_answers _ c.args.self.now c.args.id.now _ _ _ c.in_ok-path.ensures.path c.in_ok-answer.ensures.cause c.in_ok-answer.ensures.told (Ok None)
+    (cc (c.in-Ok-None.is, c.in-Ok-None.field-0-is, c.in_ok-found.ensures.answer))
 
 pub returns-clause-answer : goal.returns-clause-answer
 returns-clause-answer g c =
-    find_answers _ c.args.self.now c.args.id.now _ _ _ c.in_ok-path.ensures.path c.in_ok-answer.ensures.cause c.in_ok-answer.ensures.told (Err c.in-Err.error) (cc (c.in-Err.is, c.in-Err.error-is, c.in_ok-found.ensures.answer))
+    find_answers _ c.args.self.now c.args.id.now _ _ _ c.in_ok-path.ensures.path c.in_ok-answer.ensures.cause c.in_ok-answer.ensures.told (Err c.in-Err.error)
+    (cc (c.in-Err.is, c.in_ok-found.ensures.answer))
 
 pub returns-clause-cause : goal.returns-clause-cause
 returns-clause-cause g c =
-    find_cause _ c.args.self.now c.args.id.now _ _ _ c.in_ok-path.ensures.path c.in_ok-answer.ensures.cause c.in_ok-answer.ensures.told c.in-Err.error (cc (c.in-Err.is, c.in-Err.error-is, c.in_ok-found.ensures.answer))
+    find_cause _ c.args.self.now c.args.id.now _ _ _ c.in_ok-path.ensures.path c.in_ok-answer.ensures.cause c.in_ok-answer.ensures.told c.in-Err.error
+    (cc (c.in-Err.is, c.in_ok-found.ensures.answer))

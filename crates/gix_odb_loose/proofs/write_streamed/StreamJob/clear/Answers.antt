@@ -9,11 +9,13 @@ returns-then-is_some-clause-cleared g c =
     λ w rest source_now at.
     let made = ap is_some (sym c.number_made.ensures.number) ∙ (sym c.is_some.ensures ∙ c.if-is_some.true) in
     let still = removal_still w c.args.self.now.removal c.args.self.now.stage made at.removal in
-    clear_removed w _ _ rest source_now c.args.self.now (g.D.Disk.state c.carry_out.new.disk) (g.D.Disk.faults c.carry_out.new.disk) c.carry_out.result (c.carry_out.ensures.answer still) c.carry_out.ensures.state c.carry_out.ensures.later
+    clear_removed w _ _ rest source_now c.args.self.now (g.D.Disk.state c.carry_out.new.disk) (g.D.Disk.faults c.carry_out.new.disk) c.carry_out.result
+    (c.carry_out.ensures.answer still) c.carry_out.ensures.state c.carry_out.ensures.later
     c.carry_out.ensures.cause c.carry_out.ensures.tree c.args.self.now.stage made at
 
 pub returns-else-is_some-clause-cleared : goal.returns-else-is_some-clause-cleared
-returns-else-is_some-clause-cleared g c = λ w rest source_now at. clear_unmade w _ _ rest source_now c.args.self.now c.args.self.now.stage (ap is_some (sym c.number_made.ensures.number) ∙ (sym c.is_some.ensures ∙ c.if-is_some.false)) at
+returns-else-is_some-clause-cleared g c =
+    λ w rest source_now at. clear_unmade w _ _ rest source_now c.args.self.now c.args.self.now.stage (ap is_some (sym c.number_made.ensures.number) ∙ (sym c.is_some.ensures ∙ c.if-is_some.false)) at
 
 pub returns-then-is_some-clause-streams : goal.returns-then-is_some-clause-streams
 returns-then-is_some-clause-streams g c =

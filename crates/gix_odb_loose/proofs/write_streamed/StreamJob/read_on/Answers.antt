@@ -7,10 +7,12 @@ use Rattle.gix_odb_loose.proofs.StreamJobsLemmas.Turns.{ended_less, failed_less,
 use Rattle.gix_odb_loose.proofs.write_streamed.StreamJob.read_on.Goals as goal
 
 pub returns-then-self-clause-goes_on : goal.returns-then-self-clause-goes_on
-returns-then-self-clause-goes_on g c = λ w state now at. on_end w state now _ _ c.args.self.now c.args.number c.args.written at c.if-self.true c.end.new.self c.end.ensures.head c.end.ensures.removal c.end.ensures.ended
+returns-then-self-clause-goes_on g c =
+    λ w state now at. on_end w state now _ _ c.args.self.now c.args.number c.args.written at c.if-self.true c.end.new.self c.end.ensures.head c.end.ensures.removal c.end.ensures.ended
 
 pub returns-then-self-clause-fewer : goal.returns-then-self-clause-fewer
-returns-then-self-clause-fewer g c = λ w state now at. let ended = c.end.ensures.ended in ended_less c.args.self.now c.end.new.self c.args.number c.args.written c.args.self.now.head.size ended.id ended.is
+returns-then-self-clause-fewer g c =
+    λ w state now at. let ended = c.end.ensures.ended in ended_less c.args.self.now c.end.new.self c.args.number c.args.written c.args.self.now.head.size ended.id ended.is
 
 -- memory ran out behind what was read
 pub returns-in_err-next_piece-clause-goes_on : goal.returns-in_err-next_piece-clause-goes_on
@@ -25,7 +27,8 @@ returns-in-Failed-clause-goes_on g c =
     λ w state now at.
     let fetched = c.in_ok-next_piece.ensures.fetched in
     let failed = rw c.in-Failed.is at fetched in
-    on_failed w state now _ _ c.args.self.now c.args.number c.args.written at c.most-most.result c.most-most.ensures.most _ _ failed.0 failed.1 (record c.args.self.now { stage = c.failed-self.result }) refl refl c.failed-self.ensures.failed
+    on_failed w state now _ _ c.args.self.now c.args.number c.args.written at c.most-most.result c.most-most.ensures.most _ _ failed.0 failed.1
+    (record c.args.self.now { stage = c.failed-self.result }) refl refl c.failed-self.ensures.failed
 
 pub returns-in-Failed-clause-fewer : goal.returns-in-Failed-clause-fewer
 returns-in-Failed-clause-fewer g c = λ w state now at. failed_less c.args.self.now (record c.args.self.now { stage = c.failed-self.result }) c.args.number c.args.written c.failed-self.ensures.failed
@@ -34,7 +37,8 @@ pub returns-then-not-is_empty-clause-goes_on : goal.returns-then-not-is_empty-cl
 returns-then-not-is_empty-clause-goes_on g c =
     λ w state now at.
     let fetched = c.in_ok-next_piece.ensures.fetched in
-    on_piece w state now _ _ c.args.self.now c.args.number c.args.written at c.most-most.result c.most-most.ensures.most _ _ c.in-Piece.piece (rw c.in-Piece.is at fetched) c.take.new.self c.take.ensures.head c.take.ensures.removal c.take.ensures.piece
+    on_piece w state now _ _ c.args.self.now c.args.number c.args.written at c.most-most.result c.most-most.ensures.most _ _ c.in-Piece.piece
+    (rw c.in-Piece.is at fetched) c.take.new.self c.take.ensures.head c.take.ensures.removal c.take.ensures.piece
     c.take.ensures.has_ended c.take.ensures.naming c.if-self.false (λ e. cc (c.is_empty.ensures.empty.1 e, c.if-not-is_empty.true)) c.take.ensures.stage
 
 pub returns-then-not-is_empty-clause-fewer : goal.returns-then-not-is_empty-clause-fewer
@@ -42,15 +46,18 @@ returns-then-not-is_empty-clause-fewer g c =
     λ w state now at.
     let fetched = c.in_ok-next_piece.ensures.fetched in
     let takes = rw c.in-Piece.is at fetched in
-    piece_less c.args.self.now c.take.new.self c.args.number c.args.written c.most-most.result c.most-most.ensures.most (subst (λ (h : WriteHead). c.args.written ≤ h.size) (sym at.head) at.holds.0.within) c.if-self.false c.take.ensures.head
+    piece_less c.args.self.now c.take.new.self c.args.number c.args.written c.most-most.result c.most-most.ensures.most
+    (subst (λ (h : WriteHead). c.args.written ≤ h.size) (sym at.head) at.holds.0.within) c.if-self.false c.take.ensures.head
     (subst (λ (p : List ℕ). length p ≤ c.most-most.result) (sym c.take.ensures.piece) takes.few) c.take.ensures.stage
 
 pub returns-else-not-is_empty-clause-goes_on : goal.returns-else-not-is_empty-clause-goes_on
 returns-else-not-is_empty-clause-goes_on g c =
     λ w state now at.
     let fetched = c.in_ok-next_piece.ensures.fetched in
-    on_nothing w state now _ _ c.args.self.now c.args.number c.args.written at c.most-most.result c.most-most.ensures.most _ _ c.in-Piece.piece (rw c.in-Piece.is at fetched) c.take.new.self c.take.ensures.head c.take.ensures.removal c.take.ensures.piece
-    c.take.ensures.has_ended c.take.ensures.naming c.if-self.false (c.is_empty.ensures.empty.0 c.if-not-is_empty.false) c.end-in-Piece.new.self c.end-in-Piece.ensures.head c.end-in-Piece.ensures.removal c.end-in-Piece.ensures.ended
+    on_nothing w state now _ _ c.args.self.now c.args.number c.args.written at c.most-most.result c.most-most.ensures.most _ _ c.in-Piece.piece
+    (rw c.in-Piece.is at fetched) c.take.new.self c.take.ensures.head c.take.ensures.removal c.take.ensures.piece
+    c.take.ensures.has_ended c.take.ensures.naming c.if-self.false
+    (c.is_empty.ensures.empty.0 c.if-not-is_empty.false) c.end-in-Piece.new.self c.end-in-Piece.ensures.head c.end-in-Piece.ensures.removal c.end-in-Piece.ensures.ended
 
 pub returns-else-not-is_empty-clause-fewer : goal.returns-else-not-is_empty-clause-fewer
 returns-else-not-is_empty-clause-fewer g c =

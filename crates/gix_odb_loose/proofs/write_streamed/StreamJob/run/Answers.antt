@@ -29,5 +29,6 @@ returns-in-Err-clause-ran g c =
 
 pub returns-in-Err-clause-streams : goal.returns-in-Err-clause-streams
 returns-in-Err-clause-streams g c =
-    c.clear.ensures.streams _ (g.S.Source.left c.turn.new.from) (g.S.Source.faults c.turn.new.from) (came_to_want _ _ _ _ _ c.turn.new.self c.turn.result (c.turn.ensures.turned _ c.turns.invariant.some.1) c.in-Err.field-0 c.in-Err.is)
+    c.clear.ensures.streams _ (g.S.Source.left c.turn.new.from) (g.S.Source.faults c.turn.new.from)
+    (came_to_want _ _ _ _ _ c.turn.new.self c.turn.result (c.turn.ensures.turned _ c.turns.invariant.some.1) c.in-Err.field-0 c.in-Err.is)
     ∙ (c.turn.ensures.streams ∙ c.turns.invariant.streams)
