@@ -1,14 +1,11 @@
 -- Laws of a disk in memory: what a call and a change of another program leave.
-use Rattle.std.proofs.Common.{◌≡◌, ℕ, ◌<◌, ◌^◌, true, List, length, Option, Some, None, Result, Ok, Err, OnOk, OnErr, IsOk, is_ok, refl, sym, ap, ◌∙◌, subst}
-use Rattle.std.specs.Result.{result_ok}
-use Rattle.std.proofs.lemmas.Result.{on_ok_weaker, on_err_weaker}
+use Rattle.std.proofs.Common.{◌≡◌, ℕ, ◌<◌, ◌^◌, true, List, length, Some, Result, Ok, Err, OnOk, OnErr, IsOk, is_ok, refl, sym, ap, ◌∙◌, subst}
 use Rattle.std.specs.Ordering.{nat_cmp}
 use Rattle.std.specs.FinSet as set
 use Rattle.odb_base.specs.Path.{Path}
 use Rattle.odb_tree.specs.Tree.{Tree, State, IsTree, tree_of, state_of, bare_tree}
 use Rattle.odb_tree.specs.Tree.Change.{changed, is_possible_in, after_change}
-use Rattle.odb_tree.specs.Tree.Write.{Refusal, done, written, after_write, changed_by}
-use Rattle.odb_tree.specs.Answers.{Answers, AnswersWrite, Tells}
+use Rattle.odb_tree.specs.Answers.{Answers}
 use Rattle.odb_disk.specs.Calls as calls
 use Rattle.odb_disk.specs.Calls.{Calls, no_calls}
 use Rattle.odb_disk.specs.Streams.{Streams, IsLeastClosed, Opens, no_streams, with_opened}
@@ -18,7 +15,6 @@ use Rattle.odb_tree.specs.declared.change.Change.{Change}
 use Rattle.odb_tree.specs.declared.change.Impossible.{Impossible}
 use Rattle.odb_tree.specs.declared.entry.Entry.{Entry}
 use Rattle.odb_tree.specs.declared.disk_error.DiskError.{DiskError}
-use Rattle.odb_tree.specs.declared.disk_error.DiskError.TheVariants as errors
 use Rattle.odb_disk.proofs.StreamsLemmas.{free_number}
 use Rattle.odb_tree.proofs.TreeLemmas.{tree_of-state_of}
 use Rattle.odb_tree.proofs.TreeLemmas.Changed.{IsTree-changed}

@@ -1,7 +1,7 @@
 -- From what a call that is given as a value keeps to on every disk to what a disk in memory answers, and is afterwards.
 use Rattle.std.specs.Prelude.{if◌then◌else◌}
 use Rattle.std.specs.Result.{result_ok}
-use Rattle.std.proofs.Common.{◌≡◌, ◌≢◌, ◌↔◌, ℕ, true, false, Bool, List, [], ◌∷◌, Option, Some, None, Result, Ok, Err, refl, sym, ap, ◌∙◌, cond}
+use Rattle.std.proofs.Common.{◌≡◌, ◌≢◌, ◌↔◌, true, false, Bool, List, [], ◌∷◌, Option, Some, None, Result, Ok, Err, refl, sym, ap, ◌∙◌, cond}
 use Rattle.odb_tree.specs.Tree.{Tree, State, tree_of}
 use Rattle.odb_tree.specs.Tree.Follow.{Refusal}
 use Rattle.odb_tree.specs.Tree.Write as writing
@@ -10,9 +10,8 @@ use Rattle.odb_disk.specs.MemDisk.{Volume, after_call}
 use Rattle.odb_disk.specs.Streams.{Streams, still_gives}
 use Rattle.odb_tree.specs.Entries.{opened}
 use Rattle.odb_disk.specs.StreamAsks.{streams_after, after_opening, after_taking, least_closed}
-use Rattle.odb_disk.specs.Ask.{dir_answer, entry_answer, write_answer, answer_of, answer_in, change_of_ask, state_after, streams_left, is_counted, fails_now, after_count, after_ask, AnswersAsk, TakesLeast, IsCounted, ran_out}
+use Rattle.odb_disk.specs.Ask.{dir_answer, entry_answer, write_answer, answer_of, answer_in, change_of_ask, state_after, streams_left, is_counted, fails_now, after_count, after_ask, AnswersAsk, IsCounted, ran_out}
 use Rattle.odb_tree.specs.declared.change.Change.{Change}
-use Rattle.odb_tree.specs.declared.meta.Meta.{Meta}
 use Rattle.odb_tree.specs.declared.entry.Entry.{Entry}
 use Rattle.odb_tree.specs.declared.disk_error.DiskError.{DiskError}
 use Rattle.odb_tree.specs.declared.disk_error.DiskError.TheVariants as errors
@@ -21,9 +20,6 @@ use Rattle.odb_disk.specs.declared.ask.DiskAsk.TheVariants as asks
 use Rattle.odb_disk.specs.declared.ask.DiskAnswer.{DiskAnswer}
 use Rattle.odb_disk.specs.declared.ask.DiskAnswer.TheVariants as answers
 use Rattle.odb_disk.proofs.MemDiskLemmas.{after_call-state, after_call-streams}
-use Rattle.std.proofs.lemmas.Bool.{false≢true}
-use Rattle.odb_tree.specs.Answers.{Tells}
-use Rattle.odb_disk.specs.Told.{told_look, told_read, told_write}
 
 -- ---- what it answers
 

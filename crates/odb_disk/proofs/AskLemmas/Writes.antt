@@ -1,9 +1,9 @@
 -- A call that writes on a disk in memory: what its tree tells and makes is what the disk answers and is afterwards.
-use Rattle.std.proofs.Common.{◌≡◌, ◌≢◌, true, false, Option, Some, None, Result, Ok, Err, OnOk, OnErr, refl, sym, ap, ◌∙◌, subst}
+use Rattle.std.proofs.Common.{◌≡◌, ◌≢◌, false, Option, Some, None, Result, Ok, Err, OnOk, OnErr, refl, sym, ap, ◌∙◌, subst}
 use Rattle.std.specs.Result.{result_ok}
 use Rattle.std.proofs.lemmas.Bool.{false≢true}
 use Rattle.std.proofs.lemmas.Result.{on_ok_weaker, on_err_weaker}
-use Rattle.odb_tree.specs.Tree.{Tree, State, IsTree, tree_of, state_of}
+use Rattle.odb_tree.specs.Tree.{Tree, IsTree, tree_of, state_of}
 use Rattle.odb_tree.specs.Tree.Change.{changed}
 use Rattle.odb_tree.specs.Tree.Write.{Refusal, done, written, after_write, changed_by}
 use Rattle.odb_tree.specs.Answers.{AnswersWrite, Tells}
