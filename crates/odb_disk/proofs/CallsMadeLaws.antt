@@ -9,7 +9,8 @@ module _ {State Ask Answer : Type 0} (Answered : State → Ask → Answer → St
   pub makes_one : (before after : State) (ask : Ask) (answer : Answer) → Answered before ask answer after → Makes Answered ((ask, answer) ∷ []) before after
   makes_one before after ask answer answered = (after, answered, refl)
 
-  pub makes_joined : (first second : List (Ask × Answer)) (before between after : State) → Makes Answered first before between → Makes Answered second between after → Makes Answered (first ++ second) before after
+  pub makes_joined : (first second : List (Ask × Answer)) (before between after : State)
+      → Makes Answered first before between → Makes Answered second between after → Makes Answered (first ++ second) before after
   makes_joined [] second before between after none more = subst (λ s. Makes Answered second s after) (sym none) more
   makes_joined (call ∷ first) second before between after made more = (made.0, made.1, makes_joined first second made.0 between after made.2 more)
 
@@ -30,7 +31,8 @@ module _ {State Ask Answer : Type 0} (Answered : State → Ask → Answer → St
   answered_here before after ask answer answered = record { here = before; there = after; earlier = leads_nowhere before; answered = answered; later = leads_nowhere after }
 
   -- it lies between any states further apart
-  pub answered_wider : (first before after last : State) (ask : Ask) (answer : Answer) → Leads Answered first before → IsAnsweredBetween Answered before after ask answer → Leads Answered after last → IsAnsweredBetween Answered first last ask answer
+  pub answered_wider : (first before after last : State) (ask : Ask) (answer : Answer)
+      → Leads Answered first before → IsAnsweredBetween Answered before after ask answer → Leads Answered after last → IsAnsweredBetween Answered first last ask answer
   answered_wider first before after last ask answer earlier is later = record {
     here = is.here;
     there = is.there;

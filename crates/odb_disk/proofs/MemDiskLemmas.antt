@@ -1,14 +1,11 @@
 -- Laws of a disk in memory: what a call and a change of another program leave.
-use Rattle.std.proofs.Common.{◌≡◌, ℕ, ◌<◌, ◌^◌, true, List, length, Option, Some, None, Result, Ok, Err, OnOk, OnErr, IsOk, is_ok, refl, sym, ap, ◌∙◌, subst}
-use Rattle.std.specs.Result.{result_ok}
-use Rattle.std.proofs.lemmas.Result.{on_ok_weaker, on_err_weaker}
+use Rattle.std.proofs.Common.{◌≡◌, ℕ, ◌<◌, ◌^◌, true, List, length, Some, Result, Ok, Err, OnOk, OnErr, IsOk, is_ok, refl, sym, ap, ◌∙◌, subst}
 use Rattle.std.specs.Ordering.{nat_cmp}
 use Rattle.std.specs.FinSet as set
 use Rattle.odb_base.specs.Path.{Path}
 use Rattle.odb_tree.specs.Tree.{Tree, State, IsTree, tree_of, state_of, bare_tree}
 use Rattle.odb_tree.specs.Tree.Change.{changed, is_possible_in, after_change}
-use Rattle.odb_tree.specs.Tree.Write.{Refusal, done, written, after_write, changed_by}
-use Rattle.odb_tree.specs.Answers.{Answers, AnswersWrite, Tells}
+use Rattle.odb_tree.specs.Answers.{Answers}
 use Rattle.odb_disk.specs.Calls as calls
 use Rattle.odb_disk.specs.Calls.{Calls, no_calls}
 use Rattle.odb_disk.specs.Streams.{Streams, IsLeastClosed, Opens, no_streams, with_opened}
@@ -18,7 +15,6 @@ use Rattle.odb_tree.specs.declared.change.Change.{Change}
 use Rattle.odb_tree.specs.declared.change.Impossible.{Impossible}
 use Rattle.odb_tree.specs.declared.entry.Entry.{Entry}
 use Rattle.odb_tree.specs.declared.disk_error.DiskError.{DiskError}
-use Rattle.odb_tree.specs.declared.disk_error.DiskError.TheVariants as errors
 use Rattle.odb_disk.proofs.StreamsLemmas.{free_number}
 use Rattle.odb_tree.proofs.TreeLemmas.{tree_of-state_of}
 use Rattle.odb_tree.proofs.TreeLemmas.Changed.{IsTree-changed}
@@ -52,52 +48,10 @@ pub outside_change : (v : Volume) (t : Tree) (change : Change) → v.state ≡ s
 unfolding after_outside_change after_change
 outside_change v t change is = ap (λ u. record v { state = state_of (changed u change) }) (sym (tree_of-state_of t) ∙ ap tree_of (sym is))
 
-pub new_disk : (t : Tree) (listed : set.FinSet nat_cmp) (streams : Streams) (made : Calls) → t ≡ bare_tree → streams ≡ no_streams → made ≡ no_calls listed → ◌≡◌ {A = Volume} (record { state = state_of t; streams = streams; calls = made }) (new_volume listed)
+pub new_disk : (t : Tree) (listed : set.FinSet nat_cmp) (streams : Streams) (made : Calls) → t ≡ bare_tree → streams ≡ no_streams → made ≡ no_calls listed
+    → ◌≡◌ {A = Volume} (record { state = state_of t; streams = streams; calls = made }) (new_volume listed)
 unfolding new_volume
 new_disk t listed streams made bare none same = λ i. record { state = state_of (bare i); streams = none i; calls = same i }
-
--- ---- a call that writes, by what its tree tells and makes
-
--- what a tree tells is an answer of a disk
-Tells-answers : {A : Type 0} (r : Result A DiskError) (told : Result A Refusal) → Tells r told → AnswersWrite r told
-Tells-answers (Ok x) told is = is
-Tells-answers (Err errors.Absent) told is = is
-Tells-answers (Err errors.WrongKind) told is = is
-Tells-answers (Err errors.LinkLoop) told is = is
-Tells-answers (Err errors.Exists) told is = is
-Tells-answers (Err errors.NotEmpty) told is = is
-Tells-answers (Err errors.Failed) told is = absurd is
-Tells-answers (Err errors.NoMemory) told is = tt
-
-written-state_of : (t : Tree) (change : Option Change) → state_of (changed_by t change) ≡ written (state_of t) change
-unfolding after_write
-written-state_of t None = refl
-written-state_of t (Some change) = ap (λ u. state_of (changed u change)) (sym (tree_of-state_of t))
-
-module _ (change_in : Tree → Result Change Refusal) (r : Result (Unit {0}) DiskError) (t u : Tree) (s : State) (same : state_of t ≡ s) where
-  tree_is : t ≡ tree_of s
-  tree_is = sym (tree_of-state_of t) ∙ ap tree_of same
-
-  pub write_answers : Tells r (done (change_in t)) → AnswersWrite r (done (change_in (tree_of s)))
-  write_answers told = subst (λ v. AnswersWrite r (done (change_in v))) tree_is (Tells-answers r (done (change_in t)) told)
-
-  pub write_made : OnOk r (u ≡ changed_by t (result_ok (change_in t))) → OnOk r (Some (state_of u) ≡ Some (written s (result_ok (change_in (tree_of s)))))
-  write_made made =
-      on_ok_weaker r
-      (λ is. ap (λ v. Some (state_of v)) is ∙ ap Some (written-state_of t (result_ok (change_in t))) ∙ ap (λ q. Some (written q (result_ok (change_in t)))) same ∙ ap (λ v. Some (written s (result_ok (change_in v)))) tree_is)
-      made
-
-  pub write_kept : OnErr r (u ≡ t) → OnErr r (Some (state_of u) ≡ Some s)
-  write_kept kept = on_err_weaker r (λ is. ap (λ v. Some (state_of v)) is ∙ ap Some same) kept
-
--- the tree stays one, where the change is possible
-IsTree-changed_by : (t : Tree) → IsTree t → (told : Result Change Refusal) → ((change : Change) → told ≡ Ok change → is_possible_in t change ≡ true) → IsTree (changed_by t (result_ok told))
-IsTree-changed_by t is_tree (Ok change) possible = IsTree-changed t change is_tree (possible change refl)
-IsTree-changed_by t is_tree (Err refusal) possible = is_tree
-
-pub IsTree-written : (r : Result (Unit {0}) DiskError) (t u : Tree) → IsTree t → (told : Result Change Refusal) → ((change : Change) → told ≡ Ok change → is_possible_in t change ≡ true) → OnOk r (u ≡ changed_by t (result_ok told)) → OnErr r (u ≡ t) → IsTree u
-IsTree-written (Ok x) t u is_tree told possible made kept = subst IsTree (sym made) (IsTree-changed_by t is_tree told possible)
-IsTree-written (Err e) t u is_tree told possible made kept = subst IsTree (sym kept) is_tree
 
 -- ---- a directory that is opened, by what its tree tells
 

@@ -24,10 +24,12 @@ ReadsSoFar-more (Some left) now next text buffer n so_far reads =
     let P : Option (List ℕ) → Type 0 = λ o. Reads o next buffer (Ok n) in
     let taken = takes-of so_far.0 next buffer n (subst P so_far.2 reads) in
     let t = taken.2 in
-    (taken.0, so_far.1 ∙ ap (λ r. text ++ r) (sym (take-append-drop n so_far.0) ∙ ap (λ f. f ++ drop n so_far.0) (sym t.front) ∙ ap (λ r. take n buffer ++ r) (sym t.rest_is)) ∙ sym (append_assoc text (take n buffer) taken.0), taken.1)
+    let parts = sym (take-append-drop n so_far.0) ∙ ap (λ f. f ++ drop n so_far.0) (sym t.front) ∙ ap (λ r. take n buffer ++ r) (sym t.rest_is) in
+    (taken.0, so_far.1 ∙ ap (λ r. text ++ r) parts ∙ sym (append_assoc text (take n buffer) taken.0), taken.1)
 
 -- a read of nothing is the end
-pub ReadsFile-at_end : (limit : ℕ) (left now next : Option (List ℕ)) (text buffer : List ℕ) → 0 < length buffer → length text ≤ limit → ReadsSoFar left now text → Reads now next buffer (Ok 0) → ReadsFile limit left next text
+pub ReadsFile-at_end : (limit : ℕ) (left now next : Option (List ℕ)) (text buffer : List ℕ) → 0 < length buffer → length text ≤ limit
+    → ReadsSoFar left now text → Reads now next buffer (Ok 0) → ReadsFile limit left next text
 ReadsFile-at_end limit None now next text buffer some fits so_far reads = omega arith
 ReadsFile-at_end limit (Some left) now next text buffer some fits so_far reads =
     let P : Option (List ℕ) → Type 0 = λ o. Reads o next buffer (Ok 0) in
@@ -86,7 +88,8 @@ Adds-all before now bytes rest none w =
     subst P (sym (append-nil w.front) ∙ ap (λ r. w.front ++ r) (sym none) ∙ w.whole) w.added
 
 -- a write that failed leaves a front
-pub Adds-front : (before now next : Option (List ℕ)) (bytes rest : List ℕ) (e : Failed) → Written before now bytes rest → Writes now next rest (Err e) → (count : ℕ) × Adds before next (take count bytes)
+pub Adds-front : (before now next : Option (List ℕ)) (bytes rest : List ℕ) (e : Failed) → Written before now bytes rest
+    → Writes now next rest (Err e) → (count : ℕ) × Adds before next (take count bytes)
 Adds-front before now next bytes rest e w writes =
     let P : List ℕ → Type 0 = λ b. Adds before next b in
     (length w.front, subst P (sym (take-append_seam w.front rest) ∙ ap (take (length w.front)) w.whole) (Adds-failed before now next w.front rest e w.added writes))

@@ -45,5 +45,6 @@ module _ (disk : Volume) (ask : DiskAsk) (still : is_of_streams ask ≡ false) w
   after_ask-still =
       let fails = fails-still in
       let counts = ap (λ b. cond b (after_call disk) disk) (counted-still ask still) in
-      let left = ap (cond (fails_now disk ask) disk.streams) (streams_after-still (tree_of disk.state) disk.streams ask still) ∙ either_same (fails_now disk ask) disk.streams ∙ sym (after_call-streams disk) in
+      let left = ap (cond (fails_now disk ask) disk.streams) (streams_after-still (tree_of disk.state) disk.streams ask still)
+      ∙ either_same (fails_now disk ask) disk.streams ∙ sym (after_call-streams disk) in
       λ i. record { state = cond (fails i) disk.state (written disk.state (change_of_ask (tree_of disk.state) ask)); streams = left i; calls = (counts i).calls }

@@ -51,18 +51,19 @@ least_closed_is s f is =
 
 -- ---- on any disk
 
-module _ (state : Option State) (old new : Streams) (ask : DiskAsk) (answer : DiskAnswer) where
-  pub carried_open : (path : Path) (r : Result ℕ DiskError) → ask ≡ asks.OpenDir path → answer ≡ told_open r → IfSome state (λ s. AnswersOpen r (opened (tree_of s) path)) → IfOk r (λ dir. Opens state path old new dir)
-      → OnErr r (new ≡ old) → AnswersStreams state old new ask answer
-  carried_open path r is told answered opens kept =
+module _ (state : Option State) (old new : Streams) {ask : DiskAsk} {answer : DiskAnswer} where
+  pub carried_open : {path : Path} → ask ≡ asks.OpenDir path → (r : Result ℕ DiskError) → answer ≡ told_open r → IfSome state (λ s. AnswersOpen r (opened (tree_of s) path))
+      → IfOk r (λ dir. Opens state path old new dir) → OnErr r (new ≡ old) → AnswersStreams state old new ask answer
+  carried_open {path = path} is r told answered opens kept =
       subst (λ a. AnswersStreams state old new a answer) (sym is) (subst (λ a. OpensAs state path old new a) (sym told) (by_result r answered opens kept))
     where
-      by_result : (q : Result ℕ DiskError) → IfSome state (λ s. AnswersOpen q (opened (tree_of s) path)) → IfOk q (λ dir. Opens state path old new dir) → OnErr q (new ≡ old) → OpensAs state path old new (told_open q)
+      by_result : (q : Result ℕ DiskError) → IfSome state (λ s. AnswersOpen q (opened (tree_of s) path))
+          → IfOk q (λ dir. Opens state path old new dir) → OnErr q (new ≡ old) → OpensAs state path old new (told_open q)
       by_result (Ok dir) answered opens kept = opens
       by_result (Err error) answered opens kept = (kept, answered)
 
-  pub carried_next : (dir : ℕ) (r : Result (Option Entry) DiskError) → ask ≡ asks.NextEntry dir → answer ≡ told_next r → Gives old new dir r → AnswersStreams state old new ask answer
-  carried_next dir r is told gives = subst (λ a. AnswersStreams state old new a answer) (sym is) (subst (λ a. GivesAs old new dir a) (sym told) (by_result r gives))
+  pub carried_next : {dir : ℕ} → ask ≡ asks.NextEntry dir → (r : Result (Option Entry) DiskError) → answer ≡ told_next r → Gives old new dir r → AnswersStreams state old new ask answer
+  carried_next {dir = dir} is r told gives = subst (λ a. AnswersStreams state old new a answer) (sym is) (subst (λ a. GivesAs old new dir a) (sym told) (by_result r gives))
     where
       by_result : (q : Result (Option Entry) DiskError) → Gives old new dir q → GivesAs old new dir (told_next q)
       by_result (Ok (Some entry)) gives = gives
@@ -219,7 +220,8 @@ module _ (s : State) (old new : Streams) where
   told_in (asks.Rename from to) answer still moved least = still refl
   told_in (asks.Remove path) answer still moved least = still refl
 
-  pub left_in : (ask : DiskAsk) (answer : DiskAnswer) → (is_of_streams ask ≡ false → new ≡ old) → AnswersStreams (Some s) old new ask answer → TakesLeast old answer → new ≡ streams_left (tree_of s) old ask answer
+  pub left_in : (ask : DiskAsk) (answer : DiskAnswer) → (is_of_streams ask ≡ false → new ≡ old) → AnswersStreams (Some s) old new ask answer → TakesLeast old answer
+      → new ≡ streams_left (tree_of s) old ask answer
   left_in (asks.Look path follow) answer still moved least = still refl ∙ streams_left-still (tree_of s) old (asks.Look path follow) answer refl
   left_in (asks.Read path) answer still moved least = still refl ∙ streams_left-still (tree_of s) old (asks.Read path) answer refl
   left_in (asks.OpenDir path) answer still moved least = open_left path answer moved least

@@ -69,7 +69,8 @@ insert_same m n v at = same_map nat_cmp_total nat_cmp-IsAntisymmetric _ _ (λ q.
     ] refl)
 
 pub taken : (es fs : Lists) (n : ℕ) (old new : List Entry) (r : Option Entry) → lookup (is_at (nat_cmp n)) es ≡ Some old
-    → ((q : ℕ) → lookup (is_at (nat_cmp q)) fs ≡ cond (is_at (nat_cmp n) q) (Some new) (lookup (is_at (nat_cmp q)) es)) → IfSome r (λ entry. old ≡ entry ∷ new) → IfNone r (old ≡ []) → IfNone r (new ≡ old)
+    → ((q : ℕ) → lookup (is_at (nat_cmp q)) fs ≡ cond (is_at (nat_cmp n) q) (Some new) (lookup (is_at (nat_cmp q)) es))
+    → IfSome r (λ entry. old ≡ entry ∷ new) → IfNone r (old ≡ []) → IfNone r (new ≡ old)
     → IfSome r (λ entry. is_name entry.name ≡ true) → TakesNext (lists_only es) (lists_only fs) n (Some r)
 taken es fs n old new None found put first none kept named =
     let at = get-lists es n ∙ found in
@@ -183,7 +184,8 @@ open_less m k bound low under under_k open_below = record {
 }
 
 -- what is taken from a stream closes none
-pub open_taken : (es fs : Lists) (n bound : ℕ) (r : Option (Option Entry)) → TakesNext (lists_only es) (lists_only fs) n r → AreOpenBelow (finite.from_entries es) bound → AreOpenBelow (finite.from_entries fs) bound
+pub open_taken : (es fs : Lists) (n bound : ℕ) (r : Option (Option Entry)) → TakesNext (lists_only es) (lists_only fs) n r
+    → AreOpenBelow (finite.from_entries es) bound → AreOpenBelow (finite.from_entries fs) bound
 open_taken es fs n bound None is open_below = subst (λ (s : Streams). AreOpenBelow s.open_dirs bound) (sym is.same) open_below
 open_taken es fs n bound (Some None) is open_below = subst (λ (s : Streams). AreOpenBelow s.open_dirs bound) (sym is.same) open_below
 open_taken es fs n bound (Some (Some entry)) is open_below =

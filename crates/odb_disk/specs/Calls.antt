@@ -14,7 +14,8 @@ pub record Calls : Type 0 where
 
 abbrev pub coded_calls : Coded Calls
 coded_calls =
-    code_by (ℕ × (set.FinSet nat_cmp × ℕ)) (coded× coded_ℕ (coded× (set.code coded_ℕ) coded_ℕ)) (λ c. (c.made, (c.listed, c.faults))) (λ p. record { made = p.0; listed = p.1.0; faults = p.1.1 }) (λ _. refl)
+    code_by (ℕ × (set.FinSet nat_cmp × ℕ)) (coded× coded_ℕ (coded× (set.code coded_ℕ) coded_ℕ)) (λ c. (c.made, (c.listed, c.faults)))
+    (λ p. record { made = p.0; listed = p.1.0; faults = p.1.1 }) (λ _. refl)
 
 -- no calls yet, and those that are to fail
 abbrev pub no_calls : set.FinSet nat_cmp → Calls

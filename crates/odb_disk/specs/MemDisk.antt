@@ -18,7 +18,8 @@ pub record Volume : Type 0 where
 
 abbrev pub coded_volume : Coded Volume
 coded_volume =
-    code_by (State × (Streams × Calls)) (coded× coded_state (coded× coded_streams coded_calls)) (λ v. (v.state, (v.streams, v.calls))) (λ p. record { state = p.0; streams = p.1.0; calls = p.1.1 }) (λ _. refl)
+    code_by (State × (Streams × Calls)) (coded× coded_state (coded× coded_streams coded_calls)) (λ v. (v.state, (v.streams, v.calls)))
+    (λ p. record { state = p.0; streams = p.1.0; calls = p.1.1 }) (λ _. refl)
 
 -- whether the next call fails
 abbrev pub next_fails : Volume → Bool

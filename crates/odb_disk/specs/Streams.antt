@@ -115,4 +115,5 @@ Gives old new dir (Err errors.NoMemory) = new ≡ old
 -- how streams are told apart, for models that hold them
 abbrev pub coded_streams : Coded Streams
 coded_streams =
-    code_by (finite.FinMap nat_cmp (List Entry) × ℕ) (coded× (finite.code coded_ℕ (coded_list coded_entry)) coded_ℕ) (λ s. (s.open_dirs, s.peak)) (λ p. record { open_dirs = p.0; peak = p.1 }) (λ _. refl)
+    code_by (finite.FinMap nat_cmp (List Entry) × ℕ) (coded× (finite.code coded_ℕ (coded_list coded_entry)) coded_ℕ) (λ s. (s.open_dirs, s.peak))
+    (λ p. record { open_dirs = p.0; peak = p.1 }) (λ _. refl)

@@ -8,7 +8,7 @@ use Rattle.odb_base.specs.Path.{Name, Path, same_name}
 use Rattle.odb_base.specs.PathLaws.{parent_of-push}
 use Rattle.odb_tree.specs.Tree.{Tree, node_at, is_directory, is_directory_content}
 use Rattle.odb_tree.specs.Tree.Follow.{Refusal, LinkLoop, Pass, Reached, Place, arrives, pass, followed_within, most_links}
-use Rattle.odb_tree.specs.Tree.Way.{led_on, ways_within, is_front_of_one, on_way, on_way_to, is_link, crosses}
+use Rattle.odb_tree.specs.Tree.Way.{ways_onward, ways_within, is_front_of_one, on_way, on_way_to, is_link, crosses}
 use Rattle.odb_tree.specs.Tree.Write as writing
 use Rattle.odb_tree.specs.Tree.Write.{and_then, from_followed, in_directory, spot_below, spot, replaceable}
 use Rattle.odb_tree.specs.declared.node.Node.{Node}
@@ -32,7 +32,7 @@ module _ (t : Tree) (front : Path) (plain : StandsPlain t front) where
 
   one_way : ways_within most_links t true front ≡ front ∷ []
   unfolding ways_within
-  one_way = ap (λ (p : Pass). front ∷ led_on (ways_within 39 t true) p) plain.1
+  one_way = ap (λ (p : Pass). front ∷ ways_onward (ways_within 39 t true) p) plain.1
 
   module _ (name : Name) where
     in_place : (b : Bool) (p : Path) → (if b then Ok (front ++ drop (length front) (front ++ name ∷ [])) else Err writing.WrongKind) ≡ Ok p → p ≡ front ++ name ∷ []
@@ -43,7 +43,8 @@ module _ (t : Tree) (front : Path) (plain : StandsPlain t front) where
     unfolding spot
     own_spot p e =
         in_place (is_directory_content plain.0.content) p
-        (sym (ap (spot_below t (front ++ name ∷ [])) (parent_of-push front name) ∙ ap (λ (r : Result Place Refusal). and_then (in_directory (drop (length front) (front ++ name ∷ []))) (from_followed r)) (leads_there most_links)) ∙ e)
+        (sym (ap (spot_below t (front ++ name ∷ [])) (parent_of-push front name)
+        ∙ ap (λ (r : Result Place Refusal). and_then (in_directory (drop (length front) (front ++ name ∷ []))) (from_followed r)) (leads_there most_links)) ∙ e)
 
     -- nothing that stands in it is crossed on the way of its path
     pub crosses_plain : (p : Path) → spot t (front ++ name ∷ []) ≡ Ok p → crosses t (front ++ name ∷ []) p ≡ false
@@ -55,7 +56,8 @@ module _ (t : Tree) (front : Path) (plain : StandsPlain t front) where
         off : is_front_of_one (front ∷ []) (front ++ name ∷ []) ≡ false
         off = rw (longer_no_front front name) refl
 
-replaced_at : (t : Tree) (result : Result Path writing.Refusal) (p : Path) → and_then (λ (place : Path). if is_directory (node_at t place) then Err writing.WrongKind else Ok place) result ≡ Ok p → result ≡ Ok p
+replaced_at : (t : Tree) (result : Result Path writing.Refusal) (p : Path) → and_then (λ (place : Path). if is_directory (node_at t place) then Err writing.WrongKind else Ok place) result ≡ Ok p
+    → result ≡ Ok p
 replaced_at t (Err refusal) p e = absurd (cc e)
 replaced_at t (Ok place) p e = ap (λ (q : Path). Ok q) (by_kind (is_directory (node_at t place)) e)
   where

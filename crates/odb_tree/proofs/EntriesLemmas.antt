@@ -81,13 +81,15 @@ abbrev entry_with : ℕ → Name → Kind → Entry
 entry_with ino name kind = record { name = name; kind = kind; ino = ino }
 
 -- no name, or more than one, adds nothing
-pub none_added : (so_far : List Entry) (names : List (Bor Name)) (below : Path) (node : Node) → map (λ n. n.now) names ≡ below → length names ≢ 1 → so_far ≡ so_far ++ filter_map (entry_in []) ((below, node) ∷ [])
+pub none_added : (so_far : List Entry) (names : List (Bor Name)) (below : Path) (node : Node) → map (λ n. n.now) names ≡ below → length names ≢ 1
+    → so_far ≡ so_far ++ filter_map (entry_in []) ((below, node) ∷ [])
 none_added so_far names below node is other =
     let none : entry_in [] (below, node) ≡ None = ap (option_map (entry_of node)) (ap (name_in []) (sym is) ∙ unnamed names other) in
     sym (append-nil so_far) ∙ ap (λ o. so_far ++ cons_option o []) (sym none)
 
 -- one name adds its entry
-pub one_added : (names : List (Bor Name)) (below : Path) (node : Node) (d : Bor Name) (name : Name) (kind : Kind) → map (λ n. n.now) names ≡ below → length names ≡ 1 → name ≡ (get_or names 0 d).now → kind ≡ kind_of node.content → entry_in [] (below, node) ≡ Some (entry_with node.ino name kind)
+pub one_added : (names : List (Bor Name)) (below : Path) (node : Node) (d : Bor Name) (name : Name) (kind : Kind) → map (λ n. n.now) names ≡ below → length names ≡ 1
+    → name ≡ (get_or names 0 d).now → kind ≡ kind_of node.content → entry_in [] (below, node) ≡ Some (entry_with node.ino name kind)
 one_added names below node d name kind is one name_is kind_is =
     ap (option_map (entry_of node)) (ap (name_in []) (sym is) ∙ named names d one ∙ ap Some (sym name_is)) ∙ ap (λ k. Some (entry_with node.ino name k)) (sym kind_is)
 
@@ -134,7 +136,8 @@ never_not_empty following.Absent is = cc
 never_not_empty following.WrongKind is = cc
 never_not_empty following.LinkLoop is = cc
 
-refused : (t : Tree) (told : Result Place following.Refusal) (e : DiskError) → Tells {A = Path} (Err e) (from_followed (path_of_place told)) → Answers {A = List Entry} (Err e) (entries_at_place t told)
+refused : (t : Tree) (told : Result Place following.Refusal) (e : DiskError) → Tells {A = Path} (Err e) (from_followed (path_of_place told))
+    → Answers {A = List Entry} (Err e) (entries_at_place t told)
 refused t (Ok place) errors.Absent is = absurd (cc)
 refused t (Ok place) errors.WrongKind is = absurd (cc)
 refused t (Ok place) errors.LinkLoop is = absurd (cc)

@@ -34,7 +34,8 @@ begins_between : (front q rest : Path) → is_lt (path_cmp q front) ≡ false �
 begins_between [] q rest behind before = refl
 begins_between (step ∷ front) [] rest behind before = absurd (false≢true (sym behind))
 begins_between (step ∷ front) (x ∷ q) rest behind before =
-    elim (name_cmp x step) as (λ o. name_cmp x step ≡ o → is_lt (ordering_then o (path_cmp q front)) ≡ false → ordering_then o (path_cmp q (front ++ rest)) ≡ Less → (same_name step x && starts_with same_name q front) ≡ true) [
+    elim (name_cmp x step) as (λ o. name_cmp x step ≡ o → is_lt (ordering_then o (path_cmp q front)) ≡ false
+    → ordering_then o (path_cmp q (front ++ rest)) ≡ Less → (same_name step x && starts_with same_name q front) ≡ true) [
       | Less ↦ λ is under _. absurd (false≢true (sym under))
       | Equal ↦ λ is under over.
           let same : step ≡ x = sym (slice_cmp-IsAntisymmetric nat_cmp-IsAntisymmetric x step is) in

@@ -20,7 +20,8 @@ module _ (t : Tree) (is_tree : IsTree t) (from to : Path) (free : is_directory (
   was_taken : (n : ℕ) → is_taken (with_moved t from to) n ≡ true → (is_taken t n && not (has_number (node_at t to) n)) ≡ true
   was_taken n taken =
       let w = node_with_number (with_moved t from to) n taken in
-      let from_t = λ (q : Path) (at : node_at t q ≡ Some w.node) (apart : q ≢ to). and_from _ _ (ap (is_taken t) (sym w.has) ∙ is_taken-node_at t q w.node at) (not_here t is_tree to q w.node n apart at w.has) in
+      let from_t = λ (q : Path) (at : node_at t q ≡ Some w.node) (apart : q ≢ to).
+      and_from _ _ (ap (is_taken t) (sym w.has) ∙ is_taken-node_at t q w.node at) (not_here t is_tree to q w.node n apart at w.has) in
       elim (at_after_move t from to w.path w.node w.at) [
         | inl v ↦ from_t (from ++ v.rest) v.at (λ same. false≢true (sym outside ∙ ap (λ q. begins q from) (sym same) ∙ begins-append from v.rest))
         | inr v ↦ from_t w.path v.at (λ same. false≢true (sym v.outside ∙ ap (λ q. begins q to) same ∙ begins-own to))
@@ -126,8 +127,10 @@ file_there t p some file =
       | Some node ↦ λ at _ is. record { node = node; at = at; file = is }
     ] refl some file
 
-module _ {E : Type 0} (r : Result (Unit {0}) E) (t u : Tree) (is_tree : IsTree t) (next : ℕ) (free : List ℕ) (numbers : AreNumbers t next free) (p : Path) (more : List ℕ) (n : Node) (at : node_at t p ≡ Some n) (file : is_file_content n.content ≡ true) where
-  grown : ((node : Node) → node_at t p ≡ Some node → u ≡ with_node t p (record node { content = longer node.content more })) → (node : Node) → node_at t p ≡ Some node → u ≡ with_node t p (record node { content = longer n.content more })
+module _ {E : Type 0} (r : Result (Unit {0}) E) (t u : Tree) (is_tree : IsTree t) (next : ℕ) (free : List ℕ) (numbers : AreNumbers t next free) (p : Path) (more : List ℕ) (n : Node)
+    (at : node_at t p ≡ Some n) (file : is_file_content n.content ≡ true) where
+  grown : ((node : Node) → node_at t p ≡ Some node → u ≡ with_node t p (record node { content = longer node.content more })) → (node : Node) → node_at t p ≡ Some node
+      → u ≡ with_node t p (record node { content = longer n.content more })
   grown made node there =
       let both : Some node ≡ Some n = sym there ∙ at in
       let same : node ≡ n = cc in made node there ∙ ap (λ (k : Node). with_node t p (record node { content = longer k.content more })) same
@@ -144,7 +147,8 @@ module _ {E : Type 0} (r : Result (Unit {0}) E) (t u : Tree) (is_tree : IsTree t
         cases (Err e) ok err = subst P (sym err) old
 
     pub IsTree-grown : IsTree u
-    IsTree-grown = by_growth IsTree is_tree (λ is. IsTree-over t u is_tree next free numbers p (file_lies t is_tree p n at file) (file_no_directory t p n at file) (longer n.content more) stands (grown is))
+    IsTree-grown =
+        by_growth IsTree is_tree (λ is. IsTree-over t u is_tree next free numbers p (file_lies t is_tree p n at file) (file_no_directory t p n at file) (longer n.content more) stands (grown is))
 
     pub AreNumbers-grown : AreNumbers u next free
     AreNumbers-grown =

@@ -75,11 +75,13 @@ module _ (t : Tree) (is_tree : IsTree t) (directory : Path) where
   pub no_names_at_end : ((q : Path) → path_cmp directory q ≡ Less → node_at t q ≡ None) → is_nil (names_in t directory) ≡ true
   no_names_at_end none = nil_names t directory (λ name n at. let both : None ≡ Some n = sym (none (directory ++ name ∷ []) (before_names directory name)) ∙ at in cc)
 
-  pub no_names_before_first : (q : Path) → path_cmp directory q ≡ Less → ((r : Path) (n : Node) → path_cmp directory r ≡ Less → node_at t r ≡ Some n → is_gt (path_cmp q r) ≡ false) → starts_with same_name q directory ≡ false → is_nil (names_in t directory) ≡ true
+  pub no_names_before_first : (q : Path) → path_cmp directory q ≡ Less → ((r : Path) (n : Node) → path_cmp directory r ≡ Less → node_at t r ≡ Some n → is_gt (path_cmp q r) ≡ false)
+      → starts_with same_name q directory ≡ false → is_nil (names_in t directory) ≡ true
   no_names_before_first q behind first other = nil_names t directory (λ name n at.
       false≢true (sym other ∙ begins_between directory q (name ∷ []) behind (first (directory ++ name ∷ []) n (before_names directory name) at)))
 
-  pub told_by_first : (q : Path) (n : Node) → path_cmp directory q ≡ Less → node_at t q ≡ Some n → ((r : Path) (k : Node) → path_cmp directory r ≡ Less → node_at t r ≡ Some k → is_gt (path_cmp q r) ≡ false) → starts_with same_name q directory ≡ not (is_nil (names_in t directory))
+  pub told_by_first : (q : Path) (n : Node) → path_cmp directory q ≡ Less → node_at t q ≡ Some n
+      → ((r : Path) (k : Node) → path_cmp directory r ≡ Less → node_at t r ≡ Some k → is_gt (path_cmp q r) ≡ false) → starts_with same_name q directory ≡ not (is_nil (names_in t directory))
   told_by_first q n behind at first =
       elim (starts_with same_name q directory) as (λ b. starts_with same_name q directory ≡ b → b ≡ not (is_nil (names_in t directory))) [
         | true ↦ λ begins. sym (ap not (names_below_first q n behind at begins))

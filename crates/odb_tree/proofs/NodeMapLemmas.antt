@@ -9,12 +9,14 @@ use Rattle.odb_tree.specs.Tree.Nodes.{same_tree}
 use Rattle.odb_tree.specs.declared.node.Node.{Node}
 use Rattle.odb_tree.proofs.TreeLemmas.{node_at-entries, node_at-put, node_at-put_other, node_at-taken, node_at-taken_other, cases_path, other_path}
 
-pub none_copied : (all none rest : List (Path × Node)) (q : Path) → none ≡ [] → rest ≡ all → node_at (tree_of_entries all) q ≡ option_or (node_at (tree_of_entries none) q) (lookup (is_at (path_cmp q)) rest)
+pub none_copied : (all none rest : List (Path × Node)) (q : Path) → none ≡ [] → rest ≡ all
+    → node_at (tree_of_entries all) q ≡ option_or (node_at (tree_of_entries none) q) (lookup (is_at (path_cmp q)) rest)
 none_copied all none rest q empty whole =
     node_at-entries all q ∙ ap (lookup (is_at (path_cmp q))) (sym whole)
     ∙ ap (λ o. option_or o (lookup (is_at (path_cmp q)) rest)) (sym (ap (λ es. node_at (tree_of_entries es) q) empty ∙ node_at-entries [] q))
 
-module _ (a t u : Tree) (path : Path) (node : Node) (rest more : List (Path × Node)) (at : node_at a path ≡ Some node) (next : rest ≡ (path, node) ∷ more) (put : u ≡ with_node t path node) (so_far : (q : Path) → node_at a q ≡ option_or (node_at t q) (lookup (is_at (path_cmp q)) rest)) where
+module _ (a t u : Tree) (path : Path) (node : Node) (rest more : List (Path × Node)) (at : node_at a path ≡ Some node) (next : rest ≡ (path, node) ∷ more) (put : u ≡ with_node t path node)
+    (so_far : (q : Path) → node_at a q ≡ option_or (node_at t q) (lookup (is_at (path_cmp q)) rest)) where
   pub one_copied : (q : Path) → node_at a q ≡ option_or (node_at u q) (lookup (is_at (path_cmp q)) more)
   one_copied q = elim (cases_path q path) [
     | inl same ↦
@@ -41,7 +43,8 @@ module _ (t u : Tree) (key p : Path) (n : Node) (is : key ≡ p) (put : u ≡ wi
   room_others q apart = ap (λ v. node_at v q) put ∙ node_at-put_other t key n q (λ same. apart (same ∙ is))
 
 module _ (t t1 t2 : Tree) (from to : Path) (others : (q : Path) → q ≢ to → node_at t1 q ≡ node_at t q) where
-  pub moved_node : (u : Tree) (k : Node) → IsSome (node_at t1 to) → Some k ≡ node_at t1 from → t2 ≡ without t1 from → (IsSome (node_at t2 to) → u ≡ with_node t2 to k) → (node : Node) → node_at t from ≡ Some node → from ≢ to → u ≡ with_node (without t from) to node
+  pub moved_node : (u : Tree) (k : Node) → IsSome (node_at t1 to) → Some k ≡ node_at t1 from → t2 ≡ without t1 from → (IsSome (node_at t2 to) → u ≡ with_node t2 to k) → (node : Node)
+      → node_at t from ≡ Some node → from ≢ to → u ≡ with_node (without t from) to node
   moved_node u k stands removed taken put node at apart =
       let both : Some k ≡ Some node = removed ∙ others from apart ∙ at in
       let same : k ≡ node = cc in

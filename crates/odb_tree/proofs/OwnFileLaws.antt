@@ -20,7 +20,11 @@ use Rattle.odb_tree.proofs.WayWriteLaws.{new_file_spot, new_file_file_spot, new_
 pub has_new_file : (t : Tree) → IsTree t → (path : Path) (change : Change) → change_of_new_file t path ≡ Ok change → (s : Path) × HasFile (changed t change) path s [] 0
 has_new_file t is_tree path change is =
     let c = new_file_change t path change is in
-    let there : HasFile (changed t (PutFile c.0 0 [])) path c.0 [] 0 = record { is = new_file_spot t is_tree path c.0 c.1; leads = new_file_file_spot t is_tree path c.0 c.1; reads = new_file_read_through t is_tree path c.0 c.1 } in
+    let there : HasFile (changed t (PutFile c.0 0 [])) path c.0 [] 0 = record {
+      is = new_file_spot t is_tree path c.0 c.1;
+      leads = new_file_file_spot t is_tree path c.0 c.1;
+      reads = new_file_read_through t is_tree path c.0 c.1;
+    } in
     (c.0, subst (λ d. HasFile (changed t d) path c.0 [] 0) (sym c.2) there)
 
 -- it is there still where nothing on the way was changed
@@ -35,7 +39,11 @@ module _ (t : Tree) (is_tree : IsTree t) (path s : Path) (bytes : List ℕ) (tim
       let c = append_change t path change more is in
       let both : Ok c.0 ≡ Ok s = sym c.1 ∙ has.leads in
       let same : c.0 ≡ s = cc in
-      let there : HasFile (changed t (Append s more)) path s (bytes ++ more) time = record { is = append_spot t s more path ∙ has.is; leads = append_file_spot t s more path ∙ has.leads; reads = append_read_through t is_tree path s has.leads bytes more time has.reads } in
+      let there : HasFile (changed t (Append s more)) path s (bytes ++ more) time = record {
+        is = append_spot t s more path ∙ has.is;
+        leads = append_file_spot t s more path ∙ has.leads;
+        reads = append_read_through t is_tree path s has.leads bytes more time has.reads;
+      } in
       subst (λ d. HasFile (changed t d) path s (bytes ++ more) time) (sym (c.2 ∙ ap (λ p. Append p more) same)) there
 
   -- a rename moves it to the other path, which then reads as it did, where no link that this path crosses is replaced

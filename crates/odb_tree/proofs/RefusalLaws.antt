@@ -14,7 +14,8 @@ use Rattle.odb_tree.specs.declared.change.Change.TheVariants.{PutFile, MakeDir, 
 abbrev pub Never : {A : Type 0} → writing.Refusal → Result A writing.Refusal → Type 0
 Never refusal result = result ≡ Err refusal → ⊥
 
-and_then-never : {A B : Type 0} (refusal : writing.Refusal) (next : A → Result B writing.Refusal) (result : Result A writing.Refusal) → Never refusal result → ((x : A) → Never refusal (next x)) → Never refusal (and_then next result)
+and_then-never : {A B : Type 0} (refusal : writing.Refusal) (next : A → Result B writing.Refusal) (result : Result A writing.Refusal) → Never refusal result → ((x : A) → Never refusal (next x))
+    → Never refusal (and_then next result)
 and_then-never refusal next (Ok x) before after = after x
 and_then-never refusal next (Err other) before after = λ e. before (let same : other ≡ refusal = cc e in ap (λ (r : writing.Refusal). Err r) same)
 
@@ -66,8 +67,9 @@ module _ (refusal : writing.Refusal) (off : OffWay refusal) (tree : Tree) where
   pub append-never : (path : Path) (bytes : List ℕ) → Never refusal (change_of_append tree path bytes)
   unfolding change_of_append file_spot
   append-never path bytes =
-      and_then-never refusal (λ place. Ok (Append place bytes)) (and_then file_path (from_followed (following.followed tree true path)))
-      (and_then-never refusal file_path (from_followed (following.followed tree true path)) (from_followed-never refusal off (following.followed tree true path)) (λ place. either-never refusal off (is_file_content place.node.content) place.path))
+      let told = following.followed tree true path in
+      and_then-never refusal (λ place. Ok (Append place bytes)) (and_then file_path (from_followed told))
+      (and_then-never refusal file_path (from_followed told) (from_followed-never refusal off told) (λ place. either-never refusal off (is_file_content place.node.content) place.path))
       (λ place e. cc e)
 
   movable-never : (place : Path) (node : Option Node) → Never refusal (movable_spot place node)
@@ -81,16 +83,20 @@ module _ (refusal : writing.Refusal) (off : OffWay refusal) (tree : Tree) where
       absent_never writing.LinkLoop off e = elim off [ ]
   movable-never place (Some node) = otherwise-never refusal off (is_directory_content node.content) place
 
+  -- a rename replaces what stands there, if it is no directory
+  abbrev no_directory_at : Path → Result Path writing.Refusal
+  no_directory_at place = if is_directory (node_at tree place) then Err writing.WrongKind else Ok place
+
   -- so is a rename
   pub rename-never : (from to : Path) → Never refusal (change_of_rename tree from to)
   unfolding change_of_rename movable replaceable
   rename-never from to =
-      and_then-never refusal (λ source. and_then (λ target. Ok (Rename source target)) (and_then (λ place. if is_directory (node_at tree place) then Err writing.WrongKind else Ok place) (spot tree to)))
+      and_then-never refusal (λ source. and_then (λ target. Ok (Rename source target)) (and_then no_directory_at (spot tree to)))
       (and_then (λ place. movable_spot place (node_at tree place)) (spot tree from))
       (and_then-never refusal (λ place. movable_spot place (node_at tree place)) (spot tree from) (spot-never from) (λ place. movable-never place (node_at tree place)))
       (λ source.
-      and_then-never refusal (λ target. Ok (Rename source target)) (and_then (λ place. if is_directory (node_at tree place) then Err writing.WrongKind else Ok place) (spot tree to))
-      (and_then-never refusal (λ place. if is_directory (node_at tree place) then Err writing.WrongKind else Ok place) (spot tree to) (spot-never to) (λ place. otherwise-never refusal off (is_directory (node_at tree place)) place))
+      and_then-never refusal (λ target. Ok (Rename source target)) (and_then no_directory_at (spot tree to))
+      (and_then-never refusal no_directory_at (spot tree to) (spot-never to) (λ place. otherwise-never refusal off (is_directory (node_at tree place)) place))
       (λ target e. cc e))
 
 vacant_spot-never : (place : Path) (node : Option Node) → Never writing.NotEmpty (vacant_spot place node)
@@ -99,7 +105,9 @@ vacant_spot-never place (Some node) e = cc e
 
 vacant-never : (tree : Tree) (path : Path) → Never writing.NotEmpty (vacant tree path)
 unfolding vacant
-vacant-never tree path = and_then-never writing.NotEmpty (λ place. vacant_spot place (node_at tree place)) (spot tree path) (spot-never writing.NotEmpty full tree path) (λ place. vacant_spot-never place (node_at tree place))
+vacant-never tree path =
+    and_then-never writing.NotEmpty (λ place. vacant_spot place (node_at tree place)) (spot tree path) (spot-never writing.NotEmpty full tree path)
+    (λ place. vacant_spot-never place (node_at tree place))
 
 -- a new file and a new directory are refused by their way, or because something is there
 pub new_file-never : (tree : Tree) (path : Path) → Never writing.NotEmpty (change_of_new_file tree path)

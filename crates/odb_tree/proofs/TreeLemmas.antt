@@ -176,12 +176,14 @@ pub node_at-entries : (es : List (Path × Node)) (q : Path) → node_at (tree_of
 node_at-entries es q = node_at-tree_of_entries es q ∙ find-lookup es q
 
 -- entries that differ at one path make trees that differ there
-pub tree_put : (es fs : List (Path × Node)) (p : Path) (n : Node) → ((q : Path) → lookup (is_at (path_cmp q)) fs ≡ cond (is_at (path_cmp p) q) (Some n) (lookup (is_at (path_cmp q)) es)) → tree_of_entries fs ≡ with_node (tree_of_entries es) p n
+pub tree_put : (es fs : List (Path × Node)) (p : Path) (n : Node) → ((q : Path) → lookup (is_at (path_cmp q)) fs ≡ cond (is_at (path_cmp p) q) (Some n) (lookup (is_at (path_cmp q)) es))
+    → tree_of_entries fs ≡ with_node (tree_of_entries es) p n
 tree_put es fs p n h = same_tree _ _ (λ q.
     node_at-entries fs q ∙ h q ∙ ap (λ b. cond b (Some n) (lookup (is_at (path_cmp q)) es)) ((eq_by_cmp_equiv path_order).symm p q)
     ∙ sym (node_at-with_node (tree_of_entries es) p n q ∙ ap (cond (eq_by_cmp path_cmp q p) (Some n)) (node_at-entries es q)))
 
-pub tree_take : (es fs : List (Path × Node)) (p : Path) → ((q : Path) → lookup (is_at (path_cmp q)) fs ≡ cond (is_at (path_cmp p) q) None (lookup (is_at (path_cmp q)) es)) → tree_of_entries fs ≡ without (tree_of_entries es) p
+pub tree_take : (es fs : List (Path × Node)) (p : Path) → ((q : Path) → lookup (is_at (path_cmp q)) fs ≡ cond (is_at (path_cmp p) q) None (lookup (is_at (path_cmp q)) es))
+    → tree_of_entries fs ≡ without (tree_of_entries es) p
 tree_take es fs p h = same_tree _ _ (λ q.
     node_at-entries fs q ∙ h q ∙ ap (λ b. cond b None (lookup (is_at (path_cmp q)) es)) ((eq_by_cmp_equiv path_order).symm p q)
     ∙ sym (node_at-without (tree_of_entries es) p q ∙ ap (cond (eq_by_cmp path_cmp q p) None) (node_at-entries es q)))

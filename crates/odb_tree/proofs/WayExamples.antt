@@ -8,7 +8,7 @@ use Rattle.odb_tree.specs.Tree.Follow.{WrongKind, read_of, file_of_place, most_l
 use Rattle.odb_tree.specs.Tree.Change.{changed}
 use Rattle.odb_tree.specs.Tree.Write as writing
 use Rattle.odb_tree.specs.Tree.Write.{from_followed, and_then, in_directory, spot_below, spot, movable_spot, movable, replaceable, change_of_rename}
-use Rattle.odb_tree.specs.Tree.Way.{led_on, ways_within, is_front_of_one, on_way, on_way_to, is_link, crosses}
+use Rattle.odb_tree.specs.Tree.Way.{ways_onward, ways_within, is_front_of_one, on_way, on_way_to, is_link, crosses}
 use Rattle.odb_tree.specs.declared.node.Node.{Node}
 use Rattle.odb_tree.specs.declared.node.Content.TheVariants.{File, Dir, Link}
 use Rattle.odb_tree.specs.declared.change.Change.TheVariants.{Rename}
@@ -20,12 +20,12 @@ use Rattle.odb_tree.proofs.FollowExamples.{pass_over, followed_over, pass-over, 
 
 abbrev ways_over : ℕ → (Path → Option Node) → Bool → Path → List Path
 ways_over zero at follow path = path ∷ []
-ways_over (suc links) at follow path = path ∷ led_on (ways_over links at follow) (pass_over at follow [] path)
+ways_over (suc links) at follow path = path ∷ ways_onward (ways_over links at follow) (pass_over at follow [] path)
 
 ways-over : (links : ℕ) (t : Tree) (follow : Bool) (path : Path) → ways_within links t follow path ≡ ways_over links (node_at t) follow path
 unfolding ways_within
 ways-over zero t follow path = refl
-ways-over (suc links) t follow path = λ i. path ∷ led_on (λ onward. ways-over links t follow onward i) (pass-over t follow [] path i)
+ways-over (suc links) t follow path = λ i. path ∷ ways_onward (λ onward. ways-over links t follow onward i) (pass-over t follow [] path i)
 
 module _ (es : List (Path × Node)) where
   abbrev seen : Path → Option Node
@@ -45,11 +45,13 @@ module _ (es : List (Path × Node)) where
       ∙ ap (λ at. is_link (at q) && on_way (tree_of_entries es) true front q) (at_entries es)
       ∙ ap (λ b. is_link (seen q) && b) (on_way_seen true front q)
 
-  spot_seen : (front : Path) (name : Name) → spot (tree_of_entries es) (front ++ name ∷ []) ≡ and_then (in_directory (drop (length front) (front ++ name ∷ []))) (from_followed (followed_over most_links seen true front))
+  spot_seen : (front : Path) (name : Name)
+      → spot (tree_of_entries es) (front ++ name ∷ []) ≡ and_then (in_directory (drop (length front) (front ++ name ∷ []))) (from_followed (followed_over most_links seen true front))
   unfolding spot
   spot_seen front name =
       ap (spot_below (tree_of_entries es) (front ++ name ∷ [])) (parent_of-push front name)
-      ∙ ap (λ told. and_then (in_directory (drop (length front) (front ++ name ∷ []))) (from_followed told)) (followed-over most_links (tree_of_entries es) true front ∙ ap (λ at. followed_over most_links at true front) (at_entries es))
+      ∙ ap (λ told. and_then (in_directory (drop (length front) (front ++ name ∷ []))) (from_followed told))
+      (followed-over most_links (tree_of_entries es) true front ∙ ap (λ at. followed_over most_links at true front) (at_entries es))
 
   -- what stands at each path after a rename
   abbrev moved : Path → Path → Path → Option Node

@@ -42,7 +42,8 @@ module _ (t u : Tree) (follow : Bool) (path : Path) (same : SameOnWay t u follow
   -- the path leads to the same place
   pub followed_kept : followed u follow path ≡ followed t follow path
   followed_kept =
-      same_place t u (followed u follow path) (followed t follow path) (places_alike t u follow path same_outlines) (λ place is. same place.path (place_on_way t follow path place is)) (place_stands u most_links follow path) (place_stands t most_links follow path)
+      same_place t u (followed u follow path) (followed t follow path) (places_alike t u follow path same_outlines) (λ place is. same place.path (place_on_way t follow path place is))
+      (place_stands u most_links follow path) (place_stands t most_links follow path)
 
 module _ (t u : Tree) (path : Path) (same : SameOnWay t u true path) where
   -- a read of the path gives the same
@@ -138,7 +139,8 @@ module _ (t : Tree) (is_tree : IsTree t) (path r : Path) (is : file_spot t path 
   vacant_off_file other s free = vacant_off_way t is_tree true path its_place (file_at t path r is).leads other s free
 
 -- a link that stands on a way is followed there
-pub link_leads_on : (t : Tree) → IsTree t → (q : Path) (n : Node) (target : Path) → node_at t q ≡ Some n → n.content ≡ Link target → (names : Path) → pass t true [] (q ++ names) ≡ Onward (target ++ names)
+pub link_leads_on : (t : Tree) → IsTree t → (q : Path) (n : Node) (target : Path) → node_at t q ≡ Some n → n.content ≡ Link target → (names : Path)
+    → pass t true [] (q ++ names) ≡ Onward (target ++ names)
 link_leads_on t is_tree q n target at is [] = ap (pass t true []) (append-nil q) ∙ pass_to_link t is_tree q n at true target refl is ∙ ap Onward (sym (append-nil target))
 link_leads_on t is_tree q n target at is (name ∷ names) = pass_from t is_tree true [] q (name ∷ names) n at ∙ pass_led t true q (name ∷ names) n target (omega arith) at is
 

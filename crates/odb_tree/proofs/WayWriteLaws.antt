@@ -15,7 +15,7 @@ use Rattle.odb_tree.specs.declared.meta.Kind.TheVariants as kinds
 use Rattle.odb_tree.specs.declared.change.Change.{Change}
 use Rattle.odb_tree.specs.declared.change.Change.TheVariants.{PutFile, MakeDir, Rename, Append, Remove}
 use Rattle.odb_tree.proofs.TreeLemmas.{cases_path, node_at-put, node_at-put_other}
-use Rattle.odb_tree.proofs.TreeLemmas.Follow.{place_stands}
+use Rattle.odb_tree.proofs.TreeLemmas.Follow.{place_stands, StandsAt}
 use Rattle.odb_tree.proofs.TreeLemmas.Change.{made-put_file, made-make_dir}
 use Rattle.odb_tree.proofs.TreeLemmas.Changed.{IsTree-changed, made-rename, made-append}
 use Rattle.odb_tree.proofs.TreeLemmas.Moved.{moved_target}
@@ -122,7 +122,8 @@ module _ (t : Tree) (is_tree : IsTree t) (from to s p : Path) (renames : change_
   source_off : on_way t true (front t is_tree to p place_is place_lies) s ≡ false
   source_off =
       let f = file_at t from s file in
-      off_front t is_tree to p place_is place_lies s (file_lies t is_tree s f.node f.at f.file) (file_no_directory t s f.node f.at f.file) (crosses_link t to s (ap is_link f.at ∙ file_no_link f.node.content f.file))
+      off_front t is_tree to p place_is place_lies s (file_lies t is_tree s f.node f.at f.file) (file_no_directory t s f.node f.at f.file)
+      (crosses_link t to s (ap is_link f.at ∙ file_no_link f.node.content f.file))
 
   place_off : on_way t true (front t is_tree to p place_is place_lies) p ≡ false
   place_off = off_front t is_tree to p place_is place_lies p place_lies place_free free
@@ -153,7 +154,7 @@ module _ (t : Tree) (other : Path) (more : List ℕ) where
   longer_outline Dir = refl
   longer_outline (Link target) = refl
 
-  longer_alike : (told : Result Place following.Refusal) → ((place : Place) → told ≡ Ok place → node_at t place.path ≡ Some place.node) → (q : Path) → outline (node_at (with_longer t more told) q) ≡ outline (node_at t q)
+  longer_alike : (told : Result Place following.Refusal) → StandsAt t told → (q : Path) → outline (node_at (with_longer t more told) q) ≡ outline (node_at t q)
   longer_alike (Ok place) stands q = elim (cases_path q place.path) [
     | inl same ↦
         let n : Node = record place.node { content = longer place.node.content more } in
@@ -178,7 +179,8 @@ module _ (t : Tree) (other : Path) (more : List ℕ) where
     append_spot = spot_alike t (changed t (Append other more)) path (λ p _. append_alike p)
 
 -- a path that leads to the file reads the piece behind what it read before
-pub append_read_through : (t : Tree) → IsTree t → (path s : Path) → file_spot t path ≡ Ok s → (bytes more : List ℕ) (time : ℕ) → read_of t path ≡ Ok (bytes, time) → read_of (changed t (Append s more)) path ≡ Ok (bytes ++ more, time)
+pub append_read_through : (t : Tree) → IsTree t → (path s : Path) → file_spot t path ≡ Ok s → (bytes more : List ℕ) (time : ℕ) → read_of t path ≡ Ok (bytes, time)
+    → read_of (changed t (Append s more)) path ≡ Ok (bytes ++ more, time)
 append_read_through t is_tree path s is bytes more time old =
     let possible = append_possible t is_tree path (Append s more) more (change_of_append-is t path s more is) in
     read_at_spot (changed t (Append s more)) (IsTree-changed t (Append s more) is_tree possible) path s (append_file_spot t s more path ∙ is)

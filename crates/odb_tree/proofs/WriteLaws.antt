@@ -101,7 +101,8 @@ module _ (t : Tree) (is_tree : IsTree t) where
         let n : Node = record f.node { content = longer f.node.content more } in
         let put = made-append t s more ∙ ap (with_longer t more) (leads_to_itself t is_tree s f.node f.at f.file) in
         let possible = append_possible t is_tree path (Append s more) more (change_of_append-is t path s more is) in
-        read_at (changed t (Append s more)) (IsTree-changed t (Append s more) is_tree possible) s n (ap (λ u. node_at u s) put ∙ node_at-put t s n) (plain_file n (longer_file f.node.content more f.file))
+        read_at (changed t (Append s more)) (IsTree-changed t (Append s more) is_tree possible) s n (ap (λ u. node_at u s) put ∙ node_at-put t s n)
+        (plain_file n (longer_file f.node.content more f.file))
         ∙ longer_read f.node.content bytes more time (sym (read_at t is_tree s f.node f.at (plain_file f.node f.file)) ∙ old)
 
   -- nothing stands at the source any more, unless it is the target

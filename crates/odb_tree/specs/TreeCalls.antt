@@ -25,9 +25,9 @@ Ends errors.Failed told = ⊥
 Ends errors.NoMemory told = Unit {0}
 
 -- a pass comes to a link that leads on
-abbrev pub LedOn : Result Path DiskError → Pass → Type 0
-LedOn (Ok onward) told = told ≡ Onward onward
-LedOn (Err error) told = Ends error told
+abbrev pub ComesOnward : Result Path DiskError → Pass → Type 0
+ComesOnward (Ok onward) told = told ≡ Onward onward
+ComesOnward (Err error) told = Ends error told
 
 -- a pass along a path comes to the node there, or to a link that leads on
 abbrev pub Comes : Path → Result Way DiskError → Pass → Type 0

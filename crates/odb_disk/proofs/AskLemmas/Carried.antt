@@ -1,6 +1,6 @@
 -- From the answers of the calls of a disk to those of a call that is given as a value.
 use Rattle.std.specs.Result.{result_ok}
-use Rattle.std.proofs.Common.{◌≡◌, ℕ, Bool, List, Option, Some, None, Result, Ok, Err, IfSome, OnOk, OnErr, refl, sym, ap, ◌∙◌, subst}
+use Rattle.std.proofs.Common.{◌≡◌, ℕ, Bool, List, Option, Some, None, Result, Ok, Err, IfSome, OnOk, OnErr, refl, sym, ap, ◌∙◌}
 use Rattle.odb_base.specs.Path.{Path}
 use Rattle.odb_tree.specs.Tree.{Tree, State, tree_of}
 use Rattle.odb_tree.specs.Tree.Follow.{Refusal, looked, read_of}
@@ -38,54 +38,47 @@ read_told (Err errors.NotEmpty) told is = absurd is
 read_told (Err errors.Failed) told is = tt
 read_told (Err errors.NoMemory) told is = tt
 
-module _ (path : Path) (ask : DiskAsk) (answer : DiskAnswer) where
-  pub carried_look : (follow : Bool) (r : Result Meta DiskError) (t : Tree) → ask ≡ asks.Look path follow → answer ≡ told_look r → Answers r (looked t path follow) → AnswersAsk answer (answer_of t ask)
+-- a call that reads, where the disk may not tell its state
+module _ {path : Path} {ask : DiskAsk} {answer : DiskAnswer} where
+  pub carried_look : {follow : Bool} → ask ≡ asks.Look path follow → (r : Result Meta DiskError) → answer ≡ told_look r → (o : Option State)
+      → IfSome o (λ s. Answers r (looked (tree_of s) path follow)) → IfSome o (λ s. AnswersAsk answer (answer_of (tree_of s) ask))
   unfolding answer_of
-  carried_look follow r t is told answers = subst (λ a. AnswersAsk answer (answer_of t a)) (sym is) (subst (λ a. AnswersAsk a (meta_answer (looked t path follow))) (sym told) (look_told r (looked t path follow) answers))
+  carried_look is r told None answers = tt
+  carried_look {follow = follow} is r told (Some s) answers = rw (is, told) (look_told r (looked (tree_of s) path follow) answers)
 
-  pub carried_read : (r : Result (List ℕ × ℕ) DiskError) (t : Tree) → ask ≡ asks.Read path → answer ≡ told_read r → Answers r (read_of t path) → AnswersAsk answer (answer_of t ask)
+  pub carried_read : ask ≡ asks.Read path → (r : Result (List ℕ × ℕ) DiskError) → answer ≡ told_read r → (o : Option State)
+      → IfSome o (λ s. Answers r (read_of (tree_of s) path)) → IfSome o (λ s. AnswersAsk answer (answer_of (tree_of s) ask))
   unfolding answer_of
-  carried_read r t is told answers = subst (λ a. AnswersAsk answer (answer_of t a)) (sym is) (subst (λ a. AnswersAsk a (file_answer (read_of t path))) (sym told) (read_told r (read_of t path) answers))
-
-  -- the same where the disk may not tell its state
-  pub carried_look_told : (follow : Bool) (r : Result Meta DiskError) (o : Option State) → ask ≡ asks.Look path follow → answer ≡ told_look r → IfSome o (λ s. Answers r (looked (tree_of s) path follow)) → IfSome o (λ s. AnswersAsk answer (answer_of (tree_of s) ask))
-  carried_look_told follow r None is told answers = tt
-  carried_look_told follow r (Some s) is told answers = carried_look follow r (tree_of s) is told answers
-
-  pub carried_read_told : (r : Result (List ℕ × ℕ) DiskError) (o : Option State) → ask ≡ asks.Read path → answer ≡ told_read r → IfSome o (λ s. Answers r (read_of (tree_of s) path)) → IfSome o (λ s. AnswersAsk answer (answer_of (tree_of s) ask))
-  carried_read_told r None is told answers = tt
-  carried_read_told r (Some s) is told answers = carried_read r (tree_of s) is told answers
+  carried_read is r told None answers = tt
+  carried_read is r told (Some s) answers = rw (is, told) (read_told r (read_of (tree_of s) path) answers)
 
 -- ---- a call that writes
 
--- what a call asks of a tree: its answer and its change are those of a word
-pub record Asks (t : Tree) (ask : DiskAsk) (told : Result Change writing.Refusal) : Type 0 where
-  pub answers_by : answer_of t ask ≡ write_answer told
-  pub changes_by : change_of_ask t ask ≡ result_ok told
+-- a call that writes asks for the changes of a word: a tree answers to it by them, and it makes them there
+pub record AsksFor (change_in : Tree → Result Change writing.Refusal) (ask : DiskAsk) : Type 0 where
+  pub answers_by : (t : Tree) → answer_of t ask ≡ write_answer (change_in t)
+  pub changes_by : (t : Tree) → change_of_ask t ask ≡ result_ok (change_in t)
 
-module _ (t : Tree) (ask : DiskAsk) where
-  pub asks_make_dir : (path : Path) → ask ≡ asks.MakeDir path → Asks t ask (change_of_make_dir t path)
+module _ (path : Path) where
+  pub asks_make_dir : AsksFor (λ t. change_of_make_dir t path) (asks.MakeDir path)
   unfolding answer_of change_of_ask
-  asks_make_dir path is = record { answers_by = ap (answer_of t) is; changes_by = ap (change_of_ask t) is }
+  asks_make_dir = record { answers_by = λ t. refl; changes_by = λ t. refl }
 
-  pub asks_new_file : (path : Path) → ask ≡ asks.NewFile path → Asks t ask (change_of_new_file t path)
+  pub asks_new_file : AsksFor (λ t. change_of_new_file t path) (asks.NewFile path)
   unfolding answer_of change_of_ask
-  asks_new_file path is = record { answers_by = ap (answer_of t) is; changes_by = ap (change_of_ask t) is }
+  asks_new_file = record { answers_by = λ t. refl; changes_by = λ t. refl }
 
-  pub asks_append : (path : Path) (bytes slice : List ℕ) → ask ≡ asks.Append path bytes → slice ≡ bytes → Asks t ask (change_of_append t path slice)
+  pub asks_append : (bytes : List ℕ) → AsksFor (λ t. change_of_append t path bytes) (asks.Append path bytes)
   unfolding answer_of change_of_ask
-  asks_append path bytes slice is same = record {
-    answers_by = ap (answer_of t) is ∙ ap (λ b. write_answer (change_of_append t path b)) (sym same);
-    changes_by = ap (change_of_ask t) is ∙ ap (λ b. result_ok (change_of_append t path b)) (sym same);
-  }
+  asks_append bytes = record { answers_by = λ t. refl; changes_by = λ t. refl }
 
-  pub asks_rename : (from to : Path) → ask ≡ asks.Rename from to → Asks t ask (change_of_rename t from to)
+  pub asks_rename : (to : Path) → AsksFor (λ t. change_of_rename t path to) (asks.Rename path to)
   unfolding answer_of change_of_ask
-  asks_rename from to is = record { answers_by = ap (answer_of t) is; changes_by = ap (change_of_ask t) is }
+  asks_rename to = record { answers_by = λ t. refl; changes_by = λ t. refl }
 
-  pub asks_remove : (path : Path) → ask ≡ asks.Remove path → Asks t ask (change_of_remove t path)
+  pub asks_remove : AsksFor (λ t. change_of_remove t path) (asks.Remove path)
   unfolding answer_of change_of_ask
-  asks_remove path is = record { answers_by = ap (answer_of t) is; changes_by = ap (change_of_ask t) is }
+  asks_remove = record { answers_by = λ t. refl; changes_by = λ t. refl }
 
 done_answer : (told : Result Change writing.Refusal) → write_answer (done told) ≡ write_answer told
 done_answer (Ok change) = refl
@@ -101,33 +94,30 @@ write_told (Err errors.NotEmpty) told is = ap write_answer (sym is) ∙ done_ans
 write_told (Err errors.Failed) told is = tt
 write_told (Err errors.NoMemory) told is = tt
 
-module _ (ask : DiskAsk) (answer : DiskAnswer) (r : Result (Unit {0}) DiskError) (answered : answer ≡ told_write r) where
-  pub carried_write : (t : Tree) (told : Result Change writing.Refusal) → Asks t ask told → AnswersWrite r (done told) → AnswersAsk answer (answer_of t ask)
-  carried_write t told a is = subst (λ q. AnswersAsk q (answer_of t ask)) (sym answered) (subst (AnswersAsk (told_write r)) (sym a.answers_by) (write_told r told is))
+-- what a disk answers to a call that writes, and what it leaves, where it may not tell its state
+module _ {change_in : Tree → Result Change writing.Refusal} {asked : DiskAsk} (asks_for : AsksFor change_in asked) {ask : DiskAsk} (is : ask ≡ asked)
+    (r : Result (Unit {0}) DiskError) {answer : DiskAnswer} (told : answer ≡ told_write r) (o : Option State) where
+  pub carried_write : IfSome o (λ s. AnswersWrite r (done (change_in (tree_of s)))) → IfSome o (λ s. AnswersAsk answer (answer_of (tree_of s) ask))
+  carried_write answers = by_state o answers
+    where
+      by_state : (p : Option State) → IfSome p (λ s. AnswersWrite r (done (change_in (tree_of s)))) → IfSome p (λ s. AnswersAsk answer (answer_of (tree_of s) ask))
+      by_state None answers = tt
+      by_state (Some s) answers = rw (is, told, asks_for.answers_by (tree_of s)) (write_told r (change_in (tree_of s)) answers)
 
-  -- the same where the disk may not tell its state
-  module _ (o : Option State) (change_in : Tree → Result Change writing.Refusal) (a : (t : Tree) → Asks t ask (change_in t)) where
-    pub carried_write_told : IfSome o (λ s. AnswersWrite r (done (change_in (tree_of s)))) → IfSome o (λ s. AnswersAsk answer (answer_of (tree_of s) ask))
-    carried_write_told is = by_state o is
-      where
-        by_state : (p : Option State) → IfSome p (λ s. AnswersWrite r (done (change_in (tree_of s)))) → IfSome p (λ s. AnswersAsk answer (answer_of (tree_of s) ask))
-        by_state None is = tt
-        by_state (Some s) is = carried_write (tree_of s) (change_in (tree_of s)) (a (tree_of s)) is
+  pub carried_state : (new : Option State) → OnOk r (new ≡ written_as change_in o) → OnErr r (new ≡ o) → new ≡ state_told_after o ask answer
+  carried_state new made kept = rw (is, told) (by_result r made kept)
+    where
+      done_told : (p : Option State) → written_as change_in p ≡ state_told_after p asked answers.Done
+      done_told None = refl
+      done_told (Some s) = ap (λ c. Some (written s c)) (sym (asks_for.changes_by (tree_of s)))
 
-    pub carried_state_told : (new : Option State) → OnOk r (new ≡ written_as change_in o) → OnErr r (new ≡ o) → new ≡ state_told_after o ask answer
-    carried_state_told new made kept = by_result r made kept ∙ ap (state_told_after o ask) (sym answered)
-      where
-        done_told : (p : Option State) → written_as change_in p ≡ state_told_after p ask answers.Done
-        done_told None = refl
-        done_told (Some s) = ap (λ c. Some (written s c)) (sym (a (tree_of s)).changes_by)
+      kept_told : (p : Option State) (e : DiskError) → p ≡ state_told_after p asked (answers.Refused e)
+      kept_told None e = refl
+      kept_told (Some s) e = refl
 
-        kept_told : (p : Option State) (e : DiskError) → p ≡ state_told_after p ask (answers.Refused e)
-        kept_told None e = refl
-        kept_told (Some s) e = refl
-
-        by_result : (q : Result (Unit {0}) DiskError) → OnOk q (new ≡ written_as change_in o) → OnErr q (new ≡ o) → new ≡ state_told_after o ask (told_write q)
-        by_result (Ok x) ok err = ok ∙ done_told o
-        by_result (Err e) ok err = err ∙ kept_told o e
+      by_result : (q : Result (Unit {0}) DiskError) → OnOk q (new ≡ written_as change_in o) → OnErr q (new ≡ o) → new ≡ state_told_after o asked (told_write q)
+      by_result (Ok x) made kept = made ∙ done_told o
+      by_result (Err e) made kept = kept ∙ kept_told o e
 
 -- a look and a read leave the state as it was
 module _ (ask : DiskAsk) (o new : Option State) (same : new ≡ o) where

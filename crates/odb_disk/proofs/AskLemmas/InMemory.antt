@@ -1,7 +1,7 @@
 -- From what a call that is given as a value keeps to on every disk to what a disk in memory answers, and is afterwards.
 use Rattle.std.specs.Prelude.{if◌then◌else◌}
 use Rattle.std.specs.Result.{result_ok}
-use Rattle.std.proofs.Common.{◌≡◌, ◌≢◌, ℕ, true, false, Bool, List, [], ◌∷◌, Option, Some, None, Result, Ok, Err, refl, sym, ap, ◌∙◌, cond}
+use Rattle.std.proofs.Common.{◌≡◌, ◌≢◌, ◌↔◌, true, false, Bool, List, [], ◌∷◌, Option, Some, None, Result, Ok, Err, refl, sym, ap, ◌∙◌, cond}
 use Rattle.odb_tree.specs.Tree.{Tree, State, tree_of}
 use Rattle.odb_tree.specs.Tree.Follow.{Refusal}
 use Rattle.odb_tree.specs.Tree.Write as writing
@@ -10,9 +10,8 @@ use Rattle.odb_disk.specs.MemDisk.{Volume, after_call}
 use Rattle.odb_disk.specs.Streams.{Streams, still_gives}
 use Rattle.odb_tree.specs.Entries.{opened}
 use Rattle.odb_disk.specs.StreamAsks.{streams_after, after_opening, after_taking, least_closed}
-use Rattle.odb_disk.specs.Ask.{dir_answer, entry_answer, write_answer, answer_of, answer_in, change_of_ask, state_after, streams_left, is_counted, fails_now, after_count, after_ask, AnswersAsk, TakesLeast, IsCounted, ran_out}
+use Rattle.odb_disk.specs.Ask.{dir_answer, entry_answer, write_answer, answer_of, answer_in, change_of_ask, state_after, streams_left, is_counted, fails_now, after_count, after_ask, AnswersAsk, IsCounted, ran_out}
 use Rattle.odb_tree.specs.declared.change.Change.{Change}
-use Rattle.odb_tree.specs.declared.meta.Meta.{Meta}
 use Rattle.odb_tree.specs.declared.entry.Entry.{Entry}
 use Rattle.odb_tree.specs.declared.disk_error.DiskError.{DiskError}
 use Rattle.odb_tree.specs.declared.disk_error.DiskError.TheVariants as errors
@@ -21,29 +20,30 @@ use Rattle.odb_disk.specs.declared.ask.DiskAsk.TheVariants as asks
 use Rattle.odb_disk.specs.declared.ask.DiskAnswer.{DiskAnswer}
 use Rattle.odb_disk.specs.declared.ask.DiskAnswer.TheVariants as answers
 use Rattle.odb_disk.proofs.MemDiskLemmas.{after_call-state, after_call-streams}
-use Rattle.std.proofs.lemmas.Bool.{false≢true}
-use Rattle.odb_tree.specs.Answers.{Tells}
-use Rattle.odb_disk.specs.Told.{told_look, told_read, told_write}
 
 -- ---- what it answers
 
+-- a call fails exactly where it is to
+abbrev FailsAs : Bool → DiskAnswer → Type 0
+FailsAs fails answer = (answer ≡ answers.Refused errors.Failed) ↔ (fails ≡ true)
+
 -- what a disk in memory answers, by whether the call fails and what its tree answers
-pub answered_by : (fails : Bool) (answer told : DiskAnswer) → AnswersAsk answer told → (answer ≡ answers.Refused errors.Failed → fails ≡ true) → (fails ≡ true → answer ≡ answers.Refused errors.Failed) → answer ≢ answers.Refused errors.NoMemory
+pub answered_by : (fails : Bool) (answer told : DiskAnswer) → AnswersAsk answer told → FailsAs fails answer → answer ≢ answers.Refused errors.NoMemory
     → answer ≡ (if fails then answers.Refused errors.Failed else told)
-answered_by true answer told is failed listed some = listed refl
-answered_by false (answers.Meta found) told is failed listed some = is
-answered_by false (answers.File bytes time) told is failed listed some = is
-answered_by false (answers.Dir dir) told is failed listed some = is
-answered_by false (answers.Entry entry) told is failed listed some = is
-answered_by false answers.End told is failed listed some = is
-answered_by false answers.Done told is failed listed some = is
-answered_by false (answers.Refused errors.Absent) told is failed listed some = is
-answered_by false (answers.Refused errors.WrongKind) told is failed listed some = is
-answered_by false (answers.Refused errors.LinkLoop) told is failed listed some = is
-answered_by false (answers.Refused errors.Exists) told is failed listed some = is
-answered_by false (answers.Refused errors.NotEmpty) told is failed listed some = is
-answered_by false (answers.Refused errors.Failed) told is failed listed some = absurd (cc (failed refl))
-answered_by false (answers.Refused errors.NoMemory) told is failed listed some = absurd (some refl)
+answered_by true answer told is failed some = failed.1 refl
+answered_by false (answers.Meta found) told is failed some = is
+answered_by false (answers.File bytes time) told is failed some = is
+answered_by false (answers.Dir dir) told is failed some = is
+answered_by false (answers.Entry entry) told is failed some = is
+answered_by false answers.End told is failed some = is
+answered_by false answers.Done told is failed some = is
+answered_by false (answers.Refused errors.Absent) told is failed some = is
+answered_by false (answers.Refused errors.WrongKind) told is failed some = is
+answered_by false (answers.Refused errors.LinkLoop) told is failed some = is
+answered_by false (answers.Refused errors.Exists) told is failed some = is
+answered_by false (answers.Refused errors.NotEmpty) told is failed some = is
+answered_by false (answers.Refused errors.Failed) told is failed some = absurd (cc (failed.0 refl))
+answered_by false (answers.Refused errors.NoMemory) told is failed some = absurd (some refl)
 
 -- ---- a disk in memory after a call
 
@@ -92,42 +92,42 @@ module _ (s : State) (streams : Streams) (ask : DiskAsk) where
   not_done : (answer : DiskAnswer) → answer ≢ answers.Done → answer ≡ answer_in (tree_of s) streams ask → s ≡ written s (change_of_ask (tree_of s) ask)
   not_done answer other is = sym (ap (written s) (undone (tree_of s) streams ask (λ d. other (is ∙ d))))
 
-  state_by : (fails : Bool) (answer : DiskAnswer) → answer ≢ answers.Refused errors.NoMemory → AnswersAsk answer (answer_in (tree_of s) streams ask) → (answer ≡ answers.Refused errors.Failed → fails ≡ true) → (fails ≡ true → answer ≡ answers.Refused errors.Failed)
+  state_by : (fails : Bool) (answer : DiskAnswer) → answer ≢ answers.Refused errors.NoMemory → AnswersAsk answer (answer_in (tree_of s) streams ask) → FailsAs fails answer
       → state_after s ask answer ≡ cond fails s (written s (change_of_ask (tree_of s) ask))
-  state_by true answer some is failed listed = ap (state_after s ask) (listed refl)
-  state_by false answers.Done some is failed listed = refl
-  state_by false (answers.Meta found) some is failed listed = not_done (answers.Meta found) (λ e. cc) is
-  state_by false (answers.File bytes time) some is failed listed = not_done (answers.File bytes time) (λ e. cc) is
-  state_by false (answers.Dir dir) some is failed listed = not_done (answers.Dir dir) (λ e. cc) is
-  state_by false (answers.Entry entry) some is failed listed = not_done (answers.Entry entry) (λ e. cc) is
-  state_by false answers.End some is failed listed = not_done answers.End (λ e. cc) is
-  state_by false (answers.Refused errors.Absent) some is failed listed = not_done (answers.Refused errors.Absent) (λ e. cc) is
-  state_by false (answers.Refused errors.WrongKind) some is failed listed = not_done (answers.Refused errors.WrongKind) (λ e. cc) is
-  state_by false (answers.Refused errors.LinkLoop) some is failed listed = not_done (answers.Refused errors.LinkLoop) (λ e. cc) is
-  state_by false (answers.Refused errors.Exists) some is failed listed = not_done (answers.Refused errors.Exists) (λ e. cc) is
-  state_by false (answers.Refused errors.NotEmpty) some is failed listed = not_done (answers.Refused errors.NotEmpty) (λ e. cc) is
-  state_by false (answers.Refused errors.Failed) some is failed listed = absurd (cc (failed refl))
-  state_by false (answers.Refused errors.NoMemory) some is failed listed = absurd (some refl)
+  state_by true answer some is failed = ap (state_after s ask) (failed.1 refl)
+  state_by false answers.Done some is failed = refl
+  state_by false (answers.Meta found) some is failed = not_done (answers.Meta found) (λ e. cc) is
+  state_by false (answers.File bytes time) some is failed = not_done (answers.File bytes time) (λ e. cc) is
+  state_by false (answers.Dir dir) some is failed = not_done (answers.Dir dir) (λ e. cc) is
+  state_by false (answers.Entry entry) some is failed = not_done (answers.Entry entry) (λ e. cc) is
+  state_by false answers.End some is failed = not_done answers.End (λ e. cc) is
+  state_by false (answers.Refused errors.Absent) some is failed = not_done (answers.Refused errors.Absent) (λ e. cc) is
+  state_by false (answers.Refused errors.WrongKind) some is failed = not_done (answers.Refused errors.WrongKind) (λ e. cc) is
+  state_by false (answers.Refused errors.LinkLoop) some is failed = not_done (answers.Refused errors.LinkLoop) (λ e. cc) is
+  state_by false (answers.Refused errors.Exists) some is failed = not_done (answers.Refused errors.Exists) (λ e. cc) is
+  state_by false (answers.Refused errors.NotEmpty) some is failed = not_done (answers.Refused errors.NotEmpty) (λ e. cc) is
+  state_by false (answers.Refused errors.Failed) some is failed = absurd (cc (failed.0 refl))
+  state_by false (answers.Refused errors.NoMemory) some is failed = absurd (some refl)
 
-  streams_by : (fails : Bool) (answer : DiskAnswer) → answer ≢ answers.Refused errors.NoMemory → AnswersAsk answer (answer_in (tree_of s) streams ask) → (answer ≡ answers.Refused errors.Failed → fails ≡ true) → (fails ≡ true → answer ≡ answers.Refused errors.Failed)
+  streams_by : (fails : Bool) (answer : DiskAnswer) → answer ≢ answers.Refused errors.NoMemory → AnswersAsk answer (answer_in (tree_of s) streams ask) → FailsAs fails answer
       → streams_left (tree_of s) streams ask answer ≡ cond fails streams (streams_after (tree_of s) streams ask)
-  streams_by true answer some is failed listed = ap (streams_left (tree_of s) streams ask) (listed refl)
-  streams_by false answers.Done some is failed listed = refl
-  streams_by false (answers.Meta found) some is failed listed = refl
-  streams_by false (answers.File bytes time) some is failed listed = refl
-  streams_by false (answers.Dir dir) some is failed listed = refl
-  streams_by false (answers.Entry entry) some is failed listed = refl
-  streams_by false answers.End some is failed listed = refl
-  streams_by false (answers.Refused errors.Absent) some is failed listed = unmoved (tree_of s) streams ask errors.Absent is
-  streams_by false (answers.Refused errors.WrongKind) some is failed listed = unmoved (tree_of s) streams ask errors.WrongKind is
-  streams_by false (answers.Refused errors.LinkLoop) some is failed listed = unmoved (tree_of s) streams ask errors.LinkLoop is
-  streams_by false (answers.Refused errors.Exists) some is failed listed = unmoved (tree_of s) streams ask errors.Exists is
-  streams_by false (answers.Refused errors.NotEmpty) some is failed listed = unmoved (tree_of s) streams ask errors.NotEmpty is
-  streams_by false (answers.Refused errors.Failed) some is failed listed = absurd (cc (failed refl))
-  streams_by false (answers.Refused errors.NoMemory) some is failed listed = absurd (some refl)
+  streams_by true answer some is failed = ap (streams_left (tree_of s) streams ask) (failed.1 refl)
+  streams_by false answers.Done some is failed = refl
+  streams_by false (answers.Meta found) some is failed = refl
+  streams_by false (answers.File bytes time) some is failed = refl
+  streams_by false (answers.Dir dir) some is failed = refl
+  streams_by false (answers.Entry entry) some is failed = refl
+  streams_by false answers.End some is failed = refl
+  streams_by false (answers.Refused errors.Absent) some is failed = unmoved (tree_of s) streams ask errors.Absent is
+  streams_by false (answers.Refused errors.WrongKind) some is failed = unmoved (tree_of s) streams ask errors.WrongKind is
+  streams_by false (answers.Refused errors.LinkLoop) some is failed = unmoved (tree_of s) streams ask errors.LinkLoop is
+  streams_by false (answers.Refused errors.Exists) some is failed = unmoved (tree_of s) streams ask errors.Exists is
+  streams_by false (answers.Refused errors.NotEmpty) some is failed = unmoved (tree_of s) streams ask errors.NotEmpty is
+  streams_by false (answers.Refused errors.Failed) some is failed = absurd (cc (failed.0 refl))
+  streams_by false (answers.Refused errors.NoMemory) some is failed = absurd (some refl)
 
 -- counting a call changes neither the tree nor a stream
-after_count-state : (disk : Volume) (ask : DiskAsk) → (after_count disk ask).state ≡ disk.state
+pub after_count-state : (disk : Volume) (ask : DiskAsk) → (after_count disk ask).state ≡ disk.state
 after_count-state disk ask = by (is_counted ask)
   where
     by : (counted : Bool) → (cond counted (after_call disk) disk).state ≡ disk.state
@@ -141,14 +141,13 @@ after_count-streams disk ask = by (is_counted ask)
     by true = after_call-streams disk
     by false = refl
 
-module _ (disk new : Volume) (ask : DiskAsk) (answer : DiskAnswer) (state : new.state ≡ state_after disk.state ask answer) (streams : new.streams ≡ streams_left (tree_of disk.state) disk.streams ask answer)
-    (counted : new.calls ≡ (after_count disk ask).calls) where
-  pub volume_after_ask : answer ≢ answers.Refused errors.NoMemory → AnswersAsk answer (answer_in (tree_of disk.state) disk.streams ask) → (answer ≡ answers.Refused errors.Failed → fails_now disk ask ≡ true)
-      → (fails_now disk ask ≡ true → answer ≡ answers.Refused errors.Failed) → new ≡ after_ask disk ask
+module _ (disk new : Volume) (ask : DiskAsk) (answer : DiskAnswer) (state : new.state ≡ state_after disk.state ask answer)
+    (streams : new.streams ≡ streams_left (tree_of disk.state) disk.streams ask answer) (counted : new.calls ≡ (after_count disk ask).calls) where
+  pub volume_after_ask : answer ≢ answers.Refused errors.NoMemory → AnswersAsk answer (answer_in (tree_of disk.state) disk.streams ask) → FailsAs (fails_now disk ask) answer → new ≡ after_ask disk ask
   unfolding after_ask
-  volume_after_ask some is failed listed =
-      let after = state ∙ state_by disk.state disk.streams ask (fails_now disk ask) answer some is failed listed in
-      let left = streams ∙ streams_by disk.state disk.streams ask (fails_now disk ask) answer some is failed listed in
+  volume_after_ask some is failed =
+      let after = state ∙ state_by disk.state disk.streams ask (fails_now disk ask) answer some is failed in
+      let left = streams ∙ streams_by disk.state disk.streams ask (fails_now disk ask) answer some is failed in
       λ i. record { state = after i; streams = left i; calls = counted i }
 
   pub volume_kept : answer ≡ answers.Refused errors.NoMemory → new ≡ after_count disk ask
@@ -177,49 +176,6 @@ no_memory (answers.Refused errors.NoMemory) is = refl
 
 -- ---- what each call keeps to
 
-told_written : (r : Result (Unit {0}) DiskError) (told : Result (Unit {0}) writing.Refusal) → Tells r told → told_write r ≢ answers.Refused errors.Failed
-told_written (Ok x) told is = λ e. cc
-told_written (Err errors.Absent) told is = λ e. cc
-told_written (Err errors.WrongKind) told is = λ e. cc
-told_written (Err errors.LinkLoop) told is = λ e. cc
-told_written (Err errors.Exists) told is = λ e. cc
-told_written (Err errors.NotEmpty) told is = λ e. cc
-told_written (Err errors.Failed) told is = absurd is
-told_written (Err errors.NoMemory) told is = λ e. cc
-
-told_looked : (r : Result Meta DiskError) → r ≢ Err errors.Failed → told_look r ≢ answers.Refused errors.Failed
-told_looked (Ok found) never = λ e. cc
-told_looked (Err error) never = λ e. never (let same : error ≡ errors.Failed = cc in ap Err same)
-
-told_of_file : (r : Result (List ℕ × ℕ) DiskError) → r ≢ Err errors.Failed → told_read r ≢ answers.Refused errors.Failed
-told_of_file (Ok file) never = λ e. cc
-told_of_file (Err error) never = λ e. never (let same : error ≡ errors.Failed = cc in ap Err same)
-
-module _ (old new : Volume) (ask : DiskAsk) (counted : new.calls ≡ (after_count old ask).calls) where
+module _ (old new : Volume) (ask : DiskAsk) (counted : new ≡ after_count old ask) where
   pub counted_failed : fails_now old ask ≡ true → IsCounted old ask (answers.Refused errors.Failed) new
-  counted_failed fails = record { counted = counted; failed = (λ _. fails, λ _. refl); least = tt }
-
-  module _ (fails : fails_now old ask ≡ false) where
-    pub counted_unfailed : (answer : DiskAnswer) → answer ≢ answers.Refused errors.Failed → TakesLeast old.streams answer → IsCounted old ask answer new
-    counted_unfailed answer other least = record { counted = counted; failed = (λ is. absurd (other is), λ is. absurd (false≢true (sym fails ∙ is))); least = least }
-
-    pub counted_write : (r : Result (Unit {0}) DiskError) (told : Result (Unit {0}) writing.Refusal) → Tells r told → IsCounted old ask (told_write r) new
-    counted_write r told is = counted_unfailed (told_write r) (told_written r told is) (least r)
-      where
-        least : (q : Result (Unit {0}) DiskError) → TakesLeast old.streams (told_write q)
-        least (Ok x) = tt
-        least (Err error) = tt
-
-    pub counted_look : (r : Result Meta DiskError) → r ≢ Err errors.Failed → IsCounted old ask (told_look r) new
-    counted_look r never = counted_unfailed (told_look r) (told_looked r never) (least r)
-      where
-        least : (q : Result Meta DiskError) → TakesLeast old.streams (told_look q)
-        least (Ok found) = tt
-        least (Err error) = tt
-
-    pub counted_read : (r : Result (List ℕ × ℕ) DiskError) → r ≢ Err errors.Failed → IsCounted old ask (told_read r) new
-    counted_read r never = counted_unfailed (told_read r) (told_of_file r never) (least r)
-      where
-        least : (q : Result (List ℕ × ℕ) DiskError) → TakesLeast old.streams (told_read q)
-        least (Ok file) = tt
-        least (Err error) = tt
+  counted_failed fails = record { counted = ap (λ v. v.calls) counted; failed = (λ _. fails, λ _. refl); least = tt }

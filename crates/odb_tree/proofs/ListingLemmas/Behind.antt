@@ -181,7 +181,8 @@ module _ (directory p last : Path) (below : starts_with same_name p directory �
               let after_p : is_lt (path_cmp p e.0) ≡ true = ap is_lt (path_order.trans p last e.0 further (lt_less _ after)) in
               ap (entries_among directory) (behind-cons p e es true after_p) ∙ ap (cons_option (entry_in directory e)) so_on ∙ sym (ap (entries_among directory) (behind-cons last e es true after))
           | false ↦ λ up_to.
-              let not_over : is_gt (path_cmp e.0 (p ++ rest)) ≡ false = ap (λ q. is_gt (path_cmp e.0 q)) (sym whole) ∙ ap is_gt (path_order.antisymm e.0 last) ∙ gt_reverse (path_cmp last e.0) ∙ up_to in
+              let not_over : is_gt (path_cmp e.0 (p ++ rest)) ≡ false =
+              ap (λ q. is_gt (path_cmp e.0 q)) (sym whole) ∙ ap is_gt (path_order.antisymm e.0 last) ∙ gt_reverse (path_cmp last e.0) ∙ up_to in
               elim (is_lt (path_cmp p e.0)) as (λ b. is_lt (path_cmp p e.0) ≡ b → entries_among directory (behind p (e ∷ es)) ≡ entries_among directory (behind last (e ∷ es))) [
                 | true ↦ λ after.
                     let none = no_entry_below e (lt_less _ after) (begins_between p e.0 rest (lt_less _ after) not_over) in

@@ -56,7 +56,8 @@ pub record IsUnderWay (t : Tree) (directory from : Path) (old now : List Entry) 
   pub listed : now ++ entries_among directory left ≡ old ++ entries_after t directory from
   pub stops : IfSome stop (λ to. GoesTo t directory from to old now)
 
-pub begun : (directory from : Path) (old : List Entry) (es left : Nodes) → IsStrictlySortedBy path_cmp (map (λ e. e.0) es) → left ≡ behind from es → IsUnderWay (tree_of_entries es) directory from old old None left
+pub begun : (directory from : Path) (old : List Entry) (es left : Nodes) → IsStrictlySortedBy path_cmp (map (λ e. e.0) es) → left ≡ behind from es
+    → IsUnderWay (tree_of_entries es) directory from old old None left
 begun directory from old es left strictly is =
     let left_is : left ≡ behind from (entries_of (tree_of_entries es)) = is ∙ ap (behind from) (sym (entries_of-tree es (is_sorted-from es strictly))) in
     record { at = from; left_is = left_is; order = λ q later. later; listed = ap (λ l. old ++ entries_among directory l) left_is; stops = tt }
@@ -83,7 +84,8 @@ module _ (t : Tree) (directory from : Path) (old now : List Entry) (stop : Optio
         alone (Some entry) = refl
 
     -- the entry of the next node is added, if it has one
-    pub one_more : (rest : Path) (new : List Entry) (last : Option Path) → directory ++ rest ≡ path → new ≡ now ++ filter_map (entry_in []) ((rest, node) ∷ []) → IfSome last (λ p. p ≡ path) → IsUnderWay t directory from old new last more
+    pub one_more : (rest : Path) (new : List Entry) (last : Option Path) → directory ++ rest ≡ path → new ≡ now ++ filter_map (entry_in []) ((rest, node) ∷ []) → IfSome last (λ p. p ≡ path)
+        → IsUnderWay t directory from old new last more
     one_more rest new last is added last_is =
         let same : entry_in [] (rest, node) ≡ entry_in directory (path, node) = ap (option_map (entry_of node)) (sym (name_in-below directory rest) ∙ ap (name_in directory) is) in
         let listed : new ++ entries_among directory more ≡ old ++ entries_after t directory from =
@@ -134,7 +136,8 @@ last_name-push (first ∷ []) name = refl
 last_name-push (first ∷ other ∷ path) name = last_name-push (other ∷ path) name
 
 -- the name of the path with the byte 1 behind it comes behind all that lies below the path
-pub all_before : (path front : Path) (name : Name) (end : Path) → parent_of path ≡ Some front → last_name path ≡ Some name → end ≡ front ++ (name ++ 1 ∷ []) ∷ [] → (rest : Path) → path_cmp (path ++ rest) end ≡ Less
+pub all_before : (path front : Path) (name : Name) (end : Path) → parent_of path ≡ Some front → last_name path ≡ Some name → end ≡ front ++ (name ++ 1 ∷ []) ∷ [] → (rest : Path)
+    → path_cmp (path ++ rest) end ≡ Less
 all_before path front name end front_is name_is end_is rest =
     let own = parent_of-some path front front_is in
     let same : own.0 ≡ name = same_Some _ _ (sym (last_name-push front own.0) ∙ ap last_name (sym own.1) ∙ name_is) in

@@ -54,7 +54,8 @@ split_last (name ∷ next ∷ names) below_root =
 
 -- ---- the tree stays a tree
 
-module _ (t : Tree) (is_tree : IsTree t) (p : Path) (m : Node) (lies : lies_in_directory t p ≡ true) (no_directory : is_directory (node_at t p) ≡ false) (fresh : (q : Path) (k : Node) → q ≢ p → node_at t q ≡ Some k → k.ino ≢ m.ino) where
+module _ (t : Tree) (is_tree : IsTree t) (p : Path) (m : Node) (lies : lies_in_directory t p ≡ true) (no_directory : is_directory (node_at t p) ≡ false)
+    (fresh : (q : Path) (k : Node) → q ≢ p → node_at t q ≡ Some k → k.ino ≢ m.ino) where
   no_root : [] ≢ p
   no_root root = false≢true (sym (root_lies_nowhere t p (sym root)) ∙ lies)
 
@@ -119,7 +120,8 @@ nil_cons : (o : Option Name) (names : List Name) → is_nil (cons_option o names
 nil_cons None names nil = (refl, nil)
 nil_cons (Some name) names nil = absurd (false≢true nil)
 
-no_name_found : (directory : Path) (es : List (Path × Node)) → is_nil (filter_map (name_in directory) (map (λ e. e.0) es)) ≡ true → (p : Path) (n : Node) → find path_cmp p es ≡ Some n → name_in directory p ≡ None
+no_name_found : (directory : Path) (es : List (Path × Node)) → is_nil (filter_map (name_in directory) (map (λ e. e.0) es)) ≡ true → (p : Path) (n : Node) → find path_cmp p es ≡ Some n
+    → name_in directory p ≡ None
 no_name_found directory [] nil p n found = cc
 no_name_found directory (e ∷ es) nil p n found =
     let parts = nil_cons (name_in directory e.0) (filter_map (name_in directory) (map (λ e. e.0) es)) nil in
@@ -129,7 +131,8 @@ no_name_found directory (e ∷ es) nil p n found =
       | false ↦ λ _ is. later is
     ] refl found
 
-nil_from_found : (directory : Path) (es : List (Path × Node)) → T (is_sorted path_cmp es) → ((p : Path) (n : Node) → find path_cmp p es ≡ Some n → name_in directory p ≡ None) → is_nil (filter_map (name_in directory) (map (λ e. e.0) es)) ≡ true
+nil_from_found : (directory : Path) (es : List (Path × Node)) → T (is_sorted path_cmp es) → ((p : Path) (n : Node) → find path_cmp p es ≡ Some n → name_in directory p ≡ None)
+    → is_nil (filter_map (name_in directory) (map (λ e. e.0) es)) ≡ true
 nil_from_found directory [] sorted none = refl
 nil_from_found directory (e ∷ es) sorted none =
     ap (λ o. is_nil (cons_option o (filter_map (name_in directory) (map (λ e. e.0) es)))) (none e.0 e.1 (find_own e es))

@@ -13,18 +13,20 @@ use Rattle.odb_tree.specs.declared.change.Change.{Change}
 use Rattle.odb_tree.specs.declared.change.Change.TheVariants.{PutFile, MakeDir, PutLink, Rename, Append, Remove, SetTime}
 use Rattle.odb_tree.proofs.TreeLemmas.{tree_of-state_of}
 use Rattle.odb_tree.proofs.TreeLemmas.Numbers.{least_free-fresh}
-use Rattle.odb_tree.proofs.TreeLemmas.Follow.{place_stands}
+use Rattle.odb_tree.proofs.TreeLemmas.Follow.{place_stands, StandsAt}
 use Rattle.odb_tree.proofs.TreeLemmas.Change.{IsTree-put, IsTree-without, no_names_below, root_lies_nowhere}
 use Rattle.odb_tree.proofs.TreeLemmas.MovedTree.{IsTree-can_move, file_lies, file_no_directory}
 
 -- ---- a possible change keeps the tree a tree
 
 module _ (t : Tree) (is_tree : IsTree t) (p : Path) where
-  IsTree-new_node : (dev : ℕ) (content : Content) → lies_in_directory t p ≡ true → is_directory (node_at t p) ≡ false → IsTree (with_node t p (record { dev = dev; ino = least_free t; content = content }))
+  IsTree-new_node : (dev : ℕ) (content : Content) → lies_in_directory t p ≡ true → is_directory (node_at t p) ≡ false
+      → IsTree (with_node t p (record { dev = dev; ino = least_free t; content = content }))
   IsTree-new_node dev content lies other =
       IsTree-put t is_tree p (record { dev = dev; ino = least_free t; content = content }) lies other (λ q k _ at. least_free-fresh t q k at)
 
-  IsTree-put_over : (content : Content) (node : Node) (old : Content) → lies_in_directory t p ≡ true → is_directory (node_at t p) ≡ false → node_at t p ≡ Some node → IsTree (with_node t p (put_over t p content node old))
+  IsTree-put_over : (content : Content) (node : Node) (old : Content) → lies_in_directory t p ≡ true → is_directory (node_at t p) ≡ false → node_at t p ≡ Some node
+      → IsTree (with_node t p (put_over t p content node old))
   IsTree-put_over content node (File bytes time) lies other at =
       IsTree-put t is_tree p (record node { content = content }) lies other (λ q k apart there same. apart (is_tree.apart q p k node there at same))
   IsTree-put_over content node Dir lies other at = IsTree-new_node (device_of (parent_node t p)) content lies other
@@ -37,7 +39,8 @@ module _ (t : Tree) (is_tree : IsTree t) (p : Path) where
         | Some node ↦ λ at. IsTree-put_over content node node.content lies other at
       ] refl
 
-  IsTree-link_over : (target : Path) (node : Node) (old : Content) → lies_in_directory t p ≡ true → is_directory (node_at t p) ≡ false → node_at t p ≡ Some node → IsTree (with_node t p (link_over t p target node old))
+  IsTree-link_over : (target : Path) (node : Node) (old : Content) → lies_in_directory t p ≡ true → is_directory (node_at t p) ≡ false → node_at t p ≡ Some node
+      → IsTree (with_node t p (link_over t p target node old))
   IsTree-link_over target node (Link old) lies other at =
       IsTree-put t is_tree p (record node { content = Link target }) lies other (λ q k apart there same. apart (is_tree.apart q p k node there at same))
   IsTree-link_over target node Dir lies other at = IsTree-new_node (device_of (parent_node t p)) (Link target) lies other
@@ -62,11 +65,12 @@ module _ (t : Tree) (is_tree : IsTree t) (p : Path) where
   IsTree-remove lies nil = IsTree-without t is_tree p (λ root. false≢true (sym (root_lies_nowhere t p (sym root)) ∙ lies)) (no_names_below t p nil)
 
 -- the tree stays one where bytes are appended
-IsTree-longer : (t : Tree) → IsTree t → (more : List ℕ) (told : Result Place Refusal) → is_file_place told ≡ true → ((place : Place) → told ≡ Ok place → node_at t place.path ≡ Some place.node) → IsTree (with_longer t more told)
+IsTree-longer : (t : Tree) → IsTree t → (more : List ℕ) (told : Result Place Refusal) → is_file_place told ≡ true → StandsAt t told → IsTree (with_longer t more told)
 IsTree-longer t is_tree more (Err refusal) file stands = cc
 IsTree-longer t is_tree more (Ok place) file stands =
     let at = stands place refl in
-    IsTree-put t is_tree place.path (record place.node { content = longer place.node.content more }) (file_lies t is_tree place.path place.node at file) (file_no_directory t place.path place.node at file)
+    IsTree-put t is_tree place.path (record place.node { content = longer place.node.content more }) (file_lies t is_tree place.path place.node at file)
+    (file_no_directory t place.path place.node at file)
     (λ q k apart there same. apart (is_tree.apart q place.path k place.node there at same))
 
 pub IsTree-changed : (t : Tree) (change : Change) → IsTree t → is_possible_in t change ≡ true → IsTree (changed t change)

@@ -27,7 +27,8 @@ module _ (t : Tree) (follow : Bool) (way : Path) where
   pass_led (name ∷ names) n target some at is =
       ap (λ o. beyond o (name ∷ names) (pass t follow (way ++ name ∷ []) names)) at ∙ ap (λ c. past c (name ∷ names) (pass t follow (way ++ name ∷ []) names)) is
 
-  pub pass_further : (names : Path) (n : Node) (d : Name) → 0 < length names → node_at t way ≡ Some n → n.content ≡ Dir → pass t follow way names ≡ pass t follow (way ++ get_or names 0 d ∷ []) (drop 1 names)
+  pub pass_further : (names : Path) (n : Node) (d : Name) → 0 < length names → node_at t way ≡ Some n → n.content ≡ Dir
+      → pass t follow way names ≡ pass t follow (way ++ get_or names 0 d ∷ []) (drop 1 names)
   unfolding pass
   pass_further [] n d some at is = absurd (omega arith)
   pass_further (name ∷ names) n d some at is =
@@ -100,7 +101,8 @@ pub record IsShort (t : Tree) (path way : Path) : Type 0 where
   pub lacks : node_at t (way ++ name ∷ []) ≡ None
 
 -- where a pass goes from the last node on its way
-pub pass_past : (t : Tree) → IsTree t → (follow : Bool) (path way : Path) (n : Node) (short : IsShort t path way) → node_at t way ≡ Some n → pass t follow [] path ≡ past n.content (short.name ∷ short.names) Missing
+pub pass_past : (t : Tree) → IsTree t → (follow : Bool) (path way : Path) (n : Node) (short : IsShort t path way) → node_at t way ≡ Some n
+    → pass t follow [] path ≡ past n.content (short.name ∷ short.names) Missing
 unfolding pass
 pass_past t is_tree follow path way n short at =
     ap (pass t follow []) short.whole ∙ pass_from t is_tree follow [] way (short.name ∷ short.names) n at ∙ stops short.names
@@ -134,7 +136,8 @@ module _ (t : Tree) (is_tree : IsTree t) (path : Path) (n : Node) (at : node_at 
 
 module _ (t : Tree) (follow : Bool) (path : Path) where
   -- what a pass says by itself, with any number of links left
-  arrives_alike : (links : ℕ) (p : Pass) (told : Result Place Refusal) → ((further : Path → Result Place Refusal) → arrives further p ≡ told) → pass t follow [] path ≡ p → followed_within links t follow path ≡ told
+  arrives_alike : (links : ℕ) (p : Pass) (told : Result Place Refusal) → ((further : Path → Result Place Refusal) → arrives further p ≡ told) → pass t follow [] path ≡ p
+      → followed_within links t follow path ≡ told
   unfolding followed_within
   arrives_alike zero p told alike is = ap (arrives (λ _. Err LinkLoop)) is ∙ alike (λ _. Err LinkLoop)
   arrives_alike (suc links) p told alike is = ap (arrives (followed_within links t follow)) is ∙ alike (followed_within links t follow)
@@ -158,6 +161,10 @@ module _ (t : Tree) (follow : Bool) (path : Path) where
 
 -- ---- a place is where its node stands
 
+-- the place that a path leads to has the node that stands there
+abbrev pub StandsAt : Tree → Result Place Refusal → Type 0
+StandsAt t told = (place : Place) → told ≡ Ok place → node_at t place.path ≡ Some place.node
+
 module _ (t : Tree) where
   at_last_is : (follow : Bool) (way : Path) (node : Node) (content : Content) (p : Path) (n : Node) → at_last follow way node content ≡ Reached p n → (way ≡ p) × (node ≡ n)
   at_last_is true way node (File bytes time) p n is = (cc, cc)
@@ -179,7 +186,8 @@ module _ (t : Tree) where
   reached_stands follow way [] p n is = let both = ending_is follow way (node_at t way) p n is in ap (node_at t) (sym both.0) ∙ both.1
   reached_stands follow way (name ∷ names) p n is = reached_stands follow (way ++ name ∷ []) names p n (beyond_is (node_at t way) (name ∷ names) _ p n is)
 
-  arrived : (further : Path → Result Place Refusal) (p : Pass) (place : Place) → arrives further p ≡ Ok place → ((q : Path) → further q ≡ Ok place → node_at t place.path ≡ Some place.node) → ((q : Path) (n : Node) → p ≡ Reached q n → node_at t q ≡ Some n) → node_at t place.path ≡ Some place.node
+  arrived : (further : Path → Result Place Refusal) (p : Pass) (place : Place) → arrives further p ≡ Ok place → ((q : Path) → further q ≡ Ok place → node_at t place.path ≡ Some place.node)
+      → ((q : Path) (n : Node) → p ≡ Reached q n → node_at t q ≡ Some n) → node_at t place.path ≡ Some place.node
   arrived further (Reached q n) place is onward reached =
       let same : ◌≡◌ {A = Place} (record { path = q; node = n }) place = cc in subst (λ (k : Place). node_at t k.path ≡ Some k.node) same (reached q n refl)
   arrived further (Onward q) place is onward reached = onward q is

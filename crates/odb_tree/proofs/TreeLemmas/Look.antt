@@ -61,12 +61,15 @@ refused_alike : (told : Result Place Refusal) (e : Refusal) → meta_of_place to
 refused_alike (Ok place) e is = cc
 refused_alike (Err refusal) e is = let same : refusal ≡ e = cc in ap Err same
 
-file_found : (content : Content) (dev ino : ℕ) (bytes : List ℕ) (time : ℕ) → file_of content ≡ Ok (bytes, time) → meta_with dev ino content ≡ record { kind = kinds.File; dev = dev; ino = ino; len = length bytes; time = time }
-file_found (File old at) dev ino bytes time is = let pair : ◌≡◌ {A = List ℕ × ℕ} (old, at) (bytes, time) = cc in ap (λ (p : List ℕ × ℕ). record { kind = kinds.File; dev = dev; ino = ino; len = length p.0; time = p.1 }) pair
+file_found : (content : Content) (dev ino : ℕ) (bytes : List ℕ) (time : ℕ) → file_of content ≡ Ok (bytes, time)
+    → meta_with dev ino content ≡ record { kind = kinds.File; dev = dev; ino = ino; len = length bytes; time = time }
+file_found (File old at) dev ino bytes time is =
+    let pair : ◌≡◌ {A = List ℕ × ℕ} (old, at) (bytes, time) = cc in ap (λ (p : List ℕ × ℕ). record { kind = kinds.File; dev = dev; ino = ino; len = length p.0; time = p.1 }) pair
 file_found Dir dev ino bytes time is = cc
 file_found (Link target) dev ino bytes time is = cc
 
-place_found : (told : Result Place Refusal) (bytes : List ℕ) (time : ℕ) → file_of_place told ≡ Ok (bytes, time) → (m : Meta) × (meta_of_place told ≡ Ok m) × (m.kind ≡ kinds.File) × (m.len ≡ length bytes) × (m.time ≡ time)
+place_found : (told : Result Place Refusal) (bytes : List ℕ) (time : ℕ) → file_of_place told ≡ Ok (bytes, time)
+    → (m : Meta) × (meta_of_place told ≡ Ok m) × (m.kind ≡ kinds.File) × (m.len ≡ length bytes) × (m.time ≡ time)
 place_found (Ok place) bytes time is =
     let m : Meta = record { kind = kinds.File; dev = place.node.dev; ino = place.node.ino; len = length bytes; time = time } in
     (m, ap Ok (file_found place.node.content place.node.dev place.node.ino bytes time is), refl, refl, refl)

@@ -90,7 +90,8 @@ module _ (from to q : Path) where
     no_origin : begins p from ≡ false → eq_by_cmp path_cmp (from ++ drop (length to) q) p ≡ false
     no_origin other = other_path _ p (λ same. false≢true (sym other ∙ ap (λ r. begins r from) (sym same) ∙ begins-append from (drop (length to) q)))
 
-  find-moved : (es : List (Path × Node)) → find path_cmp q (filter_map (moved_entry from to) es) ≡ moved_at (begins q to) (begins q from) (find path_cmp (from ++ drop (length to) q) es) (find path_cmp q es)
+  find-moved : (es : List (Path × Node))
+      → find path_cmp q (filter_map (moved_entry from to) es) ≡ moved_at (begins q to) (begins q from) (find path_cmp (from ++ drop (length to) q) es) (find path_cmp q es)
   find-moved [] = sym (moved_at_none (begins q to) (begins q from))
   find-moved (e ∷ es) =
       let rest = find-moved es in
@@ -101,7 +102,8 @@ module _ (from to q : Path) where
       let x = find path_cmp (from ++ drop (length to) q) es in
       let y = find path_cmp q es in
       let whole = moved_at (begins q to) (begins q from) (cond c (Some e.1) x) (cond d (Some e.1) y) in
-      elim (begins p from) as (λ b. begins p from ≡ b → find path_cmp q (cons_option (cond b (Some (to ++ drop (length from) p, e.1)) (cond (begins p to) None (Some e))) (filter_map (moved_entry from to) es)) ≡ whole) [
+      elim (begins p from) as (λ b. begins p from ≡ b
+      → find path_cmp q (cons_option (cond b (Some (to ++ drop (length from) p, e.1)) (cond (begins p to) None (Some e))) (filter_map (moved_entry from to) es)) ≡ whole) [
         | true ↦ λ source.
             ap (cond (eq_by_cmp path_cmp q (to ++ drop (length from) p)) (Some e.1)) rest
             ∙ more (eq_by_cmp path_cmp q (to ++ drop (length from) p)) c d e.1 x y (goes p source) (λ other _. goes_below p other)
@@ -123,7 +125,8 @@ module _ (t : Tree) (from to : Path) where
   unfolding with_moved
   node_at-with_moved q =
       node_at-tree_of_entries _ q ∙ find-moved from to q (entries_of t)
-      ∙ sym (ap (λ o. moved_at (begins q to) (begins q from) o (node_at t q)) (node_at-entries_of t (from ++ drop (length to) q)) ∙ ap (moved_at (begins q to) (begins q from) _) (node_at-entries_of t q))
+      ∙ sym (ap (λ o. moved_at (begins q to) (begins q from) o (node_at t q)) (node_at-entries_of t (from ++ drop (length to) q))
+      ∙ ap (moved_at (begins q to) (begins q from) _) (node_at-entries_of t q))
 
   pub moved_below : (rest : Path) → node_at (with_moved t from to) (to ++ rest) ≡ node_at t (from ++ rest)
   moved_below rest =

@@ -152,7 +152,8 @@ CanMove-from t is_tree from to lies can =
     elim (node_at t from) as (λ o. node_at t from ≡ o → can_move t from to o ≡ true → CanMove t from to) [
       | None ↦ λ _ e. cc
       | Some n ↦ λ at.
-          elim (is_directory_content n.content) as (λ b. is_directory_content n.content ≡ b → cond b (is_none (node_at t to) && not (begins to from)) (not (is_directory (node_at t to))) ≡ true → CanMove t from to) [
+          elim (is_directory_content n.content) as (λ b. is_directory_content n.content ≡ b
+          → cond b (is_none (node_at t to) && not (begins to from)) (not (is_directory (node_at t to))) ≡ true → CanMove t from to) [
             | true ↦ λ _ e. let parts = and_parts _ _ e in record { node = n; at = at; free = no_directory_none _ parts.0; outside = inr (not-true _ parts.1) }
             | false ↦ λ leaf e.
                 record {
@@ -174,7 +175,8 @@ IsTree-can_move t is_tree from to lies can =
 
 -- ---- a move of a file or a link is one node's
 
-module _ (t : Tree) (is_tree : IsTree t) (from to : Path) (n : Node) (at : node_at t from ≡ Some n) (leaf : is_directory (node_at t from) ≡ false) (free : is_directory (node_at t to) ≡ false) (apart : from ≢ to) where
+module _ (t : Tree) (is_tree : IsTree t) (from to : Path) (n : Node) (at : node_at t from ≡ Some n) (leaf : is_directory (node_at t from) ≡ false) (free : is_directory (node_at t to) ≡ false)
+    (apart : from ≢ to) where
   abbrev one : Tree
   one = with_node (without t from) to n
 

@@ -203,7 +203,8 @@ module _ (t : Tree) (is_tree : IsTree t) (path : Path) (change : Change) where
       let same : Rename f.first g.first ≡ change = cc in
       ap (is_possible_in t) (sym same)
       ∙ and_from _ _ (spot_lies t is_tree to g.first r.is r.free)
-      (ap (can_move t f.first g.first) m.at ∙ ap (λ b. cond b (is_none (node_at t g.first) && not (starts_with same_name g.first f.first)) (not (is_directory (node_at t g.first)))) m.leaf ∙ ap not r.free)
+      (ap (can_move t f.first g.first) m.at
+      ∙ ap (λ b. cond b (is_none (node_at t g.first) && not (starts_with same_name g.first f.first)) (not (is_directory (node_at t g.first)))) m.leaf ∙ ap not r.free)
 
   pub remove_possible : change_of_remove t path ≡ Ok change → is_possible_in t change ≡ true
   unfolding change_of_remove is_possible_in

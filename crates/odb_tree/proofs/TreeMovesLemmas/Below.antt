@@ -32,21 +32,30 @@ before_all [] rest (x ∷ xs) less = refl
 before_all (b ∷ bs) rest [] less = absurd (cc)
 before_all (b ∷ bs) rest (x ∷ xs) less =
     let deeper : path_cmp (bs ++ rest) xs ≡ Less → path_cmp bs xs ≡ Less = before_all bs rest xs in
-    elim (name_cmp b x) as (λ o. ordering_then o (path_cmp (bs ++ rest) xs) ≡ Less → ordering_then o (path_cmp bs xs) ≡ Less) [ Less ↦ λ _. refl | Equal ↦ λ e. deeper e | Greater ↦ λ e. absurd (cc) ] less
+    elim (name_cmp b x) as (λ o. ordering_then o (path_cmp (bs ++ rest) xs) ≡ Less → ordering_then o (path_cmp bs xs) ≡ Less) [
+      | Less ↦ λ _. refl
+      | Equal ↦ λ e. deeper e
+      | Greater ↦ λ e. absurd (cc)
+    ] less
 
 pub under_before : (base last p : Path) → begins last base ≡ true → path_cmp last p ≡ Less → path_cmp base p ≡ Less
 under_before base last p under behind = before_all base (drop (length base) last) p (ap (λ q. path_cmp q p) (sym (goes_beyond last base under)) ∙ behind)
 
 order_cases : (p q : Path) → is_gt (path_cmp p q) ≡ false → (path_cmp p q ≡ Less) ⊎ (p ≡ q)
 order_cases p q le =
-    elim (path_cmp p q) as (λ o. path_cmp p q ≡ o → is_gt o ≡ false → (path_cmp p q ≡ Less) ⊎ (p ≡ q)) [ Less ↦ λ is _. inl is | Equal ↦ λ is _. inr (one_place p q is) | Greater ↦ λ _ e. absurd (cc) ] refl le
+    elim (path_cmp p q) as (λ o. path_cmp p q ≡ o → is_gt o ≡ false → (path_cmp p q ≡ Less) ⊎ (p ≡ q)) [
+      | Less ↦ λ is _. inl is
+      | Equal ↦ λ is _. inr (one_place p q is)
+      | Greater ↦ λ _ e. absurd (cc)
+    ] refl le
 
 pub none_from : (o : Option Node) → (is_some o ≡ true → ⊥) → o ≡ None
 none_from None other = refl
 none_from (Some n) other = absurd (other refl)
 
 -- where the first node behind a path lies elsewhere, none lies below the directory
-pub none_behind : (t : Tree) (base last p : Path) → begins last base ≡ true → path_cmp last p ≡ Less → ((q : Path) → path_cmp last q ≡ Less → IsSome (node_at t q) → is_gt (path_cmp p q) ≡ false) → begins p base ≡ false → NoneBehind t base last
+pub none_behind : (t : Tree) (base last p : Path) → begins last base ≡ true → path_cmp last p ≡ Less → ((q : Path) → path_cmp last q ≡ Less → IsSome (node_at t q) → is_gt (path_cmp p q) ≡ false)
+    → begins p base ≡ false → NoneBehind t base last
 none_behind t base last p under behind least other q below later = none_from (node_at t q) (λ some.
     let whole = goes_beyond q base below in
     false≢true (sym other ∙ begins_between base p (drop (length base) q) (under_before base last p under behind) (ap (λ r. is_gt (path_cmp p r)) (sym whole) ∙ least q later some)))

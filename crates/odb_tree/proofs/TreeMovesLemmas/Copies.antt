@@ -39,7 +39,8 @@ copy_there t s d some =
     ] refl some
 
 -- one more of the copies
-pub copies_more : (u : Tree) (ss ds : List Path) (i : ℕ) (s d : Path) → i < length ss → i < length ds → s ≡ get_or ss i s → d ≡ get_or ds i d → with_copies u (drop i ss) (drop i ds) ≡ with_copies (with_copy u s d) (drop (i + 1) ss) (drop (i + 1) ds)
+pub copies_more : (u : Tree) (ss ds : List Path) (i : ℕ) (s d : Path) → i < length ss → i < length ds → s ≡ get_or ss i s → d ≡ get_or ds i d
+    → with_copies u (drop i ss) (drop i ds) ≡ with_copies (with_copy u s d) (drop (i + 1) ss) (drop (i + 1) ds)
 copies_more u ss ds i s d hs hd s_is d_is =
     let one : i + 1 ≡ suc i = add-one i in
     ap (λ xs. with_copies u xs (drop i ds)) (drop-cons ss i s hs ∙ ap (λ x. x ∷ drop (suc i) ss) (sym s_is))
@@ -157,7 +158,10 @@ module _ (from to : Path) (apart_to : (q : Path) → begins q from ≡ true → 
           | true ↦ λ is. c.among (target_among sources q below is)
           | false ↦ λ none.
               let gone : node_at t (origin q) ≡ None = none_from (node_at t (origin q)) (λ some. false≢true (sym none ∙ are.all (origin q) (origin_below q) some)) in
-              elim (is_among q targets) as (λ b. is_among q targets ≡ b → node_at both q ≡ node_at t (origin q)) [ true ↦ λ is. c.among is | false ↦ λ other. c.other other ∙ free q below ∙ sym gone ] refl
+              elim (is_among q targets) as (λ b. is_among q targets ≡ b → node_at both q ≡ node_at t (origin q)) [
+                | true ↦ λ is. c.among is
+                | false ↦ λ other. c.other other ∙ free q below ∙ sym gone
+              ] refl
         ] refl
 
     elsewhere : (q : Path) → begins q to ≡ false → node_at both q ≡ node_at t q

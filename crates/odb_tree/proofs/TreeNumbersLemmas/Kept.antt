@@ -16,6 +16,14 @@ use Rattle.odb_tree.proofs.TreeNumbersLemmas.Taken.{has_number-taken, is_taken-p
 
 -- ---- the numbers stay well kept
 
+-- the free numbers once the node at a path is gone
+abbrev IsFreed : Tree → Path → (free freed : List ℕ) → Type 0
+IsFreed t p free freed = (n : ℕ) → is_listed freed n ≡ (has_number (node_at t p) n || is_listed free n)
+
+-- the free numbers once a number is used, by whether it is the next one
+abbrev LeavesFree : Bool → ℕ → (free left : List ℕ) → Type 0
+LeavesFree is_next number free left = (n : ℕ) → is_listed left n ≡ cond is_next (is_listed free n) (not (number == n) && is_listed free n)
+
 -- a number is used: `next` and the free numbers before and after
 pub record IsUsed (number next later : ℕ) (free left : List ℕ) : Type 0 where
   pub grows : next ≤ later
@@ -24,9 +32,10 @@ pub record IsUsed (number next later : ℕ) (free left : List ℕ) : Type 0 wher
   pub own : is_listed left number ≡ false
   pub others : (n : ℕ) → n ≢ number → is_listed left n ≡ is_listed free n
 
-pub IsUsed-from : (number next later : ℕ) (free left : List ℕ) → number ≤ next → (number ≡ next → is_listed free number ≡ false) → later ≡ cond (number == next) (next + 1) next → ((n : ℕ) → is_listed left n ≡ cond (number == next) (is_listed free n) (not (number == n) && is_listed free n)) → IsUsed number next later free left
+pub IsUsed-from : (number next later : ℕ) (free left : List ℕ) → number ≤ next → (number ≡ next → is_listed free number ≡ false) → later ≡ cond (number == next) (next + 1) next
+    → LeavesFree (number == next) number free left → IsUsed number next later free left
 IsUsed-from number next later free left le unlisted is lists =
-    elim (number == next) as (λ b. (number == next) ≡ b → later ≡ cond b (next + 1) next → ((n : ℕ) → is_listed left n ≡ cond b (is_listed free n) (not (number == n) && is_listed free n)) → IsUsed number next later free left) [
+    elim (number == next) as (λ b. (number == next) ≡ b → later ≡ cond b (next + 1) next → LeavesFree b number free left → IsUsed number next later free left) [
       | true ↦ λ same up alike. let e : number ≡ next = eqb-true number next same in record {
         grows = omega arith;
         below = omega arith;
@@ -72,7 +81,7 @@ module _ (t : Tree) (is_tree : IsTree t) (next : ℕ) (free : List ℕ) (numbers
     pub taken_below : (m : ℕ) → 0 < m → m < number → is_taken t m ≡ true
     taken_below m low high = let le = least_above.1 in let below : m < next = omega arith in numbers.split m low below ∙ ap not (least.least m high)
 
-  module _ (p : Path) (freed : List ℕ) (frees : (n : ℕ) → is_listed freed n ≡ (has_number (node_at t p) n || is_listed free n)) where
+  module _ (p : Path) (freed : List ℕ) (frees : IsFreed t p free freed) where
     freed_above : (n : ℕ) → is_listed freed n ≡ true → (0 < n) × (n < next)
     freed_above n listed = elim (or_cases _ _ (sym (frees n) ∙ listed)) [
       | inl here ↦ numbers.above n (has_number-taken t p n here)
@@ -144,9 +153,11 @@ least_free-least t is_tree next free numbers number least =
 
 -- ---- the fields after a change
 
-module _ (t u : Tree) (is_tree : IsTree t) (next : ℕ) (free : List ℕ) (numbers : AreNumbers t next free) (p : Path) (lies : lies_in_directory t p ≡ true) (no_directory : is_directory (node_at t p) ≡ false) where
+module _ (t u : Tree) (is_tree : IsTree t) (next : ℕ) (free : List ℕ) (numbers : AreNumbers t next free)
+    (p : Path) (lies : lies_in_directory t p ≡ true) (no_directory : is_directory (node_at t p) ≡ false) where
   -- a node of its own number is put
-  module _ (m : Node) (later : ℕ) (freed left : List ℕ) (least : IsLeastFree free next m.ino) (frees : (n : ℕ) → is_listed freed n ≡ (has_number (node_at t p) n || is_listed free n)) (up : later ≡ cond (m.ino == next) (next + 1) next) (lists : (n : ℕ) → is_listed left n ≡ cond (m.ino == next) (is_listed freed n) (not (m.ino == n) && is_listed freed n)) (put : u ≡ with_node t p m) where
+  module _ (m : Node) (later : ℕ) (freed left : List ℕ) (least : IsLeastFree free next m.ino) (frees : IsFreed t p free freed)
+      (up : later ≡ cond (m.ino == next) (next + 1) next) (lists : LeavesFree (m.ino == next) m.ino freed left) (put : u ≡ with_node t p m) where
     own_number : (q : Path) (k : Node) → q ≢ p → node_at t q ≡ Some k → k.ino ≢ m.ino
     own_number q k apart at same = false≢true (sym (least_not_taken t is_tree next free numbers m.ino least) ∙ ap (is_taken t) (sym same) ∙ is_taken-node_at t q k at)
 
@@ -156,7 +167,8 @@ module _ (t u : Tree) (is_tree : IsTree t) (next : ℕ) (free : List ℕ) (numbe
     pub AreNumbers-new : AreNumbers u later left
     AreNumbers-new =
         let above = least_above t is_tree next free numbers m.ino least in
-        subst (λ v. AreNumbers v later left) (sym put) (AreNumbers-put t is_tree next free numbers p freed frees m later left above.0 (IsUsed-from m.ino next later freed left above.1 (unlisted_next t is_tree next free numbers p freed frees m.ino) up lists))
+        let used = IsUsed-from m.ino next later freed left above.1 (unlisted_next t is_tree next free numbers p freed frees m.ino) up lists in
+        subst (λ v. AreNumbers v later left) (sym put) (AreNumbers-put t is_tree next free numbers p freed frees m later left above.0 used)
 
   -- the node keeps its number
   module _ (content : Content) (stands : IsSome (node_at t p)) (put : (node : Node) → node_at t p ≡ Some node → u ≡ with_node t p (record node { content = content })) where
@@ -177,11 +189,13 @@ module _ (t u : Tree) (is_tree : IsTree t) (next : ℕ) (free : List ℕ) (numbe
 pub IsTree-taken : (t u : Tree) (is_tree : IsTree t) (p : Path) → [] ≢ p → is_nil (names_in t p) ≡ true → u ≡ without t p → IsTree u
 IsTree-taken t u is_tree p below_root nil taken = subst IsTree (sym taken) (IsTree-without t is_tree p below_root (no_names_below t p nil))
 
-pub AreNumbers-taken : (t u : Tree) (is_tree : IsTree t) (next : ℕ) (free : List ℕ) (numbers : AreNumbers t next free) (p : Path) (freed : List ℕ) → ((n : ℕ) → is_listed freed n ≡ (has_number (node_at t p) n || is_listed free n)) → u ≡ without t p → AreNumbers u next freed
+pub AreNumbers-taken : (t u : Tree) (is_tree : IsTree t) (next : ℕ) (free : List ℕ) (numbers : AreNumbers t next free) (p : Path) (freed : List ℕ)
+    → IsFreed t p free freed → u ≡ without t p → AreNumbers u next freed
 AreNumbers-taken t u is_tree next free numbers p freed frees taken = subst (λ v. AreNumbers v next freed) (sym taken) (AreNumbers-without t is_tree next free numbers p freed frees)
 
 -- the time of a file is set
-module _ (t u : Tree) (is_tree : IsTree t) (next : ℕ) (free : List ℕ) (numbers : AreNumbers t next free) (p : Path) (time : ℕ) (file : is_file (node_at t p) ≡ true) (set : u ≡ with_time t p time (node_at t p)) where
+module _ (t u : Tree) (is_tree : IsTree t) (next : ℕ) (free : List ℕ) (numbers : AreNumbers t next free)
+    (p : Path) (time : ℕ) (file : is_file (node_at t p) ≡ true) (set : u ≡ with_time t p time (node_at t p)) where
   pub IsTree-set_time : IsTree u
   IsTree-set_time = subst IsTree (sym set) (IsTree-timed t is_tree p time file)
 

@@ -58,7 +58,9 @@ pub IsWellKept-bare : (t : Inside) → t.nodes.entries ≡ ([], bare_root) ∷ [
 unfolding bare_tree
 IsWellKept-bare t entries next free = record {
   is_tree = subst (λ es. IsTree (tree_of_entries es)) (sym entries) IsTree-bare;
-  numbers = subst (λ es. AreNumbers (tree_of_entries es) t.next_ino t.free_inos.keys) (sym entries) (subst (λ n. AreNumbers bare_tree n t.free_inos.keys) (sym next) (subst (AreNumbers bare_tree 2) (sym free) AreNumbers-bare));
+  numbers =
+      subst (λ es. AreNumbers (tree_of_entries es) t.next_ino t.free_inos.keys) (sym entries)
+      (subst (λ n. AreNumbers bare_tree n t.free_inos.keys) (sym next) (subst (AreNumbers bare_tree 2) (sym free) AreNumbers-bare));
 }
 
 -- ---- the set of free numbers
@@ -68,7 +70,8 @@ or-cond true b = refl
 or-cond false b = refl
 
 -- one number more is free
-pub freed_number : (free now : List ℕ) (at : Option Node) (node : Node) → Some node ≡ at → ((n : ℕ) → is_listed now n ≡ cond (is_at (nat_cmp node.ino) n) true (is_listed free n)) → (n : ℕ) → is_listed now n ≡ (has_number at n || is_listed free n)
+pub freed_number : (free now : List ℕ) (at : Option Node) (node : Node) → Some node ≡ at → ((n : ℕ) → is_listed now n ≡ cond (is_at (nat_cmp node.ino) n) true (is_listed free n)) → (n : ℕ)
+    → is_listed now n ≡ (has_number at n || is_listed free n)
 freed_number free now at node is h n =
     h n ∙ or-cond (eq_by_cmp nat_cmp node.ino n) (is_listed free n) ∙ ap (λ b. b || is_listed free n) (unsigned_tied node.ino n) ∙ ap (λ o. has_number o n || is_listed free n) is
 

@@ -6,10 +6,11 @@ use Rattle.std.proofs.lemmas.Option.{same_Some}
 use Rattle.odb_base.specs.Path.{Path}
 use Rattle.odb_tree.specs.Tree.{Tree, node_at}
 use Rattle.odb_tree.specs.Tree.Follow.{Pass, Reached, Onward, Missing, Blocked, pass, past, beyond, at_last, ending, Place, Refusal, LinkLoop, arrives, followed_within}
-use Rattle.odb_tree.specs.Tree.Way.{led_on, ways_within, is_front_of_one}
+use Rattle.odb_tree.specs.Tree.Way.{ways_onward, ways_within, is_front_of_one}
 use Rattle.odb_tree.specs.declared.node.Node.{Node}
 use Rattle.odb_tree.specs.declared.node.Content.{Content}
 use Rattle.odb_tree.specs.declared.node.Content.TheVariants.{File, Dir, Link}
+use Rattle.odb_tree.proofs.TreeLemmas.Follow.{StandsAt}
 use Rattle.odb_tree.proofs.TreeLemmas.Moved.{begins, begins-append}
 
 -- ---- the outline of a node
@@ -61,11 +62,11 @@ arrives-outline further (Onward path) = refl
 arrives-outline further Missing = refl
 arrives-outline further Blocked = refl
 
-led_on-outline : (further : Path → List Path) (p : Pass) → led_on further (outline_pass p) ≡ led_on further p
-led_on-outline further (Reached path node) = refl
-led_on-outline further (Onward path) = refl
-led_on-outline further Missing = refl
-led_on-outline further Blocked = refl
+ways_onward-outline : (further : Path → List Path) (p : Pass) → ways_onward further (outline_pass p) ≡ ways_onward further p
+ways_onward-outline further (Reached path node) = refl
+ways_onward-outline further (Onward path) = refl
+ways_onward-outline further Missing = refl
+ways_onward-outline further Blocked = refl
 
 pub onward-outline : (p : Pass) (path : Path) → outline_pass p ≡ Onward path → p ≡ Onward path
 onward-outline (Reached at node) path is = absurd (cc)
@@ -79,11 +80,11 @@ arrives_alike f g (Onward path) same = same path refl
 arrives_alike f g Missing same = refl
 arrives_alike f g Blocked same = refl
 
-led_on_alike : (f g : Path → List Path) (p : Pass) → ((path : Path) → p ≡ Onward path → f path ≡ g path) → led_on f p ≡ led_on g p
-led_on_alike f g (Reached path node) same = refl
-led_on_alike f g (Onward path) same = same path refl
-led_on_alike f g Missing same = refl
-led_on_alike f g Blocked same = refl
+ways_onward_alike : (f g : Path → List Path) (p : Pass) → ((path : Path) → p ≡ Onward path → f path ≡ g path) → ways_onward f p ≡ ways_onward g p
+ways_onward_alike f g (Reached path node) same = refl
+ways_onward_alike f g (Onward path) same = same path refl
+ways_onward_alike f g Missing same = refl
+ways_onward_alike f g Blocked same = refl
 
 -- ---- trees that have alike nodes on the way
 
@@ -92,7 +93,8 @@ abbrev pub Alike : Tree → Tree → List Path → Type 0
 Alike t u ways = (q : Path) → is_front_of_one ways q ≡ true → outline (node_at u q) ≡ outline (node_at t q)
 
 module _ (t u : Tree) (follow : Bool) where
-  pub pass_alike : (whole : Path) → ((q : Path) → begins whole q ≡ true → outline (node_at u q) ≡ outline (node_at t q)) → (way names : Path) → way ++ names ≡ whole → outline_pass (pass u follow way names) ≡ outline_pass (pass t follow way names)
+  pub pass_alike : (whole : Path) → ((q : Path) → begins whole q ≡ true → outline (node_at u q) ≡ outline (node_at t q)) → (way names : Path) → way ++ names ≡ whole
+      → outline_pass (pass u follow way names) ≡ outline_pass (pass t follow way names)
   unfolding pass
   pass_alike whole alike way [] is =
       let here = alike way (ap (λ w. begins w way) (sym is) ∙ begins-append way []) in
@@ -109,12 +111,14 @@ module _ (t u : Tree) (follow : Bool) where
   first_alike path more alike = pass_alike path (λ q front. alike q (or_left _ _ front)) [] path refl
 
   -- the way onward is alike too
-  rest_alike : (links : ℕ) (path onward : Path) → Alike t u (path ∷ led_on (ways_within links t follow) (pass t follow [] path)) → outline_pass (pass t follow [] path) ≡ Onward onward → Alike t u (ways_within links t follow onward)
+  rest_alike : (links : ℕ) (path onward : Path) → Alike t u (path ∷ ways_onward (ways_within links t follow) (pass t follow [] path)) → outline_pass (pass t follow [] path) ≡ Onward onward
+      → Alike t u (ways_within links t follow onward)
   rest_alike links path onward alike is q front =
       let led = onward-outline (pass t follow [] path) onward is in
-      alike q (or_right (begins path q) _ (ap (λ p. is_front_of_one (led_on (ways_within links t follow) p) q) led ∙ front))
+      alike q (or_right (begins path q) _ (ap (λ p. is_front_of_one (ways_onward (ways_within links t follow) p) q) led ∙ front))
 
-  pub followed_alike : (links : ℕ) (path : Path) → Alike t u (ways_within links t follow path) → outline_place (followed_within links u follow path) ≡ outline_place (followed_within links t follow path)
+  pub followed_alike : (links : ℕ) (path : Path) → Alike t u (ways_within links t follow path)
+      → outline_place (followed_within links u follow path) ≡ outline_place (followed_within links t follow path)
   unfolding followed_within ways_within
   followed_alike zero path alike =
       arrives-outline (λ _. Err LinkLoop) (pass u follow [] path)
@@ -124,7 +128,7 @@ module _ (t u : Tree) (follow : Bool) where
       let then = λ (w : Tree) (q : Path). outline_place (followed_within links w follow q) in
       let p = outline_pass (pass t follow [] path) in
       arrives-outline (followed_within links u follow) (pass u follow [] path)
-      ∙ ap (arrives (then u)) (first_alike path (led_on (ways_within links t follow) (pass t follow [] path)) alike)
+      ∙ ap (arrives (then u)) (first_alike path (ways_onward (ways_within links t follow) (pass t follow [] path)) alike)
       ∙ arrives_alike (then u) (then t) p (λ onward is. followed_alike links onward (rest_alike links path onward alike is))
       ∙ sym (arrives-outline (followed_within links t follow) (pass t follow [] path))
 
@@ -135,10 +139,10 @@ module _ (t u : Tree) (follow : Bool) where
       let p = outline_pass (pass t follow [] path) in
       let f = ways_within links u follow in
       let g = ways_within links t follow in
-      ap (λ more. path ∷ more) (sym (led_on-outline f (pass u follow [] path))
-      ∙ ap (led_on f) (first_alike path (led_on g (pass t follow [] path)) alike)
-      ∙ led_on_alike f g p (λ onward is. ways_alike links onward (rest_alike links path onward alike is))
-      ∙ led_on-outline g (pass t follow [] path))
+      ap (λ more. path ∷ more) (sym (ways_onward-outline f (pass u follow [] path))
+      ∙ ap (ways_onward f) (first_alike path (ways_onward g (pass t follow [] path)) alike)
+      ∙ ways_onward_alike f g p (λ onward is. ways_alike links onward (rest_alike links path onward alike is))
+      ∙ ways_onward-outline g (pass t follow [] path))
 
 -- ---- places of one outline, where the last nodes are the same
 
@@ -146,7 +150,8 @@ abbrev path_in : Result Place Refusal → Path
 path_in (Ok place) = place.path
 path_in (Err refusal) = []
 
-pub same_place : (t u : Tree) (after before : Result Place Refusal) → outline_place after ≡ outline_place before → ((place : Place) → before ≡ Ok place → node_at u place.path ≡ node_at t place.path) → ((place : Place) → after ≡ Ok place → node_at u place.path ≡ Some place.node) → ((place : Place) → before ≡ Ok place → node_at t place.path ≡ Some place.node) → after ≡ before
+pub same_place : (t u : Tree) (after before : Result Place Refusal) → outline_place after ≡ outline_place before
+    → ((place : Place) → before ≡ Ok place → node_at u place.path ≡ node_at t place.path) → StandsAt u after → StandsAt t before → after ≡ before
 same_place t u (Ok a) (Ok b) is same after_at before_at =
     let path : a.path ≡ b.path = ap path_in is in
     let node : a.node ≡ b.node = same_Some a.node b.node (sym (after_at a refl) ∙ ap (node_at u) path ∙ same b refl ∙ before_at b refl) in

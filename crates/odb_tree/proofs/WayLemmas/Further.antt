@@ -5,7 +5,7 @@ use Rattle.odb_base.specs.Path.{Name, Path}
 use Rattle.odb_base.specs.PathLaws.{goes_beyond}
 use Rattle.odb_tree.specs.Tree.{Tree, node_at}
 use Rattle.odb_tree.specs.Tree.Follow.{Pass, Reached, Onward, Missing, Blocked, pass, past, beyond, at_last, ending, Place, Refusal, LinkLoop, arrives, followed_within}
-use Rattle.odb_tree.specs.Tree.Way.{led_on, ways_within, is_front_of_one}
+use Rattle.odb_tree.specs.Tree.Way.{ways_onward, ways_within, is_front_of_one, on_way_within}
 use Rattle.odb_tree.specs.declared.node.Node.{Node}
 use Rattle.odb_tree.specs.declared.node.Content.{Content}
 use Rattle.odb_tree.specs.declared.node.Content.TheVariants.{File, Dir, Link}
@@ -43,7 +43,7 @@ front_of_own (way ∷ ways) p (inl same) = or_left (begins way p) _ (ap (begins 
 front_of_own (way ∷ ways) p (inr more) = or_right (begins way p) _ (front_of_own ways p more)
 
 -- what is on the way behind a pass is on the way that a link leads on to
-pub in_led : (further : Path → List Path) (p : Pass) (q : Path) → is_front_of_one (led_on further p) q ≡ true → (path : Path) × (p ≡ Onward path) × (is_front_of_one (further path) q ≡ true)
+pub in_led : (further : Path → List Path) (p : Pass) (q : Path) → is_front_of_one (ways_onward further p) q ≡ true → (path : Path) × (p ≡ Onward path) × (is_front_of_one (further path) q ≡ true)
 in_led further (Reached path node) q on = absurd (false≢true on)
 in_led further (Onward path) q on = (path, refl, on)
 in_led further Missing q on = absurd (false≢true on)
@@ -78,7 +78,8 @@ module _ (t : Tree) (follow : Bool) (p : Path) (n : Node) where
       sym (append_assoc way (name ∷ []) names)
       ∙ reached_whole (way ++ name ∷ []) names (beyond_whole (node_at t way) (name ∷ names) (pass t follow (way ++ name ∷ []) names) is)
 
-arrived_one : (further : Path → Result Place Refusal) (path : Path) (more : List Path) (place : Place) (p : Pass) → arrives further p ≡ Ok place → ((x : Path) (n : Node) → p ≡ Reached x n → path ≡ x) → ((x : Path) → p ≡ Onward x → further x ≡ Ok place → IsOne more place.path) → IsOne (path ∷ more) place.path
+arrived_one : (further : Path → Result Place Refusal) (path : Path) (more : List Path) (place : Place) (p : Pass) → arrives further p ≡ Ok place
+    → ((x : Path) (n : Node) → p ≡ Reached x n → path ≡ x) → ((x : Path) → p ≡ Onward x → further x ≡ Ok place → IsOne more place.path) → IsOne (path ∷ more) place.path
 arrived_one further path more place (Reached x n) is whole next =
     let same : ◌≡◌ {A = Place} (record { path = x; node = n }) place = cc in inl (whole x n refl ∙ ap (λ (k : Place). k.path) same)
 arrived_one further path more place (Onward x) is whole next = inr (next x refl is)
@@ -87,11 +88,12 @@ arrived_one further path more place Blocked is whole next = absurd (cc)
 
 pub ends_way : (t : Tree) (follow : Bool) (links : ℕ) (path : Path) (place : Place) → followed_within links t follow path ≡ Ok place → IsOne (ways_within links t follow path) place.path
 unfolding followed_within ways_within
-ends_way t follow zero path place is = arrived_one (λ _. Err LinkLoop) path [] place (pass t follow [] path) is (λ x n reached. reached_whole t follow x n [] path reached) (λ x onward refused. absurd (cc))
+ends_way t follow zero path place is =
+    arrived_one (λ _. Err LinkLoop) path [] place (pass t follow [] path) is (λ x n reached. reached_whole t follow x n [] path reached) (λ x onward refused. absurd (cc))
 ends_way t follow (suc links) path place is =
-    arrived_one (followed_within links t follow) path (led_on (ways_within links t follow) (pass t follow [] path)) place (pass t follow [] path) is
+    arrived_one (followed_within links t follow) path (ways_onward (ways_within links t follow) (pass t follow [] path)) place (pass t follow [] path) is
     (λ x n reached. reached_whole t follow x n [] path reached)
-    (λ x onward led. subst (λ p. IsOne (led_on (ways_within links t follow) p) place.path) (sym onward) (ends_way t follow links x place led))
+    (λ x onward led. subst (λ p. IsOne (ways_onward (ways_within links t follow) p) place.path) (sym onward) (ends_way t follow links x place led))
 
 -- ---- the way of a path, its last link not followed, is on the way on which that is followed
 
@@ -114,17 +116,17 @@ unfollowed_onward t way [] x is = absurd (no_link way (node_at t way) x is)
 unfollowed_onward t way (name ∷ names) x is =
     beyond_onward (node_at t way) (name ∷ names) (pass t false (way ++ name ∷ []) names) (pass t true (way ++ name ∷ []) names) x (unfollowed_onward t (way ++ name ∷ []) names x) is
 
-pub unfollowed_front : (t : Tree) (links : ℕ) (path q : Path) → is_front_of_one (ways_within links t false path) q ≡ true → is_front_of_one (ways_within links t true path) q ≡ true
+pub unfollowed_front : (t : Tree) (links : ℕ) (path q : Path) → on_way_within links t false path q ≡ true → on_way_within links t true path q ≡ true
 unfolding ways_within
 unfollowed_front t zero path q on = on
 unfollowed_front t (suc links) path q on =
-    let followed = led_on (ways_within links t true) (pass t true [] path) in
-    elim (or_cases (begins path q) (is_front_of_one (led_on (ways_within links t false) (pass t false [] path)) q) on) [
+    let followed = ways_onward (ways_within links t true) (pass t true [] path) in
+    elim (or_cases (begins path q) (is_front_of_one (ways_onward (ways_within links t false) (pass t false [] path)) q) on) [
       | inl own ↦ or_left (begins path q) (is_front_of_one followed q) own
       | inr led ↦
           let l = in_led (ways_within links t false) (pass t false [] path) q led in
           or_right (begins path q) (is_front_of_one followed q)
-          (ap (λ p. is_front_of_one (led_on (ways_within links t true) p) q) (unfollowed_onward t [] path l.0 l.1) ∙ unfollowed_front t links l.0 q l.2)
+          (ap (λ p. is_front_of_one (ways_onward (ways_within links t true) p) q) (unfollowed_onward t [] path l.0 l.1) ∙ unfollowed_front t links l.0 q l.2)
     ]
 
 -- ---- a path with one name more
@@ -172,13 +174,14 @@ module _ (t : Tree) (name : Name) where
       beyond_by follow (x ∷ names) (node_at t way) (pass t follow (way ++ x ∷ []) (names ++ name ∷ [])) (pass t true (way ++ x ∷ []) names) (pass_by follow (way ++ x ∷ []) names)
 
   -- the way of the longer path
-  none_led : (further : Path → List Path) (content : Content) (way : Path) (o : Option Node) → led_on further (inside content (ending false way o)) ≡ []
+  none_led : (further : Path → List Path) (content : Content) (way : Path) (o : Option Node) → ways_onward further (inside content (ending false way o)) ≡ []
   none_led further (File bytes time) way o = refl
   none_led further Dir way None = refl
   none_led further Dir way (Some node) = refl
   none_led further (Link target) way o = refl
 
-  led_by : (f g : Path → List Path) → ((path : Path) → f (path ++ name ∷ []) ≡ map (λ way. way ++ name ∷ []) (g path)) → (p : Pass) → led_on f (by_name false p) ≡ map (λ way. way ++ name ∷ []) (led_on g p)
+  led_by : (f g : Path → List Path) → ((path : Path) → f (path ++ name ∷ []) ≡ map (λ way. way ++ name ∷ []) (g path)) → (p : Pass)
+      → ways_onward f (by_name false p) ≡ map (λ way. way ++ name ∷ []) (ways_onward g p)
   led_by f g same (Reached path node) = none_led f node.content (path ++ name ∷ []) (node_at t (path ++ name ∷ []))
   led_by f g same (Onward path) = same path
   led_by f g same Missing = refl
@@ -189,10 +192,11 @@ module _ (t : Tree) (name : Name) where
   ways_by zero front = refl
   ways_by (suc links) front =
       let f = ways_within links t false in
-      ap (λ more. (front ++ name ∷ []) ∷ more) (ap (led_on f) (pass_by false [] front) ∙ led_by f (ways_within links t true) (ways_by links) (pass t true [] front))
+      ap (λ more. (front ++ name ∷ []) ∷ more) (ap (ways_onward f) (pass_by false [] front) ∙ led_by f (ways_within links t true) (ways_by links) (pass t true [] front))
 
   -- where the longer path leads, by what the directory says
-  module _ (follow : Bool) (place : Place) (told : Result Place Refusal) (directory : place.node.content ≡ Dir) (says : (further : Path → Result Place Refusal) → arrives further (next follow place.path) ≡ told) where
+  module _ (follow : Bool) (place : Place) (told : Result Place Refusal) (directory : place.node.content ≡ Dir)
+      (says : (further : Path → Result Place Refusal) → arrives further (next follow place.path) ≡ told) where
     by_arrives : (f g : Path → Result Place Refusal) → ((path : Path) → g path ≡ Ok place → f (path ++ name ∷ []) ≡ told) → (p : Pass) → arrives g p ≡ Ok place → arrives f (by_name follow p) ≡ told
     by_arrives f g onward (Reached path node) is =
         let same : ◌≡◌ {A = Place} (record { path = path; node = node }) place = cc in

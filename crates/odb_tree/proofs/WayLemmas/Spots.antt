@@ -8,7 +8,7 @@ use Rattle.odb_tree.specs.Tree.Follow as following
 use Rattle.odb_tree.specs.Tree.Follow.{Reached, Place, pass, ending, at_last, arrives, followed, most_links}
 use Rattle.odb_tree.specs.Tree.Change.{is_file_content}
 use Rattle.odb_tree.specs.Tree.Write.{WrongKind, from_followed, and_then, in_directory, spot_below, spot, file_path, file_spot}
-use Rattle.odb_tree.specs.Tree.Way.{led_on, ways_within, is_front_of_one, on_way, is_link_content}
+use Rattle.odb_tree.specs.Tree.Way.{ways_onward, ways_within, is_front_of_one, on_way, is_link_content, on_way_within}
 use Rattle.odb_tree.specs.declared.node.Node.{Node}
 use Rattle.odb_tree.specs.declared.node.Content.{Content}
 use Rattle.odb_tree.specs.declared.node.Content.TheVariants.{File, Dir, Link}
@@ -36,10 +36,10 @@ module _ (t : Tree) where
   unfolding on_way
   place_on_way follow path place is = front_of_own (ways_within most_links t follow path) place.path (ends_way t follow most_links path place is)
 
-  own_front : (follow : Bool) (links : ℕ) (path q : Path) → begins path q ≡ true → is_front_of_one (ways_within links t follow path) q ≡ true
+  own_front : (follow : Bool) (links : ℕ) (path q : Path) → begins path q ≡ true → on_way_within links t follow path q ≡ true
   unfolding ways_within
   own_front follow zero path q front = or_left (begins path q) false front
-  own_front follow (suc links) path q front = or_left (begins path q) (is_front_of_one (led_on (ways_within links t follow) (pass t follow [] path)) q) front
+  own_front follow (suc links) path q front = or_left (begins path q) (is_front_of_one (ways_onward (ways_within links t follow) (pass t follow [] path)) q) front
 
   pub own_on_way : (follow : Bool) (path q : Path) → begins path q ≡ true → on_way t follow path q ≡ true
   unfolding on_way
@@ -73,11 +73,13 @@ stays true path node Dir plain = refl
 stays true path node (Link target) plain = absurd (plain target refl)
 stays false path node content plain = refl
 
-pub leads_to_spot : (t : Tree) (path s : Path) → spot t path ≡ Ok s → s ≢ [] → (node : Node) → node_at t s ≡ Some node → ((target : Path) → node.content ≢ Link target) → (follow : Bool) → followed t follow path ≡ Ok (record { path = s; node = node })
+pub leads_to_spot : (t : Tree) (path s : Path) → spot t path ≡ Ok s → s ≢ [] → (node : Node) → node_at t s ≡ Some node → ((target : Path) → node.content ≢ Link target) → (follow : Bool)
+    → followed t follow path ≡ Ok (record { path = s; node = node })
 leads_to_spot t path s is below node at plain follow =
     let n = named_in t path s is below in
     let i = n.spot_in in
-    let says : (further : Path → Result Place following.Refusal) → arrives further (ending follow (i.place.path ++ n.name ∷ []) (node_at t (i.place.path ++ n.name ∷ []))) ≡ Ok (record { path = s; node = node }) =
+    let says : (further : Path → Result Place following.Refusal)
+    → arrives further (ending follow (i.place.path ++ n.name ∷ []) (node_at t (i.place.path ++ n.name ∷ []))) ≡ Ok (record { path = s; node = node }) =
     λ further.
     ap (λ p. arrives further (ending follow p (node_at t p))) n.is
     ∙ ap (λ o. arrives further (ending follow s o)) at
@@ -136,7 +138,8 @@ module _ (t u : Tree) where
     below_alike : (front : Path) → AlikeOnWay t u true front → spot_below u path (Some front) ≡ spot_below t path (Some front)
     below_alike front alike =
         let last = drop (length front) path in
-        sym (in_directory-outline last (followed u true front)) ∙ ap (λ told. and_then (in_directory last) (from_followed told)) (places_alike true front alike) ∙ in_directory-outline last (followed t true front)
+        sym (in_directory-outline last (followed u true front)) ∙ ap (λ told. and_then (in_directory last) (from_followed told)) (places_alike true front alike)
+        ∙ in_directory-outline last (followed t true front)
 
     -- the way of the path's directory is enough
     pub spot_alike_below : (front : Path) → parent_of path ≡ Some front → AlikeOnWay t u true front → spot u path ≡ spot t path

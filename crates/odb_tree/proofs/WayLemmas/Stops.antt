@@ -6,7 +6,7 @@ use Rattle.odb_base.specs.PathLaws.{goes_beyond}
 use Rattle.odb_tree.specs.Tree.{Tree, IsTree, node_at}
 use Rattle.odb_tree.specs.Tree.Follow.{Pass, Reached, Onward, Missing, Blocked, arrives, at_last, ending, pass, Place, Refusal, WrongKind, followed_within}
 use Rattle.odb_tree.specs.Tree.Change.{is_file_content}
-use Rattle.odb_tree.specs.Tree.Way.{led_on, ways_within, is_front_of_one, is_link, is_link_content}
+use Rattle.odb_tree.specs.Tree.Way.{ways_onward, ways_within, is_front_of_one, is_link, is_link_content, on_way_within}
 use Rattle.odb_tree.specs.declared.node.Node.{Node}
 use Rattle.odb_tree.specs.declared.node.Content.{Content}
 use Rattle.odb_tree.specs.declared.node.Content.TheVariants.{File, Dir, Link}
@@ -59,7 +59,7 @@ module _ (t : Tree) (is_tree : IsTree t) (stop : Path) (n : Node) (at : node_at 
       pass_trod t is_tree follow stop [] path q (drop (length q) path) (goes_beyond path q front) (ap comes led) (λ p m reached. let both : Onward x ≡ Reached p m = sym led ∙ reached in cc)
 
   -- what is on the way is a directory, a link, the file, or lies in no directory
-  pub stop_trod : (follow : Bool) (links : ℕ) (path : Path) → is_front_of_one (ways_within links t follow path) stop ≡ true → (q : Path) → is_front_of_one (ways_within links t follow path) q ≡ true → Trod t stop q
+  pub stop_trod : (follow : Bool) (links : ℕ) (path : Path) → on_way_within links t follow path stop ≡ true → (q : Path) → on_way_within links t follow path q ≡ true → Trod t stop q
   unfolding ways_within
   stop_trod follow zero path on q front = elim (or_cases (begins path stop) false on) [
     | inl own ↦ elim (or_cases (begins path q) false front) [ inl here ↦ own_trod path q own here | inr none ↦ absurd (false≢true none) ]
@@ -67,16 +67,16 @@ module _ (t : Tree) (is_tree : IsTree t) (stop : Path) (n : Node) (at : node_at 
   ]
   stop_trod follow (suc links) path on q front =
       let p = pass t follow [] path in
-      elim (or_cases (begins path stop) (is_front_of_one (led_on (ways_within links t follow) p) stop) on) [
-        | inl own ↦ elim (or_cases (begins path q) (is_front_of_one (led_on (ways_within links t follow) p) q) front) [
+      elim (or_cases (begins path stop) (is_front_of_one (ways_onward (ways_within links t follow) p) stop) on) [
+        | inl own ↦ elim (or_cases (begins path q) (is_front_of_one (ways_onward (ways_within links t follow) p) q) front) [
           | inl here ↦ own_trod path q own here
           | inr led ↦ let l = in_led (ways_within links t follow) p q led in absurd (ends_here follow path l.0 own l.1)
         ]
         | inr far ↦
             let f = in_led (ways_within links t follow) p stop far in
-            elim (or_cases (begins path q) (is_front_of_one (led_on (ways_within links t follow) p) q) front) [
+            elim (or_cases (begins path q) (is_front_of_one (ways_onward (ways_within links t follow) p) q) front) [
               | inl here ↦ led_trod follow path f.0 q f.1 here
-              | inr led ↦ stop_trod follow links f.0 f.2 q (ap (λ r. is_front_of_one (led_on (ways_within links t follow) r) q) (sym f.1) ∙ led)
+              | inr led ↦ stop_trod follow links f.0 f.2 q (ap (λ r. is_front_of_one (ways_onward (ways_within links t follow) r) q) (sym f.1) ∙ led)
             ]
       ]
 
@@ -90,10 +90,10 @@ module _ (t : Tree) (is_tree : IsTree t) (stop : Path) (n : Node) (at : node_at 
     | inr longer ↦ ap (λ p. is_link (node_at t p)) longer.2 ∙ ap is_link (none_below t is_tree stop (file_no_directory t stop n at file) longer.0 longer.1)
   ]
 
-  pub own_way_plain : (links : ℕ) (q : Path) → is_front_of_one (ways_within links t true stop) q ≡ true → is_link (node_at t q) ≡ false
+  pub own_way_plain : (links : ℕ) (q : Path) → on_way_within links t true stop q ≡ true → is_link (node_at t q) ≡ false
   unfolding ways_within
   own_way_plain zero q on = elim (or_cases (begins stop q) false on) [ inl own ↦ plain_front q own | inr none ↦ absurd (false≢true none) ]
-  own_way_plain (suc links) q on = elim (or_cases (begins stop q) (is_front_of_one (led_on (ways_within links t true) (pass t true [] stop)) q) on) [
+  own_way_plain (suc links) q on = elim (or_cases (begins stop q) (is_front_of_one (ways_onward (ways_within links t true) (pass t true [] stop)) q) on) [
     | inl own ↦ plain_front q own
     | inr led ↦ let l = in_led (ways_within links t true) (pass t true [] stop) q led in absurd (ends_here true stop l.0 (begins-own stop) l.1)
   ]
@@ -109,16 +109,17 @@ module _ (t : Tree) (is_tree : IsTree t) (stop : Path) (n : Node) (at : node_at 
       let whole : front ++ name ∷ [] ≡ stop ++ (rest ++ name ∷ []) = ap (λ w. w ++ name ∷ []) (goes_beyond front stop own) ∙ append_assoc stop rest (name ∷ []) in
       followed_blocked t follow (front ++ name ∷ []) links (ap (pass t follow []) whole ∙ some_left follow rest name)
 
-  pub stopped : (follow : Bool) (name : Name) (links : ℕ) (front : Path) → is_front_of_one (ways_within links t true front) stop ≡ true → followed_within links t follow (front ++ name ∷ []) ≡ Err WrongKind
+  pub stopped : (follow : Bool) (name : Name) (links : ℕ) (front : Path) → on_way_within links t true front stop ≡ true → followed_within links t follow (front ++ name ∷ []) ≡ Err WrongKind
   unfolding ways_within
   stopped follow name zero front on = elim (or_cases (begins front stop) false on) [ inl own ↦ stopped_own follow name 0 front own | inr none ↦ absurd (false≢true none) ]
   stopped follow name (suc links) front on =
       let p = pass t true [] front in
-      elim (or_cases (begins front stop) (is_front_of_one (led_on (ways_within links t true) p) stop) on) [
+      elim (or_cases (begins front stop) (is_front_of_one (ways_onward (ways_within links t true) p) stop) on) [
         | inl own ↦ stopped_own follow name (suc links) front own
         | inr far ↦
             let f = in_led (ways_within links t true) p stop far in
-            followed_onward t follow (front ++ name ∷ []) (suc links) links (f.0 ++ name ∷ []) refl (pass_by t name follow [] front ∙ ap (by_name t name follow) f.1) ∙ stopped follow name links f.0 f.2
+            followed_onward t follow (front ++ name ∷ []) (suc links) links (f.0 ++ name ∷ []) refl (pass_by t name follow [] front ∙ ap (by_name t name follow) f.1)
+            ∙ stopped follow name links f.0 f.2
       ]
 
 -- ---- a link on the way of what stands in a directory is on the way of the directory
@@ -156,7 +157,8 @@ module _ (t : Tree) (is_tree : IsTree t) (name : Name) (dir : Place) (n : Node) 
   file_stays way x Dir is other onward = false≢true other
   file_stays way x (Link target) is other onward = false≢true other
 
-  reached_no_link : (path : Path) (node : Node) (x : Path) (content : Content) → ◌≡◌ {A = Result Place Refusal} (Ok (record { path = path; node = node })) (Ok dir) → node.content ≡ content → by_name t name true (Reached path node) ≢ Onward x
+  reached_no_link : (path : Path) (node : Node) (x : Path) (content : Content) → ◌≡◌ {A = Result Place Refusal} (Ok (record { path = path; node = node })) (Ok dir) → node.content ≡ content
+      → by_name t name true (Reached path node) ≢ Onward x
   reached_no_link path node x (File bytes time) same is onward = let both : Blocked ≡ Onward x = sym (ap (λ c. inside t name c (next t name true path)) is) ∙ onward in cc
   reached_no_link path node x (Link target) same is onward = let both : Blocked ≡ Onward x = sym (ap (λ c. inside t name c (next t name true path)) is) ∙ onward in cc
   reached_no_link path node x Dir same is onward =
@@ -172,38 +174,41 @@ module _ (t : Tree) (is_tree : IsTree t) (name : Name) (dir : Place) (n : Node) 
   onward_by links x Missing leads onward = absurd (cc)
   onward_by links x Blocked leads onward = absurd (cc)
 
-  pub link_on_front : (links : ℕ) (front q : Path) → followed_within links t true front ≡ Ok dir → is_link (node_at t q) ≡ true → is_front_of_one (ways_within links t true (front ++ name ∷ [])) q ≡ true → is_front_of_one (ways_within links t true front) q ≡ true
+  pub link_on_front : (links : ℕ) (front q : Path) → followed_within links t true front ≡ Ok dir → is_link (node_at t q) ≡ true → on_way_within links t true (front ++ name ∷ []) q ≡ true
+      → on_way_within links t true front q ≡ true
   unfolding ways_within followed_within
-  link_on_front zero front q leads link on = elim (or_cases (begins (front ++ name ∷ []) q) false on) [ inl own ↦ or_left (begins front q) false (own_link 0 front q leads link own) | inr none ↦ absurd (false≢true none) ]
+  link_on_front zero front q leads link on =
+      elim (or_cases (begins (front ++ name ∷ []) q) false on) [ inl own ↦ or_left (begins front q) false (own_link 0 front q leads link own) | inr none ↦ absurd (false≢true none) ]
   link_on_front (suc links) front q leads link on =
       let p = pass t true [] front in
       let longer = pass t true [] (front ++ name ∷ []) in
-      elim (or_cases (begins (front ++ name ∷ []) q) (is_front_of_one (led_on (ways_within links t true) longer) q) on) [
+      elim (or_cases (begins (front ++ name ∷ []) q) (is_front_of_one (ways_onward (ways_within links t true) longer) q) on) [
         | inl own ↦ or_left (begins front q) _ (own_link (suc links) front q leads link own)
         | inr led ↦
             let l = in_led (ways_within links t true) longer q led in
             let o = onward_by links l.0 p leads (sym (pass_by t name true [] front) ∙ l.1) in
             let further : followed_within links t true o.0 ≡ Ok dir = sym (ap (arrives (followed_within links t true)) o.1) ∙ leads in
-            or_right (begins front q) (is_front_of_one (led_on (ways_within links t true) p) q)
-            (ap (λ r. is_front_of_one (led_on (ways_within links t true) r) q) o.1
-            ∙ link_on_front links o.0 q further link (ap (λ w. is_front_of_one (ways_within links t true w) q) (sym o.2) ∙ l.2))
+            or_right (begins front q) (is_front_of_one (ways_onward (ways_within links t true) p) q)
+            (ap (λ r. is_front_of_one (ways_onward (ways_within links t true) r) q) o.1
+            ∙ link_on_front links o.0 q further link (ap (λ w. on_way_within links t true w q) (sym o.2) ∙ l.2))
       ]
 
 -- ---- a way up to a place, in a tree that is alike before it
 
 module _ (t u : Tree) (follow : Bool) (p : Path) where
   abbrev AlikeBefore : ℕ → Path → Type 0
-  AlikeBefore links path = (q : Path) → is_front_of_one (ways_within links t follow path) q ≡ true → q ≢ p → outline (node_at u q) ≡ outline (node_at t q)
+  AlikeBefore links path = (q : Path) → on_way_within links t follow path q ≡ true → q ≢ p → outline (node_at u q) ≡ outline (node_at t q)
 
-  pub still_reached : (links : ℕ) (path : Path) → AlikeBefore links path → is_front_of_one (ways_within links t follow path) p ≡ true → is_front_of_one (ways_within links u follow path) p ≡ true
+  pub still_reached : (links : ℕ) (path : Path) → AlikeBefore links path → on_way_within links t follow path p ≡ true → on_way_within links u follow path p ≡ true
   unfolding ways_within
   still_reached zero path alike on = on
   still_reached (suc links) path alike on = by_front (λ x. still_reached links x) (begins path p) refl
     where
       more : Tree → Bool
-      more w = is_front_of_one (led_on (ways_within links w follow) (pass w follow [] path)) p
+      more w = is_front_of_one (ways_onward (ways_within links w follow) (pass w follow [] path)) p
 
-      by_front : ((x : Path) → AlikeBefore links x → is_front_of_one (ways_within links t follow x) p ≡ true → is_front_of_one (ways_within links u follow x) p ≡ true) → (own : Bool) → begins path p ≡ own → (begins path p || more u) ≡ true
+      by_front : ((x : Path) → AlikeBefore links x → on_way_within links t follow x p ≡ true → on_way_within links u follow x p ≡ true) → (own : Bool) → begins path p ≡ own
+          → (begins path p || more u) ≡ true
       by_front further true own = or_left (begins path p) (more u) own
       by_front further false own = elim (or_cases (begins path p) (more t) on) [
         | inl here ↦ absurd (false≢true (sym own ∙ here))
@@ -211,6 +216,6 @@ module _ (t u : Tree) (follow : Bool) (p : Path) where
             let f = in_led (ways_within links t follow) (pass t follow [] path) p led in
             let here = λ (q : Path) (front : begins path q ≡ true). alike q (or_left (begins path q) _ front) (λ same. false≢true (sym own ∙ ap (begins path) (sym same) ∙ front)) in
             let onward : pass u follow [] path ≡ Onward f.0 = onward-outline (pass u follow [] path) f.0 (pass_alike t u follow path here [] path refl ∙ ap outline_pass f.1) in
-            let rest : AlikeBefore links f.0 = λ q front apart. alike q (or_right (begins path q) _ (ap (λ r. is_front_of_one (led_on (ways_within links t follow) r) q) f.1 ∙ front)) apart in
-            or_right (begins path p) (more u) (ap (λ r. is_front_of_one (led_on (ways_within links u follow) r) p) onward ∙ further f.0 rest f.2)
+            let rest : AlikeBefore links f.0 = λ q front apart. alike q (or_right (begins path q) _ (ap (λ r. is_front_of_one (ways_onward (ways_within links t follow) r) q) f.1 ∙ front)) apart in
+            or_right (begins path p) (more u) (ap (λ r. is_front_of_one (ways_onward (ways_within links u follow) r) p) onward ∙ further f.0 rest f.2)
       ]

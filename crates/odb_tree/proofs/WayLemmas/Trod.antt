@@ -6,7 +6,7 @@ use Rattle.odb_base.specs.PathLaws.{goes_beyond}
 use Rattle.odb_tree.specs.Tree.{Tree, IsTree, node_at, is_directory, is_directory_content}
 use Rattle.odb_tree.specs.Tree.Follow.{Pass, Reached, Onward, Missing, Blocked, pass, past, beyond, at_last, ending, Place, Refusal, LinkLoop, arrives, followed_within}
 use Rattle.odb_tree.specs.Tree.Change.{lies_in_directory}
-use Rattle.odb_tree.specs.Tree.Way.{led_on, ways_within, is_front_of_one, is_link, is_link_content}
+use Rattle.odb_tree.specs.Tree.Way.{ways_onward, ways_within, is_front_of_one, is_link, is_link_content, on_way_within}
 use Rattle.odb_tree.specs.declared.node.Node.{Node}
 use Rattle.odb_tree.specs.declared.node.Content.{Content}
 use Rattle.odb_tree.specs.declared.node.Content.TheVariants.{File, Dir, Link}
@@ -65,12 +65,15 @@ module _ (t : Tree) (is_tree : IsTree t) (follow : Bool) (last : Path) where
       deeper [] = ap (λ p. is_directory (node_at t p)) (append-nil way) ∙ other
       deeper (next ∷ front) = ap is_directory (none_below t is_tree way other next front)
 
-  next_trod : (way : Path) (name : Name) (names rest : Path) (further : Pass) (node : Node) (content : Content) → node_at t way ≡ Some node → node.content ≡ content → comes (past content rest further) ≡ true → EndsAt last (past content rest further) → (comes further ≡ true → EndsAt last further → Trod t last (way ++ name ∷ names)) → Trod t last (way ++ name ∷ names)
+  next_trod : (way : Path) (name : Name) (names rest : Path) (further : Pass) (node : Node) (content : Content) → node_at t way ≡ Some node → node.content ≡ content
+      → comes (past content rest further) ≡ true → EndsAt last (past content rest further) → (comes further ≡ true → EndsAt last further → Trod t last (way ++ name ∷ names))
+      → Trod t last (way ++ name ∷ names)
   next_trod way name names rest further node (File bytes time) at is come ends next = absurd (false≢true come)
   next_trod way name names rest further node Dir at is come ends next = next come ends
   next_trod way name names rest further node (Link target) at is come ends next = Behind (behind way name names (ap is_directory at ∙ ap is_directory_content is))
 
-  further_trod : (way : Path) (name : Name) (names rest : Path) (further : Pass) (o : Option Node) → node_at t way ≡ o → comes (beyond o rest further) ≡ true → EndsAt last (beyond o rest further) → (comes further ≡ true → EndsAt last further → Trod t last (way ++ name ∷ names)) → Trod t last (way ++ name ∷ names)
+  further_trod : (way : Path) (name : Name) (names rest : Path) (further : Pass) (o : Option Node) → node_at t way ≡ o → comes (beyond o rest further) ≡ true → EndsAt last (beyond o rest further)
+      → (comes further ≡ true → EndsAt last further → Trod t last (way ++ name ∷ names)) → Trod t last (way ++ name ∷ names)
   further_trod way name names rest further None at come ends next = absurd (false≢true come)
   further_trod way name names rest further (Some node) at come ends next = next_trod way name names rest further node node.content at refl come ends next
 
@@ -84,7 +87,8 @@ module _ (t : Tree) (is_tree : IsTree t) (follow : Bool) (last : Path) where
       let head : name ≡ x = cc in
       let tail : names ≡ front ++ rest = cc in
       let regroup : (way ++ name ∷ []) ++ front ≡ way ++ x ∷ front = append_assoc way (name ∷ []) front ∙ ap (λ n. way ++ n ∷ front) head in
-      further_trod way x front (name ∷ names) (pass t follow (way ++ name ∷ []) names) (node_at t way) refl come ends (λ c e. subst (Trod t last) regroup (pass_trod (way ++ name ∷ []) names front rest tail c e))
+      further_trod way x front (name ∷ names) (pass t follow (way ++ name ∷ []) names) (node_at t way) refl come ends
+      (λ c e. subst (Trod t last) regroup (pass_trod (way ++ name ∷ []) names front rest tail c e))
 
 -- what a pass says where a path leads to a place
 arrived_comes : (further : Path → Result Place Refusal) (p : Pass) (place : Place) → arrives further p ≡ Ok place → comes p ≡ true
@@ -108,7 +112,7 @@ module _ (t : Tree) (is_tree : IsTree t) (follow : Bool) (place : Place) where
       let p = pass t follow [] path in
       pass_trod t is_tree follow place.path [] path q (drop (length q) path) (goes_beyond path q front) (arrived_comes further p place is) (arrived_ends further p place is)
 
-  pub followed_trod : (links : ℕ) (path : Path) → followed_within links t follow path ≡ Ok place → (q : Path) → is_front_of_one (ways_within links t follow path) q ≡ true → Trod t place.path q
+  pub followed_trod : (links : ℕ) (path : Path) → followed_within links t follow path ≡ Ok place → (q : Path) → on_way_within links t follow path q ≡ true → Trod t place.path q
   unfolding followed_within ways_within
   followed_trod zero path is q front = elim (or_cases (begins path q) false front) [
     | inl own ↦ first_trod (λ _. Err LinkLoop) path q is own
@@ -116,7 +120,7 @@ module _ (t : Tree) (is_tree : IsTree t) (follow : Bool) (place : Place) where
   ]
   followed_trod (suc links) path is q front =
       let p = pass t follow [] path in
-      elim (or_cases (begins path q) (is_front_of_one (led_on (ways_within links t follow) p) q) front) [
+      elim (or_cases (begins path q) (is_front_of_one (ways_onward (ways_within links t follow) p) q) front) [
         | inl own ↦ first_trod (followed_within links t follow) path q is own
         | inr led ↦
             let l = in_led (ways_within links t follow) p q led in

@@ -44,7 +44,8 @@ module _ (t : Tree) (path : Path) (e : DiskError) where
   pub rename_target_unmade : (from source : Path) → movable t from ≡ Ok source → Tells {A = Path} (Err e) (replaceable t path) → Tells {A = Change} (Err e) (change_of_rename t from path)
   unfolding change_of_rename
   rename_target_unmade from source found is =
-      subst (λ r. Tells {A = Change} (Err e) (and_then (λ source. and_then (λ target. Ok (Rename source target)) (replaceable t path)) r)) (sym found) (refused_then (λ target. Ok (Rename source target)) (replaceable t path) e is)
+      subst (λ r. Tells {A = Change} (Err e) (and_then (λ source. and_then (λ target. Ok (Rename source target)) (replaceable t path)) r)) (sym found)
+      (refused_then (λ target. Ok (Rename source target)) (replaceable t path) e is)
 
 -- ---- the change of each call
 
@@ -102,7 +103,8 @@ made_as_told t u word change is made = made ∙ sym (ap (λ r. changed_by t (res
 -- ---- an append
 
 module _ (t : Tree) (path s : Path) (is : file_spot t path ≡ Ok s) where
-  pub appended_at : (u : Tree) (bytes : List ℕ) → ((node : Node) → node_at t s ≡ Some node → u ≡ with_node t s (record node { content = longer node.content bytes })) → u ≡ changed t (Append path bytes)
+  pub appended_at : (u : Tree) (bytes : List ℕ) → ((node : Node) → node_at t s ≡ Some node → u ≡ with_node t s (record node { content = longer node.content bytes }))
+      → u ≡ changed t (Append path bytes)
   appended_at u bytes put = let f = file_at t path s is in put f.node f.at ∙ sym (made-append t path bytes ∙ ap (with_longer t bytes) f.leads)
 
   pub leads_to_file : is_file_place (followed t true path) ≡ true

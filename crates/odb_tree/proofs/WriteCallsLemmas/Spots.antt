@@ -46,7 +46,8 @@ found_refused x word errors.NotEmpty is = absurd (cc)
 found_refused x word errors.Failed is = absurd is
 found_refused x word errors.NoMemory is = tt
 
-pub place_refused : {B : Type 0} (next : Place → Result B Refusal) (told : Result Place following.Refusal) (e : DiskError) → Tells {A = Path} (Err e) (from_followed (path_of_place told)) → Tells {A = B} (Err e) (and_then next (from_followed told))
+pub place_refused : {B : Type 0} (next : Place → Result B Refusal) (told : Result Place following.Refusal) (e : DiskError) → Tells {A = Path} (Err e) (from_followed (path_of_place told))
+    → Tells {A = B} (Err e) (and_then next (from_followed told))
 place_refused next (Ok place) e is = found_refused place.path (next place) e is
 place_refused next (Err refusal) e is = refused_then {A = Path} (λ _. Err Absent) (from_followed (Err refusal)) e is
 
@@ -122,7 +123,8 @@ module _ (t : Tree) (path s : Path) (is : spot t path ≡ Ok s) where
   unfolding removable
   nothing_to_remove none = ap (and_then (λ place. removable_spot t place (node_at t place))) is ∙ ap (removable_spot t s) none
 
-  pub removed_or_not : (n : Node) (nil root : Bool) → node_at t s ≡ Some n → is_nil (names_in t s) ≡ nil → is_nil s ≡ root → removable t path ≡ cond nil (cond root (Err WrongKind) (Ok s)) (Err NotEmpty)
+  pub removed_or_not : (n : Node) (nil root : Bool) → node_at t s ≡ Some n → is_nil (names_in t s) ≡ nil → is_nil s ≡ root
+      → removable t path ≡ cond nil (cond root (Err WrongKind) (Ok s)) (Err NotEmpty)
   unfolding removable
   removed_or_not n nil root at names top =
       ap (and_then (λ place. removable_spot t place (node_at t place))) is ∙ ap (removable_spot t s) at
@@ -133,13 +135,15 @@ module _ (t : Tree) (path : Path) where
   unfolding file_spot
   file_spot_refused e refused = place_refused file_path (followed t true path) e refused
 
-  pub file_or_not : (p : Path) → from_followed (path_of_place (followed t true path)) ≡ Ok p → (n : Node) (b : Bool) → node_at t p ≡ Some n → is_file_content n.content ≡ b → file_spot t path ≡ cond b (Ok p) (Err WrongKind)
+  pub file_or_not : (p : Path) → from_followed (path_of_place (followed t true path)) ≡ Ok p → (n : Node) (b : Bool) → node_at t p ≡ Some n → is_file_content n.content ≡ b
+      → file_spot t path ≡ cond b (Ok p) (Err WrongKind)
   unfolding file_spot
   file_or_not p found n b at file =
       let l = led_to t path p found in
       let both : Some l.place.node ≡ Some n = sym l.at ∙ at in
       let same : l.place.node ≡ n = cc in
-      ap (λ r. and_then file_path (from_followed r)) l.is ∙ ap (λ k. cond k (Ok l.place.path) (Err WrongKind)) (ap (λ (m : Node). is_file_content m.content) same ∙ file) ∙ ap (λ q. cond b (Ok q) (Err WrongKind)) l.path_is
+      ap (λ r. and_then file_path (from_followed r)) l.is ∙ ap (λ k. cond k (Ok l.place.path) (Err WrongKind)) (ap (λ (m : Node). is_file_content m.content) same ∙ file)
+      ∙ ap (λ q. cond b (Ok q) (Err WrongKind)) l.path_is
 
   -- a path is only led to where a node stands
   pub led_nowhere : (p : Path) → from_followed (path_of_place (followed t true path)) ≡ Ok p → node_at t p ≢ None

@@ -9,26 +9,30 @@ use Rattle.odb_tree.specs.declared.node.Content.{Content}
 use Rattle.odb_tree.specs.declared.node.Content.TheVariants.{File, Dir, Link}
 
 -- what comes behind a pass that a link leads on from; else nothing
-abbrev pub led_on : (Path → List Path) → Pass → List Path
-led_on further (Reached path node) = []
-led_on further (Onward path) = further path
-led_on further Missing = []
-led_on further Blocked = []
+abbrev pub ways_onward : (Path → List Path) → Pass → List Path
+ways_onward further (Reached path node) = []
+ways_onward further (Onward path) = further path
+ways_onward further Missing = []
+ways_onward further Blocked = []
 
 -- The paths along which a path is followed with so many links left: the path itself, and after each link the path
 -- that it leads on to.
 unfoldable pub ways_within : ℕ → Tree → Bool → Path → List Path
 ways_within zero tree follow path = path ∷ []
-ways_within (suc links) tree follow path = path ∷ led_on (ways_within links tree follow) (pass tree follow [] path)
+ways_within (suc links) tree follow path = path ∷ ways_onward (ways_within links tree follow) (pass tree follow [] path)
 
 -- whether a path is a front of one of these
 abbrev pub is_front_of_one : List Path → Path → Bool
 is_front_of_one ways q = list_any (λ way. starts_with same_name way q) ways
 
+-- whether q is on the way of a path with so many links left
+abbrev pub on_way_within : ℕ → Tree → Bool → Path → Path → Bool
+on_way_within links tree follow path q = is_front_of_one (ways_within links tree follow path) q
+
 -- Whether q is on the way of a path: what is put, taken or moved there can change where the path leads. `follow` says
 -- whether a link in the last place is followed.
 unfoldable pub on_way : Tree → Bool → Path → Path → Bool
-on_way tree follow path q = is_front_of_one (ways_within most_links tree follow path) q
+on_way = on_way_within most_links
 
 -- the same for the directory that a path lies in; the root lies in none
 abbrev pub on_way_to : Tree → Option Path → Path → Bool

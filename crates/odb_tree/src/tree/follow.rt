@@ -21,7 +21,7 @@ impl Tree {
     ghost use Rattle.odb_tree.specs.Tree.{IsTree, node_at};
     ghost use Rattle.odb_tree.specs.Tree.Follow.{Missing, looked, read_of, pass, past, followed, followed_within};
     ghost use Rattle.odb_tree.specs.Answers.{Answers};
-    ghost use Rattle.odb_tree.specs.TreeCalls.{Comes, LedOn, Leads};
+    ghost use Rattle.odb_tree.specs.TreeCalls.{Comes, ComesOnward, Leads};
 
     /// What a look at a path gives. A link in the last place is followed where `follow` is set.
     pub fn look(&self, alloc: Global, path: &PathText, follow: bool) -> Result<Meta, DiskError>
@@ -75,7 +75,7 @@ impl Tree {
         ensures comes { Comes path.now result (pass self.now follow [] path.now) }
     {
         let Some(node) = self.node(path) else {
-            return Ok(Way::Onward(self.led_on(alloc, path)?));
+            return Ok(Way::Onward(self.onward_by_link(alloc, path)?));
         };
         match &node.content {
             Content::Link(target) if follow => Ok(Way::Onward(target.try_clone(alloc)?)),
@@ -85,10 +85,10 @@ impl Tree {
 
     /// Where the first link on the way of a path leads at which nothing stands. Each node lies in directories,
     /// so only the last node on the way can be a file or a link. What comes just before the path begins with it.
-    fn led_on(&self, alloc: Global, path: &PathText) -> Result<PathText, DiskError>
+    fn onward_by_link(&self, alloc: Global, path: &PathText) -> Result<PathText, DiskError>
         requires absent { node_at self.now path.now ≡ None }
         requires tree { IsTree self.now }
-        ensures led { (follow : Bool) → LedOn result (pass self.now follow [] path.now) }
+        ensures onward { (follow : Bool) → ComesOnward result (pass self.now follow [] path.now) }
     {
         let Some(before) = path_before(&self.nodes, path) else {
             return Err(DiskError::Absent);
@@ -97,18 +97,18 @@ impl Tree {
         let Some(node) = self.node(&last) else {
             return Err(DiskError::Absent);
         };
-        Tree::led_past(alloc, path, &last, &node.content)
+        Tree::onward_past(alloc, path, &last, &node.content)
     }
 
     /// Where a path leads that goes beyond the last node on its way.
-    fn led_past(
+    fn onward_past(
         alloc: Global,
         path: &PathText,
         last: &PathText,
         content: &Content,
     ) -> Result<PathText, DiskError>
         requires front { starts_with same_name path.now last.now ≡ true }
-        ensures led { (rest : Path) → path.now ≡ last.now ++ rest → LedOn result (past content.now rest Missing) }
+        ensures onward { (rest : Path) → path.now ≡ last.now ++ rest → ComesOnward result (past content.now rest Missing) }
     {
         match content {
             Content::File { .. } => Err(DiskError::WrongKind),

@@ -9,4 +9,5 @@ use Rattle.odb_disk.proofs.dir_streams.copied.Given as goal
 -- each stream is copied already, or is still to come
 abbrev pub invariant-loop-number : goal.invariant-loop-number
 invariant-loop-number l =
-    (q : ℕ) → finite.get (finite.from_entries {R = nat_cmp} l.lists.entries) q ≡ option_or (finite.get (finite.from_entries {R = nat_cmp} l.copy.entries) q) (lookup (is_at (nat_cmp q)) l.number-iterator)
+    (q : ℕ) → finite.get (finite.from_entries {R = nat_cmp} l.lists.entries) q
+    ≡ option_or (finite.get (finite.from_entries {R = nat_cmp} l.copy.entries) q) (lookup (is_at (nat_cmp q)) l.number-iterator)

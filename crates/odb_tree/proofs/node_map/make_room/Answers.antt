@@ -14,7 +14,9 @@ returns-in_err-try_clone-clause-absent c =
     rw (p.1) (node_at-entries c.args.nodes.now.entries c.args.path.now ∙ sym c.in-None.ensures.value)
 
 pub returns-clause-stands : goal.returns-clause-stands
-returns-clause-stands c = on_ok_weaker c.put.result (room_stands (tree_of_entries c.args.nodes.now.entries) _ c.in_ok-try_clone.field-0 c.args.path.now _ c.in_ok-try_clone.ensures.copy) c.put.ensures.made
+returns-clause-stands c =
+    on_ok_weaker c.put.result (room_stands (tree_of_entries c.args.nodes.now.entries) _ c.in_ok-try_clone.field-0 c.args.path.now _ c.in_ok-try_clone.ensures.copy) c.put.ensures.made
 
 pub returns-clause-others : goal.returns-clause-others
-returns-clause-others c = on_ok_weaker c.put.result (room_others (tree_of_entries c.args.nodes.now.entries) _ c.in_ok-try_clone.field-0 c.args.path.now _ c.in_ok-try_clone.ensures.copy) c.put.ensures.made
+returns-clause-others c =
+    on_ok_weaker c.put.result (room_others (tree_of_entries c.args.nodes.now.entries) _ c.in_ok-try_clone.field-0 c.args.path.now _ c.in_ok-try_clone.ensures.copy) c.put.ensures.made

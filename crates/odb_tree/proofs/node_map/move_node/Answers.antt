@@ -14,4 +14,6 @@ returns-in-Some-clause-made c =
 pub returns-in_default-clause-made : goal.returns-in_default-clause-made
 returns-in_default-clause-made c = λ node at apart.
     let es = c.make_room.new.nodes.entries in
-    absurd (nothing_moved (tree_of_entries c.args.nodes.now.entries) (tree_of_entries es) (tree_of_entries c.remove.new.self.entries) c.args.from.now c.args.to.now c.in_ok-make_room.ensures.others (c.in_default.ensures.value ∙ sym (node_at-entries es c.args.from.now)) node at apart)
+    let gone = c.in_default.ensures.value ∙ sym (node_at-entries es c.args.from.now) in
+    absurd (nothing_moved (tree_of_entries c.args.nodes.now.entries) (tree_of_entries es) (tree_of_entries c.remove.new.self.entries) c.args.from.now c.args.to.now
+    c.in_ok-make_room.ensures.others gone node at apart)

@@ -10,7 +10,8 @@ returns-in-Some c = record {
       let both : Some c.in-Some.node.now ≡ Some node = found ∙ sym (node_at-entries c.args.nodes.now.entries c.args.path.now) ∙ at in
       let same : c.in-Some.node.now ≡ node = cc in
       let w = c.get_mut.follows.holds (record { dev = c.in-Some.node.now.dev; ino = c.in-Some.node.now.ino; content = c.args.content }) in
-      tree_put c.args.nodes.now.entries _ c.args.path.now _ (w.3 (IsSome-from _ _ found)).0 ∙ ap (λ n. with_node (tree_of_entries c.args.nodes.now.entries) c.args.path.now (record n { content = c.args.content })) same;
+      tree_put c.args.nodes.now.entries _ c.args.path.now _ (w.3 (IsSome-from _ _ found)).0
+      ∙ ap (λ n. with_node (tree_of_entries c.args.nodes.now.entries) c.args.path.now (record n { content = c.args.content })) same;
 }
 
 pub returns-in_default : goal.returns-in_default

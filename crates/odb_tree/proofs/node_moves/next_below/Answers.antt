@@ -32,6 +32,7 @@ returns-in_default-clause-none c =
       | in_default-via-in-Some+else-starts_with w ↦
           let first = rw w.in-Some.ensures.steps at range.1 in
           let least = rw w.in-Some.ensures.steps at range.2 in
-          none_behind (tree_of_entries es) c.args.base.now c.args.last.now w.in-Some.path.now c.requires.below first.0.0 (λ q behind some. least q (behind, tt) (subst IsSome (node_at-entries es q) some)) (sym w.starts_with.ensures.starts ∙ w.if-starts_with.false)
+          none_behind (tree_of_entries es) c.args.base.now c.args.last.now w.in-Some.path.now c.requires.below first.0.0
+          (λ q behind some. least q (behind, tt) (subst IsSome (node_at-entries es q) some)) (sym w.starts_with.ensures.starts ∙ w.if-starts_with.false)
       | in_default-via-in_default w ↦ λ q below behind. node_at-entries es q ∙ range.5 w.in_default.ensures.steps.0 q (behind, tt)
     ]

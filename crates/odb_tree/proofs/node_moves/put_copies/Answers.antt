@@ -15,6 +15,8 @@ loop-i-preserved c =
     let s = c.index-sources-i.result in
     let d = c.index-targets-i.result in
     record {
-      whole = ap (λ v. with_copies v (drop (i + 1) ss) (drop (i + 1) ds)) c.in_ok-put_copy.ensures.made ∙ sym (copies_more u ss ds i s d hs hd c.index-sources-i.is c.index-targets-i.is) ∙ c.loop-i.invariant.whole;
+      whole =
+          ap (λ v. with_copies v (drop (i + 1) ss) (drop (i + 1) ds)) c.in_ok-put_copy.ensures.made ∙ sym (copies_more u ss ds i s d hs hd c.index-sources-i.is c.index-targets-i.is)
+          ∙ c.loop-i.invariant.whole;
       others = λ q other. copies_others u _ ds i s d q hd c.index-targets-i.is c.in_ok-put_copy.ensures.made other ∙ c.loop-i.invariant.others q other;
     }

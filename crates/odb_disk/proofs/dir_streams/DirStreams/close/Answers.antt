@@ -9,11 +9,13 @@ pub returns : goal.returns
 returns c = record {
   closed = let old = c.self.inside in
       ap (λ m. record { open_dirs = m; peak = old.peak }) (lists_take old.lists.entries c.remove.new.self.entries c.number-number.result c.remove.ensures.updates.0)
-      ∙ ap (λ n. record { open_dirs = finite.remove (finite.from_entries old.lists.entries) n; peak = old.peak }) c.number-number.ensures.number ∙ ap (λ (s : Streams). with_closed s c.args.dir.now) c.self.view_is;
+      ∙ ap (λ n. record { open_dirs = finite.remove (finite.from_entries old.lists.entries) n; peak = old.peak }) c.number-number.ensures.number
+      ∙ ap (λ (s : Streams). with_closed s c.args.dir.now) c.self.view_is;
 }
 
 pub invariant_of-self : goal.invariant_of-self
 invariant_of-self c =
     let old = c.self.inside in
     subst (λ m. AreOpenBelow m c.min-self-inside.result) (sym (lists_take old.lists.entries c.remove.new.self.entries c.number-number.result c.remove.ensures.updates.0))
-    (open_less (finite.from_entries old.lists.entries) c.number-number.result old.open_below c.min-self-inside.result (omega (arith, c.min-self-inside.ensures)) (omega (arith, c.min-self-inside.ensures)) c.self.invariant)
+    (open_less (finite.from_entries old.lists.entries) c.number-number.result old.open_below c.min-self-inside.result
+    (omega (arith, c.min-self-inside.ensures)) (omega (arith, c.min-self-inside.ensures)) c.self.invariant)

@@ -13,7 +13,8 @@ returns-then-ran_out-clause-kept c =
     let ask = c.args.ask.now in
     let answer = c.carry_out-answer.result in
     let state : new.state ≡ state_after old.state ask answer = cc in
-    volume_kept old new ask answer state (left_in old.state old.streams new.streams ask answer is.streams is.of_streams is.answered.least) is.answered.counted (no_memory answer (sym c.ran_out.ensures.ran_out ∙ c.if-ran_out.true))
+    let left = left_in old.state old.streams new.streams ask answer is.streams is.of_streams is.answered.least in
+    volume_kept old new ask answer state left is.answered.counted (no_memory answer (sym c.ran_out.ensures.ran_out ∙ c.if-ran_out.true))
 
 pub returns-clause-answered : goal.returns-clause-answered
 returns-clause-answered c =
@@ -22,7 +23,8 @@ returns-clause-answered c =
     let new = c.carry_out-answer.new.disk in
     let ask = c.args.ask.now in
     let answer = c.carry_out-answer.result in
-    answered_by (fails_now old ask) answer (answer_in (tree_of old.state) old.streams ask) (told_in old.state old.streams new.streams ask answer is.answer is.of_streams is.answered.least) is.answered.failed.0 is.answered.failed.1
+    let told = told_in old.state old.streams new.streams ask answer is.answer is.of_streams is.answered.least in
+    answered_by (fails_now old ask) answer (answer_in (tree_of old.state) old.streams ask) told is.answered.failed
     (has_memory answer (sym c.ran_out.ensures.ran_out ∙ c.if-ran_out.false))
 
 pub returns-clause-made : goal.returns-clause-made
@@ -33,5 +35,7 @@ returns-clause-made c =
     let ask = c.args.ask.now in
     let answer = c.carry_out-answer.result in
     let state : new.state ≡ state_after old.state ask answer = cc in
-    volume_after_ask old new ask answer state (left_in old.state old.streams new.streams ask answer is.streams is.of_streams is.answered.least) is.answered.counted
-    (has_memory answer (sym c.ran_out.ensures.ran_out ∙ c.if-ran_out.false)) (told_in old.state old.streams new.streams ask answer is.answer is.of_streams is.answered.least) is.answered.failed.0 is.answered.failed.1
+    let left = left_in old.state old.streams new.streams ask answer is.streams is.of_streams is.answered.least in
+    let told = told_in old.state old.streams new.streams ask answer is.answer is.of_streams is.answered.least in
+    volume_after_ask old new ask answer state left is.answered.counted
+    (has_memory answer (sym c.ran_out.ensures.ran_out ∙ c.if-ran_out.false)) told is.answered.failed

@@ -1,28 +1,18 @@
-use Rattle.std.proofs.Common.{◌∙◌, ap, sym}
-use Rattle.odb_tree.specs.Tree.Write.{change_of_make_dir}
-use Rattle.odb_tree.proofs.TreeLemmas.Write.{make_dir_possible}
-use Rattle.odb_disk.proofs.MemDiskLemmas.{write_answers, write_made, write_kept, IsTree-written}
-use Rattle.odb_disk.specs.MemDisk.{Volume}
+use Rattle.std.proofs.Common.{◌∙◌, sym, rules}
 use Rattle.odb_disk.specs.declared.ask.DiskAsk.TheVariants as asks
-use Rattle.odb_disk.proofs.AskLemmas.InMemory.{counted_failed, counted_write}
+use Rattle.odb_disk.proofs.AskLemmas.Carried.{asks_make_dir}
+use Rattle.odb_disk.proofs.AskLemmas.InMemory.{counted_failed}
+use Rattle.odb_disk.proofs.AskLemmas.Writes.{written_tree, writes}
 use Rattle.odb_disk.proofs.mem_disk.MemDiskDisk.make_dir.Goals as goal
 
 pub invariant_of-self : goal.invariant_of-self
-invariant_of-self c = IsTree-written c.make_dir.result c.self.inside.tree _ c.self.invariant (change_of_make_dir c.self.inside.tree c.args.path.now) (λ change is. make_dir_possible c.self.inside.tree c.self.invariant c.args.path.now change is) c.make_dir.ensures.made c.make_dir.ensures.kept
-
-pub returns-clause-answer : goal.returns-clause-answer
-returns-clause-answer c = write_answers (λ t. change_of_make_dir t c.args.path.now) c.make_dir.result c.self.inside.tree c.make_dir.new.self c.args.self.now.state (ap (λ v. v.state) c.self.view_is ∙ c.count.ensures.state) c.make_dir.ensures.told
-
-pub returns-clause-made : goal.returns-clause-made
-returns-clause-made c = write_made (λ t. change_of_make_dir t c.args.path.now) c.make_dir.result c.self.inside.tree c.make_dir.new.self c.args.self.now.state (ap (λ v. v.state) c.self.view_is ∙ c.count.ensures.state) c.make_dir.ensures.made
-
-pub returns-clause-kept : goal.returns-clause-kept
-returns-clause-kept c = write_kept (λ t. change_of_make_dir t c.args.path.now) c.make_dir.result c.self.inside.tree c.make_dir.new.self c.args.self.now.state (ap (λ v. v.state) c.self.view_is ∙ c.count.ensures.state) c.make_dir.ensures.kept
+invariant_of-self c = written_tree (asks_make_dir c.args.path.now) c.make_dir.result c.self.inside.tree _ c.make_dir.ensures.made c.make_dir.ensures.kept c.self.invariant
 
 pub returns-then-count-clause-answered : goal.returns-then-count-clause-answered
-returns-then-count-clause-answered c = counted_failed c.args.self.now _ (asks.MakeDir c.args.path.now) (ap (λ (v : Volume). v.calls) c.count.ensures.counted) (sym c.count.ensures.fails ∙ c.if-count.true)
+returns-then-count-clause-answered c = counted_failed c.args.self.now _ (asks.MakeDir c.args.path.now) c.count.ensures.counted (sym c.count.ensures.fails ∙ c.if-count.true)
 
-pub returns-clause-answered : goal.returns-clause-answered
-returns-clause-answered c =
-    counted_write c.args.self.now _ (asks.MakeDir c.args.path.now) (ap (λ (v : Volume). v.calls) (c.self.view_is ∙ c.count.ensures.counted)) (sym c.count.ensures.fails ∙ c.if-count.false)
-    c.make_dir.result _ c.make_dir.ensures.told
+pub returns : goal.returns
+returns c =
+    let is = writes (asks_make_dir c.args.path.now) c.make_dir.result c.self.inside.tree c.make_dir.new.self c.make_dir.ensures.made c.make_dir.ensures.kept c.args.self.now
+    (c.self.view_is ∙ c.count.ensures.counted) (sym c.count.ensures.fails ∙ c.if-count.false) c.make_dir.ensures.told in
+    record { answer = is.answer; tree = search rules; made = is.made; kept = is.kept; streams = search rules; cause = search rules; answered = is.answered }

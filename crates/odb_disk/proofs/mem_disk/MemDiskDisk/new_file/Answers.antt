@@ -1,28 +1,18 @@
-use Rattle.std.proofs.Common.{◌∙◌, ap, sym}
-use Rattle.odb_tree.specs.Tree.Write.{change_of_new_file}
-use Rattle.odb_tree.proofs.TreeLemmas.Write.{new_file_possible}
-use Rattle.odb_disk.proofs.MemDiskLemmas.{write_answers, write_made, write_kept, IsTree-written}
-use Rattle.odb_disk.specs.MemDisk.{Volume}
+use Rattle.std.proofs.Common.{◌∙◌, sym, rules}
 use Rattle.odb_disk.specs.declared.ask.DiskAsk.TheVariants as asks
-use Rattle.odb_disk.proofs.AskLemmas.InMemory.{counted_failed, counted_write}
+use Rattle.odb_disk.proofs.AskLemmas.Carried.{asks_new_file}
+use Rattle.odb_disk.proofs.AskLemmas.InMemory.{counted_failed}
+use Rattle.odb_disk.proofs.AskLemmas.Writes.{written_tree, writes}
 use Rattle.odb_disk.proofs.mem_disk.MemDiskDisk.new_file.Goals as goal
 
 pub invariant_of-self : goal.invariant_of-self
-invariant_of-self c = IsTree-written c.new_file.result c.self.inside.tree _ c.self.invariant (change_of_new_file c.self.inside.tree c.args.path.now) (λ change is. new_file_possible c.self.inside.tree c.self.invariant c.args.path.now change is) c.new_file.ensures.made c.new_file.ensures.kept
-
-pub returns-clause-answer : goal.returns-clause-answer
-returns-clause-answer c = write_answers (λ t. change_of_new_file t c.args.path.now) c.new_file.result c.self.inside.tree c.new_file.new.self c.args.self.now.state (ap (λ v. v.state) c.self.view_is ∙ c.count.ensures.state) c.new_file.ensures.told
-
-pub returns-clause-made : goal.returns-clause-made
-returns-clause-made c = write_made (λ t. change_of_new_file t c.args.path.now) c.new_file.result c.self.inside.tree c.new_file.new.self c.args.self.now.state (ap (λ v. v.state) c.self.view_is ∙ c.count.ensures.state) c.new_file.ensures.made
-
-pub returns-clause-kept : goal.returns-clause-kept
-returns-clause-kept c = write_kept (λ t. change_of_new_file t c.args.path.now) c.new_file.result c.self.inside.tree c.new_file.new.self c.args.self.now.state (ap (λ v. v.state) c.self.view_is ∙ c.count.ensures.state) c.new_file.ensures.kept
+invariant_of-self c = written_tree (asks_new_file c.args.path.now) c.new_file.result c.self.inside.tree _ c.new_file.ensures.made c.new_file.ensures.kept c.self.invariant
 
 pub returns-then-count-clause-answered : goal.returns-then-count-clause-answered
-returns-then-count-clause-answered c = counted_failed c.args.self.now _ (asks.NewFile c.args.path.now) (ap (λ (v : Volume). v.calls) c.count.ensures.counted) (sym c.count.ensures.fails ∙ c.if-count.true)
+returns-then-count-clause-answered c = counted_failed c.args.self.now _ (asks.NewFile c.args.path.now) c.count.ensures.counted (sym c.count.ensures.fails ∙ c.if-count.true)
 
-pub returns-clause-answered : goal.returns-clause-answered
-returns-clause-answered c =
-    counted_write c.args.self.now _ (asks.NewFile c.args.path.now) (ap (λ (v : Volume). v.calls) (c.self.view_is ∙ c.count.ensures.counted)) (sym c.count.ensures.fails ∙ c.if-count.false)
-    c.new_file.result _ c.new_file.ensures.told
+pub returns : goal.returns
+returns c =
+    let is = writes (asks_new_file c.args.path.now) c.new_file.result c.self.inside.tree c.new_file.new.self c.new_file.ensures.made c.new_file.ensures.kept c.args.self.now
+    (c.self.view_is ∙ c.count.ensures.counted) (sym c.count.ensures.fails ∙ c.if-count.false) c.new_file.ensures.told in
+    record { answer = is.answer; tree = search rules; made = is.made; kept = is.kept; streams = search rules; cause = search rules; answered = is.answered }

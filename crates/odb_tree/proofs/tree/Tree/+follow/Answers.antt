@@ -13,7 +13,11 @@ returns-in_err-node t c = record {
 }
 
 pub returns-then-links-eq0 : goal.returns-then-links-eq0
-returns-then-links-eq0 t c = record { leads = ap (λ links. followed_within links c.args.self.now c.args.follow c.args.path.now) c.if-links-eq0.true ∙ followed_loop _ _ _ c.in-Onward.onward (rw c.in-Onward.is at c.in_ok-node.ensures.comes) }
+returns-then-links-eq0 t c = record {
+  leads =
+      ap (λ links. followed_within links c.args.self.now c.args.follow c.args.path.now) c.if-links-eq0.true
+      ∙ followed_loop _ _ _ c.in-Onward.onward (rw c.in-Onward.is at c.in_ok-node.ensures.comes);
+}
 
 pub returns-in-Reached : goal.returns-in-Reached
 returns-in-Reached t c = record { leads = ap node_of_place (followed_reached _ _ _ c.args.links c.args.path.now c.in-Reached.node.now (rw c.in-Reached.is at c.in_ok-node.ensures.comes)) }
@@ -21,5 +25,6 @@ returns-in-Reached t c = record { leads = ap node_of_place (followed_reached _ _
 pub returns-else-links-eq0 : goal.returns-else-links-eq0
 returns-else-links-eq0 t c = record {
   leads = let one : c.args.links ≡ suc (c.args.links - 1) = omega arith in
-      rw (followed_onward c.args.self.now c.args.follow c.args.path.now c.args.links (c.args.links - 1) c.in-Onward.onward one (rw c.in-Onward.is at c.in_ok-node.ensures.comes)) c.follow.ensures.leads;
+      rw (followed_onward c.args.self.now c.args.follow c.args.path.now c.args.links (c.args.links - 1) c.in-Onward.onward one (rw c.in-Onward.is at c.in_ok-node.ensures.comes))
+      c.follow.ensures.leads;
 }

@@ -21,7 +21,9 @@ returns-then-links-eq0 t c = record {
 
 pub returns-in_ok-try_clone-in-Reached : goal.returns-in_ok-try_clone-in-Reached
 returns-in_ok-try_clone-in-Reached t c = record {
-  told = ap (λ r. from_followed (path_of_place r)) (followed_reached c.args.self.now true c.args.path.now c.args.links c.args.path.now c.in-Reached.field-0.now (rw c.in-Reached.is at c.in_ok-pass.ensures.comes))
+  told =
+      ap (λ r. from_followed (path_of_place r))
+      (followed_reached c.args.self.now true c.args.path.now c.args.links c.args.path.now c.in-Reached.field-0.now (rw c.in-Reached.is at c.in_ok-pass.ensures.comes))
       ∙ ap Ok (sym c.in_ok-try_clone-in-Reached.ensures.copy);
 }
 

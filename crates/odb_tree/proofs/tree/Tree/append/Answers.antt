@@ -15,7 +15,8 @@ pub apply_append-requires : goal.apply_append-requires
 apply_append-requires c =
     let s = c.in_ok-place.place in
     let bytes = c.args.bytes.now in
-    record { possible = append_possible c.args.self.now c.in_ok-place.ensures.is_tree c.args.path.now (Append s bytes) bytes (change_of_append-is c.args.self.now c.args.path.now s bytes c.in_ok-place.ensures.told) }
+    let told = change_of_append-is c.args.self.now c.args.path.now s bytes c.in_ok-place.ensures.told in
+    record { possible = append_possible c.args.self.now c.in_ok-place.ensures.is_tree c.args.path.now (Append s bytes) bytes told }
 
 pub returns-clause-told : goal.returns-clause-told
 returns-clause-told c = ap done (change_of_append-is c.args.self.now c.args.path.now c.in_ok-place.place c.args.bytes.now c.in_ok-place.ensures.told)

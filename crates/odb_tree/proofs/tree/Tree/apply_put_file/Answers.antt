@@ -39,5 +39,6 @@ returns-clause-made c =
     on_ok_weaker c.put_new_node.result
     (λ is.
     is ∙ ap (λ bytes. with_node t p (new_node t p (File bytes c.args.time))) c.in_ok-bytes.ensures.copy
-    ∙ sym (made-put_file t p c.args.time c.args.bytes.now ∙ ap (with_node t p) (put_node-other t p (File c.args.bytes.now c.args.time) (node_at t p) (sym c.stands_file.ensures.file ∙ c.if-stands_file.false))))
+    ∙ sym (made-put_file t p c.args.time c.args.bytes.now
+    ∙ ap (with_node t p) (put_node-other t p (File c.args.bytes.now c.args.time) (node_at t p) (sym c.stands_file.ensures.file ∙ c.if-stands_file.false))))
     c.put_new_node.ensures.made

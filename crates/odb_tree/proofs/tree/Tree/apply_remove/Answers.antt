@@ -10,7 +10,9 @@ invariant_of-self-2 c =
     let t = tree_of_entries c.self.inside.nodes.entries in
     let i = c.self.invariant in
     record {
-      is_tree = IsTree-taken t _ i.is_tree c.args.path.now (below_root-remove t _ (rw c.self.view_is c.requires.possible)) (empty-remove t _ (rw c.self.view_is c.requires.possible)) c.take.ensures.taken;
+      is_tree =
+          IsTree-taken t _ i.is_tree c.args.path.now (below_root-remove t _ (rw c.self.view_is c.requires.possible)) (empty-remove t _ (rw c.self.view_is c.requires.possible))
+          c.take.ensures.taken;
       numbers = AreNumbers-taken t _ i.is_tree _ _ i.numbers c.args.path.now _ c.in_ok-free_number.ensures.freed c.take.ensures.taken;
     }
 

@@ -5,8 +5,13 @@ use Rattle.odb_tree.proofs.tree.Tree.bare.Goals as goal
 
 pub invariant_of-result : goal.invariant_of-result
 invariant_of-result c =
-    IsWellKept-bare _ (root_alone c.new-nodes.result.entries c.insert.new.self.entries c.root.result c.new-nodes.ensures.empty c.root.ensures.empty c.in_ok-insert.ensures.entries) refl c.new.ensures.empty
+    IsWellKept-bare _ (root_alone c.new-nodes.result.entries c.insert.new.self.entries c.root.result c.new-nodes.ensures.empty c.root.ensures.empty c.in_ok-insert.ensures.entries) refl
+    c.new.ensures.empty
 
 pub returns : goal.returns
 unfolding bare_tree
-returns c = record { bare = ap tree_of_entries (root_alone c.new-nodes.result.entries c.insert.new.self.entries c.root.result c.new-nodes.ensures.empty c.root.ensures.empty c.in_ok-insert.ensures.entries) }
+returns c = record {
+  bare =
+      ap tree_of_entries
+      (root_alone c.new-nodes.result.entries c.insert.new.self.entries c.root.result c.new-nodes.ensures.empty c.root.ensures.empty c.in_ok-insert.ensures.entries);
+}

@@ -13,7 +13,15 @@ pub returns-in-None : goal.returns-in-None
 returns-in-None c = record { told = nothing_to_move c.args.self.now c.args.path.now c.in_ok-place.place c.in_ok-place.ensures.told (sym c.in-None.ensures.value) }
 
 pub returns-in-Some : goal.returns-in-Some
-returns-in-Some c = record { told = moves_or_not c.args.self.now c.args.path.now c.in_ok-place.place c.in_ok-place.ensures.told c.in-Some.node.now true (sym c.in-Some.ensures.value) (sym c.is_dir.ensures.directory ∙ c.if-is_dir.true) }
+returns-in-Some c = record {
+  told =
+      moves_or_not c.args.self.now c.args.path.now c.in_ok-place.place c.in_ok-place.ensures.told c.in-Some.node.now true (sym c.in-Some.ensures.value)
+      (sym c.is_dir.ensures.directory ∙ c.if-is_dir.true);
+}
 
 pub returns-in-Some-2 : goal.returns-in-Some-2
-returns-in-Some-2 c = record { told = moves_or_not c.args.self.now c.args.path.now c.in_ok-place.place c.in_ok-place.ensures.told c.in-Some.node.now false (sym c.in-Some.ensures.value) (sym c.is_dir.ensures.directory ∙ c.if-is_dir.false) }
+returns-in-Some-2 c = record {
+  told =
+      moves_or_not c.args.self.now c.args.path.now c.in_ok-place.place c.in_ok-place.ensures.told c.in-Some.node.now false (sym c.in-Some.ensures.value)
+      (sym c.is_dir.ensures.directory ∙ c.if-is_dir.false);
+}

@@ -10,10 +10,15 @@ invariant_of-self-2 c =
     let t = tree_of_entries c.self.inside.nodes.entries in
     let i = c.self.invariant in
     record {
-      is_tree = IsTree-renamed t _ i.is_tree _ _ i.numbers c.args.from.now c.args.to.now (rw c.self.view_is c.requires.possible) (apart_outside t i.is_tree _ _ (rw c.self.view_is c.requires.possible) c.requires.apart)
+      is_tree =
+          IsTree-renamed t _ i.is_tree _ _ i.numbers c.args.from.now c.args.to.now (rw c.self.view_is c.requires.possible)
+          (apart_outside t i.is_tree _ _ (rw c.self.view_is c.requires.possible) c.requires.apart)
           (leaf_made t _ i.is_tree _ _ i.numbers _ _ (rw c.self.view_is c.requires.possible) (rw c.self.view_is c.requires.leaf) c.requires.apart c.in_ok-move_node.ensures.made);
-      numbers = AreNumbers-renamed t _ i.is_tree _ _ i.numbers c.args.from.now c.args.to.now (rw c.self.view_is c.requires.possible) (apart_outside t i.is_tree _ _ (rw c.self.view_is c.requires.possible) c.requires.apart)
-          (leaf_made t _ i.is_tree _ _ i.numbers _ _ (rw c.self.view_is c.requires.possible) (rw c.self.view_is c.requires.leaf) c.requires.apart c.in_ok-move_node.ensures.made) _ c.in_ok-free_number.ensures.freed;
+      numbers =
+          AreNumbers-renamed t _ i.is_tree _ _ i.numbers c.args.from.now c.args.to.now (rw c.self.view_is c.requires.possible)
+          (apart_outside t i.is_tree _ _ (rw c.self.view_is c.requires.possible) c.requires.apart)
+          (leaf_made t _ i.is_tree _ _ i.numbers _ _ (rw c.self.view_is c.requires.possible) (rw c.self.view_is c.requires.leaf) c.requires.apart c.in_ok-move_node.ensures.made) _
+          c.in_ok-free_number.ensures.freed;
     }
 
 pub returns-clause-made : goal.returns-clause-made

@@ -5,7 +5,8 @@ use Rattle.odb_tree.proofs.tree.Tree.pass.Goals as goal
 use Rattle.odb_tree.proofs.tree.Tree.pass.Goals.{in_default-content-via-in-Link+else-follow, in_default-content-via-in_default-content}
 
 pub returns-in_ok-try_clone-in-Link : goal.returns-in_ok-try_clone-in-Link
-returns-in_ok-try_clone-in-Link c = record { comes = pass_to_link _ c.in-Some.ensures.is_tree _ _ (sym c.in-Some.ensures.value) _ _ c.if-follow.true c.in-Link.is ∙ ap Onward (sym c.in_ok-try_clone-in-Link.ensures.copy) }
+returns-in_ok-try_clone-in-Link c =
+    record { comes = pass_to_link _ c.in-Some.ensures.is_tree _ _ (sym c.in-Some.ensures.value) _ _ c.if-follow.true c.in-Link.is ∙ ap Onward (sym c.in_ok-try_clone-in-Link.ensures.copy) }
 
 pub returns-in_default-content : goal.returns-in_default-content
 returns-in_default-content c = record {

@@ -6,7 +6,8 @@ use Rattle.odb_tree.proofs.tree.list.add_entries.Goals as goal
 
 pub loop-path-init : goal.loop-path-init
 loop-path-init c =
-    begun c.args.directory.now c.args.last.now c.args.entries.now c.args.nodes.now.entries _ c.range-path-items.ensures.ordered (c.into_iter-path-iterator.ensures.into_iter_gives ∙ c.range-path-items.ensures.between tt)
+    begun c.args.directory.now c.args.last.now c.args.entries.now c.args.nodes.now.entries _ c.range-path-items.ensures.ordered
+    (c.into_iter-path-iterator.ensures.into_iter_gives ∙ c.range-path-items.ensures.between tt)
 
 -- the path doesn't begin with the directory
 pub returns-in_default-2-clause-ended : goal.returns-in_default-2-clause-ended

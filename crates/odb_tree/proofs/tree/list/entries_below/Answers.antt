@@ -13,7 +13,8 @@ loop-entries-smaller c =
     let es = c.args.nodes.now.entries in
     let last = c.in_ok-last.last.now in
     let went = rw c.in-Some.is at c.in_ok-path.ensures.went in
-    fewer_behind c.loop-entries.last.now last (later_still c.loop-entries.last.now c.in-Some.path.now last went.behind c.in_ok-last.ensures.below) es (subst IsSome (node_at-entries es last) c.in_ok-last.ensures.stands)
+    fewer_behind c.loop-entries.last.now last (later_still c.loop-entries.last.now c.in-Some.path.now last went.behind c.in_ok-last.ensures.below) es
+    (subst IsSome (node_at-entries es last) c.in_ok-last.ensures.stands)
 
 pub loop-entries-preserved : goal.loop-entries-preserved
 loop-entries-preserved c =
