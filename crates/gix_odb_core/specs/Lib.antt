@@ -1,0 +1,2 @@
+pub mod PackId
+pub mod OnDiskFile
