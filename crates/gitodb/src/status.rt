@@ -1,7 +1,4 @@
 //! How the program may end, and what it tells on standard error then.
-ghost use Rattle.std.specs.Prelude.{◌≡◌};
-ghost use Rattle.gitodb.specs.Status.{note_of};
-
 use odb_base::ByteList;
 use odb_program::SessionStatus;
 
@@ -24,31 +21,15 @@ pub enum Status {
     NotBuilt,
 }
 
-impl Status {
-    /// What is told on standard error, without the program's name; nothing where all went well.
-    pub fn note(&self) -> &[u8]
-        ensures note { result.now ≡ note_of self.now }
-    {
-        match self {
-            Status::Done => b"",
-            Status::NotUnderstood => b"no such words: gitodb --help tells which there are",
-            Status::Refused(told) => told.as_slice(),
-            Status::ReadFault => b"standard input can't be read",
-            Status::WriteFault => b"standard output can't be written",
-            Status::NoMemory => b"out of memory",
-            Status::NotBuilt =>
-                b"that line has a word that isn't built yet; docs/SCRIPT.md tells which ones",
-        }
-    }
-}
-
 impl SessionStatus for Status {
-    ghost use Rattle.gitodb.specs.Status.{code_of};
+    ghost use Rattle.gitodb.specs.Status.{code_of, note_of};
     ghost use Rattle.gitodb.specs.declared.status.Status.TheVariants.{WriteFault};
 
     ghost exits_with = { code_of };
 
     ghost failed_write = { WriteFault };
+
+    ghost notes = { note_of };
 
     fn code(self) -> u8 {
         match self {
@@ -64,5 +45,18 @@ impl SessionStatus for Status {
 
     fn write_fault() -> Status {
         Status::WriteFault
+    }
+
+    fn note(&self) -> &[u8] {
+        match self {
+            Status::Done => b"",
+            Status::NotUnderstood => b"no such words: gitodb --help tells which there are",
+            Status::Refused(told) => told.as_slice(),
+            Status::ReadFault => b"standard input can't be read",
+            Status::WriteFault => b"standard output can't be written",
+            Status::NoMemory => b"out of memory",
+            Status::NotBuilt =>
+                b"that line has a word that isn't built yet; docs/SCRIPT.md tells which ones",
+        }
     }
 }

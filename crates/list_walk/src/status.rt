@@ -1,7 +1,4 @@
 //! How the program may end, and what it tells on standard error then.
-ghost use Rattle.std.specs.Prelude.{◌≡◌};
-ghost use Rattle.list_walk.specs.Status.{note_of};
-
 use odb_program::SessionStatus;
 
 /// How the program ends.
@@ -19,28 +16,15 @@ pub enum Status {
     NoMemory = 5,
 }
 
-impl Status {
-    /// What is told on standard error, without the program's name; nothing where the walks were made, whose errors have
-    /// lines of their own.
-    pub fn note(self) -> &'static [u8]
-        ensures note { result.now ≡ note_of self }
-    {
-        match self {
-            Status::Done | Status::SomeErrors => b"",
-            Status::NotUnderstood => b"no such words: list_walk --help tells which there are",
-            Status::WriteFault => b"an output can't be written",
-            Status::NoMemory => b"out of memory",
-        }
-    }
-}
-
 impl SessionStatus for Status {
-    ghost use Rattle.list_walk.specs.Status.{code_of};
+    ghost use Rattle.list_walk.specs.Status.{code_of, note_of};
     ghost use Rattle.list_walk.specs.declared.status.Status.TheVariants.{WriteFault};
 
     ghost exits_with = { code_of };
 
     ghost failed_write = { WriteFault };
+
+    ghost notes = { note_of };
 
     fn code(self) -> u8 {
         self as u8
@@ -48,5 +32,14 @@ impl SessionStatus for Status {
 
     fn write_fault() -> Status {
         Status::WriteFault
+    }
+
+    fn note(&self) -> &[u8] {
+        match self {
+            Status::Done | Status::SomeErrors => b"",
+            Status::NotUnderstood => b"no such words: list_walk --help tells which there are",
+            Status::WriteFault => b"an output can't be written",
+            Status::NoMemory => b"out of memory",
+        }
     }
 }
