@@ -35,6 +35,10 @@ while IFS='|' read -r status file words front; do
     esac
 done <<ROWS
 0|whole|$found $absent|$found 12 $absent absent |
+0|whole|--help|usage: probe_index 
+0|whole|--version|probe_index 0.1.0 
+1|whole|--help $found|usage: probe_index 
+1|whole|-h|usage: probe_index 
 1|whole||usage: probe_index 
 1|whole|frob|usage: probe_index 
 1|whole|$found $long|usage: probe_index 
@@ -53,8 +57,15 @@ expect_told "$(cat status)" 3 "standard input can't be read"
 "$program" "$found" <whole >/dev/full 2>told
 expect_told $? 4 "standard output can't be written"
 "$program" "$found" <other >/dev/null 2>told
-expect_told $? 2 'standard input is no such file'
+expect_told $? 2 'standard input is no such file: neither a pack index nor a multi-pack index'
+"$program" "$found" <short >/dev/null 2>told
+expect_told $? 2 'standard input is no such file: no pack index of version 2 with ids of this length'
 "$program" <whole >/dev/null 2>told
-expect_told $? 1 'each word has to be an id, and all of one length'
+expect_told $? 1 'no words: probe_index --help tells which there are'
+for word in -h help $'\xff'; do
+    "$program" "$word" <whole >/dev/null 2>told
+    expect_told $? 1 'each word has to be an id, and all of one length: see probe_index --help'
+done
+[ "$("$program" --help <whole | tail -n 1)" = 'probe_index --help writes this text, and probe_index --version the version.' ] || fail "--help ends with something else"
 
 exit "$wrong"

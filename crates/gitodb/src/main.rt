@@ -17,15 +17,13 @@ use crate::status::Status;
 use odb_base::NoMemory;
 use odb_disk::{StdSink, StdSource};
 use odb_host::HostDisk;
-use odb_program::{command_words, exit_code, report};
+use odb_program::{command_words, finish};
 use std::io;
 use std::process::ExitCode;
 
 fn main(rt: HostRuntime) -> ExitCode {
     let status = ended(&rt).unwrap_or(Status::NoMemory);
-    // Where standard error fails too, the status alone tells what happened.
-    let _ = report(&mut StdSink::new(rt.stderr()), "gitodb", status.note());
-    exit_code(status)
+    finish(&mut StdSink::new(rt.stderr()), "gitodb", status)
 }
 
 /// The status of a session over the real streams and the real disk.

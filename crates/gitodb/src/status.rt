@@ -1,7 +1,4 @@
 //! How the program may end, and what it tells on standard error then.
-ghost use Rattle.std.specs.Prelude.{◌≡◌};
-ghost use Rattle.gitodb.specs.Status.{note_of};
-
 use odb_base::ByteList;
 use odb_program::SessionStatus;
 
@@ -10,6 +7,8 @@ use odb_program::SessionStatus;
 pub enum Status {
     /// 0: done, and the source was read to its end where the command reads it.
     Done,
+    /// 1: there are no words.
+    NoWords,
     /// 1: the words are no command.
     NotUnderstood,
     /// 2: a line of the script is outside its grammar or its limits. It has what is told of the line.
@@ -20,49 +19,46 @@ pub enum Status {
     WriteFault,
     /// 5: want of memory.
     NoMemory,
-    /// 8: a line of the script has a word that isn't built yet.
-    NotBuilt,
-}
-
-impl Status {
-    /// What is told on standard error, without the program's name; nothing where all went well.
-    pub fn note(&self) -> &[u8]
-        ensures note { result.now ≡ note_of self.now }
-    {
-        match self {
-            Status::Done => b"",
-            Status::NotUnderstood => b"no such words: gitodb --help tells which there are",
-            Status::Refused(told) => told.as_slice(),
-            Status::ReadFault => b"standard input can't be read",
-            Status::WriteFault => b"standard output can't be written",
-            Status::NoMemory => b"out of memory",
-            Status::NotBuilt =>
-                b"that line has a word that isn't built yet; docs/SCRIPT.md tells which ones",
-        }
-    }
+    /// 8: a line of the script has a field that isn't built yet. It has what is told of the line.
+    NotBuilt(ByteList),
 }
 
 impl SessionStatus for Status {
-    ghost use Rattle.gitodb.specs.Status.{code_of};
+    ghost use Rattle.gitodb.specs.Status.{code_of, note_of};
     ghost use Rattle.gitodb.specs.declared.status.Status.TheVariants.{WriteFault};
 
     ghost exits_with = { code_of };
 
     ghost failed_write = { WriteFault };
 
+    ghost notes = { note_of };
+
     fn code(self) -> u8 {
         match self {
             Status::Done => 0,
-            Status::NotUnderstood => 1,
+            Status::NoWords | Status::NotUnderstood => 1,
             Status::Refused(_) => 2,
             Status::ReadFault => 3,
             Status::WriteFault => 4,
             Status::NoMemory => 5,
-            Status::NotBuilt => 8,
+            Status::NotBuilt(_) => 8,
         }
     }
 
     fn write_fault() -> Status {
         Status::WriteFault
+    }
+
+    fn note(&self) -> &[u8] {
+        match self {
+            Status::Done => b"",
+            Status::NoWords => b"no words: gitodb --help tells which there are",
+            Status::NotUnderstood => b"no such words: gitodb --help tells which there are",
+            Status::Refused(told) => told.as_slice(),
+            Status::ReadFault => b"standard input can't be read",
+            Status::WriteFault => b"standard output can't be written",
+            Status::NoMemory => b"out of memory",
+            Status::NotBuilt(told) => told.as_slice(),
+        }
     }
 }

@@ -1,11 +1,14 @@
 //! Lists folder trees: `list_walk FOLDER.. [OPTION..]` prints a line for each entry of each folder, its path, and tells
 //! each error on standard error.
 //!
-//! `words` says which options there are, `folder` which folder a name means, `run` what each status promises.
+//! `command` says what the words ask for, `words` which options there are, `folder` which folder a name means, `run` what
+//! each status promises.
 #![tactic(auto)]
 
+mod command;
 mod folder;
 mod line;
+mod misread;
 mod run;
 mod status;
 mod words;
@@ -14,15 +17,13 @@ use crate::status::Status;
 use odb_base::NoMemory;
 use odb_disk::StdSink;
 use odb_host::HostDisk;
-use odb_program::{command_words, exit_code, report, working_folder};
+use odb_program::{command_words, finish, working_folder};
 use std::io;
 use std::process::ExitCode;
 
 fn main(rt: HostRuntime) -> ExitCode {
     let status = ended(&rt).unwrap_or(Status::NoMemory);
-    // Where standard error fails too, the status alone tells what happened.
-    let _ = report(&mut StdSink::new(rt.stderr()), "list_walk", status.note());
-    exit_code(status)
+    finish(&mut StdSink::new(rt.stderr()), "list_walk", status)
 }
 
 /// The status of a session over the real disk and the standard streams.

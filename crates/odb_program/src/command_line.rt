@@ -9,13 +9,12 @@ pub const NOT_UNDERSTOOD: &str = "words not understood\n";
 
 /// The words of the command line, without the program's name.
 ///
-/// There are none where one of them is no text: no program understands such a word, and each refuses to be called
-/// without a word.
+/// Where one of them is no text, one empty word stands for all of them, which no program understands.
 pub fn command_words<R: Env + AllocGlobal>(rt: &R, alloc: Global) -> Result<Vec<String>, NoMemory> {
     match arguments(rt, alloc) {
         Ok(words) => Ok(words),
         Err(error) if error.kind() == io::ErrorKind::OutOfMemory => Err(NoMemory),
-        Err(_) => Ok(Vec::new(alloc)),
+        Err(_) => Ok(vec![in alloc; String::new(alloc)]?),
     }
 }
 

@@ -6,12 +6,13 @@
 //! ```rust
 //! let words = command_words(&rt, alloc)?;
 //! let status = answer(&mut sink, NOT_UNDERSTOOD.as_bytes(), Status::NotUnderstood);
-//! exit_code(status)
+//! finish(&mut errors, "gitodb", status)
 //! ```
 #![tactic(auto)]
 
 mod command_line;
 mod delivery;
+mod ending;
 mod folder;
 mod output;
 mod standard_error;
@@ -19,7 +20,7 @@ mod status;
 
 pub use command_line::{NOT_UNDERSTOOD, command_words};
 pub use delivery::answer;
+pub use ending::finish;
 pub use folder::working_folder;
 pub use output::{labelled, number, text};
-pub use standard_error::report;
-pub use status::{SessionStatus, exit_code};
+pub use status::SessionStatus;

@@ -8,7 +8,7 @@ use odb_disk::{Failed, Sink, write_all};
 
 /// Writes what is told as a line behind the program's name, and nothing where nothing is told. It takes no memory.
 #[tactic(auto, using(crate::proofs::AddsLaws::adds_nothing), unfolding(crate::specs::Report::report_of))]
-pub fn report<K: Sink>(errors: &mut K, program: &str, told: &[u8]) -> Result<(), Failed>
+pub(crate) fn report<K: Sink>(errors: &mut K, program: &str, told: &[u8]) -> Result<(), Failed>
     ensures told { OnOk result (Adds (K.held errors.old) (K.held errors.new) (report_of program.now told.now)) }
     ensures cause { HasCause (K.faults errors.old) (K.faults errors.new) result }
 {

@@ -1,5 +1,5 @@
 //! Statuses, and what the process ends with.
-ghost use Rattle.std.specs.Prelude.{◌≡◌, ℕ};
+ghost use Rattle.std.specs.Prelude.{◌≡◌, ℕ, List};
 ghost use Rattle.std.specs.Process.{exit_status};
 
 use std::process::ExitCode;
@@ -12,6 +12,10 @@ pub trait SessionStatus: Drop {
     /// The status of a session whose sink failed.
     ghost failed_write: { Self };
 
+    /// What is told on standard error, without the program's name; nothing where nothing went wrong, or where what did was
+    /// told before.
+    ghost notes: { Self → List ℕ };
+
     /// The exit status of the process.
     fn code(self) -> u8
         ensures code { result ≡ exits_with self };
@@ -19,10 +23,14 @@ pub trait SessionStatus: Drop {
     /// The status of a session whose sink failed.
     fn write_fault() -> Self
         ensures status { result ≡ failed_write };
+
+    /// What is told on standard error, without the program's name.
+    fn note(&self) -> &[u8]
+        ensures note { result.now ≡ notes self.now };
 }
 
 /// What the process ends with.
-pub fn exit_code<T: SessionStatus>(status: T) -> ExitCode
+pub(crate) fn exit_code<T: SessionStatus>(status: T) -> ExitCode
     ensures code { exit_status result ≡ T.exits_with status }
 {
     ExitCode::from(status.code())

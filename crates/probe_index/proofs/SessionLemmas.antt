@@ -7,6 +7,8 @@ use Rattle.std.proofs.lemmas.List.{append-nil, length-append}
 use Rattle.odb_disk.specs.Source.{ReadsFile}
 use Rattle.gix_hash.specs.declared.kind.Kind.{Kind}
 use Rattle.probe_index.specs.declared.asked.Asked.{Asked}
+use Rattle.probe_index.specs.declared.command.Command.{Command}
+use Rattle.probe_index.specs.declared.command.Command.TheVariants.{Probe, Help, Version, NoWords, NotUnderstood}
 use Rattle.probe_index.specs.declared.status.Status.{Status}
 use Rattle.probe_index.specs.declared.status.Status.TheVariants as statuses
 use Rattle.probe_index.specs.declared.probe.Refusal.{Refusal}
@@ -14,7 +16,7 @@ use Rattle.probe_index.specs.declared.probe.Refusal.TheVariants.{TooLong}
 use Rattle.probe_index.specs.Probe.{WritesIn, WritesOf, file_limit, refusal_of}
 use Rattle.odb_program.specs.Session.{Delivers, Input}
 use Rattle.odb_program.proofs.SessionLaws.{ReadToEnd-short, ends_delivered, holds_of_source}
-use Rattle.probe_index.specs.Session.{Ends, Finishes, Session, Writes, WritesFor}
+use Rattle.probe_index.specs.Session.{Ends, Finishes, LeavesIts, ReadsIts, Session, Writes, WritesFor}
 
 -- ---- a file that is too long
 
@@ -66,23 +68,63 @@ pub Ends-delivered : (s : Session) (output : List ℕ) (status result : Status) 
 Ends-delivered s output status result writes ends delivered =
     ends_delivered (Ends s) (Writes s) statuses.WriteFault s.output output status result writes ends (λ failed. failed) delivered
 
--- a file is answered, or it is refused
-answered_or_refused : (asked : Asked) (bytes written : List ℕ) (status : Status) (why : Option Refusal) → WritesIn asked bytes written status why → (status ≡ statuses.Done) ⊎ (status ≡ statuses.Refused)
-answered_or_refused asked bytes written status None writes = inl writes.0
-answered_or_refused asked bytes written status (Some why) writes = inr writes.0
+-- what a command ends with, by another name of the command
+pub ends_as : (s : Session) (command : Command) (result : Status) → s.command ≡ command → Ends (record s { command = command }) result → Ends s result
+ends_as s command result is ends = subst (λ c. Ends (record s { command = c }) result) (sym is) ends
 
-module _ (s : Session) (asked : Asked) (bytes output : List ℕ) (asks : s.asked ≡ Some asked) (reads : ReadsFile file_limit s.input.left s.input.left' bytes) where
-  ends-by : (status : Status) → WritesOf asked bytes output status → (status ≡ statuses.Done) ⊎ (status ≡ statuses.Refused) → Finishes s status → Ends s status
+pub ends_help : (s : Session) (result : Status) → s.command ≡ Help
+    → Delivers statuses.WriteFault s.output s.texts.help statuses.Done result → Ends s result
+ends_help s result is delivered =
+    Ends-delivered s s.texts.help statuses.Done result (subst (λ c. WritesFor s.texts c s.input.left s.texts.help statuses.Done) (sym is) (refl, refl))
+    (λ finished. (finished, subst (λ c. ReadsIts c s.input) (sym is) tt)) delivered
+
+pub ends_version : (s : Session) (result : Status) → s.command ≡ Version
+    → Delivers statuses.WriteFault s.output s.texts.version statuses.Done result → Ends s result
+ends_version s result is delivered =
+    Ends-delivered s s.texts.version statuses.Done result (subst (λ c. WritesFor s.texts c s.input.left s.texts.version statuses.Done) (sym is) (refl, refl))
+    (λ finished. (finished, subst (λ c. ReadsIts c s.input) (sym is) tt)) delivered
+
+pub ends_no_words : (s : Session) (result : Status) → s.command ≡ NoWords
+    → Delivers statuses.WriteFault s.output s.texts.usage statuses.NoWords result → Ends s result
+ends_no_words s result is delivered =
+    Ends-delivered s s.texts.usage statuses.NoWords result (subst (λ c. WritesFor s.texts c s.input.left s.texts.usage statuses.NoWords) (sym is) (refl, refl))
+    (λ finished. (is, finished)) delivered
+
+pub ends_not_understood : (s : Session) (result : Status) → s.command ≡ NotUnderstood
+    → Delivers statuses.WriteFault s.output s.texts.usage statuses.NotUnderstood result → Ends s result
+ends_not_understood s result is delivered =
+    Ends-delivered s s.texts.usage statuses.NotUnderstood result (subst (λ c. WritesFor s.texts c s.input.left s.texts.usage statuses.NotUnderstood) (sym is) (refl, refl))
+    (λ finished. (is, finished)) delivered
+
+-- a file is answered, or it is refused
+answered_or_refused : (asked : Asked) (bytes written : List ℕ) (status : Status) (why : Option Refusal) → WritesIn asked bytes written status why
+    → (status ≡ statuses.Done) ⊎ ((why : Refusal) × (status ≡ statuses.Refused why))
+answered_or_refused asked bytes written status None writes = inl writes.0
+answered_or_refused asked bytes written status (Some why) writes = inr (why, writes.0)
+
+-- no source is left other than it was where nothing was done
+pub leaves_same : {S : Type 0} (command : Command) (source : S) → LeavesIts command source source
+leaves_same (Probe asked) source = tt
+leaves_same Help source = refl
+leaves_same Version source = refl
+leaves_same NoWords source = refl
+leaves_same NotUnderstood source = refl
+
+pub leaves_as : {S : Type 0} (command : Command) (asked : Asked) (before now : S) → command ≡ Probe asked → LeavesIts command before now
+leaves_as {S = S} command asked before now is = subst (λ (c : Command). LeavesIts {S = S} c before now) (sym is) tt
+
+module _ (s : Session) (asked : Asked) (bytes output : List ℕ) (asks : s.command ≡ Probe asked) (reads : ReadsFile file_limit s.input.left s.input.left' bytes) where
+  ends-by : (status : Status) → WritesOf asked bytes output status → (status ≡ statuses.Done) ⊎ ((why : Refusal) × (status ≡ statuses.Refused why)) → Finishes s status → Ends s status
   ends-by status writes (inl done) finished =
       let P : Status → Type 0 = λ r. WritesOf asked bytes output r → Finishes s r → Ends s r in
-      subst P (sym done) (λ w f. ((asked, asks), f, ReadToEnd-short file_limit s.input.left s.input.left' bytes reads (done_is_short asked bytes output w))) writes finished
+      subst P (sym done) (λ w f. (f, subst (λ c. ReadsIts c s.input) (sym asks) (ReadToEnd-short file_limit s.input.left s.input.left' bytes reads (done_is_short asked bytes output w)))) writes finished
   ends-by status writes (inr refused) finished =
       let P : Status → Type 0 = λ r. Finishes s r → Ends s r in
-      subst P (sym refused) (λ f. ((asked, asks), f)) finished
+      subst P (sym refused.1) (λ f. ((asked, asks), f)) finished
 
   writes-for : (status : Status) → WritesOf asked bytes output status → Writes s output status
   writes-for status writes =
-      let P : Option Asked → Type 0 = λ a. WritesFor s.usage a s.input.left output status in
+      let P : Command → Type 0 = λ c. WritesFor s.texts c s.input.left output status in
       subst P (sym asks) (written_for_file asked s.input bytes output status reads writes)
 
   -- a file that was answered ends with the status of its answer, or with a failed write

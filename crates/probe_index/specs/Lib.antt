@@ -1,4 +1,6 @@
 pub mod Asked
+pub mod Command
+pub mod Refusal
 pub mod Status
 pub mod Lines
 pub mod Probe

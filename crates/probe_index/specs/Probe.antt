@@ -1,5 +1,5 @@
 -- Which file the bytes of the source are, why they are refused, and what is written for them.
-use Rattle.std.specs.Prelude.{◌≡◌, ℕ, List, length, codes, nat_eq, nat_lt, Option, Some, None, is_some, if◌then◌else◌}
+use Rattle.std.specs.Prelude.{◌≡◌, ℕ, List, length, nat_eq, nat_lt, Option, Some, None, is_some, if◌then◌else◌}
 use Rattle.std.specs.List.{starts_with}
 use Rattle.gix_hash.specs.declared.kind.Kind.{Kind}
 use Rattle.gix_hash.specs.declared.object_id.ObjectId.{ObjectId}
@@ -13,6 +13,7 @@ use Rattle.probe_index.specs.declared.probe.Refusal.TheVariants.{TooLong, Unknow
 use Rattle.probe_index.specs.declared.status.Status.{Status}
 use Rattle.probe_index.specs.declared.status.Status.TheVariants.{Done, Refused}
 use Rattle.probe_index.specs.Lines.{AreLines, IsIndexLine, IsPackLine}
+use Rattle.probe_index.specs.Refusal.{refusal_text}
 
 -- the most bytes that a file may have, 1 GiB: a source that never ends is refused
 abbrev pub file_limit : ℕ
@@ -40,12 +41,6 @@ refusal_in kind bytes (Some MultiIndex) = multi_index_refusal bytes
 abbrev pub refusal_of : Kind → List ℕ → Option Refusal
 refusal_of kind bytes = if nat_lt file_limit (length bytes) then Some TooLong else refusal_in kind bytes (format_of bytes)
 
-abbrev pub refusal_text : Refusal → List ℕ
-refusal_text TooLong = codes "refused: more than 1073741824 bytes\n"
-refusal_text Unknown = codes "refused: neither a pack index nor a multi-pack index\n"
-refusal_text BadIndex = codes "refused: no pack index of version 2 with ids of this length\n"
-refusal_text BadMultiIndex = codes "refused: no multi-pack index of version 1\n"
-
 -- the lines of the ids by the rows that the bytes have in their format
 abbrev pub TellsIn : Kind → List ℕ → List ObjectId → List ℕ → Option Format → Type 0
 TellsIn kind bytes ids text None = ⊥
@@ -54,7 +49,7 @@ TellsIn kind bytes ids text (Some MultiIndex) = AreLines (IsPackLine (told bytes
 
 abbrev pub WritesIn : Asked → List ℕ → List ℕ → Status → Option Refusal → Type 0
 WritesIn asked bytes written status None = (status ≡ Done) × TellsIn asked.kind bytes asked.ids written (format_of bytes)
-WritesIn asked bytes written status (Some why) = (status ≡ Refused) × (written ≡ refusal_text why)
+WritesIn asked bytes written status (Some why) = (status ≡ Refused why) × (written ≡ refusal_text why)
 
 -- what is written for bytes, and the status: the lines of the ids exactly where the bytes are not refused
 abbrev pub WritesOf : Asked → List ℕ → List ℕ → Status → Type 0

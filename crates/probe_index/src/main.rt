@@ -5,6 +5,7 @@
 #![tactic(auto)]
 
 mod asked;
+mod command;
 mod lines;
 mod probe;
 mod run;
@@ -15,15 +16,13 @@ mod tests;
 use crate::status::Status;
 use odb_base::NoMemory;
 use odb_disk::{StdSink, StdSource};
-use odb_program::{command_words, exit_code, report};
+use odb_program::{command_words, finish};
 use std::io;
 use std::process::ExitCode;
 
 fn main(rt: HostRuntime) -> ExitCode {
     let status = ended(&rt).unwrap_or(Status::NoMemory);
-    // Where standard error fails too, the status alone tells what happened.
-    let _ = report(&mut StdSink::new(rt.stderr()), "probe_index", status.note());
-    exit_code(status)
+    finish(&mut StdSink::new(rt.stderr()), "probe_index", status)
 }
 
 /// The status of a session over the real streams.

@@ -1,6 +1,7 @@
 //! A file in, and the lines of the ids that are asked for out.
 ghost use Rattle.std.specs.Prelude.{◌≡◌, Some, IfOk};
-ghost use Rattle.probe_index.specs.Probe.{format_of, index_refusal, multi_index_refusal, refusal_text, WritesIn, WritesOf};
+ghost use Rattle.probe_index.specs.Probe.{format_of, index_refusal, multi_index_refusal, WritesIn, WritesOf};
+ghost use Rattle.probe_index.specs.Refusal.{refusal_text};
 
 use crate::asked::Asked;
 use crate::lines::{index_lines, pack_lines};
@@ -106,9 +107,9 @@ fn answer_multi_index(
 /// The line that says why a file is refused, and the status.
 fn refused(alloc: Global, why: Refusal) -> Result<(Vec<u8>, Status), NoMemory>
     ensures text { IfOk result (λ answer. answer.0.items ≡ refusal_text why) }
-    ensures status { IfOk result (λ answer. answer.1 ≡ Status.Refused) }
+    ensures status { IfOk result (λ answer. answer.1 ≡ Status.Refused why) }
 {
-    Ok((text_of(why).to_vec(alloc)?, Status::Refused))
+    Ok((text_of(why).to_vec(alloc)?, Status::Refused(why)))
 }
 
 fn text_of(why: Refusal) -> &'static [u8]

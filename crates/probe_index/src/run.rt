@@ -1,16 +1,18 @@
 //! The program as one call, over any source and sink.
-ghost use Rattle.std.specs.Prelude.{◌≡◌, List, ℕ, None, Some, map};
+ghost use Rattle.std.specs.Prelude.{◌≡◌, ◌++◌, IfOk, map};
 ghost use Rattle.std.specs.String.{string_bytes};
-ghost use Rattle.probe_index.specs.Asked.{asked_of};
-ghost use Rattle.odb_program.specs.Session.{input_of, output_of};
-ghost use Rattle.probe_index.specs.Session.{Ends};
+ghost use Rattle.odb_program.specs.Session.{Input, input_of, output_of};
+ghost use Rattle.probe_index.specs.Command.{command_of};
+ghost use Rattle.probe_index.specs.Session.{Ends, LeavesIts, Texts};
+ghost use Rattle.probe_index.specs.declared.command.Command.TheVariants.{Help as help_command, Probe as probe_command};
 
-use crate::asked::{Asked, asked_of};
+use crate::asked::Asked;
+use crate::command::{Command, command_of};
 use crate::probe::{FILE_LIMIT, answer_file};
 use crate::status::Status;
 use odb_base::NoMemory;
 use odb_disk::{ReadError, Sink, Source, read_file};
-use odb_program::answer;
+use odb_program::{answer, text};
 use std::alloc::Global;
 
 /// What is written where the words ask nothing.
@@ -29,6 +31,14 @@ status  0 done         1 words not understood   2 the file is refused
         3 read fault   4 write fault            5 out of memory
 ";
 
+/// What `--help` writes behind that.
+pub const ABOUT: &str = "
+probe_index --help writes this text, and probe_index --version the version.
+";
+
+/// What `--version` writes.
+pub const VERSION: &str = "probe_index 0.1.0\n";
+
 /// Does what the words of the command line say, and answers the status.
 pub fn run<S: Source, K: Sink>(
     alloc: Global,
@@ -37,49 +47,56 @@ pub fn run<S: Source, K: Sink>(
     sink: &mut K,
 ) -> Status
     ensures ends { Ends (record {
-      asked = asked_of (map (λ word. string_bytes word) words.now);
+      command = command_of (map (λ word. string_bytes word) words.now);
       input = input_of S.left S.faults source.old source.new;
       output = output_of K.held K.faults sink.old sink.new;
-      usage = USAGE.now;
+      texts = record { usage = USAGE.now; help = USAGE.now ++ ABOUT.now; version = VERSION.now };
     }) result }
 
-    // Words that ask nothing leave the source as it was: what is left of it, and its count of faults.
-    ensures unread { asked_of (map (λ word. string_bytes word) words.now) ≡ None → source.new ≡ source.old }
+    // Words that ask for no ids leave the source as it was: what is left of it, and its count of faults.
+    ensures unread { LeavesIts (command_of (map (λ word. string_bytes word) words.now)) source.old source.new }
 {
-    match asked_of(alloc, words) {
-        Ok(asked) => understood(alloc, asked, source, sink),
+    match command_of(alloc, words) {
+        Ok(Command::Probe(asked)) => probe(alloc, &asked, source, sink),
+        Ok(Command::Help) => help(alloc, sink),
+        Ok(Command::Version) => answer(sink, VERSION.as_bytes(), Status::Done),
+        Ok(Command::NoWords) => answer(sink, USAGE.as_bytes(), Status::NoWords),
+        Ok(Command::NotUnderstood) => answer(sink, USAGE.as_bytes(), Status::NotUnderstood),
         Err(NoMemory) => Status::NoMemory,
     }
 }
 
-/// Does what was asked, if anything was.
-fn understood<S: Source, K: Sink>(
-    alloc: Global,
-    asked: Option<Asked>,
-    source: &mut S,
-    sink: &mut K,
-) -> Status
-    ensures ends { Ends (record {
-      asked = asked;
-      input = input_of S.left S.faults source.old source.new;
+/// Writes the usage, and what `--help` writes behind it.
+fn help<K: Sink>(alloc: Global, sink: &mut K) -> Status
+    ensures ends { (input : Input) → Ends (record {
+      command = help_command;
+      input = input;
       output = output_of K.held K.faults sink.old sink.new;
-      usage = USAGE.now;
+      texts = record { usage = USAGE.now; help = USAGE.now ++ ABOUT.now; version = VERSION.now };
     }) result }
-    ensures unread { asked ≡ None → source.new ≡ source.old }
 {
-    match asked {
-        Some(asked) => probe(alloc, &asked, source, sink),
-        None => answer(sink, USAGE.as_bytes(), Status::NotUnderstood),
+    match help_text(alloc) {
+        Ok(help) => answer(sink, &help, Status::Done),
+        Err(NoMemory) => Status::NoMemory,
     }
+}
+
+fn help_text(alloc: Global) -> Result<Vec<u8>, NoMemory>
+    ensures text { IfOk result (λ help. help.items ≡ USAGE.now ++ ABOUT.now) }
+{
+    let mut help = Vec::new(alloc);
+    text(&mut help, USAGE.as_bytes())?;
+    text(&mut help, ABOUT.as_bytes())?;
+    Ok(help)
 }
 
 /// Reads a file, and writes the lines of the ids.
 fn probe<S: Source, K: Sink>(alloc: Global, asked: &Asked, source: &mut S, sink: &mut K) -> Status
-    ensures ends { (usage : List ℕ) → Ends (record {
-      asked = Some asked.now;
+    ensures ends { (texts : Texts) → Ends (record {
+      command = probe_command asked.now;
       input = input_of S.left S.faults source.old source.new;
       output = output_of K.held K.faults sink.old sink.new;
-      usage = usage;
+      texts = texts;
     }) result }
 {
     let bytes = match read_file(alloc, source, FILE_LIMIT) {

@@ -1,7 +1,7 @@
 //! The program as one call, over files, and over sources and sinks that fail.
 mod files;
 
-use crate::run::{USAGE, run};
+use crate::run::{ABOUT, USAGE, run};
 use files::file_of;
 use odb_disk::{MemSink, MemSource};
 use odb_program::SessionStatus;
@@ -40,8 +40,17 @@ fn session(
 
 fn shown(alloc: Global, status: u8, output: &[u8]) -> Result<String, AllocError> {
     let text = str::from_utf8(output).unwrap_or("no text");
-    let text = if text == USAGE { "usage" } else { text };
+    let text = named(text);
     format!(in alloc; "{status} {text}")
+}
+
+/// The name of a text about the program, and any other text as it is.
+fn named(text: &str) -> &str {
+    match text.strip_prefix(USAGE) {
+        Some(rest) if rest.is_empty() => "usage",
+        Some(rest) if rest == ABOUT => "help",
+        _ => text,
+    }
 }
 
 /// Fails where a row gives something else than is wanted.
@@ -120,7 +129,9 @@ const ROWS: &[Row] = &[
         "2 refused: neither a pack index nor a multi-pack index\n",
     ),
     ("index", "", 0, 0, "1 usage"),
-    ("index", "--help", 1, 0, "1 usage"),
+    ("index", "--help", 1, 0, "0 help"),
+    ("index", "--version", 1, 0, "0 probe_index 0.1.0\n"),
+    ("index", "--help --version", 1, 0, "1 usage"),
     (
         "index",
         "1f7a7a472abf3dd9643fd615f6da379c4acb3e",
