@@ -79,7 +79,7 @@ pub record Works (first : Volume) (past : List Event) (handle : ℕ) (running : 
   -- what it asks for, which the event tells with its answer
   pub ask : Option Ask
   pub asks : ask_in running.store running.work ≡ ask
-  -- which is a call of the disk, and the one of this turn of the task: of turn t of a find, the read of the loose path in the t-th folder
+  -- which is a call of the disk, the one of this turn of the task: of turn t of a find, the read of the loose path in the t-th folder
   pub in_order : AsksAsTask first past handle running.store running.ignoring running.begun running.turns running.task ask
   pub asked : e.entry.did ≡ did_asked (disk_after first past) ask
   pub told : e.asked ≡ told_now (disk_after first past) ask

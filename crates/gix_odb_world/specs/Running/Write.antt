@@ -74,7 +74,7 @@ pub record StandsAt (first : Volume) (events : List Event) (handle begun own : �
   pub holds : Holds first events handle begun w.objects (number_made stage) (content_at w stage)
 
 -- A running write: what it is to write, and what it knows after so many turns of its own. Its handle's task may be another one, of
--- which other turns came in front.
+-- which other turns, that changed nothing, came in front.
 pub record IsWriting (first : Volume) (events : List Event) (handle : ℕ) (running : Running) (folder : LooseCall) : Type 0 where
   pub write : ToWrite
   pub into : write.objects ≡ running.store.parts.objects
