@@ -3,3 +3,4 @@ pub mod Loose
 pub mod Id
 pub mod Data
 pub mod Stream
+pub mod Limit

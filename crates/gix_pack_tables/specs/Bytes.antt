@@ -1,9 +1,10 @@
 -- Parts of a file's bytes: numbers of four and of eight bytes, the highest byte first, tables of equally long rows, and the hash at the end.
-use Rattle.std.specs.Prelude.{ℕ, zero, suc, ◌-◌, Bool, true, List, [], ◌∷◌, length, take, drop, map, nat_eq, nat_le, Option, Some, None}
+use Rattle.std.specs.Prelude.{ℕ, zero, suc, ◌-◌, Bool, List, [], ◌∷◌, length, take, drop, map, nat_eq}
 use Rattle.std.specs.Int.{w32, w64, from_be_bytes}
 use lib.Pointwise.{pointwise}
 use Rattle.gix_hash.specs.Kind.{len_in_bytes_of}
 use Rattle.gix_hash.specs.declared.kind.Kind.{Kind}
+pub use Rattle.gix_object.specs.Limit.{is_within}
 
 -- whether two lists have the same bytes
 abbrev pub same : List ℕ → List ℕ → Bool
@@ -35,8 +36,3 @@ long_numbers n bytes = map (from_be_bytes w64) (table 8 n bytes)
 -- where the hash begins that ends a file
 abbrev pub trailer_place : Kind → List ℕ → ℕ
 trailer_place kind bytes = length bytes - len_in_bytes_of kind
-
--- whether a size is within a limit, if there is one
-abbrev pub is_within : Option ℕ → ℕ → Bool
-is_within None size = true
-is_within (Some limit) size = nat_le size limit

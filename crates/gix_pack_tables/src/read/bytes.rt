@@ -1,10 +1,11 @@
 //! Numbers and ids at places of a file's bytes, and limits of sizes.
 ghost use Rattle.std.specs.Prelude.{◌≡◌, ◌+◌, ◌≤◌, drop, length};
 ghost use Rattle.gix_hash.specs.Kind.{len_in_bytes_of};
-ghost use Rattle.gix_pack_tables.specs.Bytes.{is_within as size_is_within, long_number_at, number_at as number_of, part, trailer_place as place_of_trailer};
+ghost use Rattle.gix_pack_tables.specs.Bytes.{long_number_at, number_at as number_of, part, trailer_place as place_of_trailer};
 ghost use Rattle.gix_pack_tables.specs.Rows.{id_from};
 
 use gix_hash::{Kind, ObjectId};
+pub use gix_object::is_within;
 
 /// The number of four bytes at a place.
 pub fn number_at(bytes: &[u8], place: usize) -> u32
@@ -73,14 +74,4 @@ pub fn trailer_place(kind: Kind, bytes: &[u8]) -> usize
     ensures place { result ≡ place_of_trailer kind bytes.now }
 {
     bytes.len() - kind.len_in_bytes()
-}
-
-/// Whether a size is within a limit, if there is one.
-pub fn is_within(limit: Option<u64>, size: u64) -> bool
-    ensures within { result ≡ size_is_within limit size }
-{
-    match limit {
-        None => true,
-        Some(limit) => size <= limit,
-    }
 }
