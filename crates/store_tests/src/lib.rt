@@ -24,6 +24,8 @@ mod real_disk;
 #[cfg(test)]
 mod same_calls_from_a_source;
 #[cfg(test)]
+mod uses;
+#[cfg(test)]
 mod words;
 #[cfg(test)]
 mod written_and_refused;

@@ -1,0 +1,74 @@
+-- What callers tell of objects that they write: what was done to the disk, and why one wasn't kept or copied.
+use Rattle.std.specs.Prelude.{⊤, ◌≡◌, ℕ, Bool, true, false, List, length, Option, Some, None, Result, Ok, Err, IfSome}
+use Rattle.odb_base.specs.Faults.{Rose}
+use Rattle.odb_tree.specs.Tree.{State}
+use Rattle.gix_hash.specs.declared.object_id.ObjectId.{ObjectId}
+use Rattle.gix_object.specs.Id.{object_id}
+use Rattle.gix_object.specs.declared.kind.Kind.{Kind}
+use Rattle.gix_object.specs.declared.kind.Kind.TheVariants.{Blob}
+use Rattle.gix_odb_loose.specs.Answers.{FindRefused}
+use Rattle.gix_odb_loose.specs.Store.{store_hash}
+use Rattle.gix_odb_loose.specs.WriteRuns.{AtHand, WriteRuns, write_head, write_into}
+use Rattle.gix_odb_loose.specs.WriteRuns.ReadBack.{ReadsBack}
+use Rattle.gix_odb_loose.specs.WriteStreams.{OtherLength}
+use Rattle.gix_odb_loose.specs.declared.store.Store.{Store}
+use Rattle.gix_odb_loose.specs.declared.write.Error.{Error as WriteError}
+use Rattle.gix_odb_loose.specs.declared.write.Error.TheVariants as write_errors
+use Rattle.gix_odb_uses.specs.Objects.{IsAbsent, IsHeld}
+use Rattle.gix_odb_uses.specs.declared.error.Error.{Error}
+use Rattle.gix_odb_uses.specs.declared.error.Error.TheVariants.{NotKept, NotRead, NotWritten}
+
+-- What was done to the disk is a write of these bytes into a store, which answered so. `WriteRuns` says what a write does:
+-- an object that is written gets its name last, and a refused write has its cause, makes no name of an object, and leaves no
+-- file but one whose removal was refused too.
+abbrev pub IsWrite : Store → Kind → List ℕ → (known : Option ObjectId) → (before after : Option State) → (faults now : ℕ) → Result ObjectId WriteError → Type 0
+IsWrite store kind bytes known before after faults now answer = WriteRuns (write_into store kind (length bytes) known (AtHand bytes) before after faults now answer)
+
+-- ---- bytes that are kept
+
+abbrev pub blob_id : Store → List ℕ → ObjectId
+blob_id store bytes = object_id (store_hash store) Blob bytes
+
+-- Bytes weren't kept: the write was refused; or they were written, and then the find was refused, or the file doesn't hold
+-- them, where the disk tells its state.
+abbrev pub IsRefusedKeep : Store → List ℕ → (before after : Option State) → (faults now : ℕ) → Error → Type 0
+IsRefusedKeep store bytes before after faults now (NotWritten error) = IsWrite store Blob bytes None before after faults now (Err error)
+IsRefusedKeep store bytes before after faults now (NotRead error) =
+    IsWrite store Blob bytes None before after faults now (Ok (blob_id store bytes)) × FindRefused store (blob_id store bytes) after (Rose faults now) error
+IsRefusedKeep store bytes before after faults now NotKept =
+    IsWrite store Blob bytes None before after faults now (Ok (blob_id store bytes)) × IfSome after (λ s. ¬ (IsHeld store (blob_id store bytes) s Blob bytes))
+
+-- ---- an object that is copied
+
+-- an object of the first store was written into the second one under its id, and the write answered so
+pub record IsCopy (from to : Store) (id : ObjectId) (before after : Option State) (faults now : ℕ) (answer : Result ObjectId WriteError) : Type 0 where
+  pub kind : Kind
+  pub bytes : List ℕ
+  -- the file of the first store holds it, where the disk tells its state
+  pub held : IfSome before (λ s. IsHeld from id s kind bytes)
+  pub written : IsWrite to kind bytes (Some id) before after faults now answer
+
+-- it was copied; or there is none to copy, and nothing was changed
+abbrev pub IsCopied : (from to : Store) → ObjectId → (before after : Option State) → (faults now : ℕ) → Bool → Type 0
+IsCopied from to id before after faults now true = IsCopy from to id before after faults now (Ok id)
+IsCopied from to id before after faults now false = IfSome before (IsAbsent from id) × (after ≡ before)
+
+-- An object that the first store holds can be read at its path in the second one: its header, and then its data, unless a
+-- link was replaced that is crossed on the way of this path.
+abbrev pub CanBeRead : (from to : Store) → ObjectId → State → (after : Option State) → Bool → Type 0
+CanBeRead from to id state after true =
+    (kind : Kind) (bytes : List ℕ) → IsHeld from id state kind bytes → (early : Option State) × (number : ℕ) × ReadsBack (write_head to kind (length bytes)) number id bytes early after
+CanBeRead from to id state after false = ⊤
+
+-- an object wasn't copied: it couldn't be read, and nothing was changed; or it couldn't be written
+abbrev pub IsRefusedCopy : (from to : Store) → ObjectId → (before after : Option State) → (faults now : ℕ) → Error → Type 0
+IsRefusedCopy from to id before after faults now (NotRead error) = FindRefused from id before (Rose faults now) error × (after ≡ before)
+IsRefusedCopy from to id before after faults now (NotWritten error) = IsCopy from to id before after faults now (Err error)
+IsRefusedCopy from to id before after faults now NotKept = ⊥
+
+-- ---- what a source gives
+
+-- a length that isn't the told one is that of what the source had, or one above the told one
+abbrev pub TellsLength : (size : ℕ) → Option (List ℕ) → WriteError → Type 0
+TellsLength size left (write_errors.SizeMismatch expected actual) = (expected ≡ size) × OtherLength left size actual
+TellsLength size left error = ⊤
