@@ -13,7 +13,7 @@ use Rattle.std.proofs.lemmas.Fmt.{digits_decimal}
 use Rattle.odb_base.proofs.DecimalLemmas.{own}
 use Rattle.odb_base.specs.Path.{Path, is_name}
 use Rattle.gix_hash.specs.ObjectId.{IsId, hex_of, kind_of, is_lower_digit, is_lower_text}
-use Rattle.gix_hash.specs.Kind.{len_in_bytes_of}
+use Rattle.gix_hash.specs.Kind.{digits_in, len_in_bytes_of}
 use Rattle.gix_hash.specs.declared.kind.Kind as hash
 use Rattle.gix_hash.specs.declared.kind.Kind.TheVariants.{Sha1, Sha256}
 use Rattle.gix_hash.specs.declared.object_id.ObjectId.{ObjectId}
@@ -45,11 +45,11 @@ halves n text digits =
     and_parts (is_lower_text (take n text)) (is_lower_text (drop n text))
     (sym (list_all-append is_lower_digit (take n text) (drop n text)) ∙ ap is_lower_text (take-append-drop n text) ∙ digits)
 
--- an id has forty hex digits or more
-pub long_hex : (id : ObjectId) → IsId id → 40 ≤ length (hex_of id)
+-- an id has as many hex digits as one of the shorter hash, or more
+pub long_hex : (id : ObjectId) → IsId id → digits_in Sha1 ≤ length (hex_of id)
 long_hex id is = rw (length-hex_of id is) (twice (kind_of id))
   where
-    twice : (kind : hash.Kind) → 40 ≤ 2 * len_in_bytes_of kind
+    twice : (kind : hash.Kind) → digits_in Sha1 ≤ 2 * len_in_bytes_of kind
     twice Sha1 = omega arith
     twice Sha256 = omega arith
 

@@ -1,4 +1,5 @@
 -- What the exchanges of a write show, for callers: its calls are its own, a refused one renamed nothing and left no file, and
+pub mod Own
 pub mod Unmade
 use Rattle.std.specs.Prelude.{◌≡◌, ◌⊎◌, ℕ, zero, suc, ◌<◌, ◌≤◌, ◌&&◌, false, List, [], All, Option, Some, None, refl}
 use Rattle.std.proofs.Common.{inl, inr, sym, ap, ◌∙◌, subst, arith}
@@ -43,7 +44,7 @@ module _ (head : WriteHead) (Named : ObjectId → Type 0) where
 
   -- before a file is made
   module _ (P : Exchange → Type 0) (makes : (n : ℕ) → n < temp_names → (answer : DiskAnswer) → is_done answer ≡ false → P (exchanged (asks.NewFile (temp_path head.objects n)) answer)) where
-    tried_all : (n : ℕ) → n ≤ temp_names → All P (tried head n)
+    pub tried_all : (n : ℕ) → n ≤ temp_names → All P (tried head n)
     unfolding tried
     tried_all zero few = All-nil P
     tried_all (suc n) few = All-push P (tried head n) _ (tried_all n (omega (arith, few))) (makes n (omega (arith, few)) (answers.Refused disk_errors.Exists) refl)
@@ -179,7 +180,7 @@ module _ (head : WriteHead) (Named : ObjectId → Type 0) where
 
     -- some exchanges, and the removal
     module _ (P : Exchange → Type 0) (before past : List Exchange) where
-      removed_all : (number : ℕ) → ((answer : DiskAnswer) → P (exchanged (asks.Remove (temp_path head.objects number)) answer)) → All P before → IsRemovedAfter head (Some number) before past
+      pub removed_all : (number : ℕ) → ((answer : DiskAnswer) → P (exchanged (asks.Remove (temp_path head.objects number)) answer)) → All P before → IsRemovedAfter head (Some number) before past
           → All P past
       removed_all number removes all h = subst (All P) (sym h.1) (All-push P before _ all (removes h.0))
 
@@ -219,48 +220,3 @@ module _ (head : WriteHead) (Named : ObjectId → Type 0) where
           by_number : (number : Option ℕ) → MadeOnly (temporary_of head number) run.before → IsRemovedAfter head number run.before past → LeavesNothing head past
           by_number None made h = inl (subst (λ (xs : List Exchange). MadeOnly None xs) (sym h) made)
           by_number (Some number) made h = cleared number run.before past made h
-
-    -- ---- its own calls
-
-    abbrev Own : ℕ → Exchange → Type 0
-    Own number x = IsOwn head Named number x.ask
-
-    history_own : (stage : WriteStage) (number : ℕ) (appended : List ℕ) (past : List Exchange) → number_made stage ≡ Some number → IsHistory head Named SourceFailed Counted appended stage past
-        → All (Own number) past
-    history_own stage number appended past e h =
-        history_all (Own number) (λ n below answer isnt_done. (n, below, refl)) number (λ below. (number, below, refl)) (λ bytes answer. refl) (λ id named answer. (id, named, refl))
-        (λ id named answer isnt_done. (refl, (id, named, refl))) SourceFailed Counted stage appended past e h
-
-    pub refused_own : (refusal : Refusal) (past : List Exchange) → IsRefusedRun head Named SourceFailed Counted refusal past → AreOwn head Named past
-    refused_own refusal past run =
-        elim run [
-          | inl none ↦ record { number = 0; each = unmade_all (Own 0) (λ n below answer isnt_done. (n, below, refl)) refusal past none }
-          | inr one ↦ record { number = one.0; each = removed_all (Own one.0) one.1 past one.0 (λ answer. refl) (history_own (stages.Removing one.0 refusal) one.0 [] one.1 refl one.2) one.3 }
-        ]
-
-    pub broken_own : (past : List Exchange) → IsBrokenRun head Named SourceFailed Counted past → AreOwn head Named past
-    broken_own past run = by_stage run.stage run.history run.removed
-      where
-        by_number : (stage : WriteStage) (number : ℕ) → number_made stage ≡ Some number → IsHistory head Named SourceFailed Counted run.appended stage run.before
-            → IsRemovedAfter head (Some number) run.before past → AreOwn head Named past
-        by_number stage number e h removed =
-            record { number = number; each = removed_all (Own number) run.before past number (λ answer. refl) (history_own stage number run.appended run.before e h) removed }
-
-        by_stage : (stage : WriteStage) → IsHistory head Named SourceFailed Counted run.appended stage run.before → IsRemovedAfter head (number_made stage) run.before past → AreOwn head Named past
-        by_stage (stages.Making number) h removed =
-            record { number = 0; each = subst (All (Own 0)) (sym (removed ∙ h.2)) (tried_all (Own 0) (λ n below answer isnt_done. (n, below, refl)) number (omega (arith, h.0))) }
-        by_stage (stages.Heading number) h removed = by_number (stages.Heading number) number refl h removed
-        by_stage (stages.Filling number written) h removed = by_number (stages.Filling number written) number refl h removed
-        by_stage (stages.Foldering number id) h removed = by_number (stages.Foldering number id) number refl h removed
-        by_stage (stages.Moving number id) h removed = by_number (stages.Moving number id) number refl h removed
-        by_stage (stages.Removing number refusal) h removed = by_number (stages.Removing number refusal) number refl h removed
-
-  pub moved_own : (number : ℕ) (id : ObjectId) (appended : List ℕ) (past : List Exchange) → Named id → IsMoved head number id appended past → AreOwn head Named past
-  moved_own number id appended past named h =
-      record {
-        number = number;
-        each =
-            moved_all (λ (x : Exchange). IsOwn head Named number x.ask) (λ n below answer isnt_done. (n, below, refl)) number (λ below. (number, below, refl)) (λ bytes answer. refl)
-            (λ i n answer. (i, n, refl)) (λ i n answer isnt_done. (refl, (i, n, refl))) id appended past named
-            (refl, (id, named, refl)) h;
-      }

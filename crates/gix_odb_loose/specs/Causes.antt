@@ -120,13 +120,14 @@ pub record AppendsOther (head : WriteHead) (Done : DiskAsk → Type 0) (actual :
   pub counted : CountsOther head.size (concat pieces) actual
 
 -- What each error of a write says, where `Named id` says that the object gets this id, and `Counted actual` that there
--- were so many bytes of data, and not as many as were told: so many were appended. A file is renamed that was made, after the directory of the
--- object was made or was there.
+-- were so many bytes of data, and not as many as were told: so many were appended. A file is renamed that was made, after the
+-- directory of the object was made or was there.
 abbrev pub WriteCause : WriteHead → (Named : ObjectId → Type 0) (Refuses Exists Done : DiskAsk → Type 0) (SourceFailed Wanting : Type 0) (Counted : ℕ → Type 0) → WriteError → Type 0
 WriteCause head Named Refuses Exists Done SourceFailed Wanting Counted (write_errors.Io message at) = (at ≡ head.objects) × IoCause head Refuses Exists Done SourceFailed message
 WriteCause head Named Refuses Exists Done SourceFailed Wanting Counted write_errors.IoRaw = (id : ObjectId) × Named id × Refuses (asks.MakeDir (prefix_path head.objects id))
 WriteCause head Named Refuses Exists Done SourceFailed Wanting Counted (write_errors.Persist target) =
     (id : ObjectId) × Named id × (target ≡ loose_path head.objects id)
-    × ((number : ℕ) × Done (asks.NewFile (temp_path head.objects number)) × (Done (asks.MakeDir (prefix_path head.objects id)) ⊎ Exists (asks.MakeDir (prefix_path head.objects id))) × Refuses (asks.Rename (temp_path head.objects number) target))
+    × ((number : ℕ) × Done (asks.NewFile (temp_path head.objects number))
+    × (Done (asks.MakeDir (prefix_path head.objects id)) ⊎ Exists (asks.MakeDir (prefix_path head.objects id))) × Refuses (asks.Rename (temp_path head.objects number) target))
 WriteCause head Named Refuses Exists Done SourceFailed Wanting Counted (write_errors.SizeMismatch expected actual) = (expected ≡ head.size) × Counted actual × AppendsOther head Done actual
 WriteCause head Named Refuses Exists Done SourceFailed Wanting Counted write_errors.NoMemory = Wanting

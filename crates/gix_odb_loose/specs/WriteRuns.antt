@@ -141,4 +141,5 @@ pub record WriteRuns (w : Write) : Type 0 where
   pub untouched : (at : Path) → w.answer ≡ Err (errors.Io messages.CreateTempFile at) → w.state_now ≡ w.state
   -- and it has its cause
   pub refused : (error : Error) → w.answer ≡ Err error
-      → WriteCause w.head (GetsName w) (Refuses w.state (Rose w.faults w.faults_now) exchanges) (FoundThere exchanges) (DoneIn exchanges) (HasFailed w.content) ⊤ (OtherLength (bytes_told w.content) w.head.size) error
+      → WriteCause w.head (GetsName w) (Refuses w.state (Rose w.faults w.faults_now) exchanges) (FoundThere exchanges) (DoneIn exchanges) (HasFailed w.content) ⊤
+      (OtherLength (bytes_told w.content) w.head.size) error

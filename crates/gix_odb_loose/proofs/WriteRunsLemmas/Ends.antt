@@ -28,7 +28,8 @@ use Rattle.gix_odb_loose.specs.StreamJobs.AtStage.{IsNew}
 use Rattle.gix_odb_loose.specs.StreamJobs.Standing.{IsAtItsEnd, IsBrokenOff}
 use Rattle.gix_odb_loose.specs.StreamJobs.{IsToldBy, IsUnderway}
 use Rattle.gix_odb_loose.specs.WriteStreams.{IsAtEnd, OtherLength, TakesFrom}
-use Rattle.gix_odb_loose.proofs.WriteShownLaws.{refused_unnamed, refused_cleared, refused_own, broken_unnamed, broken_cleared, broken_own, moved_own}
+use Rattle.gix_odb_loose.proofs.WriteShownLaws.{refused_unnamed, refused_cleared, broken_unnamed, broken_cleared}
+use Rattle.gix_odb_loose.proofs.WriteShownLaws.Own.{refused_own, broken_own, moved_own}
 use Rattle.gix_odb_loose.proofs.WriteMadeLaws.{moved_below}
 use Rattle.gix_odb_loose.proofs.WriteShownLaws.Unmade.{unmade_left}
 use Rattle.gix_odb_loose.proofs.WriteCauseLaws.{refused_cause}
