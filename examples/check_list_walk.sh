@@ -31,6 +31,7 @@ check() {
 mkdir -p t/b/c t/a
 ln -s .. t/b/l
 no_words='list_walk: no such words: list_walk --help tells which there are '
+no_way='list_walk: `..` behind a name isn'"'"'t followed: a link may stand in its place '
 
 # Shows an option that is taken for another, a word that is passed over, and an error that leaves the status at 0.
 check <<ROWS
@@ -41,13 +42,15 @@ check <<ROWS
 0|@/t --sort --min-depth 1 --max-depth 1|@/t/a @/t/b |
 0|@/t --max-depth 9 --max-depth 0 --same-file-system|@/t |
 2|@/x||list_walk: IO error for operation on @/x: Absent (No such file or directory) 
-1||words not understood |$no_words
+1||words not understood |list_walk: no words: list_walk --help tells which there are 
 1|@/t --frob|words not understood |$no_words
 1|@/t --max-open|words not understood |$no_words
 1|@/t --max-open x|words not understood |$no_words
 1|--sort|words not understood |$no_words
 1|-h|words not understood |$no_words
-1|help --version --help|words not understood |$no_words
+1|help|words not understood |$no_words
+0|@/t --max-depth --version --help|list_walk 0.1.0 |
+2|@/t/a -- --version|@/t/a |list_walk: IO error for operation on @/--version: Absent (No such file or directory) 
 ROWS
 
 # Options before, between and behind folders, numbers behind \`=\`, folders behind \`--\`, and entries that end by NUL.
@@ -73,7 +76,8 @@ check <<ROWS
 0|t --max-depth 0|@/t |
 0|t/ ./t ./t/./a// --max-depth 0|@/t @/t @/t/a |
 0|@//t/a/ --max-depth 0|@/t/a |
-1|t/../t|words not understood |$no_words
+1|t/../t|words not understood |$no_way
+1|./t/a/../.. -0|words not understood |$no_way
 ROWS
 (
     cd t/b || exit 1
@@ -87,6 +91,14 @@ ROWS
 
 [ "$("$program" --help | head -n 1)" = 'usage: list_walk FOLDER.. [OPTION..]' ] || fail "--help begins with something else"
 [ "$("$program" --version)" = 'list_walk 0.1.0' ] || fail "another version"
+
+[ "$("$program" "$folder/t" --help -- --version)" = "$("$program" --help)" ] || fail "--help behind a folder is something else"
+
+# Shows an error that stands without words: no name is that long.
+name=$(printf '%0300d' 0)
+check <<ROWS
+2|@/$name||list_walk: IO error for operation on @/$name: Failed (refused by the system) 
+ROWS
 
 # Shows an item that is lost without an order.
 "$program" "$folder/t" | LC_ALL=C sort | diff <("$program" "$folder/t" --sort | LC_ALL=C sort) - || fail "unsorted"
@@ -119,7 +131,7 @@ printf '%s\n' "$folder/wide" "$folder"/wide/* >listing
 
 # Shows a failed write that is passed over: of the first piece, of the words that aren't understood, and of the last piece.
 "$program" "$folder/wide" --sort >/dev/full 2>told
-[ $? = 4 ] && [ "$(cat told)" = "list_walk: an output can't be written" ] || fail "the first write is passed over"
+[ $? = 4 ] && [ "$(cat told)" = "list_walk: standard output can't be written" ] || fail "the first write is passed over"
 "$program" --frob >/dev/full 2>/dev/null
 [ $? = 4 ] || fail "the refusal's write is passed over"
 (

@@ -14,9 +14,10 @@ use Rattle.list_walk.specs.declared.line.LineError.{LineError}
 use Rattle.list_walk.specs.declared.line.LineError.TheVariants as errors
 use Rattle.list_walk.specs.declared.status.Status.{Status}
 use Rattle.list_walk.specs.declared.status.Status.TheVariants as statuses
+use Rattle.list_walk.specs.declared.command.Command.{Command}
+use Rattle.list_walk.specs.declared.command.Command.TheVariants.{Walk, Help, Version, NotUnderstood}
+use Rattle.list_walk.specs.declared.misread.Misread.{Misread}
 use Rattle.list_walk.specs.declared.words.Asked.{Asked}
-use Rattle.list_walk.specs.declared.words.Command.{Command}
-use Rattle.list_walk.specs.declared.words.Command.TheVariants.{Walk, Help, Version, NotUnderstood}
 
 -- ---- the ends
 
@@ -29,28 +30,29 @@ ends_ok s asked status asks visits =
 
 pub ends_walks : (s : Session) (asked : Asked) (result : Result Status LineError) → s.command ≡ Walk asked
     → EndsAll (record { choices = asked.choices; state = s.state; folders = asked.folders; first = first_of s; last = last_of s }) result
-    → (IsErrOf result errors.Failed → Rose s.output.faults s.output.faults' ⊎ Rose s.errors.faults s.errors.faults') → Ends s (status_by result)
-ends_walks s asked (Ok status) asks visits rose = ends_ok s asked status asks visits
-ends_walks s asked (Err errors.Failed) asks visits rose = (rose refl, inl (record { asked = asked; asks = asks; visits = visits }))
-ends_walks s asked (Err errors.NoMemory) asks visits rose = inr (record { asked = asked; asks = asks; visits = visits })
+    → (IsErrOf result errors.OutputFailed → Rose s.output.faults s.output.faults') → (IsErrOf result errors.ErrorsFailed → Rose s.errors.faults s.errors.faults') → Ends s (status_by result)
+ends_walks s asked (Ok status) asks visits output told = ends_ok s asked status asks visits
+ends_walks s asked (Err errors.OutputFailed) asks visits output told = (output refl, inl (record { asked = asked; asks = asks; visits = visits }))
+ends_walks s asked (Err errors.ErrorsFailed) asks visits output told = (told refl, record { asked = asked; asks = asks; visits = visits })
+ends_walks s asked (Err errors.NoMemory) asks visits output told = inr (record { asked = asked; asks = asks; visits = visits })
 
 -- the same, where the words ask it in other terms
 pub ends_asked : (s : Session) (asked : Asked) (result : Result Status LineError) (status : Status) → s.command ≡ Walk asked → status ≡ status_by result
     → EndsAll (record { choices = asked.choices; state = s.state; folders = asked.folders; first = first_of s; last = last_of s }) result
-    → (IsErrOf result errors.Failed → Rose s.output.faults s.output.faults' ⊎ Rose s.errors.faults s.errors.faults') → Ends s status
-ends_asked s asked result status asks is visits rose = subst (Ends s) (sym is) (ends_walks s asked result asks visits rose)
+    → (IsErrOf result errors.OutputFailed → Rose s.output.faults s.output.faults') → (IsErrOf result errors.ErrorsFailed → Rose s.errors.faults s.errors.faults') → Ends s status
+ends_asked s asked result status asks is visits output told = subst (Ends s) (sym is) (ends_walks s asked result asks visits output told)
 
 -- a text about the program ends as it is delivered
 module _ (s : Session) (text : List ℕ) (result : Status) (quiet : Wrote s.errors []) where
   ends_text : TextOf s s.command text statuses.Done → Delivers statuses.WriteFault s.output text statuses.Done result → Ends s result
   ends_text of (inl all) = subst (Ends s) (sym all.0) (inr (record { text = text; is = of; wrote = all.1; quiet = quiet }))
   ends_text of (inr failed) =
-      subst (Ends s) (sym failed.0) (inl failed.1, inr (record { text = text; status = statuses.Done; is = of; wrote = failed.2; quiet = quiet }))
+      subst (Ends s) (sym failed.0) (failed.1, inr (record { text = text; status = statuses.Done; is = of; wrote = failed.2; quiet = quiet }))
 
-  ends_refused : TextOf s s.command text statuses.NotUnderstood → Delivers statuses.WriteFault s.output text statuses.NotUnderstood result → Ends s result
-  ends_refused of (inl all) = subst (Ends s) (sym all.0) (record { text = text; is = of; wrote = all.1; quiet = quiet })
-  ends_refused of (inr failed) =
-      subst (Ends s) (sym failed.0) (inl failed.1, inr (record { text = text; status = statuses.NotUnderstood; is = of; wrote = failed.2; quiet = quiet }))
+  ends_refused : (why : Misread) → TextOf s s.command text (statuses.NotUnderstood why) → Delivers statuses.WriteFault s.output text (statuses.NotUnderstood why) result → Ends s result
+  ends_refused why of (inl all) = subst (Ends s) (sym all.0) (record { text = text; is = of; wrote = all.1; quiet = quiet })
+  ends_refused why of (inr failed) =
+      subst (Ends s) (sym failed.0) (failed.1, inr (record { text = text; status = statuses.NotUnderstood why; is = of; wrote = failed.2; quiet = quiet }))
 
 pub ends_help : (s : Session) (result : Status) → s.command ≡ Help → Wrote s.errors [] → Delivers statuses.WriteFault s.output s.help statuses.Done result → Ends s result
 ends_help s result is quiet = ends_text s s.help result quiet (subst (λ c. TextOf s c s.help statuses.Done) (sym is) (refl, refl))
@@ -58,8 +60,9 @@ ends_help s result is quiet = ends_text s s.help result quiet (subst (λ c. Text
 pub ends_version : (s : Session) (result : Status) → s.command ≡ Version → Wrote s.errors [] → Delivers statuses.WriteFault s.output s.version statuses.Done result → Ends s result
 ends_version s result is quiet = ends_text s s.version result quiet (subst (λ c. TextOf s c s.version statuses.Done) (sym is) (refl, refl))
 
-pub ends_not_understood : (s : Session) (result : Status) → s.command ≡ NotUnderstood → Wrote s.errors [] → Delivers statuses.WriteFault s.output s.refusal statuses.NotUnderstood result → Ends s result
-ends_not_understood s result is quiet = ends_refused s s.refusal result quiet (subst (λ c. TextOf s c s.refusal statuses.NotUnderstood) (sym is) (refl, refl))
+pub ends_not_understood : (s : Session) (why : Misread) (result : Status) → s.command ≡ NotUnderstood why → Wrote s.errors []
+    → Delivers statuses.WriteFault s.output s.refusal (statuses.NotUnderstood why) result → Ends s result
+ends_not_understood s why result is quiet = ends_refused s s.refusal result quiet why (subst (λ c. TextOf s c s.refusal (statuses.NotUnderstood why)) (sym is) (refl, refl))
 
 -- ---- streams
 

@@ -83,8 +83,9 @@ ends_visit : (v : Visit) (result : Result Status LineError) → EndsWritten (lis
 ends_visit v (Ok statuses.Done) wrote = whole_listed v statuses.Done wrote
 ends_visit v (Ok statuses.SomeErrors) wrote = whole_listed v statuses.SomeErrors wrote
 ends_visit v (Ok statuses.NoMemory) wrote = front_cut v wrote
-ends_visit v (Ok statuses.NotUnderstood) wrote = absurd wrote
+ends_visit v (Ok (statuses.NotUnderstood why)) wrote = absurd wrote
 ends_visit v (Ok statuses.WriteFault) wrote = absurd wrote
+ends_visit v (Ok statuses.ErrorFault) wrote = absurd wrote
 ends_visit v (Err error) wrote = front_cut v wrote
 
 first_is : {T : Type 0} (order : T → Order) (folder : Path) (choices : Choices) (walk : Built T) (streams : Streams) → walk.root ≡ folder → walk.options ≡ options_of choices → option_map order walk.sorter ≡ order_by choices.sort

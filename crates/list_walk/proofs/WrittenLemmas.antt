@@ -167,8 +167,9 @@ pub ends_whole : (o : Listing) (status : Status) → IsWhole o status → EndsWr
 ends_whole o statuses.Done w = w
 ends_whole o statuses.SomeErrors w = w
 ends_whole o statuses.NoMemory w = absurd (elim (listing (list_any is_error w.items) statuses.NoMemory w.status_is) [ inl is ↦ cc is | inr is ↦ cc is ])
-ends_whole o statuses.NotUnderstood w = absurd (elim (listing (list_any is_error w.items) statuses.NotUnderstood w.status_is) [ inl is ↦ cc is | inr is ↦ cc is ])
+ends_whole o (statuses.NotUnderstood why) w = absurd (elim (listing (list_any is_error w.items) (statuses.NotUnderstood why) w.status_is) [ inl is ↦ cc is | inr is ↦ cc is ])
 ends_whole o statuses.WriteFault w = absurd (elim (listing (list_any is_error w.items) statuses.WriteFault w.status_is) [ inl is ↦ cc is | inr is ↦ cc is ])
+ends_whole o statuses.ErrorFault w = absurd (elim (listing (list_any is_error w.items) statuses.ErrorFault w.status_is) [ inl is ↦ cc is | inr is ↦ cc is ])
 
 pub ends_cut : (o : Listing) (result : Result Status LineError) → IsErr result → IsFront o → EndsWritten o result
 ends_cut o (Ok status) is_err front = absurd (IfOk-from_err {E = LineError} (Ok status) (λ _. ⊥) is_err)

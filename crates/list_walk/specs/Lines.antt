@@ -55,7 +55,7 @@ unfoldable pub line_of : Bool → Item → List ℕ
 line_of nul (Ok entry) = text_of entry.path ++ end_of nul
 line_of nul (Err error) = []
 
--- the system's words for a disk's error; a disk that failed doesn't keep them
+-- the system's words for a disk's error; a disk that failed doesn't keep them, and others stand in their place
 abbrev pub system_words : Option DiskError → List ℕ
 system_words None = []
 system_words (Some refusals.Absent) = codes " (No such file or directory)"
@@ -63,7 +63,7 @@ system_words (Some refusals.WrongKind) = codes " (Not a directory)"
 system_words (Some refusals.LinkLoop) = codes " (Too many levels of symbolic links)"
 system_words (Some refusals.Exists) = codes " (File exists)"
 system_words (Some refusals.NotEmpty) = codes " (Directory not empty)"
-system_words (Some refusals.Failed) = []
+system_words (Some refusals.Failed) = codes " (refused by the system)"
 system_words (Some refusals.NoMemory) = codes " (Cannot allocate memory)"
 
 -- What is written of it on standard error: the text of an error behind the program's name, and the system's words. Nothing
@@ -134,6 +134,7 @@ abbrev pub EndsWritten : Listing → Result Status LineError → Type 0
 EndsWritten o (Ok statuses.Done) = IsWhole o statuses.Done
 EndsWritten o (Ok statuses.SomeErrors) = IsWhole o statuses.SomeErrors
 EndsWritten o (Ok statuses.NoMemory) = IsFront o
-EndsWritten o (Ok statuses.NotUnderstood) = ⊥
+EndsWritten o (Ok (statuses.NotUnderstood why)) = ⊥
 EndsWritten o (Ok statuses.WriteFault) = ⊥
+EndsWritten o (Ok statuses.ErrorFault) = ⊥
 EndsWritten o (Err error) = IsFront o

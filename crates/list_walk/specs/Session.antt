@@ -9,9 +9,9 @@ use Rattle.list_walk.specs.Asked.{options_of}
 use Rattle.list_walk.specs.Visits.{Moment, Visits, VisitsCut}
 use Rattle.list_walk.specs.declared.line.LineError.{LineError}
 use Rattle.list_walk.specs.declared.line.LineError.TheVariants as errors
+use Rattle.list_walk.specs.declared.command.Command.{Command}
+use Rattle.list_walk.specs.declared.command.Command.TheVariants.{Walk, Help, Version, NotUnderstood}
 use Rattle.list_walk.specs.declared.words.Asked.{Asked}
-use Rattle.list_walk.specs.declared.words.Command.{Command}
-use Rattle.list_walk.specs.declared.words.Command.TheVariants.{Walk, Help, Version, NotUnderstood}
 use Rattle.list_walk.specs.declared.status.Status.{Status}
 use Rattle.list_walk.specs.declared.status.Status.TheVariants as statuses
 
@@ -53,7 +53,7 @@ abbrev pub TextOf : Session → Command → List ℕ → Status → Type 0
 TextOf s (Walk asked) text status = ⊥
 TextOf s Help text status = (text ≡ s.help) × (status ≡ statuses.Done)
 TextOf s Version text status = (text ≡ s.version) × (status ≡ statuses.Done)
-TextOf s NotUnderstood text status = (text ≡ s.refusal) × (status ≡ statuses.NotUnderstood)
+TextOf s (NotUnderstood why) text status = (text ≡ s.refusal) × (status ≡ statuses.NotUnderstood why)
 
 -- such a text was written, and nothing on standard error
 pub record Texts (s : Session) (status : Status) : Type 0 where
@@ -74,14 +74,16 @@ pub record TextCut (s : Session) : Type 0 where
 abbrev pub Ends : Session → Status → Type 0
 Ends s statuses.Done = AllListed s statuses.Done ⊎ Texts s statuses.Done
 Ends s statuses.SomeErrors = AllListed s statuses.SomeErrors
-Ends s statuses.NotUnderstood = Texts s statuses.NotUnderstood
-Ends s statuses.WriteFault = (Rose s.output.faults s.output.faults' ⊎ Rose s.errors.faults s.errors.faults') × (ListedCut s ⊎ TextCut s)
+Ends s (statuses.NotUnderstood why) = Texts s (statuses.NotUnderstood why)
+Ends s statuses.WriteFault = Rose s.output.faults s.output.faults' × (ListedCut s ⊎ TextCut s)
+Ends s statuses.ErrorFault = Rose s.errors.faults s.errors.faults' × ListedCut s
 Ends s statuses.NoMemory = (Wrote s.output [] × Wrote s.errors []) ⊎ ListedCut s
 
 -- the status that a failed line comes to
 abbrev pub status_by : Result Status LineError → Status
 status_by (Ok status) = status
-status_by (Err errors.Failed) = statuses.WriteFault
+status_by (Err errors.OutputFailed) = statuses.WriteFault
+status_by (Err errors.ErrorsFailed) = statuses.ErrorFault
 status_by (Err errors.NoMemory) = statuses.NoMemory
 
 -- The disk's streams after a session: as they were. The walks had no more of their own than `max_open` at one time.

@@ -1,13 +1,13 @@
 -- What the words of the command line ask for: folders and options, in any order.
-use Rattle.std.specs.Prelude.{ℕ, ◌==◌, Bool, true, false, List, [], ◌∷◌, ◌++◌, codes, nat_eq, Option, Some, None, if◌then◌else◌}
+use Rattle.std.specs.Prelude.{ℕ, ◌==◌, Bool, true, false, List, [], ◌∷◌, ◌++◌, codes, nat_eq, Option, Some, None, Result, Ok, Err, if◌then◌else◌}
 use Rattle.std.specs.List.{before_first, after_first, starts_with}
 use Rattle.odb_base.specs.Decimal.{number_of}
 use Rattle.odb_base.specs.Path.{Path, same_name}
 use Rattle.list_walk.specs.Folder.{folder_of}
+use Rattle.list_walk.specs.declared.misread.Misread.{Misread}
+use Rattle.list_walk.specs.declared.misread.Misread.TheVariants.{NoSuchWords}
 use Rattle.list_walk.specs.declared.words.Asked.{Asked}
 use Rattle.list_walk.specs.declared.words.Choices.{Choices}
-use Rattle.list_walk.specs.declared.words.Command.{Command}
-use Rattle.list_walk.specs.declared.words.Command.TheVariants.{Walk, Help, Version, NotUnderstood}
 use Rattle.list_walk.specs.declared.words.Count.{Count}
 use Rattle.list_walk.specs.declared.words.Count.TheVariants.{MaxOpen, MinDepth, MaxDepth}
 use Rattle.list_walk.specs.declared.words.Next.{Next}
@@ -57,9 +57,9 @@ counted choices MaxDepth number = record choices { max_depth = Some number }
 abbrev pub no_words : Words
 no_words = record { folders = []; choices = no_choices; next = Any }
 
-abbrev pub with_folder : Words → Option Path → Option Words
-with_folder words None = None
-with_folder words (Some path) = Some (record words { folders = words.folders ++ path ∷ [] })
+abbrev pub with_folder : Words → Result Path Misread → Result Words Misread
+with_folder words (Err why) = Err why
+with_folder words (Ok path) = Ok (record words { folders = words.folders ++ path ∷ [] })
 
 -- the number of an option, behind which any word may stand again
 abbrev pub with_number : Words → Count → Option ℕ → Option Words
@@ -92,61 +92,44 @@ with_option words word =
 abbrev pub is_option : List ℕ → Bool
 is_option word = starts_with nat_eq word (codes "-")
 
-abbrev pub with_any : Option Path → Words → List ℕ → Option Words
-with_any home words word = if is_option word then with_option words word else with_folder words (folder_of home word)
+abbrev pub or_no_such : Option Words → Result Words Misread
+or_no_such None = Err NoSuchWords
+or_no_such (Some words) = Ok words
+
+abbrev pub with_any : Option Path → Words → List ℕ → Result Words Misread
+with_any home words word = if is_option word then or_no_such (with_option words word) else with_folder words (folder_of home word)
 
 -- by what the word may be
-abbrev pub with_word : Option Path → Next → Words → List ℕ → Option Words
+abbrev pub with_word : Option Path → Next → Words → List ℕ → Result Words Misread
 with_word home Any words word = with_any home words word
-with_word home (Number count) words word = with_number words count (number_of word)
+with_word home (Number count) words word = or_no_such (with_number words count (number_of word))
 with_word home Folder words word = with_folder words (folder_of home word)
 
-abbrev pub read_on : (Words → Option Words) → Option Words → Option Words
-read_on further None = None
-read_on further (Some words) = further words
+abbrev pub read_on : (Words → Result Words Misread) → Result Words Misread → Result Words Misread
+read_on further (Err why) = Err why
+read_on further (Ok words) = further words
 
--- words one after the other, where each is understood
-unfoldable pub words_of : Option Path → Words → List (List ℕ) → Option Words
-words_of home read [] = Some read
+-- words one after the other, up to the first that isn't understood
+unfoldable pub words_of : Option Path → Words → List (List ℕ) → Result Words Misread
+words_of home read [] = Ok read
 words_of home read (word ∷ words) = read_on (λ more. words_of home more words) (with_word home read.next read word)
 
 -- ---- what they ask
 
 -- no number may be missing
-abbrev pub asked_by_next : Next → List Path → Choices → Option Asked
-asked_by_next Any folders choices = Some (record { folders = folders; choices = choices })
-asked_by_next Folder folders choices = Some (record { folders = folders; choices = choices })
-asked_by_next (Number count) folders choices = None
+abbrev pub asked_by_next : Next → List Path → Choices → Result Asked Misread
+asked_by_next Any folders choices = Ok (record { folders = folders; choices = choices })
+asked_by_next Folder folders choices = Ok (record { folders = folders; choices = choices })
+asked_by_next (Number count) folders choices = Err NoSuchWords
 
 -- and a folder has to be named
-abbrev pub asked_with : Next → List Path → Choices → Option Asked
-asked_with next [] choices = None
+abbrev pub asked_with : Next → List Path → Choices → Result Asked Misread
+asked_with next [] choices = Err NoSuchWords
 asked_with next (folder ∷ folders) choices = asked_by_next next (folder ∷ folders) choices
 
-abbrev pub asked_by : Option Words → Option Asked
-asked_by None = None
-asked_by (Some words) = asked_with words.next words.folders words.choices
+abbrev pub asked_by : Result Words Misread → Result Asked Misread
+asked_by (Err why) = Err why
+asked_by (Ok words) = asked_with words.next words.folders words.choices
 
-abbrev pub asked_of : Option Path → List (List ℕ) → Option Asked
+abbrev pub asked_of : Option Path → List (List ℕ) → Result Asked Misread
 asked_of home words = asked_by (words_of home no_words words)
-
-abbrev pub command_with : Option Asked → Command
-command_with None = NotUnderstood
-command_with (Some asked) = Walk asked
-
--- a single word that asks about the program
-abbrev pub about : List (List ℕ) → Option Command
-about [] = None
-about (word ∷ []) =
-    if same_name word (codes "--help") then Some Help
-    else if same_name word (codes "--version") then Some Version
-    else None
-about (word ∷ other ∷ words) = None
-
-abbrev pub command_or : Option Command → Option Asked → Command
-command_or (Some command) asked = command
-command_or None asked = command_with asked
-
--- what the words of the command line ask for
-abbrev pub command_of : Option Path → List (List ℕ) → Command
-command_of home words = command_or (about words) (asked_of home words)

@@ -3,6 +3,7 @@ ghost use Rattle.std.specs.Prelude.{◌≡◌, ◌==◌, true, map, IfOk};
 ghost use Rattle.std.specs.List.{slice_split};
 ghost use Rattle.list_walk.specs.Folder.{above, along, folder_of, is_absolute, led, led_from, or_same, start_of, with_part};
 
+use crate::misread::Misread;
 use odb_base::NoMemory;
 use odb_disk::{BadPath, PathText};
 use std::alloc::{AllocError, Global};
@@ -17,21 +18,22 @@ pub struct Way {
 
 /// The path of a folder by its name: absolute, or behind `home`, where that is known.
 ///
-/// Empty parts and `.` lead nowhere, so that slashes may stand twice and at the end. `..` leads up at the front.
+/// Empty parts and `.` lead nowhere, so that slashes may stand twice and at the end. `..` leads up at the front; behind a
+/// name it isn't followed.
 #[tactic(auto, unfolding(crate::specs::Folder::folder_of))]
 pub fn folder_of(
     alloc: Global,
     home: &Option<PathText>,
     name: &str,
-) -> Result<Option<PathText>, NoMemory>
+) -> Result<Result<PathText, Misread>, NoMemory>
     ensures folder { IfOk result (λ folder. folder ≡ folder_of home.now name.now) }
 {
     if name.is_empty() {
-        return Ok(None);
+        return Ok(Err(Misread::NoSuchWords));
     }
     match start_of(alloc, home, name)? {
         Some(start) => led_from(alloc, start, name),
-        None => Ok(None),
+        None => Ok(Err(Misread::NoSuchWords)),
     }
 }
 
@@ -60,7 +62,11 @@ fn is_absolute(name: &str) -> bool
 }
 
 /// The path that the parts of a name lead to.
-fn led_from(alloc: Global, start: PathText, name: &str) -> Result<Option<PathText>, NoMemory>
+fn led_from(
+    alloc: Global,
+    start: PathText,
+    name: &str,
+) -> Result<Result<PathText, Misread>, NoMemory>
     ensures path { IfOk result (λ path. path ≡ led_from start name.now) }
 {
     let parts = parts_of(alloc, name)?;
@@ -69,8 +75,8 @@ fn led_from(alloc: Global, start: PathText, name: &str) -> Result<Option<PathTex
         is_front: true,
     };
     match led(alloc, way, &parts)? {
-        Some(way) => Ok(Some(way.path)),
-        None => Ok(None),
+        Ok(way) => Ok(Ok(way.path)),
+        Err(why) => Ok(Err(why)),
     }
 }
 
@@ -83,40 +89,40 @@ fn parts_of<'a>(alloc: Global, text: &'a str) -> Result<Vec<&'a str>, AllocError
 
 /// Where parts lead.
 #[tactic(auto, unfolding(crate::specs::Folder::led))]
-fn led(alloc: Global, start: Way, parts: &[&str]) -> Result<Option<Way>, NoMemory>
+fn led(alloc: Global, start: Way, parts: &[&str]) -> Result<Result<Way, Misread>, NoMemory>
     ensures way { IfOk result (λ way. way ≡ led start (map (λ part. part.now) parts.now)) }
 {
     let mut way = start;
     let mut rest = parts;
     while let [part, more @ ..] = rest {
         match with_part(alloc, way, part)? {
-            Some(next) => way = next,
-            None => return Ok(None),
+            Ok(next) => way = next,
+            Err(why) => return Ok(Err(why)),
         }
         rest = more;
     }
-    Ok(Some(way))
+    Ok(Ok(way))
 }
 
 /// Where one part leads.
-fn with_part(alloc: Global, way: Way, part: &str) -> Result<Option<Way>, NoMemory>
+fn with_part(alloc: Global, way: Way, part: &str) -> Result<Result<Way, Misread>, NoMemory>
     ensures way { IfOk result (λ next. next ≡ with_part way part.now) }
 {
     match part {
-        "" | "." => Ok(Some(way)),
+        "" | "." => Ok(Ok(way)),
         ".." => going_up(alloc, way),
         _ => going_on(alloc, way, part),
     }
 }
 
-fn going_up(alloc: Global, way: Way) -> Result<Option<Way>, NoMemory>
+fn going_up(alloc: Global, way: Way) -> Result<Result<Way, Misread>, NoMemory>
     ensures way { IfOk result (λ next. next ≡ above way) }
 {
     if !way.is_front {
-        return Ok(None);
+        return Ok(Err(Misread::UpBehindName));
     }
     let up = way.path.parent(alloc)?;
-    Ok(Some(or_same(way, up)))
+    Ok(Ok(or_same(way, up)))
 }
 
 /// The way at a path, or as it is.
@@ -129,15 +135,15 @@ fn or_same(mut way: Way, path: Option<PathText>) -> Way
     way
 }
 
-fn going_on(alloc: Global, way: Way, name: &str) -> Result<Option<Way>, NoMemory>
+fn going_on(alloc: Global, way: Way, name: &str) -> Result<Result<Way, Misread>, NoMemory>
     ensures way { IfOk result (λ next. next ≡ along way name.now) }
 {
     match way.path.join(alloc, name) {
-        Ok(path) => Ok(Some(Way {
+        Ok(path) => Ok(Ok(Way {
             path,
             is_front: false,
         })),
-        Err(BadPath::Malformed) => Ok(None),
+        Err(BadPath::Malformed) => Ok(Err(Misread::NoSuchWords)),
         Err(BadPath::NoMemory) => Err(NoMemory),
     }
 }

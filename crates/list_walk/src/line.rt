@@ -22,7 +22,10 @@ pub struct Lines {
 /// Why a line wasn't written.
 #[derive(Clone, Copy)]
 pub enum LineError {
-    Failed,
+    /// The sink of entries failed.
+    OutputFailed,
+    /// The sink of errors failed.
+    ErrorsFailed,
     NoMemory,
 }
 
@@ -37,19 +40,20 @@ impl From<AllocError> for LineError {
     }
 }
 
+/// A failed sink is that of entries, unless it is told apart.
 impl From<Failed> for LineError {
     ghost use Rattle.std.specs.Prelude.{◌≡◌};
-    ghost use Rattle.list_walk.specs.declared.line.LineError.TheVariants.{Failed};
+    ghost use Rattle.list_walk.specs.declared.line.LineError.TheVariants.{OutputFailed};
 
-    ghost from_gives = { λ _ e. e ≡ Failed };
+    ghost from_gives = { λ _ e. e ≡ OutputFailed };
 
     fn from(_: Failed) -> Self {
-        LineError::Failed
+        LineError::OutputFailed
     }
 }
 
 impl Lines {
-    ghost use Rattle.std.specs.Prelude.{◌≡◌, ◌++◌, ◌⊎◌, ◌≤◌, [], ℕ, Ok, take, string_bytes, OnOk, OnErr, IsErrOf};
+    ghost use Rattle.std.specs.Prelude.{◌≡◌, ◌++◌, ◌≤◌, [], ℕ, Ok, take, string_bytes, OnOk, OnErr, IsErrOf};
     ghost use Rattle.odb_base.specs.Faults.{HasCause, Rose};
     ghost use Rattle.odb_disk.specs.Source.{Adds};
     ghost use Rattle.list_walk.specs.Lines.{error_of, line_of, TakesFront};
@@ -80,7 +84,8 @@ impl Lines {
         ensures told_cut { OnErr result ((count : ℕ) × Adds (E.held errors.old) (E.held errors.new) (take count (error_of item))) }
         ensures later { K.faults sink.old ≤ K.faults sink.new }
         ensures later_errors { E.faults errors.old ≤ E.faults errors.new }
-        ensures cause { IsErrOf result LineError.Failed → Rose (K.faults sink.old) (K.faults sink.new) ⊎ Rose (E.faults errors.old) (E.faults errors.new) }
+        ensures cause { IsErrOf result LineError.OutputFailed → Rose (K.faults sink.old) (K.faults sink.new) }
+        ensures cause_errors { IsErrOf result LineError.ErrorsFailed → Rose (E.faults errors.old) (E.faults errors.new) }
         ensures nul { self.new.nul ≡ self.old.nul }
     {
         match item {
@@ -98,10 +103,11 @@ impl Lines {
         entry: DirEntry,
     ) -> Result<(), LineError>
         ensures added { OnOk result (TakesFront (K.held sink.old) (K.held sink.new) (string_bytes self.old.text ++ line_of self.old.nul (Ok entry)) (string_bytes self.new.text)) }
-        ensures failed { IsErrOf result LineError.Failed → (count : ℕ) × Adds (K.held sink.old) (K.held sink.new) (take count (string_bytes self.old.text ++ line_of self.old.nul (Ok entry))) }
+        ensures failed { IsErrOf result LineError.OutputFailed → (count : ℕ) × Adds (K.held sink.old) (K.held sink.new) (take count (string_bytes self.old.text ++ line_of self.old.nul (Ok entry))) }
         ensures lost { IsErrOf result LineError.NoMemory → Adds (K.held sink.old) (K.held sink.new) [] }
+        ensures no_other { ¬ (IsErrOf result LineError.ErrorsFailed) }
         ensures later { K.faults sink.old ≤ K.faults sink.new }
-        ensures cause { IsErrOf result LineError.Failed → Rose (K.faults sink.old) (K.faults sink.new) }
+        ensures cause { IsErrOf result LineError.OutputFailed → Rose (K.faults sink.old) (K.faults sink.new) }
         ensures nul { self.new.nul ≡ self.old.nul }
     {
         let line = line_of(alloc, entry, self.nul)?;
@@ -145,11 +151,14 @@ fn tell<E: Sink>(alloc: Global, errors: &mut E, error: walkdir::Error) -> Result
     ensures told { OnOk result (Adds (E.held errors.old) (E.held errors.new) (error_of (Err error))) }
     ensures cut { OnErr result ((count : ℕ) × Adds (E.held errors.old) (E.held errors.new) (take count (error_of (Err error)))) }
     ensures later { E.faults errors.old ≤ E.faults errors.new }
-    ensures cause { IsErrOf result LineError.Failed → Rose (E.faults errors.old) (E.faults errors.new) }
+    ensures cause { IsErrOf result LineError.ErrorsFailed → Rose (E.faults errors.old) (E.faults errors.new) }
+    ensures no_other { ¬ (IsErrOf result LineError.OutputFailed) }
 {
     let line = error_line(alloc, error)?;
-    write_all(errors, line.as_bytes())?;
-    Ok(())
+    match write_all(errors, line.as_bytes()) {
+        Ok(()) => Ok(()),
+        Err(Failed) => Err(LineError::ErrorsFailed),
+    }
 }
 
 /// The line of an error, behind the program's name, with the system's words for it.
@@ -161,7 +170,7 @@ fn error_line(alloc: Global, error: walkdir::Error) -> Result<String, AllocError
     format!(in alloc; "list_walk: {error}{words}\n")
 }
 
-/// The system's words for a disk's error. A disk that failed doesn't keep them.
+/// The system's words for a disk's error. A disk that failed doesn't keep them, and others stand in their place.
 fn system_words(error: Option<DiskError>) -> &'static str
     ensures words { result.now ≡ system_words error }
 {
@@ -172,6 +181,7 @@ fn system_words(error: Option<DiskError>) -> &'static str
         Some(DiskError::Exists) => " (File exists)",
         Some(DiskError::NotEmpty) => " (Directory not empty)",
         Some(DiskError::NoMemory) => " (Cannot allocate memory)",
-        Some(DiskError::Failed) | None => "",
+        Some(DiskError::Failed) => " (refused by the system)",
+        None => "",
     }
 }

@@ -1,11 +1,14 @@
 //! Lists folder trees: `list_walk FOLDER.. [OPTION..]` prints a line for each entry of each folder, its path, and tells
 //! each error on standard error.
 //!
-//! `words` says which options there are, `folder` which folder a name means, `run` what each status promises.
+//! `command` says what the words ask for, `words` which options there are, `folder` which folder a name means, `run` what
+//! each status promises.
 #![tactic(auto)]
 
+mod command;
 mod folder;
 mod line;
+mod misread;
 mod run;
 mod status;
 mod words;

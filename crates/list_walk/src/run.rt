@@ -1,19 +1,20 @@
 //! The walk and its output.
-ghost use Rattle.std.specs.Prelude.{◌≡◌, ◌≤◌, ◌⊎◌, ℕ, List, Some, map, string_bytes, take, true, IfOk, OnErr, IsErrOf};
+ghost use Rattle.std.specs.Prelude.{◌≡◌, ◌≤◌, ℕ, List, Some, map, string_bytes, take, true, IfOk, OnErr, IsErrOf};
 ghost use Rattle.list_walk.specs.Asked.{chosen_by, options_of, max_depth_by, max_open_by, min_depth_by};
+ghost use Rattle.list_walk.specs.Command.{command_of};
 ghost use Rattle.list_walk.specs.Lines.{EndsWritten, Leaves, is_want};
 ghost use Rattle.list_walk.specs.Session.{Ends, StreamsBack, status_by};
 ghost use Rattle.list_walk.specs.Visits.{EndsAll, EndsVisit, settled, worse};
-ghost use Rattle.list_walk.specs.Words.{command_of};
 ghost use Rattle.odb_base.specs.Faults.{Rose};
 ghost use Rattle.odb_disk.specs.Source.{Adds};
 ghost use Rattle.odb_program.specs.Session.{output_of};
 ghost use Rattle.walkdir.specs.OwnStreams.{AreBack};
 ghost use Rattle.walkdir.specs.Progress.{begun, has_its_streams};
 
+use crate::command::{Command, command_of};
 use crate::line::{LineError, Lines};
 use crate::status::Status;
-use crate::words::{Asked, Choices, Command, command_of};
+use crate::words::{Asked, Choices};
 use odb_disk::{Disk, NoMemory, PathText, Sink};
 use odb_program::{NOT_UNDERSTOOD, answer};
 use std::alloc::Global;
@@ -81,8 +82,8 @@ pub fn run<K: Sink, E: Sink, D: Disk>(
         Ok(Command::Walk(asked)) => status_by(listed(alloc, &asked, sink, errors, disk)),
         Ok(Command::Help) => answer(sink, HELP.as_bytes(), Status::Done),
         Ok(Command::Version) => answer(sink, VERSION.as_bytes(), Status::Done),
-        Ok(Command::NotUnderstood) => {
-            answer(sink, NOT_UNDERSTOOD.as_bytes(), Status::NotUnderstood)
+        Ok(Command::NotUnderstood(why)) => {
+            answer(sink, NOT_UNDERSTOOD.as_bytes(), Status::NotUnderstood(why))
         }
         Err(NoMemory) => Status::NoMemory,
     }
@@ -94,7 +95,8 @@ fn status_by(listed: Result<Status, LineError>) -> Status
 {
     match listed {
         Ok(status) => status,
-        Err(LineError::Failed) => Status::WriteFault,
+        Err(LineError::OutputFailed) => Status::WriteFault,
+        Err(LineError::ErrorsFailed) => Status::ErrorFault,
         Err(LineError::NoMemory) => Status::NoMemory,
     }
 }
@@ -114,7 +116,8 @@ fn listed<K: Sink, E: Sink, D: Disk>(
       first = record { streams = D.streams disk.old; disk_faults = D.faults disk.old; held = K.held sink.old; told = E.held errors.old };
       last = record { streams = D.streams disk.new; disk_faults = D.faults disk.new; held = K.held sink.new; told = E.held errors.new };
     }) result }
-    ensures cause { IsErrOf result LineError.Failed → Rose (K.faults sink.old) (K.faults sink.new) ⊎ Rose (E.faults errors.old) (E.faults errors.new) }
+    ensures cause { IsErrOf result LineError.OutputFailed → Rose (K.faults sink.old) (K.faults sink.new) }
+    ensures cause_errors { IsErrOf result LineError.ErrorsFailed → Rose (E.faults errors.old) (E.faults errors.new) }
     ensures state { D.state disk.new ≡ D.state disk.old }
     ensures back { AreBack (D.streams disk.old) (options_of asked.now.choices).max_open (D.streams disk.new) }
 {
@@ -157,7 +160,8 @@ fn visited<K: Sink, E: Sink, D: Disk>(
       before = record { streams = D.streams disk.old; disk_faults = D.faults disk.old; held = K.held sink.old; told = E.held errors.old };
       after = record { streams = D.streams disk.new; disk_faults = D.faults disk.new; held = K.held sink.new; told = E.held errors.new };
     }) result }
-    ensures cause { IsErrOf result LineError.Failed → Rose (K.faults sink.old) (K.faults sink.new) ⊎ Rose (E.faults errors.old) (E.faults errors.new) }
+    ensures cause { IsErrOf result LineError.OutputFailed → Rose (K.faults sink.old) (K.faults sink.new) }
+    ensures cause_errors { IsErrOf result LineError.ErrorsFailed → Rose (E.faults errors.old) (E.faults errors.new) }
     ensures later { K.faults sink.old ≤ K.faults sink.new }
     ensures later_errors { E.faults errors.old ≤ E.faults errors.new }
     ensures state { D.state disk.new ≡ D.state disk.old }
@@ -176,8 +180,9 @@ fn settled(ended: Result<Status, LineError>) -> Result<Status, LineError>
     match ended {
         Ok(Status::Done) => Ok(Status::Done),
         Ok(Status::SomeErrors) => Ok(Status::SomeErrors),
-        Ok(Status::NotUnderstood) => Err(LineError::NoMemory),
+        Ok(Status::NotUnderstood(_)) => Err(LineError::NoMemory),
         Ok(Status::WriteFault) => Err(LineError::NoMemory),
+        Ok(Status::ErrorFault) => Err(LineError::NoMemory),
         Ok(Status::NoMemory) => Err(LineError::NoMemory),
         Err(error) => Err(error),
     }
@@ -199,7 +204,8 @@ fn walk_of<K: Sink, E: Sink, D: Disk>(
       before = record { streams = D.streams disk.old; disk_faults = D.faults disk.old; held = K.held sink.old; told = E.held errors.old };
       after = record { streams = D.streams disk.new; disk_faults = D.faults disk.new; held = K.held sink.new; told = E.held errors.new };
     }) (settled result) }
-    ensures cause { IsErrOf result LineError.Failed → Rose (K.faults sink.old) (K.faults sink.new) ⊎ Rose (E.faults errors.old) (E.faults errors.new) }
+    ensures cause { IsErrOf result LineError.OutputFailed → Rose (K.faults sink.old) (K.faults sink.new) }
+    ensures cause_errors { IsErrOf result LineError.ErrorsFailed → Rose (E.faults errors.old) (E.faults errors.new) }
     ensures later { K.faults sink.old ≤ K.faults sink.new }
     ensures later_errors { E.faults errors.old ≤ E.faults errors.new }
     ensures state { D.state disk.new ≡ D.state disk.old }
@@ -240,7 +246,8 @@ fn walked<S: Sorter + Drop, K: Sink, E: Sink, D: Disk>(
       disk_faults = D.faults disk.old;
       disk_faults' = D.faults disk.new;
     }) result }
-    ensures cause { IsErrOf result LineError.Failed → Rose (K.faults sink.old) (K.faults sink.new) ⊎ Rose (E.faults errors.old) (E.faults errors.new) }
+    ensures cause { IsErrOf result LineError.OutputFailed → Rose (K.faults sink.old) (K.faults sink.new) }
+    ensures cause_errors { IsErrOf result LineError.ErrorsFailed → Rose (E.faults errors.old) (E.faults errors.new) }
     ensures later { K.faults sink.old ≤ K.faults sink.new }
     ensures later_errors { E.faults errors.old ≤ E.faults errors.new }
     ensures state { D.state disk.new ≡ D.state disk.old }
@@ -312,7 +319,8 @@ fn written<K: Sink, E: Sink, D: Disk, W: Steps>(
       disk_faults = D.faults walk.old.disk.now;
       disk_faults' = D.faults walk.new.disk.now;
     }) result }
-    ensures cause { IsErrOf result LineError.Failed → Rose (K.faults sink.old) (K.faults sink.new) ⊎ Rose (E.faults errors.old) (E.faults errors.new) }
+    ensures cause { IsErrOf result LineError.OutputFailed → Rose (K.faults sink.old) (K.faults sink.new) }
+    ensures cause_errors { IsErrOf result LineError.ErrorsFailed → Rose (E.faults errors.old) (E.faults errors.new) }
     ensures later { K.faults sink.old ≤ K.faults sink.new }
     ensures later_errors { E.faults errors.old ≤ E.faults errors.new }
     ensures state { D.state walk.new.disk.now ≡ D.state walk.old.disk.now }
@@ -338,7 +346,8 @@ fn written<K: Sink, E: Sink, D: Disk, W: Steps>(
 fn ended<K: Sink>(lines: Lines, sink: &mut K, status: Status) -> Result<Status, LineError>
     ensures ok { IfOk result (λ answer. (answer ≡ status) × Adds (K.held sink.old) (K.held sink.new) (string_bytes lines.text)) }
     ensures err { OnErr result ((count : ℕ) × Adds (K.held sink.old) (K.held sink.new) (take count (string_bytes lines.text))) }
-    ensures cause { IsErrOf result LineError.Failed → Rose (K.faults sink.old) (K.faults sink.new) }
+    ensures cause { IsErrOf result LineError.OutputFailed → Rose (K.faults sink.old) (K.faults sink.new) }
+    ensures no_other { ¬ (IsErrOf result LineError.ErrorsFailed) }
     ensures later { K.faults sink.old ≤ K.faults sink.new }
 {
     let mut lines = lines;

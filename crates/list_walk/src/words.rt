@@ -1,23 +1,15 @@
-//! The words of the command line.
-ghost use Rattle.std.specs.Prelude.{◌≡◌, ◌==◌, IfOk, map, string_bytes};
+//! Folders and options among the words of the command line.
+ghost use Rattle.std.specs.Prelude.{◌≡◌, ◌==◌, IfOk, Some, Ok, map, string_bytes};
 ghost use Rattle.std.specs.List.{before_first, after_first};
-ghost use Rattle.list_walk.specs.Words.{about, asked_by_next, asked_of, asked_with, command_of, command_with, count_of, counted, flagged, is_option, no_choices, no_words, with_any, with_count, with_folder, with_number, with_option, with_value, with_word, words_of};
+ghost use Rattle.list_walk.specs.Words.{asked_by_next, asked_of, asked_with, count_of, counted, flagged, is_option, no_choices, no_words, or_no_such, with_any, with_count, with_folder, with_number, with_option, with_value, with_word, words_of};
 ghost use Rattle.list_walk.specs.Folder.{folder_of};
 ghost use Rattle.odb_base.specs.Decimal.{number_of};
 
 use crate::folder::folder_of;
+use crate::misread::Misread;
 use odb_base::{NoMemory, Sequence, parse_decimal};
 use odb_disk::PathText;
 use std::alloc::Global;
-
-/// What the words of the command line ask for.
-#[derive(Drop)]
-pub enum Command {
-    Walk(Asked),
-    Help,
-    Version,
-    NotUnderstood,
-}
 
 /// What is listed: folders, one at least, in their order, and how each of them is walked.
 #[derive(Drop)]
@@ -74,62 +66,22 @@ pub enum Count {
     MaxDepth,
 }
 
-/// What the words ask for. A relative folder lies below the one that the program was started in, where that is known.
-pub fn command_of(
-    alloc: Global,
-    home: &Option<PathText>,
-    words: &[String],
-) -> Result<Command, NoMemory>
-    ensures command { IfOk result (λ command. command ≡ command_of home.now (map (λ word. string_bytes word) words.now)) }
-{
-    match about(words) {
-        Some(command) => Ok(command),
-        None => Ok(command_with(asked_of(alloc, home, words)?)),
-    }
-}
-
-/// The command of a single word that asks about the program.
-fn about(words: &[String]) -> Option<Command>
-    ensures about { result ≡ about (map (λ word. string_bytes word) words.now) }
-{
-    let [word] = words else {
-        return None;
-    };
-    let word = word.as_str();
-    if word == "--help" {
-        Some(Command::Help)
-    } else if word == "--version" {
-        Some(Command::Version)
-    } else {
-        None
-    }
-}
-
-fn command_with(asked: Option<Asked>) -> Command
-    ensures command { result ≡ command_with asked }
-{
-    match asked {
-        Some(asked) => Command::Walk(asked),
-        None => Command::NotUnderstood,
-    }
-}
-
 /// What is to be listed, where each word is understood and one of them is a folder.
-fn asked_of(
+pub fn asked_of(
     alloc: Global,
     home: &Option<PathText>,
     words: &[String],
-) -> Result<Option<Asked>, NoMemory>
+) -> Result<Result<Asked, Misread>, NoMemory>
     ensures asked { IfOk result (λ asked. asked ≡ asked_of home.now (map (λ word. string_bytes word) words.now)) }
 {
     match words_of(alloc, home, words)? {
-        Some(words) => Ok(asked_with(words)),
-        None => Ok(None),
+        Ok(words) => Ok(asked_with(words)),
+        Err(why) => Ok(Err(why)),
     }
 }
 
 /// What words that are read to their end ask for: a folder has to be among them.
-fn asked_with(words: Words) -> Option<Asked>
+fn asked_with(words: Words) -> Result<Asked, Misread>
     ensures asked { result ≡ asked_with words.next words.folders words.choices }
 {
     let Words {
@@ -138,19 +90,23 @@ fn asked_with(words: Words) -> Option<Asked>
         next,
     } = words;
     match folders.as_slice() {
-        [] => None,
+        [] => Err(Misread::NoSuchWords),
         [_, ..] => asked_by_next(next, folders, choices),
     }
 }
 
 /// What is to be listed, unless the number of an option is missing.
-fn asked_by_next(next: Next, folders: Sequence<PathText>, choices: Choices) -> Option<Asked>
+fn asked_by_next(
+    next: Next,
+    folders: Sequence<PathText>,
+    choices: Choices,
+) -> Result<Asked, Misread>
     ensures asked { result ≡ asked_by_next next folders choices }
 {
     match next {
-        Next::Any => Some(Asked { folders, choices }),
-        Next::Folder => Some(Asked { folders, choices }),
-        Next::Number(_) => None,
+        Next::Any => Ok(Asked { folders, choices }),
+        Next::Folder => Ok(Asked { folders, choices }),
+        Next::Number(_) => Err(Misread::NoSuchWords),
     }
 }
 
@@ -160,19 +116,19 @@ fn words_of(
     alloc: Global,
     home: &Option<PathText>,
     words: &[String],
-) -> Result<Option<Words>, NoMemory>
+) -> Result<Result<Words, Misread>, NoMemory>
     ensures read { IfOk result (λ read. read ≡ words_of home.now no_words (map (λ word. string_bytes word) words.now)) }
 {
     let mut read = no_words(alloc);
     let mut rest = words;
     while let [word, more @ ..] = rest {
         match with_word(alloc, home, read, word.as_str())? {
-            Some(next) => read = next,
-            None => return Ok(None),
+            Ok(next) => read = next,
+            Err(why) => return Ok(Err(why)),
         }
         rest = more;
     }
-    Ok(Some(read))
+    Ok(Ok(read))
 }
 
 fn no_words(alloc: Global) -> Words
@@ -209,12 +165,12 @@ fn with_word(
     home: &Option<PathText>,
     words: Words,
     word: &str,
-) -> Result<Option<Words>, NoMemory>
+) -> Result<Result<Words, Misread>, NoMemory>
     ensures words { IfOk result (λ more. more ≡ with_word home.now words.next words word.now) }
 {
     match words.next {
         Next::Any => with_any(alloc, home, words, word),
-        Next::Number(count) => Ok(with_number(words, count, word)),
+        Next::Number(count) => Ok(or_no_such(with_number(words, count, word))),
         Next::Folder => with_folder(alloc, home, words, word),
     }
 }
@@ -225,13 +181,23 @@ fn with_any(
     home: &Option<PathText>,
     words: Words,
     word: &str,
-) -> Result<Option<Words>, NoMemory>
+) -> Result<Result<Words, Misread>, NoMemory>
     ensures words { IfOk result (λ more. more ≡ with_any home.now words word.now) }
 {
     if is_option(word) {
-        Ok(with_option(words, word))
+        Ok(or_no_such(with_option(words, word)))
     } else {
         with_folder(alloc, home, words, word)
+    }
+}
+
+/// The words, or that there are no such words.
+fn or_no_such(words: Option<Words>) -> Result<Words, Misread>
+    ensures words { result ≡ or_no_such words }
+{
+    match words {
+        Some(words) => Ok(words),
+        None => Err(Misread::NoSuchWords),
     }
 }
 
@@ -248,20 +214,20 @@ fn with_folder(
     home: &Option<PathText>,
     words: Words,
     word: &str,
-) -> Result<Option<Words>, NoMemory>
+) -> Result<Result<Words, Misread>, NoMemory>
     ensures words { IfOk result (λ more. more ≡ with_folder words (folder_of home.now word.now)) }
 {
     match folder_of(alloc, home, word)? {
-        Some(folder) => one_more(words, folder),
-        None => Ok(None),
+        Ok(folder) => one_more(words, folder),
+        Err(why) => Ok(Err(why)),
     }
 }
 
-fn one_more(mut words: Words, folder: PathText) -> Result<Option<Words>, NoMemory>
-    ensures words { IfOk result (λ more. more ≡ with_folder words (Some folder)) }
+fn one_more(mut words: Words, folder: PathText) -> Result<Result<Words, Misread>, NoMemory>
+    ensures words { IfOk result (λ more. more ≡ with_folder words (Ok folder)) }
 {
     words.folders.push(folder)?;
-    Ok(Some(words))
+    Ok(Ok(words))
 }
 
 /// The words with an option: one that stands alone, one whose number is the next word, one whose number stands behind
