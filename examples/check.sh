@@ -84,7 +84,8 @@ help='no such words: gitodb --help tells which there are'
 for word in frob -h help; do
     expect_told "the word '$word'" "$help" "$word" <first_find.script
 done
-expect_told 'no word' "$help" <first_find.script
+expect_told 'a word that is no text' "$help" $'\xff' <first_find.script
+expect_told 'no word' 'no words: gitodb --help tells which there are' <first_find.script
 expect_told 'a script that is done' '' world <first_find.script
 expect_told 'a source that fails' "standard input can't be read" world <.
 

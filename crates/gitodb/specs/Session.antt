@@ -8,7 +8,7 @@ use Rattle.gix_odb_world.specs.Play.{Plays, made_of}
 use Rattle.gix_odb_world.specs.declared.play.Line.{Line}
 use Rattle.gix_odb_world.specs.declared.play.Play.{Play}
 use Rattle.gitodb.specs.declared.command.Command.{Command}
-use Rattle.gitodb.specs.declared.command.Command.TheVariants.{World, Help, Version, NotUnderstood}
+use Rattle.gitodb.specs.declared.command.Command.TheVariants.{World, Help, Version, NoWords, NotUnderstood}
 use Rattle.gitodb.specs.declared.status.Status.{Status}
 use Rattle.gitodb.specs.declared.status.Status.TheVariants as statuses
 use Rattle.odb_script.specs.declared.reader.Ending.{Ending}
@@ -19,7 +19,7 @@ use Rattle.gitodb.specs.Print.{printed_at, ending_text}
 
 -- the command that the words of the command line are
 abbrev pub command_of : List (List ℕ) → Command
-command_of [] = NotUnderstood
+command_of [] = NoWords
 command_of (word ∷ []) =
     if same_name word (codes "world") then World
     else if same_name word (codes "--help") then Help
@@ -46,9 +46,10 @@ pub record Answers (script written : List ℕ) (ending : Ending) : Type 0 where
 abbrev pub status_by : Ending → List ℕ → Status
 status_by Whole told = statuses.Done
 status_by (RefusedAt line) told = statuses.Refused told
-status_by (NotBuiltAt line) told = statuses.NotBuilt
+status_by (NotBuiltAt line) told = statuses.NotBuilt told
 
--- What `world` writes, and its status. With that of a refused line comes why it is refused.
+-- What `world` writes, and its status. With that of a refused line comes why it is refused, and with that of a line that
+-- isn't built yet which field isn't.
 pub record AnswersWith (script written : List ℕ) (status : Status) : Type 0 where
   pub ending : Ending
   pub answers : Answers script written ending
@@ -72,6 +73,7 @@ abbrev pub WritesFor : List ℕ → List ℕ → Command → Option (List ℕ) �
 WritesFor help version World left written status = IfSome left (λ script. AnswersWith script written status)
 WritesFor help version Help left written status = (status ≡ statuses.Done) × (written ≡ help)
 WritesFor help version Version left written status = (status ≡ statuses.Done) × (written ≡ version)
+WritesFor help version NoWords left written status = (status ≡ statuses.NoWords) × (written ≡ refusal)
 WritesFor help version NotUnderstood left written status = (status ≡ statuses.NotUnderstood) × (written ≡ refusal)
 
 abbrev pub Writes : Session → List ℕ → Status → Type 0
@@ -89,9 +91,10 @@ ReadsIts command input = Unit {0}
 -- What each status says. Want of memory is the one status without a cause.
 abbrev pub Ends : Session → Status → Type 0
 Ends s statuses.Done = Finishes s statuses.Done × ReadsIts s.command s.input
+Ends s statuses.NoWords = (s.command ≡ NoWords) × Finishes s statuses.NoWords
 Ends s statuses.NotUnderstood = (s.command ≡ NotUnderstood) × Finishes s statuses.NotUnderstood
 Ends s (statuses.Refused told) = (s.command ≡ World) × Finishes s (statuses.Refused told)
 Ends s statuses.ReadFault = (s.command ≡ World) × FailedRead s.input s.output
 Ends s statuses.WriteFault = FailedWrite (Writes s) s.output
 Ends s statuses.NoMemory = (s.command ≡ World) × Wrote s.output []
-Ends s statuses.NotBuilt = (s.command ≡ World) × Finishes s statuses.NotBuilt
+Ends s (statuses.NotBuilt told) = (s.command ≡ World) × Finishes s (statuses.NotBuilt told)

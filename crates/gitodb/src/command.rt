@@ -9,6 +9,7 @@ pub enum Command {
     World,
     Help,
     Version,
+    NoWords,
     NotUnderstood,
 }
 
@@ -16,10 +17,11 @@ pub enum Command {
 pub fn command_of(words: &[String]) -> Command
     ensures command { result ≡ command_of (map (λ word. string_bytes word) words.now) }
 {
-    let [word] = words else {
-        return Command::NotUnderstood;
+    let word = match words {
+        [] => return Command::NoWords,
+        [word] => word.as_str(),
+        _ => return Command::NotUnderstood,
     };
-    let word = word.as_str();
     if word == "world" {
         Command::World
     } else if word == "--help" {

@@ -85,6 +85,7 @@ pub fn run<R, S: Source, K: Sink, D: Disk>(
         Command::World => world(alloc, source, sink),
         Command::Help => answer(sink, HELP.as_bytes(), Status::Done),
         Command::Version => answer(sink, VERSION.as_bytes(), Status::Done),
+        Command::NoWords => answer(sink, NOT_UNDERSTOOD.as_bytes(), Status::NoWords),
         Command::NotUnderstood => answer(sink, NOT_UNDERSTOOD.as_bytes(), Status::NotUnderstood),
     }
 }

@@ -7,6 +7,8 @@ use odb_program::SessionStatus;
 pub enum Status {
     /// 0: done, and the source was read to its end where the command reads it.
     Done,
+    /// 1: there are no words.
+    NoWords,
     /// 1: the words are no command.
     NotUnderstood,
     /// 2: a line of the script is outside its grammar or its limits. It has what is told of the line.
@@ -17,8 +19,8 @@ pub enum Status {
     WriteFault,
     /// 5: want of memory.
     NoMemory,
-    /// 8: a line of the script has a word that isn't built yet.
-    NotBuilt,
+    /// 8: a line of the script has a field that isn't built yet. It has what is told of the line.
+    NotBuilt(ByteList),
 }
 
 impl SessionStatus for Status {
@@ -34,12 +36,12 @@ impl SessionStatus for Status {
     fn code(self) -> u8 {
         match self {
             Status::Done => 0,
-            Status::NotUnderstood => 1,
+            Status::NoWords | Status::NotUnderstood => 1,
             Status::Refused(_) => 2,
             Status::ReadFault => 3,
             Status::WriteFault => 4,
             Status::NoMemory => 5,
-            Status::NotBuilt => 8,
+            Status::NotBuilt(_) => 8,
         }
     }
 
@@ -50,13 +52,13 @@ impl SessionStatus for Status {
     fn note(&self) -> &[u8] {
         match self {
             Status::Done => b"",
+            Status::NoWords => b"no words: gitodb --help tells which there are",
             Status::NotUnderstood => b"no such words: gitodb --help tells which there are",
             Status::Refused(told) => told.as_slice(),
             Status::ReadFault => b"standard input can't be read",
             Status::WriteFault => b"standard output can't be written",
             Status::NoMemory => b"out of memory",
-            Status::NotBuilt =>
-                b"that line has a word that isn't built yet; docs/SCRIPT.md tells which ones",
+            Status::NotBuilt(told) => told.as_slice(),
         }
     }
 }

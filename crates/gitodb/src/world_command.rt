@@ -112,6 +112,6 @@ fn status_by(ending: Ending, told: Vec<u8>) -> Status
     match ending {
         Ending::Whole => Status::Done,
         Ending::RefusedAt(_) => Status::Refused(ByteList::from_vec(told)),
-        Ending::NotBuiltAt(_) => Status::NotBuilt,
+        Ending::NotBuiltAt(_) => Status::NotBuilt(ByteList::from_vec(told)),
     }
 }

@@ -25,6 +25,7 @@ pub use choice::{Choice, choice_of};
 pub use content::content_of;
 pub use field::{data_of, handle_of, id_of, kind_of, path_of};
 pub use item::{Item, item_of};
+pub use opening::is_unbuilt_option;
 pub use reader::{Ending, Reading, SCRIPT_LIMIT, Script, Taken, read};
 pub use split::{fields_of, first_part};
 pub use word::{ChangeWord, Question, Word, change_word_of, word_of};

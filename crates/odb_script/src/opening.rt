@@ -104,7 +104,8 @@ fn gives_slots(option: &str) -> bool
     }
 }
 
-fn is_unbuilt_option(option: &str) -> bool
+/// Whether an option of an opening isn't built yet.
+pub fn is_unbuilt_option(option: &str) -> bool
     ensures unbuilt { result ≡ is_unbuilt_option option.now }
 {
     match name_and_value(option) {

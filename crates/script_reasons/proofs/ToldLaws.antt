@@ -10,7 +10,8 @@ use Rattle.odb_script.specs.declared.reader.Reading.{Reading}
 use Rattle.odb_script.specs.declared.reader.Script.{Script}
 use Rattle.odb_script.specs.declared.reader.Script.TheVariants.{Faults}
 use Rattle.odb_script.specs.Script.{reading_from, reading_of, script_limit}
-use Rattle.script_reasons.specs.Told.{told_at, told_by, told_in, told_of}
+use Rattle.script_reasons.specs.Reason.{line_at}
+use Rattle.script_reasons.specs.Told.{told_at, told_by, told_in, told_of, unbuilt_at, unbuilt_line}
 
 above : (n limit : ℕ) → limit < n → nat_le n limit ≡ false
 above n limit h = grind (arith, h)
@@ -26,10 +27,21 @@ told_at-long script front more number long =
     ∙ ap (λ bytes. told_in true script bytes number) (take-append-le script_limit front more (omega arith))
     ∙ sym (cut script front number long)
 
+unbuilt-cut : (bytes : List ℕ) (number : ℕ) → script_limit < length bytes → unbuilt_at bytes number ≡ unbuilt_line number (line_at (take script_limit bytes) number)
+unfolding unbuilt_at
+unbuilt-cut bytes number long = rw (above (length bytes) script_limit long) refl
+
+unbuilt_at-long : (front more : List ℕ) (number : ℕ) → script_limit < length front → unbuilt_at (front ++ more) number ≡ unbuilt_at front number
+unbuilt_at-long front more number long =
+    let whole : script_limit < length (front ++ more) = omega (arith, length-append front more) in
+    unbuilt-cut (front ++ more) number whole
+    ∙ ap (λ bytes. unbuilt_line number (line_at bytes number)) (take-append-le script_limit front more (omega arith))
+    ∙ sym (unbuilt-cut front number long)
+
 told_by-long : (script : Script) (front more : List ℕ) (ending : Ending) → script_limit < length front → told_by script (front ++ more) ending ≡ told_by script front ending
 told_by-long script front more Whole long = refl
 told_by-long script front more (RefusedAt number) long = told_at-long script front more number long
-told_by-long script front more (NotBuiltAt number) long = refl
+told_by-long script front more (NotBuiltAt number) long = unbuilt_at-long front more number long
 
 -- what is told by the reading of a script is told of the script
 pub told_of-is : (bytes : List ℕ) (reading : Reading) → reading ≡ reading_of bytes → told_by reading.script bytes reading.ending ≡ told_of bytes

@@ -1,15 +1,16 @@
--- Why a line is refused, in words, as standard error tells it.
-use Rattle.std.specs.Prelude.{ℕ, ◌-◌, ◌&&◌, Bool, true, false, List, [], ◌∷◌, ◌++◌, codes, get_or, length, nat_le, take, if◌then◌else◌}
+-- Why a line is refused, or what isn't built yet of one, in words, as standard error tells it.
+use Rattle.std.specs.Prelude.{ℕ, ◌-◌, ◌&&◌, Bool, true, false, List, [], ◌∷◌, ◌++◌, codes, get_or, length, nat_le, take, Option, Some, None, if◌then◌else◌}
 use Rattle.std.specs.List.{flat_map}
 use Rattle.std.specs.Fmt.{decimal}
 use Rattle.hex.specs.Hex.{encode_lower}
 use Rattle.odb_script.specs.Script.{reading_of, script_limit}
 use Rattle.odb_script.specs.Split.{fields_of}
 use Rattle.odb_script.specs.declared.reader.Ending.{Ending}
-use Rattle.odb_script.specs.declared.reader.Ending.TheVariants.{RefusedAt}
+use Rattle.odb_script.specs.declared.reader.Ending.TheVariants.{Whole, RefusedAt, NotBuiltAt}
 use Rattle.odb_script.specs.declared.reader.Script.{Script}
 use Rattle.script_reasons.specs.Expected.{name_of}
 use Rattle.script_reasons.specs.Reason.{line_at, reason_in}
+use Rattle.script_reasons.specs.Unbuilt.{unbuilt_field}
 use Rattle.script_reasons.specs.declared.fault.Mistake.{Mistake}
 use Rattle.script_reasons.specs.declared.fault.Mistake.TheVariants.{NoSuchWord, NoSuchChange, Not, Missing, TooMany}
 use Rattle.script_reasons.specs.declared.reason.Reason.{Reason}
@@ -77,10 +78,25 @@ told_at script bytes number =
     then told_in false script bytes number
     else told_in true script (take script_limit bytes) number
 
--- what is told of a script that was read so far and ends so: why it refuses a line, where it does
+-- what is told of the line that has a number and isn't built yet
+abbrev pub unbuilt_told : List ℕ → Option ℕ → List ℕ
+unbuilt_told line None = codes ": an opening without slots isn't built yet"
+unbuilt_told line (Some number) = codes ", field " ++ decimal number ++ codes ": not built yet: " ++ shown (field_at line number)
+
+abbrev pub unbuilt_line : ℕ → List ℕ → List ℕ
+unbuilt_line number line = codes "line " ++ decimal number ++ unbuilt_told line (unbuilt_field line)
+
+unfoldable pub unbuilt_at : List ℕ → ℕ → List ℕ
+unbuilt_at bytes number =
+    if nat_le (length bytes) script_limit
+    then unbuilt_line number (line_at bytes number)
+    else unbuilt_line number (line_at (take script_limit bytes) number)
+
+-- what is told of a script that was read so far and ends so: why it refuses a line, or what isn't built yet of one
 abbrev pub told_by : Script → List ℕ → Ending → List ℕ
 told_by script bytes (RefusedAt number) = told_at script bytes number
-told_by script bytes ending = []
+told_by script bytes (NotBuiltAt number) = unbuilt_at bytes number
+told_by script bytes Whole = []
 
 -- what is told of a script
 unfoldable pub told_of : List ℕ → List ℕ

@@ -2,7 +2,8 @@
 //!
 //! `reason_of` says it of a line and of the script as far as it was read: which field is the first that is wrong, and
 //! how; or that the whole line isn't text, is out of place, is impossible on the disk, or too much. It judges fields by
-//! the readers of `odb_script`, by which the line was refused. `told` puts it in words.
+//! the readers of `odb_script`, by which the line was refused. `told_of` puts it in words, and says of a line that isn't
+//! built yet which field isn't.
 //! ```rust
 //! let reading = read(alloc, script)?;
 //! let told = told_of(alloc, script, &reading)?;
@@ -13,6 +14,7 @@ mod expected;
 mod fault;
 mod part;
 mod reason;
+mod unbuilt;
 mod wording;
 
 pub use expected::{Expected, expected_of, expected_of_change};

@@ -6,6 +6,7 @@ use crate::expected::name_of;
 use crate::fault::Mistake;
 use crate::part::{Part, part_at};
 use crate::reason::{Reason, reason_of};
+use crate::unbuilt::unbuilt_at;
 use odb_base::NoMemory;
 use odb_program::{labelled, text};
 use odb_script::{Ending, Reading, SCRIPT_LIMIT, Script};
@@ -14,14 +15,14 @@ use std::alloc::Global;
 /// The most bytes of a field that are shown.
 const MOST_SHOWN: usize = 60;
 
-/// What is told of a script as it was read: why it refuses a line, where it does, and else nothing.
+/// What is told of a script as it was read: why it refuses a line, or what isn't built yet of one; else nothing.
 pub fn told_of(alloc: Global, bytes: &[u8], reading: &Reading) -> Result<Vec<u8>, NoMemory>
     ensures told { IfOk result (λ told. told.items ≡ told_by reading.now.script bytes.now reading.now.ending) }
 {
     match reading.ending {
         Ending::RefusedAt(number) => told_at(alloc, &reading.script, bytes, number),
         Ending::Whole => Ok(Vec::new(alloc)),
-        Ending::NotBuiltAt(_) => Ok(Vec::new(alloc)),
+        Ending::NotBuiltAt(number) => unbuilt_at(alloc, bytes, number),
     }
 }
 
@@ -131,7 +132,12 @@ fn add_mistake(
 }
 
 /// Adds a text and a field as it is shown.
-fn label_field(alloc: Global, out: &mut Vec<u8>, label: &[u8], field: &[u8]) -> Result<(), NoMemory>
+pub(crate) fn label_field(
+    alloc: Global,
+    out: &mut Vec<u8>,
+    label: &[u8],
+    field: &[u8],
+) -> Result<(), NoMemory>
     ensures ok { OnOk result (out.new.items ≡ out.old.items ++ (label.now ++ shown field.now)) }
 {
     text(out, label)?;
