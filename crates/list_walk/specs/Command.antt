@@ -8,14 +8,22 @@ use Rattle.list_walk.specs.declared.misread.Misread.{Misread}
 use Rattle.list_walk.specs.declared.misread.Misread.TheVariants.{NoWords}
 use Rattle.list_walk.specs.declared.words.Asked.{Asked}
 
+-- what a word decides, if it does: that the program is asked about, or, as `--` does, that it isn't
+unfoldable pub decided : List ℕ → Option (Option Command)
+decided word =
+    if same_name word (codes "--") then Some None
+    else if same_name word (codes "--help") then Some (Some Help)
+    else if same_name word (codes "--version") then Some (Some Version)
+    else None
+
+abbrev pub by_first : Option (Option Command) → Option Command → Option Command
+by_first (Some answer) later = answer
+by_first None later = later
+
 -- the first word before `--` that asks about the program, wherever it stands
 unfoldable pub about : List (List ℕ) → Option Command
 about [] = None
-about (word ∷ words) =
-    if same_name word (codes "--") then None
-    else if same_name word (codes "--help") then Some Help
-    else if same_name word (codes "--version") then Some Version
-    else about words
+about (word ∷ words) = by_first (decided word) (about words)
 
 abbrev pub command_with : Result Asked Misread → Command
 command_with (Err why) = NotUnderstood why

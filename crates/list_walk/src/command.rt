@@ -1,6 +1,6 @@
 //! What the words of the command line ask for.
 ghost use Rattle.std.specs.Prelude.{◌≡◌, IfOk, map, string_bytes};
-ghost use Rattle.list_walk.specs.Command.{about, command_of, command_with, walk_of_words};
+ghost use Rattle.list_walk.specs.Command.{about, command_of, command_with, decided, walk_of_words};
 
 use crate::misread::Misread;
 use crate::words::{Asked, asked_of};
@@ -32,20 +32,31 @@ pub fn command_of(
 }
 
 /// The command of the first word before `--` that asks about the program.
-#[tactic(auto, unfolding(crate::specs::Words::about))]
+#[tactic(auto, unfolding(crate::specs::Command::about))]
 fn about(words: &[String]) -> Option<Command>
     ensures about { result ≡ about (map (λ word. string_bytes word) words.now) }
 {
     let mut rest = words;
     while let [word, more @ ..] = rest {
-        match word.as_str() {
-            "--" => return None,
-            "--help" => return Some(Command::Help),
-            "--version" => return Some(Command::Version),
-            _ => rest = more,
+        match decided(word.as_str()) {
+            Some(answer) => return answer,
+            None => rest = more,
         }
     }
     None
+}
+
+/// What a word decides, if it does: that the program is asked about, or, as `--` does, that it isn't.
+#[tactic(auto, unfolding(crate::specs::Command::decided))]
+fn decided(word: &str) -> Option<Option<Command>>
+    ensures decided { result ≡ decided word.now }
+{
+    match word {
+        "--" => Some(None),
+        "--help" => Some(Some(Command::Help)),
+        "--version" => Some(Some(Command::Version)),
+        _ => None,
+    }
 }
 
 /// The command of words that don't ask about the program.
