@@ -48,7 +48,6 @@ check <<ROWS
 1|@/t --max-open x|words not understood |$no_words
 1|--sort|words not understood |$no_words
 1|-h|words not understood |$no_words
-1|help|words not understood |$no_words
 0|@/t --max-depth --version --help|list_walk 0.1.0 |
 2|@/t/a -- --version|@/t/a |list_walk: IO error for operation on @/--version: Absent (No such file or directory) 
 ROWS
