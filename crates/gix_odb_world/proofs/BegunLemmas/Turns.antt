@@ -17,14 +17,13 @@ use Rattle.gix_odb_world.specs.declared.step.Outcome.{Outcome}
 use Rattle.gix_odb_world.specs.declared.step.Outcome.TheVariants as outcomes
 use Rattle.gix_odb_world.specs.declared.step.Why.{Why}
 use Rattle.gix_odb_world.specs.declared.work.Work.{Work}
-use Rattle.gix_odb_world.specs.Event.{Asked, OfNothing, OfDisk, OfCore, Event}
+use Rattle.gix_odb_world.specs.Event.{Asked, Event, answered}
 use Rattle.gix_odb_world.specs.Status.{MakeCall, OpenStore, Running, Status, Store, Task, Free, Resting, Working}
 use Rattle.gix_odb_world.specs.Status.{come_to, ignoring_from, opening_at, refuses_opening, replied, running_from, started, status_after, status_of, statuses_from, store_at, turned, with_status}
 use Rattle.gix_odb_world.specs.Begun.{is_turn_of, turns_since}
 use Rattle.gix_odb_world.specs.Machines.{fed_in}
-use Rattle.gix_odb_world.specs.Run.{did_of_asked}
 use Rattle.gix_odb_world.specs.Valid.{misuse_of, phase_of, why_not_after, why_not_running}
-use Rattle.gix_odb_world.specs.Headline.{IsLawful, IsTurn, Law, Suits, TellsCall}
+use Rattle.gix_odb_world.specs.Headline.{IsLawful, IsTurn, Law, Suits}
 use Rattle.gix_odb_world.proofs.RunLemmas.{status_of-push}
 use Rattle.gix_odb_world.proofs.RunSteps.{event_or_end, none_beyond, take_next}
 
@@ -101,13 +100,10 @@ module _ (past : List Event) (e : Event) where
   counts_come handle running (Ok reply) turn counts = counts_rest handle running.store running.ignoring (refuses_opening reply)
   counts_come handle running (Err left) turn counts = counts_more handle running left turn counts
 
-  counts_turned : (handle : ℕ) (asked : Asked) (status : Status) → TellsCall (did_of_asked asked) → is_turn_of handle e.step ≡ true
-      → Counts past handle status → Counts whole handle (turned asked status)
-  counts_turned handle OfNothing status tells turn counts = absurd tells
-  counts_turned handle (OfDisk ask answer) Free tells turn counts = tt
-  counts_turned handle (OfDisk ask answer) (Resting store ignoring) tells turn counts = tt
-  counts_turned handle (OfDisk ask answer) (Working running) tells turn counts = counts_come handle running (fed_in running.store running.work answer) turn counts
-  counts_turned handle (OfCore event) status tells turn counts = absurd event
+  counts_turned : (handle : ℕ) (asked : Asked) (status : Status) → is_turn_of handle e.step ≡ true → Counts past handle status → Counts whole handle (turned asked status)
+  counts_turned handle asked Free turn counts = tt
+  counts_turned handle asked (Resting store ignoring) turn counts = tt
+  counts_turned handle asked (Working running) turn counts = counts_come handle running (fed_in running.store running.work (answered asked)) turn counts
 
   counts_replied : (handle : ℕ) (reply : Reply) (status : Status) → Counts whole handle (replied reply status)
   counts_replied handle reply Free = tt
@@ -158,12 +154,12 @@ module _ (first : Volume) (past : List Event) (e : Event) (law : Law first past 
   own_turn : (number : ℕ) → e.step ≡ steps.Turn number → is_turn_of number e.step ≡ true
   own_turn number is = let same : (number == number) ≡ true = grind arith in ap (is_turn_of number) is ∙ same
 
-  counts_pending : (step : Step) → e.step ≡ step → IsTurn step → TellsCall (did_of_asked e.asked) → (handle : ℕ)
+  counts_pending : (step : Step) → e.step ≡ step → IsTurn step → (handle : ℕ)
       → Counts now handle (status_after (length past + 1) step outcomes.Pending e.asked table handle)
-  counts_pending (steps.Turn number) is turn tells handle =
-      counts_set number (turned e.asked (table number)) (counts_turned past e number e.asked (table number) tells (own_turn number is) (before number))
+  counts_pending (steps.Turn number) is turn handle =
+      counts_set number (turned e.asked (table number)) (counts_turned past e number e.asked (table number) (own_turn number is) (before number))
       (λ h other. ap (is_turn_of h) is ∙ other) handle
-  counts_pending step is turn tells handle = absurd turn
+  counts_pending step is turn handle = absurd turn
 
   counts_answered : (step : Step) (reply : Reply) → e.step ≡ step → IsTurn step → (handle : ℕ)
       → Counts now handle (status_after (length past + 1) step (outcomes.Reply reply) e.asked table handle)
@@ -186,10 +182,10 @@ module _ (first : Volume) (past : List Event) (e : Event) (law : Law first past 
       by_number false other = apart handle (ap (is_turn_of handle) is ∙ other)
   counts_misused step why is valid handle = apart handle (ap (is_turn_of handle) is)
 
-  counts_by : (outcome : Outcome) → Suits e.step outcome e.entry.did → misuse_of outcome ≡ why_not_after first past e.step → (handle : ℕ)
+  counts_by : (outcome : Outcome) → Suits e.step outcome e.asked → misuse_of outcome ≡ why_not_after first past e.step → (handle : ℕ)
       → Counts now handle (status_after (length past + 1) e.step outcome e.asked table handle)
   counts_by outcomes.Applied suits valid handle = counts_applied e.step refl suits.0 handle
-  counts_by outcomes.Pending suits valid handle = counts_pending e.step refl suits.0 (subst TellsCall law.did suits.1) handle
+  counts_by outcomes.Pending suits valid handle = counts_pending e.step refl suits.0 handle
   counts_by (outcomes.Reply reply) suits valid handle = counts_answered e.step reply refl suits handle
   counts_by (outcomes.Misuse why) suits valid handle = counts_misused e.step why refl valid handle
 
