@@ -30,8 +30,6 @@ use Rattle.gix_odb.specs.declared.look_state.Verdict.TheVariants as verdicts
 use Rattle.gix_odb.specs.declared.find.Error.TheVariants as find_errors
 use Rattle.gix_odb.specs.declared.find.Header.TheVariants as headers
 
--- ---- what one folder is asked
-
 -- the loose objects of a folder, for ids of the hash of one
 abbrev pub loose_store : (limit : Option ℕ) → ObjectId → Path → loose.Store
 loose_store limit id folder = record { path = folder; object_hash = kind_of id; options = record { alloc_limit_bytes = limit } }
@@ -67,8 +65,6 @@ verdict_on (loose_replies.Header (Ok (Some found))) = verdicts.Ends (replies.Hea
 verdict_on (loose_replies.Found (Err error)) = verdicts.Ends (refused error)
 verdict_on (loose_replies.Header (Err error)) = verdicts.Ends (refused error)
 verdict_on reply = verdicts.Misses
-
--- ---- the stages
 
 -- so far a query has come: the folder at a place comes next, among those beside the objects directory, and so much is noted
 abbrev pub round_at : (next : ℕ) → (noted : Option Error) → Round
