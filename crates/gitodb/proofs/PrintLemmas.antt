@@ -14,7 +14,8 @@ pub printed_at-nothing : (outcomes : List Outcome) (before : List ℕ) → befor
 unfolding printed_at
 printed_at-nothing outcomes before = sym (append-nil before)
 
-pub printed_at-more : (outcomes : List Outcome) (places before now next : List ℕ) (i : ℕ) → i < length places → now ≡ before ++ printed_at outcomes (take i places) → next ≡ now ++ line_of (slice_get outcomes (get_or places i 0)) → next ≡ before ++ printed_at outcomes (take (i + 1) places)
+pub printed_at-more : (outcomes : List Outcome) (places before now next : List ℕ) (i : ℕ) → i < length places → now ≡ before ++ printed_at outcomes (take i places)
+    → next ≡ now ++ line_of (slice_get outcomes (get_or places i 0)) → next ≡ before ++ printed_at outcomes (take (i + 1) places)
 unfolding printed_at
 printed_at-more outcomes places before now next i within so_far added =
     added ∙ ap (λ n. n ++ line_of (slice_get outcomes (get_or places i 0))) so_far

@@ -40,7 +40,12 @@ written_for_script : (input : Input) (text written : List ℕ) (status : Status)
     → IfSome input.left (λ script. AnswersWith script written status)
 written_for_script input text written status reads answers =
     holds_of_source script_limit input.left input.left' text (λ script. AnswersWith script written status) reads
-    (λ rest whole. record { ending = answers.ending; answers = Answers-front text rest written answers.ending whole answers.answers; status_is = answers.status_is ∙ ap (status_by answers.ending) (sym (told_of-read text rest whole)) })
+    (λ rest whole. record {
+      ending = answers.ending;
+      answers = Answers-front text rest written answers.ending whole answers.answers;
+      status_is = answers.status_is
+          ∙ ap (status_by answers.ending) (sym (told_of-read text rest whole));
+    })
 
 -- a script that ended whole is no longer than a script may be
 whole_is_short : (text written : List ℕ) → Answers text written Whole → length text ≤ script_limit
@@ -49,12 +54,14 @@ whole_is_short text written answers = elim (cases_lt script_limit (length text))
 -- ---- what a delivery says of a status
 
 -- an output that was delivered ends with its status, or with a failed write
-pub Ends-delivered : (s : Session) (output : List ℕ) (status result : Status) → Writes s output status → (Finishes s status → Ends s status) → Delivers WriteFault s.output output status result → Ends s result
+pub Ends-delivered : (s : Session) (output : List ℕ) (status result : Status) → Writes s output status → (Finishes s status → Ends s status)
+    → Delivers WriteFault s.output output status result → Ends s result
 Ends-delivered s output status result writes ends delivered =
     ends_delivered (Ends s) (Writes s) WriteFault s.output output status result writes ends (λ failed. failed) delivered
 
 -- a script that was answered ends with the status of its ending
-ends_by : (s : Session) (text written : List ℕ) (ending : Ending) (told : List ℕ) → s.command ≡ World → ReadsFile script_limit s.input.left s.input.left' text → Answers text written ending → Finishes s (status_by ending told)
+ends_by : (s : Session) (text written : List ℕ) (ending : Ending) (told : List ℕ) → s.command ≡ World → ReadsFile script_limit s.input.left s.input.left' text
+    → Answers text written ending → Finishes s (status_by ending told)
     → Ends s (status_by ending told)
 ends_by s text written Whole told world reads answers finished =
     (finished, subst (λ c. ReadsIts c s.input) (sym world) (ReadToEnd-short script_limit s.input.left s.input.left' text reads (whole_is_short text written answers)))

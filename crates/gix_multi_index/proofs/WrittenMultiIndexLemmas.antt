@@ -110,7 +110,8 @@ objects_more packs i pack below is =
 
 -- what is left of the limit, one pack on
 pub left_on : (packs : List given.NamedPack) (i left next : ℕ) (pack : given.NamedPack) → i < length packs → pack ≡ get_or packs i pack → length pack.objects ≤ left → next + length pack.objects ≡ left
-    → objects_over (map named_seen packs) + left ≡ 2 ^ 31 - 1 + objects_over (map named_seen (drop i packs)) → objects_over (map named_seen packs) + next ≡ 2 ^ 31 - 1 + objects_over (map named_seen (drop (i + 1) packs))
+    → objects_over (map named_seen packs) + left ≡ 2 ^ 31 - 1 + objects_over (map named_seen (drop i packs))
+    → objects_over (map named_seen packs) + next ≡ 2 ^ 31 - 1 + objects_over (map named_seen (drop (i + 1) packs))
 left_on packs i left next pack below is fits next_is so_far = let more = objects_more packs i pack below is in omega arith
 
 pub left_over : (packs : List given.NamedPack) (i left : ℕ) (pack : given.NamedPack) → i < length packs → pack ≡ get_or packs i pack → left < length pack.objects → left ≤ 2 ^ 31 - 1

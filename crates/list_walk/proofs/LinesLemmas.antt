@@ -13,6 +13,7 @@ flat_more f items item = flat_map-append f items (item ∷ []) ∙ ap (λ t. fla
 pub any_more : (p : Item → Bool) (items : List Item) (item : Item) → list_any p (items ++ item ∷ []) ≡ (list_any p items || p item)
 any_more p items item = list_any-append p items (item ∷ []) ∙ ap (λ b. list_any p items || b) (or-false (p item))
 
-pub yields_more : {S A : Type 0} (steps : S → Option A → S → Type 0) (s : S) (items : List A) (t : S) (item : A) (u : S) → Yields steps s items t → steps t (Some item) u → Yields steps s (items ++ item ∷ []) u
+pub yields_more : {S A : Type 0} (steps : S → Option A → S → Type 0) (s : S) (items : List A) (t : S) (item : A) (u : S) → Yields steps s items t → steps t (Some item) u
+    → Yields steps s (items ++ item ∷ []) u
 yields_more steps s [] t item u is step = (u, subst (λ x. steps x (Some item) u) (sym is) step, refl)
 yields_more steps s (first ∷ items) t item u along step = (along.0, along.1, yields_more steps along.0 items t item u along.2 step)

@@ -32,10 +32,12 @@ none_lost (item ∷ items) known =
     let parts = or_parts (is_want item) (list_any is_want items) known in (parts.0, none_lost items parts.1)
 
 -- A walk that was run to its end on a disk that tells its tree, and that had its memory, gave the items of the tree's walk.
-pub gave_walk : {T : Type 0} (order : T → Order) (built : Built T) (streams : Streams) (told : State) (items : List Item) → GaveAll (Some told) (begun order built streams) items → list_any is_want items ≡ false
+pub gave_walk : {T : Type 0} (order : T → Order) (built : Built T) (streams : Streams) (told : State) (items : List Item) → GaveAll (Some told) (begun order built streams) items
+    → list_any is_want items ≡ false
     → IsWalk (walking order (tree_of told) built) items
 gave_walk order built streams told items gave known =
-    whole_walk (λ at. at) (λ _. Some told) (Steps (Some told)) (λ s item t step. (step, refl)) order built streams told (begun order built streams) items gave.at gave.now refl refl gave.gave gave.ended
+    whole_walk (λ at. at) (λ _. Some told) (Steps (Some told)) (λ s item t step. (step, refl)) order built streams told
+    (begun order built streams) items gave.at gave.now refl refl gave.gave gave.ended
     (none_lost items known)
 
 walk_at : (sort : Bool) (root : Path) (options : Options) (streams : Streams) (told : State) (items : List Item)
@@ -49,7 +51,8 @@ walk_at false root options streams told items gave known =
 walks_of : (v : Visit) (status : Status) (wrote : IsWhole (listing_of v) status) → IfSome v.state (λ state. IsWalk (walking_of v.folder v.choices (tree_of state)) wrote.items)
 walks_of v status wrote =
     if_told v.state (λ state. IsWalk (walking_of v.folder v.choices (tree_of state)) wrote.items)
-    (λ told tells. walk_at v.choices.sort v.folder (options_of v.choices) v.before.streams told wrote.items (subst (λ state. GaveAll state (walk_of v.folder v.choices v.before.streams) wrote.items) tells wrote.gave) wrote.memory)
+    (λ told tells. walk_at v.choices.sort v.folder (options_of v.choices) v.before.streams told wrote.items
+    (subst (λ state. GaveAll state (walk_of v.folder v.choices v.before.streams) wrote.items) tells wrote.gave) wrote.memory)
 
 -- ---- how a walk ends
 
@@ -88,10 +91,12 @@ ends_visit v (Ok statuses.WriteFault) wrote = absurd wrote
 ends_visit v (Ok statuses.ErrorFault) wrote = absurd wrote
 ends_visit v (Err error) wrote = front_cut v wrote
 
-first_is : {T : Type 0} (order : T → Order) (folder : Path) (choices : Choices) (walk : Built T) (streams : Streams) → walk.root ≡ folder → walk.options ≡ options_of choices → option_map order walk.sorter ≡ order_by choices.sort
+first_is : {T : Type 0} (order : T → Order) (folder : Path) (choices : Choices) (walk : Built T) (streams : Streams) → walk.root ≡ folder → walk.options ≡ options_of choices
+    → option_map order walk.sorter ≡ order_by choices.sort
     → begun order walk streams ≡ walk_of folder choices streams
 first_is order folder choices walk streams root options sorted =
-    ap (λ x. with_parts x (option_map order walk.sorter) walk.root) options ∙ ap (λ x. with_parts (options_of choices) x walk.root) sorted ∙ ap (with_parts (options_of choices) (order_by choices.sort)) root
+    ap (λ x. with_parts x (option_map order walk.sorter) walk.root) options ∙ ap (λ x. with_parts (options_of choices) x walk.root) sorted
+    ∙ ap (with_parts (options_of choices) (order_by choices.sort)) root
   where
     with_parts : Options → Option Order → Path → Progress
     with_parts options order root = record { options = options; order = order; start = Some root; device = 0; stack = []; entered = false; streams = streams }

@@ -33,7 +33,8 @@ pub record SoFar (nul : Bool) (state : Option State) (first at : Progress) (faul
   pub tells : Adds told told' (errors_of items)
   pub fails : FailsByFault first faults (failures_among items) at faults'
 
-pub begins : (nul : Bool) (state : Option State) (first : Progress) (faults : ℕ) (held told : Option (List ℕ)) (text : List ℕ) → text ≡ [] → SoFar nul state first first faults faults held held told told text statuses.Done
+pub begins : (nul : Bool) (state : Option State) (first : Progress) (faults : ℕ) (held told : Option (List ℕ)) (text : List ℕ) → text ≡ []
+    → SoFar nul state first first faults faults held held told told text statuses.Done
 begins nul state first faults held told text none = record {
   items = [];
   gave = refl;
@@ -69,12 +70,14 @@ Front before now bytes = (count : ℕ) × Adds before now (take count bytes)
 pub all_of : (now next : Option (List ℕ)) (text : List ℕ) → Adds now next text → Front now next text
 all_of now next text added = (length text, subst (Adds now next) (sym (take-length text)) added)
 
-module _ (nul : Bool) (state : Option State) (first at : Progress) (x y z : ℕ) (held now next told tells more_told : Option (List ℕ)) (text : List ℕ) (status : Status) (so_far : SoFar nul state first at x y held now told tells text status) where
+module _ (nul : Bool) (state : Option State) (first at : Progress) (x y z : ℕ) (held now next told tells more_told : Option (List ℕ)) (text : List ℕ) (status : Status)
+    (so_far : SoFar nul state first at x y held now told tells text status) where
   delivered_more : (item : Item) (left : List ℕ) → TakesFront now next (text ++ line_of nul item) left → TakesFront held next (lines_of nul (so_far.items ++ item ∷ [])) left
   delivered_more item left given =
       let before = so_far.delivers in (
         before.0 ++ given.0,
-        flat_more (line_of nul) so_far.items item ∙ ap (λ t. t ++ line_of nul item) before.1 ∙ append_assoc before.0 text (line_of nul item) ∙ ap (λ t. before.0 ++ t) given.1 ∙ sym (append_assoc before.0 given.0 left),
+        flat_more (line_of nul) so_far.items item ∙ ap (λ t. t ++ line_of nul item) before.1 ∙ append_assoc before.0 text (line_of nul item) ∙ ap (λ t. before.0 ++ t) given.1
+            ∙ sym (append_assoc before.0 given.0 left),
         adds_both held now next before.0 given.0 before.2 given.2,
       )
 
@@ -83,7 +86,8 @@ module _ (nul : Bool) (state : Option State) (first at : Progress) (x y z : ℕ)
       subst (Adds told more_told) (sym (flat_more error_of so_far.items item)) (adds_both told tells more_told (errors_of so_far.items) (error_of item) so_far.tells more)
 
   pub more : (item : Item) (new : Progress) (left : List ℕ) (after : Status) → Steps state at (Some item) new → FailsByFault at y (failures_given (Some item)) new z → is_want item ≡ false
-      → TakesFront now next (text ++ line_of nul item) left → Adds tells more_told (error_of item) → after ≡ status_with (is_error item) status → SoFar nul state first new x z held next told more_told left after
+      → TakesFront now next (text ++ line_of nul item) left → Adds tells more_told (error_of item) → after ≡ status_with (is_error item) status
+      → SoFar nul state first new x z held next told more_told left after
   more item new left after step fails want given tell after_is = record {
     items = so_far.items ++ item ∷ [];
     gave = yields_more (Steps state) first so_far.items at item new so_far.gave step;
@@ -123,11 +127,13 @@ module _ (nul : Bool) (state : Option State) (first at : Progress) (x y z : ℕ)
       }
 
   -- the same of the line of an item more
-  pub front_more : (item : Item) (new : Progress) → Steps state at (Some item) new → FailsByFault at y (failures_given (Some item)) new z → Front now next (text ++ line_of nul item) → Front tells more_told (error_of item)
+  pub front_more : (item : Item) (new : Progress) → Steps state at (Some item) new → FailsByFault at y (failures_given (Some item)) new z
+      → Front now next (text ++ line_of nul item) → Front tells more_told (error_of item)
       → IsFront (record { state = state; first = first; nul = nul; held = held; held' = next; told = told; told' = more_told; disk_faults = x; disk_faults' = z })
   front_more item new step fails added tell =
       let all = adds_front held now next so_far.delivers.0 (text ++ line_of nul item) so_far.delivers.2 added in
-      let lines : lines_of nul (so_far.items ++ item ∷ []) ≡ so_far.delivers.0 ++ (text ++ line_of nul item) = flat_more (line_of nul) so_far.items item ∙ ap (λ t. t ++ line_of nul item) so_far.delivers.1 ∙ append_assoc so_far.delivers.0 text (line_of nul item) in
+      let lines : lines_of nul (so_far.items ++ item ∷ []) ≡ so_far.delivers.0 ++ (text ++ line_of nul item) = flat_more (line_of nul) so_far.items item
+      ∙ ap (λ t. t ++ line_of nul item) so_far.delivers.1 ∙ append_assoc so_far.delivers.0 text (line_of nul item) in
       let told_all = adds_front told tells more_told (errors_of so_far.items) (error_of item) so_far.tells tell in
       record {
         items = so_far.items ++ item ∷ [];
@@ -150,7 +156,8 @@ leaves_more state first at new item left step =
 pub back_after : {T : Type 0} (order : T → Order) (built : Built T) (streams : Streams) (first last : Progress) (now : Streams) → first ≡ begun order built streams → Leaves first last
     → ((before : Streams) → Keeps before last → AreBack before last.options.max_open now) → AreBack streams built.options.max_open now
 back_after order built streams first last now is left back =
-    subst (λ options. AreBack streams options.max_open now) (left.options ∙ ap (λ at. at.options) is) (back streams (left.keeps streams (subst (Keeps streams) (sym is) (begun_keeps order built streams))))
+    subst (λ options. AreBack streams options.max_open now) (left.options ∙ ap (λ at. at.options) is)
+    (back streams (left.keeps streams (subst (Keeps streams) (sym is) (begun_keeps order built streams))))
 
 pub back_on : {D : Type 0} (streams : D → Streams) (a b : D) (before : Streams) (most : ℕ) → a ≡ b → AreBack before most (streams a) → AreBack before most (streams b)
 back_on streams a b before most same back = subst (λ d. AreBack before most (streams d)) same back
@@ -176,7 +183,8 @@ ends_cut o (Ok status) is_err front = absurd (IfOk-from_err {E = LineError} (Ok 
 ends_cut o (Err error) is_err front = front
 
 -- what is gathered was written, or a front of it
-pub ends_by : (o : Listing) (result : Result Status LineError) (status : Status) (Whole Part : Type 0) → IfOk result (λ answer. (answer ≡ status) × Whole) → OnErr result Part → (Whole → EndsWritten o (Ok status))
+pub ends_by : (o : Listing) (result : Result Status LineError) (status : Status) (Whole Part : Type 0) → IfOk result (λ answer. (answer ≡ status) × Whole) → OnErr result Part
+    → (Whole → EndsWritten o (Ok status))
     → (Part → IsFront o) → EndsWritten o result
 ends_by o (Ok answer) status Whole Part ok err whole part = subst (λ s. EndsWritten o (Ok s)) (sym ok.0) (whole ok.1)
 ends_by o (Err error) status Whole Part ok err whole part = part err

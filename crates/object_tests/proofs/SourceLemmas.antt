@@ -21,8 +21,12 @@ ReadSoFar-more None now next bytes buffer n so_far reads =
 ReadSoFar-more (Some left) now next bytes buffer n so_far reads =
     let P : Option (List ℕ) → Type 0 = λ o. Reads o next buffer (Ok n) in
     let taken = taken_of so_far.0 next buffer n (subst P so_far.2 reads) in
-    let t = taken.2 in
-    (taken.0, so_far.1 ∙ ap (λ r. bytes ++ r) (sym (take-append-drop n so_far.0) ∙ ap (λ f. f ++ drop n so_far.0) (sym t.front) ∙ ap (λ r. take n buffer ++ r) (sym t.rest_is)) ∙ sym (append_assoc bytes (take n buffer) taken.0), taken.1)
+    let t = taken.2 in (
+      taken.0,
+      so_far.1 ∙ ap (λ r. bytes ++ r) (sym (take-append-drop n so_far.0) ∙ ap (λ f. f ++ drop n so_far.0) (sym t.front) ∙ ap (λ r. take n buffer ++ r) (sym t.rest_is))
+          ∙ sym (append_assoc bytes (take n buffer) taken.0),
+      taken.1,
+    )
 
 -- what was read came from the front
 pub Takes-ReadSoFar : (left now : Option (List ℕ)) (bytes : List ℕ) → ReadSoFar left now bytes → Takes left now

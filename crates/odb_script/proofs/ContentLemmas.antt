@@ -71,7 +71,8 @@ abbrev pub Lack : ℕ → List (List ℕ) → Type 0
 Lack c texts = AllByRecursion (λ t. lacks c t ≡ true) texts
 
 -- objects between commas
-pub objects_of-spelled : (text : List ℕ) (texts : List (List ℕ)) (objects : List Object) → Lack 44 (text ∷ texts) → Spell object_of (text ∷ texts) objects → objects_of (join_with_byte 44 (text ∷ texts)) ≡ Some objects
+pub objects_of-spelled : (text : List ℕ) (texts : List (List ℕ)) (objects : List Object) → Lack 44 (text ∷ texts) → Spell object_of (text ∷ texts) objects
+    → objects_of (join_with_byte 44 (text ∷ texts)) ≡ Some objects
 objects_of-spelled text texts objects lack are =
     ap (λ parts. items_of object_of parts []) (slice_split-join 44 text texts lack) ∙ items_of-spelled object_of (text ∷ texts) objects [] are
 
@@ -94,7 +95,8 @@ named_pack_of-spelled stem spelled objects lack e =
     ∙ ap (pack_by stem) e
 
 -- packs between semicolons
-pub packs_of-spelled : (text : List ℕ) (texts : List (List ℕ)) (packs : List NamedPack) → Lack 59 (text ∷ texts) → Spell named_pack_of (text ∷ texts) packs → packs_of (join_with_byte 59 (text ∷ texts)) ≡ Some packs
+pub packs_of-spelled : (text : List ℕ) (texts : List (List ℕ)) (packs : List NamedPack) → Lack 59 (text ∷ texts) → Spell named_pack_of (text ∷ texts) packs
+    → packs_of (join_with_byte 59 (text ∷ texts)) ≡ Some packs
 packs_of-spelled text texts packs lack are =
     ap (λ parts. items_of named_pack_of parts []) (slice_split-join 59 text texts lack) ∙ items_of-spelled named_pack_of (text ∷ texts) packs [] are
 

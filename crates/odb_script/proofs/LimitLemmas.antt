@@ -26,7 +26,8 @@ items_of-read text rest whole =
 
 -- ---- a script that is too long doesn't end whole
 
-carried-Whole : (lines : List Item) (number : ℕ) (t : Taken) → ((next : Script) → (reading_from lines (number + 1) next).ending ≢ Whole) → (carried (reading_from lines (number + 1)) number t).ending ≢ Whole
+carried-Whole : (lines : List Item) (number : ℕ) (t : Taken) → ((next : Script) → (reading_from lines (number + 1) next).ending ≢ Whole)
+    → (carried (reading_from lines (number + 1)) number t).ending ≢ Whole
 carried-Whole lines number (GoesOn next) further e = further next e
 carried-Whole lines number (RefusedHere script) further e = cc
 carried-Whole lines number (NotBuiltHere script) further e = cc

@@ -170,7 +170,8 @@ item_of-ignore handle small =
 
 -- questions about an id
 module _ (handle : ℕ) (id : List ℕ) (small : handle < 2 ^ 32) (is : IsId (ids.Sha1 id)) where
-  asked : (b : ℕ) (word : List ℕ) (question : Question) → (b == 35) ≡ false → IsField (b ∷ word) → word_of (b ∷ word) ≡ Some (words.Ask question) → item_of (line_of ((b ∷ word) ∷ decimal handle ∷ hex_of (ids.Sha1 id) ∷ [])) ≡ items.Play (One (steps.Start handle (call_of question (ids.Sha1 id))))
+  asked : (b : ℕ) (word : List ℕ) (question : Question) → (b == 35) ≡ false → IsField (b ∷ word) → word_of (b ∷ word) ≡ Some (words.Ask question)
+      → item_of (line_of ((b ∷ word) ∷ decimal handle ∷ hex_of (ids.Sha1 id) ∷ [])) ≡ items.Play (One (steps.Start handle (call_of question (ids.Sha1 id))))
   unfolding line_item
   asked b word question no_comment field word_is =
       item_of-line_of b word (decimal handle ∷ hex_of (ids.Sha1 id) ∷ []) no_comment (field, (IsField-decimal handle (omega arith), (IsField-hex_of (ids.Sha1 id) is, tt)))

@@ -29,7 +29,8 @@ items_in-more true line [] some = absurd (omega arith)
 items_in-more true line (other ∷ lines) some = refl
 
 -- the reading of lines begins with the first
-reading_from-more : (is_cut : Bool) (bytes line more : List ℕ) (number : ℕ) (script : Script) → lines_in bytes ≡ line ∷ lines_in more → reading_from (items_in is_cut (lines_in bytes)) number script ≡ carried (reading_from (items_in is_cut (lines_in more)) (number + 1)) number (taken script (item_of line))
+reading_from-more : (is_cut : Bool) (bytes line more : List ℕ) (number : ℕ) (script : Script) → lines_in bytes ≡ line ∷ lines_in more
+    → reading_from (items_in is_cut (lines_in bytes)) number script ≡ carried (reading_from (items_in is_cut (lines_in more)) (number + 1)) number (taken script (item_of line))
 unfolding reading_from
 reading_from-more is_cut bytes line more number script e =
     ap (λ lines. reading_from (items_in is_cut lines) number script) e
@@ -51,7 +52,8 @@ module _ (is_cut : Bool) (bytes line more : List ℕ) (number : ℕ) (script nex
   not_built e = begun ∙ ap (carried (reading_from (items_in is_cut (lines_in more)) (number + 1)) number) e
 
 -- the last line is taken, or refused where it is cut off
-pub last : (is_cut : Bool) (bytes : List ℕ) (number : ℕ) (script : Script) → lines_in bytes ≡ bytes ∷ [] → reading_from (items_in is_cut (lines_in bytes)) number script ≡ carried (reading_from [] (number + 1)) number (taken script (if is_cut then Refused else item_of bytes))
+pub last : (is_cut : Bool) (bytes : List ℕ) (number : ℕ) (script : Script) → lines_in bytes ≡ bytes ∷ []
+    → reading_from (items_in is_cut (lines_in bytes)) number script ≡ carried (reading_from [] (number + 1)) number (taken script (if is_cut then Refused else item_of bytes))
 unfolding reading_from
 last false bytes number script e = ap (λ lines. reading_from (items_in false lines) number script) e
 last true bytes number script e = ap (λ lines. reading_from (items_in true lines) number script) e
@@ -84,7 +86,8 @@ whole bytes short = rw (within (length bytes) script_limit short) refl
 -- ---- lines and line feeds
 
 -- what lines without line feeds say is what each of them says
-pub items_of-lines : (line : List ℕ) (lines : List (List ℕ)) → AllByRecursion (λ text. lacks 10 text ≡ true) (line ∷ lines) → length (join_with_byte 10 (line ∷ lines)) ≤ script_limit → items_of (join_with_byte 10 (line ∷ lines)) ≡ map item_of (line ∷ lines)
+pub items_of-lines : (line : List ℕ) (lines : List (List ℕ)) → AllByRecursion (λ text. lacks 10 text ≡ true) (line ∷ lines)
+    → length (join_with_byte 10 (line ∷ lines)) ≤ script_limit → items_of (join_with_byte 10 (line ∷ lines)) ≡ map item_of (line ∷ lines)
 items_of-lines line lines lack short =
     whole (join_with_byte 10 (line ∷ lines)) short ∙ ap (map item_of) (slice_split-join 10 line lines lack)
 

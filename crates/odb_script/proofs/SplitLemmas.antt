@@ -25,7 +25,8 @@ followed c (b ∷ text) rest h =
     slice_split-cons_no (λ d. d == c) b (text ++ c ∷ rest) (not-true _ parts.0) ∙ ap (onto_first b) (followed c text rest parts.1)
 
 -- texts without a byte are what their join at it is split into
-pub slice_split-join : (c : ℕ) (text : List ℕ) (texts : List (List ℕ)) → AllByRecursion (λ t. lacks c t ≡ true) (text ∷ texts) → slice_split (λ b. b == c) (join_with_byte c (text ∷ texts)) ≡ text ∷ texts
+pub slice_split-join : (c : ℕ) (text : List ℕ) (texts : List (List ℕ)) → AllByRecursion (λ t. lacks c t ≡ true) (text ∷ texts)
+    → slice_split (λ b. b == c) (join_with_byte c (text ∷ texts)) ≡ text ∷ texts
 slice_split-join c text [] lack = alone c text lack.0
 slice_split-join c text (other ∷ texts) lack =
     followed c text (join_with_byte c (other ∷ texts)) lack.0 ∙ ap (λ rest. text ∷ rest) (slice_split-join c other texts lack.1)
@@ -45,7 +46,8 @@ slice_split-push c (b ∷ text) =
     let p : ℕ → Bool = λ d. d == c in
     elim (bool_cases (b == c)) [
       | inl same ↦ rw (slice_split-cons_yes p b (text ++ c ∷ []) same, slice_split-cons_yes p b text same, slice_split-push c text) refl
-      | inr other ↦ rw (slice_split-cons_no p b (text ++ c ∷ []) other, slice_split-cons_no p b text other, slice_split-push c text) (onto_first-push b (slice_split p text) (omega (arith, length-slice_split p text)))
+      | inr other ↦ rw (slice_split-cons_no p b (text ++ c ∷ []) other, slice_split-cons_no p b text other, slice_split-push c text)
+          (onto_first-push b (slice_split p text) (omega (arith, length-slice_split p text)))
     ]
 
 -- ---- before and after the first
@@ -69,7 +71,8 @@ found_at : (n limit : ℕ) → n < limit → (if nat_lt n limit then Some n else
 found_at n limit h = rw (tested n limit h) refl
 
 -- the first part ends at the first such byte
-pub slice_split-first : (c : ℕ) (bytes : List ℕ) (end : ℕ) → position (λ b. b == c) bytes ≡ Some end → slice_split (λ b. b == c) bytes ≡ take end bytes ∷ slice_split (λ b. b == c) (take (length bytes - (end + 1)) (drop (end + 1) bytes))
+pub slice_split-first : (c : ℕ) (bytes : List ℕ) (end : ℕ) → position (λ b. b == c) bytes ≡ Some end
+    → slice_split (λ b. b == c) bytes ≡ take end bytes ∷ slice_split (λ b. b == c) (take (length bytes - (end + 1)) (drop (end + 1) bytes))
 slice_split-first c bytes end h =
     let at = position-Some (λ b. b == c) bytes end 0 h in
     let first : position_or_len (λ b. b == c) bytes ≡ end = position_or_len_is (λ b. b == c) bytes end 0 (omega arith) at.2 (λ _. at.1) in

@@ -22,7 +22,8 @@ use Rattle.probe_index.specs.Lines.{Answered, AreLines, IsIndexLine, IsPackLine,
 pub AreLines-nothing : (IsLine : ObjectId → List ℕ → Type 0) → AreLines IsLine [] []
 AreLines-nothing IsLine = record { answers = []; ids_are = refl; each = All-nil _; text_is = refl }
 
-pub AreLines-more : (IsLine : ObjectId → List ℕ → Type 0) (ids : List ObjectId) (i : ℕ) (d : ObjectId) (text line next : List ℕ) → i < length ids → AreLines IsLine (take i ids) text → IsLine (get_or ids i d) line → next ≡ text ++ line → AreLines IsLine (take (i + 1) ids) next
+pub AreLines-more : (IsLine : ObjectId → List ℕ → Type 0) (ids : List ObjectId) (i : ℕ) (d : ObjectId) (text line next : List ℕ) → i < length ids
+    → AreLines IsLine (take i ids) text → IsLine (get_or ids i d) line → next ≡ text ++ line → AreLines IsLine (take (i + 1) ids) next
 AreLines-more IsLine ids i d text line next within lines is added =
     let answer : Answered = record { id = get_or ids i d; line = line } in
     let holds : Answered → Type 0 = λ a. IsLine a.id a.line in
@@ -30,11 +31,13 @@ AreLines-more IsLine ids i d text line next within lines is added =
       answers = lines.answers ++ answer ∷ [];
       ids_are = map-append (λ (a : Answered). a.id) lines.answers (answer ∷ []) ∙ ap (λ front. front ++ get_or ids i d ∷ []) lines.ids_are ∙ sym (take_more ids i d within);
       each = All-append holds lines.answers (answer ∷ []) lines.each (All-cons holds answer [] is (All-nil holds));
-      text_is = added ∙ ap (λ t. t ++ line) lines.text_is ∙ ap (λ t. flat_map (λ (a : Answered). a.line) lines.answers ++ t) (sym (append-nil line)) ∙ sym (flat_map-append (λ (a : Answered). a.line) lines.answers (answer ∷ []));
+      text_is = added ∙ ap (λ t. t ++ line) lines.text_is ∙ ap (λ t. flat_map (λ (a : Answered). a.line) lines.answers ++ t) (sym (append-nil line))
+          ∙ sym (flat_map-append (λ (a : Answered). a.line) lines.answers (answer ∷ []));
     }
 
 -- a call that succeeded added a line
-pub added-line : {T E : Type 0} (r : Result T E) (IsLine : List ℕ → Type 0) (before now line : List ℕ) → IsLine line → OnOk r (now ≡ before ++ line) → OnOk r ((x : List ℕ) × IsLine x × (now ≡ before ++ x))
+pub added-line : {T E : Type 0} (r : Result T E) (IsLine : List ℕ → Type 0) (before now line : List ℕ) → IsLine line → OnOk r (now ≡ before ++ line)
+    → OnOk r ((x : List ℕ) × IsLine x × (now ≡ before ++ x))
 added-line (Ok x) IsLine before now line is added = (line, is, added)
 added-line (Err e) IsLine before now line is added = added
 
@@ -61,13 +64,15 @@ slice_get-zip xs ys k x y left right =
     slice_get-get_or (zip xs ys) k (x, y) within ∙ ap Some (get_or-zip xs ys k (x, y) in_left in_right ∙ cc (first, second))
 
 -- the ids of rows that are made of ids and offsets are those ids
-row_ids : (ids : List ObjectId) (offsets : List ℕ) (k : ℕ) (d : ObjectId) → k < length (zip ids offsets) → get_or (map (λ (row : Row). row.id) (map (λ (pair : ObjectId × ℕ). record { id = pair.0; offset = pair.1 }) (zip ids offsets))) k d ≡ get_or ids k d
+row_ids : (ids : List ObjectId) (offsets : List ℕ) (k : ℕ) (d : ObjectId) → k < length (zip ids offsets)
+    → get_or (map (λ (row : Row). row.id) (map (λ (pair : ObjectId × ℕ). record { id = pair.0; offset = pair.1 }) (zip ids offsets))) k d ≡ get_or ids k d
 row_ids [] offsets k d within = absurd (omega arith)
 row_ids (id ∷ ids) [] k d within = absurd (omega arith)
 row_ids (id ∷ ids) (offset ∷ offsets) zero d within = refl
 row_ids (id ∷ ids) (offset ∷ offsets) (suc k) d within = row_ids ids offsets k d (omega arith)
 
-Contains-row_ids : (ids : List ObjectId) (offsets : List ℕ) (id : ObjectId) → Contains (map (λ (row : Row). row.id) (map (λ (pair : ObjectId × ℕ). record { id = pair.0; offset = pair.1 }) (zip ids offsets))) id → Contains ids id
+Contains-row_ids : (ids : List ObjectId) (offsets : List ℕ) (id : ObjectId) → Contains
+    (map (λ (row : Row). row.id) (map (λ (pair : ObjectId × ℕ). record { id = pair.0; offset = pair.1 }) (zip ids offsets))) id → Contains ids id
 Contains-row_ids ids offsets id there =
     let pairs : List (ObjectId × ℕ) = zip ids offsets in
     let rows : List Row = map (λ (pair : ObjectId × ℕ). record { id = pair.0; offset = pair.1 }) pairs in
@@ -84,11 +89,14 @@ module _ (kind : Kind) (bytes : List ℕ) (id : ObjectId) where
       subst P (length-index_ids kind bytes) (slice_get_within (index_ids kind bytes) row id is)
 
   -- the line of an id by the row that it has in an index, or that it has none
-  pub IsIndexLine-found : (row offset : ℕ) → IsRowOf (index_ids kind bytes) id (Some row) → slice_get (index_offsets kind bytes) row ≡ Some offset → IsIndexLine (index_rows kind bytes) id (offset_line id offset)
+  pub IsIndexLine-found : (row offset : ℕ) → IsRowOf (index_ids kind bytes) id (Some row) → slice_get (index_offsets kind bytes) row ≡ Some offset
+      → IsIndexLine (index_rows kind bytes) id (offset_line id offset)
   IsIndexLine-found row offset is at =
       let found : Row = record { id = id; offset = offset } in
       let pairs = zip (index_ids kind bytes) (index_offsets kind bytes) in
-      let place = slice_get-map (λ (pair : ObjectId × ℕ). record { id = pair.0; offset = pair.1 }) pairs row ∙ ap (option_map (λ (pair : ObjectId × ℕ). record { id = pair.0; offset = pair.1 })) (slice_get-zip (index_ids kind bytes) (index_offsets kind bytes) row id offset is at) in
+      let place = slice_get-map (λ (pair : ObjectId × ℕ). record { id = pair.0; offset = pair.1 }) pairs row
+      ∙ ap (option_map (λ (pair : ObjectId × ℕ). record { id = pair.0; offset = pair.1 }))
+      (slice_get-zip (index_ids kind bytes) (index_offsets kind bytes) row id offset is at) in
       inl (record { row = found; is_there = Contains-slice_get (index_rows kind bytes) row found place; has_id = refl; line_is = refl })
 
   pub IsIndexLine-absent : IsRowOf (index_ids kind bytes) id None → IsIndexLine (index_rows kind bytes) id (absent_line id)
@@ -101,7 +109,9 @@ module _ (index : MultiIndex) (id : ObjectId) where
   pack_row_below row is = let P : ℕ → Type 0 = λ n. row < n in
       subst P (length-map index.rows (λ (row : PackRow). row.id)) (slice_get_within (map (λ (row : PackRow). row.id) index.rows) row id is)
 
-  by_row : (row pack offset : ℕ) (found : Option PackRow) → slice_get index.rows row ≡ found → option_map (λ (row : PackRow). row.id) found ≡ Some id → option_map (λ (row : PackRow). row.pack) found ≡ Some pack → option_map (λ (row : PackRow). row.offset) found ≡ Some offset → IsPackLine index id (pack_line id offset (name_at index.names pack))
+  by_row : (row pack offset : ℕ) (found : Option PackRow) → slice_get index.rows row ≡ found → option_map (λ (row : PackRow). row.id) found ≡ Some id
+      → option_map (λ (row : PackRow). row.pack) found ≡ Some pack → option_map (λ (row : PackRow). row.offset) found ≡ Some offset
+      → IsPackLine index id (pack_line id offset (name_at index.names pack))
   by_row row pack offset None at ids packs offsets = absurd (cc ids)
   by_row row pack offset (Some found) at ids packs offsets =
       let same_id : found.id ≡ id = cc ids in
@@ -110,7 +120,9 @@ module _ (index : MultiIndex) (id : ObjectId) where
       inl (record { row = found; is_there = Contains-slice_get index.rows row found at; has_id = same_id; line_is = cc (same_pack, same_offset) })
 
   -- the line of an id by the row that it has in a multi-index, or that it has none
-  pub IsPackLine-found : (row pack offset : ℕ) → IsRowOf (map (λ (row : PackRow). row.id) index.rows) id (Some row) → option_map (λ (row : PackRow). row.pack) (slice_get index.rows row) ≡ Some pack → option_map (λ (row : PackRow). row.offset) (slice_get index.rows row) ≡ Some offset → IsPackLine index id (pack_line id offset (name_at index.names pack))
+  pub IsPackLine-found : (row pack offset : ℕ) → IsRowOf (map (λ (row : PackRow). row.id) index.rows) id (Some row)
+      → option_map (λ (row : PackRow). row.pack) (slice_get index.rows row) ≡ Some pack → option_map (λ (row : PackRow). row.offset) (slice_get index.rows row) ≡ Some offset
+      → IsPackLine index id (pack_line id offset (name_at index.names pack))
   IsPackLine-found row pack offset is packs offsets =
       by_row row pack offset (slice_get index.rows row) refl (sym (slice_get-map (λ (row : PackRow). row.id) index.rows row) ∙ is) packs offsets
 

@@ -16,7 +16,9 @@ refusal_of-index kind bytes short format =
     ap (λ b. if b then Some TooLong else refusal_in kind bytes (format_of bytes)) test ∙ ap (refusal_in kind bytes) format
 
 -- what is written for a file that begins like an index
-pub answered-index : {T E : Type 0} (r : Result T E) (written : T → List ℕ) (status : T → Status) (asked : Asked) (bytes parsed : List ℕ) → parsed ≡ bytes → length bytes ≤ file_limit → format_of bytes ≡ Some Index → IfOk r (λ a. WritesIn asked parsed (written a) (status a) (index_refusal asked.kind parsed)) → IfOk r (λ a. WritesOf asked bytes (written a) (status a))
+pub answered-index : {T E : Type 0} (r : Result T E) (written : T → List ℕ) (status : T → Status) (asked : Asked) (bytes parsed : List ℕ) → parsed ≡ bytes
+    → length bytes ≤ file_limit → format_of bytes ≡ Some Index → IfOk r (λ a. WritesIn asked parsed (written a) (status a) (index_refusal asked.kind parsed))
+    → IfOk r (λ a. WritesOf asked bytes (written a) (status a))
 answered-index r written status asked bytes parsed same short format writes =
     let P : List ℕ → Type 0 = λ b. IfOk r (λ a. WritesIn asked b (written a) (status a) (index_refusal asked.kind b)) in
     let Q : Option Refusal → Type 0 = λ why. IfOk r (λ a. WritesIn asked bytes (written a) (status a) why) in

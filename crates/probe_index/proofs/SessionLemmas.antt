@@ -24,7 +24,8 @@ too_long : (kind : Kind) (bytes : List ℕ) → file_limit < length bytes → re
 too_long kind bytes long = let test : nat_lt file_limit (length bytes) ≡ true = grind (arith, nat_tests, long) in rw test refl
 
 -- what is written for bytes that are too long is written for any that are
-WritesOf-long : (asked : Asked) (bytes others written : List ℕ) (status : Status) → file_limit < length bytes → file_limit < length others → WritesOf asked bytes written status → WritesOf asked others written status
+WritesOf-long : (asked : Asked) (bytes others written : List ℕ) (status : Status) → file_limit < length bytes → file_limit < length others → WritesOf asked bytes written status
+    → WritesOf asked others written status
 WritesOf-long asked bytes others written status long too writes =
     let P : Option Refusal → Type 0 = λ why. WritesIn asked bytes written status why in
     let Q : Option Refusal → Type 0 = λ why. WritesIn asked others written status why in
@@ -32,7 +33,8 @@ WritesOf-long asked bytes others written status long too writes =
     subst Q (sym (too_long asked.kind others too)) refused
 
 -- a front that is the whole, or is longer than a file may be, is answered as the whole
-WritesOf-read : (asked : Asked) (bytes rest written : List ℕ) (status : Status) → (length bytes ≤ file_limit → rest ≡ []) → WritesOf asked bytes written status → WritesOf asked (bytes ++ rest) written status
+WritesOf-read : (asked : Asked) (bytes rest written : List ℕ) (status : Status) → (length bytes ≤ file_limit → rest ≡ []) → WritesOf asked bytes written status
+    → WritesOf asked (bytes ++ rest) written status
 WritesOf-read asked bytes rest written status whole writes =
     elim (cases_lt file_limit (length bytes)) [
       | inl long ↦ WritesOf-long asked bytes (bytes ++ rest) written status long (omega (arith, length-append bytes rest)) writes
@@ -64,7 +66,8 @@ done_is_short asked bytes written writes =
 -- ---- what a delivery says of a status
 
 -- an output that was delivered ends with its status, or with a failed write
-pub Ends-delivered : (s : Session) (output : List ℕ) (status result : Status) → Writes s output status → (Finishes s status → Ends s status) → Delivers statuses.WriteFault s.output output status result → Ends s result
+pub Ends-delivered : (s : Session) (output : List ℕ) (status result : Status) → Writes s output status → (Finishes s status → Ends s status)
+    → Delivers statuses.WriteFault s.output output status result → Ends s result
 Ends-delivered s output status result writes ends delivered =
     ends_delivered (Ends s) (Writes s) statuses.WriteFault s.output output status result writes ends (λ failed. failed) delivered
 
@@ -117,7 +120,11 @@ module _ (s : Session) (asked : Asked) (bytes output : List ℕ) (asks : s.comma
   ends-by : (status : Status) → WritesOf asked bytes output status → (status ≡ statuses.Done) ⊎ ((why : Refusal) × (status ≡ statuses.Refused why)) → Finishes s status → Ends s status
   ends-by status writes (inl done) finished =
       let P : Status → Type 0 = λ r. WritesOf asked bytes output r → Finishes s r → Ends s r in
-      subst P (sym done) (λ w f. (f, subst (λ c. ReadsIts c s.input) (sym asks) (ReadToEnd-short file_limit s.input.left s.input.left' bytes reads (done_is_short asked bytes output w)))) writes finished
+      subst P (sym done) (λ w f. (
+        f,
+        subst (λ c. ReadsIts c s.input) (sym asks)
+            (ReadToEnd-short file_limit s.input.left s.input.left' bytes reads (done_is_short asked bytes output w)),
+      )) writes finished
   ends-by status writes (inr refused) finished =
       let P : Status → Type 0 = λ r. Finishes s r → Ends s r in
       subst P (sym refused.1) (λ f. ((asked, asks), f)) finished

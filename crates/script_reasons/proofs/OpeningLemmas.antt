@@ -53,11 +53,13 @@ chosen_some (option ∷ options) chosen spelled slots =
     let rest = chosen_some options (with_choice chosen choice.0) spelled.1 (further choice.0 choice.1 slots) in
     (rest.0, ap (with_next (chosen_by options) chosen) choice.1 ∙ rest.1, rest.2)
   where
-    by_test : (choice : Choice) → choice_of option ≡ Some choice → (b : Bool) → gives_slots option ≡ b → (b || list_any gives_slots options) ≡ true → (is_some (with_choice chosen choice).slots ≡ true) ⊎ (list_any gives_slots options ≡ true)
+    by_test : (choice : Choice) → choice_of option ≡ Some choice → (b : Bool) → gives_slots option ≡ b → (b || list_any gives_slots options) ≡ true
+        → (is_some (with_choice chosen choice).slots ≡ true) ⊎ (list_any gives_slots options ≡ true)
     by_test choice is true gives h = inl (new_slots chosen choice (slots_choice option choice gives is))
     by_test choice is false gives h = inr h
 
-    further : (choice : Choice) → choice_of option ≡ Some choice → (is_some chosen.slots ≡ true) ⊎ (list_any gives_slots (option ∷ options) ≡ true) → (is_some (with_choice chosen choice).slots ≡ true) ⊎ (list_any gives_slots options ≡ true)
+    further : (choice : Choice) → choice_of option ≡ Some choice → (is_some chosen.slots ≡ true) ⊎ (list_any gives_slots (option ∷ options) ≡ true)
+        → (is_some (with_choice chosen choice).slots ≡ true) ⊎ (list_any gives_slots options ≡ true)
     further choice is (inl has) = inl (keeps_slots chosen choice has)
     further choice is (inr some) = by_test choice is (gives_slots option) refl some
 

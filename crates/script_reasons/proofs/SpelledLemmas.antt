@@ -72,7 +72,8 @@ change_some changes.Put [] all = absurd all
 change_some changes.Put (path ∷ []) all = absurd all.1
 change_some changes.Put (path ∷ time ∷ []) all = absurd all.1.1
 change_some changes.Put (path ∷ time ∷ content ∷ []) all =
-    let p = some_is (path_of path) all.0 in let t = some_is (number_of time) all.1.0 in let c = some_is (content_of content) all.1.1.0 in (made.PutFile p.0 t.0 c.0, put_is path p.0 p.1 time content t.0 c.0 t.1 c.1)
+    let p = some_is (path_of path) all.0 in let t = some_is (number_of time) all.1.0 in let c = some_is (content_of content) all.1.1.0 in
+    (made.PutFile p.0 t.0 c.0, put_is path p.0 p.1 time content t.0 c.0 t.1 c.1)
 change_some changes.Put (path ∷ time ∷ content ∷ more ∷ rest) all = absurd all.1.1.1
 change_some changes.Link [] all = absurd all
 change_some changes.Link (path ∷ []) all = absurd all.1

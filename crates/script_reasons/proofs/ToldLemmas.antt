@@ -9,7 +9,8 @@ pub shown_bytes-nothing : (before : List ℕ) → before ≡ before ++ shown_byt
 unfolding shown_bytes
 shown_bytes-nothing before = sym (append-nil before)
 
-pub shown_bytes-more : (bytes before now next : List ℕ) (i : ℕ) → i < length bytes → now ≡ before ++ shown_bytes (take i bytes) → next ≡ now ++ shown_byte (get_or bytes i 0) → next ≡ before ++ shown_bytes (take (i + 1) bytes)
+pub shown_bytes-more : (bytes before now next : List ℕ) (i : ℕ) → i < length bytes → now ≡ before ++ shown_bytes (take i bytes) → next ≡ now ++ shown_byte (get_or bytes i 0)
+    → next ≡ before ++ shown_bytes (take (i + 1) bytes)
 unfolding shown_bytes
 shown_bytes-more bytes before now next i within so_far added =
     added ∙ ap (λ n. n ++ shown_byte (get_or bytes i 0)) so_far

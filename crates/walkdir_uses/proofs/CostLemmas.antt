@@ -38,18 +38,22 @@ within_given items error (inr ends) = ends_within items error ends
 module _ {D W : Type 0} (state : D → Option State) (streams : D → Streams) (faults : D → ℕ) (answered : D → DiskAsk → DiskAnswer → D → Type 0) (progress : W → Streams → Progress) where
   -- what a walk gives last, it gives by faults since it began
   pub costs_of_next : {T : Type 0} (order : T → Order) (built : Built T) (before : Streams) (s : OnDisk D W) (items : List Item) (t : OnDisk D W) (item : Option Item) (u : OnDisk D W)
-      → at_walk state streams faults answered progress s ≡ begun order built before → Yields (NextOn state streams faults answered progress) s items t → NextOn state streams faults answered progress t item u
+      → at_walk state streams faults answered progress s ≡ begun order built before → Yields (NextOn state streams faults answered progress) s items t
+      → NextOn state streams faults answered progress t item u
       → Costs (failures_given item) (faults s.disk.now) (faults u.disk.now)
   costs_of_next order built before s items t item u is along last =
-      let fails = fails_then (at_walk state streams faults answered progress s) (at_walk state streams faults answered progress t) (at_walk state streams faults answered progress u) (faults s.disk.now) (faults t.disk.now)
+      let fails = fails_then (at_walk state streams faults answered progress s) (at_walk state streams faults answered progress t)
+      (at_walk state streams faults answered progress u) (faults s.disk.now) (faults t.disk.now)
       (faults u.disk.now) (failures_among items) (failures_given item) (failures_along state streams faults answered progress s items t along) last.2 in
       costs_fewer (failures_among items + failures_given item) (failures_given item) (faults s.disk.now) (faults u.disk.now) (omega arith)
-      (costs_begun (at_walk state streams faults answered progress s) (at_walk state streams faults answered progress u) (faults s.disk.now) (faults u.disk.now) (failures_among items + failures_given item)
+      (costs_begun (at_walk state streams faults answered progress s) (at_walk state streams faults answered progress u) (faults s.disk.now) (faults u.disk.now)
+      (failures_among items + failures_given item)
       (ap (λ (p : Progress). waiting p.stack) is) fails)
 
   after_rejected : (entered : Bool) (s t : OnDisk D W) → MatchBool entered (SkipsOn state streams faults answered progress s t) (t ≡ s)
       → FailsByFault (at_walk state streams faults answered progress s) (faults s.disk.now) 0 (at_walk state streams faults answered progress t) (faults t.disk.now)
-  after_rejected true s t skip = fails_skipped (at_walk state streams faults answered progress s) (at_walk state streams faults answered progress t) (faults s.disk.now) (faults t.disk.now) skip.0.stack skip.2
+  after_rejected true s t skip = fails_skipped (at_walk state streams faults answered progress s) (at_walk state streams faults answered progress t) (faults s.disk.now)
+      (faults t.disk.now) skip.0.stack skip.2
   after_rejected false s t is =
       subst (λ x. FailsByFault (at_walk state streams faults answered progress s) (faults s.disk.now) 0 (at_walk state streams faults answered progress x) (faults x.disk.now)) (sym is)
       (fails_none (at_walk state streams faults answered progress s) (faults s.disk.now))
@@ -64,19 +68,23 @@ module _ {D W : Type 0} (state : D → Option State) (streams : D → Streams) (
     fails_filtered (Errs step) = step.2
     fails_filtered (Accepts step called) = step.2
     fails_filtered {s} {t} {item = item} (Rejects m n g entry step called after rest) =
-        fails_next (at_walk state streams faults answered progress s) (at_walk state streams faults answered progress m) (at_walk state streams faults answered progress t) (faults s.disk.now) (faults m.disk.now) (faults t.disk.now)
+        fails_next (at_walk state streams faults answered progress s) (at_walk state streams faults answered progress m) (at_walk state streams faults answered progress t)
+        (faults s.disk.now) (faults m.disk.now) (faults t.disk.now)
         (failures_given item) step.2
-        (fails_next (at_walk state streams faults answered progress m) (at_walk state streams faults answered progress n) (at_walk state streams faults answered progress t) (faults m.disk.now) (faults n.disk.now) (faults t.disk.now)
+        (fails_next (at_walk state streams faults answered progress m) (at_walk state streams faults answered progress n) (at_walk state streams faults answered progress t)
+        (faults m.disk.now) (faults n.disk.now) (faults t.disk.now)
         (failures_given item) (after_rejected (at_walk state streams faults answered progress m).entered m n after) (fails_filtered rest))
 
   pub fails_filtered_along : {F : Type 0} (accepts : Mut F (Bor DirEntry × Unit {0}) Bool) (s : FilterEntry (OnDisk D W) F) (items : List Item) (t : FilterEntry (OnDisk D W) F)
       → Yields (λ from item to. FiltersOn state streams faults answered progress accepts from.walk from.predicate item to.walk to.predicate) s items t
-      → FailsByFault (at_walk state streams faults answered progress s.walk) (faults s.walk.disk.now) (failures_among items) (at_walk state streams faults answered progress t.walk) (faults t.walk.disk.now)
+      → FailsByFault (at_walk state streams faults answered progress s.walk) (faults s.walk.disk.now) (failures_among items) (at_walk state streams faults answered progress t.walk)
+      (faults t.walk.disk.now)
   fails_filtered_along accepts s [] t is =
       subst (λ x. FailsByFault (at_walk state streams faults answered progress s.walk) (faults s.walk.disk.now) 0 (at_walk state streams faults answered progress x.walk) (faults x.walk.disk.now)) is
       (fails_none (at_walk state streams faults answered progress s.walk) (faults s.walk.disk.now))
   fails_filtered_along accepts s (item ∷ items) t along =
-      fails_then (at_walk state streams faults answered progress s.walk) (at_walk state streams faults answered progress along.0.walk) (at_walk state streams faults answered progress t.walk) (faults s.walk.disk.now)
+      fails_then (at_walk state streams faults answered progress s.walk) (at_walk state streams faults answered progress along.0.walk)
+      (at_walk state streams faults answered progress t.walk) (faults s.walk.disk.now)
       (faults along.0.walk.disk.now) (faults t.walk.disk.now) (failures_of item) (failures_among items) (fails_filtered along.1) (fails_filtered_along accepts along.0 items t along.2)
 
   -- what a filtered walk leaves as it was, and the failures in what it gave, up to its end or its first error
@@ -85,21 +93,26 @@ module _ {D W : Type 0} (state : D → Option State) (streams : D → Streams) (
     pub fails : FailsByFault (at_walk state streams faults answered progress s) (faults s.disk.now) count (at_walk state streams faults answered progress t) (faults t.disk.now)
 
   pub passed : {F V : Type 0} (accepts : Mut F (Bor DirEntry × Unit {0}) Bool) (entries_in : V → List DirEntry) (result : Result V Error) (s t : FilterEntry (OnDisk D W) F)
-      → IfOk result (λ found. YieldsThen (λ from item to. FiltersOn state streams faults answered progress accepts from.walk from.predicate item to.walk to.predicate) s (map Ok (entries_in found)) None t)
+      → IfOk result (λ found. YieldsThen (λ from item to. FiltersOn state streams faults answered progress accepts from.walk from.predicate item to.walk to.predicate) s
+      (map Ok (entries_in found)) None t)
       → IfErr result (λ error. (items : List Item) × Yields (λ from item to. FiltersOn state streams faults answered progress accepts from.walk from.predicate item to.walk to.predicate) s items t
       × ((is_no_memory error ≡ true) ⊎ EndsWith items error)) → Passed s.walk t.walk (failures_of result)
   passed accepts entries_in (Ok found) s t whole part =
       let items : List Item = map Ok (entries_in found) in
       let mid = whole.0 in
       record {
-        kept = kept_then state streams faults answered progress s.walk mid.walk t.walk (kept_along state streams faults answered progress accepts s items mid whole.1) (kept_filters state streams faults answered progress whole.2);
-        fails = fails_fewer (at_walk state streams faults answered progress s.walk) (at_walk state streams faults answered progress t.walk) (faults s.walk.disk.now) (faults t.walk.disk.now) (failures_among items + 0) 0
+        kept = kept_then state streams faults answered progress s.walk mid.walk t.walk (kept_along state streams faults answered progress accepts s items mid whole.1)
+            (kept_filters state streams faults answered progress whole.2);
+        fails = fails_fewer (at_walk state streams faults answered progress s.walk) (at_walk state streams faults answered progress t.walk) (faults s.walk.disk.now)
+            (faults t.walk.disk.now) (failures_among items + 0) 0
             (omega arith)
-            (fails_then (at_walk state streams faults answered progress s.walk) (at_walk state streams faults answered progress mid.walk) (at_walk state streams faults answered progress t.walk) (faults s.walk.disk.now)
+            (fails_then (at_walk state streams faults answered progress s.walk) (at_walk state streams faults answered progress mid.walk)
+            (at_walk state streams faults answered progress t.walk) (faults s.walk.disk.now)
             (faults mid.walk.disk.now) (faults t.walk.disk.now) (failures_among items) 0 (fails_filtered_along accepts s items mid whole.1) (fails_filtered whole.2));
       }
   passed accepts entries_in (Err error) s t whole part = record {
     kept = kept_along state streams faults answered progress accepts s part.0 t part.1;
-    fails = fails_fewer (at_walk state streams faults answered progress s.walk) (at_walk state streams faults answered progress t.walk) (faults s.walk.disk.now) (faults t.walk.disk.now) (failures_among part.0)
+    fails = fails_fewer (at_walk state streams faults answered progress s.walk) (at_walk state streams faults answered progress t.walk) (faults s.walk.disk.now)
+        (faults t.walk.disk.now) (failures_among part.0)
         (failures error) (within_given part.0 error part.2) (fails_filtered_along accepts s part.0 t part.1);
   }

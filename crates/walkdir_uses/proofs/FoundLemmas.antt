@@ -44,7 +44,8 @@ pub if_err_then : {A E : Type 0} (result : Result A E) (First Second : E → Typ
 if_err_then (Ok x) First Second first further = tt
 if_err_then (Err e) First Second first further = further e first
 
-pub lost_or_first : (walk : Walking) (error : Error) (lost : Bool) → is_no_memory error ≡ lost → (is_no_memory error ≡ false → ComesFirst walk error) → (is_no_memory error ≡ true) ⊎ ComesFirst walk error
+pub lost_or_first : (walk : Walking) (error : Error) (lost : Bool) → is_no_memory error ≡ lost → (is_no_memory error ≡ false → ComesFirst walk error)
+    → (is_no_memory error ≡ true) ⊎ ComesFirst walk error
 lost_or_first walk error true is first = inl is
 lost_or_first walk error false is first = inr (first is)
 
@@ -98,7 +99,8 @@ add_capped : (total more size : ℕ) → size ≡ min total (2 ^ 64 - 1) → min
 add_capped total more size is = omega arith
 
 -- a file adds its length
-pub size_file : (tree : Tree) (entries : List DirEntry) (entry : DirEntry) (meta : Meta) (size : ℕ) → is_file entry ≡ true → told_at entry.depth entry.path (looked tree entry.path entry.followed) ≡ Ok meta
+pub size_file : (tree : Tree) (entries : List DirEntry) (entry : DirEntry) (meta : Meta) (size : ℕ) → is_file entry ≡ true
+    → told_at entry.depth entry.path (looked tree entry.path entry.followed) ≡ Ok meta
     → size ≡ total_size tree entries → min (size + meta.len) (2 ^ 64 - 1) ≡ total_size tree (entries ++ entry ∷ [])
 size_file tree entries entry meta size file tells is =
     let files : sum_by (size_at tree) (filter is_file (entries ++ entry ∷ [])) ≡ sum_by (size_at tree) (filter is_file entries) + size_at tree entry =

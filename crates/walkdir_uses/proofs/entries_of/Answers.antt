@@ -38,27 +38,33 @@ returns-clause-only g c =
 -- where the walk is over, and at each `?`, it is dropped
 pub returns-clause-back : goal.returns-clause-back
 returns-clause-back g c =
-    let begun = ap (at_walk g.D.Disk.state g.D.Disk.streams g.D.Disk.faults g.D.Disk.answered (λ walk streams. progress g.S.Sorter.order walk streams)) c.into_iter-entry-iterator.ensures.into_iter_gives
+    let begun = ap (at_walk g.D.Disk.state g.D.Disk.streams g.D.Disk.faults g.D.Disk.answered
+    (λ walk streams. progress g.S.Sorter.order walk streams)) c.into_iter-entry-iterator.ensures.into_iter_gives
     ∙ c.in_ok-entry-items.ensures.begun in
-    let back = left_back g.D.Disk.state g.D.Disk.streams g.D.Disk.faults g.D.Disk.answered (λ walk streams. progress g.S.Sorter.order walk streams) g.S.Sorter.order c.args.walk (g.D.Disk.streams c.args.disk.now)
+    let back = left_back g.D.Disk.state g.D.Disk.streams g.D.Disk.faults g.D.Disk.answered (λ walk streams. progress g.S.Sorter.order walk streams) g.S.Sorter.order c.args.walk
+    (g.D.Disk.streams c.args.disk.now)
     (g.D.Disk.streams c.drop-entry-iterator-2.new.self.0) c.into_iter-entry-iterator.result c.loop-entry.yielded c.loop-entry.entry-iterator c.next.result c.next.new.self begun c.loop-entry.yielded_by
     c.next.ensures.steps c.drop-entry-iterator-2.ensures.back in
     search rules
 
 pub returns-in_err-push-clause-back : goal.returns-in_err-push-clause-back
 returns-in_err-push-clause-back g c =
-    let begun = ap (at_walk g.D.Disk.state g.D.Disk.streams g.D.Disk.faults g.D.Disk.answered (λ walk streams. progress g.S.Sorter.order walk streams)) c.into_iter-entry-iterator.ensures.into_iter_gives
+    let begun = ap (at_walk g.D.Disk.state g.D.Disk.streams g.D.Disk.faults g.D.Disk.answered
+    (λ walk streams. progress g.S.Sorter.order walk streams)) c.into_iter-entry-iterator.ensures.into_iter_gives
     ∙ c.in_ok-entry-items.ensures.begun in
-    let back = left_back g.D.Disk.state g.D.Disk.streams g.D.Disk.faults g.D.Disk.answered (λ walk streams. progress g.S.Sorter.order walk streams) g.S.Sorter.order c.args.walk (g.D.Disk.streams c.args.disk.now)
+    let back = left_back g.D.Disk.state g.D.Disk.streams g.D.Disk.faults g.D.Disk.answered (λ walk streams. progress g.S.Sorter.order walk streams) g.S.Sorter.order c.args.walk
+    (g.D.Disk.streams c.args.disk.now)
     (g.D.Disk.streams c.drop-entry-iterator-in_err-push.new.self.0) c.into_iter-entry-iterator.result c.loop-entry.yielded c.loop-entry.entry-iterator c.next.result c.next.new.self begun c.loop-entry.yielded_by
     c.next.ensures.steps c.drop-entry-iterator-in_err-push.ensures.back in
     search rules
 
 pub returns-in_err-entry-clause-back : goal.returns-in_err-entry-clause-back
 returns-in_err-entry-clause-back g c =
-    let begun = ap (at_walk g.D.Disk.state g.D.Disk.streams g.D.Disk.faults g.D.Disk.answered (λ walk streams. progress g.S.Sorter.order walk streams)) c.into_iter-entry-iterator.ensures.into_iter_gives
+    let begun = ap (at_walk g.D.Disk.state g.D.Disk.streams g.D.Disk.faults g.D.Disk.answered
+    (λ walk streams. progress g.S.Sorter.order walk streams)) c.into_iter-entry-iterator.ensures.into_iter_gives
     ∙ c.in_ok-entry-items.ensures.begun in
-    let back = left_back g.D.Disk.state g.D.Disk.streams g.D.Disk.faults g.D.Disk.answered (λ walk streams. progress g.S.Sorter.order walk streams) g.S.Sorter.order c.args.walk (g.D.Disk.streams c.args.disk.now)
+    let back = left_back g.D.Disk.state g.D.Disk.streams g.D.Disk.faults g.D.Disk.answered (λ walk streams. progress g.S.Sorter.order walk streams) g.S.Sorter.order c.args.walk
+    (g.D.Disk.streams c.args.disk.now)
     (g.D.Disk.streams c.drop-entry-iterator.new.self.0) c.into_iter-entry-iterator.result c.loop-entry.yielded c.loop-entry.entry-iterator c.next.result c.next.new.self begun c.loop-entry.yielded_by
     c.next.ensures.steps c.drop-entry-iterator.ensures.back in
     search rules
@@ -74,10 +80,12 @@ returns-in_err-entry-clause-first g c =
     if_told (g.D.Disk.state c.args.disk.now) _ (λ s told.
     if_err c.from_residual-in_err-entry.result error _ c.from_residual-in_err-entry.ensures.1
     (lost_or_first (walking g.S.Sorter.order (tree_of s) c.args.walk) error (is_no_memory error) refl (λ kept.
-    let found = begins_on_disk g.D.Disk.state g.D.Disk.streams g.D.Disk.faults g.D.Disk.answered (λ walk streams. progress g.S.Sorter.order walk streams) g.S.Sorter.order c.args.walk (g.D.Disk.streams c.args.disk.now) s
+    let found = begins_on_disk g.D.Disk.state g.D.Disk.streams g.D.Disk.faults g.D.Disk.answered
+    (λ walk streams. progress g.S.Sorter.order walk streams) g.S.Sorter.order c.args.walk (g.D.Disk.streams c.args.disk.now) s
     c.into_iter-entry-iterator.result c.loop-entry.yielded c.loop-entry.entry-iterator (Err error) c.next.new.self begun
     (ap (λ x. g.D.Disk.state x.disk.now) same ∙ (ap g.D.Disk.state c.in_ok-entry-items.ensures.same ∙ told)) c.loop-entry.yielded_by
-    (subst (λ item. NextOn g.D.Disk.state g.D.Disk.streams g.D.Disk.faults g.D.Disk.answered (λ walk streams. progress g.S.Sorter.order walk streams) c.loop-entry.entry-iterator item c.next.new.self) given c.next.ensures.steps)
+    (subst (λ item. NextOn g.D.Disk.state g.D.Disk.streams g.D.Disk.faults g.D.Disk.answered
+    (λ walk streams. progress g.S.Sorter.order walk streams) c.loop-entry.entry-iterator item c.next.new.self) given c.next.ensures.steps)
     (subst NoneLost c.loop-entry.invariant.items (entries_kept entries)) kept in
     (entries, found.0, subst (λ items. IsWalk (walking g.S.Sorter.order (tree_of s) c.args.walk) (items ++ Err error ∷ found.0)) (sym c.loop-entry.invariant.items) found.1))))
 
@@ -88,7 +96,8 @@ pub returns-clause-cost : goal.returns-clause-cost
 returns-clause-cost g c =
     let same = c.into_iter-entry-iterator.ensures.into_iter_gives in
     let begun = ap (at_walk g.D.Disk.state g.D.Disk.streams g.D.Disk.faults g.D.Disk.answered (λ walk streams. progress g.S.Sorter.order walk streams)) same ∙ c.in_ok-entry-items.ensures.begun in
-    let costs = costs_of_next g.D.Disk.state g.D.Disk.streams g.D.Disk.faults g.D.Disk.answered (λ walk streams. progress g.S.Sorter.order walk streams) g.S.Sorter.order c.args.walk (g.D.Disk.streams c.args.disk.now)
+    let costs = costs_of_next g.D.Disk.state g.D.Disk.streams g.D.Disk.faults g.D.Disk.answered
+    (λ walk streams. progress g.S.Sorter.order walk streams) g.S.Sorter.order c.args.walk (g.D.Disk.streams c.args.disk.now)
     c.into_iter-entry-iterator.result c.loop-entry.yielded c.loop-entry.entry-iterator c.next.result c.next.new.self begun c.loop-entry.yielded_by c.next.ensures.steps in
     let cost = costs_as 0 _ _ _ _ (ap (λ x. g.D.Disk.faults x.disk.now) same ∙ ap g.D.Disk.faults c.in_ok-entry-items.ensures.same) c.drop-entry-iterator-2.ensures.faults (costs_zero _ _ _ costs) in
     search rules
@@ -98,7 +107,8 @@ pub returns-in_err-push-clause-cost : goal.returns-in_err-push-clause-cost
 returns-in_err-push-clause-cost g c =
     let same = c.into_iter-entry-iterator.ensures.into_iter_gives in
     let begun = ap (at_walk g.D.Disk.state g.D.Disk.streams g.D.Disk.faults g.D.Disk.answered (λ walk streams. progress g.S.Sorter.order walk streams)) same ∙ c.in_ok-entry-items.ensures.begun in
-    let costs = costs_of_next g.D.Disk.state g.D.Disk.streams g.D.Disk.faults g.D.Disk.answered (λ walk streams. progress g.S.Sorter.order walk streams) g.S.Sorter.order c.args.walk (g.D.Disk.streams c.args.disk.now)
+    let costs = costs_of_next g.D.Disk.state g.D.Disk.streams g.D.Disk.faults g.D.Disk.answered
+    (λ walk streams. progress g.S.Sorter.order walk streams) g.S.Sorter.order c.args.walk (g.D.Disk.streams c.args.disk.now)
     c.into_iter-entry-iterator.result c.loop-entry.yielded c.loop-entry.entry-iterator c.next.result c.next.new.self begun c.loop-entry.yielded_by c.next.ensures.steps in
     let cost = costs_of_error c.from_residual-in_err-push.result no_memory _ _ (search rules)
     (costs_as 0 _ _ _ _ (ap (λ x. g.D.Disk.faults x.disk.now) same ∙ ap g.D.Disk.faults c.in_ok-entry-items.ensures.same) c.drop-entry-iterator-in_err-push.ensures.faults (costs_zero _ _ _ costs)) in
@@ -110,7 +120,8 @@ returns-in_err-entry-clause-cost g c =
     let error = c.in_err-entry.field-0.0 in
     let same = c.into_iter-entry-iterator.ensures.into_iter_gives in
     let begun = ap (at_walk g.D.Disk.state g.D.Disk.streams g.D.Disk.faults g.D.Disk.answered (λ walk streams. progress g.S.Sorter.order walk streams)) same ∙ c.in_ok-entry-items.ensures.begun in
-    let costs = costs_of_next g.D.Disk.state g.D.Disk.streams g.D.Disk.faults g.D.Disk.answered (λ walk streams. progress g.S.Sorter.order walk streams) g.S.Sorter.order c.args.walk (g.D.Disk.streams c.args.disk.now)
+    let costs = costs_of_next g.D.Disk.state g.D.Disk.streams g.D.Disk.faults g.D.Disk.answered
+    (λ walk streams. progress g.S.Sorter.order walk streams) g.S.Sorter.order c.args.walk (g.D.Disk.streams c.args.disk.now)
     c.into_iter-entry-iterator.result c.loop-entry.yielded c.loop-entry.entry-iterator (Some (Err error)) c.next.new.self begun c.loop-entry.yielded_by
     (subst (λ item. NextOn g.D.Disk.state g.D.Disk.streams g.D.Disk.faults g.D.Disk.answered (λ walk streams. progress g.S.Sorter.order walk streams) c.loop-entry.entry-iterator item c.next.new.self)
     (c.in-Some.is ∙ ap Some c.in_err-entry.was) c.next.ensures.steps) in
@@ -132,11 +143,13 @@ returns-in_err-entry-clause-told g c =
     let error = c.in_err-entry.field-0.0 in
     let same = c.into_iter-entry-iterator.ensures.into_iter_gives in
     let begun = ap (at_walk g.D.Disk.state g.D.Disk.streams g.D.Disk.faults g.D.Disk.answered (λ walk streams. progress g.S.Sorter.order walk streams)) same ∙ c.in_ok-entry-items.ensures.begun in
-    let next = told_next g.D.Disk.state g.D.Disk.streams g.D.Disk.faults g.D.Disk.answered (λ walk streams. progress g.S.Sorter.order walk streams) g.S.Sorter.order c.args.walk (g.D.Disk.streams c.args.disk.now)
+    let next = told_next g.D.Disk.state g.D.Disk.streams g.D.Disk.faults g.D.Disk.answered (λ walk streams. progress g.S.Sorter.order walk streams) g.S.Sorter.order c.args.walk
+    (g.D.Disk.streams c.args.disk.now)
     c.into_iter-entry-iterator.result c.loop-entry.yielded c.loop-entry.entry-iterator (Some (Err error)) c.next.new.self begun c.loop-entry.yielded_by
     (subst (λ item. NextOn g.D.Disk.state g.D.Disk.streams g.D.Disk.faults g.D.Disk.answered (λ walk streams. progress g.S.Sorter.order walk streams) c.loop-entry.entry-iterator item c.next.new.self)
     (c.in-Some.is ∙ ap Some c.in_err-entry.was) c.next.ensures.steps) in
-    let dropped = told_later g.D.Disk.answered c.into_iter-entry-iterator.result.disk.now c.next.new.self.disk.now c.drop-entry-iterator.new.self.0 (Some (Err error)) c.drop-entry-iterator.ensures.answered next in
+    let dropped = told_later g.D.Disk.answered c.into_iter-entry-iterator.result.disk.now c.next.new.self.disk.now c.drop-entry-iterator.new.self.0
+    (Some (Err error)) c.drop-entry-iterator.ensures.answered next in
     let told = if_err c.from_residual-in_err-entry.result error (λ e. IsToldIn g.D.Disk.answered c.args.disk.now c.drop-entry-iterator.new.self.0 e.inner) c.from_residual-in_err-entry.ensures.1
     (subst (λ d. IsToldIn g.D.Disk.answered d c.drop-entry-iterator.new.self.0 error.inner) (ap (λ x. x.disk.now) same ∙ c.in_ok-entry-items.ensures.same) dropped) in
     search rules

@@ -27,7 +27,8 @@ loop-entry-preserved g c =
         size = if_told (g.D.Disk.state c.args.disk.now) (λ s. c.if-eq.size ≡ total_size (tree_of s) (entries ++ entry ∷ [])) (λ s told.
             w.size-is ∙ w.saturating_add-size.ensures
             ∙ size_file (tree_of s) entries entry w.in_ok-metadata.field-0 c.loop-entry.size (search rules)
-            (subst (λ o. IfSome o (λ x. Tells entry.depth entry.path (Ok w.in_ok-metadata.field-0) (told_at entry.depth entry.path (looked (tree_of x) entry.path entry.followed)))) (c.loop-entry.invariant.kept ∙ told)
+            (subst (λ o. IfSome o (λ x. Tells entry.depth entry.path (Ok w.in_ok-metadata.field-0) (told_at entry.depth entry.path (looked (tree_of x) entry.path entry.followed))))
+            (c.loop-entry.invariant.kept ∙ told)
             w.in_ok-metadata.ensures.told)
             (subst (λ o. IfSome o (λ x. c.loop-entry.size ≡ total_size (tree_of x) entries)) told c.loop-entry.invariant.size));
       }
@@ -65,7 +66,8 @@ returns-in_err-metadata-clause-refused g c =
     subst (λ xs. Contains (filter is_file xs) entry) (sym split) (passes_among is_file c.loop-entry.yielded entry c.next.new.self.rest.items (search rules)) in
     if_told (g.D.Disk.state c.args.disk.now) _ (λ s told.
     let tells : Tells {A = Meta} entry.depth entry.path (Err error) (told_at entry.depth entry.path (looked (tree_of s) entry.path entry.followed)) =
-    subst (λ o. IfSome o (λ x. Tells {A = Meta} entry.depth entry.path (Err error) (told_at entry.depth entry.path (looked (tree_of x) entry.path entry.followed)))) (c.loop-entry.invariant.kept ∙ told)
+    subst (λ o. IfSome o (λ x. Tells {A = Meta} entry.depth entry.path (Err error) (told_at entry.depth entry.path (looked (tree_of x) entry.path entry.followed))))
+    (c.loop-entry.invariant.kept ∙ told)
     c.in_err-metadata.ensures.told in
     if_err c.from_residual.result error _ c.from_residual.ensures.1 (entry, among, tells))
 

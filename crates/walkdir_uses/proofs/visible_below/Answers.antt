@@ -28,11 +28,13 @@ returns g c =
     } in
     let state = c.drop.ensures.state ∙ c.visible_of-walk.ensures.state ∙ ap g.D.Disk.state c.in_ok-walk.ensures.same in
     let back = back_default (g.D.Disk.streams c.args.disk.now) (g.D.Disk.streams c.drop.new.self.0) built.options c.in_ok-new.ensures.options
-    (filtered_back g.D.Disk.state g.D.Disk.streams g.D.Disk.faults g.D.Disk.answered (λ walk streams. progress as_given walk streams) as_given built (g.D.Disk.streams c.args.disk.now) (g.D.Disk.streams c.drop.new.self.0)
+    (filtered_back g.D.Disk.state g.D.Disk.streams g.D.Disk.faults g.D.Disk.answered (λ walk streams. progress as_given walk streams) as_given built
+    (g.D.Disk.streams c.args.disk.now) (g.D.Disk.streams c.drop.new.self.0)
     walk seen c.in_ok-walk.ensures.begun kept c.drop.ensures.back) in
     let cost = costs_as (failures_of c.visible_of-walk.new.found) (g.D.Disk.faults walk.disk.now) (g.D.Disk.faults seen.disk.now) (g.D.Disk.faults c.args.disk.now) (g.D.Disk.faults c.drop.new.self.0)
     (ap g.D.Disk.faults c.in_ok-walk.ensures.same) c.drop.ensures.faults
-    (costs_begun (progress as_given walk.walk (g.D.Disk.streams walk.disk.now)) (progress as_given seen.walk (g.D.Disk.streams seen.disk.now)) (g.D.Disk.faults walk.disk.now) (g.D.Disk.faults seen.disk.now)
+    (costs_begun (progress as_given walk.walk (g.D.Disk.streams walk.disk.now)) (progress as_given seen.walk (g.D.Disk.streams seen.disk.now)) (g.D.Disk.faults walk.disk.now)
+    (g.D.Disk.faults seen.disk.now)
     (failures_of c.visible_of-walk.new.found) (ap (λ (p : Progress). waiting p.stack) c.in_ok-walk.ensures.begun) c.visible_of-walk.ensures.cost) in
     record {
       entries = if_told (g.D.Disk.state c.args.disk.now) _ (λ s told.

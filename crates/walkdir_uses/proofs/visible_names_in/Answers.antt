@@ -16,6 +16,7 @@ returns-clause-names g c =
     let walked : IsWalk (walking by_names (tree_of s) built) (map Ok entries) =
     subst (λ o. IfSome o (λ x. IsWalk (walking by_names (tree_of x) built) (map Ok entries))) told c.in_ok-entries.ensures.entries in
     let same : walking by_names (tree_of s) built ≡ inside (tree_of s) c.args.folder.now =
-    walks_inside c.in_ok-new.field-0 c.max_depth.result c.min_depth.result built (record {}) c.args.folder.now c.in_ok-new.ensures.root c.in_ok-new.ensures.options c.max_depth.ensures.options c.min_depth.ensures.options
+    walks_inside c.in_ok-new.field-0 c.max_depth.result c.min_depth.result built
+    (record {}) c.args.folder.now c.in_ok-new.ensures.root c.in_ok-new.ensures.options c.max_depth.ensures.options c.min_depth.ensures.options
     c.sort_by_file_name-walk.ensures.sorted (tree_of s) in
     (entries, subst (λ walk. IsWalk walk (map Ok entries)) same walked, c.in_ok-visible_names_of.ensures.names))

@@ -18,11 +18,15 @@ use Rattle.walkdir_uses.proofs.visible_of.Goals as goal
 -- each entry that is given was accepted, and the walk went on as a filtered one does
 pub returns : goal.returns
 returns g c =
-    let went = passed g.D.Disk.state g.D.Disk.streams g.D.Disk.faults g.D.Disk.answered (λ walk streams. progress as_given walk streams) _ (λ found. found.items) c.all_of-entries.result c.filter_entry-visible.result
+    let went = passed g.D.Disk.state g.D.Disk.streams g.D.Disk.faults g.D.Disk.answered (λ walk streams. progress as_given walk streams) _
+    (λ found. found.items) c.all_of-entries.result c.filter_entry-visible.result
     c.all_of-entries.new.walk c.all_of-entries.ensures.whole c.all_of-entries.ensures.part in
-    let there : Passed g.D.Disk.state g.D.Disk.streams g.D.Disk.faults g.D.Disk.answered (λ walk streams. progress as_given walk streams) c.args.walk c.into_inner.result (failures_of c.all_of-entries.result) =
-    subst (λ s. Passed g.D.Disk.state g.D.Disk.streams g.D.Disk.faults g.D.Disk.answered (λ walk streams. progress as_given walk streams) s c.into_inner.result (failures_of c.all_of-entries.result)) c.filter_entry-visible.ensures.walk
-    (subst (λ u. Passed g.D.Disk.state g.D.Disk.streams g.D.Disk.faults g.D.Disk.answered (λ walk streams. progress as_given walk streams) c.filter_entry-visible.result.walk u (failures_of c.all_of-entries.result)) (sym c.into_inner.ensures.walk) went) in
+    let there : Passed g.D.Disk.state g.D.Disk.streams g.D.Disk.faults g.D.Disk.answered (λ walk streams. progress as_given walk streams) c.args.walk c.into_inner.result
+    (failures_of c.all_of-entries.result) =
+    subst (λ s. Passed g.D.Disk.state g.D.Disk.streams g.D.Disk.faults g.D.Disk.answered (λ walk streams. progress as_given walk streams) s c.into_inner.result
+    (failures_of c.all_of-entries.result)) c.filter_entry-visible.ensures.walk
+    (subst (λ u. Passed g.D.Disk.state g.D.Disk.streams g.D.Disk.faults g.D.Disk.answered (λ walk streams. progress as_given walk streams) c.filter_entry-visible.result.walk u
+    (failures_of c.all_of-entries.result)) (sym c.into_inner.ensures.walk) went) in
     let law = c.filter_entry-visible.ensures.gives is_visible (λ f h entry answer called. let says = called.called in let shows = called.shows in search rules) in
     let at = λ (x : OnDisk g.row.D.Denot (Stack NoSort)). at_walk g.D.Disk.state g.D.Disk.streams g.D.Disk.faults g.D.Disk.answered (λ walk streams. progress as_given walk streams) x in
     record {

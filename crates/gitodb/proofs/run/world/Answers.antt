@@ -8,4 +8,12 @@ pub returns-in-Ok-answer_script : goal.returns-in-Ok-answer_script
 returns-in-Ok-answer_script g c =
     let answers = rw c.deref.ensures.value at c.in-Ok-answer_script.ensures.answered in
     let delivered = rw c.deref-in-Ok-answer_script.ensures.value at c.answer.ensures.delivered in
-    record { ends = λ help version. Ends-world (record { command = World; input = _; output = _; help = help; version = version }) c.in-Ok.script.items c.in-Ok-answer_script.output.items c.in-Ok-answer_script.status _ refl c.in-Ok.ensures.read answers delivered }
+    record {
+      ends = λ help version. Ends-world (record {
+        command = World;
+        input = _;
+        output = _;
+        help = help;
+        version = version;
+      }) c.in-Ok.script.items c.in-Ok-answer_script.output.items c.in-Ok-answer_script.status _ refl c.in-Ok.ensures.read answers delivered;
+    }

@@ -24,4 +24,5 @@ folders-preserved g c = record {
 pub returns-in-Err-clause-ends : goal.returns-in-Err-clause-ends
 returns-in-Err-clause-ends g c =
     rw (← c.as_slice-rest.ensures.value)
-    (walks_cut _ _ _ _ _ _ _ _ _ _ c.folders.invariant.walked (first_and _ (length c.folders.rest.now) _ _ (omega arith) (omega arith) c.folder-item.is) (rw c.folders.invariant.state at c.in-Err.ensures.ends))
+    (walks_cut _ _ _ _ _ _ _ _ _ _ c.folders.invariant.walked (first_and _ (length c.folders.rest.now) _ _ (omega arith) (omega arith) c.folder-item.is)
+    (rw c.folders.invariant.state at c.in-Err.ensures.ends))

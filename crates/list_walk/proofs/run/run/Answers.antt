@@ -6,7 +6,8 @@ use Rattle.list_walk.proofs.run.run.Goals as goal
 
 pub returns-in-Ok-Walk-clause-ends : goal.returns-in-Ok-Walk-clause-ends
 returns-in-Ok-Walk-clause-ends g c =
-    ends_asked _ c.in-Ok-Walk.asked c.listed.result _ (sym c.in-Ok-Walk.ensures.command ∙ c.in-Ok-Walk.field-0-is) c.status_by.ensures.status c.listed.ensures.ends c.listed.ensures.cause c.listed.ensures.cause_errors
+    ends_asked _ c.in-Ok-Walk.asked c.listed.result _ (sym c.in-Ok-Walk.ensures.command
+    ∙ c.in-Ok-Walk.field-0-is) c.status_by.ensures.status c.listed.ensures.ends c.listed.ensures.cause c.listed.ensures.cause_errors
 
 pub returns-in-Ok-Help-clause-ends : goal.returns-in-Ok-Help-clause-ends
 returns-in-Ok-Help-clause-ends g c =
@@ -18,4 +19,5 @@ returns-in-Ok-Version-clause-ends g c =
 
 pub returns-in-Ok-NotUnderstood-clause-ends : goal.returns-in-Ok-NotUnderstood-clause-ends
 returns-in-Ok-NotUnderstood-clause-ends g c =
-    ends_not_understood _ _ _ (sym c.in-Ok-NotUnderstood.ensures.command ∙ c.in-Ok-NotUnderstood.field-0-is) (adds_nothing _) (rw c.as_bytes-in-Ok-NotUnderstood.ensures.value at c.answer-in-Ok-NotUnderstood.ensures.delivered)
+    ends_not_understood _ _ _ (sym c.in-Ok-NotUnderstood.ensures.command ∙ c.in-Ok-NotUnderstood.field-0-is) (adds_nothing _)
+    (rw c.as_bytes-in-Ok-NotUnderstood.ensures.value at c.answer-in-Ok-NotUnderstood.ensures.delivered)

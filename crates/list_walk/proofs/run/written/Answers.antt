@@ -6,7 +6,16 @@ use Rattle.list_walk.proofs.run.written.Goals.{then-is_err, else-is_err}
 
 -- nothing is given yet
 pub items-init : goal.items-init
-items-init g c = record { own = c.requires.own; state = refl; name = refl; faults = omega arith; error_faults = omega arith; nul = c.new-lines.ensures.nul; leaves = leaves_all _; so_far = begins _ _ _ _ _ _ _ c.new-lines.ensures.empty }
+items-init g c = record {
+  own = c.requires.own;
+  state = refl;
+  name = refl;
+  faults = omega arith;
+  error_faults = omega arith;
+  nul = c.new-lines.ensures.nul;
+  leaves = leaves_all _;
+  so_far = begins _ _ _ _ _ _ _ c.new-lines.ensures.empty;
+}
 
 -- want of memory: the lines before it
 pub returns-then-is_want-clause-ends : goal.returns-then-is_want-clause-ends
@@ -26,7 +35,9 @@ items-preserved g c = record {
   nul = c.put.ensures.nul ∙ c.items.invariant.nul;
   leaves = leaves_more _ _ _ _ _ c.items.invariant.leaves c.in-Some.ensures.steps.1;
   so_far =
-      more _ _ _ _ _ _ _ _ _ _ _ _ _ _ _ c.items.invariant.so_far c.in-Some.item _ _ _ (step_at _ _ _ _ _ c.items.invariant.state c.in-Some.ensures.steps.1) c.in-Some.ensures.steps.2 (sym c.is_want.ensures.want ∙ c.if-is_want.false) (rw c.items.invariant.nul at c.in_ok-put.ensures.added) c.in_ok-put.ensures.told
+      more _ _ _ _ _ _ _ _ _ _ _ _ _ _ _ c.items.invariant.so_far c.in-Some.item _ _ _
+      (step_at _ _ _ _ _ c.items.invariant.state c.in-Some.ensures.steps.1) c.in-Some.ensures.steps.2 (sym c.is_want.ensures.want ∙ c.if-is_want.false)
+      (rw c.items.invariant.nul at c.in_ok-put.ensures.added) c.in_ok-put.ensures.told
       (elim c.if-is_err.branch [
         | then-is_err w ↦ w.status-is ∙ ap (λ b. status_with b c.items.status) (sym w.if-is_err.true ∙ c.is_err.ensures.value)
         | else-is_err w ↦ w.status-is ∙ ap (λ b. status_with b c.items.status) (sym w.if-is_err.false ∙ c.is_err.ensures.value)
@@ -43,7 +54,8 @@ returns-in_err-put-clause-ends g c =
 pub returns-clause-ends : goal.returns-clause-ends
 returns-clause-ends g c =
     ends_by _ c.ended-2.result _ _ _ c.ended-2.ensures.ok c.ended-2.ensures.err
-    (λ added. ends_whole _ _ (whole _ _ _ _ _ _ _ _ _ _ _ _ None _ _ c.items.invariant.so_far _ (step_at _ _ _ _ _ c.items.invariant.state c.in_default.ensures.steps.1) c.in_default.ensures.steps.2 added))
+    (λ added. ends_whole _ _ (whole _ _ _ _ _ _ _ _ _ _ _ _ None _ _ c.items.invariant.so_far _
+    (step_at _ _ _ _ _ c.items.invariant.state c.in_default.ensures.steps.1) c.in_default.ensures.steps.2 added))
     (λ part. front _ _ _ _ _ _ _ _ _ _ _ _ None _ _ c.items.invariant.so_far _ _ c.in_default.ensures.steps.2 part)
 
 -- what the walk leaves as it was

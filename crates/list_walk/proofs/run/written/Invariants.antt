@@ -15,8 +15,10 @@ invariant-items g l = record {
   error_faults : g.E.Sink.faults l.initial.errors ≤ g.E.Sink.faults l.errors;
   nul : l.lines.nul ≡ l.nul;
   leaves : Leaves (g.W.Steps.progress l.initial.walk.walk (g.D.Disk.streams l.initial.walk.disk.now)) (g.W.Steps.progress l.walk.walk (g.D.Disk.streams l.walk.disk.now));
-  so_far : SoFar l.nul (g.D.Disk.state l.initial.walk.disk.now) (g.W.Steps.progress l.initial.walk.walk (g.D.Disk.streams l.initial.walk.disk.now)) (g.W.Steps.progress l.walk.walk (g.D.Disk.streams l.walk.disk.now))
-      (g.D.Disk.faults l.initial.walk.disk.now) (g.D.Disk.faults l.walk.disk.now) (g.K.Sink.held l.initial.sink) (g.K.Sink.held l.sink) (g.E.Sink.held l.initial.errors) (g.E.Sink.held l.errors) (string_bytes l.lines.text) l.status;
+  so_far : SoFar l.nul (g.D.Disk.state l.initial.walk.disk.now) (g.W.Steps.progress l.initial.walk.walk (g.D.Disk.streams l.initial.walk.disk.now))
+      (g.W.Steps.progress l.walk.walk (g.D.Disk.streams l.walk.disk.now))
+      (g.D.Disk.faults l.initial.walk.disk.now) (g.D.Disk.faults l.walk.disk.now) (g.K.Sink.held l.initial.sink) (g.K.Sink.held l.sink) (g.E.Sink.held l.initial.errors)
+      (g.E.Sink.held l.errors) (string_bytes l.lines.text) l.status;
 }
 
 abbrev pub decreases-items : goal.decreases-items

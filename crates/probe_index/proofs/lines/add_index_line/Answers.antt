@@ -15,7 +15,8 @@ returns-in-Some c =
     let id = c.args.id.now in
     let line = IsIndexLine-found index.kind index.bytes id c.in-Some.row c.pack_offset_at_index.result c.in-Some.ensures.row c.pack_offset_at_index.ensures.offset in
     record {
-      line = added-line c.add_offset.result (IsIndexLine (index_rows index.kind index.bytes) id) c.args.lines.now.items c.add_offset.new.lines.items (offset_line id c.pack_offset_at_index.result) line c.add_offset.ensures.ok;
+      line = added-line c.add_offset.result (IsIndexLine (index_rows index.kind index.bytes) id) c.args.lines.now.items c.add_offset.new.lines.items
+          (offset_line id c.pack_offset_at_index.result) line c.add_offset.ensures.ok;
     }
 
 pub returns-in-None : goal.returns-in-None

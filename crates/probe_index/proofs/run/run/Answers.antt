@@ -35,7 +35,8 @@ returns-in-Ok-NoWords-clause-unread g c = leaves_same _ _
 
 pub returns-in-Ok-NotUnderstood-clause-ends : goal.returns-in-Ok-NotUnderstood-clause-ends
 returns-in-Ok-NotUnderstood-clause-ends g c =
-    ends_not_understood _ _ (sym c.in-Ok-NotUnderstood.ensures.command ∙ c.in-Ok-NotUnderstood.field-0-is) (rw c.as_bytes-in-Ok-NotUnderstood.ensures.value at c.answer-in-Ok-NotUnderstood.ensures.delivered)
+    ends_not_understood _ _ (sym c.in-Ok-NotUnderstood.ensures.command ∙ c.in-Ok-NotUnderstood.field-0-is)
+    (rw c.as_bytes-in-Ok-NotUnderstood.ensures.value at c.answer-in-Ok-NotUnderstood.ensures.delivered)
 
 pub returns-in-Ok-NotUnderstood-clause-unread : goal.returns-in-Ok-NotUnderstood-clause-unread
 returns-in-Ok-NotUnderstood-clause-unread g c = leaves_same _ _
