@@ -40,7 +40,8 @@ object_of-spelled Blob digits bytes e = rw e refl
 object_of-spelled Tag digits bytes e = rw e refl
 
 -- is the bytes of its loose file
-pub content_of-loose : (kind : Kind) (digits bytes : List ℕ) → data_of digits ≡ Some bytes → content_of (codes "@loose:" ++ kind_word kind ++ 58 ∷ digits) ≡ Some (header_of kind (length bytes) ++ bytes)
+pub content_of-loose : (kind : Kind) (digits bytes : List ℕ) → data_of digits ≡ Some bytes
+    → content_of (codes "@loose:" ++ kind_word kind ++ 58 ∷ digits) ≡ Some (header_of kind (length bytes) ++ bytes)
 unfolding content_of object_of kind_of_word
 content_of-loose Commit digits bytes e = rw e refl
 content_of-loose Tree digits bytes e = rw e refl
@@ -77,17 +78,20 @@ objects_of-spelled text texts objects lack are =
     ap (λ parts. items_of object_of parts []) (slice_split-join 44 text texts lack) ∙ items_of-spelled object_of (text ∷ texts) objects [] are
 
 -- are the pack of them
-pub content_of-pack : (spelled : List ℕ) (objects : List Object) → objects_of spelled ≡ Some objects → are_few objects ≡ true → content_of (codes "@pack:" ++ spelled) ≡ Some (pack_of Sha1 (map object_seen objects))
+pub content_of-pack : (spelled : List ℕ) (objects : List Object) → objects_of spelled ≡ Some objects → are_few objects ≡ true
+    → content_of (codes "@pack:" ++ spelled) ≡ Some (pack_of Sha1 (map object_seen objects))
 unfolding content_of
 content_of-pack spelled objects e few = rw (e, few) refl
 
 -- or the index of that pack
-pub content_of-idx : (spelled : List ℕ) (objects : List Object) → objects_of spelled ≡ Some objects → are_few objects ≡ true → content_of (codes "@idx:" ++ spelled) ≡ Some (index_of Sha1 (map object_seen objects))
+pub content_of-idx : (spelled : List ℕ) (objects : List Object) → objects_of spelled ≡ Some objects → are_few objects ≡ true
+    → content_of (codes "@idx:" ++ spelled) ≡ Some (index_of Sha1 (map object_seen objects))
 unfolding content_of
 content_of-idx spelled objects e few = rw (e, few) refl
 
 -- a pack with the stem of its name
-pub named_pack_of-spelled : (stem spelled : List ℕ) (objects : List Object) → lacks 61 stem ≡ true → objects_of spelled ≡ Some objects → named_pack_of (stem ++ 61 ∷ spelled) ≡ Some (record { name = stem ++ codes ".idx"; objects = objects })
+pub named_pack_of-spelled : (stem spelled : List ℕ) (objects : List Object) → lacks 61 stem ≡ true → objects_of spelled ≡ Some objects
+    → named_pack_of (stem ++ 61 ∷ spelled) ≡ Some (record { name = stem ++ codes ".idx"; objects = objects })
 unfolding named_pack_of
 named_pack_of-spelled stem spelled objects lack e =
     ap (λ s. pack_by s (objects_of (after_first (λ c. c == 61) (stem ++ 61 ∷ spelled)))) (before_first-followed 61 stem spelled lack)
@@ -101,6 +105,7 @@ packs_of-spelled text texts packs lack are =
     ap (λ parts. items_of named_pack_of parts []) (slice_split-join 59 text texts lack) ∙ items_of-spelled named_pack_of (text ∷ texts) packs [] are
 
 -- are the multi-index of them
-pub content_of-midx : (spelled : List ℕ) (packs : List NamedPack) → packs_of spelled ≡ Some packs → CanBeWritten (map named_seen packs) → content_of (codes "@midx:" ++ spelled) ≡ Some (multi_index_of_packs Sha1 (map named_seen packs))
+pub content_of-midx : (spelled : List ℕ) (packs : List NamedPack) → packs_of spelled ≡ Some packs → CanBeWritten (map named_seen packs)
+    → content_of (codes "@midx:" ++ spelled) ≡ Some (multi_index_of_packs Sha1 (map named_seen packs))
 unfolding content_of
 content_of-midx spelled packs e can = rw (e, can_be_written-true (map named_seen packs) can) refl

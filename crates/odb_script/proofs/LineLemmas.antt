@@ -200,17 +200,22 @@ module _ (handle : ℕ) (kind : Kind) (digits bytes : List ℕ) (small : handle 
   pub item_of-write : item_of (line_of (codes "write" ∷ decimal handle ∷ kind_word kind ∷ digits ∷ [])) ≡ items.Play (One (steps.Start handle (calls.Write kind (length bytes) bytes None)))
   unfolding word_of line_item
   item_of-write =
-      item_of-line_of 119 (codes "rite") (decimal handle ∷ kind_word kind ∷ digits ∷ []) refl (IsField-word (codes "write") refl refl, (IsField-decimal handle (omega arith), (IsField-kind_word kind, (field, tt))))
+      item_of-line_of 119 (codes "rite") (decimal handle ∷ kind_word kind ∷ digits ∷ []) refl
+      (IsField-word (codes "write") refl refl, (IsField-decimal handle (omega arith), (IsField-kind_word kind, (field, tt))))
       ∙ rw (handle_of-decimal handle small, kind_of_word-kind_word kind, spelled) refl
 
-  pub item_of-stream : (size : ℕ) → size < 2 ^ 64 → item_of (line_of (codes "stream" ∷ decimal handle ∷ kind_word kind ∷ decimal size ∷ digits ∷ [])) ≡ items.Play (One (steps.Start handle (calls.Write kind size bytes None)))
+  pub item_of-stream : (size : ℕ) → size < 2 ^ 64 → item_of (line_of (codes "stream" ∷ decimal handle ∷ kind_word kind ∷ decimal size ∷ digits ∷ []))
+      ≡ items.Play (One (steps.Start handle (calls.Write kind size bytes None)))
   unfolding word_of line_item
   item_of-stream size fits =
-      item_of-line_of 115 (codes "tream") (decimal handle ∷ kind_word kind ∷ decimal size ∷ digits ∷ []) refl (IsField-word (codes "stream") refl refl, (IsField-decimal handle (omega arith), (IsField-kind_word kind, (IsField-decimal size fits, (field, tt)))))
+      item_of-line_of 115 (codes "tream") (decimal handle ∷ kind_word kind ∷ decimal size ∷ digits ∷ []) refl
+      (IsField-word (codes "stream") refl refl, (IsField-decimal handle (omega arith), (IsField-kind_word kind, (IsField-decimal size fits, (field, tt)))))
       ∙ rw (handle_of-decimal handle small, kind_of_word-kind_word kind, number_of-decimal size fits, spelled) refl
 
-  pub item_of-writeas : (id : List ℕ) → IsId (ids.Sha1 id) → item_of (line_of (codes "writeas" ∷ decimal handle ∷ kind_word kind ∷ hex_of (ids.Sha1 id) ∷ digits ∷ [])) ≡ items.Play (One (steps.Start handle (calls.Write kind (length bytes) bytes (Some (ids.Sha1 id)))))
+  pub item_of-writeas : (id : List ℕ) → IsId (ids.Sha1 id) → item_of (line_of (codes "writeas" ∷ decimal handle ∷ kind_word kind ∷ hex_of (ids.Sha1 id) ∷ digits ∷ [])) ≡ items.Play
+      (One (steps.Start handle (calls.Write kind (length bytes) bytes (Some (ids.Sha1 id)))))
   unfolding word_of line_item
   item_of-writeas id is =
-      item_of-line_of 119 (codes "riteas") (decimal handle ∷ kind_word kind ∷ hex_of (ids.Sha1 id) ∷ digits ∷ []) refl (IsField-word (codes "writeas") refl refl, (IsField-decimal handle (omega arith), (IsField-kind_word kind, (IsField-hex_of (ids.Sha1 id) is, (field, tt)))))
+      item_of-line_of 119 (codes "riteas") (decimal handle ∷ kind_word kind ∷ hex_of (ids.Sha1 id) ∷ digits ∷ []) refl
+      (IsField-word (codes "writeas") refl refl, (IsField-decimal handle (omega arith), (IsField-kind_word kind, (IsField-hex_of (ids.Sha1 id) is, (field, tt)))))
       ∙ rw (handle_of-decimal handle small, kind_of_word-kind_word kind, id_of-hex_of (ids.Sha1 id) is, spelled) refl

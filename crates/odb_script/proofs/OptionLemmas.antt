@@ -114,7 +114,9 @@ given choices slots e = by_test (list_any gives_slots (map spelled choices)) ref
     by_test false none = absurd (cc (kept_slots choices nothing_chosen none, e))
 
 -- an opening that is spelled is read with what its options choose
-pub item_of-open : (handle : ℕ) (path : Path) (choices : List Choice) (slots : ℕ) → handle < 2 ^ 32 → list_all is_name path ≡ true → AreChoices choices → (with_all nothing_chosen choices).slots ≡ Some slots → AreFields (text_of path ∷ map spelled choices) → item_of (line_of (codes "open" ∷ decimal handle ∷ text_of path ∷ map spelled choices)) ≡ opening_at handle path (with_all nothing_chosen choices) (Some slots)
+pub item_of-open : (handle : ℕ) (path : Path) (choices : List Choice) (slots : ℕ) → handle < 2 ^ 32 → list_all is_name path ≡ true → AreChoices choices
+    → (with_all nothing_chosen choices).slots ≡ Some slots → AreFields (text_of path ∷ map spelled choices)
+    → item_of (line_of (codes "open" ∷ decimal handle ∷ text_of path ∷ map spelled choices)) ≡ opening_at handle path (with_all nothing_chosen choices) (Some slots)
 unfolding word_of line_item open_of
 item_of-open handle path choices slots small names are some fields =
     item_of-line_of 111 (codes "pen") (decimal handle ∷ text_of path ∷ map spelled choices) refl (IsField-word (codes "open") refl refl, (IsField-decimal handle (omega arith), fields))
