@@ -1,5 +1,5 @@
 -- Multi-pack indices on examples, by computation.
-use Rattle.std.proofs.Common.{◌≡◌, ◌^◌, ℕ, List, [], ◌∷◌, ◌++◌, take, drop, replicate, codes, true, false, Some, None, Err, refl}
+use Rattle.std.proofs.Common.{◌≡◌, ◌^◌, ℕ, List, [], ◌∷◌, ◌++◌, take, drop, replicate, codes, true, false, Option, Some, None, Err, refl}
 use Rattle.std.specs.Str.{is_utf8, chars}
 use lib.Utf8.{encode}
 use Rattle.gix_hash.specs.declared.kind.Kind.TheVariants as kind
@@ -7,7 +7,7 @@ use Rattle.gix_hash.specs.declared.object_id.ObjectId.TheVariants.{Sha1}
 use Rattle.gix_pack_tables.specs.Bytes.{table}
 use Rattle.gix_pack_tables.specs.Rows.{PackRow, is_rising}
 use Rattle.gix_multi_index.specs.MultiIndex.Chunks.{Chunk, ends_at}
-use Rattle.gix_multi_index.specs.MultiIndex.{are_parts, multi_index_from, multi_index_of, parts_of, read_of}
+use Rattle.gix_multi_index.specs.MultiIndex.{MultiIndex, are_parts, multi_index_from, multi_index_of, parts_of, read_of}
 use Rattle.gix_multi_index.specs.MultiIndex.Held.{holds_names, is_index_name, names_rise}
 use Rattle.gix_multi_index.specs.declared.file.Error.TheVariants.{AboveLimit, BadMultiIndex}
 use Rattle.gix_pack_tables.specs.WrittenTables.{narrow_from}
@@ -66,69 +66,76 @@ row id pack offset = record { id = Sha1 id; pack = pack; offset = offset }
 
 -- a file of these chunks for two packs
 file : List Chunk → List ℕ
+unfolding multi_front chunk_table
 file chunks = multi_front kind.Sha1 two_names_of chunks ++ replicate 20 0
 
 chunks_for : List PackRow → List Chunk
+unfolding chunks_written narrow_from
 chunks_for rows = chunks_written two_names_of rows
 
+-- what a file is read as; its line names what reading computes with
+read : List ℕ → Option MultiIndex
+unfolding multi_index_of parts_of multi_index_from are_parts holds_names names_rise is_index_name is_utf8 chars encode ends_at table is_rising
+read bytes = multi_index_of bytes
+
 abbrev Tells : List ℕ → List PackRow → Type 0
-Tells bytes rows = multi_index_of bytes ≡ Some (record { kind = kind.Sha1; names = two_names_of; rows = rows })
+Tells bytes rows = read bytes ≡ Some (record { kind = kind.Sha1; names = two_names_of; rows = rows })
 
 -- the versions 2 and 1, each in a pack of its own
 both : Tells (file (chunks_for (row second 1 12 ∷ row first 0 12 ∷ []))) (row second 1 12 ∷ row first 0 12 ∷ [])
-unfolding multi_index_of parts_of multi_index_from are_parts holds_names names_rise is_index_name is_utf8 chars encode ends_at table is_rising file chunks_for row multi_front chunk_table chunks_written narrow_from first second
+unfolding read file chunks_for row first second
 both = refl
 
 -- an offset of 2^32 brings the chunk of wide offsets
 wide : Tells (file (chunks_for (row second 1 (2 ^ 32) ∷ row first 0 12 ∷ []))) (row second 1 (2 ^ 32) ∷ row first 0 12 ∷ [])
-unfolding multi_index_of parts_of multi_index_from are_parts holds_names names_rise is_index_name is_utf8 chars encode ends_at table is_rising file chunks_for row multi_front chunk_table chunks_written narrow_from first second
+unfolding read file chunks_for row first second
 wide = refl
 
 -- without that chunk the high bit is a part of the offset
 high : Tells (file (chunks_for (row second 1 (2 ^ 31) ∷ row first 0 12 ∷ []))) (row second 1 (2 ^ 31) ∷ row first 0 12 ∷ [])
-unfolding multi_index_of parts_of multi_index_from are_parts holds_names names_rise is_index_name is_utf8 chars encode ends_at table is_rising file chunks_for row multi_front chunk_table chunks_written narrow_from first second
+unfolding read file chunks_for row first second
 high = refl
 
 unknown_chunk : Tells (file (record { name = codes "XXXX"; bytes = 1 ∷ 2 ∷ [] } ∷ chunks_for (row first 0 12 ∷ []))) (row first 0 12 ∷ [])
-unfolding multi_index_of parts_of multi_index_from are_parts holds_names names_rise is_index_name is_utf8 chars encode ends_at table is_rising file chunks_for row multi_front chunk_table chunks_written narrow_from first second
+unfolding read file chunks_for row first second
 unknown_chunk = refl
 
-missing_chunk : multi_index_of (file (drop 1 (chunks_for (row first 0 12 ∷ [])))) ≡ None
-unfolding multi_index_of parts_of multi_index_from are_parts holds_names names_rise is_index_name is_utf8 chars encode ends_at table is_rising file chunks_for row multi_front chunk_table chunks_written narrow_from first
+missing_chunk : read (file (drop 1 (chunks_for (row first 0 12 ∷ [])))) ≡ None
+unfolding read file chunks_for row first
 missing_chunk = refl
 
-chunk_twice : multi_index_of (file (chunks_for (row first 0 12 ∷ []) ++ take 1 (chunks_for (row first 0 12 ∷ [])))) ≡ None
-unfolding multi_index_of parts_of multi_index_from are_parts holds_names names_rise is_index_name is_utf8 chars encode ends_at table is_rising file chunks_for row multi_front chunk_table chunks_written narrow_from first
+chunk_twice : read (file (chunks_for (row first 0 12 ∷ []) ++ take 1 (chunks_for (row first 0 12 ∷ [])))) ≡ None
+unfolding read file chunks_for row first
 chunk_twice = refl
 
-no_such_pack : multi_index_of (file (chunks_for (row first 2 12 ∷ []))) ≡ None
-unfolding multi_index_of parts_of multi_index_from are_parts holds_names names_rise is_index_name is_utf8 chars encode ends_at table is_rising file chunks_for row multi_front chunk_table chunks_written narrow_from first
+no_such_pack : read (file (chunks_for (row first 2 12 ∷ []))) ≡ None
+unfolding read file chunks_for row first
 no_such_pack = refl
 
-ids_out_of_order : multi_index_of (file (chunks_for (row first 0 12 ∷ row second 1 12 ∷ []))) ≡ None
-unfolding multi_index_of parts_of multi_index_from are_parts holds_names names_rise is_index_name is_utf8 chars encode ends_at table is_rising file chunks_for row multi_front chunk_table chunks_written narrow_from first second
+ids_out_of_order : read (file (chunks_for (row first 0 12 ∷ row second 1 12 ∷ []))) ≡ None
+unfolding read file chunks_for row first second
 ids_out_of_order = refl
 
-one_byte_more : multi_index_of (file (chunks_for (row first 0 12 ∷ [])) ++ 0 ∷ []) ≡ None
-unfolding multi_index_of parts_of multi_index_from are_parts holds_names names_rise is_index_name is_utf8 chars encode ends_at table is_rising file chunks_for row multi_front chunk_table chunks_written narrow_from first
+one_byte_more : read (file (chunks_for (row first 0 12 ∷ [])) ++ 0 ∷ []) ≡ None
+unfolding read file chunks_for row first
 one_byte_more = refl
 
-header_alone : multi_index_of (codes "MIDX") ≡ None
-unfolding multi_index_of ends_at table
+header_alone : read (codes "MIDX") ≡ None
+unfolding read
 header_alone = refl
 
 -- with the chunk of wide offsets the high bit names a row of it
-row_missing : multi_index_of (file (chunks_for (row first 0 (2 ^ 31) ∷ []) ++ record { name = codes "LOFF"; bytes = [] } ∷ [])) ≡ None
-unfolding multi_index_of parts_of multi_index_from are_parts holds_names names_rise is_index_name is_utf8 chars encode ends_at table is_rising file chunks_for row multi_front chunk_table chunks_written narrow_from first second
+row_missing : read (file (chunks_for (row first 0 (2 ^ 31) ∷ []) ++ record { name = codes "LOFF"; bytes = [] } ∷ [])) ≡ None
+unfolding read file chunks_for row first second
 row_missing = refl
 
-half_a_row : multi_index_of (file (chunks_for (row first 0 12 ∷ []) ++ record { name = codes "LOFF"; bytes = replicate 12 0 } ∷ [])) ≡ None
-unfolding multi_index_of parts_of multi_index_from are_parts holds_names names_rise is_index_name is_utf8 chars encode ends_at table is_rising file chunks_for row multi_front chunk_table chunks_written narrow_from first second
+half_a_row : read (file (chunks_for (row first 0 12 ∷ []) ++ record { name = codes "LOFF"; bytes = replicate 12 0 } ∷ [])) ≡ None
+unfolding read file chunks_for row first second
 half_a_row = refl
 
 -- a row that nothing names is allowed
 unused_row : Tells (file (chunks_for (row first 0 12 ∷ []) ++ record { name = codes "LOFF"; bytes = replicate 8 0 } ∷ [])) (row first 0 12 ∷ [])
-unfolding multi_index_of parts_of multi_index_from are_parts holds_names names_rise is_index_name is_utf8 chars encode ends_at table is_rising file chunks_for row multi_front chunk_table chunks_written narrow_from first second
+unfolding read file chunks_for row first second
 unused_row = refl
 
 -- ---- a limit

@@ -1,15 +1,15 @@
 -- The rows of a multi-pack index, where they stand.
-use Rattle.std.proofs.Common.{◌≡◌, ℕ, zero, suc, ◌+◌, ◌-◌, ◌*◌, ◌/◌, ◌^◌, ◌<◌, ◌≤◌, Bool, true, List, [], ◌∷◌, length, drop, map, slice_get, slice_index, Some, option_map, refl, sym, ap, ◌∙◌, arith, length-take, length-drop}
-use Rattle.std.specs.List.{list_all, zip}
+use Rattle.std.proofs.Common.{◌≡◌, ℕ, ◌+◌, ◌-◌, ◌*◌, ◌/◌, ◌^◌, ◌<◌, ◌≤◌, true, List, [], ◌∷◌, length, drop, map, slice_get}
+use Rattle.std.proofs.Common.{slice_index, Some, option_map, refl, sym, ap, ◌∙◌, arith, length-take, length-drop}
+use Rattle.std.specs.List.{zip}
 use Rattle.std.specs.Int.{w64, from_be_bytes}
-use Rattle.std.proofs.lemmas.Bool.{and_parts}
 use Rattle.std.proofs.lemmas.List.{length-map}
-use Rattle.std.proofs.lemmas.Option.{get_or_from_slice_get, same_Some, slice_get-map}
+use Rattle.std.proofs.lemmas.Option.{get_or_from_slice_get, slice_get-map}
 use Rattle.gix_hash.specs.Kind.{len_in_bytes_of}
 use Rattle.gix_hash.specs.declared.kind.Kind.{Kind}
 use Rattle.gix_hash.specs.declared.object_id.ObjectId.{ObjectId}
 use Rattle.gix_pack_tables.specs.Bytes.{long_number_at, long_numbers, number_at, part, table}
-use Rattle.gix_pack_tables.specs.Rows.{PackRow, id_from, is_named_below, offset_in}
+use Rattle.gix_pack_tables.specs.Rows.{PackRow, id_from}
 use Rattle.gix_multi_index.specs.MultiIndex.Held.{has_offset, offset_of_bytes}
 use Rattle.gix_multi_index.specs.MultiIndex.{pack_row}
 use Rattle.gix_multi_index.specs.MultiIndexLayout.{ids_at, offset_rows_at, rows_at, span_of, wides_at, IsIn, IsLaidOut}

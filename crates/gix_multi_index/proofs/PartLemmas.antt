@@ -1,5 +1,7 @@
 -- The parts of a multi-pack index, as they are tested one behind another.
-use Rattle.std.proofs.Common.{◌≡◌, ℕ, zero, suc, ◌-◌, ◌*◌, ◌/◌, ◌%◌, ◌^◌, ◌<◌, ◌≤◌, ◌==◌, ◌&&◌, nat_lt, Bool, true, false, List, [], ◌∷◌, length, take, drop, Option, Some, None, option_map, option_and_then, unwrap_or, cond, refl, sym, ap, subst, ◌∙◌, arith}
+pub mod Rows
+use Rattle.std.proofs.Common.{◌≡◌, ℕ, zero, suc, ◌-◌, ◌*◌, ◌/◌, ◌%◌, ◌^◌, ◌<◌, ◌≤◌, ◌==◌, ◌&&◌, nat_lt, Bool, true, false, List, [], ◌∷◌, length}
+use Rattle.std.proofs.Common.{take, drop, Option, Some, None, option_map, option_and_then, unwrap_or, cond, refl, sym, ap, subst, ◌∙◌, arith}
 use Rattle.std.specs.List.{list_all}
 use Rattle.std.specs.Int.{w32, from_be_bytes}
 use Rattle.std.proofs.lemmas.Bool.{and_parts}
@@ -11,39 +13,15 @@ use Rattle.gix_pack_tables.specs.Bytes.{number_at, numbers, same, table}
 use Rattle.gix_hash.specs.declared.object_id.ObjectId.{ObjectId}
 use Rattle.gix_pack_tables.specs.Rows.{counts_of, ids_of, is_rising}
 use Rattle.gix_multi_index.specs.MultiIndex.{Parts, are_parts, have_lengths, multi_index_from, multi_index_of, objects_in, offset_rows, part_ids, parts_of}
-use Rattle.gix_multi_index.specs.MultiIndex.Chunks.{chunk_rows, ends_at, has_header, has_room, kind_in, packs_in, trailer_place}
+use Rattle.gix_multi_index.specs.MultiIndex.Chunks.{chunk_rows, ends_at, has_header, has_room, header_len, kind_in, packs_in, trailer_place}
 use Rattle.gix_multi_index.specs.MultiIndex.Held.{has_offset, holds_names, name_parts}
-use Rattle.gix_multi_index.specs.MultiIndexLayout.{ids_agree, is_offset, is_row, layout_in, len_of, parts_at, rows_agree, rows_at, span_of, tables_agree, wides_in, AreIn, AreTables, IsInIfThere, IsLaidOut, IsRead}
+use Rattle.gix_multi_index.specs.MultiIndexLayout.{ids_agree, is_offset, is_row, layout_in, len_of, parts_at, rows_agree}
+use Rattle.gix_multi_index.specs.MultiIndexLayout.{rows_at, span_of, tables_agree, wides_in, AreIn, AreTables, IsInIfThere, IsLaidOut, IsRead}
 use Rattle.gix_multi_index.specs.declared.layout.Layout.{Layout}
 use Rattle.gix_multi_index.specs.declared.layout.Span.{Span}
 use Rattle.gix_multi_index.specs.declared.layout.Spans.{Spans}
 use Rattle.gix_multi_index.proofs.ChunkLemmas.{front_room}
 use Rattle.gix_multi_index.proofs.PackRowLemmas.{length_span}
-
--- ---- each row names a pack and an offset
-
-abbrev first_row : ℕ → Option ℕ → List ℕ → Bool
-first_row packs wides rest = nat_lt (number_at 0 rest) packs && is_offset wides (number_at 4 rest)
-
-pub first_of : (packs : ℕ) (wides : Option ℕ) (rest : List ℕ) → is_row packs wides (take 8 rest) ≡ first_row packs wides rest
-first_of packs wides rest =
-    let front : take 4 (take 8 rest) ≡ take 4 rest = take-take 4 8 rest (omega arith) in
-    let behind : take 4 (drop 4 (take 8 rest)) ≡ take 4 (drop 4 rest) = ap (λ (bytes : List ℕ). take 4 bytes) (drop-take 4 4 rest) ∙ take-take 4 4 (drop 4 rest) (omega arith) in
-    ap (λ (bytes : List ℕ). nat_lt (from_be_bytes w32 bytes) packs && is_offset wides (number_at 4 (take 8 rest))) front
-    ∙ ap (λ (bytes : List ℕ). nat_lt (number_at 0 rest) packs && is_offset wides (from_be_bytes w32 bytes)) behind
-
-pub rows_step : (packs : ℕ) (wides : Option ℕ) (left : ℕ) (rest : List ℕ) → 0 < left
-    → list_all (is_row packs wides) (table 8 left rest) ≡ (is_row packs wides (take 8 rest) && list_all (is_row packs wides) (table 8 (left - 1) (drop 8 rest)))
-unfolding table
-rows_step packs wides zero rest h = absurd (omega arith)
-rows_step packs wides (suc left) rest h =
-    let less : suc left - 1 ≡ left = omega arith in
-    rw less refl
-
-pub rows_none : (packs : ℕ) (wides : Option ℕ) (left : ℕ) (rest : List ℕ) → left ≤ 0 → list_all (is_row packs wides) (table 8 left rest) ≡ true
-unfolding table
-rows_none packs wides zero rest h = refl
-rows_none packs wides (suc left) rest h = absurd (omega arith)
 
 -- ---- lengths
 
@@ -187,7 +165,7 @@ name_offsets (Some chunk) packs (row ∷ rows) all =
 
 -- what holds where all is sound but maybe the names
 module _ (spans : Spans) (rows : Layout) (bytes : List ℕ) (tables : AreTables spans rows bytes) where
-  pub tables_front : 12 ≤ length bytes
+  pub tables_front : header_len ≤ length bytes
   tables_front = front_room bytes (and_parts (has_header bytes) (has_room bytes) (and_parts (has_header bytes && has_room bytes) (ends_at (trailer_place bytes) (chunk_rows bytes)) tables.front).0).1
 
   by_names : are_parts (kind_in bytes) (packs_in bytes) (parts_at bytes spans) ≡ holds_names (packs_in bytes) (span_of bytes spans.names)
@@ -252,3 +230,6 @@ module _ (spans : Spans) (rows : Layout) (bytes : List ℕ) (tables : AreTables 
   pub is_not_read : (packs : ℕ) (chunk : List ℕ) → packs ≡ packs_in bytes → chunk ≡ span_of bytes spans.names → holds_names packs chunk ≡ false → multi_index_of bytes ≡ None
   is_not_read packs chunk packs_are chunk_is other =
       no_names (ap (λ (its : List ℕ). holds_names (packs_in bytes) its) (sym chunk_is) ∙ ap (λ (n : ℕ). holds_names n chunk) (sym packs_are) ∙ other)
+
+-- what is missing, or that nothing is
+pub ruleset each_part = (no_front, no_parts, no_tables, counts_there)

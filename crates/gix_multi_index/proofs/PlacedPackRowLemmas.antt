@@ -7,7 +7,7 @@ use Rattle.gix_hash.specs.declared.kind.Kind.{Kind}
 use Rattle.gix_object.specs.Data.{Object}
 use Rattle.gix_pack_tables.specs.PlacedRow.{placed_from, row_of}
 use Rattle.gix_pack_tables.specs.Rows.{PackRow}
-use Rattle.gix_pack_tables.specs.WrittenPack.{entry_of, id_of_object, rows_in_order}
+use Rattle.gix_pack_tables.specs.WrittenPack.{entries_place, entry_of, id_of_object, rows_in_order}
 use Rattle.gix_pack_tables.proofs.PlacedLemmas.{length-placed_from, rows_placed}
 use Rattle.gix_multi_index.specs.PlacedPackRow.{pack_row_of, placed_in}
 use Rattle.gix_multi_index.specs.WrittenMultiIndex.{Named, in_pack, rows_in_pack, rows_in_packs}
@@ -20,9 +20,9 @@ pack_rows_from hash pack place (object ∷ objects) =
 pack_rows : (hash : Kind) (number : ℕ) (packs : List Named) → map pack_row_of (placed_in hash number packs) ≡ flat_map (rows_in_pack hash) (enumerate_from number packs)
 pack_rows hash number [] = refl
 pack_rows hash number (pack ∷ packs) =
-    map-append pack_row_of (placed_from hash number 12 pack.objects) (placed_in hash (number + 1) packs)
+    map-append pack_row_of (placed_from hash number entries_place pack.objects) (placed_in hash (number + 1) packs)
     ∙ ap (λ (rows : List PackRow). rows ++ map pack_row_of (placed_in hash (number + 1) packs))
-    (pack_rows_from hash number 12 pack.objects ∙ ap (map (in_pack number)) (rows_placed hash number pack.objects))
+    (pack_rows_from hash number entries_place pack.objects ∙ ap (map (in_pack number)) (rows_placed hash number pack.objects))
     ∙ ap (λ (rows : List PackRow). map (in_pack number) (rows_in_order hash pack.objects) ++ rows) (pack_rows hash (number + 1) packs)
 
 pub pack_rows_placed : (hash : Kind) (packs : List Named) → map pack_row_of (placed_in hash 0 packs) ≡ rows_in_packs hash packs
@@ -32,8 +32,8 @@ pack_rows_placed hash packs = pack_rows hash 0 packs
 pub length-placed_in : (hash : Kind) (number : ℕ) (packs : List Named) → length (placed_in hash number packs) ≡ sum_by (λ (pack : Named). length pack.objects) packs
 length-placed_in hash number [] = refl
 length-placed_in hash number (pack ∷ packs) =
-    let here = length-placed_from hash number 12 pack.objects in
-    let both = length-append (placed_from hash number 12 pack.objects) (placed_in hash (number + 1) packs) in
+    let here = length-placed_from hash number entries_place pack.objects in
+    let both = length-append (placed_from hash number entries_place pack.objects) (placed_in hash (number + 1) packs) in
     let rest = length-placed_in hash (number + 1) packs in
     let all = sum_by-cons (λ (p : Named). length p.objects) pack packs in
     omega arith

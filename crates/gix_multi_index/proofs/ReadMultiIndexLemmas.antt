@@ -1,5 +1,6 @@
 -- Multi-pack indices as they are written are read back as a whole.
-use Rattle.std.proofs.Common.{◌≡◌, ℕ, suc, ◌+◌, ◌-◌, ◌*◌, ◌^◌, ◌<◌, ◌≤◌, ◌==◌, ◌&&◌, nat_eq, nat_le, Bool, true, false, cond, List, [], ◌∷◌, ◌++◌, length, map, drop, slice_index, codes, Option, Some, None, unwrap_or, is_some, append_assoc, length-append, refl, sym, ap, subst, ◌∙◌, arith}
+use Rattle.std.proofs.Common.{◌≡◌, ℕ, suc, ◌+◌, ◌-◌, ◌^◌, ◌<◌, ◌==◌, ◌&&◌, nat_eq, Bool, true, false, cond, List, [], ◌∷◌, ◌++◌, length, map, drop}
+use Rattle.std.proofs.Common.{slice_index, codes, Option, Some, None, unwrap_or, is_some, append_assoc, length-append, refl, sym, ap, subst, ◌∙◌, arith}
 use Rattle.std.proofs.lemmas.Bool.{le-leb}
 use Rattle.std.specs.Prelude.{option_and_then}
 use Rattle.std.specs.List.{AllByRecursion, filter, flat_map, starts_with, zip}
@@ -13,15 +14,17 @@ use Rattle.gix_hash.specs.declared.kind.Kind.TheVariants.{Sha1, Sha256}
 use Rattle.gix_hash.specs.declared.object_id.ObjectId.{ObjectId}
 use Rattle.gix_object.specs.Data.{Object}
 use Rattle.gix_pack_tables.specs.Bytes.{same, table}
-use Rattle.gix_multi_index.specs.MultiIndex.Chunks.{Chunk, ChunkRow, chunk_at, chunk_row, chunk_rows, chunks_in, chunks_of, ends_at, has_header, has_room, hash_in, hash_of_number, kind_in, packs_in, the_one, trailer_place}
+use Rattle.gix_multi_index.specs.MultiIndex.Chunks.{Chunk, ChunkRow, chunk_at, chunk_row, chunk_rows, chunks_in, chunks_of, ends_at}
+use Rattle.gix_multi_index.specs.MultiIndex.Chunks.{has_header, has_room, hash_in, hash_of_number, header_len, kind_in, packs_in, row_len, the_one, trailer_place}
 use Rattle.gix_multi_index.specs.MultiIndex.{MultiIndex, Parts, at_most_one, multi_index_from, multi_index_of, parts_of}
 use Rattle.gix_multi_index.specs.MultiIndexChunks.{bytes_over, front_with}
 use Rattle.gix_pack_tables.specs.PlacedRow.{IsPlaced, id_of, offset_of, pack_of, placed_from}
 use Rattle.gix_multi_index.specs.PlacedPackRow.{multi_placed, pack_row_of, placed_in}
 use Rattle.gix_pack_tables.specs.Rows.{PackRow, counts_of}
 use Rattle.gix_pack_tables.specs.WrittenTables.{is_wide, long_number_bytes, number_bytes, table_of}
-use Rattle.gix_multi_index.specs.WrittenMultiIndex.{Named, chunk_table, chunks_written, hash_number, name_bytes, names_of, needs_wide, offsets_written, pack_and_offset, padded, rows_in_packs, CanBeWritten, ReadsMultiIndex}
-use Rattle.gix_pack_tables.specs.WrittenPack.{entry_of}
+use Rattle.gix_multi_index.specs.WrittenMultiIndex.{Named, chunk_table, chunks_written, hash_number, name_bytes, names_of, needs_wide}
+use Rattle.gix_multi_index.specs.WrittenMultiIndex.{offsets_written, pack_and_offset, padded, rows_in_packs, CanBeWritten, ReadsMultiIndex, chunks_place}
+use Rattle.gix_pack_tables.specs.WrittenPack.{entries_place, entry_of}
 use Rattle.gix_pack_tables.specs.declared.write.rows.Placed.{Placed}
 use Rattle.gix_multi_index.proofs.WrittenMultiIndexLemmas.{chunks_seen, multi_each, multi_few, multi_rising, multi_table_seen}
 use Rattle.gix_multi_index.proofs.WrittenPartsLemmas.{parts_written, told}
@@ -50,10 +53,10 @@ parts_among all =
 
 -- ---- the frame: header, chunk table, chunks, hash
 
-module _ (hash : Kind) (packs : ℕ) (chunks : List Chunk) (own : List ℕ) (have_names : HaveNames chunks) (small : 12 + 12 * (length chunks + 1) + length (whole chunks) < 2 ^ 64)
+module _ (hash : Kind) (packs : ℕ) (chunks : List Chunk) (own : List ℕ) (have_names : HaveNames chunks) (small : chunks_place (length chunks) + length (whole chunks) < 2 ^ 64)
     (few : packs < 2 ^ 32) (own_long : length own ≡ len_in_bytes_of hash) where
   abbrev place : ℕ
-  place = 12 + 12 * (length chunks + 1)
+  place = chunks_place (length chunks)
 
   abbrev pub head : List ℕ
   head = codes "MIDX" ++ 1 ∷ hash_number hash ∷ length chunks ∷ 0 ∷ to_be_bytes w32 packs
@@ -76,7 +79,7 @@ module _ (hash : Kind) (packs : ℕ) (chunks : List Chunk) (own : List ℕ) (hav
       let b = length-append (chunk_table place chunks) (whole chunks ++ own) in
       let c = length-append (whole chunks) own in
       let d = length-chunk_table place chunks have_names in
-      let e : length head ≡ 12 = refl in
+      let e : length head ≡ header_len = refl in
       omega arith
 
   trailer_is : trailer_place bytes ≡ place + length (whole chunks)
@@ -89,13 +92,13 @@ module _ (hash : Kind) (packs : ℕ) (chunks : List Chunk) (own : List ℕ) (hav
   room_fits =
       let size : len_in_bytes_of (kind_in bytes) ≡ len_in_bytes_of hash = ap len_in_bytes_of kind_is in
       let all = long in
-      le-leb (12 + 12 * (chunks_in bytes + 1) + len_in_bytes_of (kind_in bytes)) (length bytes) (omega arith)
+      le-leb (chunks_place (chunks_in bytes) + len_in_bytes_of (kind_in bytes)) (length bytes) (omega arith)
 
   rows_are : chunk_rows bytes ≡ rows_from place chunks
   rows_are =
       let more : length chunks + 1 ≡ suc (length chunks) = omega arith in
-      ap (λ (n : ℕ). map chunk_row (table 12 n (drop 12 bytes))) more
-      ∙ ap (λ (rest : List ℕ). map chunk_row (table 12 (suc (length chunks)) rest)) (drop_at head (chunk_table place chunks ++ (whole chunks ++ own)) 12 refl)
+      ap (λ (n : ℕ). map chunk_row (table row_len n (drop header_len bytes))) more
+      ∙ ap (λ (rest : List ℕ). map chunk_row (table row_len (suc (length chunks)) rest)) (drop_at head (chunk_table place chunks ++ (whole chunks ++ own)) header_len refl)
       ∙ rows_back place chunks (whole chunks ++ own) have_names small
 
   ends_fit : ends_at (trailer_place bytes) (chunk_rows bytes) ≡ true
@@ -106,7 +109,7 @@ module _ (hash : Kind) (packs : ℕ) (chunks : List Chunk) (own : List ℕ) (hav
       let moved : bytes ≡ (head ++ chunk_table place chunks) ++ (whole chunks ++ own) = sym (append_assoc head (chunk_table place chunks) (whole chunks ++ own)) in
       let a = length-append head (chunk_table place chunks) in
       let d = length-chunk_table place chunks have_names in
-      let e : length head ≡ 12 = refl in
+      let e : length head ≡ header_len = refl in
       ap (λ (rows : List ChunkRow). map (chunk_at bytes) (zip rows (drop 1 rows))) rows_are
       ∙ chunks_back (head ++ chunk_table place chunks) chunks own bytes place moved (omega arith)
 
@@ -146,7 +149,7 @@ known_from hash packs number place (object ∷ objects) below = (record { known 
 known_in : (hash : Kind) (all number : ℕ) (packs : List Named) → number + length packs ≡ all → AllByRecursion (IsInPack all) (placed_in hash number packs)
 known_in hash all number [] is = tt
 known_in hash all number (pack ∷ packs) is =
-    each_append (IsInPack all) (placed_from hash number 12 pack.objects) (placed_in hash (number + 1) packs) (known_from hash all number 12 pack.objects (omega arith))
+    each_append (IsInPack all) (placed_from hash number entries_place pack.objects) (placed_in hash (number + 1) packs) (known_from hash all number entries_place pack.objects (omega arith))
     (known_in hash all (number + 1) packs (omega arith))
 
 -- ---- the whole
@@ -170,7 +173,7 @@ id_seen row = row.id
 pub multi_read_back : (hash : Kind) (packs : List Named) (rows : List Placed) (front : List ℕ) → rows ≡ multi_placed hash packs
     → front ≡ front_with hash (length packs) (five_of (names_of packs) rows) → IsId (hash_of hash front)
     → CanBeWritten packs → AllByRecursion (IsPlaced hash) (placed_in hash 0 packs)
-    → 12 + 12 * (length (five_of (names_of packs) rows) + 1) + length (whole (five_of (names_of packs) rows)) < 2 ^ 64
+    → chunks_place (length (five_of (names_of packs) rows)) + length (whole (five_of (names_of packs) rows)) < 2 ^ 64
     → ReadsMultiIndex hash packs (front ++ bytes_of (hash_of hash front))
 multi_read_back hash packs rows front rows_are front_is own_id can placed small =
     let names = names_of packs in
@@ -187,7 +190,7 @@ multi_read_back hash packs rows front rows_are front_is own_id can placed small 
     let own_long = length-hash_of hash front own_id in
     let have_names = five_named (needs_wide (offsets_in rows)) (padded (name_bytes names)) (number_bytes (counts_of (map id_of rows))) (flat_map bytes_of (map id_of rows))
     (flat_map pack_and_offset (zip (map pack_of rows) (offsets_written (offsets_in rows)))) (long_number_bytes (filter is_wide (offsets_in rows))) in
-    let nested = three_nested (codes "MIDX" ++ 1 ∷ hash_number hash ∷ length chunks ∷ 0 ∷ to_be_bytes w32 (length names)) (chunk_table (12 + 12 * (length chunks + 1)) chunks) (whole chunks) own in
+    let nested = three_nested (codes "MIDX" ++ 1 ∷ hash_number hash ∷ length chunks ∷ 0 ∷ to_be_bytes w32 (length names)) (chunk_table (chunks_place (length chunks)) chunks) (whole chunks) own in
     record {
       rows = table_of id_seen (rows_in_packs hash packs);
       table = is_table id_seen (rows_in_packs hash packs);
@@ -205,8 +208,8 @@ multi_read_back hash packs rows front rows_are front_is own_id can placed small 
 pub multi_encoded : (hash : Kind) (packs : List Named) (rows : List Placed) (chunks : List Chunk) (front : List ℕ) → rows ≡ multi_placed hash packs
     → chunks ≡ chunks_written (names_of packs) (map pack_row_of rows)
     → front ≡ front_with hash (length packs) chunks → IsId (hash_of hash front) → CanBeWritten packs → AllByRecursion (IsPlaced hash) (placed_in hash 0 packs)
-    → 12 + 12 * (length chunks + 1) + bytes_over chunks < 2 ^ 64 → ReadsMultiIndex hash packs (front ++ bytes_of (hash_of hash front))
+    → chunks_place (length chunks) + bytes_over chunks < 2 ^ 64 → ReadsMultiIndex hash packs (front ++ bytes_of (hash_of hash front))
 multi_encoded hash packs rows chunks front rows_are chunks_are front_is own_id can placed small =
     let five_are : chunks ≡ five_of (names_of packs) rows = chunks_are ∙ chunks_seen (names_of packs) rows in
     multi_read_back hash packs rows front rows_are (front_is ∙ ap (front_with hash (length packs)) five_are) own_id can placed
-    (subst (λ (cs : List Chunk). 12 + 12 * (length cs + 1) + length (whole cs) < 2 ^ 64) five_are small)
+    (subst (λ (cs : List Chunk). chunks_place (length cs) + length (whole cs) < 2 ^ 64) five_are small)

@@ -1,5 +1,6 @@
 -- The chunk table of a multi-pack index, its chunks and its names, read back as they were written.
-use Rattle.std.proofs.Common.{◌≡◌, ℕ, zero, suc, ◌+◌, ◌-◌, ◌*◌, ◌^◌, ◌<◌, ◌≤◌, ◌==◌, nat_le, nat_lt, true, false, List, [], ◌∷◌, ◌++◌, length, map, take, drop, replicate, append_assoc, length-append, refl, sym, ap, ◌∙◌, arith, eq-eqb}
+use Rattle.std.proofs.Common.{◌≡◌, ℕ, zero, suc, ◌+◌, ◌-◌, ◌*◌, ◌^◌, ◌<◌, ◌==◌, nat_le, nat_lt, true, false, List, [], ◌∷◌, ◌++◌}
+use Rattle.std.proofs.Common.{length, map, take, drop, replicate, append_assoc, length-append, refl, sym, ap, ◌∙◌, arith, eq-eqb}
 use Rattle.std.specs.List.{AllByRecursion, flat_map, list_all, list_any, zip}
 use Rattle.std.specs.Int.{w64, from_be_bytes, to_be_bytes}
 use Rattle.std.proofs.lemmas.Bool.{and_parts, not-true, le-leb, lt-ltb}
@@ -8,7 +9,7 @@ use Rattle.std.proofs.lemmas.List.Splits.{slice_split_at}
 use Rattle.std.proofs.lemmas.Nat.{from_be_bytes-to_be_bytes_8}
 use Rattle.odb_base.specs.PathLaws.{All_not-list_any}
 use Rattle.gix_pack_tables.specs.Bytes.{part, table}
-use Rattle.gix_multi_index.specs.MultiIndex.Chunks.{Chunk, ChunkRow, chunk_at, chunk_row, ends_at}
+use Rattle.gix_multi_index.specs.MultiIndex.Chunks.{Chunk, ChunkRow, chunk_at, chunk_row, ends_at, row_len}
 use Rattle.gix_multi_index.specs.MultiIndex.Held.{are_names, holds_names, is_index_name, name_parts, names_rise}
 use Rattle.gix_multi_index.specs.WrittenMultiIndex.{chunk_table, name_bytes}
 
@@ -25,7 +26,7 @@ abbrev pub rows_from : ℕ → List Chunk → List ChunkRow
 rows_from place [] = record { name = zeros; place = place } ∷ []
 rows_from place (chunk ∷ chunks) = record { name = chunk.name; place = place } ∷ rows_from (place + length chunk.bytes) chunks
 
-row_bytes : (name : List ℕ) (place : ℕ) → length name ≡ 4 → length (name ++ to_be_bytes w64 place) ≡ 12
+row_bytes : (name : List ℕ) (place : ℕ) → length name ≡ 4 → length (name ++ to_be_bytes w64 place) ≡ row_len
 row_bytes name place four =
     let both = length-append name (to_be_bytes w64 place) in
     let eight : length (to_be_bytes w64 place) ≡ 8 = refl in
@@ -37,16 +38,16 @@ row_back name place four small =
     ap (λ (n : List ℕ). record row { name = n }) (take_at name (to_be_bytes w64 place) 4 four)
     ∙ ap (λ (p : ℕ). record row { name = name; place = p }) (ap (from_be_bytes w64) (drop_at name (to_be_bytes w64 place) 4 four) ∙ from_be_bytes-to_be_bytes_8 place small)
 
-first_row : (name behind : List ℕ) (place : ℕ) → length name ≡ 4 → place < 2 ^ 64 → chunk_row (take 12 ((name ++ to_be_bytes w64 place) ++ behind)) ≡ record { name = name; place = place }
+first_row : (name behind : List ℕ) (place : ℕ) → length name ≡ 4 → place < 2 ^ 64 → chunk_row (take row_len ((name ++ to_be_bytes w64 place) ++ behind)) ≡ record { name = name; place = place }
 first_row name behind place four small =
-    ap chunk_row (take_at (name ++ to_be_bytes w64 place) behind 12 (row_bytes name place four)) ∙ row_back name place four small
+    ap chunk_row (take_at (name ++ to_be_bytes w64 place) behind row_len (row_bytes name place four)) ∙ row_back name place four small
 
 abbrev pub HaveNames : List Chunk → Type 0
 HaveNames chunks = AllByRecursion (λ (c : Chunk). length c.name ≡ 4) chunks
 
 -- the table is read back
 pub rows_back : (place : ℕ) (chunks : List Chunk) (rest : List ℕ) → HaveNames chunks → place + length (whole chunks) < 2 ^ 64
-    → map chunk_row (table 12 (suc (length chunks)) (chunk_table place chunks ++ rest)) ≡ rows_from place chunks
+    → map chunk_row (table row_len (suc (length chunks)) (chunk_table place chunks ++ rest)) ≡ rows_from place chunks
 unfolding table chunk_table
 rows_back place [] rest names small = ap (λ (row : ChunkRow). row ∷ []) (first_row zeros rest place refl (omega arith))
 rows_back place (chunk ∷ chunks) rest names small =
@@ -55,13 +56,14 @@ rows_back place (chunk ∷ chunks) rest names small =
     let behind = chunk_table (place + length chunk.bytes) chunks ++ rest in
     let own : ((chunk.name ++ to_be_bytes w64 place) ++ chunk_table (place + length chunk.bytes) chunks) ++ rest ≡ (chunk.name ++ to_be_bytes w64 place) ++ behind =
     append_assoc (chunk.name ++ to_be_bytes w64 place) (chunk_table (place + length chunk.bytes) chunks) rest in
-    let left : drop 12 ((chunk.name ++ to_be_bytes w64 place) ++ behind) ≡ behind = drop_at (chunk.name ++ to_be_bytes w64 place) behind 12 (row_bytes chunk.name place four) in
-    ap (λ (bytes : List ℕ). chunk_row (take 12 bytes) ∷ map chunk_row (table 12 (suc (length chunks)) (drop 12 bytes))) own
-    ∙ ap (λ (row : ChunkRow). row ∷ map chunk_row (table 12 (suc (length chunks)) (drop 12 ((chunk.name ++ to_be_bytes w64 place) ++ behind)))) (first_row chunk.name behind place four (omega arith))
-    ∙ ap (λ (bytes : List ℕ). record { name = chunk.name; place = place } ∷ map chunk_row (table 12 (suc (length chunks)) bytes)) left
+    let left : drop row_len ((chunk.name ++ to_be_bytes w64 place) ++ behind) ≡ behind = drop_at (chunk.name ++ to_be_bytes w64 place) behind row_len (row_bytes chunk.name place four) in
+    ap (λ (bytes : List ℕ). chunk_row (take row_len bytes) ∷ map chunk_row (table row_len (suc (length chunks)) (drop row_len bytes))) own
+    ∙ ap (λ (row : ChunkRow). row ∷ map chunk_row (table row_len (suc (length chunks)) (drop row_len ((chunk.name ++ to_be_bytes w64 place) ++ behind))))
+    (first_row chunk.name behind place four (omega arith))
+    ∙ ap (λ (bytes : List ℕ). record { name = chunk.name; place = place } ∷ map chunk_row (table row_len (suc (length chunks)) bytes)) left
     ∙ ap (λ (rows : List ChunkRow). record { name = chunk.name; place = place } ∷ rows) (rows_back (place + length chunk.bytes) chunks rest names.1 (omega arith))
 
-pub length-chunk_table : (place : ℕ) (chunks : List Chunk) → HaveNames chunks → length (chunk_table place chunks) ≡ 12 * (length chunks + 1)
+pub length-chunk_table : (place : ℕ) (chunks : List Chunk) → HaveNames chunks → length (chunk_table place chunks) ≡ row_len * (length chunks + 1)
 unfolding chunk_table
 length-chunk_table place [] names = refl
 length-chunk_table place (chunk ∷ chunks) names =

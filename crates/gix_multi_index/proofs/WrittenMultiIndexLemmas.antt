@@ -17,7 +17,8 @@ use Rattle.gix_pack_tables.specs.PlacedRow.{IsPlaced, id_of, offset_of, pack_of}
 use Rattle.gix_multi_index.specs.PlacedPackRow.{multi_placed, pack_row_of, placed_in}
 use Rattle.gix_pack_tables.specs.Rows.{PackRow, counts_of, is_rising}
 use Rattle.gix_pack_tables.specs.WrittenTables.{number_bytes, table_of}
-use Rattle.gix_multi_index.specs.WrittenMultiIndex.{Named, chunk_table, chunks_written, hash_number, multi_bytes, multi_front, multi_index_of_packs, name_bytes, named_seen, names_of, padded, rows_in_packs, IsMultiIndexOf}
+use Rattle.gix_multi_index.specs.WrittenMultiIndex.{Named, chunk_table, chunks_written, hash_number, multi_bytes, multi_front}
+use Rattle.gix_multi_index.specs.WrittenMultiIndex.{multi_index_of_packs, name_bytes, named_seen, names_of, padded, rows_in_packs, IsMultiIndexOf, chunks_place}
 use Rattle.gix_pack_tables.specs.WrittenPack.{object_seen}
 use Rattle.gix_multi_index.specs.declared.writing.Chunk as kept
 use Rattle.gix_multi_index.specs.declared.named_pack.NamedPack as given
@@ -53,15 +54,15 @@ multi_table_seen hash packs = map-table_of pack_row_of id_of id_seen (λ (row : 
 
 -- the header, the table and the chunks one behind another
 pub front_steps : (hash : Kind) (packs : ℕ) (chunks : List kept.Chunk) (l0 l1 l2 l3 : List ℕ) → l0 ≡ []
-    → l1 ≡ l0 ++ (codes "MIDX" ++ 1 ∷ hash_number hash ∷ length chunks ∷ 0 ∷ to_be_bytes w32 packs) → l2 ≡ l1 ++ chunk_table (12 + 12 * (length chunks + 1)) (map chunk_seen chunks)
+    → l1 ≡ l0 ++ (codes "MIDX" ++ 1 ∷ hash_number hash ∷ length chunks ∷ 0 ∷ to_be_bytes w32 packs) → l2 ≡ l1 ++ chunk_table (chunks_place (length chunks)) (map chunk_seen chunks)
     → l3 ≡ l2 ++ flat_map (λ (c : Chunk). c.bytes) (map chunk_seen chunks) → l3 ≡ front_with hash packs (map chunk_seen chunks)
 front_steps hash packs chunks l0 l1 l2 l3 empty a b c =
     let seen = map chunk_seen chunks in
     let behind = flat_map (λ (d : Chunk). d.bytes) seen in
-    let one = b ∙ ap (λ (l : List ℕ). l ++ chunk_table (12 + 12 * (length chunks + 1)) seen)
+    let one = b ∙ ap (λ (l : List ℕ). l ++ chunk_table (chunks_place (length chunks)) seen)
     (a ∙ ap (λ (l : List ℕ). l ++ (codes "MIDX" ++ 1 ∷ hash_number hash ∷ length chunks ∷ 0 ∷ to_be_bytes w32 packs)) empty) in
     c ∙ ap (λ (l : List ℕ). l ++ behind) one
-    ∙ ap (λ (n : ℕ). (codes "MIDX" ++ 1 ∷ hash_number hash ∷ n ∷ 0 ∷ to_be_bytes w32 packs) ++ chunk_table (12 + 12 * (n + 1)) seen ++ behind) (sym (length-map chunks chunk_seen))
+    ∙ ap (λ (n : ℕ). (codes "MIDX" ++ 1 ∷ hash_number hash ∷ n ∷ 0 ∷ to_be_bytes w32 packs) ++ chunk_table (chunks_place n) seen ++ behind) (sym (length-map chunks chunk_seen))
 
 pub multi_written : (hash : Kind) (packs : List Named) (rows : List Placed) (chunks : List Chunk) (front : List ℕ) → rows ≡ multi_placed hash packs
     → chunks ≡ chunks_written (names_of packs) (map pack_row_of rows) → front ≡ front_with hash (length packs) chunks → front ++ bytes_of (hash_of hash front) ≡ multi_index_of_packs hash packs

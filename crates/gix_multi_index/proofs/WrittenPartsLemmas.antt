@@ -1,6 +1,7 @@
 -- The parts of a multi-pack index as they are written are read back.
 pub mod Rows
-use Rattle.std.proofs.Common.{◌≡◌, ℕ, ◌-◌, ◌*◌, ◌/◌, ◌%◌, ◌^◌, ◌<◌, ◌==◌, ◌||◌, ◌&&◌, nat_lt, not, Bool, true, false, cond, List, [], ◌∷◌, length, map, take, Option, Some, None, unwrap_or, refl, sym, ap, ◌∙◌, arith, eq-eqb}
+use Rattle.std.proofs.Common.{◌≡◌, ℕ, ◌-◌, ◌*◌, ◌/◌, ◌%◌, ◌^◌, ◌<◌, ◌==◌, ◌||◌, ◌&&◌, nat_lt, not, Bool, true, false, cond, List}
+use Rattle.std.proofs.Common.{[], ◌∷◌, length, map, take, Option, Some, None, unwrap_or, refl, sym, ap, ◌∙◌, arith, eq-eqb}
 use Rattle.std.specs.List.{AllByRecursion, filter, flat_map, list_all, zip}
 use Rattle.std.proofs.lemmas.List.{append-nil, length-map}
 use Rattle.gix_hash.specs.Kind.{len_in_bytes_of}
@@ -8,6 +9,7 @@ use Rattle.gix_hash.specs.ObjectId.{bytes_of}
 use Rattle.gix_hash.specs.declared.kind.Kind.{Kind}
 use Rattle.gix_hash.specs.declared.object_id.ObjectId.{ObjectId}
 use Rattle.gix_pack_tables.specs.Bytes.{long_numbers, number_at, numbers, same, table}
+use Rattle.gix_multi_index.specs.MultiIndex.Chunks.{last_count_place}
 use Rattle.gix_multi_index.specs.MultiIndex.{MultiIndex, Parts, are_parts, have_lengths, multi_index_from, objects_in, offset_rows, pack_row, part_ids}
 use Rattle.gix_multi_index.specs.MultiIndex.Held.{are_names, has_offset, name_parts, offset_of_bytes}
 use Rattle.gix_pack_tables.specs.PlacedRow.{id_of, offset_of, pack_of, IsPlaced}
@@ -17,7 +19,8 @@ use Rattle.gix_pack_tables.specs.WrittenTables.{is_wide, long_number_bytes, narr
 use Rattle.gix_multi_index.specs.WrittenMultiIndex.{name_bytes, needs_wide, offsets_written, pack_and_offset, padded}
 use Rattle.gix_pack_tables.specs.declared.write.rows.Placed.{Placed}
 use Rattle.gix_multi_index.proofs.WrittenChunkLemmas.{names_held, names_taken}
-use Rattle.gix_pack_tables.proofs.WrittenTableLemmas.{counts_back, ids_back, last_count, length-counts, length-ids, length-long_number_bytes, length-narrow_from, length-number_bytes, long_numbers_back, narrow_named, narrow_small, offsets_back, same_itself, wide_small}
+use Rattle.gix_pack_tables.proofs.WrittenTableLemmas.{counts_back, ids_back, last_count, length-counts, length-ids, length-long_number_bytes}
+use Rattle.gix_pack_tables.proofs.WrittenTableLemmas.{length-narrow_from, length-number_bytes, long_numbers_back, narrow_named, narrow_small, offsets_back, same_itself, wide_small}
 use Rattle.gix_multi_index.proofs.WrittenPartsLemmas.Rows.{IsInPack, Pair, length-pairs, length-zip, pairs_back, rows_named, rows_paired}
 
 -- ---- the parts
@@ -130,7 +133,7 @@ module _ (hash : Kind) (names : List (List ℕ)) (rows : List Placed) (placed : 
   as_many_pairs = length-zip rows offs as_many_offs
 
   count_is : objects_in parts_written ≡ length rows
-  count_is = ap (number_at 1020) (sym (append-nil (number_bytes (counts_of (map id_of rows))))) ∙ last_count hash [] rows [] 1020 placed few refl
+  count_is = ap (number_at last_count_place) (sym (append-nil (number_bytes (counts_of (map id_of rows))))) ∙ last_count hash [] rows [] last_count_place placed few refl
 
   ids_are : part_ids hash parts_written ≡ map id_of rows
   ids_are =

@@ -11,7 +11,8 @@
 -- The places never fall. The last row has the name 0, and the place where the trailing hash begins.
 pub mod Chunks
 pub mod Held
-use Rattle.std.specs.Prelude.{◌≡◌, ◌⊎◌, ℕ, ◌-◌, ◌*◌, ◌%◌, ◌==◌, ◌&&◌, Bool, true, List, [], ◌∷◌, length, take, map, codes, nat_lt, Option, Some, None, Result, Err, ok_or, option_and_then, unwrap_or, if◌then◌else◌}
+use Rattle.std.specs.Prelude.{◌≡◌, ◌⊎◌, ℕ, ◌-◌, ◌*◌, ◌%◌, ◌==◌, ◌&&◌, Bool, true, List, [], ◌∷◌, length, take, map, codes}
+use Rattle.std.specs.Prelude.{nat_lt, Option, Some, None, Result, Err, ok_or, option_and_then, unwrap_or, if◌then◌else◌}
 use Rattle.std.specs.List.{list_all, zip}
 use Rattle.gix_hash.specs.Kind.{len_in_bytes_of}
 use Rattle.gix_hash.specs.declared.kind.Kind.{Kind}

@@ -2,7 +2,8 @@
 ghost use Rattle.std.specs.Prelude.{◌≡◌, ◌-◌, ◌+◌, ◌*◌, ◌≤◌, ◌&&◌, true, length, take, option_map, IfSome};
 ghost use Rattle.gix_pack_tables.specs.Bytes.{same};
 ghost use Rattle.gix_multi_index.specs.MultiIndex.{at_most_one as at_most_one_of, parts_of};
-ghost use Rattle.gix_multi_index.specs.MultiIndex.Chunks.{chunk_rows, ends_at, header_len, name_len, row_len, has_header as header_fits, has_room as room_fits, kind_in, named, the_one as the_one_of, trailer_place as end_of_chunks};
+ghost use Rattle.gix_multi_index.specs.MultiIndex.Chunks.{chunk_rows, ends_at, header_len, name_len, row_len};
+ghost use Rattle.gix_multi_index.specs.MultiIndex.Chunks.{has_header as header_fits, has_room as room_fits, kind_in, named, the_one as the_one_of, trailer_place as end_of_chunks};
 ghost use Rattle.gix_multi_index.specs.ChunkTable.{first_place, next_place, rows_left};
 ghost use Rattle.gix_multi_index.specs.MultiIndexLayout.{AreIn, IsIn, IsInIfThere, parts_at, span_of};
 
@@ -73,7 +74,7 @@ pub(crate) fn kind_of(bytes: &[u8]) -> Kind
 }
 
 // Whether the places of the chunks never fall, and the last row ends them at the trailing hash.
-#[tactic(auto, using(crate::proofs::ChunkLemmas::table_room, crate::proofs::ChunkLemmas::trailer_room, crate::proofs::ChunkLemmas::all_rows, crate::proofs::ChunkLemmas::falls, crate::proofs::ChunkLemmas::goes_on))]
+#[tactic(auto, using(crate::proofs::ChunkLemmas::table_rows))]
 pub(crate) fn has_table(bytes: &[u8]) -> bool
     requires room { room_fits bytes.now ≡ true }
     ensures table { result ≡ ends_at (end_of_chunks bytes.now) (chunk_rows bytes.now) }
@@ -101,7 +102,7 @@ fn is_end(rest: &[u8], end: usize) -> bool
 }
 
 // Where the chunk of a name stands, if there is one; nothing where there are more.
-#[tactic(auto, using(crate::proofs::ChunkLemmas::table_room, crate::proofs::ChunkLemmas::all_rows, crate::proofs::ChunkLemmas::all_named, crate::proofs::ChunkLemmas::next_row, crate::proofs::ChunkLemmas::named_other, crate::proofs::ChunkLemmas::found_first, crate::proofs::ChunkLemmas::found_other, crate::proofs::ChunkLemmas::no_more))]
+#[tactic(auto, using(crate::proofs::ChunkLemmas::named_rows))]
 pub(crate) fn at_most_one(bytes: &[u8], name: &[u8; 4]) -> Option<Option<Span>>
     requires room { room_fits bytes.now ≡ true }
     requires table { ends_at (end_of_chunks bytes.now) (chunk_rows bytes.now) ≡ true }

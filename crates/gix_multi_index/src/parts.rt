@@ -6,7 +6,8 @@ ghost use Rattle.gix_pack_tables.specs.Bytes.{table};
 ghost use Rattle.gix_pack_tables.specs.Rows.{counts_len, wide_len};
 ghost use Rattle.gix_multi_index.specs.MultiIndex.{have_lengths, multi_index_of, objects_in, offset_row_len};
 ghost use Rattle.gix_multi_index.specs.declared.layout.Span as span;
-ghost use Rattle.gix_multi_index.specs.MultiIndexLayout.{AreIn, AreTables, IsIn, IsRead, ids_agree, is_offset, is_row, layout_in, len_of, parts_at, rows_agree, rows_name, span_of, spans_have_lengths, tables_agree};
+ghost use Rattle.gix_multi_index.specs.MultiIndexLayout.{AreIn, AreTables, IsIn, IsRead, ids_agree, is_offset, is_row};
+ghost use Rattle.gix_multi_index.specs.MultiIndexLayout.{layout_in, len_of, parts_at, rows_agree, rows_name, span_of, spans_have_lengths, tables_agree};
 
 use crate::chunks::{PACK_COUNT_PLACE, has_front, has_table, kind_of, spans_of};
 use crate::layout::{Layout, Span, Spans};
@@ -52,7 +53,7 @@ pub(crate) fn read(alloc: Global, bytes: &[u8]) -> Result<Option<Found>, NoMemor
 }
 
 // Where the chunks stand, and the rows among them, if all is sound but maybe the names.
-#[tactic(auto, using(crate::proofs::PartLemmas::no_front, crate::proofs::PartLemmas::no_parts, crate::proofs::PartLemmas::no_tables, crate::proofs::PartLemmas::counts_there, crate::proofs::ChunkLemmas::front_room))]
+#[tactic(auto, using(crate::proofs::PartLemmas::each_part, crate::proofs::ChunkLemmas::front_room))]
 fn tables_in(bytes: &[u8]) -> Option<(Spans, Layout)>
     ensures found { IfSome result (λ found. AreTables found.0 found.1 bytes.now) }
     ensures none { IfNone result (multi_index_of bytes.now ≡ None) }
@@ -185,7 +186,7 @@ fn rows_of(wides: Option<Span>) -> Option<u64>
 }
 
 // Whether each of n rows names one of so many packs, and an offset.
-#[tactic(auto, using(crate::proofs::PartLemmas::rows_step, crate::proofs::PartLemmas::rows_none))]
+#[tactic(auto, using(crate::proofs::PartLemmas::Rows::rows_step, crate::proofs::PartLemmas::Rows::rows_none))]
 fn are_named(rows: &[u8], n: usize, packs: u32, wides: Option<u64>) -> bool
     requires room { n * offset_row_len ≤ length rows.now }
     ensures named { result ≡ list_all (is_row packs wides) (table offset_row_len n rows.now) }
@@ -203,7 +204,7 @@ fn are_named(rows: &[u8], n: usize, packs: u32, wides: Option<u64>) -> bool
 }
 
 // Whether the first row names a pack, and an offset.
-#[tactic(auto, using(crate::proofs::PartLemmas::first_of))]
+#[tactic(auto, using(crate::proofs::PartLemmas::Rows::first_of))]
 fn is_sound(rows: &[u8], packs: u32, wides: Option<u64>) -> bool
     requires room { offset_row_len ≤ length rows.now }
     ensures sound { result ≡ is_row packs wides (take offset_row_len rows.now) }

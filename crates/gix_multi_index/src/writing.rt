@@ -4,12 +4,14 @@ ghost use Rattle.std.specs.Int.{w32, to_be_bytes};
 ghost use Rattle.std.specs.List.{flat_map, AllByRecursion};
 ghost use Rattle.gix_hash.specs.ObjectId.{bytes_of};
 ghost use Rattle.gix_multi_index.specs.MultiIndex.Held.{are_names};
-ghost use Rattle.gix_multi_index.specs.MultiIndexChunks.{below_first, bytes_over, chunk_seen, front_with, most_chunks, names_given, narrow_chunk, objects_over, offset_chunks, one_chunk, place_bytes, wide_rows_chunk, Gains};
+ghost use Rattle.gix_multi_index.specs.MultiIndexChunks.{below_first, bytes_over, chunk_seen, front_with, most_chunks, names_given};
+ghost use Rattle.gix_multi_index.specs.MultiIndexChunks.{narrow_chunk, objects_over, offset_chunks, one_chunk, place_bytes, wide_rows_chunk, Gains};
 ghost use Rattle.gix_pack_tables.specs.PlacedRow.{id_of, offset_of, pack_of, ArePlaced, IsPlaced};
 ghost use Rattle.gix_multi_index.specs.PlacedPackRow.{pack_row_of, placed_in, rows_given};
 ghost use Rattle.gix_pack_tables.specs.Rows.{counts_of, is_rising, rows_limit};
 ghost use Rattle.gix_pack_tables.specs.WrittenTables.{narrow_from, number_bytes};
-ghost use Rattle.gix_multi_index.specs.WrittenMultiIndex.{chunk_table, chunks_place, chunks_written, hash_number, multi_index_of_packs, name_bytes, named_seen, needs_wide as need_wide, padded, CanBeWritten, IsMultiIndexOf, ReadsMultiIndex};
+ghost use Rattle.gix_multi_index.specs.WrittenMultiIndex.{chunk_table, chunks_place, chunks_written, hash_number, multi_index_of_packs};
+ghost use Rattle.gix_multi_index.specs.WrittenMultiIndex.{name_bytes, named_seen, needs_wide as need_wide, padded, CanBeWritten, IsMultiIndexOf, ReadsMultiIndex};
 
 use crate::chunks::{HEADER_LEN, NAME_LEN, ROW_LEN};
 use crate::named_pack::NamedPack;
@@ -58,7 +60,7 @@ fn have_few(packs: &[NamedPack]) -> bool
 }
 
 // Whether the names are those of indices, and rise.
-#[tactic(auto, using(crate::proofs::WrittenMultiIndexLemmas::Loops::names_bad, crate::proofs::WrittenMultiIndexLemmas::Loops::names_out, crate::proofs::WrittenMultiIndexLemmas::Loops::names_good, crate::proofs::WrittenMultiIndexLemmas::Loops::names_all))]
+#[tactic(auto, using(crate::proofs::WrittenMultiIndexLemmas::Loops::each_name))]
 fn have_names(packs: &[NamedPack]) -> bool
     ensures names { result ≡ are_names (names_given packs.now) }
 {
@@ -310,7 +312,7 @@ fn push_whole(alloc: Global, chunks: &mut Vec<Chunk>, rows: &[Placed]) -> Result
 }
 
 // Whether an offset doesn't fit four bytes.
-#[tactic(auto, using(crate::proofs::WrittenMultiIndexLemmas::Loops::wide_found, crate::proofs::WrittenMultiIndexLemmas::Loops::wide_not_yet, crate::proofs::WrittenMultiIndexLemmas::Loops::wide_nowhere))]
+#[tactic(auto, using(crate::proofs::WrittenMultiIndexLemmas::Loops::each_offset))]
 fn needs_wide(rows: &[Placed]) -> bool
     ensures wide { result ≡ need_wide (map offset_of rows.now) }
 {

@@ -1,6 +1,7 @@
 -- Entries of packs: how a header is read, where it stands, and the object behind it.
 pub mod Objects
-use Rattle.std.proofs.Common.{◌≡◌, ℕ, zero, suc, ◌+◌, ◌-◌, ◌*◌, ◌/◌, ◌%◌, ◌^◌, ◌<◌, ◌≤◌, ◌&&◌, nat_le, nat_lt, Bool, true, false, cond, List, length, take, drop, get_or, slice_index, Some, None, Ok, Err, length-take-le, refl, sym, ap, ◌∙◌, arith}
+use Rattle.std.proofs.Common.{◌≡◌, ℕ, zero, suc, ◌+◌, ◌-◌, ◌*◌, ◌/◌, ◌%◌, ◌^◌, ◌<◌, ◌≤◌, ◌&&◌, nat_le, nat_lt, Bool, true, false, cond, List}
+use Rattle.std.proofs.Common.{length, take, drop, get_or, slice_index, Some, None, Ok, Err, length-take-le, refl, sym, ap, ◌∙◌, arith}
 use Rattle.std.proofs.lemmas.Bool.{le-leb, le-ltb, leb-true, lt-leb, lt-ltb, ltb-true, ltb-false}
 use Rattle.std.specs.List.{position, position_or_len}
 use Rattle.std.proofs.lemmas.List.{get_or-take}
@@ -12,6 +13,7 @@ use Rattle.gix_pack_tables.specs.Bytes.{part, trailer_place}
 use Rattle.gix_pack_files.specs.Pack.{code_of, head_at, header_len, rest_at, size_bits, slice_at}
 use Rattle.gix_pack_files.specs.PackHead.{head_from, head_whole, sized}
 use Rattle.gix_pack_files.specs.declared.data.Error.TheVariants.{BadEntry}
+use Rattle.gix_pack_tables.specs.WrittenPack.{entries_place}
 
 -- ---- tests of numbers
 
@@ -118,22 +120,14 @@ bits_fit len place value few some below =
 
 -- ---- the header at an offset
 
-pub head_before : (kind : Kind) (bytes : List ℕ) (offset : ℕ) → offset < 12 → head_at kind bytes offset ≡ Err BadEntry
+pub head_before : (kind : Kind) (bytes : List ℕ) (offset : ℕ) → offset < entries_place → head_at kind bytes offset ≡ Err BadEntry
 unfolding head_at
-head_before kind bytes offset low = rw (lt-leb 12 offset low) refl
+head_before kind bytes offset low = rw (lt-leb entries_place offset low) refl
 
 pub head_behind : (kind : Kind) (bytes : List ℕ) (offset : ℕ) → trailer_place kind bytes ≤ offset → head_at kind bytes offset ≡ Err BadEntry
 unfolding head_at
-head_behind kind bytes offset high = rw (le-ltb offset (trailer_place kind bytes) high, and_false (nat_le 12 offset)) refl
+head_behind kind bytes offset high = rw (le-ltb offset (trailer_place kind bytes) high, and_false (nat_le entries_place offset)) refl
 
-pub head_within : (kind : Kind) (bytes : List ℕ) (offset : ℕ) → 12 ≤ offset → offset < trailer_place kind bytes → head_at kind bytes offset ≡ head_from (rest_at kind bytes offset)
+pub head_within : (kind : Kind) (bytes : List ℕ) (offset : ℕ) → entries_place ≤ offset → offset < trailer_place kind bytes → head_at kind bytes offset ≡ head_from (rest_at kind bytes offset)
 unfolding head_at head_from
-head_within kind bytes offset low high = rw (le-leb 12 offset low, lt-ltb offset (trailer_place kind bytes) high) refl
-
--- ---- so many bytes of entries
-
-pub slice_behind : (kind : Kind) (bytes : List ℕ) (offset size : ℕ) → trailer_place kind bytes < offset + size → slice_at kind bytes offset size ≡ None
-slice_behind kind bytes offset size high = rw (lt-leb (offset + size) (trailer_place kind bytes) high, and_false (nat_le 12 offset)) refl
-
-pub slice_within : (kind : Kind) (bytes : List ℕ) (offset size : ℕ) → 12 ≤ offset → offset + size ≤ trailer_place kind bytes → slice_at kind bytes offset size ≡ Some (part offset size bytes)
-slice_within kind bytes offset size low high = rw (le-leb 12 offset low, le-leb (offset + size) (trailer_place kind bytes) high) refl
+head_within kind bytes offset low high = rw (le-leb entries_place offset low, lt-ltb offset (trailer_place kind bytes) high) refl

@@ -5,7 +5,7 @@ use Rattle.gix_hash.specs.declared.kind.Kind.TheVariants as kind
 use Rattle.gix_hash.specs.declared.object_id.ObjectId.TheVariants.{Sha1}
 use Rattle.gix_pack_tables.specs.Bytes.{table}
 use Rattle.gix_pack_tables.specs.Rows.{Row, is_rising}
-use Rattle.gix_pack_files.specs.Index.{is_index, rows_of_index, signature, tables_agree}
+use Rattle.gix_pack_files.specs.Index.{is_index, last_count_place, rows_of_index, signature, tables_agree}
 use Rattle.gix_pack_files.specs.WrittenIndex.{index_front}
 use Rattle.gix_pack_tables.specs.WrittenTables.{narrow_from}
 use Rattle.gix_pack_tables.proofs.ExampleIds.{first, second}
@@ -75,7 +75,7 @@ one_more : Reads (whole ++ 0 ∷ []) None
 unfolding is_index tables_agree whole two two_counts counts first second offsets table is_rising
 one_more = refl
 
-short : Reads (take 1028 whole) None
+short : Reads (take last_count_place whole) None
 unfolding is_index tables_agree whole two two_counts counts first second offsets table is_rising
 short = refl
 

@@ -1,16 +1,20 @@
 -- Indices: the places of their tables, and the offset of a row.
-use Rattle.std.proofs.Common.{◌≡◌, ◌==◌, ℕ, zero, suc, ◌+◌, ◌-◌, ◌*◌, ◌^◌, ◌<◌, ◌≤◌, ◌&&◌, Bool, true, false, List, [], ◌∷◌, length, take, drop, slice_get, slice_index, Some, option_map, length-drop, refl, sym, ap, ◌∙◌, arith}
+use Rattle.std.proofs.Common.{◌≡◌, ◌==◌, ℕ, ◌+◌, ◌-◌, ◌*◌, ◌^◌, ◌<◌, ◌≤◌, ◌&&◌, Bool, true, false, List, length, take}
+use Rattle.std.proofs.Common.{drop, slice_get, Option, Some, option_map, length-drop, refl, sym, ap, ◌∙◌, arith}
 use Rattle.gix_pack_tables.proofs.ListLemmas.{of_row}
 use Rattle.std.specs.List.{list_all}
 use Rattle.std.specs.Int.{w32, w64, from_be_bytes}
 use Rattle.std.proofs.lemmas.Bool.{and_parts, eqb-true}
 use Rattle.std.proofs.lemmas.List.{drop-drop}
-use Rattle.std.proofs.lemmas.Option.{get_or_from_slice_get, same_Some, slice_get-map}
+use Rattle.std.proofs.lemmas.Option.{get_or_from_slice_get, slice_get-map}
 use Rattle.gix_hash.specs.Kind.{len_in_bytes_of}
 use Rattle.gix_hash.specs.declared.kind.Kind.{Kind}
+use Rattle.gix_hash.specs.declared.object_id.ObjectId.{ObjectId}
+use Rattle.gix_hash.specs.declared.prefix.Prefix.{Prefix}
 use Rattle.gix_pack_tables.specs.Bytes.{long_number_at, number_at, numbers, part, same, table}
-use Rattle.gix_pack_tables.specs.Rows.{counts_of, ids_of, is_named_below, is_rising, offset_in}
-use Rattle.gix_pack_files.specs.Index.{has_length, index_ids, index_offsets, is_index, narrow_offsets, objects_in, offsets_place, tables_agree, wide_offsets, wides_in, wides_place}
+use Rattle.gix_pack_tables.specs.Rows.{counts_len, counts_of, ids_of, is_named_below, is_rising, offset_in, IsPrefixRun, IsRowOf}
+use Rattle.gix_pack_files.specs.Index.{counts_place, has_length, ids_place, index_ids, index_offsets, is_index}
+use Rattle.gix_pack_files.specs.Index.{narrow_offsets, objects_in, offsets_place, tables_agree, wide_offsets, wides_in, wides_place}
 use Rattle.gix_pack_tables.proofs.RowsLemmas.{slice_get-table}
 use Rattle.gix_pack_tables.proofs.SearchLemmas.{row_fits}
 use Rattle.gix_pack_tables.proofs.OffsetLaws.{named_below, offset_in-low, offset_in-wide}
@@ -23,28 +27,28 @@ length_of-fits kind bytes h = eqb-true _ _ h
 below_differs : (a b : ℕ) → a < b → (a == b) ≡ false
 below_differs a b h = grind arith
 
-below_fixed : (long n w h : ℕ) → long < 1032 → long < 1032 + n * (h + 8) + 8 * w + 2 * h
+below_fixed : (long n w h : ℕ) → long < ids_place → long < ids_place + n * (h + 8) + 8 * w + 2 * h
 below_fixed long n w h short = omega arith
 
 -- fewer bytes than the fixed parts have
-pub short_file : (kind : Kind) (bytes : List ℕ) → length bytes < 1032 → has_length kind bytes ≡ false
+pub short_file : (kind : Kind) (bytes : List ℕ) → length bytes < ids_place → has_length kind bytes ≡ false
 short_file kind bytes short =
     below_differs (length bytes) (wides_place kind (objects_in bytes) + 8 * wides_in kind bytes + 2 * len_in_bytes_of kind)
     (below_fixed (length bytes) (objects_in bytes) (wides_in kind bytes) (len_in_bytes_of kind) short)
 
 -- the tables of a file of the right length lie in it
 module _ (kind : Kind) (bytes : List ℕ) (fits : has_length kind bytes ≡ true) where
-  whole : 1032 + objects_in bytes * (len_in_bytes_of kind + 8) ≤ length bytes
+  whole : ids_place + objects_in bytes * (len_in_bytes_of kind + 8) ≤ length bytes
   whole = let long = length_of-fits kind bytes fits in omega arith
 
-  pub front_room : 1032 ≤ length bytes
+  pub front_room : ids_place ≤ length bytes
   front_room = let all = whole in omega arith
 
-  pub counts_room : 1024 ≤ length (drop 8 bytes)
-  counts_room = let all = whole in let rest = length-drop 8 bytes in omega arith
+  pub counts_room : counts_len ≤ length (drop counts_place bytes)
+  counts_room = let all = whole in let rest = length-drop counts_place bytes in omega arith
 
-  pub table_room : objects_in bytes * len_in_bytes_of kind ≤ length (drop 1032 bytes)
-  table_room = let all = whole in let rest = length-drop 1032 bytes in omega arith
+  pub table_room : objects_in bytes * len_in_bytes_of kind ≤ length (drop ids_place bytes)
+  table_room = let all = whole in let rest = length-drop ids_place bytes in omega arith
 
   pub offsets_place_room : offsets_place kind (objects_in bytes) ≤ length bytes
   offsets_place_room = let all = whole in omega arith
@@ -52,11 +56,14 @@ module _ (kind : Kind) (bytes : List ℕ) (fits : has_length kind bytes ≡ true
   pub offsets_room : objects_in bytes * 4 ≤ length (drop (offsets_place kind (objects_in bytes)) bytes)
   offsets_room = let all = whole in let rest = length-drop (offsets_place kind (objects_in bytes)) bytes in omega arith
 
+-- what each table wants
+pub ruleset table_rooms = (front_room, counts_room, table_room, offsets_place_room, offsets_room)
+
 -- what is asked before the tables of such a file are read
-pub rows_in_file : (kind : Kind) (bytes : List ℕ) (n : ℕ) (ids : List ℕ) → has_length kind bytes ≡ true → n ≡ objects_in bytes → ids ≡ drop 1032 bytes → n * len_in_bytes_of kind ≤ length ids
+pub rows_in_file : (kind : Kind) (bytes : List ℕ) (n : ℕ) (ids : List ℕ) → has_length kind bytes ≡ true → n ≡ objects_in bytes → ids ≡ drop ids_place bytes → n * len_in_bytes_of kind ≤ length ids
 rows_in_file kind bytes n ids fits n_is ids_is = rw (n_is, ids_is) (table_room kind bytes fits)
 
-pub counts_in_file : (kind : Kind) (bytes counts : List ℕ) → has_length kind bytes ≡ true → counts ≡ drop 8 bytes → 1024 ≤ length counts
+pub counts_in_file : (kind : Kind) (bytes counts : List ℕ) → has_length kind bytes ≡ true → counts ≡ drop counts_place bytes → counts_len ≤ length counts
 counts_in_file kind bytes counts fits counts_is = rw counts_is (counts_room kind bytes fits)
 
 -- ---- tables that agree, by what was read of each
@@ -75,27 +82,38 @@ not_second true true c h = cc h
 not_second true false c h = refl
 not_second false b c h = refl
 
-pub tables_fall : (kind : Kind) (bytes : List ℕ) (n : ℕ) (ids : List ℕ) (rising : Bool) → n ≡ objects_in bytes → ids ≡ drop 1032 bytes → rising ≡ is_rising (ids_of kind n ids) → rising ≡ false
+-- the three tests that the tables stand
+abbrev rises_in : Kind → List ℕ → Bool
+rises_in kind bytes = is_rising (index_ids kind bytes)
+
+abbrev counts_in : Kind → List ℕ → Bool
+counts_in kind bytes = same (numbers 256 (drop counts_place bytes)) (counts_of (index_ids kind bytes))
+
+abbrev names_in : Kind → List ℕ → Bool
+names_in kind bytes = list_all (is_named_below (wides_in kind bytes)) (narrow_offsets kind bytes)
+
+pub tables_fall : (kind : Kind) (bytes : List ℕ) (n : ℕ) (ids : List ℕ) (rising : Bool) → n ≡ objects_in bytes → ids ≡ drop ids_place bytes → rising ≡ is_rising (ids_of kind n ids) → rising ≡ false
     → false ≡ tables_agree kind bytes
 unfolding tables_agree
 tables_fall kind bytes n ids rising n_is ids_is read falls =
-    not_first (is_rising (index_ids kind bytes)) (same (numbers 256 (drop 8 bytes)) (counts_of (index_ids kind bytes))) (list_all (is_named_below (wides_in kind bytes)) (narrow_offsets kind bytes))
+    not_first (rises_in kind bytes) (counts_in kind bytes) (names_in kind bytes)
     (rw (n_is, ids_is) at (sym read ∙ falls))
 
-pub tables_miscount : (kind : Kind) (bytes : List ℕ) (n : ℕ) (ids counts : List ℕ) (agree : Bool) → n ≡ objects_in bytes → ids ≡ drop 1032 bytes → counts ≡ drop 8 bytes
+pub tables_miscount : (kind : Kind) (bytes : List ℕ) (n : ℕ) (ids counts : List ℕ) (agree : Bool) → n ≡ objects_in bytes → ids ≡ drop ids_place bytes → counts ≡ drop counts_place bytes
     → agree ≡ same (numbers 256 counts) (counts_of (ids_of kind n ids)) → agree ≡ false → false ≡ tables_agree kind bytes
 unfolding tables_agree
 tables_miscount kind bytes n ids counts agree n_is ids_is counts_is read differ =
-    not_second (is_rising (index_ids kind bytes)) (same (numbers 256 (drop 8 bytes)) (counts_of (index_ids kind bytes))) (list_all (is_named_below (wides_in kind bytes)) (narrow_offsets kind bytes))
+    not_second (rises_in kind bytes) (counts_in kind bytes) (names_in kind bytes)
     (rw (n_is, ids_is, counts_is) at (sym read ∙ differ))
 
-pub tables_told : (kind : Kind) (bytes : List ℕ) (n : ℕ) (ids counts offsets : List ℕ) (wides : ℕ) (rising agree named : Bool) → n ≡ objects_in bytes → ids ≡ drop 1032 bytes → counts ≡ drop 8 bytes
+pub tables_told : (kind : Kind) (bytes : List ℕ) (n : ℕ) (ids counts offsets : List ℕ) (wides : ℕ) (rising agree named : Bool) → n ≡ objects_in bytes → ids ≡ drop ids_place bytes
+    → counts ≡ drop counts_place bytes
     → offsets ≡ drop (offsets_place kind n) bytes → wides ≡ wides_in kind bytes → rising ≡ is_rising (ids_of kind n ids) → agree ≡ same (numbers 256 counts) (counts_of (ids_of kind n ids))
     → named ≡ list_all (is_named_below wides) (numbers n offsets) → rising ≡ true → agree ≡ true → named ≡ tables_agree kind bytes
 unfolding tables_agree
 tables_told kind bytes n ids counts offsets wides rising agree named n_is ids_is counts_is offsets_is wides_is rising_read agree_read named_read rises agrees =
     rw (offsets_is, n_is, wides_is) at named_read
-    ∙ all_three (is_rising (index_ids kind bytes)) (same (numbers 256 (drop 8 bytes)) (counts_of (index_ids kind bytes))) (list_all (is_named_below (wides_in kind bytes)) (narrow_offsets kind bytes))
+    ∙ all_three (rises_in kind bytes) (counts_in kind bytes) (names_in kind bytes)
     (rw (n_is, ids_is) at (sym rising_read ∙ rises)) (rw (n_is, ids_is, counts_is) at (sym agree_read ∙ agrees))
 
 -- ---- what holds of an index
@@ -109,14 +127,14 @@ unfolding is_index
 tables_of kind bytes h = (and_parts _ _ h).1
 
 -- it is long enough for its counts and for its ids
-pub has_ids : (kind : Kind) (bytes : List ℕ) → is_index kind bytes ≡ true → 1032 ≤ length bytes
+pub has_ids : (kind : Kind) (bytes : List ℕ) → is_index kind bytes ≡ true → ids_place ≤ length bytes
 has_ids kind bytes h = front_room kind bytes (has_length_of kind bytes h)
 
-pub ids_room : (kind : Kind) (bytes : List ℕ) → is_index kind bytes ≡ true → objects_in bytes * len_in_bytes_of kind ≤ length (drop 1032 bytes)
+pub ids_room : (kind : Kind) (bytes : List ℕ) → is_index kind bytes ≡ true → objects_in bytes * len_in_bytes_of kind ≤ length (drop ids_place bytes)
 ids_room kind bytes h = table_room kind bytes (has_length_of kind bytes h)
 
-pub row_room : (kind : Kind) (bytes : List ℕ) (row : ℕ) → is_index kind bytes ≡ true → row < objects_in bytes → (row + 1) * len_in_bytes_of kind ≤ length (drop 1032 bytes)
-row_room kind bytes row h below = row_fits kind (objects_in bytes) row (length (drop 1032 bytes)) below (ids_room kind bytes h)
+pub row_room : (kind : Kind) (bytes : List ℕ) (row : ℕ) → is_index kind bytes ≡ true → row < objects_in bytes → (row + 1) * len_in_bytes_of kind ≤ length (drop ids_place bytes)
+row_room kind bytes row h below = row_fits kind (objects_in bytes) row (length (drop ids_place bytes)) below (ids_room kind bytes h)
 
 pub ids_rise : (kind : Kind) (bytes : List ℕ) → is_index kind bytes ≡ true → is_rising (index_ids kind bytes) ≡ true
 unfolding tables_agree
@@ -125,6 +143,15 @@ ids_rise kind bytes h = (and_parts _ _ (and_parts _ _ (tables_of kind bytes h)).
 offsets_named : (kind : Kind) (bytes : List ℕ) → is_index kind bytes ≡ true → list_all (is_named_below (wides_in kind bytes)) (narrow_offsets kind bytes) ≡ true
 unfolding tables_agree
 offsets_named kind bytes h = (and_parts _ _ (tables_of kind bytes h)).1
+
+-- the same of a count and of a table that were read
+pub row_read : (kind : Kind) (bytes : List ℕ) (n : ℕ) (ids : List ℕ) (id : ObjectId) (row : Option ℕ) → n ≡ objects_in bytes → ids ≡ drop ids_place bytes
+    → IsRowOf (ids_of kind n ids) id row → IsRowOf (index_ids kind bytes) id row
+row_read kind bytes n ids id row n_is ids_is own = rw (n_is, ids_is) at own
+
+pub run_read : (kind : Kind) (bytes : List ℕ) (n : ℕ) (ids : List ℕ) (prefix : Prefix) (start end : ℕ) → n ≡ objects_in bytes → ids ≡ drop ids_place bytes
+    → IsPrefixRun (ids_of kind n ids) prefix start end → IsPrefixRun (index_ids kind bytes) prefix start end
+run_read kind bytes n ids prefix start end n_is ids_is own = rw (n_is, ids_is) at own
 
 -- ---- a row's offset
 
@@ -161,7 +188,7 @@ wide_read kind bytes wide n place number n_is place_is read below =
     let own : number ≡ long_number_at (wides_place kind (objects_in bytes) + wide * 8) bytes = read ∙ ap (λ (p : ℕ). long_number_at (p + wide * 8) bytes) (place_is ∙ ap (wides_place kind) n_is) in
     row_wide kind bytes wide below ∙ ap (λ (x : ℕ). Some x) (sym own)
 
-narrow_fits : (size n row room : ℕ) → row < n → 1032 + n * (size + 8) ≤ room → 1032 + n * (size + 4) + row * 4 + 4 ≤ room
+narrow_fits : (size n row room : ℕ) → row < n → ids_place + n * (size + 8) ≤ room → ids_place + n * (size + 4) + row * 4 + 4 ≤ room
 narrow_fits size n row room below fits = omega arith
 
 pub narrow_room : (kind : Kind) (bytes : List ℕ) (row : ℕ) → is_index kind bytes ≡ true → row < objects_in bytes → offsets_place kind (objects_in bytes) + row * 4 + 4 ≤ length bytes

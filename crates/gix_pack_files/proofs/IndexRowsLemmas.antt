@@ -5,7 +5,7 @@ use Rattle.std.specs.List.{zip}
 use Rattle.std.proofs.lemmas.Option.{slice_get-map}
 use Rattle.gix_hash.specs.declared.kind.Kind.{Kind}
 use Rattle.gix_hash.specs.declared.object_id.ObjectId.{ObjectId}
-use Rattle.gix_pack_files.specs.Index.{index_ids, index_offsets, index_rows, objects_in}
+use Rattle.gix_pack_files.specs.Index.{ids_place, index_ids, index_offsets, index_rows, objects_in}
 use Rattle.gix_pack_files.specs.IndexRows.{unchecked}
 use Rattle.gix_pack_tables.specs.Rows.{Row}
 use Rattle.gix_pack_tables.proofs.ListLemmas.{drop_at, zip_get}
@@ -31,7 +31,7 @@ rows_end : (kind : Kind) (bytes : List ℕ) (row : ℕ) → objects_in bytes ≤
 rows_end kind bytes row past =
     let whole = length-map (zip (index_ids kind bytes) (index_offsets kind bytes)) row_of in
     let pairs = length-zip (index_ids kind bytes) (index_offsets kind bytes) in
-    let ids : length (index_ids kind bytes) ≡ objects_in bytes = length-ids_of kind (objects_in bytes) (drop 1032 bytes) in
+    let ids : length (index_ids kind bytes) ≡ objects_in bytes = length-ids_of kind (objects_in bytes) (drop ids_place bytes) in
     drop_all row (index_rows kind bytes) (omega arith)
 
 -- behind the last row by a count that was read, nothing is handed out

@@ -16,7 +16,7 @@ use Rattle.gix_pack_tables.specs.Bytes.{part, trailer_place}
 use Rattle.gix_pack_files.specs.Pack.{entry_at, head_at, header_at, header_len, is_pack, kind_of_code, objects_in, rest_at, size_of, version_in}
 use Rattle.gix_pack_files.specs.PackHead.{head_from}
 use Rattle.gix_pack_files.specs.ReadPack.{IsReadAt, ReadsPack, read_entry}
-use Rattle.gix_pack_tables.specs.WrittenPack.{code_of_kind, entry_of, header_of, pack_front, pack_hash, pack_of, places_from}
+use Rattle.gix_pack_tables.specs.WrittenPack.{code_of_kind, entries_place, entry_of, header_of, pack_front, pack_hash, pack_of, places_from}
 use Rattle.gix_hash.proofs.HashLemmas.{kind_of-hash_of}
 use Rattle.gix_pack_files.proofs.EntryLemmas.{head_within}
 use Rattle.gix_pack_files.proofs.EntryLemmas.Objects.{object_inside}
@@ -79,7 +79,7 @@ module _ (hash : HashKind) (trailer : List ℕ) (size : length trailer ≡ len_i
       ∙ drop-append_seam front rest
 
   -- the header of an object is read behind some bytes
-  header_is_read : (object : Object) (front behind bytes : List ℕ) → 12 ≤ length front → length object.bytes < 2 ^ 64 → bytes ≡ (front ++ (entry_of object ++ behind)) ++ trailer
+  header_is_read : (object : Object) (front behind bytes : List ℕ) → entries_place ≤ length front → length object.bytes < 2 ^ 64 → bytes ≡ (front ++ (entry_of object ++ behind)) ++ trailer
       → header_at hash bytes (length front) ≡ Ok (record { kind = object.kind; size = length object.bytes; header_len = length (header_of (code_of_kind object.kind) (length object.bytes)) })
   unfolding header_at
   header_is_read object front behind bytes low fits is =
@@ -96,7 +96,7 @@ module _ (hash : HashKind) (trailer : List ℕ) (size : length trailer ≡ len_i
       rw (head, kind_is_read object.kind) refl
 
   -- the entry of an object is read behind some bytes
-  entry_is_read : (object : Object) (front behind bytes : List ℕ) → 12 ≤ length front → length object.bytes < 2 ^ 64 → bytes ≡ (front ++ (entry_of object ++ behind)) ++ trailer
+  entry_is_read : (object : Object) (front behind bytes : List ℕ) → entries_place ≤ length front → length object.bytes < 2 ^ 64 → bytes ≡ (front ++ (entry_of object ++ behind)) ++ trailer
       → entry_at hash bytes (length front) None ≡ Ok (read_entry object)
   unfolding entry_at
   entry_is_read object front behind bytes low fits is =
@@ -113,7 +113,7 @@ module _ (hash : HashKind) (trailer : List ℕ) (size : length trailer ≡ len_i
       rw read (inside ∙ ap (λ (its : List ℕ). Ok (record { kind = object.kind; size = length object.bytes; header_len = length header; bytes = its })) held)
 
   -- each object's entry is read at its place
-  all_are_read : (objects : List Object) (front bytes : List ℕ) → 12 ≤ length front → length (flat_map entry_of objects) < 2 ^ 64 → bytes ≡ (front ++ flat_map entry_of objects) ++ trailer
+  all_are_read : (objects : List Object) (front bytes : List ℕ) → entries_place ≤ length front → length (flat_map entry_of objects) < 2 ^ 64 → bytes ≡ (front ++ flat_map entry_of objects) ++ trailer
       → AllByRecursion (IsReadAt hash bytes) (zip objects (places_from (length front) objects))
   unfolding places_from
   all_are_read [] front bytes low fits is = tt
@@ -137,7 +137,7 @@ front_is : (objects : List Object) → pack_front objects ≡ magic_and_numbers 
 unfolding pack_front
 front_is objects = refl
 
-pub length_of_front : (objects : List Object) → length (pack_front objects) ≡ 12 + length (flat_map entry_of objects)
+pub length_of_front : (objects : List Object) → length (pack_front objects) ≡ entries_place + length (flat_map entry_of objects)
 length_of_front objects = ap length (front_is objects) ∙ length-append (magic_and_numbers (length objects)) (flat_map entry_of objects)
 
 version_is_two : (count : ℕ) (rest : List ℕ) → version_in (magic_and_numbers count ++ rest) ≡ 2
@@ -149,8 +149,9 @@ count_is count rest few = from_be_bytes-to_be_bytes_4 count few
 begins_as_pack : (hash : HashKind) (count : ℕ) (rest : List ℕ) → len_in_bytes_of hash ≤ length rest → is_pack hash (magic_and_numbers count ++ rest) ≡ true
 unfolding is_pack
 begins_as_pack hash count rest room =
-    let whole : length (magic_and_numbers count ++ rest) ≡ 12 + length rest = length-append (magic_and_numbers count) rest in
-    let fits : nat_le (12 + len_in_bytes_of hash) (length (magic_and_numbers count ++ rest)) ≡ true = le-leb (12 + len_in_bytes_of hash) (length (magic_and_numbers count ++ rest)) (omega arith) in
+    let whole : length (magic_and_numbers count ++ rest) ≡ entries_place + length rest = length-append (magic_and_numbers count) rest in
+    let fits : nat_le (entries_place + len_in_bytes_of hash) (length (magic_and_numbers count ++ rest))
+    ≡ true = le-leb (entries_place + len_in_bytes_of hash) (length (magic_and_numbers count ++ rest)) (omega arith) in
     rw fits refl
 
 -- the pack of some objects is read as their pack. Its hash is as long as its kind says, as that of each id is
@@ -179,7 +180,7 @@ pub made_is_read : (hash : HashKind) (objects : List Object) (front bytes : List
     → ReadsPack hash objects bytes
 unfolding pack_of
 made_is_read hash objects front bytes front_is_own bytes_are id fits few =
-    let len : length front ≡ 12 + length (flat_map entry_of objects) = ap length front_is_own ∙ length_of_front objects in
+    let len : length front ≡ entries_place + length (flat_map entry_of objects) = ap length front_is_own ∙ length_of_front objects in
     let own : bytes ≡ pack_of hash objects = bytes_are ∙ ap (λ (its : List ℕ). its ++ bytes_of (hash_of hash its)) front_is_own in
     let size : length (bytes_of (hash_of hash front)) ≡ len_in_bytes_of hash = id.size ∙ ap len_in_bytes_of (kind_of-hash_of hash front) in
     let hash_size : length (pack_hash hash objects) ≡ len_in_bytes_of hash = subst (λ (its : List ℕ). length (bytes_of (hash_of hash its)) ≡ len_in_bytes_of hash) front_is_own size in

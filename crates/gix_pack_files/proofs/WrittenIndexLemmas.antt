@@ -1,6 +1,7 @@
 -- Indices as they are written: they are those of their objects, and are read back.
 pub mod Written
-use Rattle.std.proofs.Common.{◌≡◌, ℕ, ◌+◌, ◌-◌, ◌*◌, ◌/◌, ◌^◌, ◌<◌, ◌≤◌, ◌&&◌, nat_eq, Bool, true, cond, List, [], ◌∷◌, ◌++◌, length, map, drop, replicate, Some, None, append_assoc, length-append, refl, sym, ap, ◌∙◌, arith, eq-eqb}
+use Rattle.std.proofs.Common.{◌≡◌, ℕ, ◌+◌, ◌-◌, ◌*◌, ◌/◌, ◌^◌, ◌<◌, ◌≤◌, ◌&&◌, nat_eq, Bool, true, cond, List, [], ◌∷◌, ◌++◌, length}
+use Rattle.std.proofs.Common.{map, drop, replicate, Some, None, append_assoc, length-append, refl, sym, ap, ◌∙◌, arith, eq-eqb}
 use lib.Pointwise.{pointwise}
 use Rattle.std.specs.List.{AllByRecursion, filter, flat_map, list_all, starts_with, zip}
 use Rattle.std.proofs.lemmas.List.{drop_at, length-map, length-replicate, take_at}
@@ -9,12 +10,14 @@ use Rattle.gix_hash.specs.ObjectId.{bytes_of}
 use Rattle.gix_hash.specs.declared.kind.Kind.{Kind}
 use Rattle.gix_hash.specs.declared.object_id.ObjectId.{ObjectId}
 use Rattle.gix_pack_tables.specs.Bytes.{long_numbers, numbers, same}
-use Rattle.gix_pack_files.specs.Index.{has_length, index_ids, index_offsets, index_rows, is_index, narrow_offsets, objects_in, offsets_place, rows_of_index, signature, tables_agree, wide_offsets, wides_in, wides_place}
+use Rattle.gix_pack_files.specs.Index.{counts_place, has_length, ids_place, index_ids, index_offsets, index_rows, is_index, last_count_place}
+use Rattle.gix_pack_files.specs.Index.{narrow_offsets, objects_in, offsets_place, rows_of_index, signature, tables_agree, wide_offsets, wides_in, wides_place}
 use Rattle.gix_pack_tables.specs.PlacedRow.{id_of, offset_of, row_of, IsPlaced}
-use Rattle.gix_pack_tables.specs.Rows.{Row, counts_of, ids_of, is_named_below, is_rising, offset_in}
+use Rattle.gix_pack_tables.specs.Rows.{Row, counts_len, counts_of, ids_of, is_named_below, is_rising, offset_in}
 use Rattle.gix_pack_tables.specs.WrittenTables.{is_wide, long_number_bytes, narrow_from, number_bytes}
 use Rattle.gix_pack_tables.specs.declared.write.rows.Placed.{Placed}
-use Rattle.gix_pack_tables.proofs.WrittenTableLemmas.{counts_back, ids_back, last_count, length-counts, length-ids, length-long_number_bytes, length-narrow_from, length-number_bytes, long_numbers_back, narrow_named, narrow_small, numbers_back, offsets_back, same_itself, wide_small}
+use Rattle.gix_pack_tables.proofs.WrittenTableLemmas.{counts_back, ids_back, last_count, length-counts, length-ids, length-long_number_bytes, length-narrow_from}
+use Rattle.gix_pack_tables.proofs.WrittenTableLemmas.{length-number_bytes, long_numbers_back, narrow_named, narrow_small, numbers_back, offsets_back, same_itself, wide_small}
 
 -- ---- an index is read back
 
@@ -22,10 +25,10 @@ rows_zipped : (rows : List Placed) → map (λ (row : ObjectId × ℕ). record {
 rows_zipped [] = refl
 rows_zipped (row ∷ rows) = ap (λ (rest : List Row). row_of row ∷ rest) (rows_zipped rows)
 
-room : (n h w all : ℕ) → all ≡ 1032 + n * h + 8 * n + 8 * w + 2 * h → (all - (1032 + n * (h + 8) + 2 * h)) / 8 ≡ w
+room : (n h w all : ℕ) → all ≡ ids_place + n * h + 8 * n + 8 * w + 2 * h → (all - (ids_place + n * (h + 8) + 2 * h)) / 8 ≡ w
 room n h w all long = omega arith
 
-whole_length : (n h w all : ℕ) → all ≡ 1032 + n * h + 8 * n + 8 * w + 2 * h → all ≡ 1032 + n * (h + 8) + 8 * w + 2 * h
+whole_length : (n h w all : ℕ) → all ≡ ids_place + n * h + 8 * n + 8 * w + 2 * h → all ≡ ids_place + n * (h + 8) + 8 * w + 2 * h
 whole_length n h w all long = omega arith
 
 -- ---- lists one behind another
@@ -33,9 +36,9 @@ whole_length n h w all long = omega arith
 two_long : (a b : List ℕ) (x y z : ℕ) → length a ≡ x → length b ≡ y → x + y ≡ z → length (a ++ b) ≡ z
 two_long a b x y z one two is = let both = length-append a b in omega arith
 
-all_long : (s c i z n w p o : List ℕ) (rows size wide : ℕ) → length s ≡ 8 → length c ≡ 1024 → length i ≡ rows * size → length z ≡ 4 * rows → length n ≡ rows * 4
+all_long : (s c i z n w p o : List ℕ) (rows size wide : ℕ) → length s ≡ counts_place → length c ≡ counts_len → length i ≡ rows * size → length z ≡ 4 * rows → length n ≡ rows * 4
     → length w ≡ wide * 8 → length p ≡ size → length o ≡ size
-    → length (s ++ (c ++ (i ++ (z ++ (n ++ (w ++ (p ++ o))))))) ≡ 1032 + rows * size + 8 * rows + 8 * wide + 2 * size
+    → length (s ++ (c ++ (i ++ (z ++ (n ++ (w ++ (p ++ o))))))) ≡ ids_place + rows * size + 8 * rows + 8 * wide + 2 * size
 all_long s c i z n w p o rows size wide one two three four five six seven eight =
     let a = length-append s (c ++ (i ++ (z ++ (n ++ (w ++ (p ++ o)))))) in
     let b = length-append c (i ++ (z ++ (n ++ (w ++ (p ++ o))))) in
@@ -58,10 +61,10 @@ to_wide_part s c i z n rest = simp append_assoc
 pub all_nested : (s c i z n w p o : List ℕ) → ((((((s ++ c) ++ i) ++ z) ++ n) ++ w) ++ p) ++ o ≡ s ++ (c ++ (i ++ (z ++ (n ++ (w ++ (p ++ o))))))
 all_nested s c i z n w p o = simp append_assoc
 
-narrow_place : (n h : ℕ) → 1032 + (n * h + 4 * n) ≡ 1032 + n * (h + 4)
+narrow_place : (n h : ℕ) → ids_place + (n * h + 4 * n) ≡ ids_place + n * (h + 4)
 narrow_place n h = omega arith
 
-wide_place : (n h : ℕ) → 1032 + n * (h + 4) + n * 4 ≡ 1032 + n * (h + 8)
+wide_place : (n h : ℕ) → ids_place + n * (h + 4) + n * 4 ≡ ids_place + n * (h + 8)
 wide_place n h = omega arith
 
 module _ (hash : Kind) (rows : List Placed) (pack own : List ℕ) (placed : AllByRecursion (IsPlaced hash) rows) (few : length rows < 2 ^ 31) (rising : is_rising (map id_of rows) ≡ true)
@@ -99,7 +102,7 @@ module _ (hash : Kind) (rows : List Placed) (pack own : List ℕ) (placed : AllB
   abbrev bytes : List ℕ
   bytes = signature ++ (counts_part ++ (ids_part ++ (zeros ++ (narrow_part ++ (wide_part ++ end)))))
 
-  counts_long : length counts_part ≡ 1024
+  counts_long : length counts_part ≡ counts_len
   counts_long = length-number_bytes (counts_of (map id_of rows)) ∙ ap (λ (k : ℕ). k * 4) (length-counts rows)
 
   ids_long : length ids_part ≡ n * h
@@ -117,11 +120,11 @@ module _ (hash : Kind) (rows : List Placed) (pack own : List ℕ) (placed : AllB
   wide_long : length wide_part ≡ length wide * 8
   wide_long = length-long_number_bytes wide
 
-  long : length bytes ≡ 1032 + n * h + 8 * n + 8 * length wide + 2 * h
+  long : length bytes ≡ ids_place + n * h + 8 * n + 8 * length wide + 2 * h
   long = all_long signature counts_part ids_part zeros narrow_part wide_part pack own n h (length wide) refl counts_long ids_long zeros_long narrow_long wide_long pack_long own_long
 
   count_is : objects_in bytes ≡ n
-  count_is = last_count hash signature rows (ids_part ++ (zeros ++ (narrow_part ++ (wide_part ++ end)))) 1028 placed few refl
+  count_is = last_count hash signature rows (ids_part ++ (zeros ++ (narrow_part ++ (wide_part ++ end)))) last_count_place placed few refl
 
   wides_are : wides_in hash bytes ≡ length wide
   wides_are =
@@ -136,12 +139,13 @@ module _ (hash : Kind) (rows : List Placed) (pack own : List ℕ) (placed : AllB
   ids_are : index_ids hash bytes ≡ map id_of rows
   ids_are =
       let behind = zeros ++ (narrow_part ++ (wide_part ++ end)) in
-      ap (λ (k : ℕ). ids_of hash k (drop 1032 bytes)) count_is
+      ap (λ (k : ℕ). ids_of hash k (drop ids_place bytes)) count_is
       ∙ ap (λ (rest : List ℕ). ids_of hash n rest)
-      (ap (drop 1032) (to_ids signature counts_part ids_part behind) ∙ drop_at (signature ++ counts_part) (ids_part ++ behind) 1032 (two_long signature counts_part 8 1024 1032 refl counts_long refl))
+      (ap (drop ids_place) (to_ids signature counts_part ids_part behind) ∙ drop_at (signature ++ counts_part) (ids_part ++ behind) ids_place
+      (two_long signature counts_part counts_place counts_len ids_place refl counts_long refl))
       ∙ ids_back hash rows behind placed
 
-  counts_are : numbers 256 (drop 8 bytes) ≡ counts_of (map id_of rows)
+  counts_are : numbers 256 (drop counts_place bytes) ≡ counts_of (map id_of rows)
   counts_are =
       ap (numbers 256) (drop_at signature (counts_part ++ (ids_part ++ (zeros ++ (narrow_part ++ (wide_part ++ end))))) 8 refl)
       ∙ counts_back rows (ids_part ++ (zeros ++ (narrow_part ++ (wide_part ++ end)))) few
@@ -151,7 +155,7 @@ module _ (hash : Kind) (rows : List Placed) (pack own : List ℕ) (placed : AllB
 
   to_narrow_long : length to_narrow ≡ offsets_place hash n
   to_narrow_long =
-      two_long (signature ++ counts_part) (ids_part ++ zeros) 1032 (n * h + 4 * n) (offsets_place hash n) (two_long signature counts_part 8 1024 1032 refl counts_long refl)
+      two_long (signature ++ counts_part) (ids_part ++ zeros) ids_place (n * h + 4 * n) (offsets_place hash n) (two_long signature counts_part counts_place counts_len ids_place refl counts_long refl)
       (two_long ids_part zeros (n * h) (4 * n) (n * h + 4 * n) ids_long zeros_long refl) (narrow_place n h)
 
   narrow_are : narrow_offsets hash bytes ≡ narrow_from 0 offsets
@@ -191,10 +195,10 @@ module _ (hash : Kind) (rows : List Placed) (pack own : List ℕ) (placed : AllB
   unfolding tables_agree
   tables_fit =
       let one : is_rising (index_ids hash bytes) ≡ true = ap is_rising ids_are ∙ rising in
-      let two : same (numbers 256 (drop 8 bytes)) (counts_of (index_ids hash bytes)) ≡ true =
-      ap (λ (ids : List ObjectId). same (numbers 256 (drop 8 bytes)) (counts_of ids)) ids_are
+      let two : same (numbers 256 (drop counts_place bytes)) (counts_of (index_ids hash bytes)) ≡ true =
+      ap (λ (ids : List ObjectId). same (numbers 256 (drop counts_place bytes)) (counts_of ids)) ids_are
       ∙ ap (λ (xs : List ℕ). same xs (counts_of (map id_of rows))) counts_are ∙ same_itself (counts_of (map id_of rows)) in
-      all_three (is_rising (index_ids hash bytes)) (same (numbers 256 (drop 8 bytes)) (counts_of (index_ids hash bytes)))
+      all_three (is_rising (index_ids hash bytes)) (same (numbers 256 (drop counts_place bytes)) (counts_of (index_ids hash bytes)))
       (list_all (is_named_below (wides_in hash bytes)) (narrow_offsets hash bytes)) one two all_named
     where
       all_three : (a b c : Bool) → a ≡ true → b ≡ true → c ≡ true → (a && b && c) ≡ true

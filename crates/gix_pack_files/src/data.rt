@@ -1,6 +1,8 @@
 //! Packs: the entries of objects, one behind another.
 ghost use Rattle.std.specs.Prelude.{◌≡◌, ◌≤◌, ◌↔◌, length, option_map, true, IfOk, IfErr, IsOk, IsTrue};
-ghost use Rattle.gix_pack_files.specs.Pack.{entry_at, entry_seen, head_at, header_at, is_pack, is_version as version_is_read, kind_of_code, object_behind as behind_header, objects_in, slice_at, version_in};
+ghost use Rattle.gix_pack_files.specs.Pack.{entry_at, entry_seen, head_at, header_at, is_pack, is_version as version_is_read};
+ghost use Rattle.gix_pack_files.specs.Pack.{kind_of_code, object_behind, objects_in, slice_at, version_in};
+ghost use Rattle.gix_pack_tables.specs.Bytes.{trailer_place};
 ghost use Rattle.gix_pack_tables.specs.WrittenPack.{entries_place};
 ghost use Rattle.gix_pack_files.specs.PackHead.{head_seen};
 
@@ -50,8 +52,7 @@ pub enum Error {
 /// It is seen as its bytes and the hash of its ids.
 #[derive(Drop)]
 pub struct File {
-    kind: Kind,
-    bytes: ByteList,
+    file: FileBytes,
 }
 
 impl Model for File {
@@ -62,35 +63,21 @@ impl Model for File {
 
     ghost use Rattle.gix_pack_files.specs.Pack.{is_pack};
 
-    ghost view = { λ pack. record { kind = pack.kind; bytes = pack.bytes } };
+    ghost view = { λ pack. record { kind = pack.file.kind; bytes = pack.file.bytes } };
 
-    ghost invariant = { λ pack. is_pack pack.kind pack.bytes ≡ true };
+    ghost invariant = { λ pack. is_pack pack.file.kind pack.file.bytes ≡ true };
 }
 
 impl File {
-    // What it keeps, borrowed.
-    fn borrowed(&self) -> FileBytes<'_>
-        ensures kind { result.kind ≡ self.now.kind }
-        ensures bytes { result.bytes.now ≡ self.now.bytes }
-        ensures pack { is_pack result.kind result.bytes.now ≡ true }
-    {
-        FileBytes {
-            kind: self.kind,
-            bytes: self.bytes.as_slice(),
-        }
-    }
-
     /// Reads a pack from its bytes, which it keeps.
     pub fn parse(bytes: ByteList, kind: Kind) -> Result<File, Error>
         ensures found { IfOk result (λ pack. pack ≡ record { kind = kind; bytes = bytes }) }
         ensures exact { IsOk result ↔ IsTrue (is_pack kind bytes) }
         ensures refused { IfErr result (λ error. error ≡ Error.BadPack) }
     {
-        if is_whole(&FileBytes {
-            kind,
-            bytes: bytes.as_slice(),
-        }) {
-            Ok(File { kind, bytes })
+        let file = FileBytes { kind, bytes };
+        if is_whole(&file) {
+            Ok(File { file })
         } else {
             Err(Error::BadPack)
         }
@@ -102,7 +89,7 @@ impl File {
         ensures version { result ≡ version_in self.now.bytes }
         ensures pack { is_pack self.now.kind self.now.bytes ≡ true }
     {
-        version_of(&self.borrowed())
+        version_of(&self.file)
     }
 
     /// The number of objects, as the pack's header tells it.
@@ -111,37 +98,98 @@ impl File {
         ensures count { result ≡ objects_in self.now.bytes }
         ensures pack { is_pack self.now.kind self.now.bytes ≡ true }
     {
-        count_of(&self.borrowed())
+        self.file.number_at(COUNT_PLACE)
+    }
+
+    // Where the entries end: at the trailing hash.
+    #[tactic(auto, using(crate::proofs::PackLemmas::has_room))]
+    fn entries_end(&self) -> u64
+        ensures end { result ≡ trailer_place self.now.kind self.now.bytes }
+    {
+        self.file.trailer_place() as u64
+    }
+
+    // The header at an offset, whatever its type is.
+    #[tactic(auto, using(crate::proofs::PackLemmas::has_room, crate::proofs::EntryLemmas::head_before, crate::proofs::EntryLemmas::head_behind, crate::proofs::EntryLemmas::head_within))]
+    fn head_at_offset(&self, offset: u64) -> Result<Head, Error>
+        ensures head { head_seen result ≡ head_at self.now.kind self.now.bytes offset }
+    {
+        let end = self.file.trailer_place();
+        if offset < ENTRIES_PLACE || offset >= end as u64 {
+            return Err(Error::BadEntry);
+        }
+        read_head(behind_first(self.file.part(0, end), offset as usize))
     }
 
     /// The kind and the size of the object at an offset, and the length of its header.
+    #[tactic(auto, unfolding(crate::specs::Pack::header_at))]
     pub fn decode_header(&self, offset: u64) -> Result<Header, Error>
         ensures header { result ≡ header_at self.now.kind self.now.bytes offset }
     {
-        header_of(&self.borrowed(), offset)
+        let head = self.head_at_offset(offset)?;
+        let kind = kind_of(head.code)?;
+        Ok(Header {
+            kind,
+            size: head.size,
+            header_len: head.header_len,
+        })
     }
 
     /// The object at an offset, where its size is within the limit.
+    #[tactic(auto, unfolding(crate::specs::Pack::entry_at))]
     pub fn entry(&self, offset: u64, limit: Option<u64>) -> Result<Entry<'_>, Error>
         ensures entry { entry_seen result ≡ entry_at self.now.kind self.now.bytes offset limit }
     {
-        object_of(&self.borrowed(), offset, limit)
+        let header = self.decode_header(offset)?;
+        self.entry_behind(offset, limit, header)
+    }
+
+    // The object whose header was read at an offset.
+    #[tactic(auto, using(crate::proofs::EntryLemmas::Objects::object_above))]
+    fn entry_behind(
+        &self,
+        offset: u64,
+        limit: Option<u64>,
+        header: Header,
+    ) -> Result<Entry<'_>, Error>
+        requires header { header_at self.now.kind self.now.bytes offset ≡ Ok header }
+        ensures entry { entry_seen result ≡ object_behind self.now.kind self.now.bytes offset limit header }
+    {
+        if !is_within(limit, header.size) {
+            return Err(Error::OutOfMemory { size: header.size });
+        }
+        let end = self.entries_end();
+        let place = offset + header.header_len as u64;
+        if header.size > end - place {
+            return Err(Error::BadEntry);
+        }
+        Ok(Entry {
+            kind: header.kind,
+            size: header.size,
+            header_len: header.header_len,
+            bytes: self.file.part(place as usize, header.size as usize),
+        })
     }
 
     /// So many bytes of entries from an offset on, or none where they leave the entries.
+    #[tactic(auto, using(crate::proofs::PackLemmas::has_room))]
     pub fn entry_slice(&self, offset: u64, len: u64) -> Option<&[u8]>
         ensures slice { option_map (λ slice. slice.now) result ≡ slice_at self.now.kind self.now.bytes offset len }
     {
-        slice_of(&self.borrowed(), offset, len)
+        let end = self.entries_end();
+        if offset < ENTRIES_PLACE || offset > end || len > end - offset {
+            return None;
+        }
+        Some(self.file.part(offset as usize, len as usize))
     }
 }
 
 // Whether bytes are a pack.
 #[tactic(auto, unfolding(crate::specs::Pack::is_pack))]
-fn is_whole(file: &FileBytes<'_>) -> bool
-    ensures whole { result ≡ is_pack file.now.kind file.now.bytes.now }
+fn is_whole(file: &FileBytes) -> bool
+    ensures whole { result ≡ is_pack file.now.kind file.now.bytes }
 {
-    file.bytes.starts_with(b"PACK")
+    file.bytes.as_slice().starts_with(b"PACK")
         && file.len() >= ENTRIES_PLACE as usize + file.hash_len()
         && is_version(version_of(file))
 }
@@ -153,32 +201,11 @@ fn is_version(number: u32) -> bool
 }
 
 // The version of a pack.
-fn version_of(file: &FileBytes<'_>) -> u32
-    requires room { entries_place ≤ length file.now.bytes.now }
-    ensures version { result ≡ version_in file.now.bytes.now }
+fn version_of(file: &FileBytes) -> u32
+    requires room { entries_place ≤ length file.now.bytes }
+    ensures version { result ≡ version_in file.now.bytes }
 {
     file.number_at(VERSION_PLACE)
-}
-
-// The number of objects of a pack.
-fn count_of(file: &FileBytes<'_>) -> u32
-    requires room { entries_place ≤ length file.now.bytes.now }
-    ensures count { result ≡ objects_in file.now.bytes.now }
-{
-    file.number_at(COUNT_PLACE)
-}
-
-// The header at an offset.
-#[tactic(auto, using(crate::proofs::PackLemmas::has_room, crate::proofs::EntryLemmas::head_before, crate::proofs::EntryLemmas::head_behind, crate::proofs::EntryLemmas::head_within))]
-fn head_of(file: &FileBytes<'_>, offset: u64) -> Result<Head, Error>
-    requires pack { is_pack file.now.kind file.now.bytes.now ≡ true }
-    ensures head { head_seen result ≡ head_at file.now.kind file.now.bytes.now offset }
-{
-    let end = file.trailer_place();
-    if offset < ENTRIES_PLACE || offset >= end as u64 {
-        return Err(Error::BadEntry);
-    }
-    read_head(behind_first(file.part(0, end), offset as usize))
 }
 
 // The kind of an entry's type.
@@ -194,69 +221,4 @@ fn kind_of(code: u8) -> Result<gix_object::Kind, Error>
         6 | 7 => Err(Error::DeltaEntry),
         code => Err(Error::EntryType { code }),
     }
-}
-
-// The header of the object at an offset.
-#[tactic(auto, unfolding(crate::specs::Pack::header_at))]
-fn header_of(file: &FileBytes<'_>, offset: u64) -> Result<Header, Error>
-    requires pack { is_pack file.now.kind file.now.bytes.now ≡ true }
-    ensures header { result ≡ header_at file.now.kind file.now.bytes.now offset }
-{
-    let head = head_of(file, offset)?;
-    let kind = kind_of(head.code)?;
-    Ok(Header {
-        kind,
-        size: head.size,
-        header_len: head.header_len,
-    })
-}
-
-// The object at an offset.
-#[tactic(auto, unfolding(crate::specs::Pack::entry_at))]
-fn object_of<'a>(file: &FileBytes<'a>, offset: u64, limit: Option<u64>) -> Result<Entry<'a>, Error>
-    requires pack { is_pack file.now.kind file.now.bytes.now ≡ true }
-    ensures entry { entry_seen result ≡ entry_at file.now.kind file.now.bytes.now offset limit }
-{
-    let header = header_of(file, offset)?;
-    object_behind(file, offset, limit, header)
-}
-
-// The object whose header was read at an offset.
-#[tactic(auto, using(crate::proofs::EntryLemmas::Objects::object_above))]
-fn object_behind<'a>(
-    file: &FileBytes<'a>,
-    offset: u64,
-    limit: Option<u64>,
-    header: Header,
-) -> Result<Entry<'a>, Error>
-    requires pack { is_pack file.now.kind file.now.bytes.now ≡ true }
-    requires header { header_at file.now.kind file.now.bytes.now offset ≡ Ok header }
-    ensures entry { entry_seen result ≡ behind_header file.now.kind file.now.bytes.now offset limit header }
-{
-    if !is_within(limit, header.size) {
-        return Err(Error::OutOfMemory { size: header.size });
-    }
-    let place = offset + header.header_len as u64;
-    match slice_of(file, place, header.size) {
-        Some(found) => Ok(Entry {
-            kind: header.kind,
-            size: header.size,
-            header_len: header.header_len,
-            bytes: found,
-        }),
-        None => Err(Error::BadEntry),
-    }
-}
-
-// So many bytes of entries from a place on.
-#[tactic(auto, using(crate::proofs::PackLemmas::has_room))]
-fn slice_of<'a>(file: &FileBytes<'a>, offset: u64, len: u64) -> Option<&'a [u8]>
-    requires pack { is_pack file.now.kind file.now.bytes.now ≡ true }
-    ensures slice { option_map (λ slice. slice.now) result ≡ slice_at file.now.kind file.now.bytes.now offset len }
-{
-    let end = file.trailer_place() as u64;
-    if offset < ENTRIES_PLACE || offset > end || len > end - offset {
-        return None;
-    }
-    Some(file.part(offset as usize, len as usize))
 }

@@ -2,7 +2,8 @@
 ghost use Rattle.std.specs.Prelude.{◌≡◌, ◌^◌, ◌<◌, ◌≤◌, ◌↔◌, length, slice_get, true, IfOk, IsOk, IsTrue, Some};
 ghost use Rattle.gix_pack_files.specs.IndexRows.{rows_left};
 ghost use Rattle.gix_pack_tables.specs.Rows.{IsPrefixRun, IsRowOf};
-ghost use Rattle.gix_pack_files.specs.Index.{has_length as length_fits, ids_place, index_ids, index_offsets, index_rows, is_index, narrow_offsets, objects_in, offsets_place, tables_agree, wide_offsets, wides_in, wides_place};
+ghost use Rattle.gix_pack_files.specs.Index.{has_length as length_fits, ids_place, index_ids, index_offsets, index_rows, is_index};
+ghost use Rattle.gix_pack_files.specs.Index.{narrow_offsets, objects_in, offsets_place, tables_agree, wide_offsets, wides_in, wides_place};
 
 mod walk;
 mod writing;
@@ -46,8 +47,7 @@ pub struct BadIndex;
 /// It is seen as its bytes and the hash of its ids.
 #[derive(Drop)]
 pub struct File {
-    kind: Kind,
-    bytes: ByteList,
+    file: FileBytes,
 }
 
 impl Model for File {
@@ -57,9 +57,9 @@ impl Model for File {
 
     ghost Value = { seen };
 
-    ghost view = { λ index. record { kind = index.kind; bytes = index.bytes } };
+    ghost view = { λ index. record { kind = index.file.kind; bytes = index.file.bytes } };
 
-    ghost invariant = { λ index. is_index index.kind index.bytes ≡ true };
+    ghost invariant = { λ index. is_index index.file.kind index.file.bytes ≡ true };
 }
 
 /// A row of an index.
@@ -72,28 +72,14 @@ pub struct Entry {
 }
 
 impl File {
-    // What it keeps, borrowed.
-    fn borrowed(&self) -> FileBytes<'_>
-        ensures kind { result.kind ≡ self.now.kind }
-        ensures bytes { result.bytes.now ≡ self.now.bytes }
-        ensures index { is_index result.kind result.bytes.now ≡ true }
-    {
-        FileBytes {
-            kind: self.kind,
-            bytes: self.bytes.as_slice(),
-        }
-    }
-
     /// Reads an index from its bytes, which it keeps.
     pub fn parse(bytes: ByteList, kind: Kind) -> Result<File, BadIndex>
         ensures found { IfOk result (λ index. index ≡ record { kind = kind; bytes = bytes }) }
         ensures exact { IsOk result ↔ IsTrue (is_index kind bytes) }
     {
-        if is_whole(&FileBytes {
-            kind,
-            bytes: bytes.as_slice(),
-        }) {
-            Ok(File { kind, bytes })
+        let file = FileBytes { kind, bytes };
+        if is_whole(&file) {
+            Ok(File { file })
         } else {
             Err(BadIndex)
         }
@@ -105,15 +91,16 @@ impl File {
         ensures count { result ≡ objects_in self.now.bytes }
         ensures index { is_index self.now.kind self.now.bytes ≡ true }
     {
-        count_of(&self.borrowed())
+        count_of(&self.file)
     }
 
     /// The id of a row.
+    #[tactic(auto, using(crate::proofs::IndexLemmas::row_room, crate::proofs::IndexLemmas::has_ids))]
     pub fn oid_at_index(&self, n: u32) -> ObjectId
         requires row { n < objects_in self.now.bytes }
         ensures id { slice_get (index_ids self.now.kind self.now.bytes) n ≡ Some result }
     {
-        id_at(&self.borrowed(), n)
+        search::id_at(self.file.behind(IDS_PLACE), self.file.kind, n)
     }
 
     /// The place in the pack of a row's object.
@@ -121,21 +108,58 @@ impl File {
         requires row { n < objects_in self.now.bytes }
         ensures offset { slice_get (index_offsets self.now.kind self.now.bytes) n ≡ Some result }
     {
-        offset_at(&self.borrowed(), n)
+        let narrow = self.narrow_at(n);
+        if narrow < HIGH_BIT {
+            return narrow as u64;
+        }
+        self.wide_at(narrow - HIGH_BIT)
+    }
+
+    // The offset of a row, as its four bytes tell it.
+    #[tactic(auto, using(crate::proofs::IndexLemmas::has_ids))]
+    fn narrow_at(&self, row: u32) -> u32
+        requires row { row < objects_in self.now.bytes }
+        ensures offset { slice_get (narrow_offsets self.now.kind self.now.bytes) row ≡ Some result }
+        ensures index { is_index self.now.kind self.now.bytes ≡ true }
+    {
+        let place = offsets_place_of(self.file.kind, count_of(&self.file));
+        self.file.number_at(place + row as usize * OFFSET_LEN)
+    }
+
+    // A row of the wide offsets.
+    #[tactic(auto, using(crate::proofs::IndexLemmas::has_ids))]
+    fn wide_at(&self, wide: u32) -> u64
+        requires wide { wide < wides_in self.now.kind self.now.bytes }
+        ensures offset { slice_get (wide_offsets self.now.kind self.now.bytes) wide ≡ Some result }
+    {
+        let place = wides_place_of(self.file.kind, count_of(&self.file));
+        self.file.long_at(place + wide as usize * WIDE_LEN)
     }
 
     /// The row of an id, if it has one.
+    #[tactic(auto, using(crate::proofs::IndexLemmas::ids_room, crate::proofs::IndexLemmas::has_ids))]
     pub fn lookup(&self, id: &ObjectId) -> Option<u32>
         ensures row { IsRowOf (index_ids self.now.kind self.now.bytes) id.now result }
     {
-        row_of(&self.borrowed(), id)
+        search::row_of(
+            self.file.behind(IDS_PLACE),
+            self.file.kind,
+            count_of(&self.file),
+            id,
+        )
     }
 
     /// The rows whose ids begin with a prefix.
+    #[tactic(auto, using(crate::proofs::IndexLemmas::ids_room, crate::proofs::IndexLemmas::ids_rise, crate::proofs::IndexLemmas::has_ids))]
     pub fn lookup_prefix(&self, prefix: &Prefix) -> Range<u32>
         ensures run { IsPrefixRun (index_ids self.now.kind self.now.bytes) prefix.now result.start result.end }
     {
-        rows_of_prefix(&self.borrowed(), prefix)
+        search::rows_of_prefix(
+            self.file.behind(IDS_PLACE),
+            self.file.kind,
+            count_of(&self.file),
+            prefix,
+        )
     }
 
     /// The rows, in the order of their ids.
@@ -151,29 +175,29 @@ impl File {
 
 // Whether bytes are an index.
 #[tactic(auto, using(crate::proofs::IndexLemmas::short_file), unfolding(crate::specs::Index::is_index))]
-fn is_whole(file: &FileBytes<'_>) -> bool
-    ensures whole { result ≡ is_index file.now.kind file.now.bytes.now }
+fn is_whole(file: &FileBytes) -> bool
+    ensures whole { result ≡ is_index file.now.kind file.now.bytes }
 {
-    file.bytes.starts_with(&SIGNATURE)
+    file.bytes.as_slice().starts_with(&SIGNATURE)
         && file.len() >= IDS_PLACE
         && has_length(file)
         && has_tables(file)
 }
 
 // Whether the length is that of the number of objects and of a number of wide offsets.
-fn has_length(file: &FileBytes<'_>) -> bool
-    requires room { ids_place ≤ length file.now.bytes.now }
-    ensures length { result ≡ length_fits file.now.kind file.now.bytes.now }
+fn has_length(file: &FileBytes) -> bool
+    requires room { ids_place ≤ length file.now.bytes }
+    ensures length { result ≡ length_fits file.now.kind file.now.bytes }
 {
     let fixed = wides_place_of(file.kind, count_of(file)) + 2 * file.hash_len();
     file.len() == fixed + WIDE_LEN * wides_of(file)
 }
 
 // Whether the tables of an index of the right length agree with each other.
-#[tactic(auto, using(crate::proofs::IndexLemmas::front_room, crate::proofs::IndexLemmas::counts_room, crate::proofs::IndexLemmas::table_room, crate::proofs::IndexLemmas::offsets_place_room, crate::proofs::IndexLemmas::offsets_room), unfolding(crate::specs::Index::tables_agree))]
-fn has_tables(file: &FileBytes<'_>) -> bool
-    requires length { length_fits file.now.kind file.now.bytes.now ≡ true }
-    ensures agree { result ≡ tables_agree file.now.kind file.now.bytes.now }
+#[tactic(auto, using(crate::proofs::IndexLemmas::table_rooms), unfolding(crate::specs::Index::tables_agree))]
+fn has_tables(file: &FileBytes) -> bool
+    requires length { length_fits file.now.kind file.now.bytes ≡ true }
+    ensures agree { result ≡ tables_agree file.now.kind file.now.bytes }
 {
     let count = count_of(file);
     let n = count as usize;
@@ -185,17 +209,17 @@ fn has_tables(file: &FileBytes<'_>) -> bool
 }
 
 // The number of objects, by the last of the counts.
-fn count_of(file: &FileBytes<'_>) -> u32
-    requires room { ids_place ≤ length file.now.bytes.now }
-    ensures count { result ≡ objects_in file.now.bytes.now }
+fn count_of(file: &FileBytes) -> u32
+    requires room { ids_place ≤ length file.now.bytes }
+    ensures count { result ≡ objects_in file.now.bytes }
 {
     file.number_at(LAST_COUNT_PLACE)
 }
 
 // How many wide offsets the length leaves room for.
-fn wides_of(file: &FileBytes<'_>) -> usize
-    requires room { ids_place ≤ length file.now.bytes.now }
-    ensures wides { result ≡ wides_in file.now.kind file.now.bytes.now }
+fn wides_of(file: &FileBytes) -> usize
+    requires room { ids_place ≤ length file.now.bytes }
+    ensures wides { result ≡ wides_in file.now.kind file.now.bytes }
 {
     let fixed = wides_place_of(file.kind, count_of(file)) + 2 * file.hash_len();
     file.len().saturating_sub(fixed) / WIDE_LEN
@@ -221,66 +245,4 @@ fn wides_place_of(kind: Kind, count: u32) -> usize
         Kind::Sha1 => IDS_PLACE + count as usize * (SHA1_LEN + CHECK_LEN + OFFSET_LEN),
         Kind::Sha256 => IDS_PLACE + count as usize * (SHA256_LEN + CHECK_LEN + OFFSET_LEN),
     }
-}
-
-// The id of a row.
-#[tactic(auto, using(crate::proofs::IndexLemmas::row_room, crate::proofs::IndexLemmas::has_ids))]
-fn id_at(file: &FileBytes<'_>, row: u32) -> ObjectId
-    requires index { is_index file.now.kind file.now.bytes.now ≡ true }
-    requires row { row < objects_in file.now.bytes.now }
-    ensures id { slice_get (index_ids file.now.kind file.now.bytes.now) row ≡ Some result }
-{
-    search::id_at(file.behind(IDS_PLACE), file.kind, row)
-}
-
-// The row of an id.
-#[tactic(auto, using(crate::proofs::IndexLemmas::ids_room, crate::proofs::IndexLemmas::has_ids))]
-fn row_of(file: &FileBytes<'_>, id: &ObjectId) -> Option<u32>
-    requires index { is_index file.now.kind file.now.bytes.now ≡ true }
-    ensures row { IsRowOf (index_ids file.now.kind file.now.bytes.now) id.now result }
-{
-    search::row_of(file.behind(IDS_PLACE), file.kind, count_of(file), id)
-}
-
-// The rows of a prefix.
-#[tactic(auto, using(crate::proofs::IndexLemmas::ids_room, crate::proofs::IndexLemmas::ids_rise, crate::proofs::IndexLemmas::has_ids))]
-fn rows_of_prefix(file: &FileBytes<'_>, prefix: &Prefix) -> Range<u32>
-    requires index { is_index file.now.kind file.now.bytes.now ≡ true }
-    ensures run { IsPrefixRun (index_ids file.now.kind file.now.bytes.now) prefix.now result.start result.end }
-{
-    search::rows_of_prefix(file.behind(IDS_PLACE), file.kind, count_of(file), prefix)
-}
-
-// The offset of a row.
-#[tactic(auto, using(crate::proofs::IndexLemmas::narrow_offset, crate::proofs::IndexLemmas::wide_offset, crate::proofs::IndexLemmas::wide_below))]
-fn offset_at(file: &FileBytes<'_>, row: u32) -> u64
-    requires index { is_index file.now.kind file.now.bytes.now ≡ true }
-    requires row { row < objects_in file.now.bytes.now }
-    ensures offset { slice_get (index_offsets file.now.kind file.now.bytes.now) row ≡ Some result }
-{
-    let narrow = narrow_at(file, row);
-    if narrow < HIGH_BIT {
-        return narrow as u64;
-    }
-    wide_at(file, narrow - HIGH_BIT)
-}
-
-// The offset of a row, as its four bytes tell it.
-#[tactic(auto, using(crate::proofs::IndexLemmas::narrow_room, crate::proofs::IndexLemmas::has_ids))]
-fn narrow_at(file: &FileBytes<'_>, row: u32) -> u32
-    requires index { is_index file.now.kind file.now.bytes.now ≡ true }
-    requires row { row < objects_in file.now.bytes.now }
-    ensures offset { slice_get (narrow_offsets file.now.kind file.now.bytes.now) row ≡ Some result }
-{
-    file.number_at(offsets_place_of(file.kind, count_of(file)) + row as usize * OFFSET_LEN)
-}
-
-// A row of the wide offsets.
-#[tactic(auto, using(crate::proofs::IndexLemmas::wide_room, crate::proofs::IndexLemmas::has_ids))]
-fn wide_at(file: &FileBytes<'_>, wide: u32) -> u64
-    requires index { is_index file.now.kind file.now.bytes.now ≡ true }
-    requires wide { wide < wides_in file.now.kind file.now.bytes.now }
-    ensures offset { slice_get (wide_offsets file.now.kind file.now.bytes.now) wide ≡ Some result }
-{
-    file.long_at(wides_place_of(file.kind, count_of(file)) + wide as usize * WIDE_LEN)
 }

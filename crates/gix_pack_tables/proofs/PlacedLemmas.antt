@@ -8,7 +8,7 @@ use Rattle.gix_hash.specs.declared.kind.Kind.{Kind}
 use Rattle.gix_object.specs.Data.{Object}
 use Rattle.gix_pack_tables.specs.PlacedRow.{placed_from, row_of}
 use Rattle.gix_pack_tables.specs.Rows.{Row}
-use Rattle.gix_pack_tables.specs.WrittenPack.{entry_of, id_of_object, object_seen, places_from, rows_in_order, row_of as row_of_pair}
+use Rattle.gix_pack_tables.specs.WrittenPack.{entry_of, id_of_object, object_seen, places_from, rows_in_order, row_of as row_of_pair, entries_place}
 use Rattle.gix_pack_tables.specs.declared.object.Object as given
 
 -- ---- lists
@@ -26,9 +26,9 @@ rows_from hash pack place [] = refl
 rows_from hash pack place (object ∷ objects) =
     ap (λ (rows : List Row). record { id = id_of_object hash object; offset = place } ∷ rows) (rows_from hash pack (place + length (entry_of object)) objects)
 
-pub rows_placed : (hash : Kind) (pack : ℕ) (objects : List Object) → map row_of (placed_from hash pack 12 objects) ≡ rows_in_order hash objects
+pub rows_placed : (hash : Kind) (pack : ℕ) (objects : List Object) → map row_of (placed_from hash pack entries_place objects) ≡ rows_in_order hash objects
 unfolding rows_in_order
-rows_placed hash pack objects = rows_from hash pack 12 objects
+rows_placed hash pack objects = rows_from hash pack entries_place objects
 
 pub length-placed_from : (hash : Kind) (pack place : ℕ) (objects : List Object) → length (placed_from hash pack place objects) ≡ length objects
 length-placed_from hash pack place [] = refl

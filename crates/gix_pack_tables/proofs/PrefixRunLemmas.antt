@@ -1,5 +1,6 @@
 -- The rows of a prefix stand side by side: a prefix that is below an id is below each later one, and above none where an id has it.
-use Rattle.std.proofs.Common.{◌≡◌, ℕ, zero, suc, ◌+◌, ◌-◌, ◌*◌, ◌<◌, ◌≤◌, ◌⊎◌, inl, inr, true, List, [], ◌∷◌, take, drop, slice_get, Some, Ordering, Less, Equal, Greater, lit<, refl, sym, ap, ◌∙◌, arith}
+use Rattle.std.proofs.Common.{◌≡◌, ℕ, zero, suc, ◌+◌, ◌-◌, ◌*◌, ◌<◌, ◌≤◌, ◌⊎◌, inl, inr, true, List, [], ◌∷◌, take, drop}
+use Rattle.std.proofs.Common.{slice_get, Some, Ordering, Less, Equal, Greater, lit<, refl, sym, ap, ◌∙◌, arith}
 use Rattle.std.proofs.lemmas.List.{get_or-drop}
 use Rattle.std.proofs.lemmas.Option.{same_Some, slice_get_within}
 use Rattle.hex.specs.Hex.{IsBytes}

@@ -1,5 +1,5 @@
 -- Packs as they are written: sizes by seven bits, headers, and entries one behind another.
-use Rattle.std.proofs.Common.{◌≡◌, ℕ, zero, suc, ◌+◌, ◌*◌, ◌/◌, ◌%◌, ◌^◌, ◌<◌, ◌≤◌, ◌⊎◌, inl, inr, nat_lt, true, false, List, [], ◌∷◌, ◌++◌, length, length-append, drop, append_assoc, refl, sym, ap, ◌∙◌, arith}
+use Rattle.std.proofs.Common.{◌≡◌, ℕ, zero, suc, ◌+◌, ◌*◌, ◌/◌, ◌%◌, ◌^◌, ◌<◌, ◌≤◌, inl, inr, List, [], ◌∷◌, ◌++◌, length, length-append, append_assoc, refl, sym, ap, ◌∙◌, arith}
 use Rattle.std.proofs.lemmas.Bool.{cases_lt, le-ltb, lt-ltb}
 use Rattle.std.proofs.Math.Nat.{pow-suc}
 use Rattle.gix_object.specs.Data.{Object}
@@ -75,6 +75,9 @@ len_of_short code size small = rw (lt-ltb size 16 small) refl
 pub len_of_long : (code size : ℕ) → 16 ≤ size → length (header_of code size) ≡ 1 + length (size_bytes 9 (size / 16))
 unfolding header_of
 len_of_long code size large = rw (le-ltb size 16 large) (omega arith)
+
+-- these by one name
+pub ruleset header_lengths = (len_of_more, len_of_last, len_at_most, len_of_short, len_of_long)
 
 -- and of an entry, whose header has the same length for each type
 pub len_of_entry : (object : Object) (len : ℕ) → ((code : ℕ) → len ≡ length (header_of code (length object.bytes))) → len + length object.bytes ≡ length (entry_of object)

@@ -1,5 +1,6 @@
 -- Tables that were written, read back: numbers, ids, counts and offsets.
-use Rattle.std.proofs.Common.{◌≡◌, ℕ, Bool, cond, suc, ◌+◌, ◌-◌, ◌*◌, ◌^◌, ◌<◌, ◌≤◌, ◌⊎◌, inl, inr, nat_lt, nat_eq, true, false, List, [], ◌∷◌, ◌++◌, length, map, take, drop, slice_index, append_assoc, length-append, refl, sym, ap, ◌∙◌, arith}
+use Rattle.std.proofs.Common.{◌≡◌, ℕ, Bool, cond, suc, ◌+◌, ◌-◌, ◌*◌, ◌^◌, ◌<◌, ◌≤◌, inl, inr, nat_lt, nat_eq, true, false, List, [], ◌∷◌}
+use Rattle.std.proofs.Common.{◌++◌, length, map, take, drop, slice_index, append_assoc, length-append, refl, sym, ap, ◌∙◌, arith}
 use Rattle.std.specs.List.{AllByRecursion, filter, flat_map, list_all, range_with_len}
 use Rattle.std.specs.Int.{w32, w64, from_be_bytes, to_be_bytes}
 use Rattle.std.proofs.lemmas.List.{append-nil, drop_at, get_or_at, length-map, take_at}

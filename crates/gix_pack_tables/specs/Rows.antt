@@ -1,5 +1,6 @@
 -- The rows of an index or a multi-index, and what is asked of them: the row of an id, and the rows of a prefix.
-use Rattle.std.specs.Prelude.{◌≡◌, ℕ, ◌-◌, ◌^◌, ◌<◌, ◌≤◌, ◌↔◌, ◌&&◌, ◌||◌, Bool, true, List, [], ◌∷◌, length, map, slice_get, slice_index, count_by, Contains, Option, Some, None, nat_le, nat_lt, if◌then◌else◌}
+use Rattle.std.specs.Prelude.{◌≡◌, ℕ, ◌-◌, ◌^◌, ◌<◌, ◌≤◌, ◌↔◌, ◌&&◌, ◌||◌, Bool, true, List, [], ◌∷◌, length, map}
+use Rattle.std.specs.Prelude.{slice_get, slice_index, count_by, Contains, Option, Some, None, nat_le, nat_lt, if◌then◌else◌}
 use Rattle.std.specs.List.{range_with_len}
 use Rattle.std.specs.Ordering.{is_lt}
 use Rattle.gix_hash.specs.Kind.{len_in_bytes_of}

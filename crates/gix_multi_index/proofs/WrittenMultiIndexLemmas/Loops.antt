@@ -1,5 +1,6 @@
 -- What is written so far, row by row, chunk by chunk and name by name.
-use Rattle.std.proofs.Common.{◌≡◌, ℕ, zero, suc, ◌+◌, ◌*◌, ◌^◌, ◌<◌, ◌≤◌, ◌||◌, ◌&&◌, nat_lt, not, Bool, true, false, List, [], ◌∷◌, ◌++◌, length, map, drop, get_or, replicate, codes, append_assoc, length-append, refl, sym, ap, subst, ◌∙◌, arith}
+use Rattle.std.proofs.Common.{◌≡◌, ℕ, zero, suc, ◌+◌, ◌^◌, ◌<◌, ◌≤◌, ◌||◌, ◌&&◌, nat_lt, not, Bool, true, false, List, [], ◌∷◌, ◌++◌}
+use Rattle.std.proofs.Common.{length, map, drop, get_or, replicate, codes, append_assoc, length-append, refl, sym, ap, subst, ◌∙◌, arith}
 use Rattle.std.specs.List.{flat_map, zip}
 use Rattle.std.specs.Int.{w32, w64, to_be_bytes}
 use Rattle.std.proofs.lemmas.Bool.{or_parts}
@@ -11,8 +12,8 @@ use Rattle.gix_multi_index.specs.MultiIndexChunks.{below_first, bytes_over, chun
 use Rattle.gix_pack_tables.specs.PlacedRow.{offset_of, pack_of, placed_from}
 use Rattle.gix_multi_index.specs.PlacedPackRow.{placed_in}
 use Rattle.gix_pack_tables.specs.WrittenTables.{is_wide, narrow_from}
-use Rattle.gix_multi_index.specs.WrittenMultiIndex.{chunk_table, name_bytes, named_seen, names_of, needs_wide, pack_and_offset}
-use Rattle.gix_pack_tables.specs.WrittenPack.{object_seen}
+use Rattle.gix_multi_index.specs.WrittenMultiIndex.{chunk_table, chunks_place, name_bytes, named_seen, names_of, needs_wide, pack_and_offset}
+use Rattle.gix_pack_tables.specs.WrittenPack.{entries_place, object_seen}
 use Rattle.gix_multi_index.specs.declared.writing.Chunk as kept
 use Rattle.gix_multi_index.specs.declared.named_pack.NamedPack as given
 use Rattle.gix_pack_tables.specs.declared.write.rows.Placed.{Placed}
@@ -22,7 +23,7 @@ use Rattle.gix_multi_index.proofs.WrittenMultiIndexLemmas.{names_more, no_names}
 
 -- the first pack that is left, and the others
 pub packs_step : (hash : Kind) (number : ℕ) (packs : List given.NamedPack) (i : ℕ) (pack : given.NamedPack) → i < length packs → pack ≡ get_or packs i pack
-    → placed_in hash number (map named_seen (drop i packs)) ≡ placed_from hash number 12 (map object_seen pack.objects) ++ placed_in hash (number + 1) (map named_seen (drop (i + 1) packs))
+    → placed_in hash number (map named_seen (drop i packs)) ≡ placed_from hash number entries_place (map object_seen pack.objects) ++ placed_in hash (number + 1) (map named_seen (drop (i + 1) packs))
 packs_step hash number packs i pack below is =
     ap (λ (rest : List given.NamedPack). placed_in hash number (map named_seen rest)) (drop_more packs i pack below ∙ ap (λ (p : given.NamedPack). p ∷ drop (i + 1) packs) (sym is))
 
@@ -220,8 +221,14 @@ pub bytes_all : (list start : List ℕ) (chunks : List kept.Chunk) (i : ℕ) →
     → list ≡ start ++ flat_map (λ (c : Chunk). c.bytes) (map chunk_seen chunks)
 bytes_all list start chunks i past so_far = sym (append-nil list) ∙ ap (λ (rest : List ℕ). list ++ rest) (sym (bytes_end chunks i past)) ∙ so_far
 
-pub small_seen : (own chunks : List kept.Chunk) → chunks ≡ own → 12 + 12 * (length chunks + 1) + bytes_over (map chunk_seen chunks) < 2 ^ 64
-    → 12 + 12 * (length (map chunk_seen own) + 1) + bytes_over (map chunk_seen own) < 2 ^ 64
+pub small_seen : (own chunks : List kept.Chunk) → chunks ≡ own → chunks_place (length chunks) + bytes_over (map chunk_seen chunks) < 2 ^ 64
+    → chunks_place (length (map chunk_seen own)) + bytes_over (map chunk_seen own) < 2 ^ 64
 small_seen own chunks same small =
-    subst (λ (cs : List kept.Chunk). 12 + 12 * (length (map chunk_seen cs) + 1) + bytes_over (map chunk_seen cs) < 2 ^ 64) same
-    (subst (λ (n : ℕ). 12 + 12 * (n + 1) + bytes_over (map chunk_seen chunks) < 2 ^ 64) (sym (length-map chunks chunk_seen)) small)
+    subst (λ (cs : List kept.Chunk). chunks_place (length (map chunk_seen cs)) + bytes_over (map chunk_seen cs) < 2 ^ 64) same
+    (subst (λ (n : ℕ). chunks_place n + bytes_over (map chunk_seen chunks) < 2 ^ 64) (sym (length-map chunks chunk_seen)) small)
+
+-- ---- what a walk through packs or rows uses
+
+pub ruleset each_name = (names_bad, names_out, names_good, names_all)
+
+pub ruleset each_offset = (wide_found, wide_not_yet, wide_nowhere)

@@ -1,5 +1,6 @@
 -- The header of a multi-pack index, and its chunks.
-use Rattle.std.specs.Prelude.{ℕ, ◌+◌, ◌-◌, ◌*◌, ◌==◌, ◌&&◌, Bool, false, List, [], ◌∷◌, ◌++◌, length, take, drop, map, codes, slice_index, nat_eq, nat_le, Option, Some, None, is_some, unwrap_or, if◌then◌else◌}
+use Rattle.std.specs.Prelude.{ℕ, ◌+◌, ◌-◌, ◌*◌, ◌==◌, ◌&&◌, Bool, false, List, [], ◌∷◌, ◌++◌, length, take, drop, map}
+use Rattle.std.specs.Prelude.{codes, slice_index, nat_eq, nat_le, Option, Some, None, is_some, unwrap_or, if◌then◌else◌}
 use Rattle.std.specs.List.{zip, filter, starts_with}
 use Rattle.std.specs.Int.{w64, from_be_bytes}
 use Rattle.gix_hash.specs.Kind.{len_in_bytes_of}

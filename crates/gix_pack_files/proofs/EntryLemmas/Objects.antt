@@ -1,22 +1,23 @@
 -- The object behind a header.
-use Rattle.std.proofs.Common.{◌≡◌, ℕ, ◌+◌, ◌-◌, ◌<◌, ◌≤◌, ◌⊎◌, inl, inr, Bool, true, false, List, length, take, Option, Some, None, Result, Ok, Err, if◌then◌else◌, length-drop, length-take-le, subst, refl, sym, ap, ◌∙◌, arith}
+use Rattle.std.proofs.Common.{◌≡◌, ℕ, ◌+◌, ◌-◌, ◌<◌, ◌≤◌, inl, inr, Bool, true, false, List, length, take, Option, Result}
+use Rattle.std.proofs.Common.{Ok, Err, if◌then◌else◌, length-drop, length-take-le, subst, refl, sym, ap, ◌∙◌, arith}
 use Rattle.std.proofs.lemmas.Bool.{and_parts, cases_lt, le-ltb, leb-true, lt-ltb}
-use Rattle.std.proofs.lemmas.Option.{same_Some}
 use Rattle.gix_hash.specs.declared.kind.Kind.{Kind}
 use Rattle.gix_pack_tables.specs.Bytes.{is_within, part, trailer_place}
 use Rattle.gix_object.specs.declared.kind.Kind.{Kind as ObjectKind}
-use Rattle.gix_pack_files.specs.Pack.{Head, begins_with_header, head_at, head_of, header_at, header_len, kind_of_code, object_behind, rest_at, slice_at}
+use Rattle.gix_pack_files.specs.Pack.{Head, begins_with_header, head_at, head_of, header_at, header_len, kind_of_code, object_behind, rest_at}
 use Rattle.gix_pack_files.specs.PackHead.{head_from}
 use Rattle.gix_pack_files.specs.declared.data.Error.{Error}
 use Rattle.gix_pack_files.specs.declared.data.Error.TheVariants.{BadEntry, OutOfMemory}
 use Rattle.gix_pack_files.specs.declared.data.entry.Header.{Header}
-use Rattle.gix_pack_files.proofs.EntryLemmas.{head_before, head_behind, head_within, slice_behind, slice_within}
+use Rattle.gix_pack_files.proofs.EntryLemmas.{head_before, head_behind, head_within}
+use Rattle.gix_pack_tables.specs.WrittenPack.{entries_place}
 
 -- ---- the object behind a header
 
 -- where a header stands that is read, and its length
 record Stands (kind : Kind) (bytes : List ℕ) (offset len : ℕ) : Type 0 where
-  behind_front : 12 ≤ offset
+  behind_front : entries_place ≤ offset
   before_trailer : offset < trailer_place kind bytes
   fits : len ≤ length (rest_at kind bytes offset)
 
@@ -45,7 +46,7 @@ head_from_Ok rest head h = by (begins_with_header rest) refl
 
 head_stands : (kind : Kind) (bytes : List ℕ) (offset : ℕ) (head : Head) → head_at kind bytes offset ≡ Ok head → Stands kind bytes offset head.header_len
 head_stands kind bytes offset head h =
-    elim (cases_lt offset 12) [
+    elim (cases_lt offset entries_place) [
       | inl low ↦ let none = head_before kind bytes offset low in absurd (cc (none, h))
       | inr behind ↦
           elim (cases_lt offset (trailer_place kind bytes)) [
@@ -76,10 +77,11 @@ header_stands kind bytes offset header h = by_head (head_at kind bytes offset) r
     by_head (Ok head) is = by_kind head is (kind_of_code head.code) refl
 
 -- a header that is read stands behind the pack's own, and ends before the trailing hash
-pub header_ends : (kind : Kind) (bytes : List ℕ) (offset : ℕ) (header : Header) → header_at kind bytes offset ≡ Ok header → (12 ≤ offset) × (offset + header.header_len ≤ trailer_place kind bytes)
+pub header_ends : (kind : Kind) (bytes : List ℕ) (offset : ℕ) (header : Header) → header_at kind bytes offset ≡ Ok header → (entries_place ≤ offset)
+    × (offset + header.header_len ≤ trailer_place kind bytes)
 header_ends kind bytes offset header h =
     let stands = header_stands kind bytes offset header h in
-    let low : 12 ≤ offset = stands.behind_front in
+    let low : entries_place ≤ offset = stands.behind_front in
     let before : offset < trailer_place kind bytes = stands.before_trailer in
     let fits : header.header_len ≤ length (rest_at kind bytes offset) = stands.fits in
     let rest : length (rest_at kind bytes offset) ≡ length (take (trailer_place kind bytes) bytes) - offset = length-drop offset (take (trailer_place kind bytes) bytes) in
@@ -102,27 +104,21 @@ module _ (kind : Kind) (bytes : List ℕ) (offset : ℕ) (limit : Option ℕ) (h
   unfolding object_behind
   object_inside within inside = rw (within, le-ltb (trailer_place kind bytes) (offset + header.header_len + header.size) inside) refl
 
+  abbrev place : ℕ
+  place = offset + header.header_len
+
   -- its data leave the entries
-  pub object_beyond : header_at kind bytes offset ≡ Ok header → is_within limit header.size ≡ true → slice_at kind bytes (offset + header.header_len) header.size ≡ None
+  pub object_beyond : (end : ℕ) → header_at kind bytes offset ≡ Ok header → is_within limit header.size ≡ true → end ≡ trailer_place kind bytes → end - place < header.size
       → object_behind kind bytes offset limit header ≡ Err BadEntry
-  object_beyond read within none =
-      let ends = header_ends kind bytes offset header read in
-      let low : 12 ≤ offset + header.header_len = let first : 12 ≤ offset = ends.0 in omega arith in
-      elim (cases_lt (trailer_place kind bytes) (offset + header.header_len + header.size)) [
-        | inl past ↦ object_past within past
-        | inr inside ↦ let some = slice_within kind bytes (offset + header.header_len) header.size low inside in absurd (cc (some, none))
-      ]
+  object_beyond end read within end_is past =
+      let ends : place ≤ trailer_place kind bytes = (header_ends kind bytes offset header read).1 in
+      object_past within (omega arith)
 
   -- its data are these
-  pub object_within : (found : List ℕ) → header_at kind bytes offset ≡ Ok header → is_within limit header.size ≡ true → slice_at kind bytes (offset + header.header_len) header.size ≡ Some found
+  pub object_within : (end : ℕ) (found : List ℕ) → header_at kind bytes offset ≡ Ok header → is_within limit header.size ≡ true → end ≡ trailer_place kind bytes → header.size ≤ end - place
+      → found ≡ part place header.size bytes
       → object_behind kind bytes offset limit header ≡ Ok (record { kind = header.kind; size = header.size; header_len = header.header_len; bytes = found })
-  object_within found read within some =
-      let ends = header_ends kind bytes offset header read in
-      let low : 12 ≤ offset + header.header_len = let first : 12 ≤ offset = ends.0 in omega arith in
-      elim (cases_lt (trailer_place kind bytes) (offset + header.header_len + header.size)) [
-        | inl past ↦ let none = slice_behind kind bytes (offset + header.header_len) header.size past in absurd (cc (some, none))
-        | inr inside ↦
-            let own : part (offset + header.header_len) header.size bytes ≡ found = same_Some _ found (sym (slice_within kind bytes (offset + header.header_len) header.size low inside) ∙ some) in
-            object_inside within inside
-            ∙ ap (λ (its : List ℕ). Ok (record { kind = header.kind; size = header.size; header_len = header.header_len; bytes = its })) own
-      ]
+  object_within end found read within end_is inside found_is =
+      let ends : place ≤ trailer_place kind bytes = (header_ends kind bytes offset header read).1 in
+      object_inside within (omega arith)
+      ∙ ap (λ (its : List ℕ). Ok (record { kind = header.kind; size = header.size; header_len = header.header_len; bytes = its })) (sym found_is)

@@ -14,7 +14,7 @@ use Rattle.gix_pack_tables.specs.PlacedRow.{id_of, offset_of, placed_from, row_o
 use Rattle.gix_pack_tables.specs.Rows.{Row, counts_of, is_rising}
 use Rattle.gix_pack_files.specs.WrittenIndex.{index_bytes, index_front, index_of, IsIndexOf, ReadsIndex}
 use Rattle.gix_pack_tables.specs.WrittenTables.{is_wide, long_number_bytes, narrow_from, number_bytes, table_of}
-use Rattle.gix_pack_tables.specs.WrittenPack.{pack_front, pack_hash, rows_in_order}
+use Rattle.gix_pack_tables.specs.WrittenPack.{entries_place, pack_front, pack_hash, rows_in_order}
 use Rattle.gix_pack_tables.specs.declared.write.rows.Placed.{Placed}
 use Rattle.gix_pack_tables.proofs.PlacedLemmas.{length-placed_from, rows_placed}
 use Rattle.gix_pack_tables.proofs.TableLemmas.{each_of_table, is_table, length-table_of, rising-table_of}
@@ -44,7 +44,7 @@ unfolding index_bytes
 bytes_seen hash rows pack = ap (λ (front : List ℕ). front ++ bytes_of (hash_of hash front)) (front_seen rows pack)
 
 table_seen : (hash : Kind) (objects : List Object) → map row_of (index_placed hash objects) ≡ table_of id_seen (rows_in_order hash objects)
-table_seen hash objects = map-table_of row_of id_of id_seen (λ (row : Placed). refl) (placed_from hash 0 12 objects) ∙ ap (table_of id_seen) (rows_placed hash 0 objects)
+table_seen hash objects = map-table_of row_of id_of id_seen (λ (row : Placed). refl) (placed_from hash 0 entries_place objects) ∙ ap (table_of id_seen) (rows_placed hash 0 objects)
 
 pub index_written : (hash : Kind) (objects : List Object) (rows : List Placed) (front : List ℕ) → rows ≡ index_placed hash objects → front ≡ front_of_rows rows (pack_hash hash objects)
     → front ++ bytes_of (hash_of hash front) ≡ index_of hash objects
@@ -64,10 +64,10 @@ is_index_of hash objects =
 
 -- ---- what is known of the rows on the way
 
-pub index_rows_are : (hash : Kind) (objects : List Object) (none given table rows : List Placed) → none ≡ [] → given ≡ none ++ placed_from hash 0 12 objects
+pub index_rows_are : (hash : Kind) (objects : List Object) (none given table rows : List Placed) → none ≡ [] → given ≡ none ++ placed_from hash 0 entries_place objects
     → table ≡ table_of id_of given → rows ≡ table → rows ≡ index_placed hash objects
 index_rows_are hash objects none given table rows empty given_is table_is rows_is =
-    rows_is ∙ table_is ∙ ap (table_of id_of) (given_is ∙ ap (λ (first : List Placed). first ++ placed_from hash 0 12 objects) empty)
+    rows_is ∙ table_is ∙ ap (table_of id_of) (given_is ∙ ap (λ (first : List Placed). first ++ placed_from hash 0 entries_place objects) empty)
 
 pub each_given : (hash : Kind) (none given whole : List Placed) → none ≡ [] → given ≡ none ++ whole → (AllByRecursion (IsPlaced hash) none → AllByRecursion (IsPlaced hash) given)
     → AllByRecursion (IsPlaced hash) whole
@@ -78,16 +78,16 @@ each_given hash none given whole empty given_is keeps =
 module _ (hash : Kind) (objects : List Object) (rows : List Placed) (are : rows ≡ index_placed hash objects) where
   pub index_few : length objects < 2 ^ 31 → length rows < 2 ^ 31
   index_few few =
-      let fewer = length-table_of id_of (placed_from hash 0 12 objects) in
-      let as_many = length-placed_from hash 0 12 objects in
+      let fewer = length-table_of id_of (placed_from hash 0 entries_place objects) in
+      let as_many = length-placed_from hash 0 entries_place objects in
       let same : length rows ≡ length (index_placed hash objects) = ap (λ (r : List Placed). length r) are in
       omega arith
 
   pub index_rising : is_rising (map id_of rows) ≡ true
-  index_rising = ap (λ (r : List Placed). is_rising (map id_of r)) are ∙ rising-table_of id_of (placed_from hash 0 12 objects)
+  index_rising = ap (λ (r : List Placed). is_rising (map id_of r)) are ∙ rising-table_of id_of (placed_from hash 0 entries_place objects)
 
-  pub index_each : AllByRecursion (IsPlaced hash) (placed_from hash 0 12 objects) → AllByRecursion (IsPlaced hash) rows
-  index_each placed = subst (AllByRecursion (IsPlaced hash)) (sym are) (each_of_table id_of (IsPlaced hash) (placed_from hash 0 12 objects) placed)
+  pub index_each : AllByRecursion (IsPlaced hash) (placed_from hash 0 entries_place objects) → AllByRecursion (IsPlaced hash) rows
+  index_each placed = subst (AllByRecursion (IsPlaced hash)) (sym are) (each_of_table id_of (IsPlaced hash) (placed_from hash 0 entries_place objects) placed)
 
 -- the tables one behind another
 pub front_steps : (rows : List Placed) (pack own l0 l1 l2 l3 l4 l5 l6 : List ℕ) → l0 ≡ signature → l1 ≡ l0 ++ number_bytes (counts_of (map id_of rows)) → l2 ≡ l1 ++ flat_map bytes_of (map id_of rows)
@@ -105,7 +105,7 @@ front_steps rows pack own l0 l1 l2 l3 l4 l5 l6 a b c d e f g h =
 
 -- the index of objects is read back, where their ids are ids and their places fit
 pub index_read_back : (hash : Kind) (objects : List Object) (rows : List Placed) (front : List ℕ) → rows ≡ index_placed hash objects → front ≡ front_of_rows rows (pack_hash hash objects)
-    → IsId (hash_of hash (pack_front objects)) → IsId (hash_of hash front) → length objects < 2 ^ 31 → AllByRecursion (IsPlaced hash) (placed_from hash 0 12 objects)
+    → IsId (hash_of hash (pack_front objects)) → IsId (hash_of hash front) → length objects < 2 ^ 31 → AllByRecursion (IsPlaced hash) (placed_from hash 0 entries_place objects)
     → ReadsIndex hash objects (front ++ bytes_of (hash_of hash front))
 index_read_back hash objects rows front rows_are front_is pack_id own_id few placed =
     let pack = pack_hash hash objects in

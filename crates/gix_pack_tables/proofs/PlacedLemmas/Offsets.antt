@@ -1,12 +1,11 @@
 -- Offsets as four and as eight bytes, row by row as they are written.
-use Rattle.std.proofs.Common.{◌≡◌, ℕ, ◌+◌, ◌-◌, ◌^◌, ◌<◌, ◌≤◌, ◌⊎◌, true, false, List, [], ◌∷◌, ◌++◌, length, map, drop, get_or, append_assoc, refl, sym, ap, ◌∙◌, arith}
+use Rattle.std.proofs.Common.{◌≡◌, ℕ, ◌+◌, ◌^◌, ◌<◌, ◌≤◌, true, false, List, [], ◌∷◌, ◌++◌, length, map, drop, get_or, append_assoc, refl, sym, ap, ◌∙◌}
 use Rattle.std.specs.List.{filter}
 use Rattle.std.specs.Int.{w32, w64, to_be_bytes}
 use Rattle.std.proofs.lemmas.List.{append-nil, drop_all, drop_more}
 use Rattle.gix_pack_tables.specs.PlacedRow.{offset_of}
 use Rattle.gix_pack_tables.specs.WrittenTables.{is_wide, narrow_from, number_bytes, long_number_bytes}
 use Rattle.gix_pack_tables.specs.declared.write.rows.Placed.{Placed}
-use Rattle.gix_pack_tables.proofs.OffsetLaws.{wide_or_low}
 
 -- ---- wide offsets
 

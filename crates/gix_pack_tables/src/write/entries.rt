@@ -51,7 +51,7 @@ pub fn entry_len(object: &Object) -> u64
 }
 
 // How long the header of a size is.
-#[tactic(auto, using(crate::proofs::WrittenPackLemmas::len_of_more, crate::proofs::WrittenPackLemmas::len_of_last, crate::proofs::WrittenPackLemmas::len_at_most, crate::proofs::WrittenPackLemmas::len_of_short, crate::proofs::WrittenPackLemmas::len_of_long))]
+#[tactic(auto, using(crate::proofs::WrittenPackLemmas::header_lengths))]
 fn header_len(size: u64) -> u64
     ensures exact { (code : ℕ) → result ≡ length (header_bytes code size) }
     ensures small { result ≤ longest_header }

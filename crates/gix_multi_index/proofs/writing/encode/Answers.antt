@@ -31,5 +31,5 @@ returns-clause-read_back c =
     c.in_ok-put_file.ensures.front ∙ ap (λ (n : ℕ). front_with c.args.kind n (map chunk_seen c.as_slice.result.now)) many
     ∙ ap (λ cs. front_with c.args.kind (length packs) (map chunk_seen cs)) c.as_slice.ensures.value in
     subst (ReadsMultiIndex c.args.kind packs) (sym c.in_ok-put_hash.ensures.put)
-    (multi_encoded c.args.kind packs (multi_placed c.args.kind packs) chunks c.put_file.new.file refl c.in_ok-chunks.ensures.chunks front c.in_ok-put_hash.ensures.id c.requires.can c.in_ok-chunks.ensures.placed
-    (small_seen c.in_ok-chunks.chunks.items c.as_slice.result.now c.as_slice.ensures.value c.in_ok-put_file.ensures.small))
+    (multi_encoded c.args.kind packs (multi_placed c.args.kind packs) chunks c.put_file.new.file refl c.in_ok-chunks.ensures.chunks front c.in_ok-put_hash.ensures.id c.requires.can
+    c.in_ok-chunks.ensures.placed (small_seen c.in_ok-chunks.chunks.items c.as_slice.result.now c.as_slice.ensures.value c.in_ok-put_file.ensures.small))

@@ -27,5 +27,6 @@ loop-first-preserved c =
       rising = c.behind-more_left.ensures.rising;
       counts_left = omega (arith, length-drop 4 c.loop-first.rest.now);
       above = λ later low. omega (arith, c.loop-first.invariant.above later (omega arith), c.behind-more_left.ensures.above later (omega arith));
-      same_so_far = right_count ids c.loop-first.first c.loop-first.rest.now _ c.number_at.result c.loop-first-test.true c.loop-first.invariant.same_so_far c.number_at.ensures.number (c.if-number_at-n.false ∙ sym count);
+      same_so_far = right_count ids c.loop-first.first c.loop-first.rest.now _ c.number_at.result c.loop-first-test.true
+          c.loop-first.invariant.same_so_far c.number_at.ensures.number (c.if-number_at-n.false ∙ sym count);
     })

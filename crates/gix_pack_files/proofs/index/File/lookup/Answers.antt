@@ -1,0 +1,15 @@
+use Rattle.std.proofs.Common.{subst}
+use Rattle.gix_pack_files.specs.FileBytes.{FileBytes}
+use Rattle.gix_pack_files.specs.Index.{index_ids}
+use Rattle.gix_pack_tables.specs.Rows.{IsRowOf}
+use Rattle.gix_pack_files.proofs.IndexLemmas.{row_read}
+use Rattle.gix_pack_files.proofs.index.File.lookup.Goals as goal
+
+-- the same of the count and of the table that are handed on
+pub returns : goal.returns
+returns c =
+    let file = c.self.inside.file in
+    record {
+      row = subst (λ (seen : FileBytes). IsRowOf (index_ids seen.kind seen.bytes) c.args.id.now c.row_of.result) c.self.view_is
+          (row_read file.kind file.bytes c.count_of.result c.behind.result.now c.args.id.now c.row_of.result c.count_of.ensures.count c.behind.ensures.rest c.row_of.ensures.row);
+    }

@@ -1,0 +1,16 @@
+use Rattle.std.proofs.Common.{subst}
+use Rattle.gix_pack_files.specs.FileBytes.{FileBytes}
+use Rattle.gix_pack_files.specs.Index.{index_ids}
+use Rattle.gix_pack_tables.specs.Rows.{IsPrefixRun}
+use Rattle.gix_pack_files.proofs.IndexLemmas.{run_read}
+use Rattle.gix_pack_files.proofs.index.File.lookup_prefix.Goals as goal
+
+-- the same of the count and of the table that are handed on
+pub returns : goal.returns
+returns c =
+    let file = c.self.inside.file in
+    let run = c.rows_of_prefix.result in
+    record {
+      run = subst (λ (seen : FileBytes). IsPrefixRun (index_ids seen.kind seen.bytes) c.args.prefix.now run.start run.end) c.self.view_is
+          (run_read file.kind file.bytes c.count_of.result c.behind.result.now c.args.prefix.now run.start run.end c.count_of.ensures.count c.behind.ensures.rest c.rows_of_prefix.ensures.run);
+    }
