@@ -67,8 +67,7 @@ same_of a b h = grind (arith, nat_tests)
 -- no place is behind the end
 pub first_within : (end left : ℕ) (rest : List ℕ) → ends_at end (rows_left left rest) ≡ true → long_number_at 4 rest ≤ end
 first_within end zero rest h =
-    let last : long_number_at 4 rest ≡ end = same_of (long_number_at 4 rest) end
-    (and_parts (same (take 4 rest) (0 ∷ 0 ∷ 0 ∷ 0 ∷ [])) (long_number_at 4 rest == end) (sym (ends_last end rest) ∙ h)).1 in
+    let last : long_number_at 4 rest ≡ end = same_of (long_number_at 4 rest) end (and_parts (same (take 4 rest) (0 ∷ 0 ∷ 0 ∷ 0 ∷ [])) (long_number_at 4 rest == end) (sym (ends_last end rest) ∙ h)).1 in
     omega arith
 first_within end (suc left) rest h =
     let more : suc left - 1 ≡ left = omega arith in
@@ -124,8 +123,7 @@ named_other name bytes (suc left) rest h other =
     let no : same (first_row rest).name name ≡ false = ap (λ (own : List ℕ). same own name) (name_of_first rest) ∙ other in
     rw less (named_step name bytes left rest ∙ ap (λ (b : Bool). cond b (first_chunk bytes rest ∷ named_left name bytes left (drop 12 rest)) (named_left name bytes left (drop 12 rest))) no)
 
-named_own : (name bytes : List ℕ) (left : ℕ) (rest : List ℕ) → 0 < left → same (take 4 rest) name ≡ true
-    → named_left name bytes left rest ≡ first_chunk bytes rest ∷ named_left name bytes (left - 1) (drop 12 rest)
+named_own : (name bytes : List ℕ) (left : ℕ) (rest : List ℕ) → 0 < left → same (take 4 rest) name ≡ true → named_left name bytes left rest ≡ first_chunk bytes rest ∷ named_left name bytes (left - 1) (drop 12 rest)
 named_own name bytes zero rest h own = absurd (omega arith)
 named_own name bytes (suc left) rest h own =
     let less : suc left - 1 ≡ left = omega arith in
@@ -149,8 +147,7 @@ one_seen bytes chunk place (other ∷ chunks) is = refl
 pub found_first : (name bytes : List ℕ) (left : ℕ) (rest : List ℕ) → 0 < left → same (take 4 rest) name ≡ true
     → with_found bytes None (named_left name bytes left rest) ≡ with_found bytes (Some (first_span rest)) (named_left name bytes (left - 1) (drop 12 rest))
 found_first name bytes left rest h own =
-    ap (with_found bytes None) (named_own name bytes left rest h own) ∙ one_seen bytes (first_chunk bytes rest) (first_span rest) (named_left name bytes (left - 1) (drop 12 rest))
-    (first_bytes bytes rest)
+    ap (with_found bytes None) (named_own name bytes left rest h own) ∙ one_seen bytes (first_chunk bytes rest) (first_span rest) (named_left name bytes (left - 1) (drop 12 rest)) (first_bytes bytes rest)
 
 -- another one
 pub found_other : (name bytes : List ℕ) (left : ℕ) (rest : List ℕ) (place : Span) → 0 < left → same (take 4 rest) name ≡ true → with_found bytes (Some place) (named_left name bytes left rest) ≡ None
@@ -164,8 +161,7 @@ none_behind : (bytes : List ℕ) (found : Option Span) → with_found bytes foun
 none_behind bytes None = refl
 none_behind bytes (Some place) = refl
 
-pub no_more : (name bytes : List ℕ) (left : ℕ) (rest : List ℕ) (found : Option Span) → left ≤ 0
-    → with_found bytes found (named_left name bytes left rest) ≡ option_map (option_map (span_of bytes)) (Some found)
+pub no_more : (name bytes : List ℕ) (left : ℕ) (rest : List ℕ) (found : Option Span) → left ≤ 0 → with_found bytes found (named_left name bytes left rest) ≡ option_map (option_map (span_of bytes)) (Some found)
 no_more name bytes zero rest found h = ap (with_found bytes found) (named_none name bytes rest) ∙ none_behind bytes found
 no_more name bytes (suc left) rest found h = absurd (omega arith)
 

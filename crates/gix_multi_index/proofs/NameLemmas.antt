@@ -71,24 +71,17 @@ go_on_is : (last : List ℕ) (left : ℕ) (rest : List ℕ) → go_on last left 
 unfolding go_on go_on_parts
 go_on_is last left rest = refl
 
-one_name : (last name : List ℕ) (left : ℕ) (parts : List (List ℕ)) → is_index_name name ≡ true
-    → go_on_parts last (suc left) (name ∷ parts) ≡ (is_lt (name_cmp last name) && go_on_parts name left parts)
+one_name : (last name : List ℕ) (left : ℕ) (parts : List (List ℕ)) → is_index_name name ≡ true → go_on_parts last (suc left) (name ∷ parts) ≡ (is_lt (name_cmp last name) && go_on_parts name left parts)
 unfolding go_on_parts
 one_name last name left parts named =
-    ap (λ (b : Bool). nat_lt (suc left) (length (name ∷ parts)) &&
-    (b && list_all is_index_name (take left parts) && (is_lt (name_cmp last name) && rise_from name (take left parts))) && list_all (λ part. length part == 0)
-    (drop left parts)) named
-    ∙ ap (λ (b : Bool). b && (list_all is_index_name (take left parts) && (is_lt (name_cmp last name) && rise_from name (take left parts))) && list_all (λ part. length part == 0)
-    (drop left parts)) (room_less left (length parts))
-    ∙ turned (nat_lt left (length parts)) (list_all is_index_name (take left parts)) (is_lt (name_cmp last name)) (rise_from name (take left parts))
-    (list_all (λ part. length part == 0) (drop left parts))
+    ap (λ (b : Bool). nat_lt (suc left) (length (name ∷ parts)) && (b && list_all is_index_name (take left parts) && (is_lt (name_cmp last name) && rise_from name (take left parts))) && list_all (λ part. length part == 0) (drop left parts)) named
+    ∙ ap (λ (b : Bool). b && (list_all is_index_name (take left parts) && (is_lt (name_cmp last name) && rise_from name (take left parts))) && list_all (λ part. length part == 0) (drop left parts)) (room_less left (length parts))
+    ∙ turned (nat_lt left (length parts)) (list_all is_index_name (take left parts)) (is_lt (name_cmp last name)) (rise_from name (take left parts)) (list_all (λ part. length part == 0) (drop left parts))
 
 not_named : (last name : List ℕ) (left : ℕ) (parts : List (List ℕ)) → is_index_name name ≡ false → go_on_parts last (suc left) (name ∷ parts) ≡ false
 unfolding go_on_parts
 not_named last name left parts other =
-    ap (λ (b : Bool). nat_lt (suc left) (length (name ∷ parts)) &&
-    (b && list_all is_index_name (take left parts) && (is_lt (name_cmp last name) && rise_from name (take left parts))) && list_all (λ part. length part == 0)
-    (drop left parts)) other
+    ap (λ (b : Bool). nat_lt (suc left) (length (name ∷ parts)) && (b && list_all is_index_name (take left parts) && (is_lt (name_cmp last name) && rise_from name (take left parts))) && list_all (λ part. length part == 0) (drop left parts)) other
     ∙ ap (λ (b : Bool). b && list_all (λ part. length part == 0) (drop left parts)) (false_after (nat_lt (suc left) (length (name ∷ parts))))
 
 too_few : (last : List ℕ) (left : ℕ) (parts : List (List ℕ)) → length parts ≤ left → go_on_parts last left parts ≡ false
@@ -125,12 +118,10 @@ pub name_more : (last name : List ℕ) (left : ℕ) (rest behind : List ℕ) →
 name_more last name zero rest behind h parts named = absurd (omega arith)
 name_more last name (suc left) rest behind h parts named =
     let less : suc left - 1 ≡ left = omega arith in
-    rw less (go_on_is last (suc left) rest ∙ ap (go_on_parts last (suc left)) parts ∙ one_name last name left (name_parts behind) named
-    ∙ ap (λ (b : Bool). is_lt (name_cmp last name) && b) (sym (go_on_is name left behind)))
+    rw less (go_on_is last (suc left) rest ∙ ap (go_on_parts last (suc left)) parts ∙ one_name last name left (name_parts behind) named ∙ ap (λ (b : Bool). is_lt (name_cmp last name) && b) (sym (go_on_is name left behind)))
 
 -- a name that does not come behind the last one
-pub name_refused : (last name : List ℕ) (left : ℕ) (rest behind : List ℕ) → 0 < left → name_parts rest ≡ name ∷ name_parts behind → is_index_name name ≡ true
-    → is_lt (name_cmp last name) ≡ false → go_on last left rest ≡ false
+pub name_refused : (last name : List ℕ) (left : ℕ) (rest behind : List ℕ) → 0 < left → name_parts rest ≡ name ∷ name_parts behind → is_index_name name ≡ true → is_lt (name_cmp last name) ≡ false → go_on last left rest ≡ false
 name_refused last name left rest behind some parts named below = name_more last name left rest behind some parts named ∙ ap (λ (b : Bool). b && go_on name (left - 1) behind) below
 
 -- one that does
@@ -200,15 +191,13 @@ without_nul bytes is =
     one_part_in bytes past
 
 -- the first name, by where it ends
-pub first_taken : (bytes name behind : List ℕ) (end : ℕ) → position (λ b. b == 0) bytes ≡ Some end → name ≡ take end bytes → behind ≡ drop 1 (drop end bytes)
-    → name_parts bytes ≡ name ∷ name_parts behind
+pub first_taken : (bytes name behind : List ℕ) (end : ℕ) → position (λ b. b == 0) bytes ≡ Some end → name ≡ take end bytes → behind ≡ drop 1 (drop end bytes) → name_parts bytes ≡ name ∷ name_parts behind
 first_taken bytes name behind end is name_is behind_is =
     (at_nul bytes end is).0 ∙ ap (λ (own : List ℕ). own ∷ name_parts (drop (end + 1) bytes)) (sym name_is)
     ∙ ap (λ (rest : List ℕ). name ∷ name_parts rest) (sym (behind_is ∙ drop-drop 1 end bytes))
 
 -- bytes that end as the first name does, and are none
-pub first_refused : (bytes name : List ℕ) (end : ℕ) → position (λ b. b == 0) bytes ≡ Some end → name ≡ take end bytes → is_index_name name ≡ false → (last : List ℕ) (left : ℕ)
-    → 0 < left → go_on last left bytes ≡ false
+pub first_refused : (bytes name : List ℕ) (end : ℕ) → position (λ b. b == 0) bytes ≡ Some end → name ≡ take end bytes → is_index_name name ≡ false → (last : List ℕ) (left : ℕ) → 0 < left → go_on last left bytes ≡ false
 first_refused bytes name end is name_is other last left some =
     no_name last (take end bytes) left bytes (name_parts (drop (end + 1) bytes)) some (at_nul bytes end is).0 (ap is_index_name (sym name_is) ∙ other)
 

@@ -106,5 +106,4 @@ module _ (kind : Kind) (places : Layout) (bytes : List ℕ) (laid : IsLaidOut ki
 
   pub row_named : (n : ℕ) → n < places.count → has_offset (wides_at places bytes) (number_at 4 (part (n * 8) 8 (span_of bytes places.offsets))) ≡ true
   row_named n below =
-      of_row (λ (row : List ℕ). has_offset (wides_at places bytes) (number_at 4 row)) (offset_rows_at places bytes) n (part (n * 8) 8 (span_of bytes places.offsets)) laid.named
-      (row_offsets kind places bytes n below)
+      of_row (λ (row : List ℕ). has_offset (wides_at places bytes) (number_at 4 row)) (offset_rows_at places bytes) n (part (n * 8) 8 (span_of bytes places.offsets)) laid.named (row_offsets kind places bytes n below)

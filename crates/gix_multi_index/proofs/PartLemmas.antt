@@ -65,8 +65,7 @@ regroup false b c d = refl
 
 pub lengths_found : (kind : Kind) (bytes : List ℕ) (spans : Spans) → AreIn bytes spans
     → have_lengths kind (parts_at bytes spans)
-    ≡ (spans.counts.len == 1024 && (spans.ids.len == objects_in (parts_at bytes spans) * len_in_bytes_of kind && spans.offsets.len == objects_in
-    (parts_at bytes spans) * 8 && len_of spans.wides % 8 == 0))
+    ≡ (spans.counts.len == 1024 && (spans.ids.len == objects_in (parts_at bytes spans) * len_in_bytes_of kind && spans.offsets.len == objects_in (parts_at bytes spans) * 8 && len_of spans.wides % 8 == 0))
 unfolding lengths_are
 lengths_found kind bytes spans within =
     let n : ℕ = objects_in (parts_at bytes spans) in
@@ -82,8 +81,7 @@ is_same a b h = grind (arith, nat_tests)
 
 module _ (kind : Kind) (parts : Parts) (fits : have_lengths kind parts ≡ true) where
   three : (length parts.counts == 1024 && length parts.ids == objects_in parts * len_in_bytes_of kind && length parts.offsets == objects_in parts * 8) ≡ true
-  three = (and_parts (length parts.counts == 1024 && length parts.ids == objects_in parts * len_in_bytes_of kind && length parts.offsets == objects_in parts * 8)
-      (length (unwrap_or parts.wides []) % 8 == 0) fits).0
+  three = (and_parts (length parts.counts == 1024 && length parts.ids == objects_in parts * len_in_bytes_of kind && length parts.offsets == objects_in parts * 8) (length (unwrap_or parts.wides []) % 8 == 0) fits).0
 
   two : (length parts.counts == 1024 && length parts.ids == objects_in parts * len_in_bytes_of kind) ≡ true
   two = (and_parts (length parts.counts == 1024 && length parts.ids == objects_in parts * len_in_bytes_of kind) (length parts.offsets == objects_in parts * 8) three).0
@@ -96,8 +94,7 @@ module _ (kind : Kind) (parts : Parts) (fits : have_lengths kind parts ≡ true)
 
   pub offsets_len : length parts.offsets ≡ objects_in parts * 8
   offsets_len =
-      is_same (length parts.offsets) (objects_in parts * 8)
-      (and_parts (length parts.counts == 1024 && length parts.ids == objects_in parts * len_in_bytes_of kind) (length parts.offsets == objects_in parts * 8) three).1
+      is_same (length parts.offsets) (objects_in parts * 8) (and_parts (length parts.counts == 1024 && length parts.ids == objects_in parts * len_in_bytes_of kind) (length parts.offsets == objects_in parts * 8) three).1
 
 -- and so have the places where they stand
 pub counts_span : (kind : Kind) (bytes : List ℕ) (spans : Spans) → AreIn bytes spans → have_lengths kind (parts_at bytes spans) ≡ true → spans.counts.len ≡ 1024
@@ -121,8 +118,7 @@ unfolding tables_agree
 counts_there kind packs bytes spans within agree =
     counts_span kind bytes spans within (and_parts (have_lengths kind (parts_at bytes spans)) (rows_agree kind packs (parts_at bytes spans)) agree).0
 
-same_rows : (wides : Option (List ℕ)) (packs : ℕ) (rows : List (List ℕ)) → list_all (λ row. nat_lt (number_at 0 row) packs && has_offset wides (number_at 4 row)) rows ≡ list_all
-    (is_row packs (wides_in wides)) rows
+same_rows : (wides : Option (List ℕ)) (packs : ℕ) (rows : List (List ℕ)) → list_all (λ row. nat_lt (number_at 0 row) packs && has_offset wides (number_at 4 row)) rows ≡ list_all (is_row packs (wides_in wides)) rows
 same_rows None packs rows = refl
 same_rows (Some chunk) packs rows = refl
 
@@ -142,10 +138,8 @@ last_first true true rising counts rows = sym (and_true (rising && counts && row
 pub tables_and_names : (kind : Kind) (packs : ℕ) (parts : Parts) → are_parts kind packs parts ≡ (tables_agree kind packs parts && holds_names packs parts.names)
 unfolding are_parts tables_agree rows_agree
 tables_and_names kind packs parts =
-    ap (λ (rows : Bool). have_lengths kind parts && holds_names packs parts.names && is_rising (part_ids kind parts) && same (numbers 256 parts.counts)
-    (counts_of (part_ids kind parts)) && rows) (same_rows parts.wides packs (offset_rows parts))
-    ∙ last_first (have_lengths kind parts) (holds_names packs parts.names) (is_rising (part_ids kind parts)) (same (numbers 256 parts.counts) (counts_of (part_ids kind parts)))
-    (list_all (is_row packs (wides_in parts.wides)) (offset_rows parts))
+    ap (λ (rows : Bool). have_lengths kind parts && holds_names packs parts.names && is_rising (part_ids kind parts) && same (numbers 256 parts.counts) (counts_of (part_ids kind parts)) && rows) (same_rows parts.wides packs (offset_rows parts))
+    ∙ last_first (have_lengths kind parts) (holds_names packs parts.names) (is_rising (part_ids kind parts)) (same (numbers 256 parts.counts) (counts_of (part_ids kind parts))) (list_all (is_row packs (wides_in parts.wides)) (offset_rows parts))
 
 abbrev front_of : List ℕ → Bool
 front_of bytes = has_header bytes && has_room bytes && ends_at (trailer_place bytes) (chunk_rows bytes)
@@ -170,8 +164,7 @@ told_from : (kind : Kind) (packs : ℕ) (bytes : List ℕ) (spans : Spans) → a
 unfolding multi_index_from rows_at
 told_from kind packs bytes spans own = rw own refl
 
-pub no_tables : (bytes : List ℕ) (spans : Spans) → front_of bytes ≡ true → parts_of bytes ≡ Some (parts_at bytes spans)
-    → tables_agree (kind_in bytes) (packs_in bytes) (parts_at bytes spans) ≡ false → multi_index_of bytes ≡ None
+pub no_tables : (bytes : List ℕ) (spans : Spans) → front_of bytes ≡ true → parts_of bytes ≡ Some (parts_at bytes spans) → tables_agree (kind_in bytes) (packs_in bytes) (parts_at bytes spans) ≡ false → multi_index_of bytes ≡ None
 no_tables bytes spans front parts other =
     with_front bytes front ∙ ap (option_and_then (multi_index_from (kind_in bytes) (packs_in bytes))) parts
     ∙ not_from (kind_in bytes) (packs_in bytes) (parts_at bytes spans)
@@ -209,14 +202,11 @@ module _ (spans : Spans) (rows : Layout) (bytes : List ℕ) (tables : AreTables 
 
   rising : is_rising (part_ids (kind_in bytes) (parts_at bytes spans)) ≡ true
   unfolding rows_agree
-  rising = (and_parts (is_rising (part_ids (kind_in bytes) (parts_at bytes spans)))
-      (same (numbers 256 (span_of bytes spans.counts)) (counts_of (part_ids (kind_in bytes) (parts_at bytes spans)))) (and_parts _ _ agreeing).0).0
+  rising = (and_parts (is_rising (part_ids (kind_in bytes) (parts_at bytes spans))) (same (numbers 256 (span_of bytes spans.counts)) (counts_of (part_ids (kind_in bytes) (parts_at bytes spans)))) (and_parts _ _ agreeing).0).0
 
   all_rows : list_all (is_row (packs_in bytes) (wides_in (option_map (span_of bytes) spans.wides))) (offset_rows (parts_at bytes spans)) ≡ true
   unfolding rows_agree
-  all_rows = (and_parts (is_rising (part_ids (kind_in bytes) (parts_at bytes spans)) && same (numbers 256 (span_of bytes spans.counts))
-      (counts_of (part_ids (kind_in bytes) (parts_at bytes spans))))
-      (list_all (is_row (packs_in bytes) (wides_in (option_map (span_of bytes) spans.wides))) (offset_rows (parts_at bytes spans))) agreeing).1
+  all_rows = (and_parts (is_rising (part_ids (kind_in bytes) (parts_at bytes spans)) && same (numbers 256 (span_of bytes spans.counts)) (counts_of (part_ids (kind_in bytes) (parts_at bytes spans)))) (list_all (is_row (packs_in bytes) (wides_in (option_map (span_of bytes) spans.wides))) (offset_rows (parts_at bytes spans))) agreeing).1
 
   laid_out : IsLaidOut (kind_in bytes) (layout_in bytes spans) bytes
   laid_out = record {

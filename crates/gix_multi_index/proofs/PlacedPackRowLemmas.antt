@@ -21,8 +21,7 @@ pack_rows : (hash : Kind) (number : ℕ) (packs : List Named) → map pack_row_o
 pack_rows hash number [] = refl
 pack_rows hash number (pack ∷ packs) =
     map-append pack_row_of (placed_from hash number 12 pack.objects) (placed_in hash (number + 1) packs)
-    ∙ ap (λ (rows : List PackRow). rows ++ map pack_row_of (placed_in hash (number + 1) packs))
-    (pack_rows_from hash number 12 pack.objects ∙ ap (map (in_pack number)) (rows_placed hash number pack.objects))
+    ∙ ap (λ (rows : List PackRow). rows ++ map pack_row_of (placed_in hash (number + 1) packs)) (pack_rows_from hash number 12 pack.objects ∙ ap (map (in_pack number)) (rows_placed hash number pack.objects))
     ∙ ap (λ (rows : List PackRow). map (in_pack number) (rows_in_order hash pack.objects) ++ rows) (pack_rows hash (number + 1) packs)
 
 pub pack_rows_placed : (hash : Kind) (packs : List Named) → map pack_row_of (placed_in hash 0 packs) ≡ rows_in_packs hash packs

@@ -50,8 +50,7 @@ within_limit limit bytes short = ap (λ (within : Bool). cond within (ok_or (mul
 pub outside : (limit : Option ℕ) (bytes : List ℕ) → is_within limit (length bytes) ≡ true → multi_index_of bytes ≡ None → read_of limit bytes ≡ Err BadMultiIndex
 outside limit bytes short none = within_limit limit bytes short ∙ ap (λ (found : Option MultiIndex). ok_or found BadMultiIndex) none
 
-pub inside : (kind : Kind) (names : List (List ℕ)) (places : Layout) (limit : Option ℕ) (bytes : List ℕ) → is_within limit (length bytes) ≡ true → IsRead kind names places bytes
-    → read_of limit bytes ≡ Ok (told bytes)
+pub inside : (kind : Kind) (names : List (List ℕ)) (places : Layout) (limit : Option ℕ) (bytes : List ℕ) → is_within limit (length bytes) ≡ true → IsRead kind names places bytes → read_of limit bytes ≡ Ok (told bytes)
 inside kind names places limit bytes short read =
     within_limit limit bytes short ∙ ap (λ (found : Option MultiIndex). ok_or found BadMultiIndex) read.told
     ∙ ap (λ (index : MultiIndex). Ok index) (sym (whole kind names places bytes read))
@@ -78,7 +77,6 @@ by_parts (Some row) id pack offset own its at =
     ∙ ap (λ (x : ℕ). Some (record { id = id; pack = pack; offset = x })) same_offset
 
 -- a row, by its three parts
-pub row_of_parts : (rows : List PackRow) (n : ℕ) (id : ObjectId) (pack offset : ℕ) → option_map (λ (row : PackRow). row.id) (slice_get rows n) ≡ Some id
-    → option_map (λ (row : PackRow). row.pack) (slice_get rows n) ≡ Some pack
+pub row_of_parts : (rows : List PackRow) (n : ℕ) (id : ObjectId) (pack offset : ℕ) → option_map (λ (row : PackRow). row.id) (slice_get rows n) ≡ Some id → option_map (λ (row : PackRow). row.pack) (slice_get rows n) ≡ Some pack
     → option_map (λ (row : PackRow). row.offset) (slice_get rows n) ≡ Some offset → slice_get rows n ≡ Some (record { id = id; pack = pack; offset = offset })
 row_of_parts rows n id pack offset own its at = by_parts (slice_get rows n) id pack offset own its at

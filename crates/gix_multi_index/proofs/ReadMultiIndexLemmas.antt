@@ -146,8 +146,7 @@ known_from hash packs number place (object ∷ objects) below = (record { known 
 known_in : (hash : Kind) (all number : ℕ) (packs : List Named) → number + length packs ≡ all → AllByRecursion (IsInPack all) (placed_in hash number packs)
 known_in hash all number [] is = tt
 known_in hash all number (pack ∷ packs) is =
-    each_append (IsInPack all) (placed_from hash number 12 pack.objects) (placed_in hash (number + 1) packs) (known_from hash all number 12 pack.objects (omega arith))
-    (known_in hash all (number + 1) packs (omega arith))
+    each_append (IsInPack all) (placed_from hash number 12 pack.objects) (placed_in hash (number + 1) packs) (known_from hash all number 12 pack.objects (omega arith)) (known_in hash all (number + 1) packs (omega arith))
 
 -- ---- the whole
 
@@ -167,8 +166,7 @@ abbrev id_seen : PackRow → ObjectId
 id_seen row = row.id
 
 -- the multi-index of packs is read back, where their objects' ids are ids, their places fit, and so do those of the chunks
-pub multi_read_back : (hash : Kind) (packs : List Named) (rows : List Placed) (front : List ℕ) → rows ≡ multi_placed hash packs
-    → front ≡ front_with hash (length packs) (five_of (names_of packs) rows) → IsId (hash_of hash front)
+pub multi_read_back : (hash : Kind) (packs : List Named) (rows : List Placed) (front : List ℕ) → rows ≡ multi_placed hash packs → front ≡ front_with hash (length packs) (five_of (names_of packs) rows) → IsId (hash_of hash front)
     → CanBeWritten packs → AllByRecursion (IsPlaced hash) (placed_in hash 0 packs)
     → 12 + 12 * (length (five_of (names_of packs) rows) + 1) + length (whole (five_of (names_of packs) rows)) < 2 ^ 64
     → ReadsMultiIndex hash packs (front ++ bytes_of (hash_of hash front))
@@ -202,8 +200,7 @@ multi_read_back hash packs rows front rows_are front_is own_id can placed small 
     }
 
 -- the same of the chunks as they are written
-pub multi_encoded : (hash : Kind) (packs : List Named) (rows : List Placed) (chunks : List Chunk) (front : List ℕ) → rows ≡ multi_placed hash packs
-    → chunks ≡ chunks_written (names_of packs) (map pack_row_of rows)
+pub multi_encoded : (hash : Kind) (packs : List Named) (rows : List Placed) (chunks : List Chunk) (front : List ℕ) → rows ≡ multi_placed hash packs → chunks ≡ chunks_written (names_of packs) (map pack_row_of rows)
     → front ≡ front_with hash (length packs) chunks → IsId (hash_of hash front) → CanBeWritten packs → AllByRecursion (IsPlaced hash) (placed_in hash 0 packs)
     → 12 + 12 * (length chunks + 1) + bytes_over chunks < 2 ^ 64 → ReadsMultiIndex hash packs (front ++ bytes_of (hash_of hash front))
 multi_encoded hash packs rows chunks front rows_are chunks_are front_is own_id can placed small =

@@ -45,8 +45,7 @@ abbrev pub HaveNames : List Chunk → Type 0
 HaveNames chunks = AllByRecursion (λ (c : Chunk). length c.name ≡ 4) chunks
 
 -- the table is read back
-pub rows_back : (place : ℕ) (chunks : List Chunk) (rest : List ℕ) → HaveNames chunks → place + length (whole chunks) < 2 ^ 64
-    → map chunk_row (table 12 (suc (length chunks)) (chunk_table place chunks ++ rest)) ≡ rows_from place chunks
+pub rows_back : (place : ℕ) (chunks : List Chunk) (rest : List ℕ) → HaveNames chunks → place + length (whole chunks) < 2 ^ 64 → map chunk_row (table 12 (suc (length chunks)) (chunk_table place chunks ++ rest)) ≡ rows_from place chunks
 unfolding table chunk_table
 rows_back place [] rest names small = ap (λ (row : ChunkRow). row ∷ []) (first_row zeros rest place refl (omega arith))
 rows_back place (chunk ∷ chunks) rest names small =

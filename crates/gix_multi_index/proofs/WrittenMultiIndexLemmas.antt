@@ -58,8 +58,7 @@ pub front_steps : (hash : Kind) (packs : ℕ) (chunks : List kept.Chunk) (l0 l1 
 front_steps hash packs chunks l0 l1 l2 l3 empty a b c =
     let seen = map chunk_seen chunks in
     let behind = flat_map (λ (d : Chunk). d.bytes) seen in
-    let one = b ∙ ap (λ (l : List ℕ). l ++ chunk_table (12 + 12 * (length chunks + 1)) seen)
-    (a ∙ ap (λ (l : List ℕ). l ++ (codes "MIDX" ++ 1 ∷ hash_number hash ∷ length chunks ∷ 0 ∷ to_be_bytes w32 packs)) empty) in
+    let one = b ∙ ap (λ (l : List ℕ). l ++ chunk_table (12 + 12 * (length chunks + 1)) seen) (a ∙ ap (λ (l : List ℕ). l ++ (codes "MIDX" ++ 1 ∷ hash_number hash ∷ length chunks ∷ 0 ∷ to_be_bytes w32 packs)) empty) in
     c ∙ ap (λ (l : List ℕ). l ++ behind) one
     ∙ ap (λ (n : ℕ). (codes "MIDX" ++ 1 ∷ hash_number hash ∷ n ∷ 0 ∷ to_be_bytes w32 packs) ++ chunk_table (12 + 12 * (n + 1)) seen ++ behind) (sym (length-map chunks chunk_seen))
 
@@ -111,8 +110,7 @@ objects_more packs i pack below is =
 
 -- what is left of the limit, one pack on
 pub left_on : (packs : List given.NamedPack) (i left next : ℕ) (pack : given.NamedPack) → i < length packs → pack ≡ get_or packs i pack → length pack.objects ≤ left → next + length pack.objects ≡ left
-    → objects_over (map named_seen packs) + left ≡ 2 ^ 31 - 1 + objects_over (map named_seen (drop i packs))
-    → objects_over (map named_seen packs) + next ≡ 2 ^ 31 - 1 + objects_over (map named_seen (drop (i + 1) packs))
+    → objects_over (map named_seen packs) + left ≡ 2 ^ 31 - 1 + objects_over (map named_seen (drop i packs)) → objects_over (map named_seen packs) + next ≡ 2 ^ 31 - 1 + objects_over (map named_seen (drop (i + 1) packs))
 left_on packs i left next pack below is fits next_is so_far = let more = objects_more packs i pack below is in omega arith
 
 pub left_over : (packs : List given.NamedPack) (i left : ℕ) (pack : given.NamedPack) → i < length packs → pack ≡ get_or packs i pack → left < length pack.objects → left ≤ 2 ^ 31 - 1
@@ -157,6 +155,5 @@ chunks_put names rows s0 s1 s2 s3 s4 a b c d e =
     (d
     ∙ ap (λ (cs : List Chunk). cs ++ one_chunk (codes "OIDL") (flat_map bytes_of (map id_of rows)))
     (c
-    ∙ ap (λ (cs : List Chunk). cs ++ one_chunk (codes "OIDF") (number_bytes (counts_of (map id_of rows))))
-    (b ∙ ap (λ (cs : List Chunk). cs ++ one_chunk (codes "PNAM") (padded (name_bytes names))) a)))
+    ∙ ap (λ (cs : List Chunk). cs ++ one_chunk (codes "OIDF") (number_bytes (counts_of (map id_of rows)))) (b ∙ ap (λ (cs : List Chunk). cs ++ one_chunk (codes "PNAM") (padded (name_bytes names))) a)))
     ∙ sym (chunks_seen names rows)

@@ -38,8 +38,7 @@ eighths w = omega arith
 none_over : (w : ℕ) → (w * 8) % 8 ≡ 0
 none_over w = omega arith
 
-with_wide : (offsets : List ℕ) → length offsets < 2 ^ 31 → AllByRecursion (λ (x : ℕ). x < 2 ^ 64) (filter is_wide offsets)
-    → AreWritten (Some (long_number_bytes (filter is_wide offsets))) offsets (narrow_from 0 offsets)
+with_wide : (offsets : List ℕ) → length offsets < 2 ^ 31 → AllByRecursion (λ (x : ℕ). x < 2 ^ 64) (filter is_wide offsets) → AreWritten (Some (long_number_bytes (filter is_wide offsets))) offsets (narrow_from 0 offsets)
 with_wide offsets few small =
     let w = length (filter is_wide offsets) in
     let bytes = long_number_bytes (filter is_wide offsets) in
@@ -177,7 +176,6 @@ module _ (hash : Kind) (names : List (List ℕ)) (rows : List Placed) (placed : 
       ∙ ap (λ (zs : List (List ℕ)). map (pack_row (wides_of offsets)) (zip (map id_of rows) zs)) rows_are
       ∙ rows_paired (length names) (wides_of offsets) hash rows offs placed written.small written.back in
       let index : List (List ℕ) → List PackRow → MultiIndex = λ (n : List (List ℕ)) (r : List PackRow). record { kind = hash; names = n; rows = r } in
-      ap (λ (is : Bool). cond is (Some (index (take (length names) (name_parts (padded (name_bytes names))))
-      (map (pack_row (wides_of offsets)) (zip (part_ids hash parts_written) (offset_rows parts_written))))) None) parts_agree
+      ap (λ (is : Bool). cond is (Some (index (take (length names) (name_parts (padded (name_bytes names)))) (map (pack_row (wides_of offsets)) (zip (part_ids hash parts_written) (offset_rows parts_written))))) None) parts_agree
       ∙ ap (λ (n : List (List ℕ)). Some (index n (map (pack_row (wides_of offsets)) (zip (part_ids hash parts_written) (offset_rows parts_written))))) taken
       ∙ ap (λ (r : List PackRow). Some (index names r)) seen

@@ -154,8 +154,7 @@ row_wide kind bytes wide h =
     slice_get-map (from_be_bytes w64) (table 8 (wides_in kind bytes) (drop (wides_place kind (objects_in bytes)) bytes)) wide
     ∙ ap (option_map (from_be_bytes w64)) (row_at (wides_place kind (objects_in bytes)) 8 (wides_in kind bytes) bytes wide h)
 
-pub wide_read : (kind : Kind) (bytes : List ℕ) (wide n place number : ℕ) → n ≡ objects_in bytes → place ≡ wides_place kind n → number ≡ long_number_at (place + wide * 8) bytes
-    → wide < wides_in kind bytes
+pub wide_read : (kind : Kind) (bytes : List ℕ) (wide n place number : ℕ) → n ≡ objects_in bytes → place ≡ wides_place kind n → number ≡ long_number_at (place + wide * 8) bytes → wide < wides_in kind bytes
     → slice_get (wide_offsets kind bytes) wide ≡ Some number
 wide_read kind bytes wide n place number n_is place_is read below =
     let own : number ≡ long_number_at (wides_place kind (objects_in bytes) + wide * 8) bytes = read ∙ ap (λ (p : ℕ). long_number_at (p + wide * 8) bytes) (place_is ∙ ap (wides_place kind) n_is) in
@@ -181,13 +180,11 @@ wide_read_room kind bytes wide n place h below n_is place_is =
     rw (place_is ∙ ap (wides_place kind) n_is) (wide_room kind bytes wide h below)
 
 -- the row of the wide offsets that a narrow one names is there
-pub wide_below : (kind : Kind) (bytes : List ℕ) (row narrow : ℕ) → is_index kind bytes ≡ true → slice_get (narrow_offsets kind bytes) row ≡ Some narrow → 2 ^ 31 ≤ narrow
-    → narrow - 2 ^ 31 < wides_in kind bytes
+pub wide_below : (kind : Kind) (bytes : List ℕ) (row narrow : ℕ) → is_index kind bytes ≡ true → slice_get (narrow_offsets kind bytes) row ≡ Some narrow → 2 ^ 31 ≤ narrow → narrow - 2 ^ 31 < wides_in kind bytes
 wide_below kind bytes row narrow h own high =
     named_below (wides_in kind bytes) narrow (of_row (is_named_below (wides_in kind bytes)) (narrow_offsets kind bytes) row narrow (offsets_named kind bytes h) own) high
 
-row_offset : (kind : Kind) (bytes : List ℕ) (row narrow : ℕ) → slice_get (narrow_offsets kind bytes) row ≡ Some narrow
-    → slice_get (index_offsets kind bytes) row ≡ Some (offset_in (wide_offsets kind bytes) narrow)
+row_offset : (kind : Kind) (bytes : List ℕ) (row narrow : ℕ) → slice_get (narrow_offsets kind bytes) row ≡ Some narrow → slice_get (index_offsets kind bytes) row ≡ Some (offset_in (wide_offsets kind bytes) narrow)
 row_offset kind bytes row narrow own = slice_get-map (offset_in (wide_offsets kind bytes)) (narrow_offsets kind bytes) row ∙ ap (option_map (offset_in (wide_offsets kind bytes))) own
 
 pub narrow_offset : (kind : Kind) (bytes : List ℕ) (row narrow : ℕ) → slice_get (narrow_offsets kind bytes) row ≡ Some narrow → narrow < 2 ^ 31 → slice_get (index_offsets kind bytes) row ≡ Some narrow

@@ -49,8 +49,7 @@ head_is_read code size header behind tells fits =
     let room : nat_le (header_len (header ++ behind)) (length (header ++ behind)) ≡ true = le-leb (header_len (header ++ behind)) (length (header ++ behind)) (omega arith) in
     let short : length header ≤ 10 = tells.short in
     let ten : nat_le (header_len (header ++ behind)) 10 ≡ true = le-leb (header_len (header ++ behind)) 10 (omega arith) in
-    let small : nat_lt (size_of (take (header_len (header ++ behind)) (header ++ behind))) (2 ^ 64)
-    ≡ true = lt-ltb (size_of (take (header_len (header ++ behind)) (header ++ behind))) (2 ^ 64) (omega arith) in
+    let small : nat_lt (size_of (take (header_len (header ++ behind)) (header ++ behind))) (2 ^ 64) ≡ true = lt-ltb (size_of (take (header_len (header ++ behind)) (header ++ behind))) (2 ^ 64) (omega arith) in
     rw (room, ten, small)
     (ap (λ (c : ℕ). Ok (record { code = c; size = size_of (take (header_len (header ++ behind)) (header ++ behind)); header_len = header_len (header ++ behind) })) (tells.code_is behind)
     ∙ ap (λ (s : ℕ). Ok (record { code = code; size = s; header_len = header_len (header ++ behind) })) size_is
@@ -88,8 +87,7 @@ module _ (hash : HashKind) (trailer : List ℕ) (size : length trailer ≡ len_i
       let some : 1 ≤ length header = let at = tells.place_is [] in omega arith in
       let place : trailer_place hash bytes ≡ length (front ++ (entry_of object ++ behind)) = trailer_behind (front ++ (entry_of object ++ behind)) bytes is in
       let whole : length (front ++ (entry_of object ++ behind)) ≡ length front + length (entry_of object ++ behind) = length-append front (entry_of object ++ behind) in
-      let entry : length (entry_of object ++ behind) ≡ length header + length object.bytes + length behind = length-append (entry_of object) behind
-      ∙ ap (λ (n : ℕ). n + length behind) (length-append header object.bytes) in
+      let entry : length (entry_of object ++ behind) ≡ length header + length object.bytes + length behind = length-append (entry_of object) behind ∙ ap (λ (n : ℕ). n + length behind) (length-append header object.bytes) in
       let rest : rest_at hash bytes (length front) ≡ header ++ (object.bytes ++ behind) = rest_behind front (entry_of object ++ behind) bytes is ∙ append_assoc header object.bytes behind in
       let head : head_at hash bytes (length front) ≡ Ok (record { code = code_of_kind object.kind; size = length object.bytes; header_len = length header })
       = head_within hash bytes (length front) low (omega arith) ∙ ap head_from rest ∙ head_is_read (code_of_kind object.kind) (length object.bytes) header (object.bytes ++ behind) tells fits in
@@ -104,12 +102,10 @@ module _ (hash : HashKind) (trailer : List ℕ) (size : length trailer ≡ len_i
       let read = header_is_read object front behind bytes low fits is in
       let place : trailer_place hash bytes ≡ length (front ++ (entry_of object ++ behind)) = trailer_behind (front ++ (entry_of object ++ behind)) bytes is in
       let whole : length (front ++ (entry_of object ++ behind)) ≡ length front + length (entry_of object ++ behind) = length-append front (entry_of object ++ behind) in
-      let entry : length (entry_of object ++ behind) ≡ length header + length object.bytes + length behind = length-append (entry_of object) behind
-      ∙ ap (λ (n : ℕ). n + length behind) (length-append header object.bytes) in
+      let entry : length (entry_of object ++ behind) ≡ length header + length object.bytes + length behind = length-append (entry_of object) behind ∙ ap (λ (n : ℕ). n + length behind) (length-append header object.bytes) in
       let inside = object_inside hash bytes (length front) None (record { kind = object.kind; size = length object.bytes; header_len = length header }) refl (omega arith) in
       let split : bytes ≡ (front ++ header) ++ (object.bytes ++ (behind ++ trailer)) = is ∙ simp append_assoc in
-      let held : part (length front + length header) (length object.bytes) bytes ≡ object.bytes = part_is (front ++ header) object.bytes (behind ++ trailer) bytes
-      (length front + length header) (sym (length-append front header)) split in
+      let held : part (length front + length header) (length object.bytes) bytes ≡ object.bytes = part_is (front ++ header) object.bytes (behind ++ trailer) bytes (length front + length header) (sym (length-append front header)) split in
       rw read (inside ∙ ap (λ (its : List ℕ). Ok (record { kind = object.kind; size = length object.bytes; header_len = length header; bytes = its })) held)
 
   -- each object's entry is read at its place
@@ -123,8 +119,7 @@ module _ (hash : HashKind) (trailer : List ℕ) (size : length trailer ≡ len_i
       let both : length (entry_of object ++ flat_map entry_of objects) ≡ length (entry_of object) + length (flat_map entry_of objects) = length-append (entry_of object) (flat_map entry_of objects) in
       let further : length (front ++ entry_of object) ≡ length front + length (entry_of object) = length-append front (entry_of object) in
       let one = entry_is_read object front (flat_map entry_of objects) bytes low (omega arith) is in
-      let more : bytes ≡ ((front ++ entry_of object) ++ flat_map entry_of objects) ++ trailer = is
-      ∙ ap (λ (its : List ℕ). its ++ trailer) (sym (append_assoc front (entry_of object) (flat_map entry_of objects))) in
+      let more : bytes ≡ ((front ++ entry_of object) ++ flat_map entry_of objects) ++ trailer = is ∙ ap (λ (its : List ℕ). its ++ trailer) (sym (append_assoc front (entry_of object) (flat_map entry_of objects))) in
       let rest = all_are_read objects (front ++ entry_of object) bytes (omega arith) (omega arith) more in
       (one, subst (λ (n : ℕ). AllByRecursion (IsReadAt hash bytes) (zip objects (places_from n objects))) further rest)
 
@@ -154,28 +149,23 @@ begins_as_pack hash count rest room =
     rw fits refl
 
 -- the pack of some objects is read as their pack. Its hash is as long as its kind says, as that of each id is
-pub pack_is_read : (hash : HashKind) (objects : List Object) → length (pack_hash hash objects) ≡ len_in_bytes_of hash → length objects < 2 ^ 32
-    → length (flat_map entry_of objects) < 2 ^ 64 → ReadsPack hash objects (pack_of hash objects)
+pub pack_is_read : (hash : HashKind) (objects : List Object) → length (pack_hash hash objects) ≡ len_in_bytes_of hash → length objects < 2 ^ 32 → length (flat_map entry_of objects) < 2 ^ 64 → ReadsPack hash objects (pack_of hash objects)
 unfolding pack_of
 pack_is_read hash objects size few fits =
     let bytes : List ℕ = pack_of hash objects in
     let split : bytes ≡ (magic_and_numbers (length objects) ++ flat_map entry_of objects) ++ pack_hash hash objects = ap (λ (its : List ℕ). its ++ pack_hash hash objects) (front_is objects) in
-    let is : bytes ≡ magic_and_numbers (length objects) ++ (flat_map entry_of objects ++ pack_hash hash objects) = split
-    ∙ append_assoc (magic_and_numbers (length objects)) (flat_map entry_of objects) (pack_hash hash objects) in
-    let both : length (flat_map entry_of objects ++ pack_hash hash objects) ≡ length (flat_map entry_of objects) + length (pack_hash hash objects) = length-append
-    (flat_map entry_of objects) (pack_hash hash objects) in
+    let is : bytes ≡ magic_and_numbers (length objects) ++ (flat_map entry_of objects ++ pack_hash hash objects) = split ∙ append_assoc (magic_and_numbers (length objects)) (flat_map entry_of objects) (pack_hash hash objects) in
+    let both : length (flat_map entry_of objects ++ pack_hash hash objects) ≡ length (flat_map entry_of objects) + length (pack_hash hash objects) = length-append (flat_map entry_of objects) (pack_hash hash objects) in
     record {
       pack = ap (is_pack hash) is ∙ begins_as_pack hash (length objects) (flat_map entry_of objects ++ pack_hash hash objects) (omega arith);
       version = ap version_in is ∙ version_is_two (length objects) (flat_map entry_of objects ++ pack_hash hash objects);
       count = ap objects_in is ∙ count_is (length objects) (flat_map entry_of objects ++ pack_hash hash objects) few;
       entries = all_are_read hash (pack_hash hash objects) size objects (magic_and_numbers (length objects)) bytes (omega arith) fits split;
-      filled = sym (trailer_behind hash (pack_hash hash objects) size (magic_and_numbers (length objects) ++ flat_map entry_of objects) bytes split
-          ∙ length-append (magic_and_numbers (length objects)) (flat_map entry_of objects));
+      filled = sym (trailer_behind hash (pack_hash hash objects) size (magic_and_numbers (length objects) ++ flat_map entry_of objects) bytes split ∙ length-append (magic_and_numbers (length objects)) (flat_map entry_of objects));
     }
 
 -- bytes that are the front and its hash are read as the pack
-pub made_is_read : (hash : HashKind) (objects : List Object) (front bytes : List ℕ) → front ≡ pack_front objects → bytes ≡ front ++ bytes_of (hash_of hash front)
-    → IsId (hash_of hash front) → length front < 2 ^ 63 → length objects < 2 ^ 31
+pub made_is_read : (hash : HashKind) (objects : List Object) (front bytes : List ℕ) → front ≡ pack_front objects → bytes ≡ front ++ bytes_of (hash_of hash front) → IsId (hash_of hash front) → length front < 2 ^ 63 → length objects < 2 ^ 31
     → ReadsPack hash objects bytes
 unfolding pack_of
 made_is_read hash objects front bytes front_is_own bytes_are id fits few =

@@ -33,8 +33,7 @@ whole_length n h w all long = omega arith
 two_long : (a b : List ℕ) (x y z : ℕ) → length a ≡ x → length b ≡ y → x + y ≡ z → length (a ++ b) ≡ z
 two_long a b x y z one two is = let both = length-append a b in omega arith
 
-all_long : (s c i z n w p o : List ℕ) (rows size wide : ℕ) → length s ≡ 8 → length c ≡ 1024 → length i ≡ rows * size → length z ≡ 4 * rows → length n ≡ rows * 4
-    → length w ≡ wide * 8 → length p ≡ size → length o ≡ size
+all_long : (s c i z n w p o : List ℕ) (rows size wide : ℕ) → length s ≡ 8 → length c ≡ 1024 → length i ≡ rows * size → length z ≡ 4 * rows → length n ≡ rows * 4 → length w ≡ wide * 8 → length p ≡ size → length o ≡ size
     → length (s ++ (c ++ (i ++ (z ++ (n ++ (w ++ (p ++ o))))))) ≡ 1032 + rows * size + 8 * rows + 8 * wide + 2 * size
 all_long s c i z n w p o rows size wide one two three four five six seven eight =
     let a = length-append s (c ++ (i ++ (z ++ (n ++ (w ++ (p ++ o)))))) in
@@ -159,8 +158,7 @@ module _ (hash : Kind) (rows : List Placed) (pack own : List ℕ) (placed : AllB
       let behind = wide_part ++ end in
       let few_offsets : 0 + length offsets ≤ 2 ^ 31 = omega (arith, length-map rows offset_of) in
       ap (λ (k : ℕ). numbers k (drop (offsets_place hash k) bytes)) count_is
-      ∙ ap (λ (rest : List ℕ). numbers n rest) (ap (drop (offsets_place hash n)) (to_narrow_part signature counts_part ids_part zeros (narrow_part ++ behind))
-      ∙ drop_at to_narrow (narrow_part ++ behind) (offsets_place hash n) to_narrow_long)
+      ∙ ap (λ (rest : List ℕ). numbers n rest) (ap (drop (offsets_place hash n)) (to_narrow_part signature counts_part ids_part zeros (narrow_part ++ behind)) ∙ drop_at to_narrow (narrow_part ++ behind) (offsets_place hash n) to_narrow_long)
       ∙ ap (λ (k : ℕ). numbers k (narrow_part ++ behind)) (sym narrow_many)
       ∙ numbers_back (narrow_from 0 offsets) behind (narrow_small 0 offsets few_offsets)
 
@@ -194,8 +192,7 @@ module _ (hash : Kind) (rows : List Placed) (pack own : List ℕ) (placed : AllB
       let two : same (numbers 256 (drop 8 bytes)) (counts_of (index_ids hash bytes)) ≡ true =
       ap (λ (ids : List ObjectId). same (numbers 256 (drop 8 bytes)) (counts_of ids)) ids_are
       ∙ ap (λ (xs : List ℕ). same xs (counts_of (map id_of rows))) counts_are ∙ same_itself (counts_of (map id_of rows)) in
-      all_three (is_rising (index_ids hash bytes)) (same (numbers 256 (drop 8 bytes)) (counts_of (index_ids hash bytes)))
-      (list_all (is_named_below (wides_in hash bytes)) (narrow_offsets hash bytes)) one two all_named
+      all_three (is_rising (index_ids hash bytes)) (same (numbers 256 (drop 8 bytes)) (counts_of (index_ids hash bytes))) (list_all (is_named_below (wides_in hash bytes)) (narrow_offsets hash bytes)) one two all_named
     where
       all_three : (a b c : Bool) → a ≡ true → b ≡ true → c ≡ true → (a && b && c) ≡ true
       all_three a b c x y z = rw (x, y, z) refl

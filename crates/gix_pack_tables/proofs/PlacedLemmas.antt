@@ -19,8 +19,7 @@ each_append P (x ∷ xs) ys first rest = (first.0, each_append P xs ys first.1 r
 
 -- ---- where the objects of a pack stand
 
-rows_from : (hash : Kind) (pack place : ℕ) (objects : List Object) → map row_of (placed_from hash pack place objects) ≡ map row_of_pair
-    (zip (map (id_of_object hash) objects) (places_from place objects))
+rows_from : (hash : Kind) (pack place : ℕ) (objects : List Object) → map row_of (placed_from hash pack place objects) ≡ map row_of_pair (zip (map (id_of_object hash) objects) (places_from place objects))
 unfolding places_from
 rows_from hash pack place [] = refl
 rows_from hash pack place (object ∷ objects) =
@@ -37,8 +36,7 @@ length-placed_from hash pack place (object ∷ objects) = ap (λ (n : ℕ). suc 
 -- the first object that is left, and the others
 pub placed_step : (hash : Kind) (pack place : ℕ) (objects : List given.Object) (i : ℕ) (object : given.Object) → i < length objects → object ≡ get_or objects i object
     → placed_from hash pack place (map object_seen (drop i objects))
-    ≡ record { id = id_of_object hash (object_seen object); pack = pack; offset = place } ∷ placed_from hash pack (place + length (entry_of (object_seen object)))
-    (map object_seen (drop (i + 1) objects))
+    ≡ record { id = id_of_object hash (object_seen object); pack = pack; offset = place } ∷ placed_from hash pack (place + length (entry_of (object_seen object))) (map object_seen (drop (i + 1) objects))
 placed_step hash pack place objects i object below is =
     ap (λ (rest : List given.Object). placed_from hash pack place (map object_seen rest)) (drop_more objects i object below ∙ ap (λ (o : given.Object). o ∷ drop (i + 1) objects) (sym is))
 

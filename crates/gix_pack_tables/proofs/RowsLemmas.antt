@@ -46,15 +46,13 @@ id_cmp-from Sha256 a b = refl
 -- the first two ids, and those from the second on
 pub rising_step : (kind : Kind) (left : ℕ) (rest : List ℕ) → 1 < left
     → is_rising (ids_of kind left rest)
-    ≡ (is_lt (slice_cmp nat_cmp (take (len_in_bytes_of kind) rest) (take (len_in_bytes_of kind) (drop (len_in_bytes_of kind) rest))) && is_rising
-    (ids_of kind (left - 1) (drop (len_in_bytes_of kind) rest)))
+    ≡ (is_lt (slice_cmp nat_cmp (take (len_in_bytes_of kind) rest) (take (len_in_bytes_of kind) (drop (len_in_bytes_of kind) rest))) && is_rising (ids_of kind (left - 1) (drop (len_in_bytes_of kind) rest)))
 unfolding table is_rising
 rising_step kind zero rest h = absurd (omega arith)
 rising_step kind (suc zero) rest h = absurd (omega arith)
 rising_step kind (suc (suc m)) rest h =
     let less : suc (suc m) - 1 ≡ suc m = omega arith in
-    rw less (ap (λ (o : Ordering). is_lt o && is_rising (ids_of kind (suc m) (drop (size_of kind) rest)))
-    (id_cmp-from kind (take (size_of kind) rest) (take (size_of kind) (drop (size_of kind) rest))))
+    rw less (ap (λ (o : Ordering). is_lt o && is_rising (ids_of kind (suc m) (drop (size_of kind) rest))) (id_cmp-from kind (take (size_of kind) rest) (take (size_of kind) (drop (size_of kind) rest))))
 
 -- one id, or none
 pub rising_short : (kind : Kind) (left : ℕ) (rest : List ℕ) → left ≤ 1 → is_rising (ids_of kind left rest) ≡ true
@@ -133,15 +131,12 @@ none_to kind (suc zero) rest first rising above =
     omega arith
 none_to kind (suc (suc m)) rest first rising above =
     let high : first < slice_index rest 0 = above (omega arith) in
-    let step = and_parts (is_lt (slice_cmp nat_cmp (take (size_of kind) rest) (take (size_of kind) (drop (size_of kind) rest))))
-    (is_rising (ids_of kind (suc (suc m) - 1) (drop (size_of kind) rest))) (sym (rising_step kind (suc (suc m)) rest (omega arith)) ∙ rising) in
-    let order : slice_index (take (size_of kind) rest) 0 ≤ slice_index (take (size_of kind) (drop (size_of kind) rest)) 0 = first_no_higher (take (size_of kind) rest)
-    (take (size_of kind) (drop (size_of kind) rest)) step.0 in
+    let step = and_parts (is_lt (slice_cmp nat_cmp (take (size_of kind) rest) (take (size_of kind) (drop (size_of kind) rest)))) (is_rising (ids_of kind (suc (suc m) - 1) (drop (size_of kind) rest))) (sym (rising_step kind (suc (suc m)) rest (omega arith)) ∙ rising) in
+    let order : slice_index (take (size_of kind) rest) 0 ≤ slice_index (take (size_of kind) (drop (size_of kind) rest)) 0 = first_no_higher (take (size_of kind) rest) (take (size_of kind) (drop (size_of kind) rest)) step.0 in
     let next : first < slice_index (drop (size_of kind) rest) 0 = omega (arith, take_first kind rest, take_first kind (drop (size_of kind) rest)) in
     let less : suc (suc m) - 1 ≡ suc m = omega arith in
     let behind : is_rising (ids_of kind (suc m) (drop (size_of kind) rest)) ≡ true = rw less at (rising_rest kind (suc (suc m)) rest (omega arith) rising) in
-    let all : count_to (ids_of kind (suc (suc m)) rest) first ≡ counted (slice_index rest 0) first + count_to
-    (ids_of kind (suc m) (drop (size_of kind) rest)) first = counts_first kind (suc m) rest first in
+    let all : count_to (ids_of kind (suc (suc m)) rest) first ≡ counted (slice_index rest 0) first + count_to (ids_of kind (suc m) (drop (size_of kind) rest)) first = counts_first kind (suc m) rest first in
     let own : counted (slice_index rest 0) first ≡ 0 = not_counted (slice_index rest 0) first high in
     let none : count_to (ids_of kind (suc m) (drop (size_of kind) rest)) first ≡ 0 = none_to kind (suc m) (drop (size_of kind) rest) first behind (λ _. next) in
     omega arith

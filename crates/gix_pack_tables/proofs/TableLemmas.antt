@@ -123,8 +123,7 @@ module _ {R : Type 0} (id_in : R → ObjectId) where
   kept_by : (o : Ordering) (row other : R) (rows rest : List R) (id : ObjectId) → id_cmp (id_in row) (id_in other) ≡ o → (id_in other ≡ id) ⊎ Contains (ids rows) id
       → (Contains (ids rows) id → Contains (ids rest) id)
       → Contains (ids (match_ordering o (row ∷ other ∷ rows) (row ∷ rows) (other ∷ rest))) id
-  kept_by Less row other rows rest id is (inl own) more = contains_behind (id_in row) (ids (other ∷ rows)) id
-      (subst (λ (i : ObjectId). Contains (ids (other ∷ rows)) i) own (contains_first (id_in other) (ids rows)))
+  kept_by Less row other rows rest id is (inl own) more = contains_behind (id_in row) (ids (other ∷ rows)) id (subst (λ (i : ObjectId). Contains (ids (other ∷ rows)) i) own (contains_first (id_in other) (ids rows)))
   kept_by Less row other rows rest id is (inr h) more = contains_behind (id_in row) (ids (other ∷ rows)) id (contains_behind (id_in other) (ids rows) id h)
   kept_by Equal row other rows rest id is (inl own) more = subst (λ (i : ObjectId). Contains (ids (row ∷ rows)) i) (same_id (id_in row) (id_in other) is ∙ own) (contains_first (id_in row) (ids rows))
   kept_by Equal row other rows rest id is (inr h) more = contains_behind (id_in row) (ids rows) id h
@@ -168,8 +167,7 @@ module _ {R : Type 0} (id_in : R → ObjectId) where
     others (r ∷ rows) up all = (other_id r (ap is_eq up.0) all.0, others rows up.1 all.1)
 
     -- ids behind one that is the row's own
-    alike : (other : R) (rows : List R) → id_cmp (id_in row) (id_in other) ≡ Equal → AllByRecursion (λ (r : R). id_cmp (id_in other) (id_in r) ≡ Less) rows
-        → AllByRecursion (λ (r : R). id_cmp (id_in row) (id_in r) ≡ Less) rows
+    alike : (other : R) (rows : List R) → id_cmp (id_in row) (id_in other) ≡ Equal → AllByRecursion (λ (r : R). id_cmp (id_in other) (id_in r) ≡ Less) rows → AllByRecursion (λ (r : R). id_cmp (id_in row) (id_in r) ≡ Less) rows
     alike other [] same up = tt
     alike other (r ∷ rows) same up = (id_order.congr (id_in row) (id_in other) (id_in r) same ∙ up.0, alike other rows same up.1)
 

@@ -150,8 +150,7 @@ last_count hash front rows rest place placed few long =
     let size : length (number_bytes firsts) ≡ 1020 = length-number_bytes firsts ∙ ap (λ (n : ℕ). n * 4) (length-map-range_with_len (count_to ids) 0 255) in
     let both = length-append front (number_bytes firsts) in
     let all : count_to ids 255 ≡ length rows = counts_all hash rows placed in
-    ap (number_at place) (ap (λ (bytes : List ℕ). front ++ (bytes ++ rest)) apart ∙ last_moved front (number_bytes firsts) (to_be_bytes w32 (count_to ids 255)) rest)
-    ∙ number_back (front ++ number_bytes firsts) (count_to ids 255) rest place (omega arith) (omega arith) ∙ all
+    ap (number_at place) (ap (λ (bytes : List ℕ). front ++ (bytes ++ rest)) apart ∙ last_moved front (number_bytes firsts) (to_be_bytes w32 (count_to ids 255)) rest) ∙ number_back (front ++ number_bytes firsts) (count_to ids 255) rest place (omega arith) (omega arith) ∙ all
 
 -- ---- offsets
 

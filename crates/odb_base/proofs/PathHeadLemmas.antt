@@ -31,8 +31,7 @@ bytes-append (x ∷ s) t own its = (own.0, bytes-append s t own.1 its)
 -- the bytes of a character, by how many they are
 module _ (c : ℕ) (scalar_value : c < 1114112) where
   of_length : (one two three : Bool) → (one ≡ true → c < 128) → (two ≡ true → c < 2048) → (three ≡ true → c < 65536)
-      → AreBytes (cond one (c ∷ []) (cond two ((192 + c / 64) ∷ (128 + c % 64) ∷ [])
-      (cond three ((224 + c / 4096) ∷ (128 + c / 64 % 64) ∷ (128 + c % 64) ∷ []) ((240 + c / 262144) ∷ (128 + c / 4096 % 64) ∷ (128 + c / 64 % 64) ∷ (128 + c % 64) ∷ []))))
+      → AreBytes (cond one (c ∷ []) (cond two ((192 + c / 64) ∷ (128 + c % 64) ∷ []) (cond three ((224 + c / 4096) ∷ (128 + c / 64 % 64) ∷ (128 + c % 64) ∷ []) ((240 + c / 262144) ∷ (128 + c / 4096 % 64) ∷ (128 + c / 64 % 64) ∷ (128 + c % 64) ∷ []))))
   of_length true two three f g h = let low = f refl in (omega arith, tt)
   of_length false true three f g h = let low = g refl in (omega arith, (omega arith, tt))
   of_length false false true f g h = let low = h refl in (omega arith, (omega arith, (omega arith, tt)))

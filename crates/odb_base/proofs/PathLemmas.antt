@@ -194,8 +194,7 @@ path_of-parts text (b ∷ bytes) e h =
     ap path_of e ∙ named-cut (is_slash b) b (slice_split is_slash bytes) (omega arith)
 
 -- the parts behind the first slash are the names of the path that a text spells, if they are names
-pub path_of-are_names : (text rest : List ℕ) (parts path : Path) → text ≡ 47 ∷ rest → 0 < length rest → parts ≡ slice_split (λ b. b == 47) rest → path ≡ parts
-    → list_all is_name path ≡ true → path_of text ≡ Some path
+pub path_of-are_names : (text rest : List ℕ) (parts path : Path) → text ≡ 47 ∷ rest → 0 < length rest → parts ≡ slice_split (λ b. b == 47) rest → path ≡ parts → list_all is_name path ≡ true → path_of text ≡ Some path
 path_of-are_names text rest parts path e h parts_is path_is names =
     let all = path_is ∙ parts_is in
     path_of-parts text rest e h ∙ ap (λ ps. cond (list_all is_name ps) (Some ps) None) (sym all) ∙ ap (λ t. cond t (Some path) None) names

@@ -25,8 +25,7 @@ pub listed_last : (reads : List (Result Found Unnamed)) (read : Result Found Unn
 listed_last reads read = folded_last bare_listing reads read
 
 -- the listing of one thing more
-pub lists_last : (most : ℕ) (reads : List (Result Found Unnamed)) (read : Result Found Unnamed) (listing more : Listing) → IsListing most reads listing
-    → more ≡ with_found listing read → read ≢ Err NoMemory
+pub lists_last : (most : ℕ) (reads : List (Result Found Unnamed)) (read : Result Found Unnamed) (listing more : Listing) → IsListing most reads listing → more ≡ with_found listing read → read ≢ Err NoMemory
     → length more.entries ≤ most → IsListing most (reads ++ read ∷ []) more
 lists_last most reads read listing more lists added kept few =
     record { is = added ∙ ap (λ l. with_found l read) lists.is ∙ sym (listed_last reads read); none_lost = All-push (λ r. r ≢ Err NoMemory) reads read lists.none_lost kept; few = few }
@@ -36,10 +35,8 @@ pub lists_none : (most : ℕ) → IsListing most [] bare_listing
 lists_none most = record { is = refl; none_lost = All-nil (λ r. r ≢ Err NoMemory); few = omega arith }
 
 -- no listing comes of one thing more
-pub lists_no_more : {S R A F D : Type 0} (next_gives : S → Option (Result (DirEntry R A F D) Error) → S → Type 0) (names from left : S) (most : ℕ)
-    (read : List (Result (DirEntry R A F D) Error)) (one : Result (DirEntry R A F D) Error) (found : List (Result Found Unnamed)) (listing more : Listing) (error : DiskError)
-    → Yields next_gives names read from → next_gives from (Some one) left → AllZip IsFoundIn read found → IsListing most found listing → Takes one most listing more (Err error)
-    → ListsNone next_gives names most error
+pub lists_no_more : {S R A F D : Type 0} (next_gives : S → Option (Result (DirEntry R A F D) Error) → S → Type 0) (names from left : S) (most : ℕ) (read : List (Result (DirEntry R A F D) Error)) (one : Result (DirEntry R A F D) Error) (found : List (Result Found Unnamed)) (listing more : Listing) (error : DiskError)
+    → Yields next_gives names read from → next_gives from (Some one) left → AllZip IsFoundIn read found → IsListing most found listing → Takes one most listing more (Err error) → ListsNone next_gives names most error
 lists_no_more next_gives names from left most read one found listing more error some next each lists took =
     record {
       read = read ++ one ∷ [];
@@ -51,10 +48,8 @@ lists_no_more next_gives names from left most read one found listing more error 
     }
 
 -- the stream of a listing that was made of an opened directory
-pub gives_listing : {S R A F D : Type 0} (next_gives : S → Option (Result (DirEntry R A F D) Error) → S → Type 0) (most : ℕ) (opened : Result S Error)
-    (listed : Result Listing DiskError) (listing : Listing) (gives : Option (List Entry)) (owes : Bool)
-    → IfOk opened (λ names. IfOk listed (λ l. ListsAll next_gives names most l)) → listed ≡ Ok listing → gives ≡ Some listing.entries → owes ≡ listing.passed_over
-    → IfOk opened (λ names. GivesAll next_gives names most gives owes)
+pub gives_listing : {S R A F D : Type 0} (next_gives : S → Option (Result (DirEntry R A F D) Error) → S → Type 0) (most : ℕ) (opened : Result S Error) (listed : Result Listing DiskError) (listing : Listing) (gives : Option (List Entry)) (owes : Bool)
+    → IfOk opened (λ names. IfOk listed (λ l. ListsAll next_gives names most l)) → listed ≡ Ok listing → gives ≡ Some listing.entries → owes ≡ listing.passed_over → IfOk opened (λ names. GivesAll next_gives names most gives owes)
 gives_listing next_gives most (Ok names) listed listing gives owes lists is given owed =
     record { listing = listing; lists = subst (λ r. IfOk r (λ l. ListsAll next_gives names most l)) is lists; entries = given; owed = owed }
 gives_listing next_gives most (Err e) listed listing gives owes lists is given owed = tt
@@ -66,14 +61,12 @@ if_err (Err e) error Holds is holds = subst Holds (sym is) holds
 
 -- why an opened directory has no stream: the error of its listing, or there is no memory
 module _ {S R A F D B : Type 0} (next_gives : S → Option (Result (DirEntry R A F D) Error) → S → Type 0) (most : ℕ) (listed : Result Listing DiskError) (result : Result B DiskError) where
-  pub unlisted_error : (directory : Result S Error) (error : DiskError) → IfOk directory (λ names. IfErr listed (λ e. ListsNone next_gives names most e)) → listed ≡ Err error
-      → IsErrAnd result (λ e. e ≡ error)
+  pub unlisted_error : (directory : Result S Error) (error : DiskError) → IfOk directory (λ names. IfErr listed (λ e. ListsNone next_gives names most e)) → listed ≡ Err error → IsErrAnd result (λ e. e ≡ error)
       → IfOk directory (λ names. IfErr result (λ e. ListsNone next_gives names most e))
   unlisted_error (Ok names) error why is failed = if_err result error (λ e. ListsNone next_gives names most e) failed (subst (λ r. IfErr r (λ e. ListsNone next_gives names most e)) is why)
   unlisted_error (Err e) error why is failed = tt
 
-  pub unlisted_memory : (directory : Result S Error) (listing : Listing) → IfOk directory (λ names. IfOk listed (λ l. ListsAll next_gives names most l)) → listed ≡ Ok listing
-      → IsErrAnd result (λ e. e ≡ errors.NoMemory)
+  pub unlisted_memory : (directory : Result S Error) (listing : Listing) → IfOk directory (λ names. IfOk listed (λ l. ListsAll next_gives names most l)) → listed ≡ Ok listing → IsErrAnd result (λ e. e ≡ errors.NoMemory)
       → IfOk directory (λ names. IfErr result (λ e. ListsNone next_gives names most e))
   unlisted_memory (Ok names) listing lists is failed =
       let l = subst (λ r. IfOk r (λ l. ListsAll next_gives names most l)) is lists in

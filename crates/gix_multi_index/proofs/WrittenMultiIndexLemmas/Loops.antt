@@ -62,13 +62,11 @@ wholes rows = flat_map pack_and_offset (zip (map pack_of rows) (map offset_of ro
 abbrev pub narrow_rows : ℕ → List Placed → List ℕ
 narrow_rows wide rows = flat_map pack_and_offset (zip (map pack_of rows) (narrow_from wide (map offset_of rows)))
 
-pub narrow_rows_yes : (wide : ℕ) (row : Placed) (rows : List Placed) → is_wide row.offset ≡ true
-    → narrow_rows wide (row ∷ rows) ≡ (to_be_bytes w32 row.pack ++ to_be_bytes w32 (2 ^ 31 + wide)) ++ narrow_rows (wide + 1) rows
+pub narrow_rows_yes : (wide : ℕ) (row : Placed) (rows : List Placed) → is_wide row.offset ≡ true → narrow_rows wide (row ∷ rows) ≡ (to_be_bytes w32 row.pack ++ to_be_bytes w32 (2 ^ 31 + wide)) ++ narrow_rows (wide + 1) rows
 unfolding narrow_from
 narrow_rows_yes wide row rows is = rw is refl
 
-pub narrow_rows_no : (wide : ℕ) (row : Placed) (rows : List Placed) → is_wide row.offset ≡ false
-    → narrow_rows wide (row ∷ rows) ≡ (to_be_bytes w32 row.pack ++ to_be_bytes w32 row.offset) ++ narrow_rows wide rows
+pub narrow_rows_no : (wide : ℕ) (row : Placed) (rows : List Placed) → is_wide row.offset ≡ false → narrow_rows wide (row ∷ rows) ≡ (to_be_bytes w32 row.pack ++ to_be_bytes w32 row.offset) ++ narrow_rows wide rows
 unfolding narrow_from
 narrow_rows_no wide row rows is = rw is refl
 
@@ -90,8 +88,7 @@ regroup list one two rest = append_assoc (list ++ one) two rest ∙ append_assoc
 narrow_rows_at : (wide : ℕ) (rows : List Placed) (i : ℕ) (d : Placed) → i < length rows → narrow_rows wide (drop i rows) ≡ narrow_rows wide (get_or rows i d ∷ drop (i + 1) rows)
 narrow_rows_at wide rows i d below = ap (narrow_rows wide) (drop_more rows i d below)
 
-pub row_on_wide : (list middle new whole : List ℕ) (rows : List Placed) (i wide next : ℕ) (d : Placed) → i < length rows → is_wide (get_or rows i d).offset ≡ true
-    → middle ≡ list ++ to_be_bytes w32 (get_or rows i d).pack
+pub row_on_wide : (list middle new whole : List ℕ) (rows : List Placed) (i wide next : ℕ) (d : Placed) → i < length rows → is_wide (get_or rows i d).offset ≡ true → middle ≡ list ++ to_be_bytes w32 (get_or rows i d).pack
     → new ≡ middle ++ to_be_bytes w32 (2 ^ 31 + wide) → next ≡ wide + 1 → list ++ narrow_rows wide (drop i rows) ≡ whole → new ++ narrow_rows next (drop (i + 1) rows) ≡ whole
 row_on_wide list middle new whole rows i wide next d below is middle_is new_is next_is so_far =
     let row = get_or rows i d in
@@ -101,8 +98,7 @@ row_on_wide list middle new whole rows i wide next d below is middle_is new_is n
     ∙ regroup list (to_be_bytes w32 row.pack) (to_be_bytes w32 (2 ^ 31 + wide)) left
     ∙ ap (λ (rest : List ℕ). list ++ rest) (sym (narrow_rows_at wide rows i d below ∙ narrow_rows_yes wide row (drop (i + 1) rows) is)) ∙ so_far
 
-pub row_on_low : (list middle new whole : List ℕ) (rows : List Placed) (i wide next : ℕ) (d : Placed) → i < length rows → is_wide (get_or rows i d).offset ≡ false
-    → middle ≡ list ++ to_be_bytes w32 (get_or rows i d).pack
+pub row_on_low : (list middle new whole : List ℕ) (rows : List Placed) (i wide next : ℕ) (d : Placed) → i < length rows → is_wide (get_or rows i d).offset ≡ false → middle ≡ list ++ to_be_bytes w32 (get_or rows i d).pack
     → new ≡ middle ++ to_be_bytes w32 (get_or rows i d).offset → next ≡ wide → list ++ narrow_rows wide (drop i rows) ≡ whole → new ++ narrow_rows next (drop (i + 1) rows) ≡ whole
 row_on_low list middle new whole rows i wide next d below is middle_is new_is next_is so_far =
     let row = get_or rows i d in
@@ -129,8 +125,7 @@ front_put old l1 l2 l3 hash chunks packs a b c =
 
 -- ---- the chunk table, row by row
 
-pub table_on : (list l1 l2 whole : List ℕ) (chunks : List kept.Chunk) (i place next : ℕ) (chunk : kept.Chunk) → i < length chunks → chunk ≡ get_or chunks i chunk
-    → l1 ≡ list ++ chunk.name → l2 ≡ l1 ++ to_be_bytes w64 place
+pub table_on : (list l1 l2 whole : List ℕ) (chunks : List kept.Chunk) (i place next : ℕ) (chunk : kept.Chunk) → i < length chunks → chunk ≡ get_or chunks i chunk → l1 ≡ list ++ chunk.name → l2 ≡ l1 ++ to_be_bytes w64 place
     → next ≡ place + length chunk.bytes → list ++ chunk_table place (map chunk_seen (drop i chunks)) ≡ whole → l2 ++ chunk_table next (map chunk_seen (drop (i + 1) chunks)) ≡ whole
 table_on list l1 l2 whole chunks i place next chunk below is a b next_is so_far =
     let left = chunk_table (place + length chunk.bytes) (map chunk_seen (drop (i + 1) chunks)) in
@@ -141,8 +136,7 @@ table_on list l1 l2 whole chunks i place next chunk below is a b next_is so_far 
 pub end_on : (chunks : List kept.Chunk) (i place next end : ℕ) (chunk : kept.Chunk) → i < length chunks → chunk ≡ get_or chunks i chunk → next ≡ place + length chunk.bytes
     → place + bytes_over (map chunk_seen (drop i chunks)) ≡ end → next + bytes_over (map chunk_seen (drop (i + 1) chunks)) ≡ end
 end_on chunks i place next end chunk below is next_is so_far =
-    let step : bytes_over (map chunk_seen (drop i chunks)) ≡ length (chunk.bytes ++ flat_map (λ (c : Chunk). c.bytes) (map chunk_seen (drop (i + 1) chunks))) = ap
-    (λ (l : List ℕ). length l) (bytes_step chunks i chunk below is) in
+    let step : bytes_over (map chunk_seen (drop i chunks)) ≡ length (chunk.bytes ++ flat_map (λ (c : Chunk). c.bytes) (map chunk_seen (drop (i + 1) chunks))) = ap (λ (l : List ℕ). length l) (bytes_step chunks i chunk below is) in
     let both = length-append chunk.bytes (flat_map (λ (c : Chunk). c.bytes) (map chunk_seen (drop (i + 1) chunks))) in
     omega arith
 
@@ -171,8 +165,7 @@ fits_here offset rest low = grind arith
 pub wide_found : (rows : List Placed) (i : ℕ) (d : Placed) → i < length rows → 2 ^ 32 ≤ (get_or rows i d).offset → needs_wide (map offset_of (drop i rows)) ≡ true
 wide_found rows i d below high = ap wide_in (drop_more rows i d below) ∙ wide_here (get_or rows i d).offset (wide_in (drop (i + 1) rows)) high
 
-pub wide_not_yet : (rows : List Placed) (i : ℕ) (d : Placed) → i < length rows → (get_or rows i d).offset < 2 ^ 32
-    → needs_wide (map offset_of (drop i rows)) ≡ needs_wide (map offset_of (drop (i + 1) rows))
+pub wide_not_yet : (rows : List Placed) (i : ℕ) (d : Placed) → i < length rows → (get_or rows i d).offset < 2 ^ 32 → needs_wide (map offset_of (drop i rows)) ≡ needs_wide (map offset_of (drop (i + 1) rows))
 wide_not_yet rows i d below low = ap wide_in (drop_more rows i d below) ∙ fits_here (get_or rows i d).offset (wide_in (drop (i + 1) rows)) low
 
 pub wide_nowhere : (rows : List Placed) (i : ℕ) → length rows ≤ i → needs_wide (map offset_of (drop i rows)) ≡ false
@@ -181,8 +174,7 @@ wide_nowhere rows i past = ap wide_in (drop_all i rows past)
 -- ---- the names, one pack on
 
 names_at : (packs : List given.NamedPack) (i : ℕ) (pack : given.NamedPack) → i < length packs → pack ≡ get_or packs i pack
-    → are_names (names_of (map named_seen (drop i packs))) ≡
-    ((is_index_name pack.name && below_first pack.name (names_of (map named_seen (drop (i + 1) packs)))) && are_names (names_of (map named_seen (drop (i + 1) packs))))
+    → are_names (names_of (map named_seen (drop i packs))) ≡ ((is_index_name pack.name && below_first pack.name (names_of (map named_seen (drop (i + 1) packs)))) && are_names (names_of (map named_seen (drop (i + 1) packs))))
 names_at packs i pack below is =
     ap (λ (rest : List given.NamedPack). are_names (names_of (map named_seen rest))) (drop_more packs i pack below ∙ ap (λ (p : given.NamedPack). p ∷ drop (i + 1) packs) (sym is))
     ∙ names_more pack.name (names_of (map named_seen (drop (i + 1) packs)))
@@ -197,12 +189,10 @@ no_order false b c x = refl
 both : (a b c : Bool) → a ≡ true → b ≡ true → ((a && b) && c) ≡ c
 both a b c x y = rw (x, y) refl
 
-pub names_bad : (packs : List given.NamedPack) (i : ℕ) (pack : given.NamedPack) → i < length packs → pack ≡ get_or packs i pack → is_index_name pack.name ≡ false
-    → are_names (names_of (map named_seen (drop i packs))) ≡ false
+pub names_bad : (packs : List given.NamedPack) (i : ℕ) (pack : given.NamedPack) → i < length packs → pack ≡ get_or packs i pack → is_index_name pack.name ≡ false → are_names (names_of (map named_seen (drop i packs))) ≡ false
 names_bad packs i pack below is h = names_at packs i pack below is ∙ no_name (is_index_name pack.name) _ _ h
 
-pub names_out : (packs : List given.NamedPack) (i : ℕ) (pack : given.NamedPack) → i < length packs → pack ≡ get_or packs i pack
-    → below_first pack.name (names_of (map named_seen (drop (i + 1) packs))) ≡ false
+pub names_out : (packs : List given.NamedPack) (i : ℕ) (pack : given.NamedPack) → i < length packs → pack ≡ get_or packs i pack → below_first pack.name (names_of (map named_seen (drop (i + 1) packs))) ≡ false
     → are_names (names_of (map named_seen (drop i packs))) ≡ false
 names_out packs i pack below is h = names_at packs i pack below is ∙ no_order (is_index_name pack.name) _ _ h
 
@@ -216,12 +206,10 @@ names_all packs i past = ap (λ (rest : List given.NamedPack). are_names (names_
 -- ---- the chunks at the end of the file
 
 pub bytes_all : (list start : List ℕ) (chunks : List kept.Chunk) (i : ℕ) → length chunks ≤ i
-    → list ++ flat_map (λ (c : Chunk). c.bytes) (map chunk_seen (drop i chunks)) ≡ start ++ flat_map (λ (c : Chunk). c.bytes) (map chunk_seen chunks)
-    → list ≡ start ++ flat_map (λ (c : Chunk). c.bytes) (map chunk_seen chunks)
+    → list ++ flat_map (λ (c : Chunk). c.bytes) (map chunk_seen (drop i chunks)) ≡ start ++ flat_map (λ (c : Chunk). c.bytes) (map chunk_seen chunks) → list ≡ start ++ flat_map (λ (c : Chunk). c.bytes) (map chunk_seen chunks)
 bytes_all list start chunks i past so_far = sym (append-nil list) ∙ ap (λ (rest : List ℕ). list ++ rest) (sym (bytes_end chunks i past)) ∙ so_far
 
-pub small_seen : (own chunks : List kept.Chunk) → chunks ≡ own → 12 + 12 * (length chunks + 1) + bytes_over (map chunk_seen chunks) < 2 ^ 64
-    → 12 + 12 * (length (map chunk_seen own) + 1) + bytes_over (map chunk_seen own) < 2 ^ 64
+pub small_seen : (own chunks : List kept.Chunk) → chunks ≡ own → 12 + 12 * (length chunks + 1) + bytes_over (map chunk_seen chunks) < 2 ^ 64 → 12 + 12 * (length (map chunk_seen own) + 1) + bytes_over (map chunk_seen own) < 2 ^ 64
 small_seen own chunks same small =
     subst (λ (cs : List kept.Chunk). 12 + 12 * (length (map chunk_seen cs) + 1) + bytes_over (map chunk_seen cs) < 2 ^ 64) same
     (subst (λ (n : ℕ). 12 + 12 * (n + 1) + bytes_over (map chunk_seen chunks) < 2 ^ 64) (sym (length-map chunks chunk_seen)) small)

@@ -53,8 +53,7 @@ pub record IsInPack (packs : ℕ) (row : Placed) : Type 0 where
 
 module _ (packs : ℕ) (wides : Option (List ℕ)) where
   -- each row names a pack and an offset
-  pub rows_named : (hash : Kind) (rows : List Placed) (offs : List ℕ) → length offs ≡ length rows → AllByRecursion (IsPlaced hash) rows → AllByRecursion (IsInPack packs) rows
-      → AllByRecursion (λ (x : ℕ). x < 2 ^ 32) offs
+  pub rows_named : (hash : Kind) (rows : List Placed) (offs : List ℕ) → length offs ≡ length rows → AllByRecursion (IsPlaced hash) rows → AllByRecursion (IsInPack packs) rows → AllByRecursion (λ (x : ℕ). x < 2 ^ 32) offs
       → list_all (has_offset wides) offs ≡ true
       → list_all (λ row. nat_lt (number_at 0 row) packs && has_offset wides (number_at 4 row)) (map pack_and_offset (zip (map pack_of rows) offs)) ≡ true
   rows_named hash [] offs same_length placed known small named = refl
@@ -73,8 +72,7 @@ module _ (packs : ℕ) (wides : Option (List ℕ)) where
       test_apart false b h = cc h
 
   -- the rows are read back from their packs and offsets
-  pub rows_paired : (hash : Kind) (rows : List Placed) (offs : List ℕ) → AllByRecursion (IsPlaced hash) rows → AllByRecursion (λ (x : ℕ). x < 2 ^ 32) offs
-      → map (offset_of_bytes wides) offs ≡ map offset_of rows
+  pub rows_paired : (hash : Kind) (rows : List Placed) (offs : List ℕ) → AllByRecursion (IsPlaced hash) rows → AllByRecursion (λ (x : ℕ). x < 2 ^ 32) offs → map (offset_of_bytes wides) offs ≡ map offset_of rows
       → map (pack_row wides) (zip (map id_of rows) (map pack_and_offset (zip (map pack_of rows) offs))) ≡ map pack_row_of rows
   rows_paired hash [] offs placed small are = refl
   rows_paired hash (row ∷ rows) [] placed small are = cc are
@@ -83,8 +81,6 @@ module _ (packs : ℕ) (wides : Option (List ℕ)) where
       let others : map (offset_of_bytes wides) offs ≡ map offset_of rows = cc are in
       let pack = first_number (row.pack, off) placed.0.pack in
       let offset = second_number (row.pack, off) small.0 in
-      ap (λ (p : ℕ). record { id = row.id; pack = p; offset = offset_of_bytes wides (number_at 4 (pack_and_offset (row.pack, off))) } ∷ map (pack_row wides)
-      (zip (map id_of rows) (map pack_and_offset (zip (map pack_of rows) offs)))) pack
-      ∙ ap (λ (o : ℕ). record { id = row.id; pack = row.pack; offset = o } ∷ map (pack_row wides) (zip (map id_of rows) (map pack_and_offset (zip (map pack_of rows) offs))))
-      (ap (offset_of_bytes wides) offset ∙ own)
+      ap (λ (p : ℕ). record { id = row.id; pack = p; offset = offset_of_bytes wides (number_at 4 (pack_and_offset (row.pack, off))) } ∷ map (pack_row wides) (zip (map id_of rows) (map pack_and_offset (zip (map pack_of rows) offs)))) pack
+      ∙ ap (λ (o : ℕ). record { id = row.id; pack = row.pack; offset = o } ∷ map (pack_row wides) (zip (map id_of rows) (map pack_and_offset (zip (map pack_of rows) offs)))) (ap (offset_of_bytes wides) offset ∙ own)
       ∙ ap (λ (seen : List PackRow). pack_row_of row ∷ seen) (rows_paired hash rows offs placed.1 small.1 others)

@@ -64,13 +64,11 @@ is_index_of hash objects =
 
 -- ---- what is known of the rows on the way
 
-pub index_rows_are : (hash : Kind) (objects : List Object) (none given table rows : List Placed) → none ≡ [] → given ≡ none ++ placed_from hash 0 12 objects
-    → table ≡ table_of id_of given → rows ≡ table → rows ≡ index_placed hash objects
+pub index_rows_are : (hash : Kind) (objects : List Object) (none given table rows : List Placed) → none ≡ [] → given ≡ none ++ placed_from hash 0 12 objects → table ≡ table_of id_of given → rows ≡ table → rows ≡ index_placed hash objects
 index_rows_are hash objects none given table rows empty given_is table_is rows_is =
     rows_is ∙ table_is ∙ ap (table_of id_of) (given_is ∙ ap (λ (first : List Placed). first ++ placed_from hash 0 12 objects) empty)
 
-pub each_given : (hash : Kind) (none given whole : List Placed) → none ≡ [] → given ≡ none ++ whole → (AllByRecursion (IsPlaced hash) none → AllByRecursion (IsPlaced hash) given)
-    → AllByRecursion (IsPlaced hash) whole
+pub each_given : (hash : Kind) (none given whole : List Placed) → none ≡ [] → given ≡ none ++ whole → (AllByRecursion (IsPlaced hash) none → AllByRecursion (IsPlaced hash) given) → AllByRecursion (IsPlaced hash) whole
 each_given hash none given whole empty given_is keeps =
     subst (AllByRecursion (IsPlaced hash)) (given_is ∙ ap (λ (first : List Placed). first ++ whole) empty)
     (keeps (subst (AllByRecursion (IsPlaced hash)) (sym empty) tt))
@@ -91,8 +89,7 @@ module _ (hash : Kind) (objects : List Object) (rows : List Placed) (are : rows 
 
 -- the tables one behind another
 pub front_steps : (rows : List Placed) (pack own l0 l1 l2 l3 l4 l5 l6 : List ℕ) → l0 ≡ signature → l1 ≡ l0 ++ number_bytes (counts_of (map id_of rows)) → l2 ≡ l1 ++ flat_map bytes_of (map id_of rows)
-    → l3 ≡ l2 ++ replicate (4 * length rows) 0 → l4 ≡ l3 ++ number_bytes (narrow_from 0 (map offset_of rows)) → l5 ≡ l4 ++ long_number_bytes (filter is_wide (map offset_of rows))
-    → l6 ≡ l5 ++ own → own ≡ pack
+    → l3 ≡ l2 ++ replicate (4 * length rows) 0 → l4 ≡ l3 ++ number_bytes (narrow_from 0 (map offset_of rows)) → l5 ≡ l4 ++ long_number_bytes (filter is_wide (map offset_of rows)) → l6 ≡ l5 ++ own → own ≡ pack
     → l6 ≡ front_of_rows rows pack
 front_steps rows pack own l0 l1 l2 l3 l4 l5 l6 a b c d e f g h =
     let one = b ∙ ap (λ (l : List ℕ). l ++ number_bytes (counts_of (map id_of rows))) a in
@@ -100,8 +97,7 @@ front_steps rows pack own l0 l1 l2 l3 l4 l5 l6 a b c d e f g h =
     let three = d ∙ ap (λ (l : List ℕ). l ++ replicate (4 * length rows) 0) two in
     let four = e ∙ ap (λ (l : List ℕ). l ++ number_bytes (narrow_from 0 (map offset_of rows))) three in
     let five = f ∙ ap (λ (l : List ℕ). l ++ long_number_bytes (filter is_wide (map offset_of rows))) four in
-    g ∙ ap (λ (l : List ℕ). l ++ own) five ∙ ap (λ (p : List ℕ). signature ++ number_bytes (counts_of (map id_of rows)) ++ flat_map bytes_of (map id_of rows)
-    ++ replicate (4 * length rows) 0 ++ number_bytes (narrow_from 0 (map offset_of rows)) ++ long_number_bytes (filter is_wide (map offset_of rows)) ++ p) h
+    g ∙ ap (λ (l : List ℕ). l ++ own) five ∙ ap (λ (p : List ℕ). signature ++ number_bytes (counts_of (map id_of rows)) ++ flat_map bytes_of (map id_of rows) ++ replicate (4 * length rows) 0 ++ number_bytes (narrow_from 0 (map offset_of rows)) ++ long_number_bytes (filter is_wide (map offset_of rows)) ++ p) h
 
 -- the index of objects is read back, where their ids are ids and their places fit
 pub index_read_back : (hash : Kind) (objects : List Object) (rows : List Placed) (front : List ℕ) → rows ≡ index_placed hash objects → front ≡ front_of_rows rows (pack_hash hash objects)
@@ -110,8 +106,7 @@ pub index_read_back : (hash : Kind) (objects : List Object) (rows : List Placed)
 index_read_back hash objects rows front rows_are front_is pack_id own_id few placed =
     let pack = pack_hash hash objects in
     let own = bytes_of (hash_of hash front) in
-    let nested = all_nested signature (number_bytes (counts_of (map id_of rows))) (flat_map bytes_of (map id_of rows)) (replicate (4 * length rows) 0)
-    (number_bytes (narrow_from 0 (map offset_of rows)))
+    let nested = all_nested signature (number_bytes (counts_of (map id_of rows))) (flat_map bytes_of (map id_of rows)) (replicate (4 * length rows) 0) (number_bytes (narrow_from 0 (map offset_of rows)))
     (long_number_bytes (filter is_wide (map offset_of rows))) pack own in
     record {
       rows = table_of id_seen (rows_in_order hash objects);

@@ -36,16 +36,14 @@ narrows_no wide row rows is = rw is refl
 narrows_at : (wide : ℕ) (rows : List Placed) (i : ℕ) (d : Placed) → i < length rows → narrows wide (drop i rows) ≡ narrows wide (get_or rows i d ∷ drop (i + 1) rows)
 narrows_at wide rows i d below = ap (narrows wide) (drop_more rows i d below)
 
-pub narrow_on_wide : (list new whole : List ℕ) (rows : List Placed) (i wide next : ℕ) (d : Placed) → i < length rows → is_wide (get_or rows i d).offset ≡ true
-    → new ≡ list ++ to_be_bytes w32 (2 ^ 31 + wide) → next ≡ wide + 1
+pub narrow_on_wide : (list new whole : List ℕ) (rows : List Placed) (i wide next : ℕ) (d : Placed) → i < length rows → is_wide (get_or rows i d).offset ≡ true → new ≡ list ++ to_be_bytes w32 (2 ^ 31 + wide) → next ≡ wide + 1
     → list ++ narrows wide (drop i rows) ≡ whole → new ++ narrows next (drop (i + 1) rows) ≡ whole
 narrow_on_wide list new whole rows i wide next d below is new_is next_is so_far =
     ap (λ (n : ℕ). new ++ narrows n (drop (i + 1) rows)) next_is ∙ ap (λ (l : List ℕ). l ++ narrows (wide + 1) (drop (i + 1) rows)) new_is
     ∙ append_assoc list (to_be_bytes w32 (2 ^ 31 + wide)) (narrows (wide + 1) (drop (i + 1) rows))
     ∙ ap (λ (rest : List ℕ). list ++ rest) (sym (narrows_at wide rows i d below ∙ narrows_yes wide (get_or rows i d) (drop (i + 1) rows) is)) ∙ so_far
 
-pub narrow_on_low : (list new whole : List ℕ) (rows : List Placed) (i wide next : ℕ) (d : Placed) → i < length rows → is_wide (get_or rows i d).offset ≡ false
-    → new ≡ list ++ to_be_bytes w32 (get_or rows i d).offset → next ≡ wide
+pub narrow_on_low : (list new whole : List ℕ) (rows : List Placed) (i wide next : ℕ) (d : Placed) → i < length rows → is_wide (get_or rows i d).offset ≡ false → new ≡ list ++ to_be_bytes w32 (get_or rows i d).offset → next ≡ wide
     → list ++ narrows wide (drop i rows) ≡ whole → new ++ narrows next (drop (i + 1) rows) ≡ whole
 narrow_on_low list new whole rows i wide next d below is new_is next_is so_far =
     ap (λ (n : ℕ). new ++ narrows n (drop (i + 1) rows)) next_is ∙ ap (λ (l : List ℕ). l ++ narrows wide (drop (i + 1) rows)) new_is

@@ -69,8 +69,7 @@ names-push path name names is = names-append path (name ∷ []) names (and_from 
 
 -- the names so far, and one more
 pub texts-push : (texts : List (Bor (List ℕ))) (i : ℕ) (d : Bor (List ℕ)) → i < length texts → map (λ t. t.now) (take (i + 1) texts) ≡ map (λ t. t.now) (take i texts) ++ (get_or texts i d).now ∷ []
-texts-push texts i d h = let next : i + 1 ≡ suc i = omega arith in ap (λ n. map (λ t. t.now) (take n texts)) next ∙ ap (map (λ t. t.now)) (take-suc texts i d h)
-    ∙ map-append (λ t. t.now) (take i texts) (get_or texts i d ∷ [])
+texts-push texts i d h = let next : i + 1 ≡ suc i = omega arith in ap (λ n. map (λ t. t.now) (take n texts)) next ∙ ap (map (λ t. t.now)) (take-suc texts i d h) ∙ map-append (λ t. t.now) (take i texts) (get_or texts i d ∷ [])
 
 pub texts-all : (texts : List (Bor (List ℕ))) (i : ℕ) → length texts ≤ i → map (λ t. t.now) (take i texts) ≡ map (λ t. t.now) texts
 texts-all texts i h = ap (map (λ t. t.now)) (take_all i texts h)
@@ -100,8 +99,7 @@ ends_last [] x xs some = refl
 ends_last (name ∷ names) x xs some = ap (λ o. ordering_then o (slice_cmp nat_cmp xs (name ++ flat_map (λ n. 0 ∷ n) names))) (nul_last x some)
 
 -- names are compared before what stands behind them
-names_first : (p q : Path) (a b : Name) → list_any (λ c. c == 0) a ≡ false → list_any (λ c. c == 0) b ≡ false
-    → slice_cmp nat_cmp (a ++ joined p) (b ++ joined q) ≡ ordering_then (name_cmp a b) (slice_cmp nat_cmp (joined p) (joined q))
+names_first : (p q : Path) (a b : Name) → list_any (λ c. c == 0) a ≡ false → list_any (λ c. c == 0) b ≡ false → slice_cmp nat_cmp (a ++ joined p) (b ++ joined q) ≡ ordering_then (name_cmp a b) (slice_cmp nat_cmp (joined p) (joined q))
 names_first p q [] [] free free' = refl
 names_first p q [] (y ∷ b) free free' = ends_first p y (b ++ joined q) (or_parts _ _ free').0
 names_first p q (x ∷ a) [] free free' = ends_last q x (a ++ joined p) (or_parts _ _ free).0

@@ -18,27 +18,21 @@ use Rattle.odb_base.proofs.JoinedPathLemmas.Names.{free-any, joined-push, joined
 -- ---- a text cut at its last NUL
 
 -- the cut at the last byte c is the one behind which no c stands
-pub rsplit_after : (c : ℕ) (text front back before after : List ℕ) → SplitsAroundMatch (RFindsChar c) text before after → c < 128 → text ≡ front ++ c ∷ back
-    → list_any (λ b. b == c) back ≡ false → (before ≡ front) × (after ≡ back)
+pub rsplit_after : (c : ℕ) (text front back before after : List ℕ) → SplitsAroundMatch (RFindsChar c) text before after → c < 128 → text ≡ front ++ c ∷ back → list_any (λ b. b == c) back ≡ false → (before ≡ front) × (after ≡ back)
 rsplit_after c text front back before after (i, j, found, before_is, after_is, ordered, before_len, after_len) low is free =
     let ends : j ≡ i + 1 = omega (arith, found.1.ends, len_utf8_ascii c low) in
     let at : get_or text i 0 ≡ c = found.1.byte low in
     let long = ap length is ∙ length-append front (c ∷ back) in
     let not_before : i < length front → ⊥ = λ l.
     let seam : get_or (drop j text) (length front - j) 0 ≡ c =
-    get_or-drop j text (length front - j) 0 ∙ ap (λ n. get_or text n 0) {x = j + (length front - j)} {y = length front} (omega arith) ∙ ap (λ t. get_or t (length front) 0) is
-    ∙ get_or-append_seam front c back 0 in
+    get_or-drop j text (length front - j) 0 ∙ ap (λ n. get_or text n 0) {x = j + (length front - j)} {y = length front} (omega arith) ∙ ap (λ t. get_or t (length front) 0) is ∙ get_or-append_seam front c back 0 in
     NoCharPasses-char c (drop j text) (length front - j) found.0 low (omega (arith, length-drop j text)) seam in
     let not_behind : length front < i → ⊥ = λ l.
     let deep : get_or back (i - length front - 1) 0 ≡ get_or text i 0 =
-    ap (λ n. get_or (c ∷ back) n 0) {x = suc (i - length front - 1)} {y = i - length front} (omega arith)
-    ∙ sym (get_or-append_right front (c ∷ back) (length front) i 0 refl (omega arith)) ∙ ap (λ t. get_or t i 0) (sym is) in
+    ap (λ n. get_or (c ∷ back) n 0) {x = suc (i - length front - 1)} {y = i - length front} (omega arith) ∙ sym (get_or-append_right front (c ∷ back) (length front) i 0 refl (omega arith)) ∙ ap (λ t. get_or t i 0) (sym is) in
     false≢true (sym (All_not-list_any (λ b. b == c) back free (i - length front - 1) 0 (omega arith)) ∙ eq-eqb _ c (deep ∙ at)) in
-    let here : length front ≡ i = elim (cases_order (length front) i) [ inl e ↦ e | inr o ↦ elim o [ inl l ↦ absurd (not_behind l) | inr l ↦ absurd (not_before l) ] ] in (
-      before_is ∙ ap (take i) is ∙ take_at front (c ∷ back) i here,
-      after_is ∙ ap (λ k. drop k text) {x = j} {y = length front + 1} (omega arith) ∙ ap (drop (length front + 1)) is
-          ∙ drop-append-add front (c ∷ back) 1,
-    )
+    let here : length front ≡ i = elim (cases_order (length front) i) [ inl e ↦ e | inr o ↦ elim o [ inl l ↦ absurd (not_behind l) | inr l ↦ absurd (not_before l) ] ] in
+    (before_is ∙ ap (take i) is ∙ take_at front (c ∷ back) i here, after_is ∙ ap (λ k. drop k text) {x = j} {y = length front + 1} (omega arith) ∙ ap (drop (length front + 1)) is ∙ drop-append-add front (c ∷ back) 1)
 
 -- a path with names has a last one
 pub record HasLast (path : Path) : Type 0 where
@@ -69,8 +63,7 @@ cut [] before after names (i, j, found, before_is, after_is, ordered, before_len
 cut (first ∷ rest) before after names splits =
     let last = has_last first rest in
     let parts = and_parts _ _ (sym (list_all-append is_name last.front (last.name ∷ [])) ∙ ap (list_all is_name) (sym last.is) ∙ names) in
-    let at = rsplit_after 0 (joined (first ∷ rest)) (joined last.front) last.name before after splits (lit< tt) (ap joined last.is ∙ joined-push last.front last.name)
-    (is_name-no_nul last.name (and_parts _ _ parts.1).0) in
+    let at = rsplit_after 0 (joined (first ∷ rest)) (joined last.front) last.name before after splits (lit< tt) (ap joined last.is ∙ joined-push last.front last.name) (is_name-no_nul last.name (and_parts _ _ parts.1).0) in
     record { front = last.front; before_is = at.0; is = last.is ∙ ap (λ n. last.front ++ n ∷ []) (sym at.1); are_names = parts.0 }
 
 -- the same of a path that is seen in a text
@@ -103,8 +96,7 @@ unfolding joined slashed
 slashed-joined [] names = slashed-free [] refl
 slashed-joined (name ∷ rest) names =
     let parts = and_parts _ _ names in
-    slashed-append (0 ∷ name) (joined rest) ∙ ap (λ t. slashed (0 ∷ name) ++ t) (slashed-joined rest parts.1)
-    ∙ ap (λ t. (47 ∷ t) ++ flat_map (λ n. 47 ∷ n) rest) (slashed-free name (is_name-no_nul name parts.0))
+    slashed-append (0 ∷ name) (joined rest) ∙ ap (λ t. slashed (0 ∷ name) ++ t) (slashed-joined rest parts.1) ∙ ap (λ t. (47 ∷ t) ++ flat_map (λ n. 47 ∷ n) rest) (slashed-free name (is_name-no_nul name parts.0))
 
 -- a piece up to a NUL, and what is left
 pub slashed-piece : (text name more : List ℕ) → text ≡ name ++ 0 ∷ more → ((i : ℕ) → i < length name → get_or name i 0 ≢ 0) → slashed text ≡ name ++ 47 ∷ slashed more
@@ -116,8 +108,7 @@ pub slashed-rest : (text : List ℕ) → ((i : ℕ) → i < length text → get_
 slashed-rest text free = slashed-free text (free-any text free)
 
 -- a step of writing a text piece by piece
-pub slashed-further : (written text name more : List ℕ) → text ≡ name ++ 0 ∷ more → ((i : ℕ) → i < length name → get_or name i 0 ≢ 0)
-    → ((written ++ name) ++ 47 ∷ []) ++ slashed more ≡ written ++ slashed text
+pub slashed-further : (written text name more : List ℕ) → text ≡ name ++ 0 ∷ more → ((i : ℕ) → i < length name → get_or name i 0 ≢ 0) → ((written ++ name) ++ 47 ∷ []) ++ slashed more ≡ written ++ slashed text
 slashed-further written text name more is free =
     append_assoc (written ++ name) (47 ∷ []) (slashed more) ∙ append_assoc written name (47 ∷ slashed more) ∙ ap (λ t. written ++ t) (sym (slashed-piece text name more is free))
 
@@ -139,8 +130,7 @@ joined-split (name ∷ base) rest names =
     free : (n : Name) → is_name n ≡ true → All (λ b. (b == 0) ≡ false) n
     free n e = All_not-list_any (λ b. b == 0) n (is_name-no_nul n e)
 
-    split_joined : (n : Name) (ns : Path) (r : List ℕ) → is_name n ≡ true → list_all is_name ns ≡ true
-        → slice_split (λ b. b == 0) (n ++ (flat_map (λ m. 0 ∷ m) ns ++ 0 ∷ r)) ≡ n ∷ ns ++ slice_split (λ b. b == 0) r
+    split_joined : (n : Name) (ns : Path) (r : List ℕ) → is_name n ≡ true → list_all is_name ns ≡ true → slice_split (λ b. b == 0) (n ++ (flat_map (λ m. 0 ∷ m) ns ++ 0 ∷ r)) ≡ n ∷ ns ++ slice_split (λ b. b == 0) r
     split_joined n [] r e all = slice_split_at (λ b. b == 0) n 0 r (free n e) refl
     split_joined n (m ∷ ns) r e all =
         let parts = and_parts _ _ all in
@@ -166,8 +156,7 @@ module _ (path base : Path) (names : list_all is_name path ≡ true) (base_names
   -- the text goes on within a name
   pub within_name : (x : ℕ) (rest : List ℕ) → joined path ≡ joined base ++ x ∷ rest → x ≢ 0 → starts_with same_name path base ≡ false
   within_name x rest is some = elim (cases_Bool (starts_with same_name path base)) [
-    | inl holds ↦ absurd (goes_on x rest some (drop (length base) path)
-        (append_cancel_left (joined base) _ _ (sym (joined-append base (drop (length base) path)) ∙ ap joined (sym (goes_beyond path base holds)) ∙ is)))
+    | inl holds ↦ absurd (goes_on x rest some (drop (length base) path) (append_cancel_left (joined base) _ _ (sym (joined-append base (drop (length base) path)) ∙ ap joined (sym (goes_beyond path base holds)) ∙ is)))
     | inr fails ↦ fails
   ]
 
@@ -182,15 +171,8 @@ module _ (path base : Path) (names : list_all is_name path ≡ true) (base_names
   pub more_behind : (rest : List ℕ) → joined path ≡ joined base ++ 0 ∷ rest → IsBehind path base (Some (0 ∷ rest))
   more_behind rest is =
       let parts : path ≡ base ++ names_joined (0 ∷ rest) = sym (names_joined-joined path names) ∙ ap names_joined is ∙ joined-split base rest base_names in
-      let whole = append_cancel_left (joined base) _ _ (sym is ∙ ap joined parts ∙ joined-append base (names_joined (0 ∷ rest))) in (
-        lies_below path base _ parts,
-        sym parts,
-        record {
-          whole = whole;
-          are_names =
-              (and_parts _ _ (sym (list_all-append is_name base (names_joined (0 ∷ rest))) ∙ ap (list_all is_name) (sym parts) ∙ names)).1;
-        },
-      )
+      let whole = append_cancel_left (joined base) _ _ (sym is ∙ ap joined parts ∙ joined-append base (names_joined (0 ∷ rest))) in
+      (lies_below path base _ parts, sym parts, record { whole = whole; are_names = (and_parts _ _ (sym (list_all-append is_name base (names_joined (0 ∷ rest))) ∙ ap (list_all is_name) (sym parts) ∙ names)).1 })
 
   -- what is left is empty, or goes on with NUL, or within a name
   pub goes_behind : (rest more : List ℕ) → joined path ≡ joined base ++ rest → rest ≡ 0 ∷ more → IsBehind path base (Some rest)

@@ -7,16 +7,13 @@ use Rattle.gix_multi_index.proofs.names.names_in.Goals as goal
 pub returns-then-not-is_above-clause-none : goal.returns-then-not-is_above-clause-none
 returns-then-not-is_above-clause-none c =
     c.loop-left.invariant.same_so_far
-    ∙ name_refused c.loop-left.last.now c.in-Some.found.0.now c.loop-left.left c.loop-left.rest.now c.in-Some.found.1.now
-    (omega arith) c.in-Some.ensures.parts c.in-Some.ensures.fits (sym c.is_above.ensures.above ∙ c.if-not-is_above.true)
+    ∙ name_refused c.loop-left.last.now c.in-Some.found.0.now c.loop-left.left c.loop-left.rest.now c.in-Some.found.1.now (omega arith) c.in-Some.ensures.parts c.in-Some.ensures.fits (sym c.is_above.ensures.above ∙ c.if-not-is_above.true)
 
 -- a name more
 pub loop-left-preserved : goal.loop-left-preserved
 loop-left-preserved c =
-    let added : c.push.new.self.items ≡ c.loop-left.names.items ++ c.in-Some.found.0.now ∷ [] = c.in_ok-push.ensures.items
-    ∙ ap (λ (name : List ℕ). c.loop-left.names.items ++ name ∷ []) c.in_ok-new.ensures.name in
-    let taken = name_taken c.loop-left.last.now c.in-Some.found.0.now c.loop-left.left c.loop-left.rest.now c.in-Some.found.1.now
-    (omega arith) c.in-Some.ensures.parts c.in-Some.ensures.fits (sym c.is_above.ensures.above ∙ c.if-not-is_above.false) in
+    let added : c.push.new.self.items ≡ c.loop-left.names.items ++ c.in-Some.found.0.now ∷ [] = c.in_ok-push.ensures.items ∙ ap (λ (name : List ℕ). c.loop-left.names.items ++ name ∷ []) c.in_ok-new.ensures.name in
+    let taken = name_taken c.loop-left.last.now c.in-Some.found.0.now c.loop-left.left c.loop-left.rest.now c.in-Some.found.1.now (omega arith) c.in-Some.ensures.parts c.in-Some.ensures.fits (sym c.is_above.ensures.above ∙ c.if-not-is_above.false) in
     record {
       few = omega (arith, length_pushed c.loop-left.names.items c.push.new.self.items c.in-Some.found.0.now added);
       names_so_far = names_step _ c.loop-left.names.items c.push.new.self.items c.in-Some.found.0.now c.loop-left.left c.loop-left.rest.now c.in-Some.found.1.now (omega arith) c.in-Some.ensures.parts

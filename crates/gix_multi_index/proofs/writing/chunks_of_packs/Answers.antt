@@ -10,13 +10,11 @@ use Rattle.gix_multi_index.proofs.writing.chunks_of_packs.Goals as goal
 
 pub chunks_of-requires-clause-few : goal.chunks_of-requires-clause-few
 chunks_of-requires-clause-few c =
-    multi_few c.args.kind (map named_seen c.args.packs.now) _
-    (multi_rows_are c.args.kind (map named_seen c.args.packs.now) _ _ _ c.in_ok-rows.ensures.rows c.in_ok-table.ensures.table c.as_slice.ensures.value) c.requires.can.few_objects
+    multi_few c.args.kind (map named_seen c.args.packs.now) _ (multi_rows_are c.args.kind (map named_seen c.args.packs.now) _ _ _ c.in_ok-rows.ensures.rows c.in_ok-table.ensures.table c.as_slice.ensures.value) c.requires.can.few_objects
 
 pub chunks_of-requires-clause-rising : goal.chunks_of-requires-clause-rising
 chunks_of-requires-clause-rising c =
-    multi_rising c.args.kind (map named_seen c.args.packs.now) _
-    (multi_rows_are c.args.kind (map named_seen c.args.packs.now) _ _ _ c.in_ok-rows.ensures.rows c.in_ok-table.ensures.table c.as_slice.ensures.value)
+    multi_rising c.args.kind (map named_seen c.args.packs.now) _ (multi_rows_are c.args.kind (map named_seen c.args.packs.now) _ _ _ c.in_ok-rows.ensures.rows c.in_ok-table.ensures.table c.as_slice.ensures.value)
 
 pub chunks_of-requires-clause-placed : goal.chunks_of-requires-clause-placed
 chunks_of-requires-clause-placed c =

@@ -15,8 +15,7 @@ returns-clause-written c =
     let chunks = map chunk_seen c.in_ok-chunks.chunks.items in
     let many : length c.args.packs.now ≡ length packs = sym (length-map c.args.packs.now named_seen) in
     let front : c.put_file.new.file ≡ front_with c.args.kind (length packs) chunks =
-    c.in_ok-put_file.ensures.front ∙ ap (λ (n : ℕ). front_with c.args.kind n (map chunk_seen c.as_slice.result.now)) many
-    ∙ ap (λ cs. front_with c.args.kind (length packs) (map chunk_seen cs)) c.as_slice.ensures.value in
+    c.in_ok-put_file.ensures.front ∙ ap (λ (n : ℕ). front_with c.args.kind n (map chunk_seen c.as_slice.result.now)) many ∙ ap (λ cs. front_with c.args.kind (length packs) (map chunk_seen cs)) c.as_slice.ensures.value in
     c.in_ok-put_hash.ensures.put ∙ multi_written c.args.kind packs (multi_placed c.args.kind packs) chunks c.put_file.new.file refl c.in_ok-chunks.ensures.chunks front
 
 pub returns-clause-table : goal.returns-clause-table
@@ -28,8 +27,7 @@ returns-clause-read_back c =
     let chunks = map chunk_seen c.in_ok-chunks.chunks.items in
     let many : length c.args.packs.now ≡ length packs = sym (length-map c.args.packs.now named_seen) in
     let front : c.put_file.new.file ≡ front_with c.args.kind (length packs) chunks =
-    c.in_ok-put_file.ensures.front ∙ ap (λ (n : ℕ). front_with c.args.kind n (map chunk_seen c.as_slice.result.now)) many
-    ∙ ap (λ cs. front_with c.args.kind (length packs) (map chunk_seen cs)) c.as_slice.ensures.value in
+    c.in_ok-put_file.ensures.front ∙ ap (λ (n : ℕ). front_with c.args.kind n (map chunk_seen c.as_slice.result.now)) many ∙ ap (λ cs. front_with c.args.kind (length packs) (map chunk_seen cs)) c.as_slice.ensures.value in
     subst (ReadsMultiIndex c.args.kind packs) (sym c.in_ok-put_hash.ensures.put)
     (multi_encoded c.args.kind packs (multi_placed c.args.kind packs) chunks c.put_file.new.file refl c.in_ok-chunks.ensures.chunks front c.in_ok-put_hash.ensures.id c.requires.can c.in_ok-chunks.ensures.placed
     (small_seen c.in_ok-chunks.chunks.items c.as_slice.result.now c.as_slice.ensures.value c.in_ok-put_file.ensures.small))

@@ -10,5 +10,4 @@ pub returns-clause-chunk : goal.returns-clause-chunk
 returns-clause-chunk c =
     let behind = number_bytes (counts_of (map id_of c.args.rows.now)) in
     c.in_ok-push_chunk.ensures.chunk
-    ∙ ap (λ (bytes : List ℕ). map chunk_seen c.args.chunks.now.items ++ one_chunk (codes "OIDF") bytes)
-    (c.in_ok-put_counts.ensures.put ∙ ap (λ (bytes : List ℕ). bytes ++ behind) c.new-counts.ensures.empty)
+    ∙ ap (λ (bytes : List ℕ). map chunk_seen c.args.chunks.now.items ++ one_chunk (codes "OIDF") bytes) (c.in_ok-put_counts.ensures.put ∙ ap (λ (bytes : List ℕ). bytes ++ behind) c.new-counts.ensures.empty)

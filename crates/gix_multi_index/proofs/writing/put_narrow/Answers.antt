@@ -17,16 +17,14 @@ loop-row-preserved c =
           let is = sym c.is_wide.ensures.wide ∙ w.if-is_wide.true in
           let put = c.in_ok-put_number-2.ensures.put ∙ ap (λ (n : ℕ). middle ++ to_be_bytes w32 n) (c.narrow_of.ensures.wide is) in
           record {
-            written = row_on_wide list middle c.put_number-in-loop-row.new.list _ rows i wide c.if-is_wide.wide _
-                (omega arith) is c.in_ok-put_number.ensures.put put w.wide-is c.loop-row.invariant.written;
+            written = row_on_wide list middle c.put_number-in-loop-row.new.list _ rows i wide c.if-is_wide.wide _ (omega arith) is c.in_ok-put_number.ensures.put put w.wide-is c.loop-row.invariant.written;
             few = omega (arith, w.wide-is, c.loop-row.invariant.few);
           }
       | else-is_wide w ↦
           let is = sym c.is_wide.ensures.wide ∙ w.if-is_wide.false in
           let put = c.in_ok-put_number-2.ensures.put ∙ ap (λ (n : ℕ). middle ++ to_be_bytes w32 n) (c.narrow_of.ensures.low is) in
           record {
-            written = row_on_low list middle c.put_number-in-loop-row.new.list _ rows i wide c.if-is_wide.wide _
-                (omega arith) is c.in_ok-put_number.ensures.put put w.wide-is c.loop-row.invariant.written;
+            written = row_on_low list middle c.put_number-in-loop-row.new.list _ rows i wide c.if-is_wide.wide _ (omega arith) is c.in_ok-put_number.ensures.put put w.wide-is c.loop-row.invariant.written;
             few = omega (arith, w.wide-is, c.loop-row.invariant.few);
           }
     ]

@@ -17,8 +17,7 @@ pub returns-in_err-from_bytes-clause-none : goal.returns-in_err-from_bytes-claus
 returns-in_err-from_bytes-clause-none c =
     let split = split_once_first 32 c.in-Ok.text.now c.split_once.result c.split_once.ensures.cases (omega arith) in
     let parts = rw c.in_ok-word.was at split in
-    rw c.from_residual-in_err-from_bytes.ensures (read-no_kind _ _ _ c.in-Ok.ensures.cases.0 parts.1
-    (ap kind_of_word (sym c.as_bytes.ensures.value) ∙ sym c.from_bytes.ensures.kind ∙ c.in_err-from_bytes.was))
+    rw c.from_residual-in_err-from_bytes.ensures (read-no_kind _ _ _ c.in-Ok.ensures.cases.0 parts.1 (ap kind_of_word (sym c.as_bytes.ensures.value) ∙ sym c.from_bytes.ensures.kind ∙ c.in_err-from_bytes.was))
 
 pub returns-in_err-parse_decimal-clause-none : goal.returns-in_err-parse_decimal-clause-none
 returns-in_err-parse_decimal-clause-none c =
@@ -30,5 +29,4 @@ pub returns-clause-found : goal.returns-clause-found
 returns-clause-found c =
     let split = split_once_first 32 c.in-Ok.text.now c.split_once.result c.split_once.ensures.cases (omega arith) in
     let parts = rw c.in_ok-word.was at split in
-    read-Some _ _ _ _ _ _ c.in-Ok.ensures.cases.0 parts.1 parts.2 (ap kind_of_word (sym c.as_bytes.ensures.value) ∙ sym c.from_bytes.ensures.kind ∙ c.in_ok-from_bytes.was)
-    (sym c.parse_decimal.ensures.exact ∙ c.in_ok-parse_decimal.was)
+    read-Some _ _ _ _ _ _ c.in-Ok.ensures.cases.0 parts.1 parts.2 (ap kind_of_word (sym c.as_bytes.ensures.value) ∙ sym c.from_bytes.ensures.kind ∙ c.in_ok-from_bytes.was) (sym c.parse_decimal.ensures.exact ∙ c.in_ok-parse_decimal.was)

@@ -9,8 +9,4 @@ pub returns-in-Some : goal.returns-in-Some
 returns-in-Some c = record { head = c.from_be_bytes.ensures ∙ ap (from_be_bytes w64) (c.in-Some.ensures.cases.same) ∙ head_of-take _ ∙ ap head_of c.as_bytes-bytes.ensures.value }
 
 pub returns-in-None : goal.returns-in-None
-returns-in-None c = record {
-  head = c.from_be_bytes-in-None.ensures ∙ ap
-      (λ t. from_be_bytes w64 (t ++ drop (length c.as_bytes-bytes.result.now) (replicate 8 0))) c.copy_from_slice.ensures.after ∙ head_of-padded _
-      ∙ ap head_of c.as_bytes-bytes.ensures.value;
-}
+returns-in-None c = record { head = c.from_be_bytes-in-None.ensures ∙ ap (λ t. from_be_bytes w64 (t ++ drop (length c.as_bytes-bytes.result.now) (replicate 8 0))) c.copy_from_slice.ensures.after ∙ head_of-padded _ ∙ ap head_of c.as_bytes-bytes.ensures.value }

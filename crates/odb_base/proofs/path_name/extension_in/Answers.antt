@@ -8,10 +8,7 @@ returns-in_err-before c = record { extension = rw c.from_residual.ensures (sym (
 
 -- the dot comes first
 pub returns-then-is_empty : goal.returns-then-is_empty
-returns-then-is_empty c = record {
-  extension = sym
-      (extension_of-found_first c.args.name.now c.in_ok-before.before.now c.in_ok-before.extension.now c.in_ok-before.ensures.cases (eqb-true _ _ (sym c.if-is_empty.ensures)));
-}
+returns-then-is_empty c = record { extension = sym (extension_of-found_first c.args.name.now c.in_ok-before.before.now c.in_ok-before.extension.now c.in_ok-before.ensures.cases (eqb-true _ _ (sym c.if-is_empty.ensures))) }
 
 pub returns-else-is_empty : goal.returns-else-is_empty
 returns-else-is_empty c = record {

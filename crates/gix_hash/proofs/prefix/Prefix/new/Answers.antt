@@ -16,8 +16,7 @@ made c =
     let text_is = c.as_bytes-digits.ensures.value ∙ c.write_hex-text.ensures.text in
     let fits = rw (c.len_in_hex.ensures.digits, c.kind.ensures.kind) at c.if-hex_len-len_in_hex.false in
     let text = rw c.kind-2.ensures.kind at c.in-Ok.ensures.text in
-    first_of c.args.id.now c.in-Ok.id c.args.hex_len c.as_bytes-digits.result.now c.write_hex-text.ensures.id (omega arith) fits text_is c.in-Ok.ensures.id
-    (c.in-Ok.ensures.kind ∙ c.kind-2.ensures.kind) text
+    first_of c.args.id.now c.in-Ok.id c.args.hex_len c.as_bytes-digits.result.now c.write_hex-text.ensures.id (omega arith) fits text_is c.in-Ok.ensures.id (c.in-Ok.ensures.kind ∙ c.kind-2.ensures.kind) text
 
 pub invariant_of-result : goal.invariant_of-result
 invariant_of-result c = (made c).0

@@ -5,6 +5,5 @@ use Rattle.gix_multi_index.proofs.file.File.lookup_prefix.Goals as goal
 -- the same of the rows that the bytes tell
 pub returns : goal.returns
 returns c = record {
-  run = subst (λ (rows : List PackRow). IsPrefixRun (map
-      (λ (row : PackRow). row.id) rows) c.args.prefix.now c.rows_of_prefix.result.start c.rows_of_prefix.result.end) c.rows.ensures.rows c.rows_of_prefix.ensures.run;
+  run = subst (λ (rows : List PackRow). IsPrefixRun (map (λ (row : PackRow). row.id) rows) c.args.prefix.now c.rows_of_prefix.result.start c.rows_of_prefix.result.end) c.rows.ensures.rows c.rows_of_prefix.ensures.run;
 }

@@ -37,6 +37,5 @@ returns-clause-read_back c =
     let rows = c.as_slice.result.now in
     let front : c.put_front.new.index ≡ front_of_rows rows (pack_hash c.args.kind objects) = c.in_ok-put_front.ensures.front ∙ ap (front_of_rows rows) (ap bytes_of c.in_ok-pack_hash.ensures.hash) in
     subst (ReadsIndex c.args.kind objects) (sym c.in_ok-put_hash.ensures.put)
-    (index_read_back c.args.kind objects rows c.put_front.new.index (c.as_slice.ensures.value ∙ c.in_ok-rows.ensures.rows) front
-    (subst IsId c.in_ok-pack_hash.ensures.hash c.in_ok-put_front.ensures.id)
+    (index_read_back c.args.kind objects rows c.put_front.new.index (c.as_slice.ensures.value ∙ c.in_ok-rows.ensures.rows) front (subst IsId c.in_ok-pack_hash.ensures.hash c.in_ok-put_front.ensures.id)
     c.in_ok-put_hash.ensures.id (omega (arith, length-map c.args.objects.now object_seen)) c.in_ok-rows.ensures.placed)

@@ -6,8 +6,7 @@ use Rattle.gix_pack_tables.proofs.read.search.row_of.Goals as goal
 pub loop-row-preserved : goal.loop-row-preserved
 loop-row-preserved c =
     let its = c.is_same.ensures.same in
-    no_row_more (ids_of c.args.kind c.args.n c.args.ids.now) c.loop-row.row c.id_at.result c.args.id.now c.loop-row.invariant (c.id_at.ensures.id c.args.n (omega arith))
-    (λ same. let yes = its.1 same in cc (yes))
+    no_row_more (ids_of c.args.kind c.args.n c.args.ids.now) c.loop-row.row c.id_at.result c.args.id.now c.loop-row.invariant (c.id_at.ensures.id c.args.n (omega arith)) (λ same. let yes = its.1 same in cc (yes))
 
 -- no row has it
 pub returns : goal.returns

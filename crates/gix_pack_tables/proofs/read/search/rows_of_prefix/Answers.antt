@@ -6,7 +6,6 @@ pub returns : goal.returns
 returns c = record {
   run = let first = c.other_row-start.ensures in
       let second = c.other_row-end.ensures in
-      prefix_run c.args.kind c.args.n c.args.ids.now c.args.prefix.now c.other_row-start.result c.other_row-end.result
-      (λ i. omega (arith, c.type_inv.ids i)) c.requires.rising second.before second.within first.passed first.other
+      prefix_run c.args.kind c.args.n c.args.ids.now c.args.prefix.now c.other_row-start.result c.other_row-end.result (λ i. omega (arith, c.type_inv.ids i)) c.requires.rising second.before second.within first.passed first.other
       second.passed second.other;
 }

@@ -10,8 +10,7 @@ returns-then-number_at-n c = record {
       let own = c.loop-first.invariant.above c.loop-first.first (omega arith) in
       let passed = c.behind-more_left.ensures.above c.loop-first.first (omega arith) in
       let count : count_to ids c.loop-first.first ≡ c.args.n - c.behind-more_left.result.0 = omega (arith, own, passed, c.behind-more_left.ensures.none) in
-      wrong_count ids c.loop-first.first c.loop-first.rest.now _ c.number_at.result c.loop-first-test.true c.loop-first.invariant.same_so_far c.number_at.ensures.number
-      (λ h. c.if-number_at-n.true (h ∙ count));
+      wrong_count ids c.loop-first.first c.loop-first.rest.now _ c.number_at.result c.loop-first-test.true c.loop-first.invariant.same_so_far c.number_at.ensures.number (λ h. c.if-number_at-n.true (h ∙ count));
 }
 
 -- a count is that of the ids

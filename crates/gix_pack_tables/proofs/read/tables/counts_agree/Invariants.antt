@@ -12,6 +12,5 @@ invariant-loop-first l = record {
   rising : is_rising (ids_of l.kind l.left l.above) ≡ true;
   counts_left : 4 * (256 - l.first) ≤ length l.rest;
   above : (later : ℕ) → l.first ≤ later → count_to (ids_of l.kind l.n l.ids) later + l.left ≡ l.n + count_to (ids_of l.kind l.left l.above) later;
-  same_so_far : same (numbers 256 l.counts) (counts_of (ids_of l.kind l.n l.ids))
-      ≡ same (numbers (256 - l.first) l.rest) (map (count_to (ids_of l.kind l.n l.ids)) (range_with_len l.first (256 - l.first)));
+  same_so_far : same (numbers 256 l.counts) (counts_of (ids_of l.kind l.n l.ids)) ≡ same (numbers (256 - l.first) l.rest) (map (count_to (ids_of l.kind l.n l.ids)) (range_with_len l.first (256 - l.first)));
 }

@@ -9,15 +9,7 @@ use Rattle.odb_base.proofs.path.PathText.followed_by.Goals.{In_ok-push_str-2}
 
 -- the text of both paths
 text : (c : In_ok-push_str-2) → string_bytes c.push_str-2.new.self ≡ joined (c.args.self.now ++ c.args.rest.now)
-text c = rw (
-  c.in_ok-push_str-2.ensures.bytes,
-  c.in_ok-push_str.ensures.bytes,
-  c.in_ok-joined.ensures.bytes,
-  c.deref.ensures,
-  c.deref-2.ensures,
-  whole_text _ _ c.self.view_is c.self.invariant.0,
-  whole_text _ _ c.rest.view_is c.rest.invariant.0,
-) (sym (joined-append c.args.self.now c.args.rest.now))
+text c = rw (c.in_ok-push_str-2.ensures.bytes, c.in_ok-push_str.ensures.bytes, c.in_ok-joined.ensures.bytes, c.deref.ensures, c.deref-2.ensures, whole_text _ _ c.self.view_is c.self.invariant.0, whole_text _ _ c.rest.view_is c.rest.invariant.0) (sym (joined-append c.args.self.now c.args.rest.now))
 
 names : (c : In_ok-push_str-2) → list_all is_name (c.args.self.now ++ c.args.rest.now) ≡ true
 names c = names-append c.args.self.now c.args.rest.now (all_names _ _ c.self.view_is c.self.invariant.0) (all_names _ _ c.rest.view_is c.rest.invariant.0)

@@ -9,8 +9,7 @@ use Rattle.odb_base.proofs.path.PathText.join.Goals.{In_ok-push_name}
 
 -- the text of the path and of the name
 text : (c : In_ok-push_name) → string_bytes c.push_name.new.joined ≡ joined (c.args.self.now ++ c.args.name.now ∷ [])
-text c = rw (c.in_ok-push_name.ensures.pushed, c.in_ok-push_str.ensures.bytes, c.in_ok-joined.ensures.bytes, c.deref.ensures, whole_text _ _ c.self.view_is c.self.invariant.0)
-    (sym (joined-push c.args.self.now c.args.name.now))
+text c = rw (c.in_ok-push_name.ensures.pushed, c.in_ok-push_str.ensures.bytes, c.in_ok-joined.ensures.bytes, c.deref.ensures, whole_text _ _ c.self.view_is c.self.invariant.0) (sym (joined-push c.args.self.now c.args.name.now))
 
 names : (c : In_ok-push_name) → list_all is_name (c.args.self.now ++ c.args.name.now ∷ []) ≡ true
 names c = names-push c.args.self.now c.args.name.now (all_names _ _ c.self.view_is c.self.invariant.0) (sym c.if-not-is_name.ensures.named)

@@ -34,8 +34,7 @@ parsed c =
     let begun = strip_prefix_char 47 c.args.text.now (Some c.in-Some.rest) c.in-Some.ensures.cases (lit< tt) in
     let some = eqb-false _ _ (sym c.if-is_empty.ensures) in
     let split : map (λ t. t.now) c.deref.result.now ≡ slice_split (λ b. b == 47) c.in-Some.rest.now = rw c.deref.ensures.value c.in_ok-parts.ensures.parts in
-    both_on_ok c.from_names.result c.from_names.ensures.path c.from_names.ensures.are_names
-    (λ path is names. path_of-are_names c.args.text.now c.in-Some.rest.now _ path begun (omega (arith, some)) split is names)
+    both_on_ok c.from_names.result c.from_names.ensures.path c.from_names.ensures.are_names (λ path is names. path_of-are_names c.args.text.now c.in-Some.rest.now _ path begun (omega (arith, some)) split is names)
 
 pub returns-clause-parsed : goal.returns-clause-parsed
 returns-clause-parsed c = parsed c

@@ -9,5 +9,4 @@ returns-in-Equal c = rw (c.cmp-in-Equal.ensures, c.as_str.ensures.value, c.as_st
 pub returns-in_default : goal.returns-in_default
 returns-in_default c =
     let apart = not_Equal _ _ _ c.cmp.ensures c.in_default.not-Equal in
-    rw (c.cmp.ensures, ← c.self.view_is, ← c.other.view_is)
-    (heads_cmp _ _ _ _ c.self.invariant c.other.invariant apart (IsUtf8-string_bytes c.self.inside.joined) (IsUtf8-string_bytes c.other.inside.joined))
+    rw (c.cmp.ensures, ← c.self.view_is, ← c.other.view_is) (heads_cmp _ _ _ _ c.self.invariant c.other.invariant apart (IsUtf8-string_bytes c.self.inside.joined) (IsUtf8-string_bytes c.other.inside.joined))

@@ -22,7 +22,5 @@ pub returns-clause-goes : goal.returns-clause-goes
 returns-clause-goes c =
     let seen = c.args.self.now.index.now in
     let step = entries_more seen.kind seen.bytes c.args.self.now.row c.oid_at_index.result c.pack_offset_at_index.result c.oid_at_index.ensures.id c.pack_offset_at_index.ensures.offset in
-    let fewer = fewer_entries (map unchecked (drop c.args.self.now.row (index_rows seen.kind seen.bytes)))
-    (map unchecked (drop (c.args.self.now.row + 1) (index_rows seen.kind seen.bytes)))
-    (record { id = c.oid_at_index.result; offset = c.pack_offset_at_index.result }, None) step in
+    let fewer = fewer_entries (map unchecked (drop c.args.self.now.row (index_rows seen.kind seen.bytes))) (map unchecked (drop (c.args.self.now.row + 1) (index_rows seen.kind seen.bytes))) (record { id = c.oid_at_index.result; offset = c.pack_offset_at_index.result }, None) step in
     record { on = λ _. (tt, tt, fewer); keeps = tt; rests = λ _. tt }
