@@ -73,7 +73,7 @@ module _ (head : WriteHead) (Named : ObjectId → Type 0) (Counted : ℕ → Typ
 -- a write by what it was given and left
 abbrev pub write_by : WriteHead → HashKind → Option ObjectId → Content → (state new : Option State) (before now : ℕ) → Result ObjectId Error → Write
 write_by head hash known content state new before now result =
-    record { head = head; hash = hash; known = known; content = content; state = state; state_now = new; faults = before; faults_now = now; answer = result }
+    record { head = head; hash = hash; known = known; content = content; disk = record { state = state; state_now = new; faults = before; faults_now = now }; answer = result }
 
 module _ (head : WriteHead) (hash : HashKind) (content : Content) (state new : Option State) (before now : ℕ) (result : Result ObjectId Error) where
   abbrev Runs : Option ObjectId → Type 0
