@@ -23,7 +23,8 @@ module _ (most : ℕ) where
 
   made_left : (number : ℕ) (answer : DiskAnswer) → writes_left most (made_by number answer) < 6 + pieces_of most + (temp_names - number)
   made_left number =
-      by_made (Above (6 + pieces_of most + (temp_names - number))) [] number (omega arith) (λ e. let below : number + 1 < temp_names = grind (arith, common_steps, e) in omega (arith, below)) (λ refusal. omega arith)
+      by_made (Above (6 + pieces_of most + (temp_names - number))) [] number (omega arith)
+      (λ e. let below : number + 1 < temp_names = grind (arith, common_steps, e) in omega (arith, below)) (λ refusal. omega arith)
 
   headed_left : (number : ℕ) (answer : DiskAnswer) → writes_left most (headed_by number answer) < 5 + pieces_of most
   headed_left number = by_headed (Above (5 + pieces_of most)) [] number (λ held refusal. omega arith) (omega arith)

@@ -29,8 +29,12 @@ seen state state_now faults faults_now = record { state = state; state_now = sta
 -- ---- a write as a part of a call
 
 module _ (store : Store) (kind : Kind) (size : ℕ) (known : Option ObjectId) (content : Content) (answer : Result ObjectId Error) where
+  -- what the write is that left a disk so
+  abbrev Runs : DiskSeen → Type 0
+  Runs disk = WriteRuns (write_into store kind size known content disk answer)
+
   -- a write runs so between earlier and later counts of faults too
-  runs_longer : (state new : Option State) (earlier faults now later : ℕ) → earlier ≤ faults → now ≤ later → WriteRuns (write_into store kind size known content (seen state new faults now) answer) → WriteRuns (write_into store kind size known content (seen state new earlier later) answer)
+  runs_longer : (state new : Option State) (earlier faults now later : ℕ) → earlier ≤ faults → now ≤ later → Runs (seen state new faults now) → Runs (seen state new earlier later)
   runs_longer state new earlier faults now later since until run =
       let w = write_into store kind size known content (seen state new faults now) answer in
       record {
@@ -47,7 +51,8 @@ module _ (store : Store) (kind : Kind) (size : ℕ) (known : Option ObjectId) (c
         untouched = run.untouched;
         refused =
             λ error is.
-            WriteCause-wider (write_head store kind size) (Refuses state (Rose faults now) run.exchanges) (Refuses state (Rose earlier later) run.exchanges) (FoundThere run.exchanges) (FoundThere run.exchanges) (DoneIn run.exchanges) (DoneIn run.exchanges)
+            WriteCause-wider (write_head store kind size) (Refuses state (Rose faults now) run.exchanges) (Refuses state (Rose earlier later) run.exchanges)
+                (FoundThere run.exchanges) (FoundThere run.exchanges) (DoneIn run.exchanges) (DoneIn run.exchanges)
             (λ ask making h. (h.0, h.1, h.2, elim h.3 [ inl failed ↦ inl (failed.0, rose_between earlier faults now later since until failed.1) | inr other ↦ inr other ]))
             (λ ask h. h) (λ ask h. h) (HasFailed content) (HasFailed content) (λ h. h) (GetsName w) (GetsName w) (λ id h. h) (Unit {0}) (Unit {0}) (λ h. h)
             (OtherLength (bytes_told content) size) (OtherLength (bytes_told content) size) (λ n h. h) error (run.refused error is);
@@ -55,10 +60,10 @@ module _ (store : Store) (kind : Kind) (size : ℕ) (known : Option ObjectId) (c
 
   -- and between states that are the same
   pub runs_between : (before state new after : Option State) → before ≡ state → after ≡ new → (earlier faults now later : ℕ) → earlier ≤ faults → now ≤ later
-      → WriteRuns (write_into store kind size known content (seen state new faults now) answer) → WriteRuns (write_into store kind size known content (seen before after earlier later) answer)
+      → Runs (seen state new faults now) → Runs (seen before after earlier later)
   runs_between before state new after same kept earlier faults now later since until run =
-      subst (λ (s : Option State). WriteRuns (write_into store kind size known content (seen s after earlier later) answer)) (sym same)
-      (subst (λ (s : Option State). WriteRuns (write_into store kind size known content (seen state s earlier later) answer)) (sym kept) (runs_longer state new earlier faults now later since until run))
+      subst (λ (s : Option State). Runs (seen s after earlier later)) (sym same)
+      (subst (λ (s : Option State). Runs (seen state s earlier later)) (sym kept) (runs_longer state new earlier faults now later since until run))
 
 -- ---- bytes that are kept
 
@@ -84,11 +89,13 @@ module _ (store : Store) (known : Option ObjectId) (kind : Kind) (bytes : List �
 
 -- What was found in the first store, these bytes, was written into the second one.
 module _ (from to : Store) (id : ObjectId) (before middle after : Option State) (faults then now : ℕ) (kept : middle ≡ before) (since : faults ≤ then)
-    (found : Result (Option Kind) FindError) (kind : Kind) (bytes gave : List ℕ) (finds : IfSome before (λ s. Finds from id s (Rose faults then) (put_in found gave))) (is : found ≡ Ok (Some kind)) (whole : bytes ≡ gave) where
+    (found : Result (Option Kind) FindError) (kind : Kind) (bytes gave : List ℕ) (finds : IfSome before (λ s. Finds from id s (Rose faults then) (put_in found gave)))
+        (is : found ≡ Ok (Some kind)) (whole : bytes ≡ gave) where
   finds_in : (s : State) → before ≡ Some s → Finds from id s (Rose faults then) (put_in (Ok (Some kind)) bytes)
   finds_in s told =
       subst (λ (all : List ℕ). Finds from id s (Rose faults then) (put_in (Ok (Some kind)) all)) (sym whole)
-      (subst (λ (r : Result (Option Kind) FindError). Finds from id s (Rose faults then) (put_in r gave)) is (at_told before (λ x. Finds from id x (Rose faults then) (put_in found gave)) s told finds))
+      (subst (λ (r : Result (Option Kind) FindError). Finds from id s (Rose faults then) (put_in r gave)) is
+          (at_told before (λ x. Finds from id x (Rose faults then) (put_in found gave)) s told finds))
 
   -- an object was copied, or the write was refused
   pub copy_made : (answer : Result ObjectId Error) → IsWrite to kind bytes (Some id) (seen middle after then now) answer → IsCopy from to id (seen before after faults now) answer

@@ -52,7 +52,8 @@ module _ (w : Begun) (state new : Option State) (now later : ℕ) (ask : DiskAsk
       record {
         given = AreGiven-push w.state past (exchanged ask answer) did.given (subst (λ (s : Option State). IfSome s (λ t. AnswersAsk answer (answer_of (tree_of t) ask))) did.left given);
         left = left ∙ ap (λ (s : Option State). state_told_after s ask answer) did.left ∙ sym (left_by-push w.state past (exchanged ask answer));
-        failed = all_more (λ (x : Exchange). x.answer ≡ answers.Refused disk_errors.Failed → Rose w.faults later) past (exchanged ask answer) (faults_later w.faults now later past more did.failed) (λ e. let rose = cause e in grind (arith, rose, did.later));
+        failed = all_more (λ (x : Exchange). x.answer ≡ answers.Refused disk_errors.Failed → Rose w.faults later) past (exchanged ask answer)
+            (faults_later w.faults now later past more did.failed) (λ e. let rose = cause e in grind (arith, rose, did.later));
         later = omega (arith, did.later, more);
         tree = inr (first_tree past did);
       }
@@ -158,8 +159,10 @@ module _ (w : Begun) (state new : Option State) (now later : ℕ) (rest : Option
   pub answered_to : ask ≡ write_ask w.head job.piece stage → AnsweredTo w new later rest source_now fed (next_write w.head.size (length job.piece) stage answer)
   answered_to is =
       answered_by (data_after stage job.piece answer at.appended) (next_write w.head.size (length job.piece) stage answer)
-      (subst (λ (a : DiskAsk). WentToWanted w source_now (data_after stage job.piece answer at.appended) (next_write w.head.size (length job.piece) stage answer) (at.past ++ exchanged a answer ∷ [])) (sym is)
-      (IsHistory-next w.head (NamedBy w) (SourceFailed w source_now) (OtherLength w.left w.head.size) stage at.appended job.piece at.past answer (counts w rest job fed removal naming ended source_now at.appended at.all at.past stage at.history at.holds at.took)
+      (subst (λ (a : DiskAsk). WentToWanted w source_now (data_after stage job.piece answer at.appended) (next_write w.head.size (length job.piece) stage answer)
+      (at.past ++ exchanged a answer ∷ [])) (sym is)
+      (IsHistory-next w.head (NamedBy w) (SourceFailed w source_now) (OtherLength w.left w.head.size) stage at.appended job.piece at.past answer
+      (counts w rest job fed removal naming ended source_now at.appended at.all at.past stage at.history at.holds at.took)
       (next_piece w rest job fed removal naming ended source_now at.appended at.all at.past stage at.holds) at.history))
       (kept w rest job fed removal naming ended source_now at.appended at.all at.past stage answer at.history at.holds at.removal) (followed is) (spared_next is)
 
@@ -180,5 +183,6 @@ module _ (w : Begun) (state new : Option State) (now later : ℕ) (rest : Option
       → AnsweredTo w new later rest source_now fed wanted
   turn_answered given left more cause tree =
       subst (λ (a : WriteAsk). AnsweredTo w new later rest source_now fed a) (sym wanted_is)
-      (answered_to w state new now later rest source_now job fed stage ask answer given left more cause tree (ap (λ (j : StreamJob). j.removal) same) (ap (λ (j : StreamJob). j.naming) same) (ap (λ (j : StreamJob). j.has_ended) same) head_is
+      (answered_to w state new now later rest source_now job fed stage ask answer given left more cause tree (ap (λ (j : StreamJob). j.removal) same)
+      (ap (λ (j : StreamJob). j.naming) same) (ap (λ (j : StreamJob). j.has_ended) same) head_is
       (ap (λ (j : StreamJob). j.piece) same) at (asked ∙ ap (λ (h : WriteHead). write_ask h job.piece stage) at.head))

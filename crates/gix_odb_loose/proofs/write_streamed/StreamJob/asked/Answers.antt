@@ -11,11 +11,13 @@ pub returns-clause-asks : goal.returns-clause-asks
 returns-clause-asks g c =
     λ w rest source_now at.
     turn_answered w _ (g.D.Disk.state c.carry_out-answer.new.disk) _
-    (g.D.Disk.faults c.carry_out-answer.new.disk) _ _ c.args.self.now c.ask.new.self c.args.self.now.stage c.in_ok-ask.ask c.carry_out-answer.result c.len-len.result c.next-wanted.result at c.len-len.ensures.len c.in_ok-ask.ensures.ask
+    (g.D.Disk.faults c.carry_out-answer.new.disk) _ _ c.args.self.now c.ask.new.self
+    c.args.self.now.stage c.in_ok-ask.ask c.carry_out-answer.result c.len-len.result c.next-wanted.result at c.len-len.ensures.len c.in_ok-ask.ensures.ask
     c.ask.ensures.same c.next-wanted.ensures.next
     (c.carry_out-answer.ensures.answer c.in_ok-ask.ensures.still) c.carry_out-answer.ensures.state c.carry_out-answer.ensures.later c.carry_out-answer.ensures.cause c.carry_out-answer.ensures.tree
 
 pub returns-clause-fewer : goal.returns-clause-fewer
 returns-clause-fewer g c =
     λ w rest source_now at.
-    turn_fewer w _ _ _ _ c.args.self.now c.ask.new.self c.args.self.now.stage c.carry_out-answer.result c.len-len.result c.next-wanted.result at c.len-len.ensures.len c.ask.ensures.same c.next-wanted.ensures.next
+    turn_fewer w _ _ _ _ c.args.self.now c.ask.new.self c.args.self.now.stage
+    c.carry_out-answer.result c.len-len.result c.next-wanted.result at c.len-len.ensures.len c.ask.ensures.same c.next-wanted.ensures.next
