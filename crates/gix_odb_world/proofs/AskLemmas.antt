@@ -101,11 +101,11 @@ module _ (first : Volume) (events : List Event) (handle begun turns : ℕ) (w : 
   at_stage (stages.Removing number refusal) s = Removes number (made (stages.Removing number refusal) number refl s)
 
 -- a running write asks in its turn
-pub in_order_write : (first : Volume) (events : List Event) (handle : ℕ) (running : Running) (folder : LooseCall)
-    → (at : IsAtOwnWrite first events handle running nothing_in_front folder)
+pub in_order_write : (first : Volume) (events : List Event) (handle : ℕ) (running : Running) (call : LooseCall)
+    → (at : IsAtOwnWrite first events handle running nothing_in_front call)
     → AsksInOrder first events handle running.store running.ignoring running.begun running.turns (MakeCall (call_to_write at.writing.write)) (ask_at_stage at.writing.write at.writing.stage)
-in_order_write first events handle running folder at =
-    let writes : IsWriting first events handle running folder = at.writing in
+in_order_write first events handle running call at =
+    let writes : IsWriting first events handle running call = at.writing in
     let w : ToWrite = writes.write in
     record {
       own = writes.own;

@@ -97,10 +97,10 @@ abbrev pub home : (m : Machine) (state : m.State) → At (m.work state)
 home m state = record { machine = m; state = state; is = refl }
 
 -- a write that has made no file yet
-pub record HasNoFile (folder : LooseCall) : Type 0 where
+pub record HasNoFile (call : LooseCall) : Type 0 where
   pub write : ToWrite
   pub number : ℕ
-  pub is : folder ≡ write_at write (Making number)
+  pub is : call ≡ write_at write (Making number)
 
 -- What a machine has to show of the writes that it may be at. It need not be at one from its task on: another phase may come in front.
 pub record KeepsWriteLaws (m : Machine) : Type 1 where
@@ -109,16 +109,16 @@ pub record KeepsWriteLaws (m : Machine) : Type 1 where
       → m.Knows first events handle running state
       → m.writes state ≡ None → m.ask running.store state ≡ Some (ToDisk ask) → change_by (disk_after first events) ask ≡ None
   -- where it writes, it knows what a write does, asks what the write asks, and ends where the write ends
-  pub known : (first : Volume) (events : List Event) (handle : ℕ) (running : Running) (state : m.State) (folder : LooseCall)
+  pub known : (first : Volume) (events : List Event) (handle : ℕ) (running : Running) (state : m.State) (call : LooseCall)
       → m.Knows first events handle running state
-      → m.writes state ≡ Some folder → IsWriting first events handle running folder
-  pub asks : (store : Store) (state : m.State) (folder : LooseCall) → m.writes state ≡ Some folder → m.ask store state ≡ to_disk (disk_ask_of folder)
-  pub ends : (store : Store) (state : m.State) (folder : LooseCall) (answer : DiskAnswer) (reply : Reply) → m.writes state ≡ Some folder
-      → result_of_write (loose_order.fed folder answer) ≡ Ok reply → m.feed store state (Some (FromDisk answer)) ≡ Ok reply
+      → m.writes state ≡ Some call → IsWriting first events handle running call
+  pub asks : (store : Store) (state : m.State) (call : LooseCall) → m.writes state ≡ Some call → m.ask store state ≡ to_disk (disk_ask_of call)
+  pub ends : (store : Store) (state : m.State) (call : LooseCall) (answer : DiskAnswer) (reply : Reply) → m.writes state ≡ Some call
+      → result_of_write (loose_order.fed call answer) ≡ Ok reply → m.feed store state (Some (FromDisk answer)) ≡ Ok reply
   -- a state that writes comes after one that does, unless its write has made no file yet
-  pub before : (store : Store) (state next : m.State) (answer : Option Answer) (folder : LooseCall) → m.feed store state answer ≡ Err next
-      → m.writes next ≡ Some folder
-      → ((own : LooseCall) × (m.writes state ≡ Some own)) ⊎ HasNoFile folder
+  pub before : (store : Store) (state next : m.State) (answer : Option Answer) (call : LooseCall) → m.feed store state answer ≡ Err next
+      → m.writes next ≡ Some call
+      → ((own : LooseCall) × (m.writes state ≡ Some own)) ⊎ HasNoFile call
 
 pub record KeepsLaws (m : Machine) : Type 1 where
   -- the work of a state is of this machine, at this state
@@ -185,14 +185,14 @@ pub writes_nothing : (m : Machine) → ((state : m.State) → m.writes state ≡
     → KeepsWriteLaws m
 writes_nothing m none quiet = record {
   quiet = λ first events handle running state ask knows no asks. quiet first events handle running state ask knows asks;
-  known = λ first events handle running state folder knows is. absurd (none_written state folder is);
-  asks = λ store state folder is. absurd (none_written state folder is);
-  ends = λ store state folder answer reply is done. absurd (none_written state folder is);
-  before = λ store state next answer folder goes is. absurd (none_written next folder is);
+  known = λ first events handle running state call knows is. absurd (none_written state call is);
+  asks = λ store state call is. absurd (none_written state call is);
+  ends = λ store state call answer reply is done. absurd (none_written state call is);
+  before = λ store state next answer call goes is. absurd (none_written next call is);
 }
   where
-    none_written : (state : m.State) (folder : LooseCall) → m.writes state ≡ Some folder → ⊥
-    none_written state folder is = let both : None ≡ Some folder = sym (none state) ∙ is in cc both
+    none_written : (state : m.State) (call : LooseCall) → m.writes state ≡ Some call → ⊥
+    none_written state call is = let both : None ≡ Some call = sym (none state) ∙ is in cc both
 
 -- a call of the disk that makes no change may come in any task
 pub quiet_turn : (first : Volume) (events : List Event) (handle : ℕ) (running : Running) (task : Task) (ask : DiskAsk)

@@ -51,5 +51,5 @@ ended_laws = record {
 pub laws_at : (work : Work) → KeepsLaws (at work).machine
 laws_at (Opening state) = opening_laws
 laws_at (Calling (Looking state)) = looking_laws
-laws_at (Calling (Writing folder)) = writing_laws
+laws_at (Calling (Writing call)) = writing_laws
 laws_at (Calling (Written reply)) = ended_laws

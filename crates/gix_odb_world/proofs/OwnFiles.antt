@@ -171,7 +171,7 @@ module _ (first : Volume) (events : List Event) (start : IsTree (tree_of first.s
         let beyond = none_beyond events now none in
         record {
           running = hm.running;
-          folder = hm.folder;
+          call = hm.call;
           at = record { works = ap (λ es. status_of es handle) (sym (take_none events now none)) ∙ hm.at.works; writes = hm.at.writes };
           later = hm.later;
           before = omega (arith, within, beyond);

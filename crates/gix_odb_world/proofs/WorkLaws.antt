@@ -48,17 +48,17 @@ module _ (first : Volume) (events : List Event) (handle : ℕ) (running : Runnin
   quiet_unless_writing ask none is = (laws_at work).writes.quiet first events handle running (at work).state ask knows none is
 
   -- work that writes knows what its write does
-  pub knows_write : (folder : LooseCall) → write_in work ≡ Some folder → IsWriting first events handle running folder
-  knows_write folder is = (laws_at work).writes.known first events handle running (at work).state folder knows is
+  pub knows_write : (call : LooseCall) → write_in work ≡ Some call → IsWriting first events handle running call
+  knows_write call is = (laws_at work).writes.known first events handle running (at work).state call knows is
 
 -- it asks what its write asks
-pub asks_as_write : (store : Store) (work : Work) (folder : LooseCall) → write_in work ≡ Some folder → ask_in store work ≡ to_disk (disk_ask_of folder)
-asks_as_write store work folder is = (laws_at work).writes.asks store (at work).state folder is
+pub asks_as_write : (store : Store) (work : Work) (call : LooseCall) → write_in work ≡ Some call → ask_in store work ≡ to_disk (disk_ask_of call)
+asks_as_write store work call is = (laws_at work).writes.asks store (at work).state call is
 
 -- it ends where its write ends
-pub ends_as_write : (store : Store) (work : Work) (folder : LooseCall) (answer : DiskAnswer) (reply : Reply) → write_in work ≡ Some folder
-    → result_of_write (loose_order.fed folder answer) ≡ Ok reply → fed_in store work (Some (FromDisk answer)) ≡ Ok reply
-ends_as_write store work folder answer reply is done = ap (placed (at work).machine) ((laws_at work).writes.ends store (at work).state folder answer reply is done)
+pub ends_as_write : (store : Store) (work : Work) (call : LooseCall) (answer : DiskAnswer) (reply : Reply) → write_in work ≡ Some call
+    → result_of_write (loose_order.fed call answer) ≡ Ok reply → fed_in store work (Some (FromDisk answer)) ≡ Ok reply
+ends_as_write store work call answer reply is done = ap (placed (at work).machine) ((laws_at work).writes.ends store (at work).state call answer reply is done)
 
 -- what is left of work is that of its machine at another state
 left_at : (m : Machine) (result : Result Reply m.State) (left : Work) → placed m result ≡ Err left
@@ -67,11 +67,11 @@ left_at m (Ok reply) left is = absurd (cc is)
 left_at m (Err next) left is = (next, refl, cc is)
 
 -- work that is left and writes is left of work that wrote, unless its write has made no file yet
-pub wrote_before : (store : Store) (work left : Work) (answer : Option Answer) (folder : LooseCall) → fed_in store work answer ≡ Err left
-    → write_in left ≡ Some folder
-    → ((own : LooseCall) × (write_in work ≡ Some own)) ⊎ HasNoFile folder
-wrote_before store work left answer folder is writes =
+pub wrote_before : (store : Store) (work left : Work) (answer : Option Answer) (call : LooseCall) → fed_in store work answer ≡ Err left
+    → write_in left ≡ Some call
+    → ((own : LooseCall) × (write_in work ≡ Some own)) ⊎ HasNoFile call
+wrote_before store work left answer call is writes =
     let next = left_at (at work).machine ((at work).machine.feed store (at work).state answer) left is in
     let home_is = (laws_at work).at_home next.0 in
-    (laws_at work).writes.before store (at work).state next.0 answer folder next.1
+    (laws_at work).writes.before store (at work).state next.0 answer call next.1
     (sym (ap (λ (a : At ((at work).machine.work next.0)). a.machine.writes a.state) home_is) ∙ (ap write_in next.2 ∙ writes))

@@ -116,7 +116,7 @@ module _ (first : Volume) (events : List Event) (handle begun turns : ℕ) (w : 
   is_own (stages.Moving number id) s = inr (made_before (stages.Moving number id) number refl s)
   is_own (stages.Removing number refusal) s = inr (made_before (stages.Removing number refusal) number refl s)
 
-module _ (first : Volume) (events : List Event) (handle : ℕ) (running : Running) (folder : LooseCall) (writes : IsWriting first events handle running folder) where
+module _ (first : Volume) (events : List Event) (handle : ℕ) (running : Running) (call : LooseCall) (writes : IsWriting first events handle running call) where
   abbrev w : ToWrite
   w = writes.write
 

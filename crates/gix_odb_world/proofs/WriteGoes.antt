@@ -43,7 +43,7 @@ module _ (first : Volume) (events : List Event) (e : Event) (handle : ℕ) (runn
   abbrev whole : List Event
   whole = events ++ e ∷ []
 
-  module _ (folder : LooseCall) (writes : IsWriting first events handle running folder) where
+  module _ (call : LooseCall) (writes : IsWriting first events handle running call) where
     abbrev w : ToWrite
     w = writes.write
 
@@ -78,15 +78,15 @@ module _ (first : Volume) (events : List Event) (e : Event) (handle : ℕ) (runn
       onward_comes (End (Ok id)) goes = goes
       onward_comes (End (Err refusal)) goes = goes
 
-      pub write_goes : WriteComes (result_of_write (loose_order.fed folder given))
+      pub write_goes : WriteComes (result_of_write (loose_order.fed call given))
       write_goes =
           subst (λ (f : LooseCall). WriteComes (result_of_write (loose_order.fed f given))) (sym writes.is)
           (onward_comes (next_in (job_at w writes.stage) given) (stage_goes first events e handle running.begun writes.own w since writes.stage writes.stands is given refl))
 
   -- ---- with nothing in front of it
 
-  module _ (folder : LooseCall) (at : IsAtOwnWrite first events handle running nothing_in_front folder) where
-    abbrev own : IsWriting first events handle running folder
+  module _ (call : LooseCall) (at : IsAtOwnWrite first events handle running nothing_in_front call) where
+    abbrev own : IsWriting first events handle running call
     own = at.writing
 
     in_time : own.own + 1 ≤ 22 + pieces_of (length own.write.bytes) → laws.InTime first events e handle running bound_of_task
@@ -101,7 +101,7 @@ module _ (first : Volume) (events : List Event) (e : Event) (handle : ℕ) (runn
         subst (λ task. Promise first whole handle running.store running.ignoring running.begun task reply) (sym at.task)
         (subst (λ objects. PromiseOfWrite first whole handle running.begun (to_write objects own.write.kind own.write.size own.write.bytes own.write.known) reply) own.into p)
 
-    comes_to : (result : Result Reply LooseCall) → WriteComes folder own result → laws.MachineComes first events e handle running writing result
+    comes_to : (result : Result Reply LooseCall) → WriteComes call own result → laws.MachineComes first events e handle running writing result
     comes_to (Ok reply) p = keeps reply p
     comes_to (Err next) on =
         let had = at.turns in
@@ -111,5 +111,5 @@ module _ (first : Volume) (events : List Event) (e : Event) (handle : ℕ) (runn
         )
 
     pub write_comes : IsTurnWith first events e handle (ask_at_stage own.write own.stage)
-        → laws.MachineComes first events e handle running writing (result_of_write (loose_order.fed folder (answer_now (disk_after first events) (ask_at_stage own.write own.stage))))
-    write_comes is = comes_to (result_of_write (loose_order.fed folder (answer_now (disk_after first events) (ask_at_stage own.write own.stage)))) (write_goes folder own is)
+        → laws.MachineComes first events e handle running writing (result_of_write (loose_order.fed call (answer_now (disk_after first events) (ask_at_stage own.write own.stage))))
+    write_comes is = comes_to (result_of_write (loose_order.fed call (answer_now (disk_after first events) (ask_at_stage own.write own.stage)))) (write_goes call own is)

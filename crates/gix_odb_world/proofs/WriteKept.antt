@@ -185,11 +185,11 @@ stands_push first events e handle begun own w stage other stands =
     }
 
 -- a running write goes on as it is, whatever comes in front of it
-pub writing_push : (first : Volume) (events : List Event) (e : Event) (handle : ℕ) (running : Running) (folder : LooseCall)
+pub writing_push : (first : Volume) (events : List Event) (e : Event) (handle : ℕ) (running : Running) (call : LooseCall)
     → ¬ (IsTurnOf handle e.step)
-    → (front : ℕ) → IsAtOwnWrite first events handle running front folder → IsAtOwnWrite first (events ++ e ∷ []) handle running front folder
-writing_push first events e handle running folder other front at =
-    let writes : IsWriting first events handle running folder = at.writing in
+    → (front : ℕ) → IsAtOwnWrite first events handle running front call → IsAtOwnWrite first (events ++ e ∷ []) handle running front call
+writing_push first events e handle running call other front at =
+    let writes : IsWriting first events handle running call = at.writing in
     record {
       writing = record {
         write = writes.write;

@@ -29,9 +29,9 @@ pub data Status : Type 0 where
   Working : (running : Running) → Status
 
 -- a handle that does this is at a write, of which this is the call of the objects directory
-pub record IsAtWrite (status : Status) (running : Running) (folder : LooseCall) : Type 0 where
+pub record IsAtWrite (status : Status) (running : Running) (call : LooseCall) : Type 0 where
   pub works : status ≡ Working running
-  pub writes : write_in running.work ≡ Some folder
+  pub writes : write_in running.work ≡ Some call
 
 -- ---- what a step makes of a handle
 

@@ -21,15 +21,15 @@ use Rattle.gix_odb_world.proofs.WorkLaws.{wrote_before}
 -- a handle is at a write in a store that it began at a step
 pub record AtWrite (store : Store) (begun : ℕ) (status : Status) : Type 0 where
   pub running : Running
-  pub folder : LooseCall
-  pub at : IsAtWrite status running folder
+  pub call : LooseCall
+  pub at : IsAtWrite status running call
   pub in_store : running.store ≡ store
   pub since : running.begun ≡ begun
 
 -- and the write has made its file
 pub record AtFile (store : Store) (begun : ℕ) (status : Status) : Type 0 where
   pub at : AtWrite store begun status
-  pub past : ¬ (HasNoFile at.folder)
+  pub past : ¬ (HasNoFile at.call)
 
 one_running : (running other : Running) → Working running ≡ Working other → running ≡ other
 one_running running other same = cc same
@@ -63,10 +63,10 @@ module _ (store : Store) (begun : ℕ) where
   come_before running answer (Err left) is f =
       let a : Before (Working (gone_on running left)) = f.at in
       let same : gone_on running left ≡ a.running = one_running (gone_on running left) a.running a.at.works in
-      elim (wrote_before running.store running.work left answer a.folder is (ap (λ (r : Running). write_in r.work) same ∙ a.at.writes)) [
+      elim (wrote_before running.store running.work left answer a.call is (ap (λ (r : Running). write_in r.work) same ∙ a.at.writes)) [
         | inl was ↦ record {
           running = running;
-          folder = was.0;
+          call = was.0;
           at = record { works = refl; writes = was.1 };
           in_store = ap (λ (r : Running). r.store) same ∙ a.in_store;
           since = ap (λ (r : Running). r.begun) same ∙ a.since;

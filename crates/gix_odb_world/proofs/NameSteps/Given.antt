@@ -78,7 +78,7 @@ module _ (first : Volume) (events : List Event) (start : IsTree (tree_of first.s
 
     ends : (id : ObjectId) × (gives.event.outcome ≡ outcomes.Reply (replies.Wrote id))
     ends =
-        writers.rename_ends first events start lawful throughout place gives.event gives.there gives.handle gives.running gives.folder gives.at gives.turn gives.from to gives.moves
+        writers.rename_ends first events start lawful throughout place gives.event gives.there gives.handle gives.running gives.call gives.at gives.turn gives.from to gives.moves
 
     keeps : HasWritten first upto gives.handle gives.running.begun (to_write gives.running.store.parts.objects w.kind w.size w.bytes w.known) ends.0
     keeps =
@@ -140,7 +140,7 @@ module _ (first : Volume) (events : List Event) (start : IsTree (tree_of first.s
       made = written.made;
       has = record {
         running = gives.running;
-        folder = gives.folder;
+        call = gives.call;
         at = gives.at;
         later = written.later;
         before = made_before;

@@ -39,11 +39,11 @@ abbrev job_at : ToWrite → WriteStage → WriteJob
 job_at w stage = record { head = head_to_write w; stage = stage; bytes = w.bytes; hash = hash_to_write w.known; known = w.known }
 
 -- a write at a stage that has a file has made it
-makes_no_more : (w : ToWrite) (stage : WriteStage) (number : ℕ) (folder : LooseCall) → folder ≡ write_at w stage → number_made stage ≡ Some number
-    → ¬ (HasNoFile folder)
-makes_no_more w stage number folder is made none =
+makes_no_more : (w : ToWrite) (stage : WriteStage) (number : ℕ) (call : LooseCall) → call ≡ write_at w stage → number_made stage ≡ Some number
+    → ¬ (HasNoFile call)
+makes_no_more w stage number call is made none =
     let same : write_at w stage ≡ write_at none.write (Making none.number) = sym is ∙ none.is in
-    let staged : Writing (job_at w stage) ≡ Writing (job_at none.write (Making none.number)) = ap (λ (call : LooseCall). call.stage) same in
+    let staged : Writing (job_at w stage) ≡ Writing (job_at none.write (Making none.number)) = ap (λ (loose : LooseCall). loose.stage) same in
     let jobs : job_at w stage ≡ job_at none.write (Making none.number) = cc staged in
     let at : stage ≡ Making none.number = ap (λ (job : WriteJob). job.stage) jobs in
     let both : None ≡ Some number = ap number_made (sym at) ∙ made in
@@ -91,13 +91,13 @@ module _ (first : Volume) (events : List Event) (start : IsTree (tree_of first.s
   -- ---- one event more
 
   -- a handle that is at a write after an event, by the status that the event left
-  pub at_write_next : (now : ℕ) (e : Event) → slice_get events now ≡ Some e → (handle : ℕ) (running : Running) (folder : LooseCall)
-      → IsAtWrite (status_of (take (now + 1) events) handle) running folder
+  pub at_write_next : (now : ℕ) (e : Event) → slice_get events now ≡ Some e → (handle : ℕ) (running : Running) (call : LooseCall)
+      → IsAtWrite (status_of (take (now + 1) events) handle) running call
       → AtWrite running.store running.begun (status_after (now + 1) e.step e.outcome e.asked (status_of (take now events)) handle)
-  at_write_next now e there handle running folder at =
+  at_write_next now e there handle running call at =
       record {
         running = running;
-        folder = folder;
+        call = call;
         at = record { works = ap (λ (table : ℕ → Status). table handle) (sym (status_next first events start lawful now e there)) ∙ at.works; writes = at.writes };
         in_store = refl;
         since = refl;
@@ -127,18 +127,18 @@ module _ (first : Volume) (events : List Event) (start : IsTree (tree_of first.s
     unfolding at_write_next
     made_before handle made path hm soon =
         let later = hm.later in
-        let at = at_write_next now e there handle hm.running hm.folder hm.at in
+        let at = at_write_next now e there handle hm.running hm.call hm.at in
         let within = slice_get_within events now e there in
-        let writes : IsWriting first (take (now + 1) events) handle hm.running hm.folder =
-        writing_at first events start lawful throughout (now + 1) handle hm.running hm.folder (omega (arith, within)) hm.at in
+        let writes : IsWriting first (take (now + 1) events) handle hm.running hm.call =
+        writing_at first events start lawful throughout (now + 1) handle hm.running hm.call (omega (arith, within)) hm.at in
         let stage = stage_of_made first events start lawful throughout handle made (now + 1) path hm writes in
-        let past = makes_no_more writes.write writes.stage stage.0 hm.folder writes.is stage.1 in
+        let past = makes_no_more writes.write writes.stage stage.0 hm.call writes.is stage.1 in
         let was =
         write_before hm.running.store hm.running.begun (status_of (take now events)) handle (now + 1) e.step e.outcome e.asked (omega (arith, later, soon)) (record { at = at; past = past }) in
         let since = was.since in
         record {
           running = was.running;
-          folder = was.folder;
+          call = was.call;
           at = was.at;
           later = omega (arith, later, since);
           before = soon;
@@ -176,7 +176,7 @@ module _ (first : Volume) (events : List Event) (start : IsTree (tree_of first.s
         by_number : (number : Option ℕ) → number_made b.writes.stage ≡ number → Wrote b
         by_number None none = record { from = []; does_it = does_first (tree now) (is_tree first events start lawful throughout now) b.running.store.parts.objects b.change b.writes.stage [] none b.moves; whose = inl refl }
         by_number (Some number) stage =
-            let hm = made_at_stage first events start lawful throughout now b.handle b.running b.folder b.at b.writes number stage in
+            let hm = made_at_stage first events start lawful throughout now b.handle b.running b.call b.at b.writes number stage in
             elim (files.each b.handle hm.0 (temp_path b.running.store.parts.objects number) hm.1) [
               | inl o ↦ record {
                 from = o.spot;

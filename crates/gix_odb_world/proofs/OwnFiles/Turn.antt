@@ -42,11 +42,11 @@ module _ (first : Volume) (events : List Event) (start : IsTree (tree_of first.s
       works : CallsDisk first (take now events) handle hm.running e
       works = calls_disk first (take now events) handle hm.running e ((lawful now e there).worked handle hm.running (record { step = turn; status = hm.at.works }))
 
-      writes : IsWriting first (take now events) handle hm.running hm.folder
-      writes = writing_at first events start lawful throughout now handle hm.running hm.folder (within_events first events start lawful throughout now e there) hm.at
+      writes : IsWriting first (take now events) handle hm.running hm.call
+      writes = writing_at first events start lawful throughout now handle hm.running hm.call (within_events first events start lawful throughout now e there) hm.at
 
       own_moves : (c : Change) → e.entry.change ≡ Some c → WriterMoves (tree now) hm.running.store.parts.objects writes.stage c
-      own_moves c is = moves_of first events start lawful throughout now e handle hm.running hm.folder hm.at.writes writes works c is
+      own_moves c is = moves_of first events start lawful throughout now e handle hm.running hm.call hm.at.writes writes works c is
 
       -- one that was cut off changes nothing
       pub lost_turn : Lost first events start lawful throughout path now → e.entry.change ≡ None
@@ -71,18 +71,18 @@ module _ (first : Volume) (events : List Event) (start : IsTree (tree_of first.s
               let later = after.later in
               let before = hm.before in
               let within = slice_get_within events now e there in
-              let writes_on = writing_at first events start lawful throughout (now + 1) handle after.running after.folder (omega (arith, within)) after.at in
+              let writes_on = writing_at first events start lawful throughout (now + 1) handle after.running after.call (omega (arith, within)) after.at in
               writes_on.stands.unnamed now e (omega (arith, later, before)) (there_in_front events now (now + 1) e (omega arith) there) turn
 
           goes_on : (number : ℕ) (refusal : Refusal) → writes.stage ≡ stages.Removing number refusal → ⊥
           goes_on number refusal stage =
-              let same : hm.folder ≡ write_at writes.write (stages.Removing number refusal) = writes.is ∙ ap (write_at writes.write) stage in
+              let same : hm.call ≡ write_at writes.write (stages.Removing number refusal) = writes.is ∙ ap (write_at writes.write) stage in
               let answer = answer_now (disk_after first (take now events)) works.ask in
               let ends = removing_ends writes.write number refusal answer in
-              let done : result_of_write (loose_order.fed hm.folder answer) ≡ Ok ends.0 = ap (λ f. result_of_write (loose_order.fed f answer)) same ∙ ends.1 in
-              let outcome : e.outcome ≡ outcomes.Reply ends.0 = works.goes ∙ ap outcome_of (ends_as_write hm.running.store hm.running.work hm.folder answer ends.0 hm.at.writes done) in
+              let done : result_of_write (loose_order.fed hm.call answer) ≡ Ok ends.0 = ap (λ f. result_of_write (loose_order.fed f answer)) same ∙ ends.1 in
+              let outcome : e.outcome ≡ outcomes.Reply ends.0 = works.goes ∙ ap outcome_of (ends_as_write hm.running.store hm.running.work hm.call answer ends.0 hm.at.writes done) in
               no_write_after after.running.store after.running.begun (now + 1) e.step e.outcome e.asked (status_of (take now events)) handle ends.0 turn outcome
-              (at_write_next first events start lawful throughout now e there handle after.running after.folder after.at)
+              (at_write_next first events start lawful throughout now e there handle after.running after.call after.at)
 
           own_by : (c : Change) → e.entry.change ≡ Some c → OwnSpot (changed (tree now) c) path o.spot
               → Own first events start lawful throughout handle made path (now + 1)

@@ -86,9 +86,9 @@ module _ (first : Volume) (events : List Event) (start : IsTree (tree_of first.s
       → Knows first (take now events) handle running running.work
   knows_at now handle running within status = (subst (Runs first (take now events) handle) status (throughout now handle within)).1
 
-  pub writing_at : (now handle : ℕ) (running : Running) (folder : LooseCall) → now ≤ length events
-      → IsAtWrite (status_of (take now events) handle) running folder → IsWriting first (take now events) handle running folder
-  writing_at now handle running folder within at = knows_write first (take now events) handle running running.work (knows_at now handle running within at.works) folder at.writes
+  pub writing_at : (now handle : ℕ) (running : Running) (call : LooseCall) → now ≤ length events
+      → IsAtWrite (status_of (take now events) handle) running call → IsWriting first (take now events) handle running call
+  writing_at now handle running call within at = knows_write first (take now events) handle running running.work (knows_at now handle running within at.works) call at.writes
 
   pub asked_whole : (handle now place : ℕ) (path : Path) → AskedAt first (take now events) handle place (asks.NewFile path) answers.Done
       → (place < now) × AskedAt first events handle place (asks.NewFile path) answers.Done
@@ -107,10 +107,10 @@ module _ (first : Volume) (events : List Event) (start : IsTree (tree_of first.s
       )
 
   -- the file of a write past its making
-  unfoldable pub made_at_stage : (now handle : ℕ) (running : Running) (folder : LooseCall) (at : IsAtWrite (status_of (take now events) handle) running folder)
-      (writes : IsWriting first (take now events) handle running folder) (number : ℕ) → number_made writes.stage ≡ Some number
+  unfoldable pub made_at_stage : (now handle : ℕ) (running : Running) (call : LooseCall) (at : IsAtWrite (status_of (take now events) handle) running call)
+      (writes : IsWriting first (take now events) handle running call) (number : ℕ) → number_made writes.stage ≡ Some number
       → (made : ℕ) × HasMade first events handle made (temp_path running.store.parts.objects number) now
-  made_at_stage now handle running folder at writes number stage =
+  made_at_stage now handle running call at writes number stage =
       let w = writes.write in
       let among = history_makes (head_to_write w) (λ id. id ≡ name_to_write w) number ⊥ (OtherLength (Some w.bytes) w.size) writes.stage (data_at w.bytes writes.stage) writes.stands.past stage (done_at first (take now events) handle running.begun writes.own w writes.stage writes.stands).history in
       let asked = writes.stands.asked (exchanged (asks.NewFile (temp_path w.objects number)) answers.Done) among in
@@ -118,7 +118,7 @@ module _ (first : Volume) (events : List Event) (start : IsTree (tree_of first.s
         asked.place,
         record {
           running = running;
-          folder = folder;
+          call = call;
           at = at;
           later = asked.later;
           before = whole.0;
@@ -129,7 +129,7 @@ module _ (first : Volume) (events : List Event) (start : IsTree (tree_of first.s
       )
 
   -- a write that has made a file stands past its making, and the file is that of its stage
-  pub stage_of_made : (handle made now : ℕ) (path : Path) (hm : HasMade first events handle made path now) (writes : IsWriting first (take now events) handle hm.running hm.folder)
+  pub stage_of_made : (handle made now : ℕ) (path : Path) (hm : HasMade first events handle made path now) (writes : IsWriting first (take now events) handle hm.running hm.call)
       → (number : ℕ) × (number_made writes.stage ≡ Some number) × (path ≡ temp_path hm.running.store.parts.objects number)
   stage_of_made handle made now path hm writes = by_number (number_made writes.stage) refl making
     where
@@ -153,9 +153,9 @@ module _ (first : Volume) (events : List Event) (start : IsTree (tree_of first.s
     pub handle : ℕ
     pub turn : IsTurnOf handle e.step
     pub running : Running
-    pub folder : LooseCall
-    pub at : IsAtWrite (status_of (take place events) handle) running folder
-    pub writes : IsWriting first (take place events) handle running folder
+    pub call : LooseCall
+    pub at : IsAtWrite (status_of (take place events) handle) running call
+    pub writes : IsWriting first (take place events) handle running call
     pub change : Change
     pub is : e.entry.change ≡ Some change
     pub moves : WriterMoves (tree place) running.store.parts.objects writes.stage change
@@ -164,20 +164,20 @@ module _ (first : Volume) (events : List Event) (start : IsTree (tree_of first.s
   within_events place e there = let inside = slice_get_within events place e there in omega (arith, inside)
 
   -- what a turn of a write asks, by its stage
-  pub ask_of_write : (place : ℕ) (e : Event) (handle : ℕ) (running : Running) (folder : LooseCall) → write_in running.work ≡ Some folder
-      → (writes : IsWriting first (take place events) handle running folder)
+  pub ask_of_write : (place : ℕ) (e : Event) (handle : ℕ) (running : Running) (call : LooseCall) → write_in running.work ≡ Some call
+      → (writes : IsWriting first (take place events) handle running call)
       (works : CallsDisk first (take place events) handle running e) → works.ask ≡ ask_at_stage writes.write writes.stage
-  ask_of_write place e handle running folder write writes works =
+  ask_of_write place e handle running call write writes works =
       let asks_it : Some (ToDisk works.ask) ≡ Some (ToDisk (ask_at_stage writes.write writes.stage)) =
-      sym works.asks ∙ (asks_as_write running.store running.work folder write ∙ ap (λ f. to_disk (disk_ask_of f)) writes.is) in
+      sym works.asks ∙ (asks_as_write running.store running.work call write ∙ ap (λ f. to_disk (disk_ask_of f)) writes.is) in
       cc asks_it
 
-  pub moves_of : (place : ℕ) (e : Event) (handle : ℕ) (running : Running) (folder : LooseCall) → write_in running.work ≡ Some folder
-      → (writes : IsWriting first (take place events) handle running folder)
+  pub moves_of : (place : ℕ) (e : Event) (handle : ℕ) (running : Running) (call : LooseCall) → write_in running.work ≡ Some call
+      → (writes : IsWriting first (take place events) handle running call)
       (works : CallsDisk first (take place events) handle running e) (c : Change) → e.entry.change ≡ Some c
       → WriterMoves (tree place) running.store.parts.objects writes.stage c
-  moves_of place e handle running folder write writes works c is =
-      let ask = ask_of_write place e handle running folder write writes works in
+  moves_of place e handle running call write writes works c is =
+      let ask = ask_of_write place e handle running call write writes works in
       subst (λ o. WriterMoves (tree place) o writes.stage c) writes.into
       (writer_moves (disk_after first (take place events)) writes.write writes.stage c (ap (change_by (disk_after first (take place events))) (sym ask) ∙ (sym works.changed ∙ is)))
 
@@ -194,18 +194,18 @@ module _ (first : Volume) (events : List Event) (start : IsTree (tree_of first.s
       by_write : (c : Change) → e.entry.change ≡ Some c → (write : Option LooseCall) → write_in t.running.work ≡ write
           → (e.entry.change ≡ None) ⊎ ByWriter place e
       by_write c is None none = inl (t.works.changed ∙ quiet_unless_writing first past t.handle t.running t.running.work knows t.works.ask none t.works.asks)
-      by_write c is (Some folder) write =
-          let writes : IsWriting first past t.handle t.running folder = knows_write first past t.handle t.running t.running.work knows folder write in
+      by_write c is (Some call) write =
+          let writes : IsWriting first past t.handle t.running call = knows_write first past t.handle t.running t.running.work knows call write in
           inr (record {
             handle = t.handle;
             turn = t.turn.step;
             running = t.running;
-            folder = folder;
+            call = call;
             at = record { works = t.turn.status; writes = write };
             writes = writes;
             change = c;
             is = is;
-            moves = moves_of place e t.handle t.running folder write writes t.works c is;
+            moves = moves_of place e t.handle t.running call write writes t.works c is;
           })
 
       by_change : (change : Option Change) → e.entry.change ≡ change → (e.entry.change ≡ None) ⊎ ByWriter place e
@@ -213,16 +213,16 @@ module _ (first : Volume) (events : List Event) (start : IsTree (tree_of first.s
       by_change (Some c) is = by_write c is (write_in t.running.work) refl
 
   -- a turn of a write that renames is its last, and says that the object is written
-  pub rename_ends : (place : ℕ) (e : Event) → slice_get events place ≡ Some e → (handle : ℕ) (running : Running) (folder : LooseCall)
-      → IsAtWrite (status_of (take place events) handle) running folder → IsTurnOf handle e.step → (from to : Path)
+  pub rename_ends : (place : ℕ) (e : Event) → slice_get events place ≡ Some e → (handle : ℕ) (running : Running) (call : LooseCall)
+      → IsAtWrite (status_of (take place events) handle) running call → IsTurnOf handle e.step → (from to : Path)
       → e.entry.change ≡ Some (Rename from to) → (id : ObjectId) × (e.outcome ≡ outcomes.Reply (replies.Wrote id))
-  rename_ends place e there handle running folder at turn from to moves = by_stage writes.stage refl (moves_of place e handle running folder at.writes writes works (Rename from to) moves)
+  rename_ends place e there handle running call at turn from to moves = by_stage writes.stage refl (moves_of place e handle running call at.writes writes works (Rename from to) moves)
     where
       objects : Path
       objects = running.store.parts.objects
 
-      writes : IsWriting first (take place events) handle running folder
-      writes = writing_at place handle running folder (within_events place e there) at
+      writes : IsWriting first (take place events) handle running call
+      writes = writing_at place handle running call (within_events place e there) at
 
       works : CallsDisk first (take place events) handle running e
       works = calls_disk first (take place events) handle running e ((lawful place e there).worked handle running (record { step = turn; status = at.works }))
@@ -235,10 +235,10 @@ module _ (first : Volume) (events : List Event) (start : IsTree (tree_of first.s
       by_stage (stages.Foldering n id) stage made = let c = make_dir_change (tree place) (prefix_path objects id) (Rename from to) made in absurd (let both : Rename from to ≡ MakeDir c.0 _ = c.2 in cc both)
       by_stage (stages.Removing n refusal) stage made = let c = remove_change (tree place) (temp_path objects n) (Rename from to) made in absurd (let both : Rename from to ≡ Remove c.0 = c.2 in cc both)
       by_stage (stages.Moving n id) stage made =
-          let now : folder ≡ write_at writes.write (stages.Moving n id) = writes.is ∙ ap (write_at writes.write) stage in
+          let now : call ≡ write_at writes.write (stages.Moving n id) = writes.is ∙ ap (write_at writes.write) stage in
           let disk = disk_after first (take place events) in
           let done : answer_now disk works.ask ≡ answers.Done = made_done disk works.ask (Rename from to) (sym works.changed ∙ moves) in
-          let ends : result_of_write (loose_order.fed folder (answer_now disk works.ask)) ≡ Ok (replies.Wrote id) =
+          let ends : result_of_write (loose_order.fed call (answer_now disk works.ask)) ≡ Ok (replies.Wrote id) =
           ap (λ f. result_of_write (loose_order.fed f (answer_now disk works.ask))) now
           ∙ (ap (λ a. result_of_write (loose_order.fed (write_at writes.write (stages.Moving n id)) a)) done ∙ moving_ends writes.write n id) in
-          (id, works.goes ∙ ap outcome_of (ends_as_write running.store running.work folder (answer_now disk works.ask) (replies.Wrote id) at.writes ends))
+          (id, works.goes ∙ ap outcome_of (ends_as_write running.store running.work call (answer_now disk works.ask) (replies.Wrote id) at.writes ends))
