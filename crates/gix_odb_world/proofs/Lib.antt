@@ -1,3 +1,4 @@
+mod AlongRun
 mod BegunLemmas
 mod BoundLemmas
 mod CallLemmas
@@ -34,5 +35,4 @@ mod WriteTurn
 mod WriteGoes
 mod WriteFive
 mod WriteAsk
-mod AskLemmas
 mod RefusedLemmas

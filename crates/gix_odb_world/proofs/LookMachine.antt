@@ -1,7 +1,9 @@
 -- A query keeps the laws of a machine.
+pub mod Asks
 pub mod Begun
 pub mod Comes
 use Rattle.std.proofs.Common.{◌≡◌, ℕ, ◌+◌, ◌*◌, ◌<◌, ◌≤◌, Bool, false, List, [], ◌∷◌, ◌++◌, length, Option, None, Some, Ok, Err, Result, refl, sym, ◌∙◌, ap, subst, arith}
+use Rattle.std.proofs.lemmas.List.{length_push}
 use Rattle.std.proofs.Math.Nat.{mul-le-mul}
 use Rattle.odb_tree.specs.Tree.{tree_of}
 use Rattle.odb_disk.specs.MemDisk.{Volume}
@@ -34,12 +36,12 @@ use Rattle.gix_odb_world.specs.Run.{FailedSince, change_by, disk_after, tree_at}
 use Rattle.gix_odb_world.specs.Running.Query.{IsLooking, Seeks, call_of, looking}
 use Rattle.gix_odb_world.specs.Status.{MakeCall, Running, Store, Task}
 use Rattle.gix_odb_world.specs.WorkOrder.{calling_result, fed_after, result_in}
-use Rattle.gix_odb_world.proofs.AskLemmas.{in_order_query}
+use Rattle.gix_odb_world.proofs.LookMachine.Asks.{in_order_query}
 use Rattle.gix_odb_world.proofs.FolderLemmas.{ask_found}
 use Rattle.gix_odb_world.proofs.LookMachine.Begun.{looking_starts}
 use Rattle.gix_odb_world.proofs.LookMachine.Comes.{LookComes, look_comes}
-use Rattle.gix_odb_world.proofs.MachineLaws.{HasTurn, KeepsLaws, MachineComes, comes_disk, never_ends, quiet_turn, same_ask, takes_disk, writes_nothing}
-use Rattle.gix_odb_world.proofs.QuietTurn.{failed_earlier, fails_now, shown_now, whole_length}
+use Rattle.gix_odb_world.proofs.MachineLaws.{AsksDisk, HasTurn, KeepsLaws, MachineComes, quiet_turn, same_ask, turns_by_disk, writes_nothing}
+use Rattle.gix_odb_world.proofs.QuietTurn.{failed_earlier, fails_now, shown_now}
 use Rattle.gix_odb_world.proofs.RunLemmas.{failed-kept, tree_at-before}
 use Rattle.gix_odb_world.proofs.RunningLemmas.{looking_push}
 use Rattle.gix_odb_world.proofs.WriteAsk.Quiet.{change_by-quiet}
@@ -120,7 +122,7 @@ module _ (first : Volume) (events : List Event) (handle : ℕ) (running : Runnin
       whole = events ++ e ∷ []
 
       count : length events + 1 ≡ length whole
-      count = whole_length first events e handle running since ask turn
+      count = sym (length_push events e)
 
       abbrev Comes : Result Reply LookState → Type 0
       Comes result =
@@ -160,6 +162,15 @@ module _ (first : Volume) (events : List Event) (handle : ℕ) (running : Runnin
 
 -- ---- its laws
 
+looking_turns : AsksDisk looking (λ store state. looks.ask_of state)
+looking_turns = record {
+  is = λ store state. refl;
+  still = λ store state. looking_still store state.stage;
+  some = looking_names;
+  takes = looking_takes;
+  comes = looking_comes;
+}
+
 pub looking_laws : KeepsLaws looking
 looking_laws = record {
   at_home = λ state. refl;
@@ -168,18 +179,8 @@ looking_laws = record {
   starts = looking_starts;
   tasked = λ first events handle running state knows. knows.task;
   bounded = λ store task state is entries. looking_bounded store task state.head.query is entries;
-  still = λ store state ask is. looking_still store state.stage ask (same_ask (looks.ask_of state) ask is);
   kept = λ first events e handle running state other knows. looking_push first events e handle running state other nothing_in_front knows;
-  takes = λ first events handle running state knows.
-      let ask = looking_names first events handle running state knows in
-      takes_disk first events handle running running.task (looking.ask running.store state) ask.0 (ap to_disk ask.1)
-      (looking_takes first events handle running state knows ask.0 ask.1);
-  ends = λ first events handle running state knows none.
-      let ask = looking_names first events handle running state knows in absurd (never_ends (looking.ask running.store state) ask.0 (ap to_disk ask.1) none);
-  comes = λ first events e handle running since state knows.
-      let ask = looking_names first events handle running state knows in
-      comes_disk first events e handle (λ answer. MachineComes first events e handle running looking (looking.feed running.store state answer))
-      (looking.ask running.store state) ask.0 (ap to_disk ask.1) (looking_comes first events handle running state knows ask.0 ask.1 e since);
+  turns = turns_by_disk looking (λ store state. looks.ask_of state) looking_turns;
   writes = writes_nothing looking (λ state. refl)
       (λ first events handle running state ask knows is. looking_quiet first events handle running state knows ask (same_ask (looks.ask_of state) ask is));
 }

@@ -120,6 +120,21 @@ pub record KeepsWriteLaws (m : Machine) : Type 1 where
       → m.writes next ≡ Some call
       → ((own : LooseCall) × (m.writes state ≡ Some own)) ⊎ HasNoFile call
 
+-- What a machine has to show of its turns.
+pub record KeepsTurnLaws (m : Machine) : Type 1 where
+  -- it names no call of streams
+  pub still : (store : Store) (state : m.State) (ask : DiskAsk) → m.ask store state ≡ Some (ToDisk ask) → is_of_streams ask ≡ false
+  -- what it asks for comes in the order of its task, and makes a change that the task may make
+  pub takes : (first : Volume) (events : List Event) (handle : ℕ) (running : Running) (state : m.State) → m.Knows first events handle running state
+      → TakesTurn first events handle running running.task (m.ask running.store state)
+  -- where it asks for nothing, it has its reply
+  pub ends : (first : Volume) (events : List Event) (handle : ℕ) (running : Running) (state : m.State) → m.Knows first events handle running state
+      → m.ask running.store state ≡ None → (reply : Reply) × (m.feed running.store state None ≡ Ok reply)
+  -- the turn leads to a reply that keeps the promise of the task, or on
+  pub comes : (first : Volume) (events : List Event) (e : Event) (handle : ℕ) (running : Running) → running.begun ≤ length events
+      → (state : m.State) → m.Knows first events handle running state → IsTurnAsking first events e handle (m.ask running.store state)
+      → MachineComes first events e handle running m (m.feed running.store state (answer_after first events (m.ask running.store state)))
+
 pub record KeepsLaws (m : Machine) : Type 1 where
   -- the work of a state is of this machine, at this state
   pub at_home : (state : m.State) → at (m.work state) ≡ home m state
@@ -138,21 +153,10 @@ pub record KeepsLaws (m : Machine) : Type 1 where
       → m.IsFor running.task state
   pub bounded : (store : Store) (task : Task) (state : m.State) → m.IsFor task state → (entries : ℕ)
       → m.bound store task entries ≡ bound_of_task store task entries
-  -- it names no call of streams
-  pub still : (store : Store) (state : m.State) (ask : DiskAsk) → m.ask store state ≡ Some (ToDisk ask) → is_of_streams ask ≡ false
   -- an event that isn't its turn leaves what it knows
   pub kept : (first : Volume) (events : List Event) (e : Event) (handle : ℕ) (running : Running) (state : m.State) → ¬ (IsTurnOf handle e.step)
       → m.Knows first events handle running state → m.Knows first (events ++ e ∷ []) handle running state
-  -- what it asks for comes in the order of its task, and makes a change that the task may make
-  pub takes : (first : Volume) (events : List Event) (handle : ℕ) (running : Running) (state : m.State) → m.Knows first events handle running state
-      → TakesTurn first events handle running running.task (m.ask running.store state)
-  -- where it asks for nothing, it has its reply
-  pub ends : (first : Volume) (events : List Event) (handle : ℕ) (running : Running) (state : m.State) → m.Knows first events handle running state
-      → m.ask running.store state ≡ None → (reply : Reply) × (m.feed running.store state None ≡ Ok reply)
-  -- the turn leads to a reply that keeps the promise of the task, or on
-  pub comes : (first : Volume) (events : List Event) (e : Event) (handle : ℕ) (running : Running) → running.begun ≤ length events
-      → (state : m.State) → m.Knows first events handle running state → IsTurnAsking first events e handle (m.ask running.store state)
-      → MachineComes first events e handle running m (m.feed running.store state (answer_after first events (m.ask running.store state)))
+  pub turns : KeepsTurnLaws m
   pub writes : KeepsWriteLaws m
 
 -- ---- machines that ask the disk in each turn
@@ -162,19 +166,49 @@ pub same_ask : (asked : Option DiskAsk) (ask : DiskAsk) → to_disk asked ≡ So
 same_ask None ask is = absurd (cc is)
 same_ask (Some own) ask is = let both : own ≡ ask = cc is in ap Some both
 
-pub takes_disk : (first : Volume) (events : List Event) (handle : ℕ) (running : Running) (task : Task) (asked : Option Ask) (ask : DiskAsk)
-    → asked ≡ Some (ToDisk ask) → HasTurn first events handle running task ask → TakesTurn first events handle running task asked
-takes_disk first events handle running task asked ask is turn = subst (TakesTurn first events handle running task) (sym is) turn
+-- What a machine has to show whose one call of the disk in a turn is this.
+pub record AsksDisk (m : Machine) (call : Store → m.State → Option DiskAsk) : Type 1 where
+  pub is : (store : Store) (state : m.State) → m.ask store state ≡ to_disk (call store state)
+  pub still : (store : Store) (state : m.State) (ask : DiskAsk) → call store state ≡ Some ask → is_of_streams ask ≡ false
+  -- it asks for one at each state at which a handle may be
+  pub some : (first : Volume) (events : List Event) (handle : ℕ) (running : Running) (state : m.State) → m.Knows first events handle running state
+      → (ask : DiskAsk) × (call running.store state ≡ Some ask)
+  pub takes : (first : Volume) (events : List Event) (handle : ℕ) (running : Running) (state : m.State) → m.Knows first events handle running state
+      → (ask : DiskAsk) → call running.store state ≡ Some ask → HasTurn first events handle running running.task ask
+  pub comes : (first : Volume) (events : List Event) (handle : ℕ) (running : Running) (state : m.State) → m.Knows first events handle running state
+      → (ask : DiskAsk) → call running.store state ≡ Some ask → (e : Event) → running.begun ≤ length events → IsTurnWith first events e handle ask
+      → MachineComes first events e handle running m (m.feed running.store state (Some (FromDisk (answer_now (disk_after first events) ask))))
 
-pub never_ends : (asked : Option Ask) (ask : DiskAsk) → asked ≡ Some (ToDisk ask) → asked ≡ None → ⊥
-never_ends asked ask is none = let both : None ≡ Some (ToDisk ask) = sym none ∙ is in cc both
+module _ (m : Machine) (call : Store → m.State → Option DiskAsk) (disk : AsksDisk m call) where
+  named : (store : Store) (state : m.State) (ask : DiskAsk) → call store state ≡ Some ask → m.ask store state ≡ Some (ToDisk ask)
+  named store state ask is = disk.is store state ∙ ap to_disk is
 
-pub comes_disk : (first : Volume) (events : List Event) (e : Event) (handle : ℕ) (Comes : Option Answer → Type 0) (asked : Option Ask) (ask : DiskAsk)
-    → asked ≡ Some (ToDisk ask)
-    → (IsTurnWith first events e handle ask → Comes (Some (FromDisk (answer_now (disk_after first events) ask))))
-    → IsTurnAsking first events e handle asked → Comes (answer_after first events asked)
-comes_disk first events e handle Comes asked ask is comes turn =
-    subst (λ a. IsTurnAsking first events e handle a → Comes (answer_after first events a)) (sym is) comes turn
+  module _ (first : Volume) (events : List Event) (handle : ℕ) (running : Running) (state : m.State) (knows : m.Knows first events handle running state) where
+    abbrev some : (ask : DiskAsk) × (call running.store state ≡ Some ask)
+    some = disk.some first events handle running state knows
+
+    asked : m.ask running.store state ≡ Some (ToDisk some.0)
+    asked = named running.store state some.0 some.1
+
+    takes : TakesTurn first events handle running running.task (m.ask running.store state)
+    takes = subst (TakesTurn first events handle running running.task) (sym asked) (disk.takes first events handle running state knows some.0 some.1)
+
+    never_ends : m.ask running.store state ≡ None → ⊥
+    never_ends none = let both : None ≡ Some (ToDisk some.0) = sym none ∙ asked in cc both
+
+    comes : (e : Event) → running.begun ≤ length events → IsTurnAsking first events e handle (m.ask running.store state)
+        → MachineComes first events e handle running m (m.feed running.store state (answer_after first events (m.ask running.store state)))
+    comes e since =
+        subst (λ a. IsTurnAsking first events e handle a → MachineComes first events e handle running m (m.feed running.store state (answer_after first events a))) (sym asked)
+        (disk.comes first events handle running state knows some.0 some.1 e since)
+
+  pub turns_by_disk : KeepsTurnLaws m
+  turns_by_disk = record {
+    still = λ store state ask is. disk.still store state ask (same_ask (call store state) ask (sym (disk.is store state) ∙ is));
+    takes = takes;
+    ends = λ first events handle running state knows none. absurd (never_ends first events handle running state knows none);
+    comes = λ first events e handle running since state knows. comes first events handle running state knows e since;
+  }
 
 -- ---- machines that make no change
 

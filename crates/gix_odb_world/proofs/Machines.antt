@@ -40,11 +40,13 @@ ended_laws = record {
   starts = λ first events e handle store ignoring task reply sized is. absurd (never_starts store ignoring task reply is);
   tasked = λ first events handle running reply knows. knows;
   bounded = λ store task reply is entries. absurd is;
-  still = λ store reply ask is. nothing_asked ask is;
   kept = λ first events e handle running reply other knows. knows;
-  takes = λ first events handle running reply knows. absurd knows;
-  ends = λ first events handle running reply knows none. absurd knows;
-  comes = λ first events e handle running since reply knows turn. absurd knows;
+  turns = record {
+    still = λ store reply ask is. nothing_asked ask is;
+    takes = λ first events handle running reply knows. absurd knows;
+    ends = λ first events handle running reply knows none. absurd knows;
+    comes = λ first events e handle running since reply knows turn. absurd knows;
+  };
   writes = writes_nothing ended (λ reply. refl) (λ first events handle running reply ask knows is. absurd knows);
 }
 

@@ -3,7 +3,7 @@ use Rattle.std.proofs.Common.{◌≡◌, ℕ, ◌+◌, Bool, true, false, List, 
 use Rattle.std.specs.Map.{keys_of}
 use Rattle.std.specs.Ordering.{eq_by_cmp}
 use Rattle.std.proofs.lemmas.Bool.{and_parts}
-use Rattle.std.proofs.lemmas.List.{length-append}
+use Rattle.std.proofs.lemmas.List.{length_push}
 use Rattle.std.proofs.lemmas.Map.Made.{update_all_none}
 use Rattle.odb_base.specs.Path.{Path}
 use Rattle.odb_disk.specs.MemDisk.{Volume}
@@ -36,7 +36,7 @@ use Rattle.gix_odb_world.proofs.RunsLemmas.{begins, runs-push}
 runs_opening : (first : Volume) (events : List Event) (e : Event) (handle : ℕ) (store : Store)
     → Runs first (events ++ e ∷ []) handle (opening_at (length events + 1) store)
 runs_opening first events e handle store =
-    let whole : length (events ++ e ∷ []) ≡ length events + 1 = length-append events (e ∷ []) in (omega (arith, whole), begins first events e handle store false OpenStore tt)
+    let whole : length (events ++ e ∷ []) ≡ length events + 1 = length_push events e in (omega (arith, whole), begins first events e handle store false OpenStore tt)
 
 -- each pair's first id is replaced by its second, where no id is replaced twice
 replacements_same : (path : Path) (folders : List Path) (replacements : List (ObjectId × ObjectId)) (options : Options) (n : ℕ) (state : HandleState)

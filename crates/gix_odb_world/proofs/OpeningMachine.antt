@@ -1,7 +1,7 @@
 -- An opening keeps the laws of a machine.
 pub mod Look
 use Rattle.std.proofs.Common.{◌≡◌, ℕ, ◌+◌, ◌*◌, ◌<◌, ◌≤◌, Bool, true, false, cond, List, [], ◌∷◌, ◌++◌, length, Option, Some, None, refl, sym, ◌∙◌, ap, subst, arith}
-use Rattle.std.proofs.lemmas.List.{length-append}
+use Rattle.std.proofs.lemmas.List.{length_push}
 use Rattle.odb_tree.specs.Tree.{tree_of}
 use Rattle.odb_tree.specs.declared.disk_error.DiskError.TheVariants as disk_errors
 use Rattle.odb_disk.specs.MemDisk.{Volume, next_fails}
@@ -19,6 +19,7 @@ use Rattle.gix_odb.specs.declared.handle_state.HandleState.{HandleState}
 use Rattle.gix_odb.specs.declared.open_state.OpenState.{OpenState}
 use Rattle.gix_odb.specs.declared.open_state.OpenState.TheVariants as opens
 use Rattle.gix_odb_world.specs.declared.work.Work.TheVariants.{Opening}
+use Rattle.gix_odb_world.specs.Asks.{AsksInOrder}
 use Rattle.gix_odb_world.specs.Bound.{bound_of_task, turn_bound}
 use Rattle.gix_odb_world.specs.Event.{Event, from_disk, to_disk}
 use Rattle.gix_odb_world.specs.Handle.{IsHandleOf}
@@ -28,11 +29,10 @@ use Rattle.gix_odb_world.specs.Run.{FailedSince, IsTurnOf, change_by, disk_after
 use Rattle.gix_odb_world.specs.Running.Opening.{IsOpening, opening, result_of_opening}
 use Rattle.gix_odb_world.specs.Status.{MakeCall, OpenStore, Running, Store, Task, begun_with, running_from}
 use Rattle.gix_odb_world.specs.WorkOrder.{fed_after, opening_result, result_in}
-use Rattle.gix_odb_world.proofs.AskLemmas.{in_order_opening}
 use Rattle.gix_odb_world.proofs.FolderLemmas.{look_quiet}
-use Rattle.gix_odb_world.proofs.MachineLaws.{HasTurn, IsSized, KeepsLaws, MachineComes, comes_disk, never_ends, quiet_turn, same_ask as own_ask, takes_disk, writes_nothing}
+use Rattle.gix_odb_world.proofs.MachineLaws.{AsksDisk, HasTurn, IsSized, KeepsLaws, MachineComes, quiet_turn, same_ask as own_ask, turns_by_disk, writes_nothing}
 use Rattle.gix_odb_world.proofs.OpeningMachine.Look.{look_keeps}
-use Rattle.gix_odb_world.proofs.QuietTurn.{fails_now, shown_now, whole_length}
+use Rattle.gix_odb_world.proofs.QuietTurn.{fails_now, shown_now}
 use Rattle.gix_odb_world.proofs.RunLemmas.{failed_before, none_failed_yet}
 use Rattle.gix_odb_world.proofs.WriteAsk.Quiet.{change_by-quiet}
 use Rattle.gix_odb_world.proofs.WriteTurn.Common.{IsTurnWith}
@@ -57,7 +57,7 @@ opening_starts : (first : Volume) (events : List Event) (e : Event) (handle : �
     → IsOpening (events ++ e ∷ []) handle (running_from (length events + 1) task store ignoring) state
 opening_starts first events e handle store ignoring OpenStore state sized is =
     let same : opens.Looking ≡ state = cc is in
-    let whole : length (events ++ e ∷ []) ≡ length events + 1 = length-append events (e ∷ []) in
+    let whole : length (events ++ e ∷ []) ≡ length events + 1 = length_push events e in
     record { task = refl; turns = refl; looks = sym same; no_failure = none_failed_yet (events ++ e ∷ []) handle (length events + 1) (omega (arith, whole)) }
 opening_starts first events e handle store ignoring (MakeCall call) state sized is = absurd (cc is)
 
@@ -77,6 +77,15 @@ opening_kept events e handle running state other knows =
 opening_still : (store : Store) (state : OpenState) (ask : DiskAsk) → openings.ask_of store.parts.objects state ≡ Some ask → is_of_streams ask ≡ false
 opening_still store opens.Looking ask is = let same : asks.Look store.parts.objects true ≡ ask = cc is in ap is_of_streams (sym same)
 opening_still store (opens.Done reply) ask is = absurd (cc is)
+
+-- it looks at its objects directory
+in_order_opening : (first : Volume) (events : List Event) (handle : ℕ) (store : Store) (ignoring : Bool) (begun turns : ℕ) (state : OpenState) (ask : DiskAsk)
+    → state ≡ opens.Looking → turns ≡ 0 → openings.ask_of store.parts.objects state ≡ Some ask
+    → AsksInOrder first events handle store ignoring begun turns OpenStore ask
+in_order_opening first events handle store ignoring begun turns state ask is none asked =
+    let looks : Some (asks.Look store.parts.objects true) ≡ Some ask = ap (openings.ask_of store.parts.objects) (sym is) ∙ asked in
+    let same : asks.Look store.parts.objects true ≡ ask = cc looks in
+    (none, sym same)
 
 module _ (first : Volume) (events : List Event) (handle : ℕ) (running : Running) (state : OpenState) (ask : DiskAsk) (knows : IsOpening events handle running state)
     (is : openings.ask_of running.store.parts.objects state ≡ Some ask) where
@@ -119,7 +128,7 @@ module _ (first : Volume) (events : List Event) (handle : ℕ) (running : Runnin
     opening_comes =
         subst Comes (sym knows.looks)
         (subst (λ task. Promise first whole handle running.store running.ignoring running.begun task (opening_reply running.store.slots (answer_now (disk_after first events) ask))) (sym knows.task)
-        (subst (λ now. Promised now (answer_now (disk_after first events) ask)) (whole_length first events e handle running since ask turn) look_promised))
+        (subst (λ now. Promised now (answer_now (disk_after first events) ask)) (sym (length_push events e)) look_promised))
 
 -- ---- its laws
 
@@ -131,6 +140,15 @@ opening_ask : (first : Volume) (events : List Event) (handle : ℕ) (running : R
     → (ask : DiskAsk) × (openings.ask_of running.store.parts.objects state ≡ Some ask)
 opening_ask first events handle running state knows = (asks.Look running.store.parts.objects true, ap (openings.ask_of running.store.parts.objects) knows.looks)
 
+opening_turns : AsksDisk opening (λ store state. openings.ask_of store.parts.objects state)
+opening_turns = record {
+  is = λ store state. refl;
+  still = opening_still;
+  some = opening_ask;
+  takes = λ first events handle running state knows ask. opening_takes first events handle running state ask knows;
+  comes = λ first events handle running state knows ask. opening_comes first events handle running state ask knows;
+}
+
 pub opening_laws : KeepsLaws opening
 opening_laws = record {
   at_home = λ state. refl;
@@ -139,18 +157,8 @@ opening_laws = record {
   starts = opening_starts;
   tasked = λ first events handle running state knows. knows.task;
   bounded = λ store task state is entries. opening_bounded store task is entries;
-  still = λ store state ask is. opening_still store state ask (own_ask (openings.ask_of store.parts.objects state) ask is);
   kept = λ first events e handle running state other knows. opening_kept events e handle running state other knows;
-  takes = λ first events handle running state knows.
-      let ask = opening_ask first events handle running state knows in
-      takes_disk first events handle running running.task (opening.ask running.store state) ask.0 (ap to_disk ask.1)
-      (opening_takes first events handle running state ask.0 knows ask.1);
-  ends = λ first events handle running state knows none.
-      let ask = opening_ask first events handle running state knows in absurd (never_ends (opening.ask running.store state) ask.0 (ap to_disk ask.1) none);
-  comes = λ first events e handle running since state knows.
-      let ask = opening_ask first events handle running state knows in
-      comes_disk first events e handle (λ answer. MachineComes first events e handle running opening (opening.feed running.store state answer))
-      (opening.ask running.store state) ask.0 (ap to_disk ask.1) (opening_comes first events handle running state ask.0 knows ask.1 e since);
+  turns = turns_by_disk opening (λ store state. openings.ask_of store.parts.objects state) opening_turns;
   writes = writes_nothing opening (λ state. refl)
       (λ first events handle running state ask knows is.
       opening_quiet first events handle running state ask knows (own_ask (openings.ask_of running.store.parts.objects state) ask is));

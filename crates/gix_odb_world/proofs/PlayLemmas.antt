@@ -1,7 +1,7 @@
 -- Plays: lines stand for the steps that were made, one line after another.
 use Rattle.std.proofs.Common.{◌≡◌, ◌≢◌, ℕ, ◌+◌, ◌-◌, ◌<◌, List, [], ◌∷◌, ◌++◌, length, map, take, get_or, refl, sym, ◌∙◌, ap, subst, arith}
 use Rattle.std.specs.List.{AllByRecursion}
-use Rattle.std.proofs.lemmas.List.{append-nil, append_assoc, get_or_push, length-append, length-map, map-append, take_more}
+use Rattle.std.proofs.lemmas.List.{append-nil, append_assoc, get_or_push, length-append, length-map, map-append, take_more, length_push}
 use Rattle.odb_disk.specs.MemDisk.{Volume}
 use Rattle.gix_odb_world.specs.declared.step.Step.{Step}
 use Rattle.gix_odb_world.specs.declared.step.Step.TheVariants.{Turn}
@@ -66,7 +66,7 @@ plays_one old new before after step one =
 -- the last of the steps is the one that was added
 pub last_is : (steps more : List Step) (step last : Step) → more ≡ steps ++ step ∷ [] → last ≡ get_or more (length more - 1) last → last ≡ step
 last_is steps more step last added is =
-    let place : length steps ≡ length (steps ++ step ∷ []) - 1 = omega (arith, length-append steps (step ∷ [])) in
+    let place : length steps ≡ length (steps ++ step ∷ []) - 1 = omega (arith, length_push steps step) in
     is ∙ (ap (λ (all : List Step). get_or all (length all - 1) last) added ∙ get_or_push steps step last (length (steps ++ step ∷ []) - 1) place)
 
 -- a step that was made and added to the steps

@@ -1,6 +1,6 @@
 -- What a query has seen stays seen.
 use Rattle.std.proofs.Common.{◌≡◌, ℕ, ◌≤◌, List, [], ◌∷◌, ◌++◌, length, drop, Some, None, Option, sym, subst, arith, inl, inr}
-use Rattle.std.proofs.lemmas.List.{length-append}
+use Rattle.std.proofs.lemmas.List.{length_push}
 use Rattle.odb_base.specs.Path.{Path}
 use Rattle.odb_tree.specs.Tree.{Tree}
 use Rattle.odb_tree.specs.Tree.Follow.{read_of}
@@ -70,7 +70,7 @@ pub looking_push : (first : Volume) (events : List Event) (e : Event) (handle : 
     → (front : ℕ) → IsLooking first events handle running front state → IsLooking first (events ++ e ∷ []) handle running front state
 looking_push first events e handle running state other front knows =
     let whole : List Event = events ++ e ∷ [] in
-    let longer : length events ≤ length (events ++ e ∷ []) = omega (arith, length-append events (e ∷ [])) in
+    let longer : length events ≤ length (events ++ e ∷ []) = omega (arith, length_push events e) in
     record {
       task = knows.task;
       place = knows.place;

@@ -2,7 +2,7 @@
 use Rattle.std.proofs.Common.{◌≡◌, ◌≢◌, ℕ, ◌+◌, ◌≤◌, Bool, true, false, List, [], ◌∷◌, ◌++◌, length, refl, sym, arith}
 use Rattle.std.specs.Prelude.{if◌then◌else◌, ◌==◌}
 use Rattle.std.proofs.lemmas.Bool.{eqb-true, eqb-false}
-use Rattle.std.proofs.lemmas.List.{length-append}
+use Rattle.std.proofs.lemmas.List.{length_push}
 use Rattle.odb_disk.specs.MemDisk.{Volume}
 use Rattle.gix_odb_world.specs.declared.work.Work.{Work}
 use Rattle.gix_odb_world.specs.Event.{Event}
@@ -18,7 +18,7 @@ module _ (first : Volume) (events : List Event) (e : Event) where
   whole = events ++ e ∷ []
 
   longer : length events ≤ length whole
-  longer = omega (arith, length-append events (e ∷ []))
+  longer = omega (arith, length_push events e)
 
   module _ (handle : ℕ) (other : ¬ IsTurnOf handle e.step) where
     knows_push : (running : Running) (work : Work) → Knows first events handle running work → Knows first whole handle running work

@@ -1,7 +1,7 @@
 -- The start of a call on an idle handle.
 use Rattle.std.proofs.Common.{◌≡◌, ℕ, ◌+◌, Bool, List, [], ◌∷◌, ◌++◌, length, Some, None, Option, refl, sym, ◌∙◌, ap, subst, arith}
 use mathlib.Core.Path.{fun_ext}
-use Rattle.std.proofs.lemmas.List.{length-append}
+use Rattle.std.proofs.lemmas.List.{length_push}
 use Rattle.odb_disk.specs.MemDisk.{Volume}
 use Rattle.gix_odb_world.specs.declared.step.Step.TheVariants as steps
 use Rattle.gix_odb_world.specs.declared.step.Outcome.TheVariants as outcomes
@@ -52,7 +52,7 @@ runs_started : (number : ℕ) (call : Call) → HasSize call → (first : Volume
     → Runs first events number status → Runs first (events ++ e ∷ []) number (started (length events + 1) call status)
 runs_started number call sized first events e Free starts no_turn runs = tt
 runs_started number call sized first events e (Resting store ignoring) starts no_turn runs =
-    let whole : length (events ++ e ∷ []) ≡ length events + 1 = length-append events (e ∷ []) in (omega (arith, whole), begins first events e number store ignoring (MakeCall call) sized)
+    let whole : length (events ++ e ∷ []) ≡ length events + 1 = length_push events e in (omega (arith, whole), begins first events e number store ignoring (MakeCall call) sized)
 runs_started number call sized first events e (Working running) starts no_turn runs = runs-push first events e number (Working running) (no_turn number) runs
 
 pub begun : (old mid new : World) (number : ℕ) (call : Call) (handle : Handle) (work : Work) → HasSize call

@@ -3,7 +3,7 @@ pub mod Asking
 pub mod Comes
 use Rattle.std.proofs.Common.{◌≡◌, ℕ, ◌+◌, ◌<◌, ◌≤◌, Bool, true, false, List, [], ◌∷◌, ◌++◌, length, Option, Some, None, Ok, Err, Result, refl, sym, ◌∙◌, ap, subst, arith}
 use Rattle.std.specs.Prelude.{if◌then◌else◌}
-use Rattle.std.proofs.lemmas.List.{length-append}
+use Rattle.std.proofs.lemmas.List.{length_push}
 use Rattle.odb_tree.specs.Tree.{IsTree, tree_of}
 use Rattle.odb_tree.specs.declared.change.Change.{Change}
 use Rattle.odb_disk.specs.MemDisk.{Volume}
@@ -194,7 +194,7 @@ module _ (first : Volume) (events : List Event) (old : World) (number : ℕ) (ru
     pub runs_next : (result : Result Reply Work) → after ≡ result → WorkNow result → Runs first whole number (status_next result)
     runs_next (Ok reply) is now = runs_rest (refuses_opening reply)
     runs_next (Err left) is now =
-        let count : length whole ≡ length events + 1 = length-append events (event ∷ []) in
+        let count : length whole ≡ length events + 1 = length_push events event in
         let begun : running.begun ≤ length events = runs.0 in
         let later : running.begun ≤ length whole = omega (arith, count, begun) in
         subst (λ r. Runs first whole number (come_to running r)) (sym is) (later, now.0)

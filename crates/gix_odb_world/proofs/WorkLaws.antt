@@ -37,7 +37,7 @@ code_feeds store ignoring code own work answer =
 
 -- no work names a call of streams
 pub ask_still : (store : Store) (work : Work) (ask : DiskAsk) → ask_in store work ≡ Some (ToDisk ask) → is_of_streams ask ≡ false
-ask_still store work ask is = (laws_at work).still store (at work).state ask is
+ask_still store work ask is = (laws_at work).turns.still store (at work).state ask is
 
 -- ---- its writes
 

@@ -1,4 +1,5 @@
 -- A write keeps the laws of a machine.
+pub mod Asks
 use Rattle.std.proofs.Common.{◌≡◌, inl, ℕ, ◌+◌, ◌≤◌, Bool, List, [], ◌∷◌, ◌++◌, length, Ok, Option, Some, None, refl, sym, ◌∙◌, ap, subst}
 use Rattle.odb_disk.specs.MemDisk.{Volume}
 use Rattle.odb_disk.specs.Ask.{answer_now}
@@ -23,8 +24,8 @@ use Rattle.gix_odb_world.specs.Run.{disk_after}
 use Rattle.gix_odb_world.specs.Running.Write.{IsAtOwnWrite, IsWriting, replied_by, result_of_write, writing}
 use Rattle.gix_odb_world.specs.Status.{MakeCall, OpenStore, Running, Store, Task, begun_with, running_from}
 use Rattle.gix_odb_world.specs.WorkOrder.{calling_result, fed_after, result_in}
-use Rattle.gix_odb_world.proofs.AskLemmas.{in_order_write}
-use Rattle.gix_odb_world.proofs.MachineLaws.{HasTurn, IsSized, KeepsLaws, KeepsWriteLaws, MachineComes, comes_disk, never_ends, same_ask as own_ask, takes_disk}
+use Rattle.gix_odb_world.proofs.WriteMachine.Asks.{in_order_write}
+use Rattle.gix_odb_world.proofs.MachineLaws.{AsksDisk, HasTurn, IsSized, KeepsLaws, KeepsWriteLaws, MachineComes, turns_by_disk}
 use Rattle.gix_odb_world.proofs.WriteFive.{five_written}
 use Rattle.gix_odb_world.proofs.WriteGoes.{write_comes}
 use Rattle.gix_odb_world.proofs.WriteKept.{writing_begun, writing_push}
@@ -108,6 +109,15 @@ write_ask : (first : Volume) (events : List Event) (handle : ℕ) (running : Run
     → (ask : DiskAsk) × (disk_ask_of call ≡ Some ask)
 write_ask first events handle running call knows = (ask_at_stage knows.writing.write knows.writing.stage, ap disk_ask_of knows.writing.is)
 
+writing_turns : AsksDisk writing (λ store call. disk_ask_of call)
+writing_turns = record {
+  is = λ store call. refl;
+  still = λ store call ask is. call_asks_still call ask is;
+  some = write_ask;
+  takes = λ first events handle running call knows ask. write_takes first events handle running call ask knows;
+  comes = λ first events handle running call knows ask. machine_comes first events handle running call ask knows;
+}
+
 pub writing_laws : KeepsLaws writing
 writing_laws = record {
   at_home = λ call. refl;
@@ -116,17 +126,7 @@ writing_laws = record {
   starts = write_starts;
   tasked = λ first events handle running call knows. record { write = knows.writing.write; task_is = knows.task; stage = knows.writing.stage; is = knows.writing.is };
   bounded = λ store task call is entries. refl;
-  still = λ store call ask is. call_asks_still call ask (own_ask (disk_ask_of call) ask is);
   kept = λ first events e handle running call other knows. writing_push first events e handle running call other nothing_in_front knows;
-  takes = λ first events handle running call knows.
-      let ask = write_ask first events handle running call knows in
-      takes_disk first events handle running running.task (writing.ask running.store call) ask.0 (ap to_disk ask.1)
-      (write_takes first events handle running call ask.0 knows ask.1);
-  ends = λ first events handle running call knows none.
-      let ask = write_ask first events handle running call knows in absurd (never_ends (writing.ask running.store call) ask.0 (ap to_disk ask.1) none);
-  comes = λ first events e handle running since call knows.
-      let ask = write_ask first events handle running call knows in
-      comes_disk first events e handle (λ answer. MachineComes first events e handle running writing (writing.feed running.store call answer))
-      (writing.ask running.store call) ask.0 (ap to_disk ask.1) (machine_comes first events handle running call ask.0 knows ask.1 e since);
+  turns = turns_by_disk writing (λ store call. disk_ask_of call) writing_turns;
   writes = writing_writes;
 }

@@ -71,9 +71,9 @@ abbrev pub refuses_opening : Reply → Bool
 refuses_opening (replies.Refused (call_errors.Open error)) = true
 refuses_opening reply = false
 
--- a refused opening leaves the number free; a call that has its reply leaves its handle at rest
-abbrev pub after_reply : Store → (ignoring : Bool) → Reply → Status
-after_reply store ignoring reply = if refuses_opening reply then Free else Resting store ignoring
+-- what a reply leaves of a handle: a refused opening leaves its number free, and after any other reply it is at rest
+abbrev pub after_reply : {A : Type 0} → (free rest : A) → Reply → A
+after_reply free rest reply = if refuses_opening reply then free else rest
 
 -- a handle's work goes on as what is left of it, with a turn more
 abbrev pub gone_on : Running → (left : Work) → Running
@@ -81,7 +81,7 @@ gone_on running left = record running { turns = running.turns + 1; work = left }
 
 -- a handle whose turn came to a reply, or to the work that is left
 abbrev pub come_to : Running → Result Reply Work → Status
-come_to running (Ok reply) = after_reply running.store running.ignoring reply
+come_to running (Ok reply) = after_reply Free (Resting running.store running.ignoring) reply
 come_to running (Err left) = Working (gone_on running left)
 
 -- a turn after which the work goes on, by what it was answered
@@ -90,7 +90,7 @@ turned asked (Working running) = come_to running (fed_in running.store running.w
 turned asked status = status
 
 abbrev pub replied : Reply → Status → Status
-replied reply (Working running) = after_reply running.store running.ignoring reply
+replied reply (Working running) = after_reply Free (Resting running.store running.ignoring) reply
 replied reply status = status
 
 -- ---- the handles of a run

@@ -1,7 +1,7 @@
 -- What one event more makes of the steps from which a handle has its task, its store and its mode.
 use Rattle.std.proofs.Common.{◌≡◌, ℕ, ◌+◌, ◌≤◌, Bool, true, false, List, [], ◌∷◌, ◌++◌, length, Some, None, Result, Ok, Err, refl, sym, ◌∙◌, ap, subst, arith, inl, inr}
 use Rattle.std.specs.Prelude.{slice_get, if◌then◌else◌}
-use Rattle.std.proofs.lemmas.List.{length-append}
+use Rattle.std.proofs.lemmas.List.{length_push}
 use Rattle.std.proofs.lemmas.Option.{slice_get_within}
 use Rattle.odb_base.specs.Path.{Path}
 use Rattle.gix_hash.specs.declared.object_id.ObjectId.{ObjectId}
@@ -76,9 +76,6 @@ module _ (events : List Event) (e : Event) where
   abbrev whole : List Event
   whole = events ++ e ∷ []
 
-  whole_length : length whole ≡ length events + 1
-  whole_length = length-append events (e ∷ [])
-
   -- the last event is no such step
   abbrev Apart : (Step → Type 0) → Type 0
   Apart P = e.outcome ≡ outcomes.Applied → ¬ (P e.step)
@@ -94,7 +91,7 @@ module _ (events : List Event) (e : Event) where
   pub none_after : (P : Step → Type 0) → NoneSince P whole (length events + 1)
   none_after P place x later there applied is =
       let within = slice_get_within whole place x there in
-      let count = whole_length in
+      let count = length_push events e in
       omega (arith, within, later, count)
 
   no_applied_after : (P : Step → Type 0) → ¬ (AppliedSince P whole (length events + 1))

@@ -1,6 +1,6 @@
 -- What a query knows that the last event begins.
 use Rattle.std.proofs.Common.{◌≡◌, ℕ, ◌+◌, Bool, List, [], ◌∷◌, ◌++◌, length, None, refl, subst, arith, inr}
-use Rattle.std.proofs.lemmas.List.{length-append}
+use Rattle.std.proofs.lemmas.List.{length_push}
 use Rattle.odb_disk.specs.MemDisk.{Volume}
 use Rattle.gix_odb.specs.Contents.{sought}
 use Rattle.gix_odb.specs.LookOrder as looks
@@ -31,7 +31,7 @@ module _ (first : Volume) (events : List Event) (e : Event) (handle : ℕ) (stor
   -- a query that the event begins asks the objects directory, and all folders are ahead
   query_begins : (query : Query) → Begins (MakeCall (call_of query)) (begins_at query)
   query_begins query =
-      let count : length whole ≡ length events + 1 = length-append events (e ∷ []) in
+      let count : length whole ≡ length events + 1 = length_push events e in
       record {
         task = refl;
         place = 0;

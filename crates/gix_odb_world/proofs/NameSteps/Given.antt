@@ -2,7 +2,7 @@
 use Rattle.std.proofs.Common.{◌≡◌, inl, inr, ℕ, ◌+◌, ◌<◌, ◌≤◌, true, false, List, [], ◌∷◌, ◌++◌, length, take, Some, Ok, sym, ap, ◌∙◌, subst, arith}
 use Rattle.std.specs.Prelude.{slice_get}
 use Rattle.std.proofs.lemmas.Bool.{cases_lt}
-use Rattle.std.proofs.lemmas.List.{length-append}
+use Rattle.std.proofs.lemmas.List.{length_push}
 use Rattle.std.proofs.lemmas.Option.{slice_get_within}
 use Rattle.odb_base.specs.Path.{Path}
 use Rattle.odb_disk.specs.MemDisk.{Volume}
@@ -100,8 +100,8 @@ module _ (first : Volume) (events : List Event) (start : IsTree (tree_of first.s
 
     past_long : length written.past ≡ place
     past_long =
-        let one = ap length written.is ∙ length-append written.past (written.last ∷ []) in
-        let two = ap length upto_is ∙ length-append past (gives.event ∷ []) in
+        let one = ap length written.is ∙ length_push written.past written.last in
+        let two = ap length upto_is ∙ length_push past gives.event in
         let three = length_take events place gives.event gives.there in
         omega (arith, one, two, three)
 

@@ -1,8 +1,8 @@
 -- What a turn of a write comes to: what it knows where it goes on, and what its end keeps of its promise.
 use Rattle.std.specs.Prelude.{◌==◌, Bool, true, false, nat_le, if◌then◌else◌}
-use Rattle.std.proofs.Common.{◌≡◌, ℕ, ◌+◌, ◌≤◌, List, [], ◌∷◌, ◌++◌, length, take, Contains, Option, Some, None, Ok, Err, refl, sym, ap, ◌∙◌, subst, zero, suc, ◌⊎◌, arith, inl, inr, length-append}
+use Rattle.std.proofs.Common.{◌≡◌, ℕ, ◌+◌, ◌≤◌, List, [], ◌∷◌, ◌++◌, length, take, Contains, Option, Some, None, Ok, Err, refl, sym, ap, ◌∙◌, subst, zero, suc, ◌⊎◌, arith, inl, inr}
 use Rattle.std.proofs.lemmas.Grind.{common_steps}
-use Rattle.std.proofs.lemmas.List.{take_all}
+use Rattle.std.proofs.lemmas.List.{take_all, length_push}
 use Rattle.std.proofs.lemmas.List.Elements.{Contains-append_cases}
 use Rattle.odb_base.specs.Path.{Path}
 use Rattle.odb_disk.specs.Ask.{answer_now}
@@ -109,7 +109,7 @@ module _ (first : Volume) (events : List Event) (e : Event) (handle begun turns 
           record {
             past = longer;
             along = along;
-            had = ap (λ (n : ℕ). n + 1) had ∙ sym (length-append past (exchanged ask answer ∷ []));
+            had = ap (λ (n : ℕ). n + 1) had ∙ sym (length_push past (exchanged ask answer));
             asked = all_asked;
             unnamed = each_turn_push events e handle begun _ unnamed (λ turn. parts.0);
             made = parts.1;

@@ -1,5 +1,6 @@
 -- What is common to all turns of a write: what was asked, what stands in its file, and what its end or its next stage needs.
 use Rattle.std.proofs.Common.{◌≡◌, ℕ, ◌+◌, ◌≤◌, List, [], ◌∷◌, ◌++◌, length, Option, Some, None, Ok, sym, ap, ◌∙◌, subst, arith}
+use Rattle.std.proofs.lemmas.List.{length_push}
 use Rattle.std.proofs.Math.Seq.{take-length}
 use Rattle.odb_base.specs.Path.{Path}
 use Rattle.odb_disk.specs.Ask.{answer_now, op_of}
@@ -35,7 +36,7 @@ use Rattle.gix_odb_world.specs.Running.Write.{HoldsFile}
 use Rattle.gix_odb_world.specs.Writing.{AskedAt, IsNewFile, IsRename, MadeOnly, ToWrite, head_to_write, name_to_write}
 use Rattle.gix_odb_world.proofs.RunLemmas.{tree_at-now}
 use Rattle.gix_odb_world.proofs.WriteAsk.{Made}
-use Rattle.gix_odb_world.proofs.WriteKept.{alone_before, asked_at_kept, asked_now, each_turn_push, whole_length}
+use Rattle.gix_odb_world.proofs.WriteKept.{alone_before, asked_at_kept, asked_now, each_turn_push}
 
 -- a write that is to remove its file was not refused the making of it
 pub made_before_removal : (head : WriteHead) (Named : ObjectId → Type 0) (Counted : ℕ → Type 0) (number : ℕ) (refusal : Refusal) (past : List Exchange) (at : Path) → IsStopped head Named ⊥ Counted number refusal past
@@ -109,8 +110,8 @@ module _ (first : Volume) (events : List Event) (e : Event) (handle begun turns 
           later = h.later;
           makes = asked_at_kept first events e handle h.made _ _ h.makes;
           holds = λ alone.
-              let old = h.holds (alone_before first events e handle path (h.made + 1) (length whole) (omega (arith, whole_length first events e)) alone) in
-              (old.0, subst (λ n. HasFile (tree_at first whole n) path old.0 more 0) (sym (whole_length first events e)) (step old.0 old.1));
+              let old = h.holds (alone_before first events e handle path (h.made + 1) (length whole) (omega (arith, length_push events e)) alone) in
+              (old.0, subst (λ n. HasFile (tree_at first whole n) path old.0 more 0) (sym (length_push events e)) (step old.0 old.1));
         }
 
     -- an append to it
@@ -142,7 +143,7 @@ module _ (first : Volume) (events : List Event) (e : Event) (handle begun turns 
           makes = subst (λ a. AskedAt first whole handle (length events) a answers.Done) asks_it (subst (λ a. AskedAt first whole handle (length events) ask a) done own);
           holds = λ alone.
               let new = has_new_file before is_tree path m.change (subst (λ t. change_of_new_file t path ≡ Ok m.change) before_is m.is) in
-              (new.0, subst (λ n. HasFile (tree_at first whole n) path new.0 [] 0) (sym (whole_length first events e)) (subst (λ t. HasFile t path new.0 [] 0) (sym (now_changed m.change m.made)) new.1));
+              (new.0, subst (λ n. HasFile (tree_at first whole n) path new.0 [] 0) (sym (length_push events e)) (subst (λ t. HasFile t path new.0 [] 0) (sym (now_changed m.change m.made)) new.1));
         }
 
     -- a change that is none is no rename and makes no file

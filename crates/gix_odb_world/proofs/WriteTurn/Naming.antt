@@ -1,5 +1,6 @@
 -- The turns in which a write makes the directory of its object, gives the name, or removes its file.
 use Rattle.std.proofs.Common.{◌≡◌, ◌≢◌, ℕ, ◌+◌, ◌≤◌, false, List, [], ◌∷◌, ◌++◌, length, Option, Some, None, Ok, Err, refl, sym, ap, ◌∙◌, subst, arith, inr}
+use Rattle.std.proofs.lemmas.List.{length_push}
 use Rattle.odb_base.specs.Path.{Path}
 use Rattle.odb_disk.specs.Ask.{answer_now}
 use Rattle.odb_disk.specs.MemDisk.{Volume}
@@ -39,7 +40,7 @@ use Rattle.gix_odb_world.specs.Writing.{ChangedNothing, IsNewFile, IsRename, ToW
 use Rattle.gix_odb_world.specs.Written.{HasWritten}
 use Rattle.gix_odb_world.proofs.RunLemmas.{tree_at-before}
 use Rattle.gix_odb_world.proofs.WriteAsk.{change_by-all, done_made, told_make_dir, told_remove, told_rename, undone_made}
-use Rattle.gix_odb_world.proofs.WriteKept.{alone_before, asked_at_kept, whole_length}
+use Rattle.gix_odb_world.proofs.WriteKept.{alone_before, asked_at_kept}
 use Rattle.gix_odb_world.proofs.WriteTurn.Common.{IsTurnWith, made_before_removal, before_is, is_tree, now_changed, own, foldered_holds, same_holds, no_rename, no_file, made_same}
 use Rattle.gix_odb_world.proofs.WriteTurn.Comes.{PartsTo, cleared}
 
@@ -185,6 +186,6 @@ module _ (first : Volume) (events : List Event) (e : Event) (handle begun turns 
           (
             Some number,
             made_same first events e handle begun turns w since (asks.Remove path) is answer given (Some number) (never (λ c. ¬ (IsNewFile c)) (λ r. r) (λ s' r. r)) s.made,
-            inr (number, length events, refl, whole_length first events e, (answer, own first events e handle begun turns w since (asks.Remove path) is answer given)),
+            inr (number, length events, refl, length_push events e, (answer, own first events e handle begun turns w since (asks.Remove path) is answer given)),
           ),
         )

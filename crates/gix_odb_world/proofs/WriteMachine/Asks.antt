@@ -1,12 +1,9 @@
--- The call of the disk of each turn comes in its order.
-use Rattle.std.proofs.Common.{◌≡◌, ℕ, ◌+◌, ◌*◌, ◌<◌, Bool, true, List, length, Some, slice_get, refl, sym, ap, ◌∙◌, subst, arith}
-use Rattle.odb_base.specs.Path.{Path}
+-- A write asks in its turn what its stage asks.
+use Rattle.std.proofs.Common.{◌≡◌, ℕ, ◌+◌, ◌*◌, ◌<◌, List, length, Some, refl, sym, ap, ◌∙◌, subst, arith}
 use Rattle.odb_disk.specs.MemDisk.{Volume}
 use Rattle.odb_disk.specs.declared.ask.DiskAsk.{DiskAsk}
 use Rattle.odb_disk.specs.declared.ask.DiskAsk.TheVariants as asks
-use Rattle.gix_hash.specs.declared.object_id.ObjectId.{ObjectId}
 use Rattle.gix_odb_loose.specs.LooseFile.{loose_path}
-use Rattle.gix_odb_loose.specs.LooseOrder.{disk_ask_of}
 use Rattle.gix_odb_loose.specs.WriteJobs.{piece_at, pieces_of}
 use Rattle.gix_odb_loose.proofs.WriteDoneLaws.{HasDone-asked}
 use Rattle.gix_odb_loose.specs.WriteDone.{HasAsked, HasDone}
@@ -15,53 +12,14 @@ use Rattle.gix_odb_loose.specs.WritePieces.{IsInPieces, piece_size}
 use Rattle.gix_odb_loose.specs.declared.call.LooseCall.{LooseCall}
 use Rattle.gix_odb_loose.specs.declared.write_order.WriteStage.{WriteStage}
 use Rattle.gix_odb_loose.specs.declared.write_order.WriteStage.TheVariants as stages
-use Rattle.gix_odb.specs.declared.look_state.LookState.{LookState}
-use Rattle.gix_odb.specs.declared.open_state.OpenState.{OpenState}
-use Rattle.gix_odb.specs.declared.open_state.OpenState.TheVariants as opens
-use Rattle.gix_odb.specs.declared.query.Query.{Query}
-use Rattle.gix_odb.specs.declared.query.Query.TheVariants.{Find, Header, Test}
 use Rattle.gix_odb_world.specs.Asks.{AppendsHeader, AppendsPiece, AsksInOrder, AsksToWrite, MakesDirectory, MakesFile, Removes, Renames}
-use Rattle.gix_odb.specs.Contents.{folder_list, sought}
 use Rattle.gix_odb_world.specs.AtWork.{nothing_in_front}
 use Rattle.gix_odb_world.specs.Event.{Event}
-use Rattle.gix_odb_world.specs.Status.{Running, Store, MakeCall, OpenStore}
-use Rattle.gix_odb.specs.LookOrder.{ask_at, asking}
-use Rattle.gix_odb.specs.OpenOrder as openings
-use Rattle.gix_odb_world.specs.Run.{FailedSince, tree_at}
+use Rattle.gix_odb_world.specs.Status.{Running, MakeCall}
 use Rattle.gix_odb_world.specs.Running.Write.{IsAtOwnWrite, IsWriting, StandsAt, job_to_write}
-use Rattle.gix_odb_world.specs.Running.Query.{Seeks, call_of}
 use Rattle.gix_odb_world.specs.Writing.{DoneSince, ToWrite, call_to_write, to_write}
 use Rattle.gix_odb_world.proofs.WriteFive.{below, made_before}
 use Rattle.gix_odb_world.proofs.WriteTurn.{ask_at_stage, done_at}
-
-module _ (first : Volume) (events : List Event) (handle : ℕ) (store : Store) (ignoring : Bool) (begun turns : ℕ) where
-  -- an opening looks at its objects directory
-  pub in_order_opening : (state : OpenState) (ask : DiskAsk) → state ≡ opens.Looking → turns ≡ 0 → openings.ask_of store.parts.objects state ≡ Some ask → AsksInOrder first events handle store ignoring begun turns OpenStore ask
-  in_order_opening state ask is none asked =
-      let looks : Some (asks.Look store.parts.objects true) ≡ Some ask = ap (openings.ask_of store.parts.objects) (sym is) ∙ asked in
-      let same : asks.Look store.parts.objects true ≡ ask = cc looks in
-      (none, sym same)
-
-  by_query : (query : Query) (id : ObjectId) (folder : Path) (ask : DiskAsk) (place : ℕ) → turns ≡ nothing_in_front + place
-      → id ≡ sought store.parts ignoring query → slice_get (folder_list store.parts) place ≡ Some folder
-      → disk_ask_of (asking store.parts.limit query id folder) ≡ Some ask
-      → AsksInOrder first events handle store ignoring begun turns (MakeCall (call_of query)) ask
-  by_query (Find asked) id folder ask place had is there e =
-      let same : asks.Read (loose_path folder id) ≡ ask = cc e in
-      record { own = place; turn = had; asks = record { folder = folder; place = there; is = sym same ∙ ap (λ i. asks.Read (loose_path folder i)) is } }
-  by_query (Header asked) id folder ask place had is there e =
-      let same : asks.Read (loose_path folder id) ≡ ask = cc e in
-      record { own = place; turn = had; asks = record { folder = folder; place = there; is = sym same ∙ ap (λ i. asks.Read (loose_path folder i)) is } }
-  by_query (Test asked) id folder ask place had is there e =
-      let same : asks.Look (loose_path folder id) true ≡ ask = cc e in
-      record { own = place; turn = had; asks = record { folder = folder; place = there; is = sym same ∙ ap (λ i. asks.Look (loose_path folder i) true) is } }
-
-  -- a query asks the folder of its turn
-  pub in_order_query : (state : LookState) (ask : DiskAsk) (place : ℕ) → turns ≡ nothing_in_front + place → state.head.id ≡ sought store.parts ignoring state.head.query
-      → Seeks (tree_at first events) (FailedSince events handle begun) store begun (length events) place state.head.query state.head.id state.stage → ask_at state.stage ≡ Some ask
-      → AsksInOrder first events handle store ignoring begun turns (MakeCall (call_of state.head.query)) ask
-  in_order_query state ask place had is seeks asked =
-      by_query state.head.query state.head.id seeks.folder ask place had is seeks.there (ap ask_at (sym seeks.stage_is) ∙ asked)
 
 module _ (first : Volume) (events : List Event) (handle begun turns : ℕ) (w : ToWrite) where
   abbrev Asks : DiskAsk → Type 0
