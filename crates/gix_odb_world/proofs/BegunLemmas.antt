@@ -1,8 +1,8 @@
 -- From which steps a handle has its task, its store and its mode, after each event of a lawful run.
 pub mod OneEvent
 pub mod Turns
-use Rattle.std.proofs.Common.{◌≡◌, ◌≢◌, ℕ, zero, suc, ◌+◌, ◌≤◌, Bool, true, false, List, [], ◌∷◌, ◌++◌, length, take, Some, None, refl, sym, subst, arith, inl, inr}
-use Rattle.std.specs.Prelude.{slice_get, ◌==◌, if◌then◌else◌}
+use Rattle.std.proofs.Common.{◌≡◌, ◌≢◌, ℕ, ◌+◌, Bool, true, false, List, [], ◌∷◌, ◌++◌, length, None, refl, sym, subst, arith}
+use Rattle.std.specs.Prelude.{◌==◌, if◌then◌else◌}
 use Rattle.std.proofs.lemmas.Bool.{eqb-true, eqb-false}
 use Rattle.odb_base.specs.Path.{Path}
 use Rattle.odb_disk.specs.MemDisk.{Volume}
@@ -14,7 +14,7 @@ use Rattle.gix_odb_world.specs.declared.step.Step.TheVariants as steps
 use Rattle.gix_odb_world.specs.declared.step.Outcome.{Outcome}
 use Rattle.gix_odb_world.specs.declared.step.Outcome.TheVariants as outcomes
 use Rattle.gix_odb_world.specs.Event.{Event}
-use Rattle.gix_odb_world.specs.Status.{Status, Store, Free, after_turn_of, ignoring_from, replied, started, status_after, status_of, statuses_from, store_at, turned, with_status}
+use Rattle.gix_odb_world.specs.Status.{Status, Store, Free, after_turn_of, ignoring_from, replied, started, status_after, status_of, store_at, turned, with_status}
 use Rattle.gix_odb_world.specs.Begun.{IsIgnoreOf, IsTaskOf, OpenedBy}
 use Rattle.gix_odb_world.specs.Valid.{misuse_of, why_not_after}
 use Rattle.gix_odb_world.specs.Headline.{IsLawful}

@@ -9,6 +9,7 @@ mod OpeningLemmas
 mod PlayLemmas
 mod RunLemmas
 mod RunSteps
+mod LawfulRun
 mod FileSteps
 mod OwnFiles
 mod CutFiles

@@ -28,7 +28,7 @@ use Rattle.gix_odb.specs.declared.query.Query.TheVariants.{Find, Header, Test}
 use Rattle.gix_odb_world.specs.declared.work.Work.TheVariants.{Calling}
 use Rattle.gix_odb_world.specs.Bound.{bound_of_call, bound_of_task, bytes_to_write, default_changes, laps_without_change, turns_each, turns_of_folder, turns_of_lap}
 use Rattle.gix_odb_world.specs.AtWork.{nothing_in_front}
-use Rattle.gix_odb_world.specs.Event.{Event, from_disk, to_disk}
+use Rattle.gix_odb_world.specs.Event.{Event, from_disk}
 use Rattle.gix_odb_world.specs.Handle.{IsHandleOf}
 use Rattle.gix_odb_world.specs.Machine.{placed}
 use Rattle.gix_odb_world.specs.Promise.{Promise, QueryPromise}
@@ -126,7 +126,8 @@ module _ (first : Volume) (events : List Event) (handle : ℕ) (running : Runnin
 
       abbrev Comes : Result Reply LookState → Type 0
       Comes result =
-          LookComes (tree_at first events) (tree_at first whole) (FailedSince events handle running.begun) (FailedSince whole handle running.begun) running.store running.ignoring running.begun (length events) since
+          LookComes (tree_at first events) (tree_at first whole) (FailedSince events handle running.begun)
+          (FailedSince whole handle running.begun) running.store running.ignoring running.begun (length events) since
           (tree_at-before first events e) (failed-kept events e handle running.begun) (disk_after first events) (shown_now first events e handle running since ask turn looking_quiet)
           (fails_now first events e handle running since ask turn) (failed_earlier first events e handle running since ask turn) knows.place state.head result
 
@@ -148,15 +149,18 @@ module _ (first : Volume) (events : List Event) (handle : ℕ) (running : Runnin
           place = knows.place + 1;
           turns = omega (arith, had);
           seeks_id = c.1;
-          seeks = subst (λ n. Seeks (tree_at first whole) (FailedSince whole handle running.begun) running.store running.begun n (knows.place + 1) after.head.query after.head.id after.stage) count c.2;
+          seeks = subst (λ n. Seeks (tree_at first whole) (FailedSince whole handle running.begun) running.store running.begun n
+              (knows.place + 1) after.head.query after.head.id after.stage) count c.2;
         },
         few_queries running.store running.turns (let few = c.3 in omega (arith, had, few)),
       )
 
-      looking_comes : MachineComes first events e handle running looking (looks.result_of (looks.fed running.store.parts.folders running.store.parts.limit state (answer_now (disk_after first events) ask)))
+      looking_comes : MachineComes first events e handle running looking
+          (looks.result_of (looks.fed running.store.parts.folders running.store.parts.limit state (answer_now (disk_after first events) ask)))
       looking_comes =
           from_look (looks.result_of (looks.fed running.store.parts.folders running.store.parts.limit state (answer_now (disk_after first events) ask)))
-          (look_comes (tree_at first events) (tree_at first whole) (FailedSince events handle running.begun) (FailedSince whole handle running.begun) running.store running.ignoring running.begun (length events) since
+          (look_comes (tree_at first events) (tree_at first whole) (FailedSince events handle running.begun)
+          (FailedSince whole handle running.begun) running.store running.ignoring running.begun (length events) since
           (tree_at-before first events e) (failed-kept events e handle running.begun) (disk_after first events) (shown_now first events e handle running since ask turn looking_quiet)
           (fails_now first events e handle running since ask turn) (failed_earlier first events e handle running since ask turn) knows.place state ask knows.seeks_id knows.seeks is)
 

@@ -26,8 +26,11 @@ makes_more : (old mid new : World) (before between after : List Step) (own other
     → Makes mid new between after other → Makes old new before after (own ++ other)
 makes_more old mid new before between after own other one two =
     record {
-      steps = two.steps ∙ (ap (λ s. s ++ map (λ (m : Made). m.step) other) one.steps ∙ (append_assoc before (map (λ (m : Made). m.step) own) (map (λ (m : Made). m.step) other) ∙ ap (λ s. before ++ s) (sym (map-append (λ (m : Made). m.step) own other))));
-      outcomes = two.outcomes ∙ (ap (λ s. s ++ map (λ (m : Made). m.outcome) other) one.outcomes ∙ (append_assoc old.outcomes (map (λ (m : Made). m.outcome) own) (map (λ (m : Made). m.outcome) other) ∙ ap (λ s. old.outcomes ++ s) (sym (map-append (λ (m : Made). m.outcome) own other))));
+      steps = two.steps ∙ (ap (λ s. s ++ map (λ (m : Made). m.step) other) one.steps
+          ∙ (append_assoc before (map (λ (m : Made). m.step) own) (map (λ (m : Made). m.step) other) ∙ ap (λ s. before ++ s) (sym (map-append (λ (m : Made). m.step) own other))));
+      outcomes = two.outcomes ∙ (ap (λ s. s ++ map (λ (m : Made). m.outcome) other) one.outcomes
+          ∙ (append_assoc old.outcomes (map (λ (m : Made). m.outcome) own) (map (λ (m : Made). m.outcome) other)
+          ∙ ap (λ s. old.outcomes ++ s) (sym (map-append (λ (m : Made). m.outcome) own other))));
       runs = λ first run. two.runs first (one.runs first run);
     }
 
@@ -151,7 +154,8 @@ pub has_played_more : (first : Volume) (old new : World) (before after : List St
     → HasPlayed first (take index lines) before last old → HasPlayed first (take (index + 1) lines) after (last ++ at ∷ []) new
 has_played_more first old new before after line lines index last at within is at_is own played =
     let even : length before ≡ length old.outcomes = run_even first before old played.run in
-    let longer : length after ≡ length before + length own.own = ap length own.makes.steps ∙ (length-append before (map (λ (m : Made). m.step) own.own) ∙ ap (λ n. length before + n) (length-map own.own (λ (m : Made). m.step))) in
+    let longer : length after ≡ length before + length own.own = ap length own.makes.steps
+    ∙ (length-append before (map (λ (m : Made). m.step) own.own) ∙ ap (λ n. length before + n) (length-map own.own (λ (m : Made). m.step))) in
     let place : at ≡ 0 + length (made_of before old.outcomes) + length own.own - 1 = omega (arith, length-made_of before old.outcomes even) in
     let made : made_of after new.outcomes ≡ made_of before old.outcomes ++ own.own =
     ap (λ s. made_of s new.outcomes) own.makes.steps ∙ (ap (λ o. made_of (before ++ map (λ (m : Made). m.step) own.own) o) own.makes.outcomes ∙ made_of-append before old.outcomes own.own even) in

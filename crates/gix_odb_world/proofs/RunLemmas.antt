@@ -42,7 +42,8 @@ unfolding statuses_from
 statuses_from-push n table [] e = let same : n ≡ n + 0 = omega arith in ap (λ m. status_after m e.step e.outcome e.asked table) same
 statuses_from-push n table (x ∷ events) e =
     let later : n + 1 + length events ≡ n + length (x ∷ events) = omega arith in
-    statuses_from-push (n + 1) (status_after n x.step x.outcome x.asked table) events e ∙ ap (λ m. status_after m e.step e.outcome e.asked (statuses_from (n + 1) (status_after n x.step x.outcome x.asked table) events)) later
+    statuses_from-push (n + 1) (status_after n x.step x.outcome x.asked table) events e
+    ∙ ap (λ m. status_after m e.step e.outcome e.asked (statuses_from (n + 1) (status_after n x.step x.outcome x.asked table) events)) later
 
 pub status_of-push : (events : List Event) (e : Event)
     → status_of (events ++ e ∷ []) ≡ status_after (length events + 1) e.step e.outcome e.asked (status_of events)

@@ -1,6 +1,6 @@
 -- Laws of the events of a lawful run, one by one: what each does to the tree, and that each tree is one.
 pub mod Fronts
-use Rattle.std.proofs.Common.{◌≡◌, ◌⊎◌, inl, inr, ℕ, zero, suc, ◌+◌, Bool, true, false, List, [], ◌∷◌, ◌++◌, take, Option, Some, None, refl, sym, ap, ◌∙◌, subst, arith}
+use Rattle.std.proofs.Common.{◌≡◌, inl, inr, ℕ, zero, suc, ◌+◌, Bool, true, false, List, take, Option, Some, None, refl, sym, ap, ◌∙◌, subst, arith}
 use Rattle.std.specs.Prelude.{slice_get, if◌then◌else◌}
 use Rattle.odb_disk.specs.Ask.{change_of_ask}
 use Rattle.odb_disk.specs.MemDisk.{Volume, after_outside_change, next_fails}
@@ -199,6 +199,7 @@ module _ (first : Volume) (events : List Event) (start : IsTree (tree_of first.s
   is_tree_at (suc place) = elim (event_or_end events place) [
     | inl at ↦
         let next : suc place ≡ place + 1 = omega arith in
-        subst (λ n. IsTree (tree_at first events n)) (sym next) (subst IsTree (sym (tree_next place at.0 at.1)) (tree_after first (take place events) at.0 (is_tree_at place) (kind_at place at.0 at.1)))
+        subst (λ n. IsTree (tree_at first events n)) (sym next)
+        (subst IsTree (sym (tree_next place at.0 at.1)) (tree_after first (take place events) at.0 (is_tree_at place) (kind_at place at.0 at.1)))
     | inr over ↦ subst (λ es. IsTree (tree_of (disk_after first es).state)) (sym (take_none events place over)) (is_tree_at place)
   ]

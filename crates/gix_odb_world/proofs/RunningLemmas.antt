@@ -46,7 +46,8 @@ module _ (trees wider : ℕ → Tree) (begun now later : ℕ) (le : now ≤ late
         record {
           folder = c.folder;
           among = c.among;
-          cause = Cause-wider (GaveSometime trees begun now (loose_path c.folder id)) (GaveSometime wider begun later (loose_path c.folder id)) (gave_wider (loose_path c.folder id)) Failed Fails ⊥ ⊥ fails (λ never. never)
+          cause = Cause-wider (GaveSometime trees begun now (loose_path c.folder id)) (GaveSometime wider begun later (loose_path c.folder id))
+              (gave_wider (loose_path c.folder id)) Failed Fails ⊥ ⊥ fails (λ never. never)
               (job_of call id) (loose_path c.folder id) store.parts.limit error c.cause;
         }
 

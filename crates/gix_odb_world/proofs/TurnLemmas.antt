@@ -52,7 +52,8 @@ set_twice true handle before = refl
 set_twice false handle before = refl
 
 -- what the code did in a turn of a handle
-record Took (old took mid new : World) (disk : Volume) (number : ℕ) (state : HandleState) (work after : Work) (did : Did) (change : Option Change) (outcome : Outcome) (handle : Option Handle) : Type 0 where
+record Took (old took mid new : World) (disk : Volume) (number : ℕ) (state : HandleState) (work after : Work) (did : Did) (change : Option Change) (outcome : Outcome)
+    (handle : Option Handle) : Type 0 where
   there : handle_at old number ≡ Some (record { state = state; work = Some work })
   takes : SetsHandle old took number None
   did_is : did ≡ did_now took.disk (ask_on state work)
@@ -121,7 +122,8 @@ module _ (old took mid new : World) (disk : Volume) (number : ℕ) (state : Hand
             ∙ ap (λ c. old.records ++ record { did = did_of_asked told; change = c; faults = mid.disk.calls.faults } ∷ []) change_is)))
             (took_it.notes.disk ∙ (took_it.sets.disk ∙ disk_is))
             (λ other. rw (status_after-turn (length events + 1) number told result table) (matches_set old new table number next handle explains.handles put here other))
-            (λ other. rw (status_after-turn (length events + 1) number told result table) (runs_set first events e table number next explains.running (λ o apart turns_it. apart (cc turns_it)) on other)),
+            (λ other. rw (status_after-turn (length events + 1) number told result table)
+            (runs_set first events e table number next explains.running (λ o apart turns_it. apart (cc turns_it)) on other)),
       )
 
   by_status : (status : Status) → status_of events number ≡ status → Matches status (Some (record { state = state; work = Some work }))
@@ -139,5 +141,17 @@ pub turned_on : (old took mid new : World) (disk : Volume) (number : ℕ) (state
     → SetsHandle (record took { disk = disk }) mid number handle → Notes mid new outcome did change → Continues old (steps.Turn number) new
 turned_on old took mid new disk number state work left did change outcome handle there takes did_is change_is tree left_is disk_is outcome_is handle_is sets notes first events explains =
     by_status old took mid new disk number state work left did change outcome handle
-    (record { there = there; takes = takes; did_is = did_is; change_is = change_is; tree = tree; after_is = left_is; disk_is = disk_is; outcome_is = outcome_is; handle_is = handle_is; sets = sets; notes = notes })
+    (record {
+      there = there;
+      takes = takes;
+      did_is = did_is;
+      change_is = change_is;
+      tree = tree;
+      after_is = left_is;
+      disk_is = disk_is;
+      outcome_is = outcome_is;
+      handle_is = handle_is;
+      sets = sets;
+      notes = notes;
+    })
     first events explains (status_of events number) refl (subst (Matches (status_of events number)) there (explains.handles number))

@@ -4,7 +4,7 @@ use Rattle.odb_disk.specs.Ask.{answer_now}
 use Rattle.odb_disk.specs.MemDisk.{Volume}
 use Rattle.odb_disk.specs.declared.ask.DiskAnswer.{DiskAnswer}
 use Rattle.gix_odb_loose.specs.LooseOrder as loose_order
-use Rattle.gix_odb_loose.specs.LooseOrder.{disk_ask_of, written_to}
+use Rattle.gix_odb_loose.specs.LooseOrder.{written_to}
 use Rattle.gix_odb_loose.specs.WriteJobs.{advance_to, next_in, pieces_of, writes_left}
 use Rattle.gix_odb_loose.specs.declared.call.LooseCall.{LooseCall}
 use Rattle.gix_odb_loose.specs.declared.write_at_hand.Onward.{Onward}
@@ -30,7 +30,7 @@ use Rattle.gix_odb_world.specs.Writing.{ToWrite, call_to_write, head_to_write, t
 use Rattle.gix_odb_world.specs.Written.{PromiseOfWrite}
 use Rattle.gix_odb_world.proofs.MachineLaws as laws
 use Rattle.gix_odb_world.proofs.WriteTurn.{ask_at_stage, stage_goes}
-use Rattle.gix_odb_world.proofs.WriteTurn.Common.{IsTurnWith}
+use Rattle.gix_odb_world.proofs.WriteTurn.Common.{IsTurnWith, TurnOfWrite}
 use Rattle.gix_odb_world.proofs.WriteTurn.Comes.{Goes}
 
 abbrev job_at : ToWrite → WriteStage → WriteJob
@@ -71,8 +71,11 @@ module _ (first : Volume) (events : List Event) (e : Event) (handle : ℕ) (runn
       abbrev given : DiskAnswer
       given = answer_now (disk_after first events) (ask_at_stage w writes.stage)
 
+      abbrev turn : TurnOfWrite
+      turn = record { first = first; events = events; e = e; handle = handle; begun = running.begun; turns = writes.own; w = w; since = since }
+
       abbrev WriteGoes : Onward → Type 0
-      WriteGoes onward = Goes first events e handle running.begun writes.own w since (ask_at_stage w writes.stage) is given refl writes.stands.past writes.stands.asked onward
+      WriteGoes onward = Goes turn (ask_at_stage w writes.stage) is given refl writes.stands.past writes.stands.asked onward
 
       onward_comes : (onward : Onward) → WriteGoes onward → WriteComes (result_of_write (record { stage = written_to (job_at w writes.stage) (advance_to (job_at w writes.stage) onward) }))
       onward_comes (Stage stage) goes =
@@ -89,7 +92,7 @@ module _ (first : Volume) (events : List Event) (e : Event) (handle : ℕ) (runn
       pub write_goes : WriteComes (result_of_write (loose_order.fed call given))
       write_goes =
           subst (λ (f : LooseCall). WriteComes (result_of_write (loose_order.fed f given))) (sym writes.is)
-          (onward_comes (next_in (job_at w writes.stage) given) (stage_goes first events e handle running.begun writes.own w since writes.stage writes.stands is given refl))
+          (onward_comes (next_in (job_at w writes.stage) given) (stage_goes turn writes.stage writes.stands is given refl))
 
   -- ---- with nothing in front of it
 

@@ -103,7 +103,8 @@ module _ (first : Volume) (events : List Event) (e : Event) where
         holds = λ alone.
             let before = h.holds (alone_before handle path (h.made + 1) (length whole) (omega (arith, length_push events e)) alone) in
             let after : HasFile (tree_at first whole (length events + 1)) path before.0 bytes 0 =
-            has_file_kept (tree_at first events (length events)) (tree_at first whole (length events + 1)) path before.0 bytes 0 (alone_now handle path (h.made + 1) (omega (arith, within)) other alone) before.1 in
+            has_file_kept (tree_at first events (length events)) (tree_at first whole (length events + 1)) path before.0 bytes 0
+            (alone_now handle path (h.made + 1) (omega (arith, within)) other alone) before.1 in
             (before.0, subst (λ n. HasFile (tree_at first whole n) path before.0 bytes 0) (sym (length_push events e)) after);
       }
 
@@ -137,7 +138,8 @@ nothing_among : (x : Exchange) → ¬ (Contains [] x)
 nothing_among x (k, within, is) = omega (arith, within)
 
 -- a write that the event begins has done nothing
-pub writing_begun : (first : Volume) (events : List Event) (e : Event) (handle : ℕ) (store : Store) (ignoring : Bool) (kind : Kind) (size : ℕ) (bytes : List ℕ) (known : Option ObjectId) → size < 2 ^ 64
+pub writing_begun : (first : Volume) (events : List Event) (e : Event) (handle : ℕ) (store : Store) (ignoring : Bool) (kind : Kind) (size : ℕ) (bytes : List ℕ)
+    (known : Option ObjectId) → size < 2 ^ 64
     → IsAtOwnWrite first (events ++ e ∷ []) handle (running_from (length events + 1) (MakeCall (Write kind size bytes known)) store ignoring) nothing_in_front
     (writing store.parts.objects kind size bytes known)
 writing_begun first events e handle store ignoring kind size bytes known fits =

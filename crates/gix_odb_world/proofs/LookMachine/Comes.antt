@@ -54,6 +54,9 @@ module _ (trees wider : ℕ → Tree) (Failed Fails : Type 0) (store : Store) (i
       let same_ask : found.0 ≡ ask = cc (found.1, ap ask_at seeks.stage_is, asked) in
       of_sought place head is
       (result_at head (next_stage store.parts.folders store.parts.limit head state.stage (answer_now disk ask)))
-      (subst (λ a. Comes wider Fails store begun (now + 1) place (omega (arith, from)) head (result_at head (next_stage store.parts.folders store.parts.limit head state.stage (answer_now disk a)))) same_ask
-      (subst (λ s. Comes wider Fails store begun (now + 1) place (omega (arith, from)) head (result_at head (next_stage store.parts.folders store.parts.limit head s (answer_now disk found.0)))) (sym seeks.stage_is)
-      (turn_comes wider Fails store begun (now + 1) place (omega (arith, from)) head disk shown seeks.folder broke seeks.among seeks.noted (carried_wider place head seeks.folder seeks.noted seeks.seen))))
+      (subst (λ a. Comes wider Fails store begun (now + 1) place (omega (arith, from)) head
+      (result_at head (next_stage store.parts.folders store.parts.limit head state.stage (answer_now disk a)))) same_ask
+      (subst (λ s. Comes wider Fails store begun (now + 1) place (omega (arith, from)) head
+      (result_at head (next_stage store.parts.folders store.parts.limit head s (answer_now disk found.0)))) (sym seeks.stage_is)
+      (turn_comes wider Fails store begun (now + 1) place (omega (arith, from)) head disk shown seeks.folder broke seeks.among seeks.noted
+      (carried_wider place head seeks.folder seeks.noted seeks.seen))))

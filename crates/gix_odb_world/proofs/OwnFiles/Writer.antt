@@ -4,8 +4,8 @@ use Rattle.std.specs.Prelude.{if◌then◌else◌, slice_get}
 use Rattle.std.proofs.lemmas.Option.{slice_get_within}
 use Rattle.odb_base.specs.Path.{Path}
 use Rattle.odb_disk.specs.Ask.{answer_now, op_of}
-use Rattle.odb_disk.specs.MemDisk.{Volume, next_fails}
-use Rattle.odb_tree.specs.Tree.{IsTree, Tree, tree_of}
+use Rattle.odb_disk.specs.MemDisk.{next_fails}
+use Rattle.odb_tree.specs.Tree.{IsTree, Tree}
 use Rattle.odb_tree.specs.Tree.Way.{SameOnWay}
 use Rattle.odb_disk.specs.declared.ask.DiskAnswer.{DiskAnswer}
 use Rattle.odb_disk.specs.declared.ask.DiskAnswer.TheVariants as answers
@@ -20,7 +20,6 @@ use Rattle.gix_odb_loose.specs.LooseOrder.{disk_ask_of}
 use Rattle.gix_odb_loose.specs.LooseOrder as loose_order
 use Rattle.gix_odb_loose.specs.WriteDone.{data_at}
 use Rattle.gix_odb_loose.specs.WriteOrder.{number_made, prefix_path, temp_path}
-use Rattle.gix_odb_loose.specs.WriteStreams.{OtherLength}
 use Rattle.gix_odb_loose.specs.declared.call.LooseCall.{LooseCall}
 use Rattle.gix_odb_loose.specs.declared.write_order.Refusal.{Refusal}
 use Rattle.gix_odb_loose.specs.declared.write_order.WriteStage.{WriteStage}
@@ -36,12 +35,13 @@ use Rattle.gix_odb_world.specs.declared.step.Step.TheVariants as steps
 use Rattle.gix_odb_world.specs.Event.{Asked, Event, ToDisk, to_disk}
 use Rattle.gix_odb_world.specs.Machines.{write_in}
 use Rattle.gix_odb_world.specs.Status.{IsAtWrite, Running, Store, Status, Working, replied, status_after, status_of}
-use Rattle.gix_odb_world.specs.Headline.{IsLawful, outcome_of}
+use Rattle.gix_odb_world.specs.Headline.{outcome_of}
 use Rattle.gix_odb_world.specs.Run.{IsTurnOf, change_by, disk_after, tree_at}
-use Rattle.gix_odb_world.specs.Running.{Knows, Runs, RunsThroughout}
+use Rattle.gix_odb_world.specs.Running.{Knows, Runs}
 use Rattle.gix_odb_world.specs.Running.Write.{IsWriting, result_of_write, write_at}
 use Rattle.gix_odb_world.specs.Undisturbed.{HasMade}
-use Rattle.gix_odb_world.specs.Writing.{AskedAt, IsMaking, IsNewFile, ToWrite, head_to_write, name_to_write}
+use Rattle.gix_odb_world.specs.Writing.{AskedAt, GetsName, HasOther, IsMaking, IsNewFile, ToWrite, head_to_write}
+use Rattle.gix_odb_world.proofs.LawfulRun.{LawfulRun}
 use Rattle.gix_odb_world.proofs.DiskTurns.{CallsDisk, calls_disk}
 use Rattle.gix_odb_world.proofs.FileSteps.{IsNewAt, WriterMoves, new_at, writer_moves}
 use Rattle.gix_odb_world.proofs.FileSteps.AtWrite.{AtWrite, ended}
@@ -73,7 +73,9 @@ no_write_after store begun number step outcome asked table handle reply turn is 
     subst (λ o. AtWrite store begun (status_after number (steps.Turn handle) o asked table handle)) is (subst (λ s. AtWrite store begun (status_after number s outcome asked table handle)) turn at) in
     ended store begun reply (table handle) (subst (λ b. AtWrite store begun (if b then replied reply (table handle) else table handle)) (eq-eqb handle handle refl) here)
 
-module _ (first : Volume) (events : List Event) (start : IsTree (tree_of first.state)) (lawful : IsLawful first events) (throughout : RunsThroughout first events) where
+module _ (run : LawfulRun) where
+  open run use {first, events, start, lawful, throughout}
+
   abbrev tree : ℕ → Tree
   tree = tree_at first events
 
@@ -112,7 +114,8 @@ module _ (first : Volume) (events : List Event) (start : IsTree (tree_of first.s
       → (made : ℕ) × HasMade first events handle made (temp_path running.store.parts.objects number) now
   made_at_stage now handle running call at writes number stage =
       let w = writes.write in
-      let among = history_makes (head_to_write w) (λ id. id ≡ name_to_write w) number ⊥ (OtherLength (Some w.bytes) w.size) writes.stage (data_at w.bytes writes.stage) writes.stands.past stage (done_at first (take now events) handle running.begun writes.own w writes.stage writes.stands).history in
+      let among = history_makes (head_to_write w) (GetsName w) number ⊥ (HasOther w) writes.stage (data_at w.bytes writes.stage) writes.stands.past stage
+      (done_at first (take now events) handle running.begun writes.own w writes.stage writes.stands).history in
       let asked = writes.stands.asked (exchanged (asks.NewFile (temp_path w.objects number)) answers.Done) among in
       let whole = asked_whole handle now asked.place (temp_path w.objects number) asked.at in (
         asked.place,
@@ -143,7 +146,8 @@ module _ (first : Volume) (events : List Event) (start : IsTree (tree_of first.s
           → (n : ℕ) × (number_made writes.stage ≡ Some n) × (path ≡ temp_path hm.running.store.parts.objects n)
       by_number None is made_it = absurd made_it
       by_number (Some n) is made_it =
-          let both : Disk (op_of (asks.NewFile path)) path (next_fails (disk_after first (take made events))) ≡ Disk (op_of (asks.NewFile (temp_path writes.write.objects n))) (temp_path writes.write.objects n) made_it.0 = sym hm.makes.did ∙ made_it.1 in
+          let both : Disk (op_of (asks.NewFile path)) path (next_fails (disk_after first (take made events)))
+          ≡ Disk (op_of (asks.NewFile (temp_path writes.write.objects n))) (temp_path writes.write.objects n) made_it.0 = sym hm.makes.did ∙ made_it.1 in
           (n, is, cc both ∙ ap (λ o. temp_path o n) writes.into)
 
   -- ---- what a turn of a write changes
@@ -230,10 +234,14 @@ module _ (first : Volume) (events : List Event) (start : IsTree (tree_of first.s
       by_stage : (stage : WriteStage) → writes.stage ≡ stage → WriterMoves (tree place) objects stage (Rename from to)
           → (id : ObjectId) × (e.outcome ≡ outcomes.Reply (replies.Wrote id))
       by_stage (stages.Making n) stage made = let c = new_file_change (tree place) (temp_path objects n) (Rename from to) made in absurd (let both : Rename from to ≡ PutFile c.0 0 [] = c.2 in cc both)
-      by_stage (stages.Heading n) stage made = let c = append_change (tree place) (temp_path objects n) (Rename from to) made.0 made.1 in absurd (let both : Rename from to ≡ Append c.0 made.0 = c.2 in cc both)
-      by_stage (stages.Filling n written) stage made = let c = append_change (tree place) (temp_path objects n) (Rename from to) made.0 made.1 in absurd (let both : Rename from to ≡ Append c.0 made.0 = c.2 in cc both)
-      by_stage (stages.Foldering n id) stage made = let c = make_dir_change (tree place) (prefix_path objects id) (Rename from to) made in absurd (let both : Rename from to ≡ MakeDir c.0 _ = c.2 in cc both)
-      by_stage (stages.Removing n refusal) stage made = let c = remove_change (tree place) (temp_path objects n) (Rename from to) made in absurd (let both : Rename from to ≡ Remove c.0 = c.2 in cc both)
+      by_stage (stages.Heading n) stage made = let c = append_change (tree place) (temp_path objects n) (Rename from to) made.0 made.1 in absurd
+          (let both : Rename from to ≡ Append c.0 made.0 = c.2 in cc both)
+      by_stage (stages.Filling n written) stage made = let c = append_change (tree place) (temp_path objects n) (Rename from to) made.0 made.1 in absurd
+          (let both : Rename from to ≡ Append c.0 made.0 = c.2 in cc both)
+      by_stage (stages.Foldering n id) stage made = let c = make_dir_change (tree place) (prefix_path objects id) (Rename from to) made in absurd
+          (let both : Rename from to ≡ MakeDir c.0 _ = c.2 in cc both)
+      by_stage (stages.Removing n refusal) stage made = let c = remove_change (tree place) (temp_path objects n) (Rename from to) made in absurd
+          (let both : Rename from to ≡ Remove c.0 = c.2 in cc both)
       by_stage (stages.Moving n id) stage made =
           let now : call ≡ write_at writes.write (stages.Moving n id) = writes.is ∙ ap (write_at writes.write) stage in
           let disk = disk_after first (take place events) in

@@ -41,7 +41,8 @@ module _ (first : Volume) (events : List Event) (handle begun turns : ℕ) (w : 
   had : (stage : WriteStage) → Stands stage → HasAsked (length w.bytes) turns stage
   had stage s = subst (λ n. HasAsked (length w.bytes) n stage) (sym s.had) (HasDone-asked (job_to_write w) stage s.past (done stage s))
 
-  by_pieces : (number written : ℕ) (s : Stands (stages.Filling number written)) → written < length w.bytes → IsInPieces written → Asks (asks.Append (temp_path w.objects number) (piece_at w.size w.bytes written))
+  by_pieces : (number written : ℕ) (s : Stands (stages.Filling number written)) → written < length w.bytes → IsInPieces written
+      → Asks (asks.Append (temp_path w.objects number) (piece_at w.size w.bytes written))
   by_pieces number written s more pieces =
       let turn : turns ≡ number + 2 + pieces.0 = had (stages.Filling number written) s ∙ (ap (λ n. number + 2 + pieces_of n) pieces.1 ∙ ap (λ n. number + 2 + n) (whole_pieces pieces.0)) in
       subst (λ n. Asks (asks.Append (temp_path w.objects number) (piece_at w.size w.bytes n))) (sym pieces.1)
@@ -53,9 +54,11 @@ module _ (first : Volume) (events : List Event) (handle begun turns : ℕ) (w : 
   at_stage (stages.Heading number) s = AppendsHeader number (made (stages.Heading number) number refl s) (had (stages.Heading number) s)
   at_stage (stages.Filling number written) s = let next = (done (stages.Filling number written) s).next in by_pieces number written s next.1 next.2
   at_stage (stages.Foldering number id) s =
-      subst (λ i. Asks (asks.MakeDir (prefix_path w.objects i))) (sym (done (stages.Foldering number id) s).history.1) (MakesDirectory number (made (stages.Foldering number id) number refl s) (had (stages.Foldering number id) s))
+      subst (λ i. Asks (asks.MakeDir (prefix_path w.objects i))) (sym (done (stages.Foldering number id) s).history.1)
+      (MakesDirectory number (made (stages.Foldering number id) number refl s) (had (stages.Foldering number id) s))
   at_stage (stages.Moving number id) s =
-      subst (λ i. Asks (asks.Rename (temp_path w.objects number) (loose_path w.objects i))) (sym (done (stages.Moving number id) s).history.1) (Renames number (made (stages.Moving number id) number refl s) (had (stages.Moving number id) s))
+      subst (λ i. Asks (asks.Rename (temp_path w.objects number) (loose_path w.objects i))) (sym (done (stages.Moving number id) s).history.1)
+      (Renames number (made (stages.Moving number id) number refl s) (had (stages.Moving number id) s))
   at_stage (stages.Removing number refusal) s = Removes number (made (stages.Removing number refusal) number refl s)
 
 -- a running write asks in its turn

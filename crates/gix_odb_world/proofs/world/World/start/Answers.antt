@@ -7,7 +7,8 @@ use Rattle.gix_odb_world.proofs.StartLemmas.{begun}
 use Rattle.gix_odb_world.proofs.world.World.start.Goals as goal
 
 pub returns-in-Err-clause-continues : goal.returns-in-Err-clause-continues
-returns-in-Err-clause-continues c = on_ok_weaker c.misuse.result (misused c.args.self.now c.misuse.new.self (steps.Start c.args.number c.args.call.now) c.in-Err.why (sym c.in-Err.ensures.why)) c.misuse.ensures.notes
+returns-in-Err-clause-continues c = on_ok_weaker c.misuse.result
+    (misused c.args.self.now c.misuse.new.self (steps.Start c.args.number c.args.call.now) c.in-Err.why (sym c.in-Err.ensures.why)) c.misuse.ensures.notes
 
 pub returns-clause-continues : goal.returns-clause-continues
 returns-clause-continues c =
