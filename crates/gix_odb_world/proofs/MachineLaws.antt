@@ -1,6 +1,6 @@
 -- What a machine has to show, so that a handle may be at it. The laws are no fields of the machine: they speak of statuses and promises,
 -- which are folded by the machines and so stand above them.
-use Rattle.std.proofs.Common.{◌≡◌, ◌⊎◌, ℕ, ◌+◌, ◌<◌, ◌≤◌, Bool, false, List, [], ◌∷◌, ◌++◌, length, Option, Some, None, Result, Ok, Err, refl, sym, ap, ◌∙◌, subst}
+use Rattle.std.proofs.Common.{◌≡◌, ◌⊎◌, ℕ, ◌+◌, ◌<◌, ◌≤◌, false, List, [], ◌∷◌, ◌++◌, length, Option, Some, None, Result, Ok, Err, refl, sym, ap, ◌∙◌, subst}
 use Rattle.odb_disk.specs.MemDisk.{Volume}
 use Rattle.odb_disk.specs.Ask.{answer_now}
 use Rattle.odb_tree.specs.Tree.{IsTree, tree_of}
@@ -28,13 +28,13 @@ use Rattle.gix_odb_world.specs.Run.{IsTurnOf, change_by, disk_after, told_now}
 use Rattle.gix_odb_world.specs.Running.{Knows}
 use Rattle.gix_odb_world.specs.Running.Write.{IsWriting, result_of_write, write_at}
 use Rattle.gix_odb_world.specs.Writing.{ToWrite}
-use Rattle.gix_odb_world.specs.Status.{MakeCall, OpenStore, Running, Store, Task, begun_with, gone_on, running_from}
+use Rattle.gix_odb_world.specs.Status.{MakeCall, OpenStore, Running, Store, Task, begun_with, gone_on, running_from, Modes}
 use Rattle.gix_odb_world.specs.WorkOrder.{ask_on, fed_after, result_in}
 use Rattle.gix_odb_world.proofs.WriteTurn.Common.{IsTurnWith}
 
 -- the turn of a task's call of the disk, and the change that this makes
 pub record HasTurn (first : Volume) (events : List Event) (handle : ℕ) (running : Running) (task : Task) (ask : DiskAsk) : Type 0 where
-  pub in_order : AsksInOrder first events handle running.store running.ignoring running.begun running.turns task ask
+  pub in_order : AsksInOrder first events handle running.store running.modes running.begun running.turns task ask
   pub five : ChangesInTask first events handle running.store running.begun task ask (change_by (disk_after first events) ask)
 
 -- what a turn asks for comes in the order of its task, and makes a change that the task may make
@@ -74,7 +74,7 @@ module _ (first : Volume) (events : List Event) (e : Event) (handle : ℕ) (runn
 
   -- the promise of the task that was set
   abbrev pub Keeps : Reply → Type 0
-  Keeps reply = Promise first whole handle running.store running.ignoring running.begun running.task reply
+  Keeps reply = Promise first whole handle running.store running.modes running.begun running.task reply
 
   -- a bound isn't reached
   abbrev pub InTime : (bound : Store → Task → (entries : ℕ) → ℕ) → Type 0
@@ -139,15 +139,15 @@ pub record KeepsLaws (m : Machine) : Type 1 where
   -- the work of a state is of this machine, at this state
   pub at_home : (state : m.State) → at (m.work state) ≡ home m state
   -- the code of the work asks and goes on as the machine does
-  pub asks : (store : Store) (ignoring : Bool) (code : HandleState) → IsHandleOf store ignoring code → (state : m.State)
+  pub asks : (store : Store) (modes : Modes) (code : HandleState) → IsHandleOf store modes code → (state : m.State)
       → to_disk (ask_on code (m.work state)) ≡ m.ask store state
-  pub feeds : (store : Store) (ignoring : Bool) (code : HandleState) → IsHandleOf store ignoring code → (state : m.State) (answer : Option DiskAnswer)
+  pub feeds : (store : Store) (modes : Modes) (code : HandleState) → IsHandleOf store modes code → (state : m.State) (answer : Option DiskAnswer)
       → result_in (fed_after code (m.work state) answer) ≡ placed m (m.feed store state (from_disk answer))
   -- where a task begins at a state, that is all that it knows
-  pub starts : (first : Volume) (events : List Event) (e : Event) (handle : ℕ) (store : Store) (ignoring : Bool) (task : Task) (state : m.State)
+  pub starts : (first : Volume) (events : List Event) (e : Event) (handle : ℕ) (store : Store) (modes : Modes) (task : Task) (state : m.State)
       → IsSized task
-      → begun_with store ignoring task ≡ m.work state
-      → m.Knows first (events ++ e ∷ []) handle (running_from (length events + 1) task store ignoring) state
+      → begun_with store modes task ≡ m.work state
+      → m.Knows first (events ++ e ∷ []) handle (running_from (length events + 1) task store modes) state
   -- the task of a state is one that it may be at, and has the machine's bound
   pub tasked : (first : Volume) (events : List Event) (handle : ℕ) (running : Running) (state : m.State) → m.Knows first events handle running state
       → m.IsFor running.task state
@@ -230,7 +230,7 @@ writes_nothing m none quiet = record {
 
 -- a call of the disk that makes no change may come in any task
 pub quiet_turn : (first : Volume) (events : List Event) (handle : ℕ) (running : Running) (task : Task) (ask : DiskAsk)
-    → AsksInOrder first events handle running.store running.ignoring running.begun running.turns task ask
+    → AsksInOrder first events handle running.store running.modes running.begun running.turns task ask
     → change_by (disk_after first events) ask ≡ None
     → HasTurn first events handle running task ask
 quiet_turn first events handle running task ask in_order quiet =

@@ -1,6 +1,6 @@
 -- An opening keeps the laws of a machine.
 pub mod Look
-use Rattle.std.proofs.Common.{◌≡◌, ℕ, ◌+◌, ◌≤◌, Bool, true, false, cond, List, [], ◌∷◌, ◌++◌, length, Option, Some, None, refl, sym, ◌∙◌, ap, subst, arith}
+use Rattle.std.proofs.Common.{◌≡◌, ℕ, ◌+◌, ◌≤◌, true, false, cond, List, [], ◌∷◌, ◌++◌, length, Option, Some, None, refl, sym, ◌∙◌, ap, subst, arith}
 use Rattle.std.proofs.lemmas.List.{length_push}
 use Rattle.odb_tree.specs.Tree.{tree_of}
 use Rattle.odb_tree.specs.declared.disk_error.DiskError.TheVariants as disk_errors
@@ -27,7 +27,7 @@ use Rattle.gix_odb_world.specs.Machine.{placed}
 use Rattle.gix_odb_world.specs.Promise.{OpeningPromise, Promise}
 use Rattle.gix_odb_world.specs.Run.{FailedSince, IsTurnOf, change_by, disk_after, tree_at}
 use Rattle.gix_odb_world.specs.Running.Opening.{IsOpening, opening, result_of_opening}
-use Rattle.gix_odb_world.specs.Status.{MakeCall, OpenStore, Running, Store, Task, begun_with, running_from}
+use Rattle.gix_odb_world.specs.Status.{MakeCall, OpenStore, Running, Store, Task, begun_with, running_from, Modes}
 use Rattle.gix_odb_world.specs.WorkOrder.{fed_after, opening_result, result_in}
 use Rattle.gix_odb_world.proofs.FolderLemmas.{look_quiet}
 use Rattle.gix_odb_world.proofs.MachineLaws.{AsksDisk, HasTurn, IsSized, KeepsLaws, MachineComes, quiet_turn, same_ask as own_ask, turns_by_disk, writes_nothing}
@@ -43,23 +43,23 @@ opening_placed : (state : OpenState) → opening_result state ≡ placed opening
 opening_placed opens.Looking = refl
 opening_placed (opens.Done reply) = refl
 
-opening_feeds : (store : Store) (ignoring : Bool) (code : HandleState) → IsHandleOf store ignoring code → (state : OpenState) (answer : Option DiskAnswer)
+opening_feeds : (store : Store) (modes : Modes) (code : HandleState) → IsHandleOf store modes code → (state : OpenState) (answer : Option DiskAnswer)
     → result_in (fed_after code (Opening state) answer) ≡ placed opening (opening.feed store state (from_disk answer))
-opening_feeds store ignoring code own state None = opening_placed state
-opening_feeds store ignoring code own state (Some answer) =
+opening_feeds store modes code own state None = opening_placed state
+opening_feeds store modes code own state (Some answer) =
     ap (λ slots. opening_result (openings.fed slots state answer)) own.slots ∙ opening_placed (openings.fed store.slots state answer)
 
 -- ---- its beginning
 
-opening_starts : (first : Volume) (events : List Event) (e : Event) (handle : ℕ) (store : Store) (ignoring : Bool) (task : Task) (state : OpenState)
+opening_starts : (first : Volume) (events : List Event) (e : Event) (handle : ℕ) (store : Store) (modes : Modes) (task : Task) (state : OpenState)
     → IsSized task
-    → begun_with store ignoring task ≡ Opening state
-    → IsOpening (events ++ e ∷ []) handle (running_from (length events + 1) task store ignoring) state
-opening_starts first events e handle store ignoring OpenStore state sized is =
+    → begun_with store modes task ≡ Opening state
+    → IsOpening (events ++ e ∷ []) handle (running_from (length events + 1) task store modes) state
+opening_starts first events e handle store modes OpenStore state sized is =
     let same : opens.Looking ≡ state = cc is in
     let whole : length (events ++ e ∷ []) ≡ length events + 1 = length_push events e in
     record { task = refl; turns = refl; looks = sym same; no_failure = none_failed_yet (events ++ e ∷ []) handle (length events + 1) (omega (arith, whole)) }
-opening_starts first events e handle store ignoring (MakeCall call) state sized is = absurd (cc is)
+opening_starts first events e handle store modes (MakeCall call) state sized is = absurd (cc is)
 
 opening_kept : (events : List Event) (e : Event) (handle : ℕ) (running : Running) (state : OpenState) → ¬ (IsTurnOf handle e.step)
     → IsOpening events handle running state
@@ -79,10 +79,10 @@ opening_still store opens.Looking ask is = let same : asks.Look store.parts.obje
 opening_still store (opens.Done reply) ask is = absurd (cc is)
 
 -- it looks at its objects directory
-in_order_opening : (first : Volume) (events : List Event) (handle : ℕ) (store : Store) (ignoring : Bool) (begun turns : ℕ) (state : OpenState) (ask : DiskAsk)
+in_order_opening : (first : Volume) (events : List Event) (handle : ℕ) (store : Store) (modes : Modes) (begun turns : ℕ) (state : OpenState) (ask : DiskAsk)
     → state ≡ opens.Looking → turns ≡ 0 → openings.ask_of store.parts.objects state ≡ Some ask
-    → AsksInOrder first events handle store ignoring begun turns OpenStore ask
-in_order_opening first events handle store ignoring begun turns state ask is none asked =
+    → AsksInOrder first events handle store modes begun turns OpenStore ask
+in_order_opening first events handle store modes begun turns state ask is none asked =
     let looks : Some (asks.Look store.parts.objects true) ≡ Some ask = ap (openings.ask_of store.parts.objects) (sym is) ∙ asked in
     let same : asks.Look store.parts.objects true ≡ ask = cc looks in
     (none, sym same)
@@ -104,7 +104,7 @@ module _ (first : Volume) (events : List Event) (handle : ℕ) (running : Runnin
   opening_takes =
       subst (λ task. HasTurn first events handle running task ask) (sym knows.task)
       (quiet_turn first events handle running OpenStore ask
-      (in_order_opening first events handle running.store running.ignoring running.begun running.turns state ask knows.looks knows.turns is) opening_quiet)
+      (in_order_opening first events handle running.store running.modes running.begun running.turns state ask knows.looks knows.turns is) opening_quiet)
 
   module _ (e : Event) (since : running.begun ≤ length events) (turn : IsTurnWith first events e handle ask) where
     abbrev whole : List Event
@@ -127,7 +127,7 @@ module _ (first : Volume) (events : List Event) (handle : ℕ) (running : Runnin
     opening_comes : Comes state
     opening_comes =
         subst Comes (sym knows.looks)
-        (subst (λ task. Promise first whole handle running.store running.ignoring running.begun task (opening_reply running.store.slots (answer_now (disk_after first events) ask))) (sym knows.task)
+        (subst (λ task. Promise first whole handle running.store running.modes running.begun task (opening_reply running.store.slots (answer_now (disk_after first events) ask))) (sym knows.task)
         (subst (λ now. Promised now (answer_now (disk_after first events) ask)) (sym (length_push events e)) look_promised))
 
 -- ---- its laws
@@ -152,7 +152,7 @@ opening_turns = record {
 pub opening_laws : KeepsLaws opening
 opening_laws = record {
   at_home = λ state. refl;
-  asks = λ store ignoring code own state. ap (λ objects. to_disk (openings.ask_of objects state)) own.objects;
+  asks = λ store modes code own state. ap (λ objects. to_disk (openings.ask_of objects state)) own.objects;
   feeds = opening_feeds;
   starts = opening_starts;
   tasked = λ first events handle running state knows. knows.task;

@@ -21,7 +21,7 @@ use Rattle.gix_odb_world.proofs.LawfulRun.{LawfulRun}
 use Rattle.gix_odb_world.proofs.FileSteps.{NotTemporary, new_at}
 use Rattle.gix_odb_world.proofs.RunSteps.{Kind, Made, Quiet, Turned, event_or_end, kind_at, none_beyond, take_none}
 use Rattle.gix_odb_world.proofs.OwnFiles.Writer.{one_event, ByWriter, quiet_or_writer}
-use Rattle.gix_odb_world.proofs.OwnFiles.Standing.{Own, Lost, Files, lost_no_file, made_before, own_same, lost_same, same_way, temporary, CutNow, lost_now}
+use Rattle.gix_odb_world.proofs.OwnFiles.Standing.{Own, Lost, Files, lost_no_file, made_before, own_same, lost_same, same_way, CutNow, lost_now}
 use Rattle.gix_odb_world.proofs.OwnFiles.Other.{own_spared, lost_spared}
 use Rattle.gix_odb_world.proofs.OwnFiles.Turn.{lost_turn, own_turn}
 

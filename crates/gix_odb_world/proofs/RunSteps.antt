@@ -60,7 +60,7 @@ pub data Kind (first : Volume) (past : List Event) (e : Event) : Type 0 where
 
 at_work : (status : Status) → None ≡ why_not_running (phase_of status) → (running : Running) × (status ≡ Working running)
 at_work Free valid = absurd (cc)
-at_work (Resting store ignoring) valid = absurd (cc)
+at_work (Resting store modes) valid = absurd (cc)
 at_work (Working running) valid = (running, refl)
 
 possible_by : (b : Bool) (why : Why) → None ≡ (if b then None else Some why) → b ≡ true

@@ -33,8 +33,8 @@ use Rattle.gix_odb_world.proofs.WorldLemmas.{matches_set, throughout-push}
 phase_of-matched : (status : Status) (handle : Option Handle) → Matches status handle → phase_of status ≡ phase_of_handle handle
 phase_of-matched Free None match = refl
 phase_of-matched Free (Some handle) match = absurd match
-phase_of-matched (Resting store ignoring) None match = absurd match
-phase_of-matched (Resting store ignoring) (Some handle) match = ap phase_of_work (sym match.1)
+phase_of-matched (Resting store modes) None match = absurd match
+phase_of-matched (Resting store modes) (Some handle) match = ap phase_of_work (sym match.1)
 phase_of-matched (Working running) None match = absurd match
 phase_of-matched (Working running) (Some handle) match = ap phase_of_work (sym match.1)
 
@@ -120,7 +120,7 @@ runs_misused : (first : Volume) (events : List Event) (e : Event) (why : Why) (h
     → (IsTurnOf handle e.step → why_not_running (phase_of status) ≡ Some why) → Runs first events handle status
     → Runs first (events ++ e ∷ []) handle status
 runs_misused first events e why handle Free is reason runs = tt
-runs_misused first events e why handle (Resting store ignoring) is reason runs = tt
+runs_misused first events e why handle (Resting store modes) is reason runs = tt
 runs_misused first events e why handle (Working running) is reason runs = runs-push first events e handle (Working running) (λ turn. absurd (cc (reason turn))) runs
 
 pub misused : (old new : World) (step : Step) (why : Why) → why_not_now old step ≡ Some why → Notes old new (outcomes.Misuse why) Nothing None

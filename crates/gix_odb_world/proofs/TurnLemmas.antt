@@ -69,7 +69,7 @@ record Took (old took mid new : World) (disk : Volume) (number : ℕ) (state : H
 module _ (old took mid new : World) (disk : Volume) (number : ℕ) (state : HandleState) (work left : Work) (did : Did) (change : Option Change) (outcome : Outcome) (handle : Option Handle)
     (took_it : Took old took mid new disk number state work left did change outcome handle) (first : Volume) (events : List Event) (explains : Explains first events old) where
   -- by the store of the handle, and the work that it is at
-  goes_at : (running : Running) → status_of events number ≡ Working running → running.work ≡ work → IsHandleOf running.store running.ignoring state
+  goes_at : (running : Running) → status_of events number ≡ Working running → running.work ≡ work → IsHandleOf running.store running.modes state
       → (o : Outcome) × GoesOn first events (steps.Turn number) o new
   goes_at running status at own =
       let store : Store = running.store in
@@ -78,7 +78,7 @@ module _ (old took mid new : World) (disk : Volume) (number : ℕ) (state : Hand
       let told : Asked = told_now old.disk ask in
       let made : Option Change = change_asked old.disk ask in
       let same_disk : took.disk ≡ old.disk = took_it.takes.disk in
-      let asks_it : to_disk code ≡ ask = code_asks store running.ignoring state own work ∙ ap (ask_in store) (sym at) in
+      let asks_it : to_disk code ≡ ask = code_asks store running.modes state own work ∙ ap (ask_in store) (sym at) in
       let still : (call : DiskAsk) → code ≡ Some call → is_of_streams call ≡ false = λ call is. ask_still store running.work call (sym asks_it ∙ ap to_disk is) in
       let did_is : did ≡ did_of_asked told =
       took_it.did_is ∙ (ap (λ d. did_now d code) same_disk ∙ (did_now-told old.disk code ∙ ap (λ a. did_of_asked (told_now old.disk a)) asks_it)) in
@@ -87,7 +87,7 @@ module _ (old took mid new : World) (disk : Volume) (number : ℕ) (state : Hand
       took_it.after_is ∙ (ap (λ d. work_now d state work code) same_disk ∙ work_now-fed old.disk state work code) in
       let given : from_disk (answer_on old.disk code) ≡ answered told = answer_on-told old.disk code ∙ ap (λ a. answered (told_now old.disk a)) asks_it in
       let result_is : result_in left ≡ result =
-      ap result_in left_is ∙ (code_feeds store running.ignoring state own work (answer_on old.disk code) ∙ (ap (fed_in store work) given ∙ ap (λ w. fed_in store w (answered told)) (sym at))) in
+      ap result_in left_is ∙ (code_feeds store running.modes state own work (answer_on old.disk code) ∙ (ap (fed_in store work) given ∙ ap (λ w. fed_in store w (answered told)) (sym at))) in
       let disk_is : disk ≡ disk_after_asked old.disk told made =
       took_it.disk_is ∙ (ap (λ d. disk_now d code) same_disk ∙ (disk_now-asked old.disk code ∙ ap (λ a. disk_after_asked old.disk (told_now old.disk a) (change_asked old.disk a)) asks_it)) in
       let change_is : change ≡ made =
@@ -129,7 +129,7 @@ module _ (old took mid new : World) (disk : Volume) (number : ℕ) (state : Hand
   by_status : (status : Status) → status_of events number ≡ status → Matches status (Some (record { state = state; work = Some work }))
       → (o : Outcome) × GoesOn first events (steps.Turn number) o new
   by_status Free is match = absurd match
-  by_status (Resting store ignoring) is match = absurd (cc match.1)
+  by_status (Resting store modes) is match = absurd (cc match.1)
   by_status (Working running) is match = let both : Some work ≡ Some running.work = match.1 in goes_at running is (sym (cc both)) match.0
 
 -- each history goes on by the turn

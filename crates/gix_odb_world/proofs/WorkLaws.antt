@@ -1,5 +1,5 @@
 -- What holds of any work, since the machine that it is of keeps its laws.
-use Rattle.std.proofs.Common.{◌≡◌, ◌⊎◌, ℕ, Bool, false, List, Option, Some, None, Ok, Err, Result, refl, sym, ◌∙◌, ap}
+use Rattle.std.proofs.Common.{◌≡◌, ◌⊎◌, ℕ, false, List, Option, Some, None, Ok, Err, Result, refl, sym, ◌∙◌, ap}
 use Rattle.odb_disk.specs.MemDisk.{Volume}
 use Rattle.odb_disk.specs.StreamAsks.{is_of_streams}
 use Rattle.odb_disk.specs.declared.ask.DiskAsk.{DiskAsk}
@@ -17,7 +17,7 @@ use Rattle.gix_odb_world.specs.Machines.{at, ask_in, fed_in, write_in}
 use Rattle.gix_odb_world.specs.Run.{change_by, disk_after}
 use Rattle.gix_odb_world.specs.Running.{Knows}
 use Rattle.gix_odb_world.specs.Running.Write.{IsWriting, result_of_write}
-use Rattle.gix_odb_world.specs.Status.{Running, Store}
+use Rattle.gix_odb_world.specs.Status.{Running, Store, Modes}
 use Rattle.gix_odb_world.specs.WorkOrder.{ask_on, fed_after, result_in}
 use Rattle.gix_odb_world.proofs.MachineLaws.{HasNoFile}
 use Rattle.gix_odb_world.proofs.Machines.{laws_at}
@@ -25,15 +25,15 @@ use Rattle.gix_odb_world.proofs.Machines.{laws_at}
 -- ---- its code
 
 -- the code of a handle asks what the work names
-pub code_asks : (store : Store) (ignoring : Bool) (code : HandleState) → IsHandleOf store ignoring code → (work : Work)
+pub code_asks : (store : Store) (modes : Modes) (code : HandleState) → IsHandleOf store modes code → (work : Work)
     → to_disk (ask_on code work) ≡ ask_in store work
-code_asks store ignoring code own work = ap (λ w. to_disk (ask_on code w)) (sym (at work).is) ∙ (laws_at work).asks store ignoring code own (at work).state
+code_asks store modes code own work = ap (λ w. to_disk (ask_on code w)) (sym (at work).is) ∙ (laws_at work).asks store modes code own (at work).state
 
 -- and goes on as the work does
-pub code_feeds : (store : Store) (ignoring : Bool) (code : HandleState) → IsHandleOf store ignoring code → (work : Work) (answer : Option DiskAnswer)
+pub code_feeds : (store : Store) (modes : Modes) (code : HandleState) → IsHandleOf store modes code → (work : Work) (answer : Option DiskAnswer)
     → result_in (fed_after code work answer) ≡ fed_in store work (from_disk answer)
-code_feeds store ignoring code own work answer =
-    ap (λ w. result_in (fed_after code w answer)) (sym (at work).is) ∙ (laws_at work).feeds store ignoring code own (at work).state answer
+code_feeds store modes code own work answer =
+    ap (λ w. result_in (fed_after code w answer)) (sym (at work).is) ∙ (laws_at work).feeds store modes code own (at work).state answer
 
 -- no work names a call of streams
 pub ask_still : (store : Store) (work : Work) (ask : DiskAsk) → ask_in store work ≡ Some (ToDisk ask) → is_of_streams ask ≡ false

@@ -111,7 +111,7 @@ module _ (first : Volume) (events : List Event) (e : Event) (handle : ℕ) (runn
     -- what the write promises, into the objects directory of its store
     keeps : (reply : Reply) → PromiseOfWrite first whole handle running.begun own.write reply → laws.Keeps first events e handle running reply
     keeps reply p =
-        subst (λ task. Promise first whole handle running.store running.ignoring running.begun task reply) (sym at.task)
+        subst (λ task. Promise first whole handle running.store running.modes running.begun task reply) (sym at.task)
         (subst (λ objects. PromiseOfWrite first whole handle running.begun (to_write objects own.write.kind own.write.size own.write.bytes own.write.known) reply) own.into p)
 
     comes_to : (result : Result Reply LooseCall) → WriteComes call own result → laws.MachineComes first events e handle running writing result

@@ -1,5 +1,5 @@
 -- What a write has done stays done over the steps of others.
-use Rattle.std.proofs.Common.{◌≡◌, ℕ, ◌+◌, ◌<◌, ◌≤◌, ◌^◌, Bool, List, [], ◌∷◌, ◌++◌, length, take, Contains, Some, None, Option, refl, sym, ap, ◌∙◌, subst, arith, inl, inr}
+use Rattle.std.proofs.Common.{◌≡◌, ℕ, ◌+◌, ◌<◌, ◌≤◌, ◌^◌, List, [], ◌∷◌, ◌++◌, length, take, Contains, Some, None, Option, refl, sym, ap, ◌∙◌, subst, arith, inl, inr}
 use Rattle.std.specs.Prelude.{true}
 use Rattle.std.proofs.lemmas.List.{take-append-le, length_push}
 use Rattle.std.proofs.lemmas.Option.{slice_get_within}
@@ -26,7 +26,7 @@ use Rattle.gix_odb_world.specs.Recorded.{path_recorded}
 use Rattle.gix_odb.specs.CallOrder.{hash_to_write, writing}
 use Rattle.gix_odb.specs.declared.call.Call.TheVariants.{Write}
 use Rattle.gix_odb_world.specs.declared.record.Did.TheVariants.{Disk}
-use Rattle.gix_odb_world.specs.AtWork.{nothing_in_front}
+use Rattle.gix_odb_world.specs.AtWork.{nothing_in_front, Modes}
 use Rattle.gix_odb_world.specs.Event.{OfDisk, Event}
 use Rattle.gix_odb_world.specs.Status.{MakeCall, Running, Store, running_from}
 use Rattle.gix_odb_world.specs.Run.{IsTurnOf, disk_after, tree_at}
@@ -138,11 +138,11 @@ nothing_among : (x : Exchange) → ¬ (Contains [] x)
 nothing_among x (k, within, is) = omega (arith, within)
 
 -- a write that the event begins has done nothing
-pub writing_begun : (first : Volume) (events : List Event) (e : Event) (handle : ℕ) (store : Store) (ignoring : Bool) (kind : Kind) (size : ℕ) (bytes : List ℕ)
+pub writing_begun : (first : Volume) (events : List Event) (e : Event) (handle : ℕ) (store : Store) (modes : Modes) (kind : Kind) (size : ℕ) (bytes : List ℕ)
     (known : Option ObjectId) → size < 2 ^ 64
-    → IsAtOwnWrite first (events ++ e ∷ []) handle (running_from (length events + 1) (MakeCall (Write kind size bytes known)) store ignoring) nothing_in_front
+    → IsAtOwnWrite first (events ++ e ∷ []) handle (running_from (length events + 1) (MakeCall (Write kind size bytes known)) store modes) nothing_in_front
     (writing store.parts.objects kind size bytes known)
-writing_begun first events e handle store ignoring kind size bytes known fits =
+writing_begun first events e handle store modes kind size bytes known fits =
     let short : length (events ++ e ∷ []) ≤ length events + 1 = omega (arith, length_push events e) in
     record {
       writing = record {

@@ -1,6 +1,6 @@
 -- A write keeps the laws of a machine.
 pub mod Asks
-use Rattle.std.proofs.Common.{◌≡◌, inl, ℕ, ◌+◌, ◌≤◌, Bool, List, [], ◌∷◌, ◌++◌, length, Ok, Option, Some, None, refl, sym, ◌∙◌, ap, subst}
+use Rattle.std.proofs.Common.{◌≡◌, inl, ℕ, ◌+◌, ◌≤◌, List, [], ◌∷◌, ◌++◌, length, Ok, Option, Some, None, refl, sym, ◌∙◌, ap, subst}
 use Rattle.odb_disk.specs.MemDisk.{Volume}
 use Rattle.odb_disk.specs.Ask.{answer_now}
 use Rattle.odb_disk.specs.declared.ask.DiskAnswer.{DiskAnswer}
@@ -17,7 +17,7 @@ use Rattle.gix_odb.specs.declared.call.Reply.{Reply}
 use Rattle.gix_odb.specs.declared.call_state.CallState.TheVariants.{Writing}
 use Rattle.gix_odb.specs.declared.handle_state.HandleState.{HandleState}
 use Rattle.gix_odb_world.specs.declared.work.Work.TheVariants.{Calling}
-use Rattle.gix_odb_world.specs.AtWork.{nothing_in_front}
+use Rattle.gix_odb_world.specs.AtWork.{nothing_in_front, Modes}
 use Rattle.gix_odb_world.specs.Event.{Event, from_disk, to_disk}
 use Rattle.gix_odb_world.specs.Machine.{placed}
 use Rattle.gix_odb_world.specs.Run.{disk_after}
@@ -43,16 +43,16 @@ write_feeds store code call None = refl
 write_feeds store code call (Some answer) = write_placed (loose_order.fed call answer) (reply_of (loose_order.fed call answer))
 
 -- a state at which a task begins is that of its write
-write_starts : (first : Volume) (events : List Event) (e : Event) (handle : ℕ) (store : Store) (ignoring : Bool) (task : Task) (call : LooseCall)
+write_starts : (first : Volume) (events : List Event) (e : Event) (handle : ℕ) (store : Store) (modes : Modes) (task : Task) (call : LooseCall)
     → IsSized task
-    → begun_with store ignoring task ≡ Calling (Writing call)
-    → IsAtOwnWrite first (events ++ e ∷ []) handle (running_from (length events + 1) task store ignoring) nothing_in_front call
-write_starts first events e handle store ignoring OpenStore call sized at = absurd (cc at)
-write_starts first events e handle store ignoring (MakeCall (call_kinds.Write kind size bytes id)) call sized at =
+    → begun_with store modes task ≡ Calling (Writing call)
+    → IsAtOwnWrite first (events ++ e ∷ []) handle (running_from (length events + 1) task store modes) nothing_in_front call
+write_starts first events e handle store modes OpenStore call sized at = absurd (cc at)
+write_starts first events e handle store modes (MakeCall (call_kinds.Write kind size bytes id)) call sized at =
     let same : calls.writing store.parts.objects kind size bytes id ≡ call = cc at in
-    subst (IsAtOwnWrite first (events ++ e ∷ []) handle (running_from (length events + 1) (MakeCall (call_kinds.Write kind size bytes id)) store ignoring) nothing_in_front) same
-    (writing_begun first events e handle store ignoring kind size bytes id sized)
-write_starts first events e handle store ignoring (MakeCall other) call sized at = absurd (cc at)
+    subst (IsAtOwnWrite first (events ++ e ∷ []) handle (running_from (length events + 1) (MakeCall (call_kinds.Write kind size bytes id)) store modes) nothing_in_front) same
+    (writing_begun first events e handle store modes kind size bytes id sized)
+write_starts first events e handle store modes (MakeCall other) call sized at = absurd (cc at)
 
 module _ (first : Volume) (events : List Event) (handle : ℕ) (running : Running) (call : LooseCall) (ask : DiskAsk)
     (knows : IsAtOwnWrite first events handle running nothing_in_front call) (is : disk_ask_of call ≡ Some ask) where
@@ -121,8 +121,8 @@ writing_turns = record {
 pub writing_laws : KeepsLaws writing
 writing_laws = record {
   at_home = λ call. refl;
-  asks = λ store ignoring code own call. refl;
-  feeds = λ store ignoring code own call answer. write_feeds store code call answer;
+  asks = λ store modes code own call. refl;
+  feeds = λ store modes code own call answer. write_feeds store code call answer;
   starts = write_starts;
   tasked = λ first events handle running call knows. record { write = knows.writing.write; task_is = knows.task; stage = knows.writing.stage; is = knows.writing.is };
   bounded = λ store task call is entries. refl;

@@ -17,7 +17,7 @@ use Rattle.gix_odb_world.specs.declared.step.Outcome.TheVariants as outcomes
 use Rattle.gix_odb_world.specs.declared.step.Why.{Why}
 use Rattle.gix_odb_world.specs.declared.work.Work.{Work}
 use Rattle.gix_odb_world.specs.Event.{Asked, Event, answered}
-use Rattle.gix_odb_world.specs.Status.{MakeCall, OpenStore, Running, Status, Store, Task, Free, Resting, Working}
+use Rattle.gix_odb_world.specs.Status.{MakeCall, OpenStore, Running, Status, Store, Task, Free, Resting, Working, Modes, modes_at_opening}
 use Rattle.gix_odb_world.specs.Status.{come_to, ignoring_from, opening_at, refuses_opening, replied, running_from, started, status_after, status_of, store_at, turned, with_status}
 use Rattle.gix_odb_world.specs.Begun.{is_turn_of, turns_since}
 use Rattle.gix_odb_world.specs.Machines.{fed_in}
@@ -49,7 +49,7 @@ module _ (past : List Event) (e : Event) where
   -- one that is no turn of the handle adds none
   counts_kept : (handle : ℕ) (status : Status) → is_turn_of handle e.step ≡ false → Counts past handle status → Counts whole handle status
   counts_kept handle Free other counts = tt
-  counts_kept handle (Resting store ignoring) other counts = tt
+  counts_kept handle (Resting store modes) other counts = tt
   counts_kept handle (Working running) other counts =
       let now = turns_since-push handle running.begun counts.0 in
       let none : added (is_turn_of handle e.step) ≡ 0 = ap added other in
@@ -68,42 +68,42 @@ module _ (past : List Event) (e : Event) where
       (omega (arith, within, count), omega (arith, counts.1, now, one))
 
   -- work that the last event began has had none
-  counts_new : (handle : ℕ) (task : Task) (store : Store) (ignoring : Bool) → Counts whole handle (Working (running_from (length past + 1) task store ignoring))
-  counts_new handle task store ignoring =
+  counts_new : (handle : ℕ) (task : Task) (store : Store) (modes : Modes) → Counts whole handle (Working (running_from (length past + 1) task store modes))
+  counts_new handle task store modes =
       let count = length_push past e in
       (omega (arith, count), sym (ap (count_by (λ (x : Event). is_turn_of handle x.step)) (drop_all (length past + 1) whole (omega (arith, count)))))
 
-  counts_rest : (handle : ℕ) (store : Store) (ignoring frees : Bool) → Counts whole handle (if frees then Free else Resting store ignoring)
-  counts_rest handle store ignoring true = tt
-  counts_rest handle store ignoring false = tt
+  counts_rest : (handle : ℕ) (store : Store) (modes : Modes) (frees : Bool) → Counts whole handle (if frees then Free else Resting store modes)
+  counts_rest handle store modes true = tt
+  counts_rest handle store modes false = tt
 
   -- ---- what a step makes of its handle
 
   counts_ignoring : (handle : ℕ) (status : Status) → is_turn_of handle e.step ≡ false → Counts past handle status → Counts whole handle (ignoring_from status)
   counts_ignoring handle Free other counts = tt
-  counts_ignoring handle (Resting store ignoring) other counts = tt
+  counts_ignoring handle (Resting store modes) other counts = tt
   counts_ignoring handle (Working running) other counts = counts_kept handle (Working running) other counts
 
   counts_started : (handle : ℕ) (call : Call) (status : Status) → is_turn_of handle e.step ≡ false → Counts past handle status
       → Counts whole handle (started (length past + 1) call status)
   counts_started handle call Free other counts = tt
-  counts_started handle call (Resting store ignoring) other counts = counts_new handle (MakeCall call) store ignoring
+  counts_started handle call (Resting store modes) other counts = counts_new handle (MakeCall call) store modes
   counts_started handle call (Working running) other counts = counts_kept handle (Working running) other counts
 
   counts_come : (handle : ℕ) (running : Running) (result : Result Reply Work) → is_turn_of handle e.step ≡ true
       → Counts past handle (Working running) → Counts whole handle (come_to running result)
-  counts_come handle running (Ok reply) turn counts = counts_rest handle running.store running.ignoring (refuses_opening reply)
+  counts_come handle running (Ok reply) turn counts = counts_rest handle running.store running.modes (refuses_opening reply)
   counts_come handle running (Err left) turn counts = counts_more handle running left turn counts
 
   counts_turned : (handle : ℕ) (asked : Asked) (status : Status) → is_turn_of handle e.step ≡ true → Counts past handle status → Counts whole handle (turned asked status)
   counts_turned handle asked Free turn counts = tt
-  counts_turned handle asked (Resting store ignoring) turn counts = tt
+  counts_turned handle asked (Resting store modes) turn counts = tt
   counts_turned handle asked (Working running) turn counts = counts_come handle running (fed_in running.store running.work (answered asked)) turn counts
 
   counts_replied : (handle : ℕ) (reply : Reply) (status : Status) → Counts whole handle (replied reply status)
   counts_replied handle reply Free = tt
-  counts_replied handle reply (Resting store ignoring) = tt
-  counts_replied handle reply (Working running) = counts_rest handle running.store running.ignoring (refuses_opening reply)
+  counts_replied handle reply (Resting store modes) = tt
+  counts_replied handle reply (Working running) = counts_rest handle running.store running.modes (refuses_opening reply)
 
 -- ---- what an event makes of all handles
 
@@ -132,7 +132,7 @@ module _ (first : Volume) (past : List Event) (e : Event) (law : Law first past 
       → Counts now handle (with_status table number (opening_at (length past + 1) (store_at (length past + 1) path folders replacements options)) handle)
   counts_opened number path folders replacements options is =
       counts_set number (opening_at (length past + 1) (store_at (length past + 1) path folders replacements options))
-      (counts_new past e number OpenStore (store_at (length past + 1) path folders replacements options) false) (λ h _. ap (is_turn_of h) is)
+      (counts_new past e number OpenStore (store_at (length past + 1) path folders replacements options) modes_at_opening) (λ h _. ap (is_turn_of h) is)
 
   counts_applied : (step : Step) → e.step ≡ step → ¬ (IsTurn step) → (handle : ℕ)
       → Counts now handle (status_after (length past + 1) step outcomes.Applied e.asked table handle)
@@ -165,7 +165,7 @@ module _ (first : Volume) (past : List Event) (e : Event) (law : Law first past 
   -- a misused turn is none of a handle that runs a call
   counts_refused : (handle : ℕ) (why : Why) (status : Status) → Some why ≡ why_not_running (phase_of status) → Counts past handle status → Counts now handle status
   counts_refused handle why Free valid counts = tt
-  counts_refused handle why (Resting store ignoring) valid counts = tt
+  counts_refused handle why (Resting store modes) valid counts = tt
   counts_refused handle why (Working running) valid counts = absurd (cc valid)
 
   counts_misused : (step : Step) (why : Why) → e.step ≡ step → Some why ≡ why_not_after first past step → (handle : ℕ) → Counts now handle (table handle)

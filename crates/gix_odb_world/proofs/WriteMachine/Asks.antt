@@ -64,7 +64,7 @@ module _ (first : Volume) (events : List Event) (handle begun turns : ℕ) (w : 
 -- a running write asks in its turn
 pub in_order_write : (first : Volume) (events : List Event) (handle : ℕ) (running : Running) (call : LooseCall)
     → (at : IsAtOwnWrite first events handle running nothing_in_front call)
-    → AsksInOrder first events handle running.store running.ignoring running.begun running.turns (MakeCall (call_to_write at.writing.write)) (ask_at_stage at.writing.write at.writing.stage)
+    → AsksInOrder first events handle running.store running.modes running.begun running.turns (MakeCall (call_to_write at.writing.write)) (ask_at_stage at.writing.write at.writing.stage)
 in_order_write first events handle running call at =
     let writes : IsWriting first events handle running call = at.writing in
     let w : ToWrite = writes.write in
