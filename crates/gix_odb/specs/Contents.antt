@@ -8,7 +8,9 @@ use Rattle.odb_tree.specs.Tree.Follow.{read_of}
 use Rattle.gix_hash.specs.declared.object_id.ObjectId.{ObjectId}
 use Rattle.gix_hash.specs.ObjectId.{id_cmp}
 use Rattle.gix_object.specs.declared.kind.Kind.{Kind}
-use Rattle.gix_odb_loose.specs.LooseFile.{HoldsObject, HoldsHeader}
+use Rattle.gix_odb_loose.specs.LooseFile as loose
+use Rattle.gix_odb_loose.specs.declared.call.LooseJob.{LooseJob}
+use Rattle.gix_odb_loose.specs.declared.call.LooseJob.TheVariants as jobs
 use Rattle.gix_odb.specs.declared.query.Query.{Query}
 use Rattle.gix_odb.specs.declared.query.Query.TheVariants.{Find, Header, Test}
 use Rattle.gix_odb.specs.declared.find.Header as headers
@@ -63,13 +65,22 @@ sought store ignoring call = sought_with (replacement_in store) ignoring call
 abbrev pub ShowsFile : Tree → Path → List ℕ → Type 0
 ShowsFile tree path bytes = (time : ℕ) × (read_of tree path ≡ Ok (bytes, time))
 
--- Contents hold an answer of a call that seeks an id. A find is answered by a loose file of that kind and data, the data as long as
--- its header says and within the limit; a header by the file's header alone; a test by any file.
+-- what a folder is to do for a call that seeks an id
+abbrev pub job_of : Query → ObjectId → LooseJob
+job_of (Find asked) id = jobs.Find id
+job_of (Header asked) id = jobs.Header id
+job_of (Test asked) id = jobs.Contains id
+
+-- what a loose file answers, as an answer of a store
+abbrev pub of_loose : loose.Answer → Answer
+of_loose (loose.Object kind bytes) = Object kind bytes
+of_loose (loose.HeaderOf kind size) = HeaderOf (Loose kind size)
+of_loose loose.Presence = Presence
+
+-- Contents hold an answer of a call that seeks an id. What a loose file holds its folder says: a find is answered by a file of that
+-- kind and data, the data as long as its header says and within the limit; a header by the file's header alone; a test by any file.
 abbrev pub Holds : StoreData → Query → (id : ObjectId) → Contents → Answer → Type 0
-Holds store (Find asked) id (LooseFile bytes) (Object kind found) = HoldsObject store.limit bytes kind found
-Holds store (Header asked) id (LooseFile bytes) (HeaderOf (Loose kind size)) = HoldsHeader bytes kind size
-Holds store (Test asked) id (LooseFile bytes) Presence = Unit {0}
-Holds store call id contents answer = ⊥
+Holds store call id (LooseFile bytes) answer = (own : loose.Answer) × (answer ≡ of_loose own) × loose.Holds store.limit (job_of call id) bytes own
 
 -- contents are sound for a call that seeks an id where they hold some answer of it
 abbrev pub IsSound : StoreData → Query → (id : ObjectId) → Contents → Type 0

@@ -8,15 +8,14 @@ use Rattle.gix_hash.specs.declared.object_id.ObjectId.{ObjectId}
 use Rattle.gix_odb_loose.specs.LooseOrder.{disk_ask_of, reply_of}
 use Rattle.gix_odb_loose.specs.LooseOrder as loose_order
 use Rattle.gix_odb_loose.specs.declared.call.LooseCall.{LooseCall}
-use Rattle.gix_odb_loose.specs.declared.call.LooseJob.{LooseJob}
-use Rattle.gix_odb_loose.specs.declared.call.LooseJob.TheVariants as jobs
 use Rattle.gix_odb_loose.specs.declared.call.LooseReply.{LooseReply}
 use Rattle.gix_odb_loose.specs.declared.call.LooseReply.TheVariants as loose_replies
 use Rattle.gix_odb_loose.specs.declared.find.Error.{Error}
 use Rattle.gix_odb_loose.specs.declared.find.Error.TheVariants as errors
 use Rattle.gix_odb_loose.specs.declared.store.Store as loose
+use Rattle.gix_odb.specs.Contents.{job_of}
 use Rattle.gix_odb.specs.declared.query.Query.{Query}
-use Rattle.gix_odb.specs.declared.query.Query.TheVariants.{Find, Header, Test}
+use Rattle.gix_odb.specs.declared.query.Query.TheVariants.{Test}
 use Rattle.gix_odb.specs.declared.call.CallError.TheVariants as call_errors
 use Rattle.gix_odb.specs.declared.call.Reply.{Reply}
 use Rattle.gix_odb.specs.declared.call.Reply.TheVariants as replies
@@ -33,12 +32,6 @@ use Rattle.gix_odb.specs.declared.find.Header.TheVariants as headers
 -- the loose objects of a folder, for ids of the hash of one
 abbrev pub loose_store : (limit : Option ℕ) → ObjectId → Path → loose.Store
 loose_store limit id folder = record { path = folder; object_hash = kind_of id; options = record { alloc_limit_bytes = limit } }
-
--- what a folder is to do for a call that seeks an id
-abbrev pub job_of : Query → ObjectId → LooseJob
-job_of (Find asked) id = jobs.Find id
-job_of (Header asked) id = jobs.Header id
-job_of (Test asked) id = jobs.Contains id
 
 -- a folder is asked
 abbrev pub asking : (limit : Option ℕ) → Query → ObjectId → Path → LooseCall

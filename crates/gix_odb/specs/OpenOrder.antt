@@ -1,5 +1,5 @@
 -- The order of work of an opening: one look at the objects directory.
-use Rattle.std.specs.Prelude.{ℕ, true, nat_le, Option, Some, None, if◌then◌else◌}
+use Rattle.std.specs.Prelude.{ℕ, true, nat_le, Option, Some, None, Result, Ok, Err, if◌then◌else◌}
 use Rattle.odb_base.specs.Path.{Path}
 use Rattle.odb_disk.specs.declared.ask.DiskAsk.{DiskAsk}
 use Rattle.odb_disk.specs.declared.ask.DiskAsk.TheVariants as asks
@@ -22,7 +22,8 @@ use Rattle.gix_odb.specs.declared.open_state.OpenState.TheVariants as opens
 abbrev pub given_slots : Slots → ℕ
 given_slots (Given slots) = slots
 
--- the most slots that a store may have
+-- The most slots that a store may have: 2^15 - 1. A pack's number has 32 bits, and the lowest 15 of them are the slot that its index
+-- stands in.
 abbrev pub most_slots : ℕ
 most_slots = 32767
 
@@ -49,3 +50,8 @@ opening_reply slots answer = opening_refused opening_errors.NotADirectory
 abbrev pub fed : ℕ → OpenState → DiskAnswer → OpenState
 fed slots opens.Looking answer = opens.Done (opening_reply slots answer)
 fed slots (opens.Done reply) answer = opens.Done reply
+
+-- the reply of an opening that is done, or the opening
+abbrev pub result_of : OpenState → Result Reply OpenState
+result_of opens.Looking = Err opens.Looking
+result_of (opens.Done reply) = Ok reply

@@ -9,7 +9,7 @@ use crate::call::{Call, CallError, Reply};
 use crate::handle_state::HandleState;
 use crate::look_state::LookState;
 use crate::query::Query;
-use crate::{folder, write};
+use crate::write;
 use gix_hash::ObjectId;
 use gix_object::Kind;
 use gix_odb_loose::{LooseCall, LooseJob, LooseReply};
@@ -83,7 +83,7 @@ impl CallState {
             CallState::Looking(state) => {
                 Ok(CallState::Looking(state.feed(alloc, handle, answer)?))
             }
-            CallState::Writing(call) => Ok(after(folder::fed(call, alloc, answer)?)),
+            CallState::Writing(call) => Ok(after(call.feed(alloc, answer)?)),
             CallState::Written(reply) => Ok(CallState::Written(reply)),
         }
     }
@@ -149,7 +149,7 @@ fn hash_of(id: Option<ObjectId>) -> gix_hash::Kind
 fn after(call: LooseCall) -> CallState
     ensures after { result ≡ after_write call }
 {
-    match folder::replied(call) {
+    match call.into_reply() {
         Ok(reply) => CallState::Written(told(reply)),
         Err(call) => CallState::Writing(call),
     }

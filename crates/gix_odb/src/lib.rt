@@ -14,7 +14,6 @@
 mod call;
 mod call_state;
 pub mod find;
-mod folder;
 mod handle_state;
 pub mod init;
 mod look_state;

@@ -2,13 +2,14 @@
 ghost use Rattle.std.specs.Prelude.{◌≡◌, slice_get, IfOk};
 ghost use Rattle.std.specs.Option.{option_copied};
 ghost use Rattle.gix_odb.specs.HandleState.{folders_of, limit_of, objects_of, sought_by};
+ghost use Rattle.gix_odb.specs.Contents.{job_of as job_asked};
 ghost use Rattle.gix_odb.specs.LookOrder.{asking, at_next, result_of, started, waiting_in};
 ghost use Rattle.gix_odb.specs.LookOrder as looks;
 
 use crate::call::{CallError, Reply};
+use crate::find;
 use crate::handle_state::HandleState;
 use crate::query::Query;
-use crate::{find, folder};
 use gix_hash::ObjectId;
 use gix_odb_loose::{LooseCall, LooseJob, LooseReply};
 use odb_base::{NoMemory, PathText};
@@ -145,7 +146,7 @@ impl Head {
     {
         match stage {
             Stage::Loose { round, call } => {
-                let call = folder::fed(call, alloc, answer)?;
+                let call = call.feed(alloc, answer)?;
                 self.after_call(alloc, handle, round, call)
             }
             Stage::Done(reply) => Ok(Stage::Done(reply)),
@@ -162,7 +163,7 @@ impl Head {
     ) -> Result<Stage, NoMemory>
         ensures after { IfOk result (λ stage. stage ≡ looks.after_call (folders_of handle.now) (limit_of handle.now) self round call) }
     {
-        match folder::replied(call) {
+        match call.into_reply() {
             Ok(reply) => self.after_verdict(alloc, handle, round, verdict_on(reply)),
             Err(call) => Ok(Stage::Loose { round, call }),
         }
@@ -217,7 +218,7 @@ impl Round {
 }
 
 fn job_of(query: Query, id: ObjectId) -> LooseJob
-    ensures job { result ≡ looks.job_of query id }
+    ensures job { result ≡ job_asked query id }
 {
     match query {
         Query::Find(_) => LooseJob::Find(id),

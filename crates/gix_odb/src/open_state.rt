@@ -1,7 +1,7 @@
 //! The order of work of an opening.
 ghost use Rattle.std.specs.Prelude.{◌≡◌, true, IfOk};
 ghost use Rattle.gix_odb.specs.HandleState.{objects_of};
-ghost use Rattle.gix_odb.specs.OpenOrder.{ask_of, opened, opening_reply};
+ghost use Rattle.gix_odb.specs.OpenOrder.{ask_of, opened, opening_reply, result_of};
 ghost use Rattle.gix_odb.specs.OpenOrder.{fed as fed_with};
 
 use crate::call::{CallError, Reply};
@@ -11,7 +11,8 @@ use odb_base::NoMemory;
 use odb_disk::{DiskAnswer, DiskAsk, DiskError, Kind};
 use std::alloc::Global;
 
-/// The most slots that a store may have.
+/// The most slots that a store may have: 2^15 - 1. A pack's number has 32 bits, and the lowest 15 of them are the slot
+/// that its index stands in (`PackId::to_intrinsic_pack_id` of `gix_odb_core`).
 const MAX_SLOTS: u16 = 32767;
 
 /// Where an opening stands.
@@ -43,6 +44,16 @@ impl OpenState {
         match self {
             OpenState::Looking => OpenState::Done(reply_to_look(slots, answer)),
             OpenState::Done(reply) => OpenState::Done(reply),
+        }
+    }
+
+    /// The reply of an opening that is done, or the opening that goes on.
+    pub fn into_reply(self) -> Result<Reply, OpenState>
+        ensures replied { result ≡ result_of self }
+    {
+        match self {
+            OpenState::Looking => Err(OpenState::Looking),
+            OpenState::Done(reply) => Ok(reply),
         }
     }
 }

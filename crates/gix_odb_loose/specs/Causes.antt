@@ -5,7 +5,7 @@
 -- its way absent, of the wrong kind or a link loop, `Exists ask` that something was there already, and `Done ask` that
 -- it was done. A write removes its file last, so a file that it made and then appends to or renames was not removed by
 -- it. A store's call, the machine and a run over a changing tree each have their own.
-use Rattle.std.specs.Prelude.{◌≡◌, ◌≢◌, ◌⊎◌, ℕ, ◌<◌, true, List, [], length, All, Option, Ok, Err}
+use Rattle.std.specs.Prelude.{◌≡◌, ◌≢◌, ◌⊎◌, ℕ, ◌<◌, false, List, [], length, All, Option, Ok, Err}
 use Rattle.std.specs.List.{concat}
 use Rattle.odb_disk.specs.declared.ask.DiskAsk.{DiskAsk}
 use Rattle.odb_disk.specs.declared.ask.DiskAsk.TheVariants as asks
@@ -21,9 +21,10 @@ use Rattle.gix_odb_loose.specs.declared.write.Message.{Message}
 use Rattle.gix_odb_loose.specs.declared.write.Message.TheVariants as messages
 use Rattle.odb_base.specs.Path.{Path}
 use Rattle.odb_tree.specs.Tree.Follow.{WrongKind, LinkLoop}
+use Rattle.gix_object.specs.Limit.{is_within}
 use Rattle.gix_object.specs.Loose.{IsLoose}
 use Rattle.gix_object.specs.declared.kind.Kind.{Kind}
-use Rattle.gix_odb_loose.specs.LooseFile.{Reading, is_above, IsWithin}
+use Rattle.gix_odb_loose.specs.LooseFile.{Reading, IsWithin}
 use Rattle.gix_odb_loose.specs.declared.find.Error.{Error}
 use Rattle.gix_odb_loose.specs.declared.find.Error.TheVariants as errors
 use Rattle.gix_odb_loose.specs.declared.find.Action.TheVariants.{OpenOrMap}
@@ -54,7 +55,7 @@ pub record HasLargeSize (limit : Option ℕ) (size : ℕ) (read : Reading) : Typ
   pub rest : List ℕ
   pub given : read ≡ Ok (bytes, time)
   pub header : IsLoose bytes kind size rest
-  pub above : is_above limit size ≡ true
+  pub above : is_within limit size ≡ false
 
 -- a read gave a file whose header says a size within the limit, and whose data have another length
 pub record HasOtherLength (limit : Option ℕ) (expected actual : ℕ) (read : Reading) : Type 0 where

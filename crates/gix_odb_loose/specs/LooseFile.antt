@@ -1,5 +1,5 @@
 -- Loose files: where the file of an object lies, and what its bytes hold as answers of calls.
-use Rattle.std.specs.Prelude.{◌≡◌, ℕ, Bool, false, nat_lt, List, [], ◌∷◌, ◌++◌, length, take, drop, Option, Some, None, Result, Ok}
+use Rattle.std.specs.Prelude.{◌≡◌, ℕ, true, List, [], ◌∷◌, ◌++◌, length, take, drop, Option, Some, None, Result, Ok}
 use Rattle.odb_base.specs.Path.{Path}
 use Rattle.odb_tree.specs.Tree.{Tree}
 use Rattle.odb_tree.specs.Tree.Follow.{Refusal, read_of}
@@ -7,6 +7,7 @@ use Rattle.gix_hash.specs.ObjectId.{hex_of}
 use Rattle.gix_hash.specs.declared.object_id.ObjectId.{ObjectId}
 use Rattle.gix_hash.specs.declared.kind.Kind.{Kind as HashKind}
 use Rattle.gix_object.specs.Id.{object_id}
+use Rattle.gix_object.specs.Limit.{is_within}
 use Rattle.gix_object.specs.Loose.{IsLoose}
 use Rattle.gix_object.specs.declared.kind.Kind.{Kind}
 use Rattle.gix_odb_loose.specs.declared.call.LooseJob.{LooseJob}
@@ -49,14 +50,9 @@ pub record Gives (read : Reading) (P : List ℕ → Type 0) : Type 0 where
 abbrev pub LeadsToFile : Tree → Path → Type 0
 LeadsToFile tree path = Gives (read_of tree path) (λ bytes. Unit {0})
 
--- whether a size is above the limit, where there is one
-abbrev pub is_above : Option ℕ → ℕ → Bool
-is_above None size = false
-is_above (Some limit) size = nat_lt limit size
-
 -- a size is within the limit, where there is one
 abbrev pub IsWithin : Option ℕ → ℕ → Type 0
-IsWithin limit size = is_above limit size ≡ false
+IsWithin limit size = is_within limit size ≡ true
 
 -- the bytes of a file hold an object: data as long as the header says, within the limit
 pub record HoldsObject (limit : Option ℕ) (bytes : List ℕ) (kind : Kind) (found : List ℕ) : Type 0 where
@@ -80,7 +76,3 @@ Holds limit (Contains id) bytes Presence = Unit {0}
 Holds limit (Find id) bytes (Object kind found) = HoldsObject limit bytes kind found
 Holds limit (Header id) bytes (HeaderOf kind size) = HoldsHeader bytes kind size
 Holds limit job bytes answer = ⊥
-
--- the bytes of a loose file are sound for a call where they hold some answer of it
-abbrev pub IsSound : Option ℕ → LooseJob → List ℕ → Type 0
-IsSound limit job bytes = (answer : Answer) × Holds limit job bytes answer

@@ -18,14 +18,15 @@ use Rattle.gix_odb_loose.specs.declared.call.LooseReply.{LooseReply}
 use Rattle.gix_odb_loose.specs.declared.call.LooseReply.TheVariants as replies
 use Rattle.gix_odb_loose.specs.declared.call.LooseCall.{LooseCall}
 use Rattle.gix_odb_loose.specs.WriteOrder.{number_made, temporary_of}
+use Rattle.gix_odb_loose.specs.WriteAsks.{write_of}
 use Rattle.gix_odb_loose.specs.WriteJobs.{ask_in, advance_by, writes_left}
+use Rattle.gix_odb_loose.specs.WriteRuns.{write_head}
 use Rattle.gix_odb_loose.specs.declared.write_order.WriteAsk.TheVariants as wants
-use Rattle.gix_odb_loose.specs.declared.write_order.WriteStage.TheVariants as writes
 use Rattle.gix_odb_loose.specs.declared.write_at_hand.Advance.{Advance}
 use Rattle.gix_odb_loose.specs.declared.write_at_hand.Advance.TheVariants as advances
 use Rattle.gix_odb_loose.specs.declared.write_at_hand.WriteJob.{WriteJob}
-use Rattle.gix_odb_loose.specs.declared.call.Fed.{Fed}
-use Rattle.gix_odb_loose.specs.declared.call.Fed.TheVariants as feds
+use Rattle.gix_odb_loose.specs.declared.call.Next.{Next}
+use Rattle.gix_odb_loose.specs.declared.call.Next.TheVariants as lent
 use Rattle.gix_odb_loose.specs.declared.call.Stage.{Stage}
 use Rattle.gix_odb_loose.specs.declared.call.Stage.TheVariants as stages
 use Rattle.gix_odb_loose.specs.LooseOrder.Answered.{tested_by, found_by, header_by}
@@ -34,7 +35,7 @@ use Rattle.gix_odb_loose.specs.LooseOrder.Answered.{tested_by, found_by, header_
 
 -- a new write has its data and no temporary file
 abbrev pub begun : Store → Kind → ℕ → List ℕ → Option ObjectId → WriteJob
-begun store kind size bytes id = record { head = record { objects = store_path store; kind = kind; size = size }; stage = writes.Making 0; bytes = bytes; hash = store_hash store; known = id }
+begun store kind size bytes id = write_of (write_head store kind size) (store_hash store) id bytes
 
 -- a new call has its one path, or what is to be written, and has asked nothing
 abbrev pub first_stage : Store → LooseJob → Stage
@@ -47,27 +48,6 @@ abbrev pub started : Store → LooseJob → LooseCall
 started store job = record { stage = first_stage store job }
 
 -- a test looks at the path, links followed; a find and a header read it
-abbrev pub stage_ask : Stage → Option DiskAsk
-stage_ask (stages.Testing path) = Some (asks.Look path true)
-stage_ask (stages.Finding path limit) = Some (asks.Read path)
-stage_ask (stages.Heading path) = Some (asks.Read path)
-stage_ask (stages.Writing job) = Some (ask_in job)
-stage_ask (stages.Done reply) = None
-
-abbrev pub stage_reply : Stage → Option LooseReply
-stage_reply (stages.Testing path) = None
-stage_reply (stages.Finding path limit) = None
-stage_reply (stages.Heading path) = None
-stage_reply (stages.Writing job) = None
-stage_reply (stages.Done reply) = Some reply
-
--- the next call of the disk, if there is one; the reply, if the call is done
-abbrev pub disk_ask_of : LooseCall → Option DiskAsk
-disk_ask_of call = stage_ask call.stage
-
-abbrev pub reply_of : LooseCall → Option LooseReply
-reply_of call = stage_reply call.stage
-
 abbrev pub asked_at : Stage → LooseAsk
 asked_at (stages.Testing path) = loose_asks.Disk (asks.Look path true)
 asked_at (stages.Finding path limit) = loose_asks.Disk (asks.Read path)
@@ -78,23 +58,38 @@ asked_at (stages.Done reply) = loose_asks.Done reply
 abbrev pub ask_of : LooseCall → LooseAsk
 ask_of call = asked_at call.stage
 
+-- the same with the reply lent
+abbrev pub asked_as : Next → LooseAsk
+asked_as (lent.Disk ask) = loose_asks.Disk ask
+asked_as (lent.Done reply) = loose_asks.Done reply.now
+
+-- the call of the disk, if there is one; the reply, if the call is done
+abbrev pub disk_ask_in : LooseAsk → Option DiskAsk
+disk_ask_in (loose_asks.Disk ask) = Some ask
+disk_ask_in (loose_asks.Done reply) = None
+
+abbrev pub reply_in : LooseAsk → Option LooseReply
+reply_in (loose_asks.Disk ask) = None
+reply_in (loose_asks.Done reply) = Some reply
+
+abbrev pub stage_ask : Stage → Option DiskAsk
+stage_ask stage = disk_ask_in (asked_at stage)
+
+abbrev pub stage_reply : Stage → Option LooseReply
+stage_reply stage = reply_in (asked_at stage)
+
+abbrev pub disk_ask_of : LooseCall → Option DiskAsk
+disk_ask_of call = stage_ask call.stage
+
+abbrev pub reply_of : LooseCall → Option LooseReply
+reply_of call = stage_reply call.stage
+
 -- ---- what is made of an answer
 
 -- a write goes on, or has its reply
 abbrev pub written_to : WriteJob → Advance → Stage
 written_to job (advances.Stage stage) = stages.Writing (record job { stage = stage })
 written_to job (advances.Reply answer) = stages.Done (replies.Wrote answer)
-
--- what that makes of a call
-abbrev pub fed_to : Advance → Fed
-fed_to (advances.Stage stage) = feds.Stage stage
-fed_to (advances.Reply answer) = feds.Reply (replies.Wrote answer)
-
-abbrev pub stage_after : Stage → Fed → Stage
-stage_after stage (feds.Reply reply) = stages.Done reply
-stage_after (stages.Writing job) (feds.Stage now) = stages.Writing (record job { stage = now })
-stage_after stage (feds.Stage now) = stage
-stage_after stage feds.Same = stage
 
 -- a finding call is done after its one answer, a write at its end; a call that is done stays as it is
 abbrev pub next_stage : Stage → DiskAnswer → Stage
@@ -125,17 +120,3 @@ temporary_at (stages.Done reply) = None
 -- the temporary file of a write, where it was made
 abbrev pub temporary_in : LooseCall → Option Path
 temporary_in call = temporary_at call.stage
-
--- a call that writes, or is done with that
-abbrev pub IsWriteReply : LooseReply → Type 0
-IsWriteReply (replies.Wrote answer) = Unit {0}
-IsWriteReply (replies.Contains answer) = ⊥
-IsWriteReply (replies.Found answer) = ⊥
-IsWriteReply (replies.Header answer) = ⊥
-
-abbrev pub IsWriteStage : Stage → Type 0
-IsWriteStage (stages.Writing job) = Unit {0}
-IsWriteStage (stages.Done reply) = IsWriteReply reply
-IsWriteStage (stages.Testing path) = ⊥
-IsWriteStage (stages.Finding path limit) = ⊥
-IsWriteStage (stages.Heading path) = ⊥

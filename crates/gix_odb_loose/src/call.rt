@@ -1,9 +1,9 @@
 //! A call of a store as a machine: it names a call of the disk, is fed the answer, and comes to a reply.
-ghost use Rattle.std.specs.Prelude.{◌≡◌, true, None, Some, is_some, IfOk, OnOk, OnErr};
+ghost use Rattle.std.specs.Prelude.{◌≡◌, true, None, Some, IfOk, MatchResult};
 ghost use Rattle.gix_hash.specs.ObjectId.{kind_of};
 ghost use Rattle.gix_odb_loose.specs.Store.{store_hash};
 ghost use Rattle.gix_odb_loose.specs.LooseFile.{id_asked};
-ghost use Rattle.gix_odb_loose.specs.LooseOrder.{started, ask_of, disk_ask_of, reply_of, temporary_in, next_stage, fed_to, stage_after};
+ghost use Rattle.gix_odb_loose.specs.LooseOrder.{started, ask_of, asked_as, asked_at, disk_ask_of, reply_of, temporary_in, next_stage, written_to};
 ghost use Rattle.gix_odb_loose.specs.LooseOrder.Answered.{tested_by, found_by, header_by};
 ghost use Rattle.gix_odb_loose.specs.WriteJobs.{advance_by};
 ghost use Rattle.gix_odb_loose.specs.LooseOrder.{fed as fed_with};
@@ -16,7 +16,6 @@ use gix_object::Kind;
 use odb_base::{ByteList, NoMemory, PathText};
 use odb_disk::{DiskAnswer, DiskAsk};
 use std::alloc::Global;
-use std::mem;
 
 /// What is to be done, and with which object.
 #[derive(Drop)]
@@ -64,14 +63,11 @@ pub enum Stage {
     Done(LooseReply),
 }
 
-/// What the answer to its ask makes of a call.
+/// What a call does next, with its reply lent.
 #[derive(Drop)]
-pub enum Fed {
-    /// A write goes on at this stage.
-    Stage(WriteStage),
-    Reply(LooseReply),
-    /// A call that is done stays as it is.
-    Same,
+pub enum Next<'a> {
+    Disk(DiskAsk),
+    Done(&'a LooseReply),
 }
 
 /// A call of a store on its way.
@@ -124,12 +120,9 @@ impl LooseCall {
     pub fn ask(&self, alloc: Global) -> Result<LooseAsk, NoMemory>
         ensures ask { IfOk result (λ ask. ask ≡ ask_of self.now) }
     {
-        match &self.stage {
-            Stage::Testing { path } => Ok(LooseAsk::Disk(look_at(alloc, path)?)),
-            Stage::Finding { path, .. } => Ok(LooseAsk::Disk(read_of(alloc, path)?)),
-            Stage::Heading { path } => Ok(LooseAsk::Disk(read_of(alloc, path)?)),
-            Stage::Writing(job) => Ok(LooseAsk::Disk(job.disk_ask(alloc)?)),
-            Stage::Done(reply) => Ok(LooseAsk::Done(reply.try_clone(alloc)?)),
+        match self.stage.next(alloc)? {
+            Next::Disk(ask) => Ok(LooseAsk::Disk(ask)),
+            Next::Done(reply) => Ok(LooseAsk::Done(reply.try_clone(alloc)?)),
         }
     }
 
@@ -137,26 +130,20 @@ impl LooseCall {
     pub fn disk_ask(&self, alloc: Global) -> Result<Option<DiskAsk>, NoMemory>
         ensures ask { IfOk result (λ ask. ask ≡ disk_ask_of self.now) }
     {
-        match &self.stage {
-            Stage::Testing { path } => Ok(Some(look_at(alloc, path)?)),
-            Stage::Finding { path, .. } => Ok(Some(read_of(alloc, path)?)),
-            Stage::Heading { path } => Ok(Some(read_of(alloc, path)?)),
-            Stage::Writing(job) => Ok(Some(job.disk_ask(alloc)?)),
-            Stage::Done(_) => Ok(None),
+        match self.stage.next(alloc)? {
+            Next::Disk(ask) => Ok(Some(ask)),
+            Next::Done(_) => Ok(None),
         }
     }
 
-    /// Takes the answer to the call of the disk that was asked for. Where this is refused, for want of memory, the
-    /// call is as it was and asks the same again. A call that is done stays as it is.
+    /// The call after the answer to its call of the disk. A call that is done stays as it is.
     ///
-    /// An answer that the disk ran out of memory is no refusal: the reply says so.
-    pub fn feed(&mut self, alloc: Global, answer: DiskAnswer) -> Result<(), NoMemory>
-        ensures fed { OnOk result (self.new ≡ fed_with self.old answer) }
-        ensures refused { OnErr result (self.new ≡ self.old) }
+    /// An answer that the disk ran out of memory is no want of memory here: the reply says so.
+    pub fn feed(self, alloc: Global, answer: DiskAnswer) -> Result<LooseCall, NoMemory>
+        ensures fed { IfOk result (λ call. call ≡ fed_with self answer) }
     {
-        let fed = self.stage.fed(alloc, answer)?;
-        self.stage.go_on(fed);
-        Ok(())
+        let stage = self.stage.fed(alloc, answer)?;
+        Ok(LooseCall { stage })
     }
 
     /// The temporary file of a write, where it was made and is neither moved nor removed.
@@ -169,23 +156,13 @@ impl LooseCall {
         }
     }
 
-    /// Whether the call is done: it has its reply, and asks nothing more.
-    pub fn is_done(&self) -> bool
-        ensures done { result ≡ is_some (reply_of self.now) }
-    {
-        matches!(self.stage, Stage::Done(_))
-    }
-
-    /// The reply, where the call is done.
-    pub fn into_reply(self) -> Option<LooseReply>
-        ensures reply { result ≡ reply_of self }
+    /// The reply of a call that is done, or the call that goes on.
+    pub fn into_reply(self) -> Result<LooseReply, LooseCall>
+        ensures replied { MatchResult result (λ reply. reply_of self ≡ Some reply) (λ call. (call ≡ self) × (reply_of self ≡ None)) }
     {
         match self.stage {
-            Stage::Done(reply) => Some(reply),
-            other => {
-                drop(other);
-                None
-            }
+            Stage::Done(reply) => Ok(reply),
+            stage => Err(LooseCall { stage }),
         }
     }
 }
@@ -251,47 +228,42 @@ fn id_copy(alloc: Global, answer: &Result<ObjectId, write::Error>) -> Result<Loo
 }
 
 impl Stage {
-    // What the answer to its ask makes of it.
-    fn fed(&self, alloc: Global, answer: DiskAnswer) -> Result<Fed, NoMemory>
-        ensures fed { IfOk result (λ fed. stage_after self.now fed ≡ next_stage self.now answer) }
+    // What a call does next that stands here.
+    fn next(&self, alloc: Global) -> Result<Next<'_>, NoMemory>
+        ensures next { IfOk result (λ next. asked_as next ≡ asked_at self.now) }
     {
         match self {
-            Stage::Testing { path } => test_fed(alloc, path, answer),
-            Stage::Finding { path, limit } => find_fed(alloc, path, *limit, answer),
-            Stage::Heading { path } => header_fed(alloc, path, answer),
-            Stage::Writing(job) => write_fed(alloc, job, answer),
-            Stage::Done(_) => {
-                drop(answer);
-                Ok(Fed::Same)
+            Stage::Testing { path } => Ok(Next::Disk(look_at(alloc, path)?)),
+            Stage::Finding { path, .. } => Ok(Next::Disk(read_of(alloc, path)?)),
+            Stage::Heading { path } => Ok(Next::Disk(read_of(alloc, path)?)),
+            Stage::Writing(job) => {
+                let piece = ByteList::from_slice(alloc, job.piece())?;
+                Ok(Next::Disk(job.head.ask_at(alloc, &job.stage, piece)?))
             }
+            Stage::Done(reply) => Ok(Next::Done(reply)),
         }
     }
 
-    fn go_on(&mut self, fed: Fed)
-        ensures next { self.new ≡ stage_after self.old fed }
+    // The stage after the answer to its ask.
+    fn fed(self, alloc: Global, answer: DiskAnswer) -> Result<Stage, NoMemory>
+        ensures next { IfOk result (λ next. next ≡ next_stage self answer) }
     {
-        match fed {
-            Fed::Stage(stage) => self.write_on(stage),
-            Fed::Reply(reply) => drop(mem::replace(self, Stage::Done(reply))),
-            Fed::Same => {}
-        }
-    }
-
-    fn write_on(&mut self, stage: WriteStage)
-        ensures next { self.new ≡ stage_after self.old (Fed.Stage stage) }
-    {
-        if let Stage::Writing(job) = self {
-            job.stage = stage;
+        match self {
+            Stage::Testing { path } => test_fed(alloc, &path, answer),
+            Stage::Finding { path, limit } => find_fed(alloc, &path, limit, answer),
+            Stage::Heading { path } => header_fed(alloc, &path, answer),
+            Stage::Writing(job) => write_fed(alloc, job, answer),
+            Stage::Done(reply) => Ok(Stage::Done(reply)),
         }
     }
 }
 
-fn test_fed(alloc: Global, path: &PathText, answer: DiskAnswer) -> Result<Fed, NoMemory>
-    ensures fed { IfOk result (λ fed. fed ≡ Fed.Reply (LooseReply.Contains (tested_by path.now answer))) }
+fn test_fed(alloc: Global, path: &PathText, answer: DiskAnswer) -> Result<Stage, NoMemory>
+    ensures next { IfOk result (λ next. next ≡ Stage.Done (LooseReply.Contains (tested_by path.now answer))) }
 {
     let there = reply::tested(alloc, path, &answer)?;
     drop(answer);
-    Ok(Fed::Reply(LooseReply::Contains(there)))
+    Ok(Stage::Done(LooseReply::Contains(there)))
 }
 
 fn find_fed(
@@ -299,35 +271,40 @@ fn find_fed(
     path: &PathText,
     limit: Option<u64>,
     answer: DiskAnswer,
-) -> Result<Fed, NoMemory>
-    ensures fed { IfOk result (λ fed. fed ≡ Fed.Reply (LooseReply.Found (found_by path.now limit answer))) }
+) -> Result<Stage, NoMemory>
+    ensures next { IfOk result (λ next. next ≡ Stage.Done (LooseReply.Found (found_by path.now limit answer))) }
 {
     let found = reply::found(alloc, path, limit, answer)?;
-    Ok(Fed::Reply(LooseReply::Found(found)))
+    Ok(Stage::Done(LooseReply::Found(found)))
 }
 
-fn header_fed(alloc: Global, path: &PathText, answer: DiskAnswer) -> Result<Fed, NoMemory>
-    ensures fed { IfOk result (λ fed. fed ≡ Fed.Reply (LooseReply.Header (header_by path.now answer))) }
+fn header_fed(alloc: Global, path: &PathText, answer: DiskAnswer) -> Result<Stage, NoMemory>
+    ensures next { IfOk result (λ next. next ≡ Stage.Done (LooseReply.Header (header_by path.now answer))) }
 {
     let header = reply::headed(alloc, path, &answer)?;
     drop(answer);
-    Ok(Fed::Reply(LooseReply::Header(header)))
+    Ok(Stage::Done(LooseReply::Header(header)))
 }
 
-fn write_fed(alloc: Global, job: &WriteJob, answer: DiskAnswer) -> Result<Fed, NoMemory>
-    ensures fed { IfOk result (λ fed. fed ≡ fed_to (advance_by job.now answer)) }
+fn write_fed(alloc: Global, job: WriteJob, answer: DiskAnswer) -> Result<Stage, NoMemory>
+    ensures next { IfOk result (λ next. next ≡ written_to job (advance_by job answer)) }
 {
     let advance = job.advance(alloc, &answer)?;
     drop(answer);
-    Ok(advanced(advance))
+    Ok(advanced(job, advance))
 }
 
-fn advanced(advance: Advance) -> Fed
-    ensures fed { result ≡ fed_to advance }
+// A write goes on, or has its reply.
+fn advanced(job: WriteJob, advance: Advance) -> Stage
+    ensures next { result ≡ written_to job advance }
 {
     match advance {
-        Advance::Stage(stage) => Fed::Stage(stage),
-        Advance::Reply(reply) => Fed::Reply(LooseReply::Wrote(reply)),
+        Advance::Stage(stage) => {
+            let mut job = job;
+            job.stage = stage;
+            Stage::Writing(job)
+        }
+        Advance::Reply(reply) => Stage::Done(LooseReply::Wrote(reply)),
     }
 }
 

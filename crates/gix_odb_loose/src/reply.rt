@@ -1,11 +1,10 @@
 //! What is made of the answer of the disk. Nothing else decides. The path is copied where an error tells it.
 ghost use Rattle.std.specs.Prelude.{◌≡◌, ◌≤◌, ◌↔◌, ℕ, List, length, drop, IfOk, IfErr, IsTrue};
 ghost use Rattle.gix_odb_loose.specs.LooseOrder.Answered.{tested_by, found_by, header_by, object_from, header_from, spelled_in, unread_by, flaw_error};
-ghost use Rattle.gix_odb_loose.specs.LooseFile.{is_above};
 ghost use Rattle.gix_odb_loose.specs.LooseOrder.Answered.{unreadable as unreadable_at};
 
 use crate::find::{Action, Error};
-use gix_object::{Kind, decode};
+use gix_object::{Kind, decode, is_within};
 use odb_base::{ByteList, NoMemory, PathText};
 use odb_disk::{DiskAnswer, DiskError};
 use std::alloc::Global;
@@ -91,7 +90,7 @@ fn object_in(
         Ok(header) => header,
         Err(flaw) => return Ok(Err(flawed(alloc, path, flaw)?)),
     };
-    if exceeds(limit, expected) {
+    if !is_within(limit, expected) {
         return Ok(Err(Error::OutOfMemory { size: expected }));
     }
     let data = behind(bytes, header_len);
@@ -143,15 +142,6 @@ fn behind(bytes: ByteList, len: usize) -> ByteList
     let mut bytes = bytes.into_vec();
     let _ = bytes.drain(..len);
     ByteList::from_vec(bytes)
-}
-
-fn exceeds(limit: Option<u64>, size: u64) -> bool
-    ensures above { result ≡ is_above limit size }
-{
-    match limit {
-        Some(limit) => limit < size,
-        None => false,
-    }
 }
 
 fn flawed(alloc: Global, path: &PathText, flaw: Flaw) -> Result<Error, NoMemory>

@@ -1,6 +1,6 @@
 //! A write whose data are all at hand: it hands them to the machine as they are asked for.
 ghost use Rattle.std.specs.Prelude.{◌≡◌, IfOk};
-ghost use Rattle.gix_odb_loose.specs.WriteJobs.{piece_at, piece_in, ask_in, next_in, advance_by, supplied_with};
+ghost use Rattle.gix_odb_loose.specs.WriteJobs.{piece_at, piece_in, next_in, advance_by, supplied_with};
 ghost use Rattle.gix_odb_loose.specs.WriteOrder.{number_made, temporary_of};
 ghost use Rattle.gix_odb_loose.specs.WriteNames.{name_for};
 
@@ -9,7 +9,7 @@ use crate::write_order::{Refusal, WriteAsk, WriteHead, WriteStage, ended};
 use crate::{paths, write};
 use gix_hash::ObjectId;
 use odb_base::{ByteList, NoMemory, PathText};
-use odb_disk::{DiskAnswer, DiskAsk};
+use odb_disk::DiskAnswer;
 use std::alloc::Global;
 
 /// A write on its way. It waits for no data: the next piece, or their end, is handed over as soon as it is asked for.
@@ -41,7 +41,7 @@ pub enum Advance {
 
 impl WriteJob {
     /// The piece of the data that is appended next.
-    fn piece(&self) -> &[u8]
+    pub fn piece(&self) -> &[u8]
         ensures piece { result.now ≡ piece_in self.now }
     {
         match self.stage.filling() {
@@ -63,14 +63,6 @@ impl WriteJob {
         let rest = &bytes[start..];
         let count = self.head.most(written).min(rest.len() as u64) as usize;
         &rest[..count]
-    }
-
-    /// The call of the disk that comes next.
-    pub fn disk_ask(&self, alloc: Global) -> Result<DiskAsk, NoMemory>
-        ensures ask { IfOk result (λ ask. ask ≡ ask_in self.now) }
-    {
-        let piece = ByteList::from_slice(alloc, self.piece())?;
-        self.head.disk_ask(alloc, &self.stage, piece)
     }
 
     /// The path of the temporary file, where it was made.

@@ -116,8 +116,8 @@ impl WriteStage {
 }
 
 impl WriteHead {
-    /// The call of the disk that comes next. `piece` is the next piece of the data, which is moved into it.
-    pub fn disk_ask(
+    /// The call of the disk of a stage. `piece` is the next piece of the data, which is moved into it.
+    pub fn ask_at(
         &self,
         alloc: Global,
         stage: &WriteStage,

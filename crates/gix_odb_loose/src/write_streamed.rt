@@ -161,7 +161,7 @@ impl StreamJob {
         ensures same { self.new ≡ record self.old { piece = [] } }
     {
         let piece = mem::replace(&mut self.piece, ByteList::new(alloc));
-        self.head.disk_ask(alloc, stage, piece)
+        self.head.ask_at(alloc, stage, piece)
     }
 
     // Goes on to what an answer led to: a stage, the next piece of the data, or the end.

@@ -6,7 +6,7 @@ use crate::words::{
 use gix_object::Kind;
 use gix_odb_loose::{LooseCall, LooseJob, LooseReply, Store};
 use odb_base::{ByteList, NoMemory};
-use odb_disk::{Disk, DiskAsk};
+use odb_disk::Disk;
 use std::alloc::Global;
 use std::test::Fail;
 
@@ -39,31 +39,21 @@ pub fn write_started(
     Ok(LooseCall::start(alloc, store, job)?)
 }
 
-/// One call of the disk, and its answer: whether there was one.
-fn turn<D: Disk>(alloc: Global, disk: &mut D, call: &mut LooseCall) -> Result<bool, NoMemory> {
+/// One call of the disk, and its answer; a call that is done stays as it is.
+fn turn<D: Disk>(alloc: Global, disk: &mut D, call: LooseCall) -> Result<LooseCall, NoMemory> {
     match call.disk_ask(alloc)? {
-        Some(ask) => answered(alloc, disk, call, &ask),
-        None => Ok(false),
+        Some(ask) => call.feed(alloc, ask.carry_out(alloc, disk)),
+        None => Ok(call),
     }
 }
 
-fn answered<D: Disk>(
-    alloc: Global,
-    disk: &mut D,
-    call: &mut LooseCall,
-    ask: &DiskAsk,
-) -> Result<bool, NoMemory> {
-    call.feed(alloc, ask.carry_out(alloc, disk))?;
-    Ok(true)
-}
-
-/// Thirty calls of the disk at most, or until memory runs out.
-fn run<D: Disk>(alloc: Global, disk: &mut D, call: &mut LooseCall) {
+/// Thirty calls of the disk at most.
+fn run<D: Disk>(alloc: Global, disk: &mut D, call: LooseCall) -> Result<LooseCall, NoMemory> {
+    let mut call = call;
     for _ in 0..30 {
-        let Ok(true) = turn(alloc, disk, call) else {
-            return;
-        };
+        call = turn(alloc, disk, call)?;
     }
+    Ok(call)
 }
 
 /// `machine SIZE DATA`: the reply of such a write, or `asks` where it isn't done.
@@ -74,14 +64,13 @@ pub fn machine_reply<D: Disk>(
     rest: &str,
 ) -> Result<String, Fail> {
     let (size, data) = cut(rest);
-    let mut call = write_started(alloc, store, size.parse::<u64>()?, data)?;
-    run(alloc, disk, &mut call);
-    done_shown(alloc, call)
+    let call = write_started(alloc, store, size.parse::<u64>()?, data)?;
+    done_shown(alloc, run(alloc, disk, call)?)
 }
 
 fn done_shown(alloc: Global, call: LooseCall) -> Result<String, Fail> {
     match call.into_reply() {
-        Some(reply) => reply_shown(alloc, &reply),
-        None => word_of(alloc, "asks"),
+        Ok(reply) => reply_shown(alloc, &reply),
+        Err(_) => word_of(alloc, "asks"),
     }
 }

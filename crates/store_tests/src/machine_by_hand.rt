@@ -53,24 +53,25 @@ fn asked(alloc: Global, call: &LooseCall) -> Result<String, Fail> {
 }
 
 /// Feeds a call an answer, and then, when it is done, another one.
-fn feed(alloc: Global, call: &mut LooseCall, text: &str) -> Result<(), NoMemory> {
+fn fed(alloc: Global, call: LooseCall, text: &str) -> Result<LooseCall, NoMemory> {
     let answer = answer_of(alloc, text)?;
-    call.feed(alloc, answer)?;
+    let call = call.feed(alloc, answer)?;
     call.feed(alloc, DiskAnswer::Refused(DiskError::Absent))
 }
 
-fn asked_and_replied(alloc: Global, call: &mut LooseCall, answer: &str) -> Result<String, Fail> {
-    let ask = asked(alloc, call)?;
-    feed(alloc, call, answer)?;
-    let reply = asked(alloc, call)?;
-    Ok(format!(in alloc; "{ask}, {reply}")?)
+/// What a call replies to an answer.
+fn replied(alloc: Global, call: LooseCall, answer: &str) -> Result<String, Fail> {
+    let call = fed(alloc, call, answer)?;
+    asked(alloc, &call)
 }
 
 /// What a call asks, and what it replies to an answer.
 fn by_hand(alloc: Global, store: &Store, text: &str) -> Result<String, Fail> {
     let (job, answer) = cut(text);
-    let mut call = started(alloc, store, job)?;
-    asked_and_replied(alloc, &mut call, answer)
+    let call = started(alloc, store, job)?;
+    let ask = asked(alloc, &call)?;
+    let reply = replied(alloc, call, answer)?;
+    Ok(format!(in alloc; "{ask}, {reply}")?)
 }
 
 fn check_row(alloc: Global, store: &Store, row: &str) -> Result<(), Fail> {
@@ -114,15 +115,11 @@ fn check_file(alloc: Global, call: &LooseCall, want: &str) -> Result<(), Fail> {
     compare("temporary file", found.as_str(), want)
 }
 
-fn check_files(alloc: Global, call: &mut LooseCall) -> Result<(), Fail> {
-    check_file(alloc, call, "none")?;
-    call.feed(alloc, DiskAnswer::Done)?;
-    check_file(alloc, call, "/o/tmp_obj_0")
-}
-
 fn check_write(alloc: Global, store: &Store) -> Result<(), Fail> {
-    let mut call = write_started(alloc, store, 5, "hello")?;
-    check_files(alloc, &mut call)
+    let call = write_started(alloc, store, 5, "hello")?;
+    check_file(alloc, &call, "none")?;
+    let call = call.feed(alloc, DiskAnswer::Done)?;
+    check_file(alloc, &call, "/o/tmp_obj_0")
 }
 
 // A temporary file that is told before it is made, or isn't told after it.

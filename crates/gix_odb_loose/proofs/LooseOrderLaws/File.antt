@@ -1,12 +1,13 @@
 -- The laws of a loose file's bytes: what a find and a look for a header make of them, and why they are refused.
-use Rattle.std.specs.Prelude.{◌≡◌, ◌≢◌, ℕ, ◌==◌, Bool, true, false, List, [], ◌∷◌, length, Option, Some, None, Result, Ok, Err, if◌then◌else◌, refl}
+use Rattle.std.specs.Prelude.{◌≡◌, ◌≢◌, ℕ, ◌==◌, Bool, true, false, not, List, [], ◌∷◌, length, Option, Some, None, Result, Ok, Err, if◌then◌else◌, refl}
 use Rattle.std.proofs.Common.{inr, sym, ap, ◌∙◌, subst, arith}
 use Rattle.std.proofs.lemmas.Bool.{eqb-true, eqb-false}
 use Rattle.odb_base.specs.Path.{Path}
+use Rattle.gix_object.specs.Limit.{is_within}
 use Rattle.gix_object.specs.Loose.{IsLoose, LooseObject, loose_of}
 use Rattle.gix_object.proofs.LooseLaws.{IsLoose-loose_of, loose_of-IsLoose, none-loose_of}
 use Rattle.gix_object.specs.declared.kind.Kind.{Kind}
-use Rattle.gix_odb_loose.specs.LooseFile.{Reading, HoldsObject, HoldsHeader, is_above}
+use Rattle.gix_odb_loose.specs.LooseFile.{Reading, HoldsObject, HoldsHeader}
 use Rattle.gix_odb_loose.specs.Causes.{FindCause, HeaderCause}
 use Rattle.gix_odb_loose.specs.LooseOrder.Answered.{spelled_or, spelled_in, flaw_error, object_from, header_from, object_in, header_in}
 use Rattle.gix_odb_loose.specs.declared.find.Error.{Error}
@@ -54,32 +55,32 @@ spelled_in-NoHeader (byte ∷ bytes) e =
 
 -- what a find ends with, by the tests of the limit and of the length
 abbrev end_of : Path → LooseObject → Bool → Bool → Result (Option (Kind × List ℕ)) Error
-end_of path object true same = Err (errors.OutOfMemory object.size)
-end_of path object false true = Ok (Some (object.kind, object.rest))
-end_of path object false false = Err (errors.SizeMismatch (length object.rest) object.size path)
+end_of path object false same = Err (errors.OutOfMemory object.size)
+end_of path object true true = Ok (Some (object.kind, object.rest))
+end_of path object true false = Err (errors.SizeMismatch (length object.rest) object.size path)
 
-end_of-tests : (path : Path) (object : LooseObject) (above same : Bool)
-    → (let found : Result (Option (Kind × List ℕ)) Error = Ok (Some (object.kind, object.rest)) in if above then Err (errors.OutOfMemory object.size) else if same then found else Err (errors.SizeMismatch (length object.rest) object.size path)) ≡ end_of path object above same
-end_of-tests path object true same = refl
-end_of-tests path object false true = refl
-end_of-tests path object false false = refl
+end_of-tests : (path : Path) (object : LooseObject) (within same : Bool)
+    → (let found : Result (Option (Kind × List ℕ)) Error = Ok (Some (object.kind, object.rest)) in if not within then Err (errors.OutOfMemory object.size) else if same then found else Err (errors.SizeMismatch (length object.rest) object.size path)) ≡ end_of path object within same
+end_of-tests path object false same = refl
+end_of-tests path object true true = refl
+end_of-tests path object true false = refl
 
-object_from-end : (path : Path) (limit : Option ℕ) (object : LooseObject) → object_from path limit (Ok object) ≡ end_of path object (is_above limit object.size) (length object.rest == object.size)
-object_from-end path limit object = end_of-tests path object (is_above limit object.size) (length object.rest == object.size)
+object_from-end : (path : Path) (limit : Option ℕ) (object : LooseObject) → object_from path limit (Ok object) ≡ end_of path object (is_within limit object.size) (length object.rest == object.size)
+object_from-end path limit object = end_of-tests path object (is_within limit object.size) (length object.rest == object.size)
 
 -- a found object
-ends_found : (above same : Bool) (path : Path) (object : LooseObject) (x : Kind × List ℕ)
-    → end_of path object above same ≡ Ok (Some x)
-    → (above ≡ false) × (same ≡ true) × (object.kind ≡ x.0) × (object.rest ≡ x.1)
-ends_found true same path object x e = absurd (cc e)
-ends_found false true path object x e = (refl, refl, cc e, cc e)
-ends_found false false path object x e = absurd (cc e)
+ends_found : (within same : Bool) (path : Path) (object : LooseObject) (x : Kind × List ℕ)
+    → end_of path object within same ≡ Ok (Some x)
+    → (within ≡ true) × (same ≡ true) × (object.kind ≡ x.0) × (object.rest ≡ x.1)
+ends_found false same path object x e = absurd (cc e)
+ends_found true true path object x e = (refl, refl, cc e, cc e)
+ends_found true false path object x e = absurd (cc e)
 
 object_from-Some : (path : Path) (limit : Option ℕ) (bytes : List ℕ) (spelled : Result LooseObject Flaw) (x : Kind × List ℕ) → spelled_in bytes ≡ spelled
     → object_from path limit spelled ≡ Ok (Some x) → HoldsObject limit bytes x.0 x.1
 object_from-Some path limit bytes (Err flaw) x s e = absurd (cc e)
 object_from-Some path limit bytes (Ok object) x s e =
-    let ends = ends_found (is_above limit object.size) (length object.rest == object.size) path object x (sym (object_from-end path limit object) ∙ e) in
+    let ends = ends_found (is_within limit object.size) (length object.rest == object.size) path object x (sym (object_from-end path limit object) ∙ e) in
     let loose = IsLoose-spelled_in bytes object s in
     let size : length x.1 ≡ object.size = ap length (sym ends.3) ∙ eqb-true _ _ ends.1 in
     record {
@@ -102,12 +103,12 @@ object_in-HoldsObject path limit bytes x holds =
 
 object_from-None : (path : Path) (limit : Option ℕ) (spelled : Result LooseObject Flaw) → object_from path limit spelled ≢ Ok None
 object_from-None path limit (Err flaw) e = cc e
-object_from-None path limit (Ok object) e = by_tests (is_above limit object.size) (length object.rest == object.size) (sym (object_from-end path limit object) ∙ e)
+object_from-None path limit (Ok object) e = by_tests (is_within limit object.size) (length object.rest == object.size) (sym (object_from-end path limit object) ∙ e)
   where
-    by_tests : (above same : Bool) → end_of path object above same ≡ Ok None → ⊥
-    by_tests true same h = cc h
-    by_tests false true h = cc h
-    by_tests false false h = cc h
+    by_tests : (within same : Bool) → end_of path object within same ≡ Ok None → ⊥
+    by_tests false same h = cc h
+    by_tests true true h = cc h
+    by_tests true false h = cc h
 
 header_from-Some : (path : Path) (bytes : List ℕ) (spelled : Result LooseObject Flaw) (x : ℕ × Kind) → spelled_in bytes ≡ spelled → header_from path spelled ≡ Ok (Some x) → HoldsHeader bytes x.1 x.0
 header_from-Some path bytes (Err flaw) x s e = absurd (cc e)
@@ -160,17 +161,17 @@ module _ (path : Path) (Gave : Reading → Type 0) (Failed Wanting : Type 0) whe
     flaw_cause_found bytes time gave flaws.Empty s = flaw_cause bytes time gave flaws.Empty s
     flaw_cause_found bytes time gave flaws.NoHeader s = flaw_cause bytes time gave flaws.NoHeader s
 
-    sizes_cause : (bytes : List ℕ) (time : ℕ) → Gave (Ok (bytes, time)) → (object : LooseObject) → IsLoose bytes object.kind object.size object.rest → (above same : Bool)
-        → is_above limit object.size ≡ above
+    sizes_cause : (bytes : List ℕ) (time : ℕ) → Gave (Ok (bytes, time)) → (object : LooseObject) → IsLoose bytes object.kind object.size object.rest → (within same : Bool)
+        → is_within limit object.size ≡ within
         → (length object.rest == object.size) ≡ same → (error : Error)
-        → end_of path object above same ≡ Err error
+        → end_of path object within same ≡ Err error
         → FindCause path limit Gave Failed Wanting error
-    sizes_cause bytes time gave object loose true same a l error e =
+    sizes_cause bytes time gave object loose false same a l error e =
         let is : errors.OutOfMemory object.size ≡ error = cc e in
         subst (FindCause path limit Gave Failed Wanting) is
         (Ok (bytes, time), gave, record { bytes = bytes; time = time; kind = object.kind; rest = object.rest; given = refl; header = loose; above = a })
-    sizes_cause bytes time gave object loose false true a l error e = absurd (cc e)
-    sizes_cause bytes time gave object loose false false a l error e =
+    sizes_cause bytes time gave object loose true true a l error e = absurd (cc e)
+    sizes_cause bytes time gave object loose true false a l error e =
         let is : errors.SizeMismatch (length object.rest) object.size path ≡ error = cc e in
         subst (FindCause path limit Gave Failed Wanting) is
         (refl, (Ok (bytes, time), gave, record { bytes = bytes; time = time; kind = object.kind; rest = object.rest; given = refl; header = loose; within = a; length_is = refl; differs = eqb-false _ _ l }))
@@ -181,7 +182,7 @@ module _ (path : Path) (Gave : Reading → Type 0) (Failed Wanting : Type 0) whe
     object_from-Err bytes time gave (Err flaw) s error e =
         let is : flaw_error path flaw ≡ error = cc e in subst (FindCause path limit Gave Failed Wanting) is (flaw_cause_found bytes time gave flaw s)
     object_from-Err bytes time gave (Ok object) s error e =
-        sizes_cause bytes time gave object (IsLoose-spelled_in bytes object s) (is_above limit object.size) (length object.rest == object.size) refl refl error
+        sizes_cause bytes time gave object (IsLoose-spelled_in bytes object s) (is_within limit object.size) (length object.rest == object.size) refl refl error
         (sym (object_from-end path limit object) ∙ e)
 
     -- the cause of what a file's bytes are refused for, in a find

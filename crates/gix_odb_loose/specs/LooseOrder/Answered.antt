@@ -1,14 +1,14 @@
 -- What a test, a find and a look for a header make of the answer to their ask. Nothing else decides.
-use Rattle.std.specs.Prelude.{ℕ, ◌==◌, Bool, true, false, List, [], ◌∷◌, length, Option, Some, None, Result, Ok, Err, if◌then◌else◌}
+use Rattle.std.specs.Prelude.{ℕ, ◌==◌, Bool, true, false, not, List, [], ◌∷◌, length, Option, Some, None, Result, Ok, Err, if◌then◌else◌}
 use Rattle.odb_base.specs.Path.{Path}
 use Rattle.odb_disk.specs.declared.ask.DiskAnswer.{DiskAnswer}
 use Rattle.odb_disk.specs.declared.ask.DiskAnswer.TheVariants as answers
 use Rattle.odb_tree.specs.declared.disk_error.DiskError.TheVariants as disk_errors
 use Rattle.odb_tree.specs.declared.meta.Kind.{Kind as NodeKind}
 use Rattle.odb_tree.specs.declared.meta.Kind.TheVariants as nodes
+use Rattle.gix_object.specs.Limit.{is_within}
 use Rattle.gix_object.specs.Loose.{LooseObject, loose_of}
 use Rattle.gix_object.specs.declared.kind.Kind.{Kind}
-use Rattle.gix_odb_loose.specs.LooseFile.{is_above}
 use Rattle.gix_odb_loose.specs.declared.find.Error.{Error}
 use Rattle.gix_odb_loose.specs.declared.find.Error.TheVariants as errors
 use Rattle.gix_odb_loose.specs.declared.find.Action.TheVariants.{OpenOrMap}
@@ -47,7 +47,7 @@ flaw_error path flaws.NoHeader = errors.Decode
 abbrev pub object_from : Path → Option ℕ → Result LooseObject Flaw → Result (Option (Kind × List ℕ)) Error
 object_from path limit (Err flaw) = Err (flaw_error path flaw)
 object_from path limit (Ok object) =
-    if is_above limit object.size then Err (errors.OutOfMemory object.size)
+    if not (is_within limit object.size) then Err (errors.OutOfMemory object.size)
     else if length object.rest == object.size then Ok (Some (object.kind, object.rest))
     else Err (errors.SizeMismatch (length object.rest) object.size path)
 
