@@ -1,6 +1,6 @@
 -- An opening keeps the laws of a machine.
 pub mod Look
-use Rattle.std.proofs.Common.{◌≡◌, ℕ, ◌+◌, ◌≤◌, true, false, cond, List, [], ◌∷◌, ◌++◌, length, Option, Some, None, refl, sym, ◌∙◌, ap, subst, arith}
+use Rattle.std.proofs.Common.{◌≡◌, ℕ, ◌+◌, ◌≤◌, true, false, cond, List, [], ◌∷◌, ◌++◌, length, Option, Some, None, refl, sym, ◌∙◌, ap, subst, arith, Ok, Err, Result}
 use Rattle.std.proofs.lemmas.List.{length_push}
 use Rattle.odb_tree.specs.Tree.{tree_of}
 use Rattle.odb_tree.specs.declared.disk_error.DiskError.TheVariants as disk_errors
@@ -15,6 +15,7 @@ use Rattle.odb_base.specs.Path.{Path}
 use Rattle.gix_odb.specs.Contents.{folder_list}
 use Rattle.gix_odb.specs.OpenOrder as openings
 use Rattle.gix_odb.specs.OpenOrder.{opening_reply}
+use Rattle.gix_odb.specs.declared.call.Reply.{Reply}
 use Rattle.gix_odb.specs.declared.handle_state.HandleState.{HandleState}
 use Rattle.gix_odb.specs.declared.open_state.OpenState.{OpenState}
 use Rattle.gix_odb.specs.declared.open_state.OpenState.TheVariants as opens
@@ -26,7 +27,7 @@ use Rattle.gix_odb_world.specs.Handle.{IsHandleOf}
 use Rattle.gix_odb_world.specs.Machine.{placed}
 use Rattle.gix_odb_world.specs.Promise.{OpeningPromise, Promise}
 use Rattle.gix_odb_world.specs.Run.{FailedSince, IsTurnOf, change_by, disk_after, tree_at}
-use Rattle.gix_odb_world.specs.Running.Opening.{IsOpening, opening, result_of_opening}
+use Rattle.gix_odb_world.specs.Running.Opening.{IsOpening, opening}
 use Rattle.gix_odb_world.specs.Status.{MakeCall, OpenStore, Running, Store, Task, begun_with, running_from, Modes}
 use Rattle.gix_odb_world.specs.WorkOrder.{fed_after, opening_result, result_in}
 use Rattle.gix_odb_world.proofs.FolderLemmas.{look_quiet}
@@ -39,15 +40,16 @@ use Rattle.gix_odb_world.proofs.WriteTurn.Common.{IsTurnWith}
 
 -- ---- its code
 
-opening_placed : (state : OpenState) → opening_result state ≡ placed opening (result_of_opening state)
-opening_placed opens.Looking = refl
-opening_placed (opens.Done reply) = refl
+opening_placed : (result : Result Reply OpenState) → opening_result result ≡ placed opening result
+opening_placed (Ok reply) = refl
+opening_placed (Err state) = refl
 
 opening_feeds : (store : Store) (modes : Modes) (code : HandleState) → IsHandleOf store modes code → (state : OpenState) (answer : Option DiskAnswer)
     → result_in (fed_after code (Opening state) answer) ≡ placed opening (opening.feed store state (from_disk answer))
-opening_feeds store modes code own state None = opening_placed state
+opening_feeds store modes code own state None = opening_placed (openings.result_of state)
 opening_feeds store modes code own state (Some answer) =
-    ap (λ slots. opening_result (openings.fed slots state answer)) own.slots ∙ opening_placed (openings.fed store.slots state answer)
+    ap (λ slots. opening_result (openings.result_of (openings.fed slots state answer))) own.slots
+    ∙ opening_placed (openings.result_of (openings.fed store.slots state answer))
 
 -- ---- its beginning
 
@@ -122,7 +124,7 @@ module _ (first : Volume) (events : List Event) (handle : ℕ) (running : Runnin
         (next_fails (disk_after first events)) (fails_now first events e handle running since ask turn)))
 
     abbrev Comes : OpenState → Type 0
-    Comes s = MachineComes first events e handle running opening (result_of_opening (openings.fed running.store.slots s (answer_now (disk_after first events) ask)))
+    Comes s = MachineComes first events e handle running opening (openings.result_of (openings.fed running.store.slots s (answer_now (disk_after first events) ask)))
 
     opening_comes : Comes state
     opening_comes =

@@ -12,7 +12,7 @@ use Rattle.gix_odb_loose.specs.declared.find.Error as loose
 use Rattle.gix_odb.specs.declared.query.Query.{Query}
 use Rattle.gix_odb.specs.declared.look_state.LookState.{LookState}
 use Rattle.gix_odb.specs.declared.look_state.Stage.{Stage}
-use Rattle.gix_odb.specs.LookOrder.{job_of}
+use Rattle.gix_odb.specs.Contents.{job_of}
 use Rattle.gix_odb_world.specs.Causes.{Sometime, GaveSometime, LooseCause}
 use Rattle.gix_odb_world.specs.Event.{Event}
 use Rattle.gix_odb_world.specs.Status.{Running, Store}
