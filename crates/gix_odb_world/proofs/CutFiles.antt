@@ -1,7 +1,8 @@
 -- Temporary files whose way was cut off in an undisturbed run: each stands where it was made, as long as other programs leave
-pub mod Spot
 -- it and the way to its spot alone.
-use Rattle.std.proofs.Common.{◌≡◌, ◌≢◌, ◌⊎◌, inl, inr, ℕ, zero, suc, ◌+◌, ◌<◌, ◌≤◌, Bool, true, false, take, Some, None, refl, sym, ◌∙◌, subst, arith}
+pub mod Spot
+pub mod WasCut
+use Rattle.std.proofs.Common.{◌≡◌, ◌≢◌, inl, inr, ℕ, zero, suc, ◌+◌, ◌<◌, ◌≤◌, Bool, true, false, take, Some, None, refl, sym, ◌∙◌, subst, arith}
 use Rattle.std.specs.Prelude.{slice_get, ◌==◌}
 use Rattle.std.proofs.lemmas.Bool.{cases_lt, eqb-false, eqb-true}
 use Rattle.odb_base.specs.Path.{Path}
@@ -13,17 +14,19 @@ use Rattle.gix_odb_loose.specs.WriteOrder.{temp_name}
 use Rattle.gix_odb_loose.proofs.NameLaws.{IsTemporary}
 use Rattle.gix_odb_world.specs.Event.{Event}
 use Rattle.gix_odb_world.specs.Run.{IsTurnOf, tree_at}
-use Rattle.gix_odb_world.specs.Undisturbed.{CutsOff, HasMade, IsUndisturbed, OthersLeave}
+use Rattle.gix_odb_world.specs.Undisturbed.{HasMade, IsUndisturbed, OthersLeave}
 use Rattle.gix_odb_world.proofs.LawfulRun.{LawfulRun}
 use Rattle.gix_odb_world.proofs.OwnFiles as along
+use Rattle.gix_odb_world.proofs.OwnFiles.Over as over
 use Rattle.gix_odb_world.proofs.OwnFiles.Standing as files
 use Rattle.gix_odb_world.proofs.OwnFiles.Writer as writers
 use Rattle.gix_odb_world.proofs.OwnFiles.Turn as turns
 use Rattle.gix_odb_world.proofs.RunSteps.{Kind, Made, Quiet, Turned, event_or_end, kind_at}
+use Rattle.gix_odb_world.proofs.CutFiles.WasCut as records
 use Rattle.gix_odb_world.proofs.CutFiles.Spot.{not_vacant, spot_left, spot_stops}
 
 module _ (run : LawfulRun) where
-  open run use {first, events, start, lawful}
+  open run use {first, events}
 
   abbrev tree : ℕ → Tree
   tree = tree_at first events
@@ -37,40 +40,17 @@ module _ (run : LawfulRun) where
   abbrev Files : ℕ → Type 0
   Files = files.Files run
 
-  -- an event leaves a path and its way alone
   abbrev Leaves : Path → ℕ → Type 0
-  Leaves s now = SameOnWay (tree now) (tree (now + 1)) true s
+  Leaves = records.Leaves run
 
-  -- ---- what has become of a temporary file that was cut off
+  abbrev Stands : (handle now : ℕ) → Path → Type 0
+  Stands = records.Stands run
 
-  -- a file stands at a spot, and it is that of no other handle's write
-  pub record Stands (handle now : ℕ) (s : Path) : Type 0 where
-    pub stops : Stops (tree now) true s s
-    pub apart : (other last : ℕ) (twin : Path) → other ≢ handle → HasMade first events other last twin now → (o : Own other last twin now)
-        → o.spot ≢ s
-
-  -- the event at a place is a turn of another handle that cut the file off, which stood alone until then
-  pub record CutAt (handle made : ℕ) (path : Path) (place : ℕ) : Type 0 where
-    pub own : Own handle made path place
-    pub temporary : IsTemporary own.spot
-    pub event : Event
-    pub there : slice_get events place ≡ Some event
-    pub other : ℕ
-    pub apart : other ≢ handle
-    pub turn : IsTurnOf other event.step
-    pub cuts : CutsOff (tree place) (tree (place + 1)) path own.spot event
-
-  pub record CutOff (handle made : ℕ) (path : Path) (now : ℕ) : Type 0 where
-    pub lost : Lost path now
-    pub place : ℕ
-    pub later : made < place
-    pub before : place < now
-    pub cut : CutAt handle made path place
-    pub stays : (step : ℕ) → place ≤ step → step < now → OthersLeave first events cut.own.spot (place + 1) (step + 1) → Leaves cut.own.spot step
-    pub stands : OthersLeave first events cut.own.spot (place + 1) now → Stands handle now cut.own.spot
+  abbrev CutOff : (handle made : ℕ) → Path → ℕ → Type 0
+  CutOff = records.CutOff run
 
   abbrev AllKept : ℕ → Type 0
-  AllKept now = (handle made : ℕ) (path : Path) → HasMade first events handle made path now → Own handle made path now ⊎ CutOff handle made path now
+  AllKept = records.AllKept run
 
   -- ---- one event more
 
@@ -98,7 +78,7 @@ module _ (run : LawfulRun) where
     -- so does every event, where other programs do
     left_alone : (handle made : ℕ) (path : Path) → HasMade first events handle made path now → (c : CutOff handle made path now)
         → OthersLeave first events c.cut.own.spot (c.place + 1) (now + 1) → Leaves c.cut.own.spot now
-    left_alone handle made path hm c leave = by_kind (kind_at first events start lawful now e there)
+    left_alone handle made path hm c leave = by_kind (kind_at run now e there)
       where
         unchanged : e.entry.change ≡ None → Leaves c.cut.own.spot now
         unchanged none = files.same_way run now e there c.cut.own.spot none
@@ -202,15 +182,15 @@ module _ (run : LawfulRun) where
     over_leaves : (s : Path) → Leaves s now
     over_leaves s =
         let one : suc now ≡ now + 1 = omega arith in
-        writers.same_tree_on_way (tree now) (tree (now + 1)) s (subst (λ n. tree n ≡ tree now) one (along.over_tree run now none))
+        writers.same_tree_on_way (tree now) (tree (now + 1)) s (subst (λ n. tree n ≡ tree now) one (over.over_tree run now none))
 
     over_stands : (handle : ℕ) (s : Path) → Stands handle now s → Stands handle (suc now) s
     over_stands handle s stands =
         record {
-          stops = subst (λ u. Stops u true s s) (sym (along.over_tree run now none)) stands.stops;
+          stops = subst (λ u. Stops u true s s) (sym (over.over_tree run now none)) stands.stops;
           apart = λ other last twin differs hm o same.
-              let was = along.over_made run now none other last twin hm in
-              let been = along.back_own run now none other last twin o in
+              let was = over.over_made run now none other last twin hm in
+              let been = over.back_own run now none other last twin o in
               stands.apart other last twin differs was been.0 (been.1 ∙ same);
         }
 
@@ -218,7 +198,7 @@ module _ (run : LawfulRun) where
     over_cut handle made path c =
         let before = c.before in
         record {
-          lost = along.over_lost run now none path c.lost;
+          lost = over.over_lost run now none path c.lost;
           place = c.place;
           later = c.later;
           before = omega (arith, before);
@@ -234,9 +214,9 @@ module _ (run : LawfulRun) where
           | inr late ↦ let is : now ≡ step = omega (arith, soon, late) in subst (Leaves c.cut.own.spot) is (over_leaves c.cut.own.spot)
         ]
 
-    over : AllKept now → AllKept (suc now)
-    over each handle made path hm = elim (each handle made path (along.over_made run now none handle made path hm)) [
-      | inl o ↦ inl (along.over_own run now none handle made path o)
+    kept_over : AllKept now → AllKept (suc now)
+    kept_over each handle made path hm = elim (each handle made path (over.over_made run now none handle made path hm)) [
+      | inl o ↦ inl (over.over_own run now none handle made path o)
       | inr c ↦ inr (over_cut handle made path c)
     ]
 
@@ -251,5 +231,5 @@ module _ (run : LawfulRun) where
             let one : now + 1 ≡ suc now = omega arith in
             let calm_after : IsUndisturbed first events (now + 1) = λ place e within there outside handle made path hm. calm place e (omega (arith, within)) there outside handle made path hm in
             subst AllKept one (next now at.0 at.1 (along.files_at run now calm_before) calm_after each)
-        | inr none ↦ over now none each
+        | inr none ↦ kept_over now none each
       ]

@@ -27,9 +27,9 @@ use Rattle.gix_odb_loose.proofs.NameLaws.{IsTemporary, object_spot, prefix_path-
 use Rattle.gix_odb_world.specs.Recorded.{path_recorded}
 use Rattle.gix_odb_world.specs.declared.record.Did.TheVariants.{Nothing, Disk}
 use Rattle.gix_odb_world.specs.Event.{Event}
-use Rattle.gix_odb_world.specs.Headline.{IsLawful}
 use Rattle.gix_odb_world.specs.Run.{change_by, disk_after, tree_at}
 use Rattle.gix_odb_world.specs.Writing.{AskedAt, ToWrite}
+use Rattle.gix_odb_world.proofs.LawfulRun.{LawfulRun}
 use Rattle.gix_odb_world.proofs.RunSteps.{IsLeft, Made, Quiet, Turned, change_by_some, is_tree_at, kind_at, left_at}
 use Rattle.gix_odb_world.proofs.WriteAsk.{Told, done_made, told_append, told_make_dir, told_new_file, told_remove, told_rename}
 use Rattle.gix_odb_world.proofs.WriteTurn.{ask_at_stage}
@@ -163,10 +163,12 @@ pub record IsNewAt (first : Volume) (events : List Event) (made : ℕ) (e : Even
   pub free : vacant (tree_at first events made) path ≡ Ok spot
   pub own : OwnSpot (tree_at first events (made + 1)) path spot
 
-module _ (first : Volume) (events : List Event) (start : IsTree (tree_of first.state)) (lawful : IsLawful first events) where
+module _ (run : LawfulRun) where
+  open run use {first, events}
+
   pub new_at : (handle made : ℕ) (path : Path) (a : AskedAt first events handle made (asks.NewFile path) answers.Done)
       → IsNewAt first events made a.event path
-  new_at handle made path a = elim (kind_at first events start lawful made a.event a.there) [
+  new_at handle made path a = elim (kind_at run made a.event a.there) [
     | Quiet q ↦ absurd (let both : Nothing ≡ Disk ops.NewFile path (next_fails (disk_after first (take made events))) = sym q.did ∙ a.did in cc both)
     | Made m ↦ absurd (let both : Nothing ≡ Disk ops.NewFile path (next_fails (disk_after first (take made events))) = sym m.did ∙ a.did in cc both)
     | Turned t ↦
@@ -176,8 +178,8 @@ module _ (first : Volume) (events : List Event) (start : IsTree (tree_of first.s
         let ask = new_file_ask t.works.ask path (cc both) (cc both) in
         let m = done_made disk (asks.NewFile path) (change_of_new_file before path) (told_new_file before path) a.given in
         let makes : a.event.entry.change ≡ Some m.change = t.works.changed ∙ (ap (change_by disk) ask ∙ m.made) in
-        let n = own_new before (is_tree_at first events start lawful made) path m.change m.is in
+        let n = own_new before (is_tree_at run made) path m.change m.is in
         let after : tree_at first events (made + 1) ≡ changed before m.change = subst (IsLeft before (tree_at first events (made + 1))) makes
-        (left_at first events start lawful made a.event a.there) in
+        (left_at run made a.event a.there) in
         record { spot = n.0; put = makes ∙ ap Some n.1; free = n.2; own = subst (λ u. OwnSpot u path n.0) (sym after) n.3 }
   ]

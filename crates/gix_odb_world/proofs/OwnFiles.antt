@@ -1,32 +1,33 @@
 -- The temporary files of writes in an undisturbed run: each stands alone, or was cut off, after each event.
+pub mod Ends
 pub mod Writer
 pub mod Standing
 pub mod Other
+pub mod Over
 pub mod Turn
 use Rattle.std.proofs.Common.{◌≡◌, ◌≢◌, ◌⊎◌, inl, inr, ℕ, zero, suc, ◌+◌, ◌<◌, Bool, true, false, [], take, Some, None, Ok, refl, sym, ap, ◌∙◌, subst, arith}
 use Rattle.std.specs.Prelude.{slice_get, ◌==◌}
 use Rattle.std.proofs.lemmas.Bool.{cases_lt, eqb-false, eqb-true}
-use Rattle.std.proofs.lemmas.Option.{slice_get_within}
 use Rattle.odb_base.specs.Path.{Path}
-use Rattle.odb_tree.specs.Tree.{Tree, tree_of}
+use Rattle.odb_tree.specs.Tree.{Tree}
 use Rattle.odb_tree.specs.Tree.Write.{spot, vacant}
 use Rattle.odb_tree.specs.declared.change.Change.TheVariants.{PutFile}
-use Rattle.odb_tree.proofs.OwnWayLaws.{Cut, OwnSpot, own_not_vacant}
+use Rattle.odb_tree.proofs.OwnWayLaws.{OwnSpot, own_not_vacant}
 use Rattle.gix_odb_world.specs.declared.step.Step.TheVariants as steps
 use Rattle.gix_odb_world.specs.Event.{Event}
-use Rattle.gix_odb_world.specs.Status.{status_of}
-use Rattle.gix_odb_world.specs.Run.{IsTurnOf, disk_after, tree_at}
+use Rattle.gix_odb_world.specs.Run.{IsTurnOf, tree_at}
 use Rattle.gix_odb_world.specs.Undisturbed.{HasMade, IsUndisturbed}
 use Rattle.gix_odb_world.proofs.LawfulRun.{LawfulRun}
-use Rattle.gix_odb_world.proofs.FileSteps.{NotTemporary, new_at}
-use Rattle.gix_odb_world.proofs.RunSteps.{Kind, Made, Quiet, Turned, event_or_end, kind_at, none_beyond, take_none}
+use Rattle.gix_odb_world.proofs.FileSteps.{new_at}
+use Rattle.gix_odb_world.proofs.RunSteps.{Kind, Made, Quiet, Turned, event_or_end, kind_at}
 use Rattle.gix_odb_world.proofs.OwnFiles.Writer.{one_event, ByWriter, quiet_or_writer}
 use Rattle.gix_odb_world.proofs.OwnFiles.Standing.{Own, Lost, Files, lost_no_file, made_before, own_same, lost_same, same_way, CutNow, lost_now}
+use Rattle.gix_odb_world.proofs.OwnFiles.Over.{back_own, over_lost, over_made, over_own}
 use Rattle.gix_odb_world.proofs.OwnFiles.Other.{own_spared, lost_spared}
 use Rattle.gix_odb_world.proofs.OwnFiles.Turn.{lost_turn, own_turn}
 
 module _ (run : LawfulRun) where
-  open run use {first, events, start, lawful}
+  open run use {first, events}
 
   abbrev tree : ℕ → Tree
   tree = tree_at first events
@@ -35,7 +36,7 @@ module _ (run : LawfulRun) where
     pub lost_next : Files run now → IsUndisturbed first events (now + 1) → (handle made : ℕ) (path : Path)
         → HasMade first events handle made path now → Lost run path now
         → Lost run path (now + 1)
-    lost_next files calm handle made path hm l = by_kind (kind_at first events start lawful now e there)
+    lost_next files calm handle made path hm l = by_kind (kind_at run now e there)
       where
         by_writer : (b : ByWriter run now e) (same : Bool) → (b.handle == handle) ≡ same
             → Lost run path (now + 1)
@@ -56,7 +57,7 @@ module _ (run : LawfulRun) where
         → (handle made : ℕ) (path : Path) (hm : HasMade first events handle made path now) → HasMade first events handle made path (now + 1)
         → (o : Own run handle made path now)
         → Own run handle made path (now + 1) ⊎ CutNow run now e there handle made path hm o.spot
-    own_next files calm handle made path hm after o = by_kind (kind_at first events start lawful now e there)
+    own_next files calm handle made path hm after o = by_kind (kind_at run now e there)
       where
         by_writer : (b : ByWriter run now e) (same : Bool) → (b.handle == handle) ≡ same
             → Own run handle made path (now + 1) ⊎ CutNow run now e there handle made path hm o.spot
@@ -81,7 +82,7 @@ module _ (run : LawfulRun) where
     pub new_next : (handle made : ℕ) (path : Path) → HasMade first events handle made path (now + 1) → made ≡ now
         → Own run handle made path (now + 1)
     new_next handle made path hm is =
-        let new = new_at first events start lawful handle made path hm.makes in
+        let new = new_at run handle made path hm.makes in
         record {
           spot = new.spot;
           event = hm.makes.event;
@@ -126,7 +127,7 @@ module _ (run : LawfulRun) where
     pub new_vacant : (handle made : ℕ) (path : Path) → HasMade first events handle made path (now + 1) → made ≡ now
         → (a : Own run handle made path (now + 1)) → vacant (tree now) path ≡ Ok a.spot
     new_vacant handle made path hm is a =
-        let new = new_at first events start lawful handle made path hm.makes in
+        let new = new_at run handle made path hm.makes in
         let one : hm.makes.event ≡ a.event = one_event events made hm.makes.event a.event hm.makes.there a.there in
         let both : Some (PutFile new.spot 0 []) ≡ Some (PutFile a.spot 0 []) = sym new.put ∙ (ap (λ (x : Event). x.entry.change) one ∙ a.put) in
         let spots : new.spot ≡ a.spot = cc in
@@ -175,64 +176,14 @@ module _ (run : LawfulRun) where
 
   -- where the run is over nothing changes
   module _ (now : ℕ) (none : slice_get events now ≡ None) where
-    pub over_tree : tree (suc now) ≡ tree now
-    over_tree = ap (λ es. tree_of (disk_after first es).state) (take_none events now none)
-
-    pub over_made : (handle made : ℕ) (path : Path) → HasMade first events handle made path (suc now) → HasMade first events handle made path now
-    over_made handle made path hm =
-        let within = slice_get_within events made hm.makes.event hm.makes.there in
-        let beyond = none_beyond events now none in
-        record {
-          running = hm.running;
-          call = hm.call;
-          at = record { works = ap (λ es. status_of es handle) (sym (take_none events now none)) ∙ hm.at.works; writes = hm.at.writes };
-          later = hm.later;
-          before = omega (arith, within, beyond);
-          number = hm.number;
-          named = hm.named;
-          makes = hm.makes;
-        }
-
-    pub over_own : (handle made : ℕ) (path : Path) → Own run handle made path now
-        → Own run handle made path (suc now)
-    over_own handle made path o =
-        record {
-          spot = o.spot;
-          event = o.event;
-          there = o.there;
-          put = o.put;
-          own = subst (λ u. OwnSpot u path o.spot) (sym over_tree) o.own;
-          alone = λ place x later within at other.
-              let inside = slice_get_within events place x at in
-              let beyond = none_beyond events now none in
-              o.alone place x later (omega (arith, inside, beyond)) at other;
-        }
-
-    pub over_lost : (path : Path) → Lost run path now → Lost run path (suc now)
-    over_lost path l = record { front = l.front; parent = l.parent; cut = subst (λ u. Cut NotTemporary u l.front) (sym over_tree) l.cut }
-
-    pub back_own : (handle made : ℕ) (path : Path) → (a : Own run handle made path (suc now))
-        → (o : Own run handle made path now) × (o.spot ≡ a.spot)
-    back_own handle made path a = (
-      record {
-        spot = a.spot;
-        event = a.event;
-        there = a.there;
-        put = a.put;
-        own = subst (λ u. OwnSpot u path a.spot) over_tree a.own;
-        alone = λ place x later within at other. a.alone place x later (omega (arith, within)) at other;
-      },
-      refl,
-    )
-
-    over : Files run now → Files run (suc now)
-    over files = record {
-      each = λ handle made path hm. elim (files.each handle made path (over_made handle made path hm)) [ inl o ↦ inl (over_own handle made path o) | inr l ↦ inr (over_lost path l) ];
+    files_over : Files run now → Files run (suc now)
+    files_over files = record {
+      each = λ handle made path hm. elim (files.each handle made path (over_made run now none handle made path hm)) [ inl o ↦ inl (over_own run now none handle made path o) | inr l ↦ inr (over_lost run now none path l) ];
       apart = λ handle other made last path twin differs hm his a b same.
-          let was = over_made handle made path hm in
-          let been = over_made other last twin his in
-          let o = back_own handle made path a in
-          let p = back_own other last twin b in
+          let was = over_made run now none handle made path hm in
+          let been = over_made run now none other last twin his in
+          let o = back_own run now none handle made path a in
+          let p = back_own run now none other last twin b in
           files.apart handle other made last path twin differs was been o.0 p.0 (o.1 ∙ (same ∙ sym p.1));
     }
 
@@ -248,5 +199,5 @@ module _ (run : LawfulRun) where
         | inl at ↦
             let one : now + 1 ≡ suc now = omega arith in
             subst (Files run) one (next now at.0 at.1 before (λ place e within there outside handle made path hm. calm place e (omega (arith, within)) there outside handle made path hm))
-        | inr none ↦ over now none before
+        | inr none ↦ files_over now none before
       ]

@@ -20,11 +20,12 @@ use Rattle.gix_odb_world.specs.declared.step.Step.TheVariants as steps
 use Rattle.gix_odb_world.specs.declared.step.Why.{Why}
 use Rattle.gix_odb_world.specs.Event.{Asked, OfNothing, OfDisk, OfCore, Event}
 use Rattle.gix_odb_world.specs.Status.{Running, Status, Free, Resting, Working, status_of, status_after}
-use Rattle.gix_odb_world.specs.Headline.{IsLawful, IsTurn, Law, LeavesDisk, Suits, Turns}
+use Rattle.gix_odb_world.specs.Headline.{IsTurn, Law, LeavesDisk, Suits, Turns}
 use Rattle.gix_odb_world.specs.Changes.{ChangesAs, change_applied}
 use Rattle.gix_odb_world.specs.Run.{change_by, did_of_asked, disk_after, disk_after_event, disk_after_asked, tree_at}
 use Rattle.gix_odb_world.specs.Undisturbed.{IsOutside}
 use Rattle.gix_odb_world.specs.Valid.{misuse_of, phase_of, why_not_after, why_not_running}
+use Rattle.gix_odb_world.proofs.LawfulRun.{LawfulRun}
 use Rattle.gix_odb_world.proofs.DiskTurns.{CallsDisk, calls_disk}
 use Rattle.gix_odb_world.proofs.RunLemmas.{disk_after-push, status_of-push}
 pub use Rattle.gix_odb_world.proofs.RunSteps.Fronts.{event_or_end, front_of_front, length_take, none_beyond, take_next, take_none, there_in_front, there_in_whole}
@@ -171,7 +172,9 @@ tree_after first past e is_tree (Turned t) = by_change e.entry.change refl (turn
 
 -- ---- along a run
 
-module _ (first : Volume) (events : List Event) (start : IsTree (tree_of first.state)) (lawful : IsLawful first events) where
+module _ (run : LawfulRun) where
+  open run use {first, events, start, lawful}
+
   pub kind_at : (place : ℕ) (e : Event) → slice_get events place ≡ Some e → Kind first (take place events) e
   kind_at place e there = kind_of first (take place events) e (lawful place e there)
 

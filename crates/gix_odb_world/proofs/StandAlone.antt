@@ -12,6 +12,7 @@ use Rattle.gix_odb_world.specs.Undisturbed.{AreApart, CutsOff, HasMade, IsAloneA
 use Rattle.gix_odb_world.specs.Writing.{IsRename}
 use Rattle.gix_odb_world.proofs.LawfulRun.{LawfulRun}
 use Rattle.gix_odb_world.proofs.CutFiles as cuts
+use Rattle.gix_odb_world.proofs.CutFiles.WasCut as records
 use Rattle.gix_odb_world.proofs.OwnFiles as along
 use Rattle.gix_odb_world.proofs.OwnFiles.Standing as files
 use Rattle.gix_odb_world.proofs.OwnFiles.Writer as writers
@@ -20,7 +21,7 @@ use Rattle.gix_odb_world.proofs.OwnFiles.Turn as turns
 use Rattle.gix_odb_world.proofs.RunSteps.{Kind, Made, Quiet, Turned, kind_at}
 
 module _ (run : LawfulRun) where
-  open run use {first, events, start, lawful}
+  open run use {first, events}
 
   abbrev tree : ℕ → Tree
   tree = tree_at first events
@@ -32,7 +33,7 @@ module _ (run : LawfulRun) where
   Lost = files.Lost run
 
   abbrev CutOff : ℕ → ℕ → Path → ℕ → Type 0
-  CutOff = cuts.CutOff run
+  CutOff = records.CutOff run
 
   led_twice : (now : ℕ) (path s r : Path) → file_spot (tree now) path ≡ Ok s → file_spot (tree now) path ≡ Ok r → s ≡ r
   led_twice now path s r one two = let both : Ok s ≡ Ok r = sym one ∙ two in cc both
@@ -44,7 +45,7 @@ module _ (run : LawfulRun) where
     Spared r = SameOnWay (tree place) (tree (place + 1)) true path ⊎ CutsOff (tree place) (tree (place + 1)) path r e
 
     own_spared : (o : Own handle made path place) → Spared o.spot
-    own_spared o = by_kind (kind_at first events start lawful place e there)
+    own_spared o = by_kind (kind_at run place e there)
       where
         by_writer : (b : writers.ByWriter run place e) → Spared o.spot
         by_writer b =

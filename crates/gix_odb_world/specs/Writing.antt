@@ -122,8 +122,8 @@ abbrev pub ChangedNothing : List Event → (handle begun : ℕ) → Type 0
 ChangedNothing events handle begun = EachTurn events handle begun (λ e. e.entry.change ≡ None)
 
 -- none of its turns renamed
-abbrev pub RenamedNothing : List Event → (handle begun : ℕ) → Type 0
-RenamedNothing events handle begun = EachTurn events handle begun (λ e. ¬ (IsRename e.entry.change))
+abbrev pub NoTurnRenamed : List Event → (handle begun : ℕ) → Type 0
+NoTurnRenamed events handle begun = EachTurn events handle begun (λ e. ¬ (IsRename e.entry.change))
 
 -- the call that makes a temporary file with a number, if there is one
 abbrev pub IsMaking : Path → Option ℕ → Did → Type 0
@@ -132,8 +132,8 @@ IsMaking objects (Some number) did =
     (failed : Bool) × (did ≡ Disk (op_of (asks.NewFile (temp_path objects number))) (temp_path objects number) failed)
 
 -- none of its turns made a file, but for the temporary file with this number, if there is one
-abbrev pub MadeOnly : List Event → (handle begun : ℕ) → Path → Option ℕ → Type 0
-MadeOnly events handle begun objects number = EachTurn events handle begun (λ e. IsNewFile e.entry.change → IsMaking objects number e.entry.did)
+abbrev pub TurnsMadeOnly : List Event → (handle begun : ℕ) → Path → Option ℕ → Type 0
+TurnsMadeOnly events handle begun objects number = EachTurn events handle begun (λ e. IsNewFile e.entry.change → IsMaking objects number e.entry.did)
 
 -- the event at a place left a path and its way alone, the file that the path leads to included
 abbrev pub LeavesAlone : Volume → List Event → Path → (place : ℕ) → Type 0

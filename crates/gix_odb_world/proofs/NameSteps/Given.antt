@@ -36,13 +36,13 @@ use Rattle.gix_odb_world.proofs.StandAlone.{Own, own_at_rename}
 use Rattle.gix_odb_world.proofs.RunLemmas.{slice_get-last}
 
 module _ (run : LawfulRun) where
-  open run use {first, events, start, lawful}
+  open run use {first, events, lawful}
 
   abbrev tree : ℕ → Tree
   tree = tree_at first events
 
   is_tree : (now : ℕ) → IsTree (tree now)
-  is_tree = is_tree_at first events start lawful
+  is_tree = is_tree_at run
 
   -- trees of a front of the run
   tree_front : (count place : ℕ) → place ≤ count → tree_at first (take count events) place ≡ tree place
@@ -129,7 +129,7 @@ module _ (run : LawfulRun) where
       | inr late ↦
           let before = made_whole.0 in
           let at : written.made ≡ place = omega (arith, before, late) in
-          let new = new_at first events start lawful gives.handle written.made (temp_path w.objects written.number) made_whole.1 in
+          let new = new_at run gives.handle written.made (temp_path w.objects written.number) made_whole.1 in
           let one : made_whole.1.event ≡ gives.event = writers.one_event events place made_whole.1.event gives.event (ap (slice_get events) (sym at) ∙ made_whole.1.there) gives.there in
           let both : Some (PutFile new.spot 0 []) ≡ Some (Rename gives.from to) = sym new.put ∙ (ap (λ (x : Event). x.entry.change) one ∙ gives.moves) in
           absurd (cc both)

@@ -48,7 +48,7 @@ makes_no_more w stage number call is made none =
     cc both
 
 module _ (run : LawfulRun) where
-  open run use {first, events, start, lawful}
+  open run use {first, events}
 
   abbrev tree : ℕ → Tree
   tree = tree_at first events
@@ -98,17 +98,17 @@ module _ (run : LawfulRun) where
       record {
         running = running;
         call = call;
-        at = record { works = ap (λ (table : ℕ → Status). table handle) (sym (status_next first events start lawful now e there)) ∙ at.works; writes = at.writes };
+        at = record { works = ap (λ (table : ℕ → Status). table handle) (sym (status_next run now e there)) ∙ at.works; writes = at.writes };
         in_store = refl;
         since = refl;
       }
 
   module _ (now : ℕ) (e : Event) (there : slice_get events now ≡ Some e) where
     pub unchanged : e.entry.change ≡ None → tree (now + 1) ≡ tree now
-    unchanged none = subst (IsLeft (tree now) (tree (now + 1))) none (left_at first events start lawful now e there)
+    unchanged none = subst (IsLeft (tree now) (tree (now + 1))) none (left_at run now e there)
 
     pub changed_to : (c : Change) → e.entry.change ≡ Some c → tree (now + 1) ≡ changed (tree now) c
-    changed_to c is = subst (IsLeft (tree now) (tree (now + 1))) is (left_at first events start lawful now e there)
+    changed_to c is = subst (IsLeft (tree now) (tree (now + 1))) is (left_at run now e there)
 
     pub alone_push : (handle from : ℕ) (path : Path) → LeftAlone first events handle path from now
         → (¬ (IsTurnOf handle e.step) → SameOnWay (tree now) (tree (now + 1)) true path) → LeftAlone first events handle path from (now + 1)

@@ -29,7 +29,8 @@ use Rattle.gix_odb_world.proofs.DiskTurns.{CallsDisk, calls_disk}
 use Rattle.gix_odb_world.proofs.FileSteps.{WriterMoves, does_nothing}
 use Rattle.gix_odb_world.proofs.RunSteps.{there_in_front}
 use Rattle.gix_odb_world.proofs.WorkLaws.{ends_as_write}
-use Rattle.gix_odb_world.proofs.OwnFiles.Writer.{removing_ends, no_write_after, is_tree, writing_at, stage_of_made, within_events, moves_of}
+use Rattle.gix_odb_world.proofs.OwnFiles.Ends.{no_write_after, removing_ends}
+use Rattle.gix_odb_world.proofs.OwnFiles.Writer.{is_tree, writing_at, stage_of_made, within_events, moves_of}
 use Rattle.gix_odb_world.proofs.OwnFiles.Standing.{Own, Lost, cut_made, at_write_next, changed_to, alone_push, own_same, same_way}
 
 module _ (run : LawfulRun) where

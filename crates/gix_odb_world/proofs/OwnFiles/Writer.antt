@@ -1,13 +1,12 @@
 -- Which write a turn is of, what it asks, and what it changes.
-use Rattle.std.proofs.Common.{◌≡◌, ◌⊎◌, inl, inr, ℕ, ◌<◌, ◌≤◌, true, List, [], length, take, Option, Some, None, Ok, refl, sym, ap, ◌∙◌, subst, arith, eq-eqb}
-use Rattle.std.specs.Prelude.{if◌then◌else◌, slice_get}
+use Rattle.std.proofs.Common.{◌≡◌, ◌⊎◌, inl, inr, ℕ, ◌<◌, ◌≤◌, true, List, [], length, take, Option, Some, None, Ok, refl, sym, ap, ◌∙◌, subst, arith}
+use Rattle.std.specs.Prelude.{slice_get}
 use Rattle.std.proofs.lemmas.Option.{slice_get_within}
 use Rattle.odb_base.specs.Path.{Path}
 use Rattle.odb_disk.specs.Ask.{answer_now, op_of}
 use Rattle.odb_disk.specs.MemDisk.{next_fails}
 use Rattle.odb_tree.specs.Tree.{IsTree, Tree}
 use Rattle.odb_tree.specs.Tree.Way.{SameOnWay}
-use Rattle.odb_disk.specs.declared.ask.DiskAnswer.{DiskAnswer}
 use Rattle.odb_disk.specs.declared.ask.DiskAnswer.TheVariants as answers
 use Rattle.odb_disk.specs.declared.ask.DiskAsk.TheVariants as asks
 use Rattle.odb_tree.specs.declared.change.Change.{Change}
@@ -15,36 +14,32 @@ use Rattle.odb_tree.specs.declared.change.Change.TheVariants.{PutFile, MakeDir, 
 use Rattle.odb_tree.proofs.WayWriteLaws.{append_change, make_dir_change, new_file_change, remove_change}
 use Rattle.gix_hash.specs.declared.object_id.ObjectId.{ObjectId}
 use Rattle.gix_odb_loose.specs.Exchanges.{exchanged}
-use Rattle.gix_odb_loose.specs.WriteDone.{data_at}
 use Rattle.gix_odb_loose.specs.LooseOrder.{disk_ask_of}
 use Rattle.gix_odb_loose.specs.LooseOrder as loose_order
 use Rattle.gix_odb_loose.specs.WriteDone.{data_at}
 use Rattle.gix_odb_loose.specs.WriteOrder.{number_made, prefix_path, temp_path}
 use Rattle.gix_odb_loose.specs.declared.call.LooseCall.{LooseCall}
-use Rattle.gix_odb_loose.specs.declared.write_order.Refusal.{Refusal}
 use Rattle.gix_odb_loose.specs.declared.write_order.WriteStage.{WriteStage}
 use Rattle.gix_odb_loose.specs.declared.write_order.WriteStage.TheVariants as stages
 use Rattle.gix_odb_loose.proofs.WriteMadeLaws.{history_makes}
 use Rattle.gix_odb.specs.declared.call.Reply.{Reply}
 use Rattle.gix_odb.specs.declared.call.Reply.TheVariants as replies
 use Rattle.gix_odb_world.specs.declared.record.Did.TheVariants.{Disk}
-use Rattle.gix_odb_world.specs.declared.step.Outcome.{Outcome}
 use Rattle.gix_odb_world.specs.declared.step.Outcome.TheVariants as outcomes
-use Rattle.gix_odb_world.specs.declared.step.Step.{Step}
 use Rattle.gix_odb_world.specs.declared.step.Step.TheVariants as steps
-use Rattle.gix_odb_world.specs.Event.{Asked, Event, ToDisk, to_disk}
+use Rattle.gix_odb_world.specs.Event.{Event, ToDisk, to_disk}
 use Rattle.gix_odb_world.specs.Machines.{write_in}
-use Rattle.gix_odb_world.specs.Status.{IsAtWrite, Running, Store, Status, Working, replied, status_after, status_of}
+use Rattle.gix_odb_world.specs.Status.{IsAtWrite, Running, Working, status_of}
 use Rattle.gix_odb_world.specs.Headline.{outcome_of}
 use Rattle.gix_odb_world.specs.Run.{IsTurnOf, change_by, disk_after, tree_at}
 use Rattle.gix_odb_world.specs.Running.{Knows, Runs}
 use Rattle.gix_odb_world.specs.Running.Write.{IsWriting, result_of_write, write_at}
 use Rattle.gix_odb_world.specs.Undisturbed.{HasMade}
-use Rattle.gix_odb_world.specs.Writing.{AskedAt, GetsName, HasOther, IsMaking, IsNewFile, ToWrite, head_to_write}
+use Rattle.gix_odb_world.specs.Writing.{AskedAt, GetsName, HasOther, IsMaking, IsNewFile, head_to_write}
 use Rattle.gix_odb_world.proofs.LawfulRun.{LawfulRun}
 use Rattle.gix_odb_world.proofs.DiskTurns.{CallsDisk, calls_disk}
 use Rattle.gix_odb_world.proofs.FileSteps.{IsNewAt, WriterMoves, new_at, writer_moves}
-use Rattle.gix_odb_world.proofs.FileSteps.AtWrite.{AtWrite, ended}
+use Rattle.gix_odb_world.proofs.OwnFiles.Ends.{moving_ends}
 use Rattle.gix_odb_world.proofs.RunSteps.{IsTurned, front_of_front, is_tree_at, there_in_front, there_in_whole}
 use Rattle.gix_odb_world.proofs.WriteAsk.{made_done}
 use Rattle.gix_odb_world.proofs.WriteTurn.{ask_at_stage, done_at}
@@ -56,31 +51,14 @@ one_event xs place x y is other = let both : Some x ≡ Some y = sym is ∙ othe
 pub same_tree_on_way : (t u : Tree) (path : Path) → u ≡ t → SameOnWay t u true path
 same_tree_on_way t u path same = subst (λ (v : Tree). SameOnWay t v true path) (sym same) (λ q on. refl)
 
--- a write that removes its file ends with the turn
-pub removing_ends : (w : ToWrite) (number : ℕ) (refusal : Refusal) (answer : DiskAnswer)
-    → (reply : Reply) × (result_of_write (loose_order.fed (write_at w (stages.Removing number refusal)) answer) ≡ Ok reply)
-removing_ends w number refusal answer = (_, refl)
-
--- one that gives the object its name does too
-pub moving_ends : (w : ToWrite) (number : ℕ) (id : ObjectId)
-    → result_of_write (loose_order.fed (write_at w (stages.Moving number id)) answers.Done) ≡ Ok (replies.Wrote id)
-moving_ends w number id = refl
-
-pub no_write_after : (store : Store) (begun number : ℕ) (step : Step) (outcome : Outcome) (asked : Asked) (table : ℕ → Status) (handle : ℕ) (reply : Reply)
-    → step ≡ steps.Turn handle → outcome ≡ outcomes.Reply reply → ¬ (AtWrite store begun (status_after number step outcome asked table handle))
-no_write_after store begun number step outcome asked table handle reply turn is at =
-    let here : AtWrite store begun (status_after number (steps.Turn handle) (outcomes.Reply reply) asked table handle) =
-    subst (λ o. AtWrite store begun (status_after number (steps.Turn handle) o asked table handle)) is (subst (λ s. AtWrite store begun (status_after number s outcome asked table handle)) turn at) in
-    ended store begun reply (table handle) (subst (λ b. AtWrite store begun (if b then replied reply (table handle) else table handle)) (eq-eqb handle handle refl) here)
-
 module _ (run : LawfulRun) where
-  open run use {first, events, start, lawful, throughout}
+  open run use {first, events, lawful, throughout}
 
   abbrev tree : ℕ → Tree
   tree = tree_at first events
 
   pub is_tree : (now : ℕ) → IsTree (tree now)
-  is_tree = is_tree_at first events start lawful
+  is_tree = is_tree_at run
 
   -- ---- what a write knows
 
@@ -137,7 +115,7 @@ module _ (run : LawfulRun) where
   stage_of_made handle made now path hm writes = by_number (number_made writes.stage) refl making
     where
       new : IsNewAt first events made hm.makes.event path
-      new = new_at first events start lawful handle made path hm.makes
+      new = new_at run handle made path hm.makes
 
       making : IsMaking writes.write.objects (number_made writes.stage) hm.makes.event.entry.did
       making = writes.stands.made made hm.makes.event hm.later (there_in_front events made now hm.makes.event hm.before hm.makes.there) hm.makes.turn (subst IsNewFile (sym new.put) tt)

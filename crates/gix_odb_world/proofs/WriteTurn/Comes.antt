@@ -34,7 +34,7 @@ use Rattle.gix_odb_loose.specs.declared.write_order.WriteStage.TheVariants as st
 use Rattle.gix_odb_world.specs.Event.{Event}
 use Rattle.gix_odb_world.specs.Run.{disk_after}
 use Rattle.gix_odb_world.specs.Running.Write.{Holds, HoldsFile, IsUntouched, StandsAt, content_at, job_to_write}
-use Rattle.gix_odb_world.specs.Writing.{AskedAt, AskedSince, CauseOfWrite, ChangedNothing, DoneSince, GetsName, HasOther, IsNewFile, IsRename, MadeOnly, RefusedSince, RenamedNothing, TakenSince, head_to_write, name_to_write}
+use Rattle.gix_odb_world.specs.Writing.{AskedAt, AskedSince, CauseOfWrite, ChangedNothing, DoneSince, GetsName, HasOther, IsNewFile, IsRename, TurnsMadeOnly, RefusedSince, NoTurnRenamed, TakenSince, head_to_write, name_to_write}
 use Rattle.gix_odb_world.specs.Written.{HasWritten, WasRefused}
 use Rattle.gix_odb_world.proofs.RefusedLemmas.{refused_on_way}
 use Rattle.gix_odb_world.proofs.WriteAsk.Quiet.{never_wants}
@@ -90,15 +90,15 @@ module _ (t : TurnOfWrite) where
       -- what is to be shown of it, beside its exchanges
       abbrev pub Parts : Onward → Type 0
       Parts (Stage stage) =
-          (¬ (IsRename e.entry.change)) × MadeOnly whole handle begun w.objects (number_made stage) × Holds first whole handle begun w.objects (number_made stage) (content_at w stage)
+          (¬ (IsRename e.entry.change)) × TurnsMadeOnly whole handle begun w.objects (number_made stage) × Holds first whole handle begun w.objects (number_made stage) (content_at w stage)
           × IsUntouched whole handle begun (number_made stage)
       Parts (End (Ok id)) = HasWritten first whole handle begun w id
       Parts (End (Err refusal)) =
-          (¬ (IsRename e.entry.change)) × IsUntouchedAt refusal × ((made : Option ℕ) × MadeOnly whole handle begun w.objects made
+          (¬ (IsRename e.entry.change)) × IsUntouchedAt refusal × ((made : Option ℕ) × TurnsMadeOnly whole handle begun w.objects made
           × ((made ≡ None) ⊎ ((number : ℕ) × (place : ℕ) × (made ≡ Some number) × (length whole ≡ place + 1)
           × ((a : DiskAnswer) × AskedAt first whole handle place (asks.Remove (temp_path w.objects number)) a))))
 
-      pub goes : RenamedNothing events handle begun → turns ≡ length past → (onward : Onward) → IsAlong (job_to_write w) onward longer → Parts onward → Goes onward
+      pub goes : NoTurnRenamed events handle begun → turns ≡ length past → (onward : Onward) → IsAlong (job_to_write w) onward longer → Parts onward → Goes onward
       goes unnamed had (Stage stage) along parts =
           record {
             past = longer;
@@ -144,6 +144,6 @@ module _ (t : TurnOfWrite) where
   -- what is left where the file is to be removed
   pub cleared : (ask : DiskAsk) (is : Makes t ask) (answer : DiskAnswer) (given : answer ≡ answer_now (disk_after first events) ask) (past : List Exchange)
       (asked : (x : Exchange) → Contains past x → AskedSince first events handle begun x.ask x.answer)
-      → (number : ℕ) (refusal : Refusal) → ¬ (IsRename e.entry.change) → ¬ (IsNewFile e.entry.change) → MadeOnly events handle begun w.objects (Some number)
+      → (number : ℕ) (refusal : Refusal) → ¬ (IsRename e.entry.change) → ¬ (IsNewFile e.entry.change) → TurnsMadeOnly events handle begun w.objects (Some number)
       → Parts ask is answer given past asked (Stage (stages.Removing number refusal))
   cleared ask is answer given past asked number refusal unmoved unmade made = (unmoved, made_same t ask is answer given (Some number) unmade made, tt, tt)

@@ -33,7 +33,7 @@ use Rattle.gix_odb_world.specs.declared.record.Did.TheVariants.{Disk}
 use Rattle.gix_odb_world.specs.Event.{OfDisk, Event}
 use Rattle.gix_odb_world.specs.Run.{IsTurnOf, change_by, disk_after, disk_after_asked, tree_at}
 use Rattle.gix_odb_world.specs.Running.Write.{HoldsFile, StandsAt}
-use Rattle.gix_odb_world.specs.Writing.{AskedAt, IsNewFile, IsRename, MadeOnly, ToWrite}
+use Rattle.gix_odb_world.specs.Writing.{AskedAt, IsNewFile, IsRename, TurnsMadeOnly, ToWrite}
 use Rattle.gix_odb_world.proofs.RunLemmas.{tree_at-now}
 use Rattle.gix_odb_world.proofs.WriteAsk.{Made}
 use Rattle.gix_odb_world.proofs.WriteKept.{alone_before, asked_at_kept, asked_now, each_turn_push}
@@ -170,5 +170,5 @@ module _ (t : TurnOfWrite) where
     pub no_file : change_by disk ask ≡ None → ¬ (IsNewFile e.entry.change)
     no_file none makes = subst IsNewFile (is.change ∙ none) makes
 
-    pub made_same : (number : Option ℕ) → ¬ (IsNewFile e.entry.change) → MadeOnly events handle begun w.objects number → MadeOnly whole handle begun w.objects number
+    pub made_same : (number : Option ℕ) → ¬ (IsNewFile e.entry.change) → TurnsMadeOnly events handle begun w.objects number → TurnsMadeOnly whole handle begun w.objects number
     made_same number none old = each_turn_push events e handle begun _ old (λ turn makes. absurd (none makes))

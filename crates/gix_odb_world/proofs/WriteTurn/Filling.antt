@@ -28,7 +28,7 @@ use Rattle.gix_odb_loose.proofs.WriteDoneLaws.Data.{data_grown}
 use Rattle.gix_odb_world.specs.Event.{Event}
 use Rattle.gix_odb_world.specs.Run.{disk_after}
 use Rattle.gix_odb_world.specs.Running.Write.{HoldsFile}
-use Rattle.gix_odb_world.specs.Writing.{AskedSince, IsNewFile, IsRename, MadeOnly}
+use Rattle.gix_odb_world.specs.Writing.{AskedSince, IsNewFile, IsRename, TurnsMadeOnly}
 use Rattle.gix_odb_world.proofs.WriteAsk.{Made, done_made, told_append, undone_made}
 use Rattle.gix_odb_world.proofs.WriteTurn.Common.{appended_holds, made_same, Makes, no_file, no_rename, Stands, TurnOfWrite}
 use Rattle.gix_odb_world.proofs.WriteTurn.Comes.{Parts, PartsTo, cleared}
@@ -56,7 +56,7 @@ module _ (t : TurnOfWrite) where
 
       unappended : (answer : DiskAnswer) (given : answer ≡ answer_now disk (asks.Append path more)) (past : List Exchange)
           (asked : (x : Exchange) → Contains past x → AskedSince first events handle begun x.ask x.answer) (refusal : Refusal)
-          → answers.Done ≢ answer → MadeOnly events handle begun w.objects (Some number) → Parts t (asks.Append path more) is answer given past asked (Stage (stages.Removing number refusal))
+          → answers.Done ≢ answer → TurnsMadeOnly events handle begun w.objects (Some number) → Parts t (asks.Append path more) is answer given past asked (Stage (stages.Removing number refusal))
       unappended answer given past asked refusal undone made =
           let none = undone_made disk (asks.Append path more) (change_of_append (tree_of disk.state) path more) (told_append (tree_of disk.state) path more) (λ d. undone (d ∙ sym given)) in
           cleared t (asks.Append path more) is answer given past asked number refusal (no_rename t (asks.Append path more) is answer given none)

@@ -27,7 +27,7 @@ use Rattle.gix_odb_world.specs.AtWork.{MakeCall, Running, Task, nothing_in_front
 use Rattle.gix_odb_world.specs.Bound.{bound_of_task}
 use Rattle.gix_odb_world.specs.Run.{tree_at}
 use Rattle.gix_odb.specs.CallOrder.{hash_to_write, wrote_as}
-use Rattle.gix_odb_world.specs.Writing.{AskedAt, AskedSince, ChangedNothing, LeftAlone, MadeOnly, RenamedNothing, ToWrite, call_to_write, head_to_write}
+use Rattle.gix_odb_world.specs.Writing.{AskedAt, AskedSince, ChangedNothing, LeftAlone, TurnsMadeOnly, NoTurnRenamed, ToWrite, call_to_write, head_to_write}
 
 -- a write that has asked nothing
 abbrev pub job_to_write : ToWrite → WriteJob
@@ -68,8 +68,8 @@ pub record StandsAt (first : Volume) (events : List Event) (handle begun own : �
   pub along : IsAlong (job_to_write w) (Stage stage) past
   pub had : own ≡ length past
   pub asked : (x : Exchange) → Contains past x → AskedSince first events handle begun x.ask x.answer
-  pub unnamed : RenamedNothing events handle begun
-  pub made : MadeOnly events handle begun w.objects (number_made stage)
+  pub unnamed : NoTurnRenamed events handle begun
+  pub made : TurnsMadeOnly events handle begun w.objects (number_made stage)
   pub untouched : IsUntouched events handle begun (number_made stage)
   pub holds : Holds first events handle begun w.objects (number_made stage) (content_at w stage)
 
