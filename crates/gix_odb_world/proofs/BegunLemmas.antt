@@ -1,10 +1,9 @@
 -- From which steps a handle has its task, its store and its mode, after each event of a lawful run.
 pub mod OneEvent
 pub mod Turns
-use Rattle.std.proofs.Common.{◌≡◌, ◌≢◌, ℕ, zero, suc, ◌+◌, ◌≤◌, Bool, true, false, List, [], ◌∷◌, ◌++◌, length, take, Some, None, refl, sym, subst, arith, inl, inr}
-use Rattle.std.specs.Prelude.{slice_get, ◌==◌, if◌then◌else◌}
+use Rattle.std.proofs.Common.{◌≡◌, ◌≢◌, ℕ, ◌+◌, Bool, true, false, List, [], ◌∷◌, ◌++◌, length, None, refl, sym, subst}
+use Rattle.std.specs.Prelude.{◌==◌, if◌then◌else◌}
 use Rattle.std.proofs.lemmas.Bool.{eqb-true, eqb-false}
-use Rattle.std.proofs.Math.Seq.{take-length}
 use Rattle.odb_base.specs.Path.{Path}
 use Rattle.odb_disk.specs.MemDisk.{Volume}
 use Rattle.gix_hash.specs.declared.object_id.ObjectId.{ObjectId}
@@ -15,12 +14,11 @@ use Rattle.gix_odb_world.specs.declared.step.Step.TheVariants as steps
 use Rattle.gix_odb_world.specs.declared.step.Outcome.{Outcome}
 use Rattle.gix_odb_world.specs.declared.step.Outcome.TheVariants as outcomes
 use Rattle.gix_odb_world.specs.Event.{Event}
-use Rattle.gix_odb_world.specs.Status.{Status, Store, Free, after_turn_of, ignoring_from, replied, started, status_after, status_of, statuses_from, store_at, turned, with_status}
+use Rattle.gix_odb_world.specs.Status.{Status, Store, Free, after_turn_of, ignoring_from, replied, started, status_after, status_of, store_at, turned, with_status}
 use Rattle.gix_odb_world.specs.Begun.{IsIgnoreOf, IsTaskOf, OpenedBy}
 use Rattle.gix_odb_world.specs.Valid.{misuse_of, why_not_after}
 use Rattle.gix_odb_world.specs.Headline.{IsLawful}
-use Rattle.gix_odb_world.proofs.RunLemmas.{status_of-push}
-use Rattle.gix_odb_world.proofs.RunSteps.{event_or_end, none_beyond, take_next}
+use Rattle.gix_odb_world.proofs.AlongRun.{along_run}
 use Rattle.gix_odb_world.proofs.BegunLemmas.OneEvent.{Stems, holds_opened, none_after, opened_now, stems_ignoring, stems_kept, stems_replied, stems_started, stems_turned}
 
 -- ---- what an event makes of all handles
@@ -90,28 +88,6 @@ module _ (first : Volume) (past : List Event) (e : Event) (before : (handle : �
 
 -- ---- along a run
 
-stems_none : (handle : ℕ) → Stems [] handle (status_of [] handle)
-unfolding statuses_from
-stems_none handle = tt
-
-module _ (first : Volume) (events : List Event) (lawful : IsLawful first events) where
-  stems_next : (place : ℕ) (e : Event) → slice_get events place ≡ Some e
-      → ((handle : ℕ) → Stems (take place events) handle (status_of (take place events) handle)) → (handle : ℕ)
-      → Stems (take (place + 1) events) handle (status_of (take (place + 1) events) handle)
-  stems_next place e there before handle =
-      let past : List Event = take place events in
-      subst (λ es. Stems es handle (status_of es handle)) (sym (take_next events place e there))
-      (subst (λ (table : ℕ → Status). Stems (past ++ e ∷ []) handle (table handle)) (sym (status_of-push past e))
-      (stems_by first past e before e.outcome refl (lawful place e there).valid handle))
-
-  stems_at : (place : ℕ) → place ≤ length events → (handle : ℕ) → Stems (take place events) handle (status_of (take place events) handle)
-  stems_at zero within handle = stems_none handle
-  stems_at (suc place) within handle = elim (event_or_end events place) [
-    | inl at ↦
-        let next : place + 1 ≡ suc place = omega arith in
-        subst (λ n. Stems (take n events) handle (status_of (take n events) handle)) next (stems_next place at.0 at.1 (stems_at place (omega (arith, within))) handle)
-    | inr none ↦ let beyond = none_beyond events place none in absurd (omega (arith, within, beyond))
-  ]
-
-  pub stems_now : (handle : ℕ) → Stems events handle (status_of events handle)
-  stems_now handle = subst (λ es. Stems es handle (status_of es handle)) (take-length events) (stems_at (length events) (omega arith) handle)
+pub stems_now : (first : Volume) (events : List Event) → IsLawful first events → (handle : ℕ) → Stems events handle (status_of events handle)
+stems_now first events lawful =
+    along_run Stems first events lawful (λ handle. tt) (λ past e law before. stems_by first past e before e.outcome refl law.valid)

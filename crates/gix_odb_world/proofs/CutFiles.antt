@@ -1,92 +1,73 @@
 -- Temporary files whose way was cut off in an undisturbed run: each stands where it was made, as long as other programs leave
-pub mod Spot
 -- it and the way to its spot alone.
-use Rattle.std.proofs.Common.{◌≡◌, ◌≢◌, ◌⊎◌, inl, inr, ℕ, zero, suc, ◌+◌, ◌<◌, ◌≤◌, Bool, true, false, List, take, Some, None, refl, sym, ◌∙◌, subst, arith}
+pub mod Spot
+pub mod WasCut
+use Rattle.std.proofs.Common.{◌≡◌, ◌≢◌, inl, inr, ℕ, zero, suc, ◌+◌, ◌<◌, ◌≤◌, Bool, true, false, take, Some, None, refl, sym, ◌∙◌, subst, arith}
 use Rattle.std.specs.Prelude.{slice_get, ◌==◌}
 use Rattle.std.proofs.lemmas.Bool.{cases_lt, eqb-false, eqb-true}
 use Rattle.odb_base.specs.Path.{Path}
-use Rattle.odb_disk.specs.MemDisk.{Volume}
-use Rattle.odb_tree.specs.Tree.{IsTree, Tree, tree_of}
+use Rattle.odb_tree.specs.Tree.{IsTree, Tree}
 use Rattle.odb_tree.specs.Tree.Way.{SameOnWay}
 use Rattle.odb_tree.specs.Tree.Write.{spot}
 use Rattle.odb_tree.proofs.OwnWayLaws.{Stops, stop_below_root, stops_kept}
 use Rattle.gix_odb_loose.specs.WriteOrder.{temp_name}
 use Rattle.gix_odb_loose.proofs.NameLaws.{IsTemporary}
 use Rattle.gix_odb_world.specs.Event.{Event}
-use Rattle.gix_odb_world.specs.Headline.{IsLawful}
 use Rattle.gix_odb_world.specs.Run.{IsTurnOf, tree_at}
-use Rattle.gix_odb_world.specs.Running.{RunsThroughout}
-use Rattle.gix_odb_world.specs.Undisturbed.{CutsOff, HasMade, IsUndisturbed, OthersLeave}
+use Rattle.gix_odb_world.specs.Undisturbed.{HasMade, IsUndisturbed, OthersLeave}
+use Rattle.gix_odb_world.proofs.LawfulRun.{LawfulRun}
 use Rattle.gix_odb_world.proofs.OwnFiles as along
+use Rattle.gix_odb_world.proofs.OwnFiles.Over as over
 use Rattle.gix_odb_world.proofs.OwnFiles.Standing as files
 use Rattle.gix_odb_world.proofs.OwnFiles.Writer as writers
 use Rattle.gix_odb_world.proofs.OwnFiles.Turn as turns
 use Rattle.gix_odb_world.proofs.RunSteps.{Kind, Made, Quiet, Turned, event_or_end, kind_at}
+use Rattle.gix_odb_world.proofs.CutFiles.WasCut as records
 use Rattle.gix_odb_world.proofs.CutFiles.Spot.{not_vacant, spot_left, spot_stops}
 
-module _ (first : Volume) (events : List Event) (start : IsTree (tree_of first.state)) (lawful : IsLawful first events) (throughout : RunsThroughout first events) where
+module _ (run : LawfulRun) where
+  open run use {first, events}
+
   abbrev tree : ℕ → Tree
   tree = tree_at first events
 
   abbrev Own : ℕ → ℕ → Path → ℕ → Type 0
-  Own = files.Own first events start lawful throughout
+  Own = files.Own run
 
   abbrev Lost : Path → ℕ → Type 0
-  Lost = files.Lost first events start lawful throughout
+  Lost = files.Lost run
 
   abbrev Files : ℕ → Type 0
-  Files = files.Files first events start lawful throughout
+  Files = files.Files run
 
-  -- an event leaves a path and its way alone
   abbrev Leaves : Path → ℕ → Type 0
-  Leaves s now = SameOnWay (tree now) (tree (now + 1)) true s
+  Leaves = records.Leaves run
 
-  -- ---- what has become of a temporary file that was cut off
+  abbrev Stands : (handle now : ℕ) → Path → Type 0
+  Stands = records.Stands run
 
-  -- a file stands at a spot, and it is that of no other handle's write
-  pub record Stands (handle now : ℕ) (s : Path) : Type 0 where
-    pub stops : Stops (tree now) true s s
-    pub apart : (other last : ℕ) (twin : Path) → other ≢ handle → HasMade first events other last twin now → (o : Own other last twin now)
-        → o.spot ≢ s
-
-  -- the event at a place is a turn of another handle that cut the file off, which stood alone until then
-  pub record CutAt (handle made : ℕ) (path : Path) (place : ℕ) : Type 0 where
-    pub own : Own handle made path place
-    pub temporary : IsTemporary own.spot
-    pub event : Event
-    pub there : slice_get events place ≡ Some event
-    pub other : ℕ
-    pub apart : other ≢ handle
-    pub turn : IsTurnOf other event.step
-    pub cuts : CutsOff (tree place) (tree (place + 1)) path own.spot event
-
-  pub record CutOff (handle made : ℕ) (path : Path) (now : ℕ) : Type 0 where
-    pub lost : Lost path now
-    pub place : ℕ
-    pub later : made < place
-    pub before : place < now
-    pub cut : CutAt handle made path place
-    pub stays : (step : ℕ) → place ≤ step → step < now → OthersLeave first events cut.own.spot (place + 1) (step + 1) → Leaves cut.own.spot step
-    pub stands : OthersLeave first events cut.own.spot (place + 1) now → Stands handle now cut.own.spot
+  abbrev CutOff : (handle made : ℕ) → Path → ℕ → Type 0
+  CutOff = records.CutOff run
 
   abbrev AllKept : ℕ → Type 0
-  AllKept now = (handle made : ℕ) (path : Path) → HasMade first events handle made path now → Own handle made path now ⊎ CutOff handle made path now
+  AllKept = records.AllKept run
 
   -- ---- one event more
 
   module _ (now : ℕ) (e : Event) (there : slice_get events now ≡ Some e) (all : Files now) (calm : IsUndisturbed first events (now + 1)) where
     -- the turn of another write leaves it alone
-    left_by_writer : (handle : ℕ) (s : Path) → IsTemporary s → Stands handle now s → (b : writers.ByWriter first events start lawful throughout now e)
+    left_by_writer : (handle : ℕ) (s : Path) → IsTemporary s → Stands handle now s → (b : writers.ByWriter run now e)
         → b.handle ≢ handle → Leaves s now
     left_by_writer handle s temporary stands b differs =
-        subst (λ u. SameOnWay (tree now) u true s) (sym (files.changed_to first events start lawful throughout now e there b.change b.is))
-        (spot_left (tree now) is_tree temporary.0 (temp_name temporary.1) s temporary.2 stands.stops w.from b.change w.does_it.own another (λ p renames same. w.does_it.onto p renames (subst IsTemporary (sym same) temporary)))
+        subst (λ u. SameOnWay (tree now) u true s) (sym (files.changed_to run now e there b.change b.is))
+        (spot_left (tree now) is_tree temporary.0 (temp_name temporary.1) s temporary.2 stands.stops w.from b.change w.does_it.own another
+        (λ p renames same. w.does_it.onto p renames (subst IsTemporary (sym same) temporary)))
       where
         is_tree : IsTree (tree now)
-        is_tree = writers.is_tree first events start lawful throughout now
+        is_tree = writers.is_tree run now
 
-        w : files.Wrote first events start lawful throughout now e there b
-        w = files.wrote first events start lawful throughout now e there all b
+        w : files.Wrote run now e there b
+        w = files.wrote run now e there all b
 
         another : w.from ≢ s
         another same = elim w.whose [
@@ -97,23 +78,23 @@ module _ (first : Volume) (events : List Event) (start : IsTree (tree_of first.s
     -- so does every event, where other programs do
     left_alone : (handle made : ℕ) (path : Path) → HasMade first events handle made path now → (c : CutOff handle made path now)
         → OthersLeave first events c.cut.own.spot (c.place + 1) (now + 1) → Leaves c.cut.own.spot now
-    left_alone handle made path hm c leave = by_kind (kind_at first events start lawful now e there)
+    left_alone handle made path hm c leave = by_kind (kind_at run now e there)
       where
         unchanged : e.entry.change ≡ None → Leaves c.cut.own.spot now
-        unchanged none = files.same_way first events start lawful throughout now e there c.cut.own.spot none
+        unchanged none = files.same_way run now e there c.cut.own.spot none
 
         stands : Stands handle now c.cut.own.spot
         stands = c.stands (λ place x later within at outside. leave place x later (omega (arith, within)) at outside)
 
-        by_writer : (b : writers.ByWriter first events start lawful throughout now e) (same : Bool) → (b.handle == handle) ≡ same
+        by_writer : (b : writers.ByWriter run now e) (same : Bool) → (b.handle == handle) ≡ same
             → Leaves c.cut.own.spot now
-        by_writer b true is = unchanged (turns.lost_turn first events start lawful throughout now e there handle made path hm (subst (λ h. IsTurnOf h e.step) (eqb-true b.handle handle is) b.turn) c.lost)
+        by_writer b true is = unchanged (turns.lost_turn run now e there handle made path hm (subst (λ h. IsTurnOf h e.step) (eqb-true b.handle handle is) b.turn) c.lost)
         by_writer b false is = left_by_writer handle c.cut.own.spot c.cut.temporary stands b (eqb-false b.handle handle is)
 
         by_kind : Kind first (take now events) e → Leaves c.cut.own.spot now
         by_kind (Quiet q) = unchanged q.none
         by_kind (Made m) = let before = c.before in leave now e (omega (arith, before)) (omega arith) there m.outside
-        by_kind (Turned t) = elim (writers.quiet_or_writer first events start lawful throughout now e there t) [ inl none ↦ unchanged none | inr b ↦ by_writer b (b.handle == handle) refl ]
+        by_kind (Turned t) = elim (writers.quiet_or_writer run now e there t) [ inl none ↦ unchanged none | inr b ↦ by_writer b (b.handle == handle) refl ]
 
     -- where it was left alone it stands there still
     stands_next : (handle : ℕ) (s : Path) → Leaves s now → Stands handle now s → Stands handle (now + 1) s
@@ -121,12 +102,12 @@ module _ (first : Volume) (events : List Event) (start : IsTree (tree_of first.s
       where
         apart : (other last : ℕ) (twin : Path) → other ≢ handle → HasMade first events other last twin (now + 1) → (o : Own other last twin (now + 1))
             → o.spot ≢ s
-        apart other last twin differs hm o = elim (along.old_or_new first events start lawful throughout now e there other last twin hm) [
+        apart other last twin differs hm o = elim (along.old_or_new run now e there other last twin hm) [
           | inl soon ↦
-              let was = files.made_before first events start lawful throughout now e there other last twin hm soon in
-              let been = along.own_before first events start lawful throughout now e there all calm other last twin was o in
+              let was = files.made_before run now e there other last twin hm soon in
+              let been = along.own_before run now e there all calm other last twin was o in
               λ same. stands.apart other last twin differs was been.0 (been.1 ∙ same)
-          | inr is ↦ not_vacant (tree now) s twin o.spot stands.stops (along.new_vacant first events start lawful throughout now e there other last twin hm is o)
+          | inr is ↦ not_vacant (tree now) s twin o.spot stands.stops (along.new_vacant run now e there other last twin hm is o)
         ]
 
     cut_next : (handle made : ℕ) (path : Path) → HasMade first events handle made path now → CutOff handle made path now
@@ -134,13 +115,14 @@ module _ (first : Volume) (events : List Event) (start : IsTree (tree_of first.s
     cut_next handle made path hm c =
         let before = c.before in
         record {
-          lost = along.lost_next first events start lawful throughout now e there all calm handle made path hm c.lost;
+          lost = along.lost_next run now e there all calm handle made path hm c.lost;
           place = c.place;
           later = c.later;
           before = omega (arith, before);
           cut = c.cut;
           stays = stays;
-          stands = λ leave. stands_next handle c.cut.own.spot (left_alone handle made path hm c leave) (c.stands (λ place x later within at outside. leave place x later (omega (arith, within)) at outside));
+          stands = λ leave. stands_next handle c.cut.own.spot (left_alone handle made path hm c leave)
+              (c.stands (λ place x later within at outside. leave place x later (omega (arith, within)) at outside));
         }
       where
         stays : (step : ℕ) → c.place ≤ step → step < now + 1 → OthersLeave first events c.cut.own.spot (c.place + 1) (step + 1)
@@ -155,30 +137,42 @@ module _ (first : Volume) (events : List Event) (start : IsTree (tree_of first.s
     -- a file stands where its own path leads
     own_stands : (handle made : ℕ) (path : Path) → HasMade first events handle made path now → (o : Own handle made path now)
         → Stands handle now o.spot
-    own_stands handle made path hm o = record { stops = spot_stops (tree now) path o.spot o.own; apart = λ other last twin differs his p. all.apart other handle last made twin path differs his hm p o }
+    own_stands handle made path hm o = record {
+      stops = spot_stops (tree now) path o.spot o.own;
+      apart = λ other last twin differs his p. all.apart other handle last made twin path differs his hm p o;
+    }
 
     cut_now : (handle made : ℕ) (path : Path) (hm : HasMade first events handle made path now) (o : Own handle made path now)
-        → files.CutNow first events start lawful throughout now e there handle made path hm o.spot → CutOff handle made path (now + 1)
+        → files.CutNow run now e there handle made path hm o.spot → CutOff handle made path (now + 1)
     cut_now handle made path hm o c =
         record {
-          lost = files.lost_now first events start lawful throughout now e there handle made path hm o.spot c;
+          lost = files.lost_now run now e there handle made path hm o.spot c;
           place = now;
           later = hm.before;
           before = omega arith;
-          cut = record { own = o; temporary = files.temporary first events start lawful throughout now e there handle made path hm o.spot o.own; event = e; there = there; other = c.other; apart = c.apart; turn = c.turn; cuts = c.cuts };
+          cut = record {
+            own = o;
+            temporary = files.temporary run now e there handle made path hm o.spot o.own;
+            event = e;
+            there = there;
+            other = c.other;
+            apart = c.apart;
+            turn = c.turn;
+            cuts = c.cuts;
+          };
           stays = λ step later soon leave. let is : now ≡ step = omega (arith, later, soon) in subst (Leaves o.spot) is c.cuts.file;
           stands = λ leave. stands_next handle o.spot c.cuts.file (own_stands handle made path hm o);
         }
 
     next : AllKept now → AllKept (now + 1)
-    next each handle made path hm = elim (along.old_or_new first events start lawful throughout now e there handle made path hm) [
+    next each handle made path hm = elim (along.old_or_new run now e there handle made path hm) [
       | inl soon ↦
-          let was = files.made_before first events start lawful throughout now e there handle made path hm soon in
+          let was = files.made_before run now e there handle made path hm soon in
           elim (each handle made path was) [
-            | inl o ↦ elim (along.own_next first events start lawful throughout now e there all calm handle made path was hm o) [ inl own ↦ inl own | inr c ↦ inr (cut_now handle made path was o c) ]
+            | inl o ↦ elim (along.own_next run now e there all calm handle made path was hm o) [ inl own ↦ inl own | inr c ↦ inr (cut_now handle made path was o c) ]
             | inr c ↦ inr (cut_next handle made path was c)
           ]
-      | inr is ↦ inl (along.new_next first events start lawful throughout now e there handle made path hm is)
+      | inr is ↦ inl (along.new_next run now e there handle made path hm is)
     ]
 
   -- ---- along a run
@@ -188,15 +182,15 @@ module _ (first : Volume) (events : List Event) (start : IsTree (tree_of first.s
     over_leaves : (s : Path) → Leaves s now
     over_leaves s =
         let one : suc now ≡ now + 1 = omega arith in
-        writers.same_tree_on_way (tree now) (tree (now + 1)) s (subst (λ n. tree n ≡ tree now) one (along.over_tree first events start lawful throughout now none))
+        writers.same_tree_on_way (tree now) (tree (now + 1)) s (subst (λ n. tree n ≡ tree now) one (over.over_tree run now none))
 
     over_stands : (handle : ℕ) (s : Path) → Stands handle now s → Stands handle (suc now) s
     over_stands handle s stands =
         record {
-          stops = subst (λ u. Stops u true s s) (sym (along.over_tree first events start lawful throughout now none)) stands.stops;
+          stops = subst (λ u. Stops u true s s) (sym (over.over_tree run now none)) stands.stops;
           apart = λ other last twin differs hm o same.
-              let was = along.over_made first events start lawful throughout now none other last twin hm in
-              let been = along.back_own first events start lawful throughout now none other last twin o in
+              let was = over.over_made run now none other last twin hm in
+              let been = over.back_own run now none other last twin o in
               stands.apart other last twin differs was been.0 (been.1 ∙ same);
         }
 
@@ -204,7 +198,7 @@ module _ (first : Volume) (events : List Event) (start : IsTree (tree_of first.s
     over_cut handle made path c =
         let before = c.before in
         record {
-          lost = along.over_lost first events start lawful throughout now none path c.lost;
+          lost = over.over_lost run now none path c.lost;
           place = c.place;
           later = c.later;
           before = omega (arith, before);
@@ -220,9 +214,9 @@ module _ (first : Volume) (events : List Event) (start : IsTree (tree_of first.s
           | inr late ↦ let is : now ≡ step = omega (arith, soon, late) in subst (Leaves c.cut.own.spot) is (over_leaves c.cut.own.spot)
         ]
 
-    over : AllKept now → AllKept (suc now)
-    over each handle made path hm = elim (each handle made path (along.over_made first events start lawful throughout now none handle made path hm)) [
-      | inl o ↦ inl (along.over_own first events start lawful throughout now none handle made path o)
+    kept_over : AllKept now → AllKept (suc now)
+    kept_over each handle made path hm = elim (each handle made path (over.over_made run now none handle made path hm)) [
+      | inl o ↦ inl (over.over_own run now none handle made path o)
       | inr c ↦ inr (over_cut handle made path c)
     ]
 
@@ -236,6 +230,6 @@ module _ (first : Volume) (events : List Event) (start : IsTree (tree_of first.s
         | inl at ↦
             let one : now + 1 ≡ suc now = omega arith in
             let calm_after : IsUndisturbed first events (now + 1) = λ place e within there outside handle made path hm. calm place e (omega (arith, within)) there outside handle made path hm in
-            subst AllKept one (next now at.0 at.1 (along.files_at first events start lawful throughout now calm_before) calm_after each)
-        | inr none ↦ over now none each
+            subst AllKept one (next now at.0 at.1 (along.files_at run now calm_before) calm_after each)
+        | inr none ↦ kept_over now none each
       ]

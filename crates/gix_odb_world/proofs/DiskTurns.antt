@@ -30,7 +30,7 @@ module _ (first : Volume) (past : List Event) (handle : ℕ) (running : Running)
   disk = disk_after first past
 
   by_ask : (ask : Option Ask) → works.ask ≡ ask
-      → AsksAsTask first past handle running.store running.ignoring running.begun running.turns running.task ask
+      → AsksAsTask first past handle running.store running.modes running.begun running.turns running.task ask
       → CallsDisk first past handle running e
   by_ask None is order = absurd (never_unasked running.task order)
   by_ask (Some (ToDisk ask)) is order =

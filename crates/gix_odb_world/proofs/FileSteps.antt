@@ -27,9 +27,9 @@ use Rattle.gix_odb_loose.proofs.NameLaws.{IsTemporary, object_spot, prefix_path-
 use Rattle.gix_odb_world.specs.Recorded.{path_recorded}
 use Rattle.gix_odb_world.specs.declared.record.Did.TheVariants.{Nothing, Disk}
 use Rattle.gix_odb_world.specs.Event.{Event}
-use Rattle.gix_odb_world.specs.Headline.{IsLawful}
 use Rattle.gix_odb_world.specs.Run.{change_by, disk_after, tree_at}
 use Rattle.gix_odb_world.specs.Writing.{AskedAt, ToWrite}
+use Rattle.gix_odb_world.proofs.LawfulRun.{LawfulRun}
 use Rattle.gix_odb_world.proofs.RunSteps.{IsLeft, Made, Quiet, Turned, change_by_some, is_tree_at, kind_at, left_at}
 use Rattle.gix_odb_world.proofs.WriteAsk.{Told, done_made, told_append, told_make_dir, told_new_file, told_remove, told_rename}
 use Rattle.gix_odb_world.proofs.WriteTurn.{ask_at_stage}
@@ -72,17 +72,32 @@ pub record Does (t : Tree) (s : Path) (c : Change) : Type 0 where
 
 module _ (t : Tree) (is_tree : IsTree t) (objects : Path) (c : Change) where
   does_new : (path s : Path) → change_of_new_file t path ≡ Ok c → Does t s c
-  does_new path s is = record { own = own_new_change t is_tree path c s is; onto = λ p renames. let n = new_file_change t path c is in let both : PutFile n.0 0 [] ≡ Rename s p = sym n.2 ∙ renames in absurd (cc both) }
+  does_new path s is = record {
+    own = own_new_change t is_tree path c s is;
+    onto = λ p renames. let n = new_file_change t path c is in let both : PutFile n.0 0 []
+        ≡ Rename s p = sym n.2 ∙ renames in absurd (cc both);
+  }
 
   does_dir : (path s : Path) → change_of_make_dir t path ≡ Ok c → Does t s c
-  does_dir path s is = record { own = own_dir_change t is_tree path c s is; onto = λ p renames. let n = make_dir_change t path c is in let both : MakeDir n.0 _ ≡ Rename s p = sym n.2 ∙ renames in absurd (cc both) }
+  does_dir path s is = record {
+    own = own_dir_change t is_tree path c s is;
+    onto = λ p renames. let n = make_dir_change t path c is in let both : MakeDir n.0 _
+        ≡ Rename s p = sym n.2 ∙ renames in absurd (cc both);
+  }
 
   module _ (path s : Path) (own : OwnSpot t path s) where
     does_append : (more : List ℕ) → change_of_append t path more ≡ Ok c → Does t s c
-    does_append more is = record { own = own_append t is_tree path c s own more is; onto = λ p renames. let n = append_change t path c more is in let both : Append n.0 more ≡ Rename s p = sym n.2 ∙ renames in absurd (cc both) }
+    does_append more is = record {
+      own = own_append t is_tree path c s own more is;
+      onto = λ p renames. let n = append_change t path c more is in let both : Append n.0 more ≡ Rename s p = sym n.2 ∙ renames in absurd (cc both);
+    }
 
     does_remove : change_of_remove t path ≡ Ok c → Does t s c
-    does_remove is = record { own = own_remove t is_tree path c s own is; onto = λ p renames. let n = remove_change t path c is in let both : Remove n.0 ≡ Rename s p = sym n.2 ∙ renames in absurd (cc both) }
+    does_remove is = record {
+      own = own_remove t is_tree path c s own is;
+      onto = λ p renames. let n = remove_change t path c is in let both : Remove n.0 ≡ Rename s p = sym n.2
+          ∙ renames in absurd (cc both);
+    }
 
     does_rename : (id : ObjectId) → change_of_rename t path (loose_path objects id) ≡ Ok c → Does t s c
     does_rename id is =
@@ -100,7 +115,8 @@ module _ (t : Tree) (is_tree : IsTree t) (objects : Path) (c : Change) where
       → WriterMoves t objects stage c → Does t s c
   does (stages.Making n) number s made own moves = absurd (cc made)
   does (stages.Heading n) number s made own moves = let same : number ≡ n = cc made in does_append (temp_path objects n) s (subst (λ m. OwnSpot t (temp_path objects m) s) same own) moves.0 moves.1
-  does (stages.Filling n written) number s made own moves = let same : number ≡ n = cc made in does_append (temp_path objects n) s (subst (λ m. OwnSpot t (temp_path objects m) s) same own) moves.0 moves.1
+  does (stages.Filling n written) number s made own moves = let same : number ≡ n = cc made in does_append (temp_path objects n) s
+      (subst (λ m. OwnSpot t (temp_path objects m) s) same own) moves.0 moves.1
   does (stages.Foldering n id) number s made own moves = does_dir (prefix_path objects id) s moves
   does (stages.Moving n id) number s made own moves = let same : number ≡ n = cc made in does_rename (temp_path objects n) s (subst (λ m. OwnSpot t (temp_path objects m) s) same own) id moves
   does (stages.Removing n refusal) number s made own moves = let same : number ≡ n = cc made in does_remove (temp_path objects n) s (subst (λ m. OwnSpot t (temp_path objects m) s) same own) moves
@@ -119,9 +135,11 @@ module _ (t : Tree) (is_tree : IsTree t) (objects : Path) (c : Change) where
       → ¬ (WriterMoves t objects stage c)
   does_nothing (stages.Making n) number made cut moves = cc made
   does_nothing (stages.Heading n) number made cut moves = cut_no_append NotTemporary t is_tree objects _ cut c moves.0 (ap (λ p. change_of_append t p moves.0) (sym (temp_path-is objects n)) ∙ moves.1)
-  does_nothing (stages.Filling n written) number made cut moves = cut_no_append NotTemporary t is_tree objects _ cut c moves.0 (ap (λ p. change_of_append t p moves.0) (sym (temp_path-is objects n)) ∙ moves.1)
+  does_nothing (stages.Filling n written) number made cut moves = cut_no_append NotTemporary t is_tree objects _ cut c moves.0
+      (ap (λ p. change_of_append t p moves.0) (sym (temp_path-is objects n)) ∙ moves.1)
   does_nothing (stages.Foldering n id) number made cut moves = cut_no_dir NotTemporary t is_tree objects _ cut c (ap (change_of_make_dir t) (sym (prefix_path-is objects id)) ∙ moves)
-  does_nothing (stages.Moving n id) number made cut moves = cut_no_rename NotTemporary t is_tree objects _ cut c (loose_path objects id) (ap (λ p. change_of_rename t p (loose_path objects id)) (sym (temp_path-is objects n)) ∙ moves)
+  does_nothing (stages.Moving n id) number made cut moves = cut_no_rename NotTemporary t is_tree objects _ cut c (loose_path objects id)
+      (ap (λ p. change_of_rename t p (loose_path objects id)) (sym (temp_path-is objects n)) ∙ moves)
   does_nothing (stages.Removing n refusal) number made cut moves = cut_no_remove NotTemporary t is_tree objects _ cut c (ap (change_of_remove t) (sym (temp_path-is objects n)) ∙ moves)
 
 -- ---- the making of a temporary file
@@ -145,10 +163,12 @@ pub record IsNewAt (first : Volume) (events : List Event) (made : ℕ) (e : Even
   pub free : vacant (tree_at first events made) path ≡ Ok spot
   pub own : OwnSpot (tree_at first events (made + 1)) path spot
 
-module _ (first : Volume) (events : List Event) (start : IsTree (tree_of first.state)) (lawful : IsLawful first events) where
+module _ (run : LawfulRun) where
+  open run use {first, events}
+
   pub new_at : (handle made : ℕ) (path : Path) (a : AskedAt first events handle made (asks.NewFile path) answers.Done)
       → IsNewAt first events made a.event path
-  new_at handle made path a = elim (kind_at first events start lawful made a.event a.there) [
+  new_at handle made path a = elim (kind_at run made a.event a.there) [
     | Quiet q ↦ absurd (let both : Nothing ≡ Disk ops.NewFile path (next_fails (disk_after first (take made events))) = sym q.did ∙ a.did in cc both)
     | Made m ↦ absurd (let both : Nothing ≡ Disk ops.NewFile path (next_fails (disk_after first (take made events))) = sym m.did ∙ a.did in cc both)
     | Turned t ↦
@@ -158,7 +178,8 @@ module _ (first : Volume) (events : List Event) (start : IsTree (tree_of first.s
         let ask = new_file_ask t.works.ask path (cc both) (cc both) in
         let m = done_made disk (asks.NewFile path) (change_of_new_file before path) (told_new_file before path) a.given in
         let makes : a.event.entry.change ≡ Some m.change = t.works.changed ∙ (ap (change_by disk) ask ∙ m.made) in
-        let n = own_new before (is_tree_at first events start lawful made) path m.change m.is in
-        let after : tree_at first events (made + 1) ≡ changed before m.change = subst (IsLeft before (tree_at first events (made + 1))) makes (left_at first events start lawful made a.event a.there) in
+        let n = own_new before (is_tree_at run made) path m.change m.is in
+        let after : tree_at first events (made + 1) ≡ changed before m.change = subst (IsLeft before (tree_at first events (made + 1))) makes
+        (left_at run made a.event a.there) in
         record { spot = n.0; put = makes ∙ ap Some n.1; free = n.2; own = subst (λ u. OwnSpot u path n.0) (sym after) n.3 }
   ]

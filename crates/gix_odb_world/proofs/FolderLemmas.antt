@@ -30,9 +30,9 @@ use Rattle.gix_odb.specs.declared.query.Query.TheVariants.{Find, Header, Test}
 use Rattle.gix_odb.specs.declared.look_state.Verdict.{Verdict}
 use Rattle.gix_odb.specs.declared.look_state.Verdict.TheVariants as verdicts
 use Rattle.gix_odb.specs.declared.find.Header.TheVariants as headers
-use Rattle.gix_odb.specs.LookOrder.{asking, job_of, loose_store, verdict_on}
+use Rattle.gix_odb.specs.LookOrder.{asking, loose_store, verdict_on}
 use Rattle.gix_odb_world.specs.Causes.{GaveSometime, LooseCause}
-use Rattle.gix_odb.specs.Contents.{Answer, Object, HeaderOf, Presence, LooseFile, Holds, folder_list}
+use Rattle.gix_odb.specs.Contents.{Answer, HeaderOf, Holds, LooseFile, Object, Presence, folder_list, job_of, of_loose}
 use Rattle.gix_odb_world.specs.Status.{Store}
 use Rattle.gix_odb.specs.Held.{Held}
 use Rattle.gix_odb_world.specs.Promise.{Keeps, claim_of}
@@ -105,17 +105,17 @@ module _ (trees : ℕ → Tree) (Failed : Type 0) (store : Store) (begun now : �
       }
 
   -- what the file at the path holds now was held in the call
-  held_now : (call : Query) (answer : Answer) (P : List ℕ → Type 0)
-      → ((bytes : List ℕ) → P bytes → Holds store.parts call id (LooseFile bytes) answer) → loose_files.Gives (read_of (tree_of disk.state) at) P
-      → Held trees store.parts store.opened begun now call id answer
-  held_now call answer P holds gives =
+  held_now : (call : Query) (own : loose_files.Answer)
+      → loose_files.Gives (read_of (tree_of disk.state) at) (λ bytes. loose_files.Holds store.parts.limit (job_of call id) bytes own)
+      → Held trees store.parts store.opened begun now call id (of_loose own)
+  held_now call own gives =
       let read = subst (λ tree. read_of tree at ≡ Ok (gives.bytes, gives.time)) (sym shown) gives.given in
       record {
         folder = folder;
         among = among;
         contents = LooseFile gives.bytes;
         shown = record { moment = now; from = later; to = omega arith; was = (gives.time, read) };
-        holds = holds gives.bytes gives.holds;
+        holds = (own, refl, gives.holds);
       }
 
   missed_now : ¬ (LeadsToFile (tree_of disk.state) at) → ¬ (LeadsToFile (trees now) at)
@@ -125,8 +125,7 @@ module _ (trees : ℕ → Tree) (Failed : Type 0) (store : Store) (begun now : �
       → (result ≡ Ok None → next_fails disk ≡ false)
       → SaysBy (Find asked) (loose_replies.Found result)
   find_says asked (Ok (Some x)) says sound =
-      held_now (Find asked) (Object x.0 x.1) (λ bytes. loose_files.HoldsObject store.parts.limit bytes x.0 x.1) (λ bytes h. h)
-      (says.held (loose_files.Object x.0 x.1) refl)
+      held_now (Find asked) (loose_files.Object x.0 x.1) (says.held (loose_files.Object x.0 x.1) refl)
   find_says asked (Ok None) says sound = (sound refl, missed_now (says.missed tt))
   find_says asked (Err error) says sound = cause_now (Find asked) error (says.refused error refl)
 
@@ -134,15 +133,14 @@ module _ (trees : ℕ → Tree) (Failed : Type 0) (store : Store) (begun now : �
       → (result ≡ Ok None → next_fails disk ≡ false)
       → SaysBy (Header asked) (loose_replies.Header result)
   header_says asked (Ok (Some x)) says sound =
-      held_now (Header asked) (HeaderOf (headers.Loose x.1 x.0)) (λ bytes. loose_files.HoldsHeader bytes x.1 x.0) (λ bytes h. h)
-      (says.held (loose_files.HeaderOf x.1 x.0) refl)
+      held_now (Header asked) (loose_files.HeaderOf x.1 x.0) (says.held (loose_files.HeaderOf x.1 x.0) refl)
   header_says asked (Ok None) says sound = (sound refl, missed_now (says.missed tt))
   header_says asked (Err error) says sound = cause_now (Header asked) error (says.refused error refl)
 
   test_says : (asked : ObjectId) (result : Result Bool Error) → SaysNow (Test asked) (loose_replies.Contains result)
       → (result ≡ Ok false → next_fails disk ≡ false)
       → SaysBy (Test asked) (loose_replies.Contains result)
-  test_says asked (Ok true) says sound = held_now (Test asked) Presence (λ bytes. Unit {0}) (λ bytes h. h) (says.held loose_files.Presence refl)
+  test_says asked (Ok true) says sound = held_now (Test asked) loose_files.Presence (says.held loose_files.Presence refl)
   test_says asked (Ok false) says sound = (sound refl, missed_now (says.missed tt))
   test_says asked (Err errors.NoMemory) says sound = cause_now (Test asked) errors.NoMemory (says.refused errors.NoMemory refl)
   test_says asked (Err errors.Decode) says sound = cause_now (Test asked) errors.Decode (says.refused errors.Decode refl)

@@ -1,3 +1,4 @@
+mod AlongRun
 mod BegunLemmas
 mod BoundLemmas
 mod CallLemmas
@@ -8,6 +9,7 @@ mod OpeningLemmas
 mod PlayLemmas
 mod RunLemmas
 mod RunSteps
+mod LawfulRun
 mod FileSteps
 mod OwnFiles
 mod CutFiles
@@ -34,5 +36,4 @@ mod WriteTurn
 mod WriteGoes
 mod WriteFive
 mod WriteAsk
-mod AskLemmas
 mod RefusedLemmas

@@ -1,7 +1,9 @@
 -- A query keeps the laws of a machine.
+pub mod Asks
 pub mod Begun
 pub mod Comes
-use Rattle.std.proofs.Common.{◌≡◌, ℕ, ◌+◌, ◌*◌, ◌<◌, ◌≤◌, Bool, false, List, [], ◌∷◌, ◌++◌, length, Option, None, Some, Ok, Err, Result, refl, sym, ◌∙◌, ap, subst, arith}
+use Rattle.std.proofs.Common.{◌≡◌, ℕ, ◌+◌, ◌*◌, ◌<◌, ◌≤◌, false, List, [], ◌∷◌, ◌++◌, length, Option, None, Some, Ok, Err, Result, refl, sym, ◌∙◌, ap, subst, arith}
+use Rattle.std.proofs.lemmas.List.{length_push}
 use Rattle.std.proofs.Math.Nat.{mul-le-mul}
 use Rattle.odb_tree.specs.Tree.{tree_of}
 use Rattle.odb_disk.specs.MemDisk.{Volume}
@@ -25,8 +27,8 @@ use Rattle.gix_odb.specs.declared.query.Query.{Query}
 use Rattle.gix_odb.specs.declared.query.Query.TheVariants.{Find, Header, Test}
 use Rattle.gix_odb_world.specs.declared.work.Work.TheVariants.{Calling}
 use Rattle.gix_odb_world.specs.Bound.{bound_of_call, bound_of_task, bytes_to_write, default_changes, laps_without_change, turns_each, turns_of_folder, turns_of_lap}
-use Rattle.gix_odb_world.specs.AtWork.{nothing_in_front}
-use Rattle.gix_odb_world.specs.Event.{Event, from_disk, to_disk}
+use Rattle.gix_odb_world.specs.AtWork.{nothing_in_front, Modes}
+use Rattle.gix_odb_world.specs.Event.{Event, from_disk}
 use Rattle.gix_odb_world.specs.Handle.{IsHandleOf}
 use Rattle.gix_odb_world.specs.Machine.{placed}
 use Rattle.gix_odb_world.specs.Promise.{Promise, QueryPromise}
@@ -34,12 +36,12 @@ use Rattle.gix_odb_world.specs.Run.{FailedSince, change_by, disk_after, tree_at}
 use Rattle.gix_odb_world.specs.Running.Query.{IsLooking, Seeks, call_of, looking}
 use Rattle.gix_odb_world.specs.Status.{MakeCall, Running, Store, Task}
 use Rattle.gix_odb_world.specs.WorkOrder.{calling_result, fed_after, result_in}
-use Rattle.gix_odb_world.proofs.AskLemmas.{in_order_query}
+use Rattle.gix_odb_world.proofs.LookMachine.Asks.{in_order_query}
 use Rattle.gix_odb_world.proofs.FolderLemmas.{ask_found}
 use Rattle.gix_odb_world.proofs.LookMachine.Begun.{looking_starts}
 use Rattle.gix_odb_world.proofs.LookMachine.Comes.{LookComes, look_comes}
-use Rattle.gix_odb_world.proofs.MachineLaws.{HasTurn, KeepsLaws, MachineComes, comes_disk, never_ends, quiet_turn, same_ask, takes_disk, writes_nothing}
-use Rattle.gix_odb_world.proofs.QuietTurn.{failed_earlier, fails_now, shown_now, whole_length}
+use Rattle.gix_odb_world.proofs.MachineLaws.{AsksDisk, HasTurn, KeepsLaws, MachineComes, quiet_turn, same_ask, turns_by_disk, writes_nothing}
+use Rattle.gix_odb_world.proofs.QuietTurn.{failed_earlier, fails_now, shown_now}
 use Rattle.gix_odb_world.proofs.RunLemmas.{failed-kept, tree_at-before}
 use Rattle.gix_odb_world.proofs.RunningLemmas.{looking_push}
 use Rattle.gix_odb_world.proofs.WriteAsk.Quiet.{change_by-quiet}
@@ -51,10 +53,10 @@ looking_placed : (result : Result Reply LookState) → calling_result (looking_r
 looking_placed (Ok reply) = refl
 looking_placed (Err state) = refl
 
-looking_feeds : (store : Store) (ignoring : Bool) (code : HandleState) → IsHandleOf store ignoring code → (state : LookState) (answer : Option DiskAnswer)
+looking_feeds : (store : Store) (modes : Modes) (code : HandleState) → IsHandleOf store modes code → (state : LookState) (answer : Option DiskAnswer)
     → result_in (fed_after code (Calling (Looking state)) answer) ≡ placed looking (looking.feed store state (from_disk answer))
-looking_feeds store ignoring code own state None = looking_placed (looks.result_of state)
-looking_feeds store ignoring code own state (Some answer) =
+looking_feeds store modes code own state None = looking_placed (looks.result_of state)
+looking_feeds store modes code own state (Some answer) =
     ap (λ folders. calling_result (looking_result (looks.result_of (looks.fed folders code.store.value.alloc_limit_bytes state answer)))) own.folders
     ∙ (ap (λ limit. calling_result (looking_result (looks.result_of (looks.fed store.parts.folders limit state answer)))) own.limit
     ∙ looking_placed (looks.result_of (looks.fed store.parts.folders store.parts.limit state answer)))
@@ -111,7 +113,7 @@ module _ (first : Volume) (events : List Event) (handle : ℕ) (running : Runnin
     looking_takes =
         subst (λ task. HasTurn first events handle running task ask) (sym knows.task)
         (quiet_turn first events handle running (MakeCall (call_of state.head.query)) ask
-        (in_order_query first events handle running.store running.ignoring running.begun running.turns state ask knows.place knows.turns knows.seeks_id knows.seeks is) looking_quiet)
+        (in_order_query first events handle running.store running.modes running.begun running.turns state ask knows.place knows.turns knows.seeks_id knows.seeks is) looking_quiet)
 
     -- ---- what its turn comes to
 
@@ -120,66 +122,69 @@ module _ (first : Volume) (events : List Event) (handle : ℕ) (running : Runnin
       whole = events ++ e ∷ []
 
       count : length events + 1 ≡ length whole
-      count = whole_length first events e handle running since ask turn
+      count = sym (length_push events e)
 
       abbrev Comes : Result Reply LookState → Type 0
       Comes result =
-          LookComes (tree_at first events) (tree_at first whole) (FailedSince events handle running.begun) (FailedSince whole handle running.begun) running.store running.ignoring running.begun (length events) since
+          LookComes (tree_at first events) (tree_at first whole) (FailedSince events handle running.begun)
+          (FailedSince whole handle running.begun) running.store running.modes running.begun (length events) since
           (tree_at-before first events e) (failed-kept events e handle running.begun) (disk_after first events) (shown_now first events e handle running since ask turn looking_quiet)
           (fails_now first events e handle running since ask turn) (failed_earlier first events e handle running since ask turn) knows.place state.head result
 
       by_query : (query : Query) (reply : Reply)
-          → QueryPromise (tree_at first whole) (FailedSince whole handle running.begun) running.store running.ignoring running.begun (length whole) query reply
-          → Promise first whole handle running.store running.ignoring running.begun (MakeCall (call_of query)) reply
+          → QueryPromise (tree_at first whole) (FailedSince whole handle running.begun) running.store running.modes running.begun (length whole) query reply
+          → Promise first whole handle running.store running.modes running.begun (MakeCall (call_of query)) reply
       by_query (Find id) reply p = p
       by_query (Header id) reply p = p
       by_query (Test id) reply p = p
 
       from_look : (result : Result Reply LookState) → Comes result → MachineComes first events e handle running looking result
       from_look (Ok reply) c =
-          subst (λ task. Promise first whole handle running.store running.ignoring running.begun task reply) (sym knows.task)
+          subst (λ task. Promise first whole handle running.store running.modes running.begun task reply) (sym knows.task)
           (by_query state.head.query reply
-          (subst (λ n. QueryPromise (tree_at first whole) (FailedSince whole handle running.begun) running.store running.ignoring running.begun n state.head.query reply) count c))
+          (subst (λ n. QueryPromise (tree_at first whole) (FailedSince whole handle running.begun) running.store running.modes running.begun n state.head.query reply) count c))
       from_look (Err after) c = let had = knows.turns in (
         record {
           task = knows.task ∙ ap (λ (h : Head). MakeCall (call_of h.query)) (sym c.0);
           place = knows.place + 1;
           turns = omega (arith, had);
           seeks_id = c.1;
-          seeks = subst (λ n. Seeks (tree_at first whole) (FailedSince whole handle running.begun) running.store running.begun n (knows.place + 1) after.head.query after.head.id after.stage) count c.2;
+          seeks = subst (λ n. Seeks (tree_at first whole) (FailedSince whole handle running.begun) running.store running.begun n
+              (knows.place + 1) after.head.query after.head.id after.stage) count c.2;
         },
         few_queries running.store running.turns (let few = c.3 in omega (arith, had, few)),
       )
 
-      looking_comes : MachineComes first events e handle running looking (looks.result_of (looks.fed running.store.parts.folders running.store.parts.limit state (answer_now (disk_after first events) ask)))
+      looking_comes : MachineComes first events e handle running looking
+          (looks.result_of (looks.fed running.store.parts.folders running.store.parts.limit state (answer_now (disk_after first events) ask)))
       looking_comes =
           from_look (looks.result_of (looks.fed running.store.parts.folders running.store.parts.limit state (answer_now (disk_after first events) ask)))
-          (look_comes (tree_at first events) (tree_at first whole) (FailedSince events handle running.begun) (FailedSince whole handle running.begun) running.store running.ignoring running.begun (length events) since
+          (look_comes (tree_at first events) (tree_at first whole) (FailedSince events handle running.begun)
+          (FailedSince whole handle running.begun) running.store running.modes running.begun (length events) since
           (tree_at-before first events e) (failed-kept events e handle running.begun) (disk_after first events) (shown_now first events e handle running since ask turn looking_quiet)
           (fails_now first events e handle running since ask turn) (failed_earlier first events e handle running since ask turn) knows.place state ask knows.seeks_id knows.seeks is)
 
 -- ---- its laws
 
+looking_turns : AsksDisk looking (λ store state. looks.ask_of state)
+looking_turns = record {
+  is = λ store state. refl;
+  still = λ store state. looking_still store state.stage;
+  some = looking_names;
+  takes = looking_takes;
+  comes = looking_comes;
+}
+
 pub looking_laws : KeepsLaws looking
 looking_laws = record {
   at_home = λ state. refl;
-  asks = λ store ignoring code own state. refl;
+  asks = λ store modes code own state. refl;
   feeds = looking_feeds;
   starts = looking_starts;
   tasked = λ first events handle running state knows. knows.task;
   bounded = λ store task state is entries. looking_bounded store task state.head.query is entries;
-  still = λ store state ask is. looking_still store state.stage ask (same_ask (looks.ask_of state) ask is);
   kept = λ first events e handle running state other knows. looking_push first events e handle running state other nothing_in_front knows;
-  takes = λ first events handle running state knows.
-      let ask = looking_names first events handle running state knows in
-      takes_disk first events handle running running.task (looking.ask running.store state) ask.0 (ap to_disk ask.1)
-      (looking_takes first events handle running state knows ask.0 ask.1);
-  ends = λ first events handle running state knows none.
-      let ask = looking_names first events handle running state knows in absurd (never_ends (looking.ask running.store state) ask.0 (ap to_disk ask.1) none);
-  comes = λ first events e handle running since state knows.
-      let ask = looking_names first events handle running state knows in
-      comes_disk first events e handle (λ answer. MachineComes first events e handle running looking (looking.feed running.store state answer))
-      (looking.ask running.store state) ask.0 (ap to_disk ask.1) (looking_comes first events handle running state knows ask.0 ask.1 e since);
+  turns = turns_by_disk looking (λ store state. looks.ask_of state) looking_turns;
   writes = writes_nothing looking (λ state. refl)
       (λ first events handle running state ask knows is. looking_quiet first events handle running state knows ask (same_ask (looks.ask_of state) ask is));
 }

@@ -1,6 +1,6 @@
 -- What a machine has to show, so that a handle may be at it. The laws are no fields of the machine: they speak of statuses and promises,
 -- which are folded by the machines and so stand above them.
-use Rattle.std.proofs.Common.{◌≡◌, ◌⊎◌, ℕ, ◌+◌, ◌<◌, ◌≤◌, Bool, false, List, [], ◌∷◌, ◌++◌, length, Option, Some, None, Result, Ok, Err, refl, sym, ap, ◌∙◌, subst}
+use Rattle.std.proofs.Common.{◌≡◌, ◌⊎◌, ℕ, ◌+◌, ◌<◌, ◌≤◌, false, List, [], ◌∷◌, ◌++◌, length, Option, Some, None, Result, Ok, Err, refl, sym, ap, ◌∙◌, subst}
 use Rattle.odb_disk.specs.MemDisk.{Volume}
 use Rattle.odb_disk.specs.Ask.{answer_now}
 use Rattle.odb_tree.specs.Tree.{IsTree, tree_of}
@@ -28,13 +28,13 @@ use Rattle.gix_odb_world.specs.Run.{IsTurnOf, change_by, disk_after, told_now}
 use Rattle.gix_odb_world.specs.Running.{Knows}
 use Rattle.gix_odb_world.specs.Running.Write.{IsWriting, result_of_write, write_at}
 use Rattle.gix_odb_world.specs.Writing.{ToWrite}
-use Rattle.gix_odb_world.specs.Status.{MakeCall, OpenStore, Running, Store, Task, begun_with, gone_on, running_from}
+use Rattle.gix_odb_world.specs.Status.{MakeCall, OpenStore, Running, Store, Task, begun_with, gone_on, running_from, Modes}
 use Rattle.gix_odb_world.specs.WorkOrder.{ask_on, fed_after, result_in}
 use Rattle.gix_odb_world.proofs.WriteTurn.Common.{IsTurnWith}
 
 -- the turn of a task's call of the disk, and the change that this makes
 pub record HasTurn (first : Volume) (events : List Event) (handle : ℕ) (running : Running) (task : Task) (ask : DiskAsk) : Type 0 where
-  pub in_order : AsksInOrder first events handle running.store running.ignoring running.begun running.turns task ask
+  pub in_order : AsksInOrder first events handle running.store running.modes running.begun running.turns task ask
   pub five : ChangesInTask first events handle running.store running.begun task ask (change_by (disk_after first events) ask)
 
 -- what a turn asks for comes in the order of its task, and makes a change that the task may make
@@ -74,7 +74,7 @@ module _ (first : Volume) (events : List Event) (e : Event) (handle : ℕ) (runn
 
   -- the promise of the task that was set
   abbrev pub Keeps : Reply → Type 0
-  Keeps reply = Promise first whole handle running.store running.ignoring running.begun running.task reply
+  Keeps reply = Promise first whole handle running.store running.modes running.begun running.task reply
 
   -- a bound isn't reached
   abbrev pub InTime : (bound : Store → Task → (entries : ℕ) → ℕ) → Type 0
@@ -97,10 +97,10 @@ abbrev pub home : (m : Machine) (state : m.State) → At (m.work state)
 home m state = record { machine = m; state = state; is = refl }
 
 -- a write that has made no file yet
-pub record HasNoFile (folder : LooseCall) : Type 0 where
+pub record HasNoFile (call : LooseCall) : Type 0 where
   pub write : ToWrite
   pub number : ℕ
-  pub is : folder ≡ write_at write (Making number)
+  pub is : call ≡ write_at write (Making number)
 
 -- What a machine has to show of the writes that it may be at. It need not be at one from its task on: another phase may come in front.
 pub record KeepsWriteLaws (m : Machine) : Type 1 where
@@ -109,40 +109,21 @@ pub record KeepsWriteLaws (m : Machine) : Type 1 where
       → m.Knows first events handle running state
       → m.writes state ≡ None → m.ask running.store state ≡ Some (ToDisk ask) → change_by (disk_after first events) ask ≡ None
   -- where it writes, it knows what a write does, asks what the write asks, and ends where the write ends
-  pub known : (first : Volume) (events : List Event) (handle : ℕ) (running : Running) (state : m.State) (folder : LooseCall)
+  pub known : (first : Volume) (events : List Event) (handle : ℕ) (running : Running) (state : m.State) (call : LooseCall)
       → m.Knows first events handle running state
-      → m.writes state ≡ Some folder → IsWriting first events handle running folder
-  pub asks : (store : Store) (state : m.State) (folder : LooseCall) → m.writes state ≡ Some folder → m.ask store state ≡ to_disk (disk_ask_of folder)
-  pub ends : (store : Store) (state : m.State) (folder : LooseCall) (answer : DiskAnswer) (reply : Reply) → m.writes state ≡ Some folder
-      → result_of_write (loose_order.fed folder answer) ≡ Ok reply → m.feed store state (Some (FromDisk answer)) ≡ Ok reply
+      → m.writes state ≡ Some call → IsWriting first events handle running call
+  pub asks : (store : Store) (state : m.State) (call : LooseCall) → m.writes state ≡ Some call → m.ask store state ≡ to_disk (disk_ask_of call)
+  pub ends : (store : Store) (state : m.State) (call : LooseCall) (answer : DiskAnswer) (reply : Reply) → m.writes state ≡ Some call
+      → result_of_write (loose_order.fed call answer) ≡ Ok reply → m.feed store state (Some (FromDisk answer)) ≡ Ok reply
   -- a state that writes comes after one that does, unless its write has made no file yet
-  pub before : (store : Store) (state next : m.State) (answer : Option Answer) (folder : LooseCall) → m.feed store state answer ≡ Err next
-      → m.writes next ≡ Some folder
-      → ((own : LooseCall) × (m.writes state ≡ Some own)) ⊎ HasNoFile folder
+  pub before : (store : Store) (state next : m.State) (answer : Option Answer) (call : LooseCall) → m.feed store state answer ≡ Err next
+      → m.writes next ≡ Some call
+      → ((own : LooseCall) × (m.writes state ≡ Some own)) ⊎ HasNoFile call
 
-pub record KeepsLaws (m : Machine) : Type 1 where
-  -- the work of a state is of this machine, at this state
-  pub at_home : (state : m.State) → at (m.work state) ≡ home m state
-  -- the code of the work asks and goes on as the machine does
-  pub asks : (store : Store) (ignoring : Bool) (code : HandleState) → IsHandleOf store ignoring code → (state : m.State)
-      → to_disk (ask_on code (m.work state)) ≡ m.ask store state
-  pub feeds : (store : Store) (ignoring : Bool) (code : HandleState) → IsHandleOf store ignoring code → (state : m.State) (answer : Option DiskAnswer)
-      → result_in (fed_after code (m.work state) answer) ≡ placed m (m.feed store state (from_disk answer))
-  -- where a task begins at a state, that is all that it knows
-  pub starts : (first : Volume) (events : List Event) (e : Event) (handle : ℕ) (store : Store) (ignoring : Bool) (task : Task) (state : m.State)
-      → IsSized task
-      → begun_with store ignoring task ≡ m.work state
-      → m.Knows first (events ++ e ∷ []) handle (running_from (length events + 1) task store ignoring) state
-  -- the task of a state is one that it may be at, and has the machine's bound
-  pub tasked : (first : Volume) (events : List Event) (handle : ℕ) (running : Running) (state : m.State) → m.Knows first events handle running state
-      → m.IsFor running.task state
-  pub bounded : (store : Store) (task : Task) (state : m.State) → m.IsFor task state → (entries : ℕ)
-      → m.bound store task entries ≡ bound_of_task store task entries
+-- What a machine has to show of its turns.
+pub record KeepsTurnLaws (m : Machine) : Type 1 where
   -- it names no call of streams
   pub still : (store : Store) (state : m.State) (ask : DiskAsk) → m.ask store state ≡ Some (ToDisk ask) → is_of_streams ask ≡ false
-  -- an event that isn't its turn leaves what it knows
-  pub kept : (first : Volume) (events : List Event) (e : Event) (handle : ℕ) (running : Running) (state : m.State) → ¬ (IsTurnOf handle e.step)
-      → m.Knows first events handle running state → m.Knows first (events ++ e ∷ []) handle running state
   -- what it asks for comes in the order of its task, and makes a change that the task may make
   pub takes : (first : Volume) (events : List Event) (handle : ℕ) (running : Running) (state : m.State) → m.Knows first events handle running state
       → TakesTurn first events handle running running.task (m.ask running.store state)
@@ -153,6 +134,29 @@ pub record KeepsLaws (m : Machine) : Type 1 where
   pub comes : (first : Volume) (events : List Event) (e : Event) (handle : ℕ) (running : Running) → running.begun ≤ length events
       → (state : m.State) → m.Knows first events handle running state → IsTurnAsking first events e handle (m.ask running.store state)
       → MachineComes first events e handle running m (m.feed running.store state (answer_after first events (m.ask running.store state)))
+
+pub record KeepsLaws (m : Machine) : Type 1 where
+  -- the work of a state is of this machine, at this state
+  pub at_home : (state : m.State) → at (m.work state) ≡ home m state
+  -- the code of the work asks and goes on as the machine does
+  pub asks : (store : Store) (modes : Modes) (code : HandleState) → IsHandleOf store modes code → (state : m.State)
+      → to_disk (ask_on code (m.work state)) ≡ m.ask store state
+  pub feeds : (store : Store) (modes : Modes) (code : HandleState) → IsHandleOf store modes code → (state : m.State) (answer : Option DiskAnswer)
+      → result_in (fed_after code (m.work state) answer) ≡ placed m (m.feed store state (from_disk answer))
+  -- where a task begins at a state, that is all that it knows
+  pub starts : (first : Volume) (events : List Event) (e : Event) (handle : ℕ) (store : Store) (modes : Modes) (task : Task) (state : m.State)
+      → IsSized task
+      → begun_with store modes task ≡ m.work state
+      → m.Knows first (events ++ e ∷ []) handle (running_from (length events + 1) task store modes) state
+  -- the task of a state is one that it may be at, and has the machine's bound
+  pub tasked : (first : Volume) (events : List Event) (handle : ℕ) (running : Running) (state : m.State) → m.Knows first events handle running state
+      → m.IsFor running.task state
+  pub bounded : (store : Store) (task : Task) (state : m.State) → m.IsFor task state → (entries : ℕ)
+      → m.bound store task entries ≡ bound_of_task store task entries
+  -- an event that isn't its turn leaves what it knows
+  pub kept : (first : Volume) (events : List Event) (e : Event) (handle : ℕ) (running : Running) (state : m.State) → ¬ (IsTurnOf handle e.step)
+      → m.Knows first events handle running state → m.Knows first (events ++ e ∷ []) handle running state
+  pub turns : KeepsTurnLaws m
   pub writes : KeepsWriteLaws m
 
 -- ---- machines that ask the disk in each turn
@@ -162,19 +166,49 @@ pub same_ask : (asked : Option DiskAsk) (ask : DiskAsk) → to_disk asked ≡ So
 same_ask None ask is = absurd (cc is)
 same_ask (Some own) ask is = let both : own ≡ ask = cc is in ap Some both
 
-pub takes_disk : (first : Volume) (events : List Event) (handle : ℕ) (running : Running) (task : Task) (asked : Option Ask) (ask : DiskAsk)
-    → asked ≡ Some (ToDisk ask) → HasTurn first events handle running task ask → TakesTurn first events handle running task asked
-takes_disk first events handle running task asked ask is turn = subst (TakesTurn first events handle running task) (sym is) turn
+-- What a machine has to show whose one call of the disk in a turn is this.
+pub record AsksDisk (m : Machine) (call : Store → m.State → Option DiskAsk) : Type 1 where
+  pub is : (store : Store) (state : m.State) → m.ask store state ≡ to_disk (call store state)
+  pub still : (store : Store) (state : m.State) (ask : DiskAsk) → call store state ≡ Some ask → is_of_streams ask ≡ false
+  -- it asks for one at each state at which a handle may be
+  pub some : (first : Volume) (events : List Event) (handle : ℕ) (running : Running) (state : m.State) → m.Knows first events handle running state
+      → (ask : DiskAsk) × (call running.store state ≡ Some ask)
+  pub takes : (first : Volume) (events : List Event) (handle : ℕ) (running : Running) (state : m.State) → m.Knows first events handle running state
+      → (ask : DiskAsk) → call running.store state ≡ Some ask → HasTurn first events handle running running.task ask
+  pub comes : (first : Volume) (events : List Event) (handle : ℕ) (running : Running) (state : m.State) → m.Knows first events handle running state
+      → (ask : DiskAsk) → call running.store state ≡ Some ask → (e : Event) → running.begun ≤ length events → IsTurnWith first events e handle ask
+      → MachineComes first events e handle running m (m.feed running.store state (Some (FromDisk (answer_now (disk_after first events) ask))))
 
-pub never_ends : (asked : Option Ask) (ask : DiskAsk) → asked ≡ Some (ToDisk ask) → asked ≡ None → ⊥
-never_ends asked ask is none = let both : None ≡ Some (ToDisk ask) = sym none ∙ is in cc both
+module _ (m : Machine) (call : Store → m.State → Option DiskAsk) (disk : AsksDisk m call) where
+  named : (store : Store) (state : m.State) (ask : DiskAsk) → call store state ≡ Some ask → m.ask store state ≡ Some (ToDisk ask)
+  named store state ask is = disk.is store state ∙ ap to_disk is
 
-pub comes_disk : (first : Volume) (events : List Event) (e : Event) (handle : ℕ) (Comes : Option Answer → Type 0) (asked : Option Ask) (ask : DiskAsk)
-    → asked ≡ Some (ToDisk ask)
-    → (IsTurnWith first events e handle ask → Comes (Some (FromDisk (answer_now (disk_after first events) ask))))
-    → IsTurnAsking first events e handle asked → Comes (answer_after first events asked)
-comes_disk first events e handle Comes asked ask is comes turn =
-    subst (λ a. IsTurnAsking first events e handle a → Comes (answer_after first events a)) (sym is) comes turn
+  module _ (first : Volume) (events : List Event) (handle : ℕ) (running : Running) (state : m.State) (knows : m.Knows first events handle running state) where
+    abbrev some : (ask : DiskAsk) × (call running.store state ≡ Some ask)
+    some = disk.some first events handle running state knows
+
+    asked : m.ask running.store state ≡ Some (ToDisk some.0)
+    asked = named running.store state some.0 some.1
+
+    takes : TakesTurn first events handle running running.task (m.ask running.store state)
+    takes = subst (TakesTurn first events handle running running.task) (sym asked) (disk.takes first events handle running state knows some.0 some.1)
+
+    never_ends : m.ask running.store state ≡ None → ⊥
+    never_ends none = let both : None ≡ Some (ToDisk some.0) = sym none ∙ asked in cc both
+
+    comes : (e : Event) → running.begun ≤ length events → IsTurnAsking first events e handle (m.ask running.store state)
+        → MachineComes first events e handle running m (m.feed running.store state (answer_after first events (m.ask running.store state)))
+    comes e since =
+        subst (λ a. IsTurnAsking first events e handle a → MachineComes first events e handle running m (m.feed running.store state (answer_after first events a))) (sym asked)
+        (disk.comes first events handle running state knows some.0 some.1 e since)
+
+  pub turns_by_disk : KeepsTurnLaws m
+  turns_by_disk = record {
+    still = λ store state ask is. disk.still store state ask (same_ask (call store state) ask (sym (disk.is store state) ∙ is));
+    takes = takes;
+    ends = λ first events handle running state knows none. absurd (never_ends first events handle running state knows none);
+    comes = λ first events e handle running since state knows. comes first events handle running state knows e since;
+  }
 
 -- ---- machines that make no change
 
@@ -185,18 +219,18 @@ pub writes_nothing : (m : Machine) → ((state : m.State) → m.writes state ≡
     → KeepsWriteLaws m
 writes_nothing m none quiet = record {
   quiet = λ first events handle running state ask knows no asks. quiet first events handle running state ask knows asks;
-  known = λ first events handle running state folder knows is. absurd (none_written state folder is);
-  asks = λ store state folder is. absurd (none_written state folder is);
-  ends = λ store state folder answer reply is done. absurd (none_written state folder is);
-  before = λ store state next answer folder goes is. absurd (none_written next folder is);
+  known = λ first events handle running state call knows is. absurd (none_written state call is);
+  asks = λ store state call is. absurd (none_written state call is);
+  ends = λ store state call answer reply is done. absurd (none_written state call is);
+  before = λ store state next answer call goes is. absurd (none_written next call is);
 }
   where
-    none_written : (state : m.State) (folder : LooseCall) → m.writes state ≡ Some folder → ⊥
-    none_written state folder is = let both : None ≡ Some folder = sym (none state) ∙ is in cc both
+    none_written : (state : m.State) (call : LooseCall) → m.writes state ≡ Some call → ⊥
+    none_written state call is = let both : None ≡ Some call = sym (none state) ∙ is in cc both
 
 -- a call of the disk that makes no change may come in any task
 pub quiet_turn : (first : Volume) (events : List Event) (handle : ℕ) (running : Running) (task : Task) (ask : DiskAsk)
-    → AsksInOrder first events handle running.store running.ignoring running.begun running.turns task ask
+    → AsksInOrder first events handle running.store running.modes running.begun running.turns task ask
     → change_by (disk_after first events) ask ≡ None
     → HasTurn first events handle running task ask
 quiet_turn first events handle running task ask in_order quiet =

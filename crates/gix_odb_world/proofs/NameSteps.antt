@@ -1,25 +1,24 @@
 -- In an undisturbed run the name that a write made holds a whole encoding.
 pub mod Given
-use Rattle.std.proofs.Common.{◌≡◌, ◌⊎◌, inl, inr, ℕ, zero, suc, ◌+◌, ◌-◌, ◌<◌, ◌≤◌, Bool, true, false, List, Ok, refl, sym, ◌∙◌, subst, arith}
+use Rattle.std.proofs.Common.{◌≡◌, ◌⊎◌, inl, inr, ℕ, zero, suc, ◌+◌, ◌-◌, ◌<◌, ◌≤◌, Bool, true, false, Ok, refl, sym, ◌∙◌, subst, arith}
 use Rattle.std.specs.Prelude.{◌==◌}
 use Rattle.std.proofs.lemmas.Bool.{eqb-false, eqb-true}
 use Rattle.odb_base.specs.Path.{Path}
-use Rattle.odb_disk.specs.MemDisk.{Volume}
-use Rattle.odb_tree.specs.Tree.{IsTree, Tree, tree_of}
+use Rattle.odb_tree.specs.Tree.{Tree}
 use Rattle.odb_tree.specs.Tree.Way.{crosses}
 use Rattle.odb_tree.specs.Tree.Write.{spot}
 use Rattle.odb_tree.proofs.OwnWayLaws.{OwnSpot, own_kept}
 use Rattle.odb_tree.proofs.WayLaws.{read_kept}
-use Rattle.gix_odb_world.specs.Event.{Event}
-use Rattle.gix_odb_world.specs.Headline.{IsLawful}
 use Rattle.gix_odb_world.specs.Run.{tree_at}
-use Rattle.gix_odb_world.specs.Running.{RunsThroughout}
 use Rattle.gix_odb_world.specs.Undisturbed.{IsUndisturbed}
 use Rattle.gix_odb_world.specs.WholeNames.{GivesAgain, GivesName, HoldsWhole, LeavesAlone, NamesStayWhole, name_path}
 use Rattle.gix_odb_world.specs.Writing.{ToWrite}
+use Rattle.gix_odb_world.proofs.LawfulRun.{LawfulRun}
 use Rattle.gix_odb_world.proofs.NameSteps.Given.{target_is, whole_after, full, spot_after, whole_again, spot_again}
 
-module _ (first : Volume) (events : List Event) (start : IsTree (tree_of first.state)) (lawful : IsLawful first events) (throughout : RunsThroughout first events) where
+module _ (run : LawfulRun) where
+  open run use {first, events}
+
   abbrev tree : ℕ → Tree
   tree = tree_at first events
 
@@ -46,13 +45,13 @@ module _ (first : Volume) (events : List Event) (start : IsTree (tree_of first.s
             last = place;
             later = omega arith;
             before = omega arith;
-            gives = record { write = w; to = to; gives = gives; onto = target_is first events start lawful throughout place w to gives before };
+            gives = record { write = w; to = to; gives = gives; onto = target_is run place w to gives before };
             since = λ step later soon. absurd (omega (arith, later, soon));
-            whole = whole_after first events start lawful throughout place w to gives before free;
-            full = full first events start lawful throughout place w to gives;
+            whole = whole_after run place w to gives before free;
+            full = full run place w to gives;
           };
           spot = to;
-          own = spot_after first events start lawful throughout place w to gives before free;
+          own = spot_after run place w to gives before free;
         }
 
     left_next : (now : ℕ) → Holds now → LeavesAlone first events path now → Holds (now + 1)
@@ -88,11 +87,11 @@ module _ (first : Volume) (events : List Event) (start : IsTree (tree_of first.s
             before = omega arith;
             gives = again;
             since = λ step later soon. absurd (omega (arith, later, soon));
-            whole = whole_again first events start lawful throughout now again.write again.to again.gives calm path there;
-            full = full first events start lawful throughout now again.write again.to again.gives;
+            whole = whole_again run now again.write again.to again.gives calm path there;
+            full = full run now again.write again.to again.gives;
           };
           spot = again.to;
-          own = spot_again first events start lawful throughout now again.write again.to again.gives calm path there;
+          own = spot_again run now again.write again.to again.gives calm path there;
         }
 
     holds_on : (more : ℕ) → IsUndisturbed first events (place + 1 + more) → Kept (place + 1 + more) → Holds (place + 1 + more)

@@ -3,7 +3,7 @@ use Rattle.std.proofs.Common.{◌≡◌, ℕ, ◌+◌, Bool, true, false, List, 
 use Rattle.std.specs.Map.{keys_of}
 use Rattle.std.specs.Ordering.{eq_by_cmp}
 use Rattle.std.proofs.lemmas.Bool.{and_parts}
-use Rattle.std.proofs.lemmas.List.{length-append}
+use Rattle.std.proofs.lemmas.List.{length_push}
 use Rattle.std.proofs.lemmas.Map.Made.{update_all_none}
 use Rattle.odb_base.specs.Path.{Path}
 use Rattle.odb_disk.specs.MemDisk.{Volume}
@@ -22,7 +22,7 @@ use Rattle.gix_odb_world.specs.declared.work.Work.TheVariants.{Opening}
 use Rattle.gix_odb_world.specs.declared.world.World.{World}
 use Rattle.gix_hash.specs.ObjectId.{id_cmp}
 use Rattle.gix_odb_world.specs.Event.{Event}
-use Rattle.gix_odb_world.specs.Status.{OpenStore, Store, Status, Free, Resting, Working, store_at, opening_at, ignoring_from}
+use Rattle.gix_odb_world.specs.Status.{OpenStore, Store, Status, Free, Resting, Working, store_at, opening_at, ignoring_from, modes_at_opening}
 use Rattle.gix_odb_world.specs.Handle.{IsHandleOf, IsOpened}
 use Rattle.gix_odb_world.specs.Run.{IsTurnOf}
 use Rattle.gix_odb_world.specs.Running.{Runs}
@@ -36,19 +36,19 @@ use Rattle.gix_odb_world.proofs.RunsLemmas.{begins, runs-push}
 runs_opening : (first : Volume) (events : List Event) (e : Event) (handle : ℕ) (store : Store)
     → Runs first (events ++ e ∷ []) handle (opening_at (length events + 1) store)
 runs_opening first events e handle store =
-    let whole : length (events ++ e ∷ []) ≡ length events + 1 = length-append events (e ∷ []) in (omega (arith, whole), begins first events e handle store false OpenStore tt)
+    let whole : length (events ++ e ∷ []) ≡ length events + 1 = length_push events e in (omega (arith, whole), begins first events e handle store modes_at_opening OpenStore tt)
 
 -- each pair's first id is replaced by its second, where no id is replaced twice
 replacements_same : (path : Path) (folders : List Path) (replacements : List (ObjectId × ObjectId)) (options : Options) (n : ℕ) (state : HandleState)
     → is_openable path folders replacements ≡ true
-    → IsOpened path folders replacements options state → IsHandleOf (store_at n path folders replacements options) false state
+    → IsOpened path folders replacements options state → IsHandleOf (store_at n path folders replacements options) modes_at_opening state
 replacements_same path folders replacements options n state good begun =
     let distinct = and_parts (are_good_folders path folders) (are_distinct id_cmp (keys_of replacements)) good in
     record {
       objects = begun.objects_are;
       folders = begun.folders_are;
       replacements = λ id. begun.replacements_are.0 id ∙ update_all_none ids_equal (eq_by_cmp id_cmp) (λ x y. refl) replacements id (IsDistinct-by_count ids_equal (keys_of replacements) distinct.1);
-      mode = begun.ignoring;
+      ignoring = begun.ignoring;
       limit = begun.limit;
       slots = begun.slots;
     }
@@ -89,9 +89,9 @@ matches_ignoring : (status : Status) (handle : Option Handle) → why_not_idle (
     → Matches status handle → Matches (ignoring_from status) (with_ignoring handle)
 matches_ignoring Free None idle match = tt
 matches_ignoring Free (Some handle) idle match = absurd match
-matches_ignoring (Resting store ignoring) None idle match = absurd match
-matches_ignoring (Resting store ignoring) (Some handle) idle match =
-    (record { objects = match.0.objects; folders = match.0.folders; replacements = match.0.replacements; mode = refl; limit = match.0.limit; slots = match.0.slots }, match.1)
+matches_ignoring (Resting store modes) None idle match = absurd match
+matches_ignoring (Resting store modes) (Some handle) idle match =
+    (record { objects = match.0.objects; folders = match.0.folders; replacements = match.0.replacements; ignoring = refl; limit = match.0.limit; slots = match.0.slots }, match.1)
 matches_ignoring (Working running) None idle match = absurd match
 matches_ignoring (Working running) (Some handle) idle match =
     absurd (cc (subst (λ (w : Option Work). why_not_idle (phase_of_work w) ≡ None) match.1 idle))
@@ -99,7 +99,7 @@ matches_ignoring (Working running) (Some handle) idle match =
 runs_ignoring : (number : ℕ) (first : Volume) (events : List Event) (e : Event) (status : Status) → ((other : ℕ) → ¬ IsTurnOf other e.step)
     → Runs first events number status → Runs first (events ++ e ∷ []) number (ignoring_from status)
 runs_ignoring number first events e Free no_turn runs = tt
-runs_ignoring number first events e (Resting store ignoring) no_turn runs = tt
+runs_ignoring number first events e (Resting store modes) no_turn runs = tt
 runs_ignoring number first events e (Working running) no_turn runs = runs-push first events e number (Working running) (no_turn number) runs
 
 pub ignored : (old mid new : World) (number : ℕ) → why_not_now old (steps.Ignore number) ≡ None

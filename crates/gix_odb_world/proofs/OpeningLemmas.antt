@@ -96,7 +96,8 @@ paths_equal : IsEquivalence (eq_by_cmp path_cmp)
 paths_equal = eq_by_cmp_equiv path_order
 
 pub has_one : (set new : BTreeSet Path) (path : Path) → sorted.IsEmpty set → sorted.Updates path_cmp set new path true → Has (path ∷ []) new
-has_one set new path empty updates q = updates.0 q ∙ ap (λ b. cond (eq_by_cmp path_cmp path q) true b) (none_in set q empty) ∙ by_equal (eq_by_cmp path_cmp path q) (eq_by_cmp path_cmp q path) (paths_equal.symm path q)
+has_one set new path empty updates q = updates.0 q ∙ ap (λ b. cond (eq_by_cmp path_cmp path q) true b) (none_in set q empty)
+    ∙ by_equal (eq_by_cmp path_cmp path q) (eq_by_cmp path_cmp q path) (paths_equal.symm path q)
   where
     none_in : (set : BTreeSet Path) (q : Path) → sorted.IsEmpty set → sorted.contains path_cmp set q ≡ false
     none_in set q empty = rw empty refl

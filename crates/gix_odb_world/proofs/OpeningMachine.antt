@@ -1,7 +1,7 @@
 -- An opening keeps the laws of a machine.
 pub mod Look
-use Rattle.std.proofs.Common.{◌≡◌, ℕ, ◌+◌, ◌*◌, ◌<◌, ◌≤◌, Bool, true, false, cond, List, [], ◌∷◌, ◌++◌, length, Option, Some, None, refl, sym, ◌∙◌, ap, subst, arith}
-use Rattle.std.proofs.lemmas.List.{length-append}
+use Rattle.std.proofs.Common.{◌≡◌, ℕ, ◌+◌, ◌≤◌, true, false, cond, List, [], ◌∷◌, ◌++◌, length, Option, Some, None, refl, sym, ◌∙◌, ap, subst, arith, Ok, Err, Result}
+use Rattle.std.proofs.lemmas.List.{length_push}
 use Rattle.odb_tree.specs.Tree.{tree_of}
 use Rattle.odb_tree.specs.declared.disk_error.DiskError.TheVariants as disk_errors
 use Rattle.odb_disk.specs.MemDisk.{Volume, next_fails}
@@ -15,51 +15,53 @@ use Rattle.odb_base.specs.Path.{Path}
 use Rattle.gix_odb.specs.Contents.{folder_list}
 use Rattle.gix_odb.specs.OpenOrder as openings
 use Rattle.gix_odb.specs.OpenOrder.{opening_reply}
+use Rattle.gix_odb.specs.declared.call.Reply.{Reply}
 use Rattle.gix_odb.specs.declared.handle_state.HandleState.{HandleState}
 use Rattle.gix_odb.specs.declared.open_state.OpenState.{OpenState}
 use Rattle.gix_odb.specs.declared.open_state.OpenState.TheVariants as opens
 use Rattle.gix_odb_world.specs.declared.work.Work.TheVariants.{Opening}
+use Rattle.gix_odb_world.specs.Asks.{AsksInOrder}
 use Rattle.gix_odb_world.specs.Bound.{bound_of_task, turn_bound}
 use Rattle.gix_odb_world.specs.Event.{Event, from_disk, to_disk}
 use Rattle.gix_odb_world.specs.Handle.{IsHandleOf}
 use Rattle.gix_odb_world.specs.Machine.{placed}
 use Rattle.gix_odb_world.specs.Promise.{OpeningPromise, Promise}
 use Rattle.gix_odb_world.specs.Run.{FailedSince, IsTurnOf, change_by, disk_after, tree_at}
-use Rattle.gix_odb_world.specs.Running.Opening.{IsOpening, opening, result_of_opening}
-use Rattle.gix_odb_world.specs.Status.{MakeCall, OpenStore, Running, Store, Task, begun_with, running_from}
+use Rattle.gix_odb_world.specs.Running.Opening.{IsOpening, opening}
+use Rattle.gix_odb_world.specs.Status.{MakeCall, OpenStore, Running, Store, Task, begun_with, running_from, Modes}
 use Rattle.gix_odb_world.specs.WorkOrder.{fed_after, opening_result, result_in}
-use Rattle.gix_odb_world.proofs.AskLemmas.{in_order_opening}
 use Rattle.gix_odb_world.proofs.FolderLemmas.{look_quiet}
-use Rattle.gix_odb_world.proofs.MachineLaws.{HasTurn, IsSized, KeepsLaws, MachineComes, comes_disk, never_ends, quiet_turn, same_ask as own_ask, takes_disk, writes_nothing}
+use Rattle.gix_odb_world.proofs.MachineLaws.{AsksDisk, HasTurn, IsSized, KeepsLaws, MachineComes, quiet_turn, same_ask as own_ask, turns_by_disk, writes_nothing}
 use Rattle.gix_odb_world.proofs.OpeningMachine.Look.{look_keeps}
-use Rattle.gix_odb_world.proofs.QuietTurn.{fails_now, shown_now, whole_length}
+use Rattle.gix_odb_world.proofs.QuietTurn.{fails_now, shown_now}
 use Rattle.gix_odb_world.proofs.RunLemmas.{failed_before, none_failed_yet}
 use Rattle.gix_odb_world.proofs.WriteAsk.Quiet.{change_by-quiet}
 use Rattle.gix_odb_world.proofs.WriteTurn.Common.{IsTurnWith}
 
 -- ---- its code
 
-opening_placed : (state : OpenState) → opening_result state ≡ placed opening (result_of_opening state)
-opening_placed opens.Looking = refl
-opening_placed (opens.Done reply) = refl
+opening_placed : (result : Result Reply OpenState) → opening_result result ≡ placed opening result
+opening_placed (Ok reply) = refl
+opening_placed (Err state) = refl
 
-opening_feeds : (store : Store) (ignoring : Bool) (code : HandleState) → IsHandleOf store ignoring code → (state : OpenState) (answer : Option DiskAnswer)
+opening_feeds : (store : Store) (modes : Modes) (code : HandleState) → IsHandleOf store modes code → (state : OpenState) (answer : Option DiskAnswer)
     → result_in (fed_after code (Opening state) answer) ≡ placed opening (opening.feed store state (from_disk answer))
-opening_feeds store ignoring code own state None = opening_placed state
-opening_feeds store ignoring code own state (Some answer) =
-    ap (λ slots. opening_result (openings.fed slots state answer)) own.slots ∙ opening_placed (openings.fed store.slots state answer)
+opening_feeds store modes code own state None = opening_placed (openings.result_of state)
+opening_feeds store modes code own state (Some answer) =
+    ap (λ slots. opening_result (openings.result_of (openings.fed slots state answer))) own.slots
+    ∙ opening_placed (openings.result_of (openings.fed store.slots state answer))
 
 -- ---- its beginning
 
-opening_starts : (first : Volume) (events : List Event) (e : Event) (handle : ℕ) (store : Store) (ignoring : Bool) (task : Task) (state : OpenState)
+opening_starts : (first : Volume) (events : List Event) (e : Event) (handle : ℕ) (store : Store) (modes : Modes) (task : Task) (state : OpenState)
     → IsSized task
-    → begun_with store ignoring task ≡ Opening state
-    → IsOpening (events ++ e ∷ []) handle (running_from (length events + 1) task store ignoring) state
-opening_starts first events e handle store ignoring OpenStore state sized is =
+    → begun_with store modes task ≡ Opening state
+    → IsOpening (events ++ e ∷ []) handle (running_from (length events + 1) task store modes) state
+opening_starts first events e handle store modes OpenStore state sized is =
     let same : opens.Looking ≡ state = cc is in
-    let whole : length (events ++ e ∷ []) ≡ length events + 1 = length-append events (e ∷ []) in
+    let whole : length (events ++ e ∷ []) ≡ length events + 1 = length_push events e in
     record { task = refl; turns = refl; looks = sym same; no_failure = none_failed_yet (events ++ e ∷ []) handle (length events + 1) (omega (arith, whole)) }
-opening_starts first events e handle store ignoring (MakeCall call) state sized is = absurd (cc is)
+opening_starts first events e handle store modes (MakeCall call) state sized is = absurd (cc is)
 
 opening_kept : (events : List Event) (e : Event) (handle : ℕ) (running : Running) (state : OpenState) → ¬ (IsTurnOf handle e.step)
     → IsOpening events handle running state
@@ -78,6 +80,15 @@ opening_still : (store : Store) (state : OpenState) (ask : DiskAsk) → openings
 opening_still store opens.Looking ask is = let same : asks.Look store.parts.objects true ≡ ask = cc is in ap is_of_streams (sym same)
 opening_still store (opens.Done reply) ask is = absurd (cc is)
 
+-- it looks at its objects directory
+in_order_opening : (first : Volume) (events : List Event) (handle : ℕ) (store : Store) (modes : Modes) (begun turns : ℕ) (state : OpenState) (ask : DiskAsk)
+    → state ≡ opens.Looking → turns ≡ 0 → openings.ask_of store.parts.objects state ≡ Some ask
+    → AsksInOrder first events handle store modes begun turns OpenStore ask
+in_order_opening first events handle store modes begun turns state ask is none asked =
+    let looks : Some (asks.Look store.parts.objects true) ≡ Some ask = ap (openings.ask_of store.parts.objects) (sym is) ∙ asked in
+    let same : asks.Look store.parts.objects true ≡ ask = cc looks in
+    (none, sym same)
+
 module _ (first : Volume) (events : List Event) (handle : ℕ) (running : Running) (state : OpenState) (ask : DiskAsk) (knows : IsOpening events handle running state)
     (is : openings.ask_of running.store.parts.objects state ≡ Some ask) where
   abbrev objects : Path
@@ -95,7 +106,7 @@ module _ (first : Volume) (events : List Event) (handle : ℕ) (running : Runnin
   opening_takes =
       subst (λ task. HasTurn first events handle running task ask) (sym knows.task)
       (quiet_turn first events handle running OpenStore ask
-      (in_order_opening first events handle running.store running.ignoring running.begun running.turns state ask knows.looks knows.turns is) opening_quiet)
+      (in_order_opening first events handle running.store running.modes running.begun running.turns state ask knows.looks knows.turns is) opening_quiet)
 
   module _ (e : Event) (since : running.begun ≤ length events) (turn : IsTurnWith first events e handle ask) where
     abbrev whole : List Event
@@ -113,13 +124,13 @@ module _ (first : Volume) (events : List Event) (handle : ℕ) (running : Runnin
         (next_fails (disk_after first events)) (fails_now first events e handle running since ask turn)))
 
     abbrev Comes : OpenState → Type 0
-    Comes s = MachineComes first events e handle running opening (result_of_opening (openings.fed running.store.slots s (answer_now (disk_after first events) ask)))
+    Comes s = MachineComes first events e handle running opening (openings.result_of (openings.fed running.store.slots s (answer_now (disk_after first events) ask)))
 
     opening_comes : Comes state
     opening_comes =
         subst Comes (sym knows.looks)
-        (subst (λ task. Promise first whole handle running.store running.ignoring running.begun task (opening_reply running.store.slots (answer_now (disk_after first events) ask))) (sym knows.task)
-        (subst (λ now. Promised now (answer_now (disk_after first events) ask)) (whole_length first events e handle running since ask turn) look_promised))
+        (subst (λ task. Promise first whole handle running.store running.modes running.begun task (opening_reply running.store.slots (answer_now (disk_after first events) ask))) (sym knows.task)
+        (subst (λ now. Promised now (answer_now (disk_after first events) ask)) (sym (length_push events e)) look_promised))
 
 -- ---- its laws
 
@@ -131,26 +142,25 @@ opening_ask : (first : Volume) (events : List Event) (handle : ℕ) (running : R
     → (ask : DiskAsk) × (openings.ask_of running.store.parts.objects state ≡ Some ask)
 opening_ask first events handle running state knows = (asks.Look running.store.parts.objects true, ap (openings.ask_of running.store.parts.objects) knows.looks)
 
+opening_turns : AsksDisk opening (λ store state. openings.ask_of store.parts.objects state)
+opening_turns = record {
+  is = λ store state. refl;
+  still = opening_still;
+  some = opening_ask;
+  takes = λ first events handle running state knows ask. opening_takes first events handle running state ask knows;
+  comes = λ first events handle running state knows ask. opening_comes first events handle running state ask knows;
+}
+
 pub opening_laws : KeepsLaws opening
 opening_laws = record {
   at_home = λ state. refl;
-  asks = λ store ignoring code own state. ap (λ objects. to_disk (openings.ask_of objects state)) own.objects;
+  asks = λ store modes code own state. ap (λ objects. to_disk (openings.ask_of objects state)) own.objects;
   feeds = opening_feeds;
   starts = opening_starts;
   tasked = λ first events handle running state knows. knows.task;
   bounded = λ store task state is entries. opening_bounded store task is entries;
-  still = λ store state ask is. opening_still store state ask (own_ask (openings.ask_of store.parts.objects state) ask is);
   kept = λ first events e handle running state other knows. opening_kept events e handle running state other knows;
-  takes = λ first events handle running state knows.
-      let ask = opening_ask first events handle running state knows in
-      takes_disk first events handle running running.task (opening.ask running.store state) ask.0 (ap to_disk ask.1)
-      (opening_takes first events handle running state ask.0 knows ask.1);
-  ends = λ first events handle running state knows none.
-      let ask = opening_ask first events handle running state knows in absurd (never_ends (opening.ask running.store state) ask.0 (ap to_disk ask.1) none);
-  comes = λ first events e handle running since state knows.
-      let ask = opening_ask first events handle running state knows in
-      comes_disk first events e handle (λ answer. MachineComes first events e handle running opening (opening.feed running.store state answer))
-      (opening.ask running.store state) ask.0 (ap to_disk ask.1) (opening_comes first events handle running state ask.0 knows ask.1 e since);
+  turns = turns_by_disk opening (λ store state. openings.ask_of store.parts.objects state) opening_turns;
   writes = writes_nothing opening (λ state. refl)
       (λ first events handle running state ask knows is.
       opening_quiet first events handle running state ask knows (own_ask (openings.ask_of running.store.parts.objects state) ask is));

@@ -1,7 +1,7 @@
 -- Plays: lines stand for the steps that were made, one line after another.
 use Rattle.std.proofs.Common.{◌≡◌, ◌≢◌, ℕ, ◌+◌, ◌-◌, ◌<◌, List, [], ◌∷◌, ◌++◌, length, map, take, get_or, refl, sym, ◌∙◌, ap, subst, arith}
 use Rattle.std.specs.List.{AllByRecursion}
-use Rattle.std.proofs.lemmas.List.{append-nil, append_assoc, get_or_push, length-append, length-map, map-append, take_more}
+use Rattle.std.proofs.lemmas.List.{append-nil, append_assoc, get_or_push, length-append, length-map, map-append, take_more, length_push}
 use Rattle.odb_disk.specs.MemDisk.{Volume}
 use Rattle.gix_odb_world.specs.declared.step.Step.{Step}
 use Rattle.gix_odb_world.specs.declared.step.Step.TheVariants.{Turn}
@@ -26,8 +26,11 @@ makes_more : (old mid new : World) (before between after : List Step) (own other
     → Makes mid new between after other → Makes old new before after (own ++ other)
 makes_more old mid new before between after own other one two =
     record {
-      steps = two.steps ∙ (ap (λ s. s ++ map (λ (m : Made). m.step) other) one.steps ∙ (append_assoc before (map (λ (m : Made). m.step) own) (map (λ (m : Made). m.step) other) ∙ ap (λ s. before ++ s) (sym (map-append (λ (m : Made). m.step) own other))));
-      outcomes = two.outcomes ∙ (ap (λ s. s ++ map (λ (m : Made). m.outcome) other) one.outcomes ∙ (append_assoc old.outcomes (map (λ (m : Made). m.outcome) own) (map (λ (m : Made). m.outcome) other) ∙ ap (λ s. old.outcomes ++ s) (sym (map-append (λ (m : Made). m.outcome) own other))));
+      steps = two.steps ∙ (ap (λ s. s ++ map (λ (m : Made). m.step) other) one.steps
+          ∙ (append_assoc before (map (λ (m : Made). m.step) own) (map (λ (m : Made). m.step) other) ∙ ap (λ s. before ++ s) (sym (map-append (λ (m : Made). m.step) own other))));
+      outcomes = two.outcomes ∙ (ap (λ s. s ++ map (λ (m : Made). m.outcome) other) one.outcomes
+          ∙ (append_assoc old.outcomes (map (λ (m : Made). m.outcome) own) (map (λ (m : Made). m.outcome) other)
+          ∙ ap (λ s. old.outcomes ++ s) (sym (map-append (λ (m : Made). m.outcome) own other))));
       runs = λ first run. two.runs first (one.runs first run);
     }
 
@@ -66,7 +69,7 @@ plays_one old new before after step one =
 -- the last of the steps is the one that was added
 pub last_is : (steps more : List Step) (step last : Step) → more ≡ steps ++ step ∷ [] → last ≡ get_or more (length more - 1) last → last ≡ step
 last_is steps more step last added is =
-    let place : length steps ≡ length (steps ++ step ∷ []) - 1 = omega (arith, length-append steps (step ∷ [])) in
+    let place : length steps ≡ length (steps ++ step ∷ []) - 1 = omega (arith, length_push steps step) in
     is ∙ (ap (λ (all : List Step). get_or all (length all - 1) last) added ∙ get_or_push steps step last (length (steps ++ step ∷ []) - 1) place)
 
 -- a step that was made and added to the steps
@@ -151,7 +154,8 @@ pub has_played_more : (first : Volume) (old new : World) (before after : List St
     → HasPlayed first (take index lines) before last old → HasPlayed first (take (index + 1) lines) after (last ++ at ∷ []) new
 has_played_more first old new before after line lines index last at within is at_is own played =
     let even : length before ≡ length old.outcomes = run_even first before old played.run in
-    let longer : length after ≡ length before + length own.own = ap length own.makes.steps ∙ (length-append before (map (λ (m : Made). m.step) own.own) ∙ ap (λ n. length before + n) (length-map own.own (λ (m : Made). m.step))) in
+    let longer : length after ≡ length before + length own.own = ap length own.makes.steps
+    ∙ (length-append before (map (λ (m : Made). m.step) own.own) ∙ ap (λ n. length before + n) (length-map own.own (λ (m : Made). m.step))) in
     let place : at ≡ 0 + length (made_of before old.outcomes) + length own.own - 1 = omega (arith, length-made_of before old.outcomes even) in
     let made : made_of after new.outcomes ≡ made_of before old.outcomes ++ own.own =
     ap (λ s. made_of s new.outcomes) own.makes.steps ∙ (ap (λ o. made_of (before ++ map (λ (m : Made). m.step) own.own) o) own.makes.outcomes ∙ made_of-append before old.outcomes own.own even) in

@@ -1,6 +1,5 @@
 -- What the moment after a turn shows whose call of the disk makes no change.
 use Rattle.std.proofs.Common.{◌≡◌, ℕ, ◌+◌, ◌≤◌, true, false, List, [], ◌∷◌, ◌++◌, length, None, sym, ◌∙◌, ap, subst}
-use Rattle.std.proofs.lemmas.List.{length-append}
 use Rattle.odb_tree.specs.Tree.{tree_of}
 use Rattle.odb_tree.specs.Tree.Write.{written}
 use Rattle.odb_disk.specs.MemDisk.{Volume, next_fails}
@@ -17,9 +16,6 @@ module _ (first : Volume) (events : List Event) (e : Event) (handle : ℕ) (runn
 
   abbrev disk : Volume
   disk = disk_after first events
-
-  pub whole_length : length events + 1 ≡ length whole
-  whole_length = sym (length-append events (e ∷ []))
 
   listed : Fails e.entry.did → next_fails disk ≡ true
   listed failed = subst Fails is.did failed

@@ -23,7 +23,8 @@ use Rattle.gix_odb_world.specs.Run.{Fails, disk_after}
 use Rattle.gix_odb_world.specs.Writing.{AskedSince, RefusedSince}
 use Rattle.gix_odb_world.proofs.WriteAsk.{Told, told_append, told_make_dir, told_new_file, told_rename}
 
-module _ (first : Volume) (events : List Event) (handle begun : ℕ) (ask : DiskAsk) (answer : DiskAnswer) (asked : AskedSince first events handle begun ask answer) (refused : IsRefused ask answer) where
+module _ (first : Volume) (events : List Event) (handle begun : ℕ) (ask : DiskAsk) (answer : DiskAnswer) (asked : AskedSince first events handle begun ask answer)
+    (refused : IsRefused ask answer) where
   abbrev disk : Volume
   disk = disk_after first (take asked.place events)
 
@@ -33,7 +34,8 @@ module _ (first : Volume) (events : List Event) (handle begun : ℕ) (ask : Disk
   by_error : (error : DiskError) → IsOnWay error → answer ≡ answers.Refused error → RefusedSince first events handle begun ask
   by_error error on is = inr (error, on, subst (AskedSince first events handle begun ask) is asked)
 
-  module _ (told : Result Change writing.Refusal) (tells : Told tree ask told) (unfilled : told ≢ Err writing.NotEmpty) (untaken : told ≡ Err writing.Exists → IsRefused ask (answers.Refused disk_errors.Exists) → ⊥) where
+  module _ (told : Result Change writing.Refusal) (tells : Told tree ask told) (unfilled : told ≢ Err writing.NotEmpty)
+      (untaken : told ≡ Err writing.Exists → IsRefused ask (answers.Refused disk_errors.Exists) → ⊥) where
     by_told : (t : Result Change writing.Refusal) → told ≡ t → answer ≡ write_answer t → RefusedSince first events handle begun ask
     by_told (Ok change) is e = absurd (subst (IsRefused ask) e refused)
     by_told (Err writing.Absent) is e = by_error disk_errors.Absent tt e
@@ -68,10 +70,12 @@ refused_on_way first events handle begun (asks.MakeDir path) making answer asked
     refused_so first events handle begun (asks.MakeDir path) answer asked refused (change_of_make_dir t path) (told_make_dir t path) (make_dir-never t path) (λ is r. r)
 refused_on_way first events handle begun (asks.Append path bytes) making answer asked refused =
     let t : Tree = tree_of (disk_after first (take asked.place events)).state in
-    refused_so first events handle begun (asks.Append path bytes) answer asked refused (change_of_append t path bytes) (told_append t path bytes) (append-never writing.NotEmpty full t path bytes) (λ is r. append-never writing.Exists there t path bytes is)
+    refused_so first events handle begun (asks.Append path bytes) answer asked refused (change_of_append t path bytes) (told_append t path bytes)
+    (append-never writing.NotEmpty full t path bytes) (λ is r. append-never writing.Exists there t path bytes is)
 refused_on_way first events handle begun (asks.Rename from to) making answer asked refused =
     let t : Tree = tree_of (disk_after first (take asked.place events)).state in
-    refused_so first events handle begun (asks.Rename from to) answer asked refused (change_of_rename t from to) (told_rename t from to) (rename-never writing.NotEmpty full t from to) (λ is r. rename-never writing.Exists there t from to is)
+    refused_so first events handle begun (asks.Rename from to) answer asked refused (change_of_rename t from to) (told_rename t from to)
+    (rename-never writing.NotEmpty full t from to) (λ is r. rename-never writing.Exists there t from to is)
 refused_on_way first events handle begun (asks.Look path follow) making answer asked refused = absurd making
 refused_on_way first events handle begun (asks.Read path) making answer asked refused = absurd making
 refused_on_way first events handle begun (asks.OpenDir path) making answer asked refused = absurd making

@@ -1,7 +1,7 @@
 -- Laws of runs: a history that goes on by one event.
 use Rattle.std.proofs.Common.{◌≡◌, ℕ, zero, suc, ◌+◌, ◌<◌, ◌≤◌, List, [], ◌∷◌, ◌++◌, length, take, Some, refl, sym, ◌∙◌, ap, subst, arith, inl, inr, ◌⊎◌}
 use Rattle.std.specs.Prelude.{slice_get}
-use Rattle.std.proofs.lemmas.List.{length-append, take-append-le}
+use Rattle.std.proofs.lemmas.List.{take-append-le, length_push}
 use Rattle.std.proofs.lemmas.List.Sums.{fold_push}
 use Rattle.std.proofs.Math.Seq.{take-append_seam, take-length}
 use Rattle.odb_tree.specs.Tree.{tree_of}
@@ -31,7 +31,7 @@ slice_get-last (z ∷ xs) x = slice_get-last xs x
 -- all of it
 pub take-push : {A : Type 0} (xs : List A) (x : A) → take (length xs + 1) (xs ++ x ∷ []) ≡ xs ++ x ∷ []
 take-push xs x =
-    let whole : length xs + 1 ≡ length (xs ++ x ∷ []) = omega (arith, length-append xs (x ∷ [])) in
+    let whole : length xs + 1 ≡ length (xs ++ x ∷ []) = omega (arith, length_push xs x) in
     rw whole (take-length (xs ++ x ∷ []))
 
 -- ---- what the handles do, and the disk, after one more event
@@ -42,7 +42,8 @@ unfolding statuses_from
 statuses_from-push n table [] e = let same : n ≡ n + 0 = omega arith in ap (λ m. status_after m e.step e.outcome e.asked table) same
 statuses_from-push n table (x ∷ events) e =
     let later : n + 1 + length events ≡ n + length (x ∷ events) = omega arith in
-    statuses_from-push (n + 1) (status_after n x.step x.outcome x.asked table) events e ∙ ap (λ m. status_after m e.step e.outcome e.asked (statuses_from (n + 1) (status_after n x.step x.outcome x.asked table) events)) later
+    statuses_from-push (n + 1) (status_after n x.step x.outcome x.asked table) events e
+    ∙ ap (λ m. status_after m e.step e.outcome e.asked (statuses_from (n + 1) (status_after n x.step x.outcome x.asked table) events)) later
 
 pub status_of-push : (events : List Event) (e : Event)
     → status_of (events ++ e ∷ []) ≡ status_after (length events + 1) e.step e.outcome e.asked (status_of events)

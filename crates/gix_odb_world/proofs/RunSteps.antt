@@ -1,6 +1,6 @@
 -- Laws of the events of a lawful run, one by one: what each does to the tree, and that each tree is one.
 pub mod Fronts
-use Rattle.std.proofs.Common.{◌≡◌, ◌⊎◌, inl, inr, ℕ, zero, suc, ◌+◌, Bool, true, false, List, [], ◌∷◌, ◌++◌, take, Option, Some, None, refl, sym, ap, ◌∙◌, subst, arith}
+use Rattle.std.proofs.Common.{◌≡◌, inl, inr, ℕ, zero, suc, ◌+◌, Bool, true, false, List, take, Option, Some, None, refl, sym, ap, ◌∙◌, subst, arith}
 use Rattle.std.specs.Prelude.{slice_get, if◌then◌else◌}
 use Rattle.odb_disk.specs.Ask.{change_of_ask}
 use Rattle.odb_disk.specs.MemDisk.{Volume, after_outside_change, next_fails}
@@ -20,11 +20,12 @@ use Rattle.gix_odb_world.specs.declared.step.Step.TheVariants as steps
 use Rattle.gix_odb_world.specs.declared.step.Why.{Why}
 use Rattle.gix_odb_world.specs.Event.{Asked, OfNothing, OfDisk, OfCore, Event}
 use Rattle.gix_odb_world.specs.Status.{Running, Status, Free, Resting, Working, status_of, status_after}
-use Rattle.gix_odb_world.specs.Headline.{IsLawful, IsTurn, Law, LeavesDisk, Suits, Turns}
+use Rattle.gix_odb_world.specs.Headline.{IsTurn, Law, LeavesDisk, Suits, Turns}
 use Rattle.gix_odb_world.specs.Changes.{ChangesAs, change_applied}
 use Rattle.gix_odb_world.specs.Run.{change_by, did_of_asked, disk_after, disk_after_event, disk_after_asked, tree_at}
 use Rattle.gix_odb_world.specs.Undisturbed.{IsOutside}
 use Rattle.gix_odb_world.specs.Valid.{misuse_of, phase_of, why_not_after, why_not_running}
+use Rattle.gix_odb_world.proofs.LawfulRun.{LawfulRun}
 use Rattle.gix_odb_world.proofs.DiskTurns.{CallsDisk, calls_disk}
 use Rattle.gix_odb_world.proofs.RunLemmas.{disk_after-push, status_of-push}
 pub use Rattle.gix_odb_world.proofs.RunSteps.Fronts.{event_or_end, front_of_front, length_take, none_beyond, take_next, take_none, there_in_front, there_in_whole}
@@ -60,7 +61,7 @@ pub data Kind (first : Volume) (past : List Event) (e : Event) : Type 0 where
 
 at_work : (status : Status) → None ≡ why_not_running (phase_of status) → (running : Running) × (status ≡ Working running)
 at_work Free valid = absurd (cc)
-at_work (Resting store ignoring) valid = absurd (cc)
+at_work (Resting store modes) valid = absurd (cc)
 at_work (Working running) valid = (running, refl)
 
 possible_by : (b : Bool) (why : Why) → None ≡ (if b then None else Some why) → b ≡ true
@@ -171,7 +172,9 @@ tree_after first past e is_tree (Turned t) = by_change e.entry.change refl (turn
 
 -- ---- along a run
 
-module _ (first : Volume) (events : List Event) (start : IsTree (tree_of first.state)) (lawful : IsLawful first events) where
+module _ (run : LawfulRun) where
+  open run use {first, events, start, lawful}
+
   pub kind_at : (place : ℕ) (e : Event) → slice_get events place ≡ Some e → Kind first (take place events) e
   kind_at place e there = kind_of first (take place events) e (lawful place e there)
 
@@ -199,6 +202,7 @@ module _ (first : Volume) (events : List Event) (start : IsTree (tree_of first.s
   is_tree_at (suc place) = elim (event_or_end events place) [
     | inl at ↦
         let next : suc place ≡ place + 1 = omega arith in
-        subst (λ n. IsTree (tree_at first events n)) (sym next) (subst IsTree (sym (tree_next place at.0 at.1)) (tree_after first (take place events) at.0 (is_tree_at place) (kind_at place at.0 at.1)))
+        subst (λ n. IsTree (tree_at first events n)) (sym next)
+        (subst IsTree (sym (tree_next place at.0 at.1)) (tree_after first (take place events) at.0 (is_tree_at place) (kind_at place at.0 at.1)))
     | inr over ↦ subst (λ es. IsTree (tree_of (disk_after first es).state)) (sym (take_none events place over)) (is_tree_at place)
   ]

@@ -1,6 +1,6 @@
 -- What a query has seen stays seen.
 use Rattle.std.proofs.Common.{◌≡◌, ℕ, ◌≤◌, List, [], ◌∷◌, ◌++◌, length, drop, Some, None, Option, sym, subst, arith, inl, inr}
-use Rattle.std.proofs.lemmas.List.{length-append}
+use Rattle.std.proofs.lemmas.List.{length_push}
 use Rattle.odb_base.specs.Path.{Path}
 use Rattle.odb_tree.specs.Tree.{Tree}
 use Rattle.odb_tree.specs.Tree.Follow.{read_of}
@@ -12,7 +12,7 @@ use Rattle.gix_odb_loose.specs.declared.find.Error as loose
 use Rattle.gix_odb.specs.declared.query.Query.{Query}
 use Rattle.gix_odb.specs.declared.look_state.LookState.{LookState}
 use Rattle.gix_odb.specs.declared.look_state.Stage.{Stage}
-use Rattle.gix_odb.specs.LookOrder.{job_of}
+use Rattle.gix_odb.specs.Contents.{job_of}
 use Rattle.gix_odb_world.specs.Causes.{Sometime, GaveSometime, LooseCause}
 use Rattle.gix_odb_world.specs.Event.{Event}
 use Rattle.gix_odb_world.specs.Status.{Running, Store}
@@ -46,7 +46,8 @@ module _ (trees wider : ℕ → Tree) (begun now later : ℕ) (le : now ≤ late
         record {
           folder = c.folder;
           among = c.among;
-          cause = Cause-wider (GaveSometime trees begun now (loose_path c.folder id)) (GaveSometime wider begun later (loose_path c.folder id)) (gave_wider (loose_path c.folder id)) Failed Fails ⊥ ⊥ fails (λ never. never)
+          cause = Cause-wider (GaveSometime trees begun now (loose_path c.folder id)) (GaveSometime wider begun later (loose_path c.folder id))
+              (gave_wider (loose_path c.folder id)) Failed Fails ⊥ ⊥ fails (λ never. never)
               (job_of call id) (loose_path c.folder id) store.parts.limit error c.cause;
         }
 
@@ -70,7 +71,7 @@ pub looking_push : (first : Volume) (events : List Event) (e : Event) (handle : 
     → (front : ℕ) → IsLooking first events handle running front state → IsLooking first (events ++ e ∷ []) handle running front state
 looking_push first events e handle running state other front knows =
     let whole : List Event = events ++ e ∷ [] in
-    let longer : length events ≤ length (events ++ e ∷ []) = omega (arith, length-append events (e ∷ [])) in
+    let longer : length events ≤ length (events ++ e ∷ []) = omega (arith, length_push events e) in
     record {
       task = knows.task;
       place = knows.place;

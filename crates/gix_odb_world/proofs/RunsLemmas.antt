@@ -2,11 +2,11 @@
 use Rattle.std.proofs.Common.{◌≡◌, ◌≢◌, ℕ, ◌+◌, ◌≤◌, Bool, true, false, List, [], ◌∷◌, ◌++◌, length, refl, sym, arith}
 use Rattle.std.specs.Prelude.{if◌then◌else◌, ◌==◌}
 use Rattle.std.proofs.lemmas.Bool.{eqb-true, eqb-false}
-use Rattle.std.proofs.lemmas.List.{length-append}
+use Rattle.std.proofs.lemmas.List.{length_push}
 use Rattle.odb_disk.specs.MemDisk.{Volume}
 use Rattle.gix_odb_world.specs.declared.work.Work.{Work}
 use Rattle.gix_odb_world.specs.Event.{Event}
-use Rattle.gix_odb_world.specs.Status.{Running, Status, Store, Task, Free, Resting, Working, begun_with, running_from, with_status}
+use Rattle.gix_odb_world.specs.Status.{Running, Status, Store, Task, Free, Resting, Working, begun_with, running_from, with_status, Modes}
 use Rattle.gix_odb_world.specs.Run.{IsTurnOf}
 use Rattle.gix_odb_world.specs.Machines.{at}
 use Rattle.gix_odb_world.specs.Running.{Knows, Runs}
@@ -18,7 +18,7 @@ module _ (first : Volume) (events : List Event) (e : Event) where
   whole = events ++ e ∷ []
 
   longer : length events ≤ length whole
-  longer = omega (arith, length-append events (e ∷ []))
+  longer = omega (arith, length_push events e)
 
   module _ (handle : ℕ) (other : ¬ IsTurnOf handle e.step) where
     knows_push : (running : Running) (work : Work) → Knows first events handle running work → Knows first whole handle running work
@@ -27,15 +27,15 @@ module _ (first : Volume) (events : List Event) (e : Event) where
     -- a handle at work goes on as it is over an event that isn't its turn
     runs_over : (status : Status) → Runs first events handle status → Runs first whole handle status
     runs_over Free runs = tt
-    runs_over (Resting store ignoring) runs = tt
+    runs_over (Resting store modes) runs = tt
     runs_over (Working running) runs = (omega (arith, longer, runs.0), knows_push running running.work runs.1)
 
 -- a handle whose task the event sets knows what its machine does at the beginning
-pub begins : (first : Volume) (events : List Event) (e : Event) (handle : ℕ) (store : Store) (ignoring : Bool) (task : Task) → IsSized task
-    → Knows first (events ++ e ∷ []) handle (running_from (length events + 1) task store ignoring) (begun_with store ignoring task)
-begins first events e handle store ignoring task sized =
-    let work : Work = begun_with store ignoring task in
-    (laws_at work).starts first events e handle store ignoring task (at work).state sized (sym (at work).is)
+pub begins : (first : Volume) (events : List Event) (e : Event) (handle : ℕ) (store : Store) (modes : Modes) (task : Task) → IsSized task
+    → Knows first (events ++ e ∷ []) handle (running_from (length events + 1) task store modes) (begun_with store modes task)
+begins first events e handle store modes task sized =
+    let work : Work = begun_with store modes task in
+    (laws_at work).starts first events e handle store modes task (at work).state sized (sym (at work).is)
 
 pub runs-push : (first : Volume) (events : List Event) (e : Event) (handle : ℕ) (status : Status) → ¬ IsTurnOf handle e.step
     → Runs first events handle status → Runs first (events ++ e ∷ []) handle status

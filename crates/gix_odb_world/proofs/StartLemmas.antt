@@ -1,7 +1,7 @@
 -- The start of a call on an idle handle.
-use Rattle.std.proofs.Common.{◌≡◌, ℕ, ◌+◌, Bool, List, [], ◌∷◌, ◌++◌, length, Some, None, Option, refl, sym, ◌∙◌, ap, subst, arith}
+use Rattle.std.proofs.Common.{◌≡◌, ℕ, ◌+◌, List, [], ◌∷◌, ◌++◌, length, Some, None, Option, refl, sym, ◌∙◌, ap, subst, arith}
 use mathlib.Core.Path.{fun_ext}
-use Rattle.std.proofs.lemmas.List.{length-append}
+use Rattle.std.proofs.lemmas.List.{length_push}
 use Rattle.odb_disk.specs.MemDisk.{Volume}
 use Rattle.gix_odb_world.specs.declared.step.Step.TheVariants as steps
 use Rattle.gix_odb_world.specs.declared.step.Outcome.TheVariants as outcomes
@@ -16,7 +16,7 @@ use Rattle.gix_odb.specs.CallOrder as calls
 use Rattle.gix_odb.specs.CallOrder.{HasSize}
 use Rattle.gix_odb.specs.Contents.{sought, sought_with}
 use Rattle.gix_odb_world.specs.Event.{Event}
-use Rattle.gix_odb_world.specs.Status.{MakeCall, Store, Status, Free, Resting, Working, begun_with, started}
+use Rattle.gix_odb_world.specs.Status.{MakeCall, Store, Status, Free, Resting, Working, begun_with, started, Modes}
 use Rattle.gix_odb_world.specs.Handle.{IsHandleOf}
 use Rattle.gix_odb.specs.HandleState.{replacement_of, sought_by}
 use Rattle.gix_odb_world.specs.Run.{IsTurnOf}
@@ -28,22 +28,22 @@ use Rattle.gix_odb_world.proofs.StepLemmas.{applied}
 use Rattle.gix_odb_world.proofs.RunsLemmas.{begins, runs-push}
 
 -- the work of the code is that of the store
-work_started : (store : Store) (ignoring : Bool) (state : HandleState) (call : Call) → IsHandleOf store ignoring state
-    → Calling (calls.started state.store.value.objects state.store.value.alloc_limit_bytes (sought_by state) call) ≡ begun_with store ignoring (MakeCall call)
-work_started store ignoring state call own =
+work_started : (store : Store) (modes : Modes) (state : HandleState) (call : Call) → IsHandleOf store modes state
+    → Calling (calls.started state.store.value.objects state.store.value.alloc_limit_bytes (sought_by state) call) ≡ begun_with store modes (MakeCall call)
+work_started store modes state call own =
     ap (λ objects. Calling (calls.started objects state.store.value.alloc_limit_bytes (sought_by state) call)) own.objects
     ∙ (ap (λ limit. Calling (calls.started store.parts.objects limit (sought_by state) call)) own.limit
     ∙ ap (λ seeks. Calling (calls.started store.parts.objects store.parts.limit seeks call)) sought_same)
   where
     -- the handle seeks what its store does
-    sought_same : sought_by state ≡ sought store.parts ignoring
-    sought_same = ap (λ mode. sought_with (replacement_of state) mode) own.mode ∙ ap (λ replacement. sought_with replacement ignoring) (fun_ext own.replacements)
+    sought_same : sought_by state ≡ sought store.parts modes.ignoring
+    sought_same = ap (λ ignoring. sought_with (replacement_of state) ignoring) own.ignoring ∙ ap (λ replacement. sought_with replacement modes.ignoring) (fun_ext own.replacements)
 
 matches_started : (n : ℕ) (call : Call) (status : Status) (handle : Handle) (work : Work) → why_not_idle (phase_of_handle (Some handle)) ≡ None
     → work ≡ Calling (calls.started handle.state.store.value.objects handle.state.store.value.alloc_limit_bytes (sought_by handle.state) call)
     → Matches status (Some handle) → Matches (started n call status) (with_work (Some work) (Some handle))
 matches_started n call Free handle work idle is match = absurd match
-matches_started n call (Resting store ignoring) handle work idle is match = (match.0, ap Some (is ∙ work_started store ignoring handle.state call match.0))
+matches_started n call (Resting store modes) handle work idle is match = (match.0, ap Some (is ∙ work_started store modes handle.state call match.0))
 matches_started n call (Working running) handle work idle is match =
     absurd (cc (subst (λ (w : Option Work). why_not_idle (phase_of_work w) ≡ None) match.1 idle))
 
@@ -51,8 +51,8 @@ runs_started : (number : ℕ) (call : Call) → HasSize call → (first : Volume
     → e.step ≡ steps.Start number call → ((other : ℕ) → ¬ IsTurnOf other e.step)
     → Runs first events number status → Runs first (events ++ e ∷ []) number (started (length events + 1) call status)
 runs_started number call sized first events e Free starts no_turn runs = tt
-runs_started number call sized first events e (Resting store ignoring) starts no_turn runs =
-    let whole : length (events ++ e ∷ []) ≡ length events + 1 = length-append events (e ∷ []) in (omega (arith, whole), begins first events e number store ignoring (MakeCall call) sized)
+runs_started number call sized first events e (Resting store modes) starts no_turn runs =
+    let whole : length (events ++ e ∷ []) ≡ length events + 1 = length_push events e in (omega (arith, whole), begins first events e number store modes (MakeCall call) sized)
 runs_started number call sized first events e (Working running) starts no_turn runs = runs-push first events e number (Working running) (no_turn number) runs
 
 pub begun : (old mid new : World) (number : ℕ) (call : Call) (handle : Handle) (work : Work) → HasSize call

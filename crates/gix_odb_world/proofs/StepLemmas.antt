@@ -33,8 +33,8 @@ use Rattle.gix_odb_world.proofs.WorldLemmas.{matches_set, throughout-push}
 phase_of-matched : (status : Status) (handle : Option Handle) → Matches status handle → phase_of status ≡ phase_of_handle handle
 phase_of-matched Free None match = refl
 phase_of-matched Free (Some handle) match = absurd match
-phase_of-matched (Resting store ignoring) None match = absurd match
-phase_of-matched (Resting store ignoring) (Some handle) match = ap phase_of_work (sym match.1)
+phase_of-matched (Resting store modes) None match = absurd match
+phase_of-matched (Resting store modes) (Some handle) match = ap phase_of_work (sym match.1)
 phase_of-matched (Working running) None match = absurd match
 phase_of-matched (Working running) (Some handle) match = ap phase_of_work (sym match.1)
 
@@ -74,7 +74,8 @@ goes_on first events old new e explains law outcomes records disk handles runnin
         running = λ handle. subst (λ (table : ℕ → Status). Runs first (events ++ e ∷ []) handle (table handle)) (sym (status_of-push events e)) (running handle);
         lawful = IsLawful-push first events e explains.lawful law;
         start = explains.start;
-        throughout = throughout-push first events e explains.throughout (λ handle. subst (λ (table : ℕ → Status). Runs first (events ++ e ∷ []) handle (table handle)) (sym (status_of-push events e)) (running handle));
+        throughout = throughout-push first events e explains.throughout
+            (λ handle. subst (λ (table : ℕ → Status). Runs first (events ++ e ∷ []) handle (table handle)) (sym (status_of-push events e)) (running handle));
       };
     }
 
@@ -119,7 +120,7 @@ runs_misused : (first : Volume) (events : List Event) (e : Event) (why : Why) (h
     → (IsTurnOf handle e.step → why_not_running (phase_of status) ≡ Some why) → Runs first events handle status
     → Runs first (events ++ e ∷ []) handle status
 runs_misused first events e why handle Free is reason runs = tt
-runs_misused first events e why handle (Resting store ignoring) is reason runs = tt
+runs_misused first events e why handle (Resting store modes) is reason runs = tt
 runs_misused first events e why handle (Working running) is reason runs = runs-push first events e handle (Working running) (λ turn. absurd (cc (reason turn))) runs
 
 pub misused : (old new : World) (step : Step) (why : Why) → why_not_now old step ≡ Some why → Notes old new (outcomes.Misuse why) Nothing None
@@ -150,7 +151,8 @@ pub applied : (old mid new : World) (step : Step) (number : ℕ) (handle : Optio
     → Suits step outcomes.Applied OfNothing → ChangesAs step outcomes.Applied None → ((other : ℕ) → ¬ IsTurnOf other step)
     → ((n : ℕ) (table : ℕ → Status) → status_after n step outcomes.Applied OfNothing table ≡ with_status table number (next n (table number)))
     → ((n : ℕ) (status : Status) → Matches status (handle_at old number) → Matches (next n status) handle)
-    → ((first : Volume) (events : List Event) (e : Event) (status : Status) → e.step ≡ step → ((other : ℕ) → ¬ IsTurnOf other e.step) → Runs first events number status → Runs first (events ++ e ∷ []) number (next (length events + 1) status))
+    → ((first : Volume) (events : List Event) (e : Event) (status : Status) → e.step ≡ step → ((other : ℕ) → ¬ IsTurnOf other e.step) → Runs first events number status
+    → Runs first (events ++ e ∷ []) number (next (length events + 1) status))
     → Continues old step new
 applied old mid new step number handle next reason sets notes suits made no_turn after matches runs first events explains =
     let e : Event = quiet step outcomes.Applied None mid.disk.calls.faults in
@@ -163,9 +165,11 @@ applied old mid new step number handle next reason sets notes suits made no_turn
           (notes.records ∙ ap (λ rs. rs ++ e.entry ∷ []) sets.records)
           (notes.disk ∙ sets.disk)
           (λ other. rw (after (length events + 1) table)
-          (matches_set old new table number (next (length events + 1) (table number)) handle explains.handles (table_noted old mid new number handle outcomes.Applied Nothing None sets notes) (matches (length events + 1) (table number) (explains.handles number)) other))
+          (matches_set old new table number (next (length events + 1) (table number)) handle explains.handles
+          (table_noted old mid new number handle outcomes.Applied Nothing None sets notes) (matches (length events + 1) (table number) (explains.handles number)) other))
           (λ other. rw (after (length events + 1) table)
-          (runs_set first events e table number (next (length events + 1) (table number)) explains.running (λ o apart. no_turn o) (runs first events e (table number) refl no_turn (explains.running number)) other)),
+          (runs_set first events e table number (next (length events + 1) (table number)) explains.running (λ o apart. no_turn o)
+          (runs first events e (table number) refl no_turn (explains.running number)) other)),
     )
 
 -- ---- a change
@@ -179,7 +183,8 @@ changed old new disk change made possible after made_is notes first events expla
     let e : Event = quiet step outcomes.Applied (Some made) disk.calls.faults in
     let valid : None ≡ why_not_now old step = rw possible refl in
     let same : None ≡ why_not_after first events step = valid ∙ sym (why_not-same first events old step explains) in
-    let now : disk ≡ after_outside_change (disk_after first events) made = after ∙ (ap (λ d. after_outside_change d change) explains.disk ∙ ap (λ c. after_outside_change (disk_after first events) c) (sym made_is)) in
+    let now : disk ≡ after_outside_change (disk_after first events) made = after ∙
+    (ap (λ d. after_outside_change d change) explains.disk ∙ ap (λ c. after_outside_change (disk_after first events) c) (sym made_is)) in
     let here : disk ≡ after_outside_change old.disk made = after ∙ ap (λ c. after_outside_change old.disk c) (sym made_is) in (
       outcomes.Applied,
       goes_on first events old new e explains

@@ -3,7 +3,7 @@ pub mod Asking
 pub mod Comes
 use Rattle.std.proofs.Common.{◌≡◌, ℕ, ◌+◌, ◌<◌, ◌≤◌, Bool, true, false, List, [], ◌∷◌, ◌++◌, length, Option, Some, None, Ok, Err, Result, refl, sym, ◌∙◌, ap, subst, arith}
 use Rattle.std.specs.Prelude.{if◌then◌else◌}
-use Rattle.std.proofs.lemmas.List.{length-append}
+use Rattle.std.proofs.lemmas.List.{length_push}
 use Rattle.odb_tree.specs.Tree.{IsTree, tree_of}
 use Rattle.odb_tree.specs.declared.change.Change.{Change}
 use Rattle.odb_disk.specs.MemDisk.{Volume}
@@ -112,10 +112,10 @@ module _ (first : Volume) (events : List Event) (old : World) (number : ℕ) (ru
         (end.0, ap (λ a. fed_in running.store running.work (answered a)) nothing ∙ end.1)
 
     promised : (result : Result Reply Work) → WorkNow result → (reply : Reply) → outcome_of result ≡ outcomes.Reply reply
-        → Promise first whole number running.store running.ignoring running.begun running.task reply
+        → Promise first whole number running.store running.modes running.begun running.task reply
     promised (Ok own) now reply is =
         let same : own ≡ reply = cc is in
-        subst (Promise first whole number running.store running.ignoring running.begun running.task) same now
+        subst (Promise first whole number running.store running.modes running.begun running.task) same now
     promised (Err left) now reply is = absurd (cc is)
 
     timed : (result : Result Reply Work) → WorkNow result → outcome_of result ≡ outcomes.Pending → (entries : ℕ)
@@ -164,8 +164,8 @@ module _ (first : Volume) (events : List Event) (old : World) (number : ℕ) (ru
           did = refl;
           worked = of_turn (λ h r. Works first events h r event) works;
           promise = λ handle other task reply turns_it began is.
-              of_turn (λ h r. (k : Task) → BegunAs events h r.begun r.store k → (o : Reply) → outcome_of after ≡ outcomes.Reply o → Promise first whole h r.store r.ignoring r.begun k o)
-              (λ k b o told. of_task (λ k. Promise first whole number running.store running.ignoring running.begun k o) (promised after come o told) k b) handle other turns_it task began reply is;
+              of_turn (λ h r. (k : Task) → BegunAs events h r.begun r.store k → (o : Reply) → outcome_of after ≡ outcomes.Reply o → Promise first whole h r.store r.modes r.begun k o)
+              (λ k b o told. of_task (λ k. Promise first whole number running.store running.modes running.begun k o) (promised after come o told) k b) handle other turns_it task began reply is;
           in_time = λ handle other task entries turns_it began is most.
               of_turn (λ h r. (k : Task) → BegunAs events h r.begun r.store k → outcome_of after ≡ outcomes.Pending → (n : ℕ) → r.turns + 1 < bound_of_task r.store k n)
               (λ k b told n. of_task (λ k. running.turns + 1 < bound_of_task running.store k n) (timed after come told n) k b) handle other turns_it task began is entries;
@@ -177,24 +177,24 @@ module _ (first : Volume) (events : List Event) (old : World) (number : ℕ) (ru
     status_next (Ok reply) = replied reply (Working running)
     status_next (Err left) = turned told (Working running)
 
-    matches_rest : (state : HandleState) → IsHandleOf running.store running.ignoring state → (frees : Bool)
-        → Matches (if frees then Free else Resting running.store running.ignoring) (if frees then None else Some (record { state = state; work = None }))
+    matches_rest : (state : HandleState) → IsHandleOf running.store running.modes state → (frees : Bool)
+        → Matches (if frees then Free else Resting running.store running.modes) (if frees then None else Some (record { state = state; work = None }))
     matches_rest state own true = tt
     matches_rest state own false = (own, refl)
 
-    pub matches_next : (state : HandleState) → IsHandleOf running.store running.ignoring state → (result : Result Reply Work) → after ≡ result
+    pub matches_next : (state : HandleState) → IsHandleOf running.store running.modes state → (result : Result Reply Work) → after ≡ result
         → Matches (status_next result) (after_turn state result)
     matches_next state own (Ok reply) is = matches_rest state own (refuses_opening reply)
     matches_next state own (Err left) is = subst (λ r. Matches (come_to running r) (Some (record { state = state; work = Some left }))) (sym is) (own, refl)
 
-    runs_rest : (frees : Bool) → Runs first whole number (if frees then Free else Resting running.store running.ignoring)
+    runs_rest : (frees : Bool) → Runs first whole number (if frees then Free else Resting running.store running.modes)
     runs_rest true = tt
     runs_rest false = tt
 
     pub runs_next : (result : Result Reply Work) → after ≡ result → WorkNow result → Runs first whole number (status_next result)
     runs_next (Ok reply) is now = runs_rest (refuses_opening reply)
     runs_next (Err left) is now =
-        let count : length whole ≡ length events + 1 = length-append events (event ∷ []) in
+        let count : length whole ≡ length events + 1 = length_push events event in
         let begun : running.begun ≤ length events = runs.0 in
         let later : running.begun ≤ length whole = omega (arith, count, begun) in
         subst (λ r. Runs first whole number (come_to running r)) (sym is) (later, now.0)

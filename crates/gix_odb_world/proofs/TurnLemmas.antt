@@ -52,7 +52,8 @@ set_twice true handle before = refl
 set_twice false handle before = refl
 
 -- what the code did in a turn of a handle
-record Took (old took mid new : World) (disk : Volume) (number : ℕ) (state : HandleState) (work after : Work) (did : Did) (change : Option Change) (outcome : Outcome) (handle : Option Handle) : Type 0 where
+record Took (old took mid new : World) (disk : Volume) (number : ℕ) (state : HandleState) (work after : Work) (did : Did) (change : Option Change) (outcome : Outcome)
+    (handle : Option Handle) : Type 0 where
   there : handle_at old number ≡ Some (record { state = state; work = Some work })
   takes : SetsHandle old took number None
   did_is : did ≡ did_now took.disk (ask_on state work)
@@ -68,7 +69,7 @@ record Took (old took mid new : World) (disk : Volume) (number : ℕ) (state : H
 module _ (old took mid new : World) (disk : Volume) (number : ℕ) (state : HandleState) (work left : Work) (did : Did) (change : Option Change) (outcome : Outcome) (handle : Option Handle)
     (took_it : Took old took mid new disk number state work left did change outcome handle) (first : Volume) (events : List Event) (explains : Explains first events old) where
   -- by the store of the handle, and the work that it is at
-  goes_at : (running : Running) → status_of events number ≡ Working running → running.work ≡ work → IsHandleOf running.store running.ignoring state
+  goes_at : (running : Running) → status_of events number ≡ Working running → running.work ≡ work → IsHandleOf running.store running.modes state
       → (o : Outcome) × GoesOn first events (steps.Turn number) o new
   goes_at running status at own =
       let store : Store = running.store in
@@ -77,7 +78,7 @@ module _ (old took mid new : World) (disk : Volume) (number : ℕ) (state : Hand
       let told : Asked = told_now old.disk ask in
       let made : Option Change = change_asked old.disk ask in
       let same_disk : took.disk ≡ old.disk = took_it.takes.disk in
-      let asks_it : to_disk code ≡ ask = code_asks store running.ignoring state own work ∙ ap (ask_in store) (sym at) in
+      let asks_it : to_disk code ≡ ask = code_asks store running.modes state own work ∙ ap (ask_in store) (sym at) in
       let still : (call : DiskAsk) → code ≡ Some call → is_of_streams call ≡ false = λ call is. ask_still store running.work call (sym asks_it ∙ ap to_disk is) in
       let did_is : did ≡ did_of_asked told =
       took_it.did_is ∙ (ap (λ d. did_now d code) same_disk ∙ (did_now-told old.disk code ∙ ap (λ a. did_of_asked (told_now old.disk a)) asks_it)) in
@@ -86,7 +87,7 @@ module _ (old took mid new : World) (disk : Volume) (number : ℕ) (state : Hand
       took_it.after_is ∙ (ap (λ d. work_now d state work code) same_disk ∙ work_now-fed old.disk state work code) in
       let given : from_disk (answer_on old.disk code) ≡ answered told = answer_on-told old.disk code ∙ ap (λ a. answered (told_now old.disk a)) asks_it in
       let result_is : result_in left ≡ result =
-      ap result_in left_is ∙ (code_feeds store running.ignoring state own work (answer_on old.disk code) ∙ (ap (fed_in store work) given ∙ ap (λ w. fed_in store w (answered told)) (sym at))) in
+      ap result_in left_is ∙ (code_feeds store running.modes state own work (answer_on old.disk code) ∙ (ap (fed_in store work) given ∙ ap (λ w. fed_in store w (answered told)) (sym at))) in
       let disk_is : disk ≡ disk_after_asked old.disk told made =
       took_it.disk_is ∙ (ap (λ d. disk_now d code) same_disk ∙ (disk_now-asked old.disk code ∙ ap (λ a. disk_after_asked old.disk (told_now old.disk a) (change_asked old.disk a)) asks_it)) in
       let change_is : change ≡ made =
@@ -121,13 +122,14 @@ module _ (old took mid new : World) (disk : Volume) (number : ℕ) (state : Hand
             ∙ ap (λ c. old.records ++ record { did = did_of_asked told; change = c; faults = mid.disk.calls.faults } ∷ []) change_is)))
             (took_it.notes.disk ∙ (took_it.sets.disk ∙ disk_is))
             (λ other. rw (status_after-turn (length events + 1) number told result table) (matches_set old new table number next handle explains.handles put here other))
-            (λ other. rw (status_after-turn (length events + 1) number told result table) (runs_set first events e table number next explains.running (λ o apart turns_it. apart (cc turns_it)) on other)),
+            (λ other. rw (status_after-turn (length events + 1) number told result table)
+            (runs_set first events e table number next explains.running (λ o apart turns_it. apart (cc turns_it)) on other)),
       )
 
   by_status : (status : Status) → status_of events number ≡ status → Matches status (Some (record { state = state; work = Some work }))
       → (o : Outcome) × GoesOn first events (steps.Turn number) o new
   by_status Free is match = absurd match
-  by_status (Resting store ignoring) is match = absurd (cc match.1)
+  by_status (Resting store modes) is match = absurd (cc match.1)
   by_status (Working running) is match = let both : Some work ≡ Some running.work = match.1 in goes_at running is (sym (cc both)) match.0
 
 -- each history goes on by the turn
@@ -139,5 +141,17 @@ pub turned_on : (old took mid new : World) (disk : Volume) (number : ℕ) (state
     → SetsHandle (record took { disk = disk }) mid number handle → Notes mid new outcome did change → Continues old (steps.Turn number) new
 turned_on old took mid new disk number state work left did change outcome handle there takes did_is change_is tree left_is disk_is outcome_is handle_is sets notes first events explains =
     by_status old took mid new disk number state work left did change outcome handle
-    (record { there = there; takes = takes; did_is = did_is; change_is = change_is; tree = tree; after_is = left_is; disk_is = disk_is; outcome_is = outcome_is; handle_is = handle_is; sets = sets; notes = notes })
+    (record {
+      there = there;
+      takes = takes;
+      did_is = did_is;
+      change_is = change_is;
+      tree = tree;
+      after_is = left_is;
+      disk_is = disk_is;
+      outcome_is = outcome_is;
+      handle_is = handle_is;
+      sets = sets;
+      notes = notes;
+    })
     first events explains (status_of events number) refl (subst (Matches (status_of events number)) there (explains.handles number))

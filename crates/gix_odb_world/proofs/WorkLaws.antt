@@ -1,5 +1,5 @@
 -- What holds of any work, since the machine that it is of keeps its laws.
-use Rattle.std.proofs.Common.{◌≡◌, ◌⊎◌, ℕ, Bool, false, List, Option, Some, None, Ok, Err, Result, refl, sym, ◌∙◌, ap}
+use Rattle.std.proofs.Common.{◌≡◌, ◌⊎◌, ℕ, false, List, Option, Some, None, Ok, Err, Result, refl, sym, ◌∙◌, ap}
 use Rattle.odb_disk.specs.MemDisk.{Volume}
 use Rattle.odb_disk.specs.StreamAsks.{is_of_streams}
 use Rattle.odb_disk.specs.declared.ask.DiskAsk.{DiskAsk}
@@ -17,7 +17,7 @@ use Rattle.gix_odb_world.specs.Machines.{at, ask_in, fed_in, write_in}
 use Rattle.gix_odb_world.specs.Run.{change_by, disk_after}
 use Rattle.gix_odb_world.specs.Running.{Knows}
 use Rattle.gix_odb_world.specs.Running.Write.{IsWriting, result_of_write}
-use Rattle.gix_odb_world.specs.Status.{Running, Store}
+use Rattle.gix_odb_world.specs.Status.{Running, Store, Modes}
 use Rattle.gix_odb_world.specs.WorkOrder.{ask_on, fed_after, result_in}
 use Rattle.gix_odb_world.proofs.MachineLaws.{HasNoFile}
 use Rattle.gix_odb_world.proofs.Machines.{laws_at}
@@ -25,19 +25,19 @@ use Rattle.gix_odb_world.proofs.Machines.{laws_at}
 -- ---- its code
 
 -- the code of a handle asks what the work names
-pub code_asks : (store : Store) (ignoring : Bool) (code : HandleState) → IsHandleOf store ignoring code → (work : Work)
+pub code_asks : (store : Store) (modes : Modes) (code : HandleState) → IsHandleOf store modes code → (work : Work)
     → to_disk (ask_on code work) ≡ ask_in store work
-code_asks store ignoring code own work = ap (λ w. to_disk (ask_on code w)) (sym (at work).is) ∙ (laws_at work).asks store ignoring code own (at work).state
+code_asks store modes code own work = ap (λ w. to_disk (ask_on code w)) (sym (at work).is) ∙ (laws_at work).asks store modes code own (at work).state
 
 -- and goes on as the work does
-pub code_feeds : (store : Store) (ignoring : Bool) (code : HandleState) → IsHandleOf store ignoring code → (work : Work) (answer : Option DiskAnswer)
+pub code_feeds : (store : Store) (modes : Modes) (code : HandleState) → IsHandleOf store modes code → (work : Work) (answer : Option DiskAnswer)
     → result_in (fed_after code work answer) ≡ fed_in store work (from_disk answer)
-code_feeds store ignoring code own work answer =
-    ap (λ w. result_in (fed_after code w answer)) (sym (at work).is) ∙ (laws_at work).feeds store ignoring code own (at work).state answer
+code_feeds store modes code own work answer =
+    ap (λ w. result_in (fed_after code w answer)) (sym (at work).is) ∙ (laws_at work).feeds store modes code own (at work).state answer
 
 -- no work names a call of streams
 pub ask_still : (store : Store) (work : Work) (ask : DiskAsk) → ask_in store work ≡ Some (ToDisk ask) → is_of_streams ask ≡ false
-ask_still store work ask is = (laws_at work).still store (at work).state ask is
+ask_still store work ask is = (laws_at work).turns.still store (at work).state ask is
 
 -- ---- its writes
 
@@ -48,17 +48,17 @@ module _ (first : Volume) (events : List Event) (handle : ℕ) (running : Runnin
   quiet_unless_writing ask none is = (laws_at work).writes.quiet first events handle running (at work).state ask knows none is
 
   -- work that writes knows what its write does
-  pub knows_write : (folder : LooseCall) → write_in work ≡ Some folder → IsWriting first events handle running folder
-  knows_write folder is = (laws_at work).writes.known first events handle running (at work).state folder knows is
+  pub knows_write : (call : LooseCall) → write_in work ≡ Some call → IsWriting first events handle running call
+  knows_write call is = (laws_at work).writes.known first events handle running (at work).state call knows is
 
 -- it asks what its write asks
-pub asks_as_write : (store : Store) (work : Work) (folder : LooseCall) → write_in work ≡ Some folder → ask_in store work ≡ to_disk (disk_ask_of folder)
-asks_as_write store work folder is = (laws_at work).writes.asks store (at work).state folder is
+pub asks_as_write : (store : Store) (work : Work) (call : LooseCall) → write_in work ≡ Some call → ask_in store work ≡ to_disk (disk_ask_of call)
+asks_as_write store work call is = (laws_at work).writes.asks store (at work).state call is
 
 -- it ends where its write ends
-pub ends_as_write : (store : Store) (work : Work) (folder : LooseCall) (answer : DiskAnswer) (reply : Reply) → write_in work ≡ Some folder
-    → result_of_write (loose_order.fed folder answer) ≡ Ok reply → fed_in store work (Some (FromDisk answer)) ≡ Ok reply
-ends_as_write store work folder answer reply is done = ap (placed (at work).machine) ((laws_at work).writes.ends store (at work).state folder answer reply is done)
+pub ends_as_write : (store : Store) (work : Work) (call : LooseCall) (answer : DiskAnswer) (reply : Reply) → write_in work ≡ Some call
+    → result_of_write (loose_order.fed call answer) ≡ Ok reply → fed_in store work (Some (FromDisk answer)) ≡ Ok reply
+ends_as_write store work call answer reply is done = ap (placed (at work).machine) ((laws_at work).writes.ends store (at work).state call answer reply is done)
 
 -- what is left of work is that of its machine at another state
 left_at : (m : Machine) (result : Result Reply m.State) (left : Work) → placed m result ≡ Err left
@@ -67,11 +67,11 @@ left_at m (Ok reply) left is = absurd (cc is)
 left_at m (Err next) left is = (next, refl, cc is)
 
 -- work that is left and writes is left of work that wrote, unless its write has made no file yet
-pub wrote_before : (store : Store) (work left : Work) (answer : Option Answer) (folder : LooseCall) → fed_in store work answer ≡ Err left
-    → write_in left ≡ Some folder
-    → ((own : LooseCall) × (write_in work ≡ Some own)) ⊎ HasNoFile folder
-wrote_before store work left answer folder is writes =
+pub wrote_before : (store : Store) (work left : Work) (answer : Option Answer) (call : LooseCall) → fed_in store work answer ≡ Err left
+    → write_in left ≡ Some call
+    → ((own : LooseCall) × (write_in work ≡ Some own)) ⊎ HasNoFile call
+wrote_before store work left answer call is writes =
     let next = left_at (at work).machine ((at work).machine.feed store (at work).state answer) left is in
     let home_is = (laws_at work).at_home next.0 in
-    (laws_at work).writes.before store (at work).state next.0 answer folder next.1
+    (laws_at work).writes.before store (at work).state next.0 answer call next.1
     (sym (ap (λ (a : At ((at work).machine.work next.0)). a.machine.writes a.state) home_is) ∙ (ap write_in next.2 ∙ writes))

@@ -2,7 +2,7 @@
 use Rattle.std.proofs.Common.{◌≡◌, ℕ, zero, suc, ◌+◌, Bool, true, false, List, [], ◌∷◌, ◌++◌, length, take, Option, refl, sym, ap, ◌∙◌, subst, arith, inl, inr}
 use Rattle.std.specs.Prelude.{if◌then◌else◌, ◌==◌}
 use Rattle.std.proofs.lemmas.Bool.{cases_lt}
-use Rattle.std.proofs.lemmas.List.{length-append, take-append-le}
+use Rattle.std.proofs.lemmas.List.{take-append-le, length_push}
 use Rattle.odb_disk.specs.MemDisk.{Volume}
 use Rattle.odb_tree.specs.Tree.{IsTree, tree_of}
 use Rattle.gix_odb_world.specs.declared.handle.Handle.{Handle}
@@ -51,7 +51,7 @@ pub throughout-push : (first : Volume) (events : List Event) (e : Event) → Run
     → ((handle : ℕ) → Runs first (events ++ e ∷ []) handle (status_of (events ++ e ∷ []) handle)) → RunsThroughout first (events ++ e ∷ [])
 throughout-push first events e before here now handle within = elim (cases_lt (length events) now) [
   | inl late ↦
-      let long = length-append events (e ∷ []) in
+      let long = length_push events e in
       let last : length events + 1 ≡ now = omega (arith, late, within, long) in
       subst (λ es. Runs first es handle (status_of es handle)) (sym (ap (λ n. take n (events ++ e ∷ [])) (sym last) ∙ take-push events e)) (here handle)
   | inr soon ↦ subst (λ es. Runs first es handle (status_of es handle)) (sym (take-append-le now events (e ∷ []) soon)) (before now handle soon)

@@ -19,7 +19,6 @@ use Rattle.gix_odb_loose.specs.WriteDone.{data_at}
 use Rattle.gix_odb_loose.specs.WriteJobs.{piece_of}
 use Rattle.gix_odb_loose.specs.WriteOrder.{number_in, number_made, prefix_path, temp_names, temp_path}
 use Rattle.gix_odb_loose.specs.WritePieces.{piece_size, room_behind}
-use Rattle.gix_odb_loose.specs.WriteStreams.{OtherLength}
 use Rattle.gix_odb_loose.specs.declared.call.LooseCall.{LooseCall}
 use Rattle.gix_odb_loose.specs.declared.write_order.WriteStage.{WriteStage}
 use Rattle.gix_odb_loose.specs.declared.write_order.WriteStage.TheVariants as stages
@@ -30,7 +29,7 @@ use Rattle.gix_odb_world.specs.Status.{MakeCall, Running}
 use Rattle.gix_odb_world.specs.Changes.{ChangesInTask, ChangesInWrite, IsOneOfFive}
 use Rattle.gix_odb_world.specs.Run.{change_by, disk_after}
 use Rattle.gix_odb_world.specs.Running.Write.{IsWriting, StandsAt}
-use Rattle.gix_odb_world.specs.Writing.{DoneSince, ToWrite, call_to_write, head_to_write, name_to_write, to_write}
+use Rattle.gix_odb_world.specs.Writing.{DoneSince, GetsName, HasOther, ToWrite, call_to_write, head_to_write, name_to_write, to_write}
 use Rattle.gix_odb_world.proofs.WriteAsk.{change_by-all, told_append, told_make_dir, told_new_file, told_remove, told_rename}
 use Rattle.gix_odb_world.proofs.WriteTurn.{ask_at_stage, done_at}
 
@@ -91,9 +90,11 @@ module _ (first : Volume) (events : List Event) (handle begun turns : ℕ) (disk
       let small = room_few w.size written in
       five_appended disk w.objects number (name_to_write w) (piece_of w.size w.bytes (Some written)) (omega (arith, few, small))
   five_at w (stages.Foldering number id) fits s =
-      subst (λ (own : ObjectId). Five disk w.objects number own (change_by disk (asks.MakeDir (prefix_path w.objects id)))) (done_at first events handle begun turns w (stages.Foldering number id) s).history.1 (five_foldered disk w.objects number id)
+      subst (λ (own : ObjectId). Five disk w.objects number own (change_by disk (asks.MakeDir (prefix_path w.objects id))))
+      (done_at first events handle begun turns w (stages.Foldering number id) s).history.1 (five_foldered disk w.objects number id)
   five_at w (stages.Moving number id) fits s =
-      subst (λ (own : ObjectId). Five disk w.objects number own (change_by disk (asks.Rename (temp_path w.objects number) (loose_path w.objects id)))) (done_at first events handle begun turns w (stages.Moving number id) s).history.1 (five_moved disk w.objects number id)
+      subst (λ (own : ObjectId). Five disk w.objects number own (change_by disk (asks.Rename (temp_path w.objects number) (loose_path w.objects id))))
+      (done_at first events handle begun turns w (stages.Moving number id) s).history.1 (five_moved disk w.objects number id)
   five_at w (stages.Removing number refusal) fits s = five_removed disk w.objects number (name_to_write w)
 
 -- the file whose number a stage has is the one that it asks to make, or was made before
@@ -102,11 +103,13 @@ module _ (first : Volume) (events : List Event) (handle begun turns : ℕ) (w : 
   IsOwn stage = (ask_at_stage w stage ≡ asks.NewFile (temp_path w.objects (number_in stage))) ⊎ DoneSince first events handle begun (asks.NewFile (temp_path w.objects (number_in stage)))
 
   pub below : (stage : WriteStage) → StandsAt first events handle begun turns w stage → number_in stage < temp_names
-  below stage s = history_below (head_to_write w) (λ id. id ≡ name_to_write w) ⊥ (OtherLength (Some w.bytes) w.size) stage (data_at w.bytes stage) s.past (done_at first events handle begun turns w stage s).history
+  below stage s = history_below (head_to_write w) (GetsName w) ⊥ (HasOther w) stage (data_at w.bytes stage) s.past (done_at first events handle begun turns w stage s).history
 
-  pub made_before : (stage : WriteStage) (number : ℕ) → number_made stage ≡ Some number → StandsAt first events handle begun turns w stage → DoneSince first events handle begun (asks.NewFile (temp_path w.objects number))
+  pub made_before : (stage : WriteStage) (number : ℕ) → number_made stage ≡ Some number → StandsAt first events handle begun turns w stage
+      → DoneSince first events handle begun (asks.NewFile (temp_path w.objects number))
   made_before stage number made s =
-      s.asked (exchanged (asks.NewFile (temp_path w.objects number)) answers.Done) (history_makes (head_to_write w) (λ id. id ≡ name_to_write w) number ⊥ (OtherLength (Some w.bytes) w.size) stage (data_at w.bytes stage) s.past made (done_at first events handle begun turns w stage s).history)
+      s.asked (exchanged (asks.NewFile (temp_path w.objects number)) answers.Done)
+      (history_makes (head_to_write w) (GetsName w) number ⊥ (HasOther w) stage (data_at w.bytes stage) s.past made (done_at first events handle begun turns w stage s).history)
 
   is_own : (stage : WriteStage) → StandsAt first events handle begun turns w stage → IsOwn stage
   is_own (stages.Making number) s = inl refl
@@ -116,7 +119,7 @@ module _ (first : Volume) (events : List Event) (handle begun turns : ℕ) (w : 
   is_own (stages.Moving number id) s = inr (made_before (stages.Moving number id) number refl s)
   is_own (stages.Removing number refusal) s = inr (made_before (stages.Removing number refusal) number refl s)
 
-module _ (first : Volume) (events : List Event) (handle : ℕ) (running : Running) (folder : LooseCall) (writes : IsWriting first events handle running folder) where
+module _ (first : Volume) (events : List Event) (handle : ℕ) (running : Running) (call : LooseCall) (writes : IsWriting first events handle running call) where
   abbrev w : ToWrite
   w = writes.write
 
@@ -126,7 +129,8 @@ module _ (first : Volume) (events : List Event) (handle : ℕ) (running : Runnin
   abbrev now : Volume
   now = disk_after first events
 
-  by_change : (change : Option Change) → FiveAt first events handle running.begun writes.own now w stage change → ChangesInTask first events handle running.store running.begun (MakeCall (call_to_write w)) (ask_at_stage w stage) change
+  by_change : (change : Option Change) → FiveAt first events handle running.begun writes.own now w stage change
+      → ChangesInTask first events handle running.store running.begun (MakeCall (call_to_write w)) (ask_at_stage w stage) change
   by_change None five = tt
   by_change (Some change) five =
       subst (λ objects. ChangesInWrite first events handle running.begun (to_write objects w.kind w.size w.bytes w.known) (ask_at_stage w stage) change) writes.into

@@ -4,18 +4,20 @@ use Rattle.odb_disk.specs.Ask.{answer_now}
 use Rattle.odb_disk.specs.MemDisk.{Volume}
 use Rattle.odb_disk.specs.declared.ask.DiskAnswer.{DiskAnswer}
 use Rattle.gix_odb_loose.specs.LooseOrder as loose_order
-use Rattle.gix_odb_loose.specs.LooseOrder.{disk_ask_of, written_to}
-use Rattle.gix_odb_loose.specs.WriteJobs.{advance_to, next_in, pieces_of}
+use Rattle.gix_odb_loose.specs.LooseOrder.{written_to}
+use Rattle.gix_odb_loose.specs.WriteJobs.{advance_to, next_in, pieces_of, writes_left}
 use Rattle.gix_odb_loose.specs.declared.call.LooseCall.{LooseCall}
 use Rattle.gix_odb_loose.specs.declared.write_at_hand.Onward.{Onward}
 use Rattle.gix_odb_loose.specs.declared.write_at_hand.Onward.TheVariants.{Stage, End}
 use Rattle.gix_odb_loose.specs.declared.write_at_hand.WriteJob.{WriteJob}
+use Rattle.gix_odb_loose.specs.declared.write_order.WriteAsk.TheVariants as wants
 use Rattle.gix_odb_loose.specs.declared.write_order.WriteStage.{WriteStage}
+use Rattle.gix_odb_loose.specs.declared.write_order.WriteStage.TheVariants.{Making}
 use Rattle.gix_odb_loose.proofs.WriteDoneLaws.{IsAlong-left}
 use Rattle.gix_odb.specs.declared.call.Reply.{Reply}
 use Rattle.gix_odb.specs.declared.call_state.CallState.TheVariants.{Writing}
 use Rattle.gix_odb_world.specs.declared.work.Work.TheVariants.{Calling}
-use Rattle.gix_odb_world.specs.Bound.{bound_of_task}
+use Rattle.gix_odb_world.specs.Bound.{bound_of_task, default_changes, laps_without_change, turns_beside_pieces, turns_of_lap}
 use Rattle.gix_odb.specs.CallOrder.{hash_to_write}
 use Rattle.gix_odb.specs.Contents.{folder_list}
 use Rattle.gix_odb_world.specs.AtWork.{nothing_in_front}
@@ -28,14 +30,20 @@ use Rattle.gix_odb_world.specs.Writing.{ToWrite, call_to_write, head_to_write, t
 use Rattle.gix_odb_world.specs.Written.{PromiseOfWrite}
 use Rattle.gix_odb_world.proofs.MachineLaws as laws
 use Rattle.gix_odb_world.proofs.WriteTurn.{ask_at_stage, stage_goes}
-use Rattle.gix_odb_world.proofs.WriteTurn.Common.{IsTurnWith}
+use Rattle.gix_odb_world.proofs.WriteTurn.Common.{IsTurnWith, TurnOfWrite}
 use Rattle.gix_odb_world.proofs.WriteTurn.Comes.{Goes}
 
 abbrev job_at : ToWrite → WriteStage → WriteJob
 job_at w stage = record { head = head_to_write w; stage = stage; bytes = w.bytes; hash = hash_to_write w.known; known = w.known }
 
-few_writes : (turns p slots listed : ℕ) → turns + 1 ≤ 22 + p → turns + 1 < (16 + 2) * (8 + 8 * slots + listed) + (40 + p)
-few_writes turns p slots listed few = omega arith
+-- The most calls of the disk of a write beside those of its pieces: one for each temporary name, and some more. It is the measure of
+-- the calls that are left to a write of no bytes at its beginning.
+abbrev calls_beside_pieces : ℕ
+calls_beside_pieces = writes_left 0 (wants.Disk (Making 0))
+
+-- they are fewer than the bound has for them, and it has one turn for each piece too
+few_writes : (turns pieces laps : ℕ) → turns + 1 ≤ calls_beside_pieces + pieces → turns + 1 < laps + (turns_beside_pieces + pieces)
+few_writes turns pieces laps few = omega arith
 
 -- ---- the whole turn, whatever comes in front of the write
 
@@ -43,7 +51,7 @@ module _ (first : Volume) (events : List Event) (e : Event) (handle : ℕ) (runn
   abbrev whole : List Event
   whole = events ++ e ∷ []
 
-  module _ (folder : LooseCall) (writes : IsWriting first events handle running folder) where
+  module _ (call : LooseCall) (writes : IsWriting first events handle running call) where
     abbrev w : ToWrite
     w = writes.write
 
@@ -52,7 +60,7 @@ module _ (first : Volume) (events : List Event) (e : Event) (handle : ℕ) (runn
       pub now : IsWriting first whole handle (gone_on running (Calling (Writing next))) next
       pub same : now.write ≡ w
       pub had : now.own ≡ writes.own + 1
-      pub few : writes.own + 1 ≤ 22 + pieces_of (length w.bytes)
+      pub few : writes.own + 1 ≤ calls_beside_pieces + pieces_of (length w.bytes)
 
     -- it keeps its promise, or goes on
     abbrev pub WriteComes : Result Reply LooseCall → Type 0
@@ -63,8 +71,11 @@ module _ (first : Volume) (events : List Event) (e : Event) (handle : ℕ) (runn
       abbrev given : DiskAnswer
       given = answer_now (disk_after first events) (ask_at_stage w writes.stage)
 
+      abbrev turn : TurnOfWrite
+      turn = record { first = first; events = events; e = e; handle = handle; begun = running.begun; turns = writes.own; w = w; since = since }
+
       abbrev WriteGoes : Onward → Type 0
-      WriteGoes onward = Goes first events e handle running.begun writes.own w since (ask_at_stage w writes.stage) is given refl writes.stands.past writes.stands.asked onward
+      WriteGoes onward = Goes turn (ask_at_stage w writes.stage) is given refl writes.stands.past writes.stands.asked onward
 
       onward_comes : (onward : Onward) → WriteGoes onward → WriteComes (result_of_write (record { stage = written_to (job_at w writes.stage) (advance_to (job_at w writes.stage) onward) }))
       onward_comes (Stage stage) goes =
@@ -78,30 +89,32 @@ module _ (first : Volume) (events : List Event) (e : Event) (handle : ℕ) (runn
       onward_comes (End (Ok id)) goes = goes
       onward_comes (End (Err refusal)) goes = goes
 
-      pub write_goes : WriteComes (result_of_write (loose_order.fed folder given))
+      pub write_goes : WriteComes (result_of_write (loose_order.fed call given))
       write_goes =
           subst (λ (f : LooseCall). WriteComes (result_of_write (loose_order.fed f given))) (sym writes.is)
-          (onward_comes (next_in (job_at w writes.stage) given) (stage_goes first events e handle running.begun writes.own w since writes.stage writes.stands is given refl))
+          (onward_comes (next_in (job_at w writes.stage) given) (stage_goes turn writes.stage writes.stands is given refl))
 
   -- ---- with nothing in front of it
 
-  module _ (folder : LooseCall) (at : IsAtOwnWrite first events handle running nothing_in_front folder) where
-    abbrev own : IsWriting first events handle running folder
+  module _ (call : LooseCall) (at : IsAtOwnWrite first events handle running nothing_in_front call) where
+    abbrev own : IsWriting first events handle running call
     own = at.writing
 
-    in_time : own.own + 1 ≤ 22 + pieces_of (length own.write.bytes) → laws.InTime first events e handle running bound_of_task
+    in_time : own.own + 1 ≤ calls_beside_pieces + pieces_of (length own.write.bytes) → laws.InTime first events e handle running bound_of_task
     in_time few entries =
         let had = at.turns in
         subst (λ task. running.turns + 1 < bound_of_task running.store task entries) (sym at.task)
-        (few_writes running.turns (pieces_of (length own.write.bytes)) running.store.slots (length (folder_list running.store.parts) * (8 * entries + 16)) (omega (arith, few, had)))
+        (few_writes running.turns (pieces_of (length own.write.bytes))
+        ((default_changes + laps_without_change) * turns_of_lap running.store.slots (length (folder_list running.store.parts)) entries)
+        (omega (arith, few, had)))
 
     -- what the write promises, into the objects directory of its store
     keeps : (reply : Reply) → PromiseOfWrite first whole handle running.begun own.write reply → laws.Keeps first events e handle running reply
     keeps reply p =
-        subst (λ task. Promise first whole handle running.store running.ignoring running.begun task reply) (sym at.task)
+        subst (λ task. Promise first whole handle running.store running.modes running.begun task reply) (sym at.task)
         (subst (λ objects. PromiseOfWrite first whole handle running.begun (to_write objects own.write.kind own.write.size own.write.bytes own.write.known) reply) own.into p)
 
-    comes_to : (result : Result Reply LooseCall) → WriteComes folder own result → laws.MachineComes first events e handle running writing result
+    comes_to : (result : Result Reply LooseCall) → WriteComes call own result → laws.MachineComes first events e handle running writing result
     comes_to (Ok reply) p = keeps reply p
     comes_to (Err next) on =
         let had = at.turns in
@@ -111,5 +124,5 @@ module _ (first : Volume) (events : List Event) (e : Event) (handle : ℕ) (runn
         )
 
     pub write_comes : IsTurnWith first events e handle (ask_at_stage own.write own.stage)
-        → laws.MachineComes first events e handle running writing (result_of_write (loose_order.fed folder (answer_now (disk_after first events) (ask_at_stage own.write own.stage))))
-    write_comes is = comes_to (result_of_write (loose_order.fed folder (answer_now (disk_after first events) (ask_at_stage own.write own.stage)))) (write_goes folder own is)
+        → laws.MachineComes first events e handle running writing (result_of_write (loose_order.fed call (answer_now (disk_after first events) (ask_at_stage own.write own.stage))))
+    write_comes is = comes_to (result_of_write (loose_order.fed call (answer_now (disk_after first events) (ask_at_stage own.write own.stage)))) (write_goes call own is)

@@ -1,7 +1,7 @@
 -- What a write has done stays done over the steps of others.
-use Rattle.std.proofs.Common.{◌≡◌, ℕ, ◌+◌, ◌<◌, ◌≤◌, ◌^◌, Bool, List, [], ◌∷◌, ◌++◌, length, take, Contains, Some, None, Option, refl, sym, ap, ◌∙◌, subst, arith, inl, inr}
+use Rattle.std.proofs.Common.{◌≡◌, ℕ, ◌+◌, ◌<◌, ◌≤◌, ◌^◌, List, [], ◌∷◌, ◌++◌, length, take, Contains, Some, None, Option, refl, sym, ap, ◌∙◌, subst, arith, inl, inr}
 use Rattle.std.specs.Prelude.{true}
-use Rattle.std.proofs.lemmas.List.{length-append, take-append-le}
+use Rattle.std.proofs.lemmas.List.{take-append-le, length_push}
 use Rattle.std.proofs.lemmas.Option.{slice_get_within}
 use Rattle.std.proofs.Math.Seq.{take-append_seam}
 use Rattle.odb_base.specs.Path.{Path}
@@ -26,7 +26,7 @@ use Rattle.gix_odb_world.specs.Recorded.{path_recorded}
 use Rattle.gix_odb.specs.CallOrder.{hash_to_write, writing}
 use Rattle.gix_odb.specs.declared.call.Call.TheVariants.{Write}
 use Rattle.gix_odb_world.specs.declared.record.Did.TheVariants.{Disk}
-use Rattle.gix_odb_world.specs.AtWork.{nothing_in_front}
+use Rattle.gix_odb_world.specs.AtWork.{nothing_in_front, Modes}
 use Rattle.gix_odb_world.specs.Event.{OfDisk, Event}
 use Rattle.gix_odb_world.specs.Status.{MakeCall, Running, Store, running_from}
 use Rattle.gix_odb_world.specs.Run.{IsTurnOf, disk_after, tree_at}
@@ -39,9 +39,6 @@ use Rattle.gix_odb_world.proofs.RunLemmas.{slice_get-push, slice_get-last, slice
 module _ (first : Volume) (events : List Event) (e : Event) where
   abbrev whole : List Event
   whole = events ++ e ∷ []
-
-  pub whole_length : length whole ≡ length events + 1
-  whole_length = length-append events (e ∷ [])
 
   pub asked_at_kept : (handle place : ℕ) (ask : DiskAsk) (answer : DiskAnswer) → AskedAt first events handle place ask answer
       → AskedAt first whole handle place ask answer
@@ -92,7 +89,7 @@ module _ (first : Volume) (events : List Event) (e : Event) where
       → SameOnWay (tree_at first events (length events)) (tree_at first whole (length events + 1)) true path
   alone_now handle path from soon other alone =
       subst (λ (t : Tree). SameOnWay t (tree_at first whole (length events + 1)) true path) (tree_at-before first events e (length events) (omega arith))
-      (alone (length events) e soon (omega (arith, whole_length)) (slice_get-last events e) other)
+      (alone (length events) e soon (omega (arith, length_push events e)) (slice_get-last events e) other)
 
   -- a file that nobody touched is there still
   holds_kept : (handle begun : ℕ) (path : Path) (bytes : List ℕ) → ¬ (IsTurnOf handle e.step) → HoldsFile first events handle begun path bytes
@@ -104,10 +101,11 @@ module _ (first : Volume) (events : List Event) (e : Event) where
         later = h.later;
         makes = asked_at_kept handle h.made _ _ h.makes;
         holds = λ alone.
-            let before = h.holds (alone_before handle path (h.made + 1) (length whole) (omega (arith, whole_length)) alone) in
+            let before = h.holds (alone_before handle path (h.made + 1) (length whole) (omega (arith, length_push events e)) alone) in
             let after : HasFile (tree_at first whole (length events + 1)) path before.0 bytes 0 =
-            has_file_kept (tree_at first events (length events)) (tree_at first whole (length events + 1)) path before.0 bytes 0 (alone_now handle path (h.made + 1) (omega (arith, within)) other alone) before.1 in
-            (before.0, subst (λ n. HasFile (tree_at first whole n) path before.0 bytes 0) (sym whole_length) after);
+            has_file_kept (tree_at first events (length events)) (tree_at first whole (length events + 1)) path before.0 bytes 0
+            (alone_now handle path (h.made + 1) (omega (arith, within)) other alone) before.1 in
+            (before.0, subst (λ n. HasFile (tree_at first whole n) path before.0 bytes 0) (sym (length_push events e)) after);
       }
 
   holds_push : (handle begun : ℕ) (objects : Path) (number : Option ℕ) (bytes : Option (List ℕ)) → ¬ (IsTurnOf handle e.step)
@@ -140,11 +138,12 @@ nothing_among : (x : Exchange) → ¬ (Contains [] x)
 nothing_among x (k, within, is) = omega (arith, within)
 
 -- a write that the event begins has done nothing
-pub writing_begun : (first : Volume) (events : List Event) (e : Event) (handle : ℕ) (store : Store) (ignoring : Bool) (kind : Kind) (size : ℕ) (bytes : List ℕ) (known : Option ObjectId) → size < 2 ^ 64
-    → IsAtOwnWrite first (events ++ e ∷ []) handle (running_from (length events + 1) (MakeCall (Write kind size bytes known)) store ignoring) nothing_in_front
+pub writing_begun : (first : Volume) (events : List Event) (e : Event) (handle : ℕ) (store : Store) (modes : Modes) (kind : Kind) (size : ℕ) (bytes : List ℕ)
+    (known : Option ObjectId) → size < 2 ^ 64
+    → IsAtOwnWrite first (events ++ e ∷ []) handle (running_from (length events + 1) (MakeCall (Write kind size bytes known)) store modes) nothing_in_front
     (writing store.parts.objects kind size bytes known)
-writing_begun first events e handle store ignoring kind size bytes known fits =
-    let short : length (events ++ e ∷ []) ≤ length events + 1 = omega (arith, length-append events (e ∷ [])) in
+writing_begun first events e handle store modes kind size bytes known fits =
+    let short : length (events ++ e ∷ []) ≤ length events + 1 = omega (arith, length_push events e) in
     record {
       writing = record {
         write = record { objects = store.parts.objects; kind = kind; size = size; bytes = bytes; known = known };
@@ -185,11 +184,11 @@ stands_push first events e handle begun own w stage other stands =
     }
 
 -- a running write goes on as it is, whatever comes in front of it
-pub writing_push : (first : Volume) (events : List Event) (e : Event) (handle : ℕ) (running : Running) (folder : LooseCall)
+pub writing_push : (first : Volume) (events : List Event) (e : Event) (handle : ℕ) (running : Running) (call : LooseCall)
     → ¬ (IsTurnOf handle e.step)
-    → (front : ℕ) → IsAtOwnWrite first events handle running front folder → IsAtOwnWrite first (events ++ e ∷ []) handle running front folder
-writing_push first events e handle running folder other front at =
-    let writes : IsWriting first events handle running folder = at.writing in
+    → (front : ℕ) → IsAtOwnWrite first events handle running front call → IsAtOwnWrite first (events ++ e ∷ []) handle running front call
+writing_push first events e handle running call other front at =
+    let writes : IsWriting first events handle running call = at.writing in
     record {
       writing = record {
         write = writes.write;

@@ -1,5 +1,6 @@
 -- A write keeps the laws of a machine.
-use Rattle.std.proofs.Common.{◌≡◌, inl, ℕ, ◌+◌, ◌≤◌, Bool, List, [], ◌∷◌, ◌++◌, length, Ok, Option, Some, None, refl, sym, ◌∙◌, ap, subst}
+pub mod Asks
+use Rattle.std.proofs.Common.{◌≡◌, inl, ℕ, ◌+◌, ◌≤◌, List, [], ◌∷◌, ◌++◌, length, Ok, Option, Some, None, refl, sym, ◌∙◌, ap, subst}
 use Rattle.odb_disk.specs.MemDisk.{Volume}
 use Rattle.odb_disk.specs.Ask.{answer_now}
 use Rattle.odb_disk.specs.declared.ask.DiskAnswer.{DiskAnswer}
@@ -16,46 +17,46 @@ use Rattle.gix_odb.specs.declared.call.Reply.{Reply}
 use Rattle.gix_odb.specs.declared.call_state.CallState.TheVariants.{Writing}
 use Rattle.gix_odb.specs.declared.handle_state.HandleState.{HandleState}
 use Rattle.gix_odb_world.specs.declared.work.Work.TheVariants.{Calling}
-use Rattle.gix_odb_world.specs.AtWork.{nothing_in_front}
+use Rattle.gix_odb_world.specs.AtWork.{nothing_in_front, Modes}
 use Rattle.gix_odb_world.specs.Event.{Event, from_disk, to_disk}
 use Rattle.gix_odb_world.specs.Machine.{placed}
 use Rattle.gix_odb_world.specs.Run.{disk_after}
 use Rattle.gix_odb_world.specs.Running.Write.{IsAtOwnWrite, IsWriting, replied_by, result_of_write, writing}
 use Rattle.gix_odb_world.specs.Status.{MakeCall, OpenStore, Running, Store, Task, begun_with, running_from}
 use Rattle.gix_odb_world.specs.WorkOrder.{calling_result, fed_after, result_in}
-use Rattle.gix_odb_world.proofs.AskLemmas.{in_order_write}
-use Rattle.gix_odb_world.proofs.MachineLaws.{HasTurn, IsSized, KeepsLaws, KeepsWriteLaws, MachineComes, comes_disk, never_ends, same_ask as own_ask, takes_disk}
+use Rattle.gix_odb_world.proofs.WriteMachine.Asks.{in_order_write}
+use Rattle.gix_odb_world.proofs.MachineLaws.{AsksDisk, HasTurn, IsSized, KeepsLaws, KeepsWriteLaws, MachineComes, turns_by_disk}
 use Rattle.gix_odb_world.proofs.WriteFive.{five_written}
 use Rattle.gix_odb_world.proofs.WriteGoes.{write_comes}
 use Rattle.gix_odb_world.proofs.WriteKept.{writing_begun, writing_push}
 use Rattle.gix_odb_world.proofs.WriteTurn.{ask_at_stage}
 use Rattle.gix_odb_world.proofs.WriteTurn.Common.{IsTurnWith}
 
-write_placed : (folder : LooseCall) (reply : Option LooseReply)
-    → calling_result (result_of (written_by folder reply)) ≡ placed writing (replied_by folder reply)
-write_placed folder None = refl
-write_placed folder (Some reply) = refl
+write_placed : (call : LooseCall) (reply : Option LooseReply)
+    → calling_result (result_of (written_by call reply)) ≡ placed writing (replied_by call reply)
+write_placed call None = refl
+write_placed call (Some reply) = refl
 
-write_feeds : (store : Store) (code : HandleState) (folder : LooseCall) (answer : Option DiskAnswer)
-    → result_in (fed_after code (Calling (Writing folder)) answer) ≡ placed writing (writing.feed store folder (from_disk answer))
-write_feeds store code folder None = refl
-write_feeds store code folder (Some answer) = write_placed (loose_order.fed folder answer) (reply_of (loose_order.fed folder answer))
+write_feeds : (store : Store) (code : HandleState) (call : LooseCall) (answer : Option DiskAnswer)
+    → result_in (fed_after code (Calling (Writing call)) answer) ≡ placed writing (writing.feed store call (from_disk answer))
+write_feeds store code call None = refl
+write_feeds store code call (Some answer) = write_placed (loose_order.fed call answer) (reply_of (loose_order.fed call answer))
 
 -- a state at which a task begins is that of its write
-write_starts : (first : Volume) (events : List Event) (e : Event) (handle : ℕ) (store : Store) (ignoring : Bool) (task : Task) (folder : LooseCall)
+write_starts : (first : Volume) (events : List Event) (e : Event) (handle : ℕ) (store : Store) (modes : Modes) (task : Task) (call : LooseCall)
     → IsSized task
-    → begun_with store ignoring task ≡ Calling (Writing folder)
-    → IsAtOwnWrite first (events ++ e ∷ []) handle (running_from (length events + 1) task store ignoring) nothing_in_front folder
-write_starts first events e handle store ignoring OpenStore folder sized at = absurd (cc at)
-write_starts first events e handle store ignoring (MakeCall (call_kinds.Write kind size bytes id)) folder sized at =
-    let same : calls.writing store.parts.objects kind size bytes id ≡ folder = cc at in
-    subst (IsAtOwnWrite first (events ++ e ∷ []) handle (running_from (length events + 1) (MakeCall (call_kinds.Write kind size bytes id)) store ignoring) nothing_in_front) same
-    (writing_begun first events e handle store ignoring kind size bytes id sized)
-write_starts first events e handle store ignoring (MakeCall call) folder sized at = absurd (cc at)
+    → begun_with store modes task ≡ Calling (Writing call)
+    → IsAtOwnWrite first (events ++ e ∷ []) handle (running_from (length events + 1) task store modes) nothing_in_front call
+write_starts first events e handle store modes OpenStore call sized at = absurd (cc at)
+write_starts first events e handle store modes (MakeCall (call_kinds.Write kind size bytes id)) call sized at =
+    let same : calls.writing store.parts.objects kind size bytes id ≡ call = cc at in
+    subst (IsAtOwnWrite first (events ++ e ∷ []) handle (running_from (length events + 1) (MakeCall (call_kinds.Write kind size bytes id)) store modes) nothing_in_front) same
+    (writing_begun first events e handle store modes kind size bytes id sized)
+write_starts first events e handle store modes (MakeCall other) call sized at = absurd (cc at)
 
-module _ (first : Volume) (events : List Event) (handle : ℕ) (running : Running) (folder : LooseCall) (ask : DiskAsk)
-    (knows : IsAtOwnWrite first events handle running nothing_in_front folder) (is : disk_ask_of folder ≡ Some ask) where
-  abbrev own : IsWriting first events handle running folder
+module _ (first : Volume) (events : List Event) (handle : ℕ) (running : Running) (call : LooseCall) (ask : DiskAsk)
+    (knows : IsAtOwnWrite first events handle running nothing_in_front call) (is : disk_ask_of call ≡ Some ask) where
+  abbrev own : IsWriting first events handle running call
   own = knows.writing
 
   -- it asks what its stage does
@@ -67,66 +68,65 @@ module _ (first : Volume) (events : List Event) (handle : ℕ) (running : Runnin
       subst (λ a. HasTurn first events handle running running.task a) same_ask
       (subst (λ task. HasTurn first events handle running task (ask_at_stage own.write own.stage)) (sym knows.task)
       (record {
-        in_order = in_order_write first events handle running folder knows;
-        five = five_written first events handle running folder own;
+        in_order = in_order_write first events handle running call knows;
+        five = five_written first events handle running call own;
       }))
 
   machine_comes : (e : Event) → running.begun ≤ length events → IsTurnWith first events e handle ask
-      → MachineComes first events e handle running writing (result_of_write (loose_order.fed folder (answer_now (disk_after first events) ask)))
+      → MachineComes first events e handle running writing (result_of_write (loose_order.fed call (answer_now (disk_after first events) ask)))
   machine_comes e since turn =
-      subst (λ a. IsTurnWith first events e handle a → MachineComes first events e handle running writing (result_of_write (loose_order.fed folder (answer_now (disk_after first events) a)))) same_ask
-      (λ stage_turn. write_comes first events e handle running since folder knows stage_turn) turn
+      subst (λ a. IsTurnWith first events e handle a → MachineComes first events e handle running writing (result_of_write (loose_order.fed call (answer_now (disk_after first events) a)))) same_ask
+      (λ stage_turn. write_comes first events e handle running since call knows stage_turn) turn
 
 -- ---- its laws
 
 -- a write that ends has its reply
-write_ends : (folder own : LooseCall) (answer : DiskAnswer) (reply : Reply) → Some folder ≡ Some own
+write_ends : (call own : LooseCall) (answer : DiskAnswer) (reply : Reply) → Some call ≡ Some own
     → result_of_write (loose_order.fed own answer) ≡ Ok reply
-    → result_of_write (loose_order.fed folder answer) ≡ Ok reply
-write_ends folder own answer reply is done = let same : folder ≡ own = cc is in subst (λ f. result_of_write (loose_order.fed f answer) ≡ Ok reply) (sym same) done
+    → result_of_write (loose_order.fed call answer) ≡ Ok reply
+write_ends call own answer reply is done = let same : call ≡ own = cc is in subst (λ f. result_of_write (loose_order.fed f answer) ≡ Ok reply) (sym same) done
 
-write_asks : (folder own : LooseCall) → Some folder ≡ Some own → to_disk (disk_ask_of folder) ≡ to_disk (disk_ask_of own)
-write_asks folder own is = let same : folder ≡ own = cc is in ap (λ f. to_disk (disk_ask_of f)) same
+write_asks : (call own : LooseCall) → Some call ≡ Some own → to_disk (disk_ask_of call) ≡ to_disk (disk_ask_of own)
+write_asks call own is = let same : call ≡ own = cc is in ap (λ f. to_disk (disk_ask_of f)) same
 
-write_known : (first : Volume) (events : List Event) (handle : ℕ) (running : Running) (folder own : LooseCall)
-    → IsAtOwnWrite first events handle running nothing_in_front folder → Some folder ≡ Some own
+write_known : (first : Volume) (events : List Event) (handle : ℕ) (running : Running) (call own : LooseCall)
+    → IsAtOwnWrite first events handle running nothing_in_front call → Some call ≡ Some own
     → IsWriting first events handle running own
-write_known first events handle running folder own knows is = let same : folder ≡ own = cc is in subst (IsWriting first events handle running) same knows.writing
+write_known first events handle running call own knows is = let same : call ≡ own = cc is in subst (IsWriting first events handle running) same knows.writing
 
 writing_writes : KeepsWriteLaws writing
 writing_writes = record {
-  quiet = λ first events handle running folder ask knows none is. absurd (cc none);
+  quiet = λ first events handle running call ask knows none is. absurd (cc none);
   known = write_known;
-  asks = λ store folder own is. write_asks folder own is;
-  ends = λ store folder own answer reply is done. write_ends folder own answer reply is done;
-  before = λ store folder next answer own goes is. inl (folder, refl);
+  asks = λ store call own is. write_asks call own is;
+  ends = λ store call own answer reply is done. write_ends call own answer reply is done;
+  before = λ store call next answer own goes is. inl (call, refl);
 }
 
 -- the call that its stage makes
-write_ask : (first : Volume) (events : List Event) (handle : ℕ) (running : Running) (folder : LooseCall)
-    → IsAtOwnWrite first events handle running nothing_in_front folder
-    → (ask : DiskAsk) × (disk_ask_of folder ≡ Some ask)
-write_ask first events handle running folder knows = (ask_at_stage knows.writing.write knows.writing.stage, ap disk_ask_of knows.writing.is)
+write_ask : (first : Volume) (events : List Event) (handle : ℕ) (running : Running) (call : LooseCall)
+    → IsAtOwnWrite first events handle running nothing_in_front call
+    → (ask : DiskAsk) × (disk_ask_of call ≡ Some ask)
+write_ask first events handle running call knows = (ask_at_stage knows.writing.write knows.writing.stage, ap disk_ask_of knows.writing.is)
+
+writing_turns : AsksDisk writing (λ store call. disk_ask_of call)
+writing_turns = record {
+  is = λ store call. refl;
+  still = λ store call ask is. call_asks_still call ask is;
+  some = write_ask;
+  takes = λ first events handle running call knows ask. write_takes first events handle running call ask knows;
+  comes = λ first events handle running call knows ask. machine_comes first events handle running call ask knows;
+}
 
 pub writing_laws : KeepsLaws writing
 writing_laws = record {
-  at_home = λ folder. refl;
-  asks = λ store ignoring code own folder. refl;
-  feeds = λ store ignoring code own folder answer. write_feeds store code folder answer;
+  at_home = λ call. refl;
+  asks = λ store modes code own call. refl;
+  feeds = λ store modes code own call answer. write_feeds store code call answer;
   starts = write_starts;
-  tasked = λ first events handle running folder knows. record { write = knows.writing.write; task_is = knows.task; stage = knows.writing.stage; is = knows.writing.is };
-  bounded = λ store task folder is entries. refl;
-  still = λ store folder ask is. call_asks_still folder ask (own_ask (disk_ask_of folder) ask is);
-  kept = λ first events e handle running folder other knows. writing_push first events e handle running folder other nothing_in_front knows;
-  takes = λ first events handle running folder knows.
-      let ask = write_ask first events handle running folder knows in
-      takes_disk first events handle running running.task (writing.ask running.store folder) ask.0 (ap to_disk ask.1)
-      (write_takes first events handle running folder ask.0 knows ask.1);
-  ends = λ first events handle running folder knows none.
-      let ask = write_ask first events handle running folder knows in absurd (never_ends (writing.ask running.store folder) ask.0 (ap to_disk ask.1) none);
-  comes = λ first events e handle running since folder knows.
-      let ask = write_ask first events handle running folder knows in
-      comes_disk first events e handle (λ answer. MachineComes first events e handle running writing (writing.feed running.store folder answer))
-      (writing.ask running.store folder) ask.0 (ap to_disk ask.1) (machine_comes first events handle running folder ask.0 knows ask.1 e since);
+  tasked = λ first events handle running call knows. record { write = knows.writing.write; task_is = knows.task; stage = knows.writing.stage; is = knows.writing.is };
+  bounded = λ store task call is entries. refl;
+  kept = λ first events e handle running call other knows. writing_push first events e handle running call other nothing_in_front knows;
+  turns = turns_by_disk writing (λ store call. disk_ask_of call) writing_turns;
   writes = writing_writes;
 }

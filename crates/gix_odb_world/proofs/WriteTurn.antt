@@ -4,7 +4,7 @@ pub mod Comes
 pub mod Making
 pub mod Filling
 pub mod Naming
-use Rattle.std.proofs.Common.{◌≡◌, ℕ, ◌≤◌, List, length}
+use Rattle.std.proofs.Common.{◌≡◌, ℕ, List, length}
 use Rattle.odb_disk.specs.Ask.{answer_now}
 use Rattle.odb_disk.specs.MemDisk.{Volume}
 use Rattle.odb_disk.specs.declared.ask.DiskAnswer.{DiskAnswer}
@@ -22,7 +22,7 @@ use Rattle.gix_odb_world.specs.Event.{Event}
 use Rattle.gix_odb_world.specs.Run.{disk_after}
 use Rattle.gix_odb_world.specs.Running.Write.{StandsAt, job_to_write}
 use Rattle.gix_odb_world.specs.Writing.{ToWrite, head_to_write}
-use Rattle.gix_odb_world.proofs.WriteTurn.Common.{IsTurnWith}
+use Rattle.gix_odb_world.proofs.WriteTurn.Common.{Makes, Stands, TurnOfWrite}
 use Rattle.gix_odb_world.proofs.WriteTurn.Comes.{Goes, PartsTo, goes, supplied_parts}
 use Rattle.gix_odb_world.proofs.WriteTurn.Making.{making}
 use Rattle.gix_odb_world.proofs.WriteTurn.Filling.{filling, heading}
@@ -33,25 +33,29 @@ abbrev pub ask_at_stage : ToWrite → WriteStage → DiskAsk
 ask_at_stage w stage = write_ask (head_to_write w) (piece_of w.size w.bytes (written_in stage)) stage
 
 -- what a write has done that stands at a stage
-pub done_at : (first : Volume) (events : List Event) (handle begun turns : ℕ) (w : ToWrite) (stage : WriteStage) (s : StandsAt first events handle begun turns w stage) → HasDone (job_to_write w) stage s.past
+pub done_at : (first : Volume) (events : List Event) (handle begun turns : ℕ) (w : ToWrite) (stage : WriteStage) (s : StandsAt first events handle begun turns w stage)
+    → HasDone (job_to_write w) stage s.past
 done_at first events handle begun turns w stage s = IsAlong-done (head_to_write w) (hash_to_write w.known) w.known w.bytes (Stage stage) s.past s.along
 
-module _ (first : Volume) (events : List Event) (e : Event) (handle begun turns : ℕ) (w : ToWrite) (since : begun ≤ length events) where
+module _ (t : TurnOfWrite) where
+  open t use {first, events, handle, begun, turns, w}
+
   abbrev disk : Volume
   disk = disk_after first events
 
-  parts_at : (stage : WriteStage) (s : StandsAt first events handle begun turns w stage) (is : IsTurnWith first events e handle (ask_at_stage w stage)) (answer : DiskAnswer) (given : answer ≡ answer_now disk (ask_at_stage w stage))
-      → PartsTo first events e handle begun turns w since (ask_at_stage w stage) is answer given s.past s.asked (next_write w.size (length (piece_of w.size w.bytes (written_in stage))) stage answer)
-  parts_at (stages.Making number) s is answer given = making first events e handle begun turns w since number s is answer given
-  parts_at (stages.Heading number) s is answer given = heading first events e handle begun turns w since number s is answer given
-  parts_at (stages.Filling number written) s is answer given = filling first events e handle begun turns w since number written s (done_at first events handle begun turns w (stages.Filling number written) s).next is answer given
-  parts_at (stages.Foldering number id) s is answer given = foldering first events e handle begun turns w since number id s is answer given
-  parts_at (stages.Moving number id) s is answer given = moving first events e handle begun turns w since number id s is answer given
-  parts_at (stages.Removing number refusal) s is answer given = removing first events e handle begun turns w since number refusal s is answer given
+  parts_at : (stage : WriteStage) (s : Stands t stage) (is : Makes t (ask_at_stage w stage)) (answer : DiskAnswer) (given : answer ≡ answer_now disk (ask_at_stage w stage))
+      → PartsTo t (ask_at_stage w stage) is answer given s.past s.asked (next_write w.size (length (piece_of w.size w.bytes (written_in stage))) stage answer)
+  parts_at (stages.Making number) s is answer given = making t number s is answer given
+  parts_at (stages.Heading number) s is answer given = heading t number s is answer given
+  parts_at (stages.Filling number written) s is answer given = filling t number written s (done_at first events handle begun turns w (stages.Filling number written) s).next is answer given
+  parts_at (stages.Foldering number id) s is answer given = foldering t number id s is answer given
+  parts_at (stages.Moving number id) s is answer given = moving t number id s is answer given
+  parts_at (stages.Removing number refusal) s is answer given = removing t number refusal s is answer given
 
   -- A write that stands at a stage knows as much after the answer, or its end keeps its promise.
-  pub stage_goes : (stage : WriteStage) (s : StandsAt first events handle begun turns w stage) (is : IsTurnWith first events e handle (ask_at_stage w stage)) (answer : DiskAnswer) (given : answer ≡ answer_now disk (ask_at_stage w stage))
-      → Goes first events e handle begun turns w since (ask_at_stage w stage) is answer given s.past s.asked (next_in (record (job_to_write w) { stage = stage }) answer)
+  pub stage_goes : (stage : WriteStage) (s : Stands t stage) (is : Makes t (ask_at_stage w stage)) (answer : DiskAnswer) (given : answer ≡ answer_now disk (ask_at_stage w stage))
+      → Goes t (ask_at_stage w stage) is answer given s.past s.asked (next_in (record (job_to_write w) { stage = stage }) answer)
   stage_goes stage s is answer given =
-      goes first events e handle begun turns w since (ask_at_stage w stage) is answer given s.past s.asked s.unnamed s.had (next_in (record (job_to_write w) { stage = stage }) answer) (IsAlong-next (job_to_write w) stage s.past answer s.along)
-      (supplied_parts first events e handle begun turns w since (ask_at_stage w stage) is answer given s.past s.asked (next_write w.size (length (piece_of w.size w.bytes (written_in stage))) stage answer) (parts_at stage s is answer given))
+      goes t (ask_at_stage w stage) is answer given s.past s.asked s.unnamed s.had (next_in (record (job_to_write w) { stage = stage }) answer)
+      (IsAlong-next (job_to_write w) stage s.past answer s.along)
+      (supplied_parts t (ask_at_stage w stage) is answer given s.past s.asked (next_write w.size (length (piece_of w.size w.bytes (written_in stage))) stage answer) (parts_at stage s is answer given))

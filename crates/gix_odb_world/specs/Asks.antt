@@ -1,5 +1,5 @@
 -- Which call of the disk a turn makes, by the task of its handle and the turns that its work has had before.
-use Rattle.std.specs.Prelude.{◌≡◌, ℕ, ◌+◌, ◌*◌, ◌<◌, Bool, true, List, length, slice_get, Option, Some, None}
+use Rattle.std.specs.Prelude.{◌≡◌, ℕ, ◌+◌, ◌*◌, ◌<◌, true, List, length, slice_get, Option, Some, None}
 use Rattle.odb_base.specs.Path.{Path}
 use Rattle.odb_disk.specs.MemDisk.{Volume}
 use Rattle.odb_disk.specs.declared.ask.DiskAsk.{DiskAsk}
@@ -12,7 +12,7 @@ use Rattle.gix_odb_loose.specs.WritePieces.{piece_size}
 use Rattle.gix_odb.specs.declared.call.Call.TheVariants as calls
 use Rattle.gix_odb.specs.declared.query.Query.TheVariants.{Find, Header, Test}
 use Rattle.gix_odb.specs.Contents.{folder_list, sought}
-use Rattle.gix_odb_world.specs.AtWork.{nothing_in_front}
+use Rattle.gix_odb_world.specs.AtWork.{nothing_in_front, Modes}
 use Rattle.gix_odb_world.specs.Event.{Ask, Event, ToCore, ToDisk}
 use Rattle.gix_odb_world.specs.Status.{Store, MakeCall, OpenStore, Task}
 use Rattle.gix_odb_world.specs.Writing.{DoneSince, ToWrite, name_to_write, to_write}
@@ -53,15 +53,15 @@ pub data AsksToWrite (first : Volume) (past : List Event) (handle begun own : �
 -- What a turn asks, where its handle has had so many turns since the step that set its task: an opening looks at the objects
 -- directory; a find and a header read, and a test looks at, the loose path of the sought id in the folder of that number. Nothing
 -- comes in front of a query or a write here.
-abbrev pub AsksInOrder : Volume → List Event → (handle : ℕ) → Store → (ignoring : Bool) → (begun turns : ℕ) → Task → DiskAsk → Type 0
-AsksInOrder first past handle store ignoring begun turns OpenStore ask = (turns ≡ 0) × (ask ≡ asks.Look store.parts.objects true)
-AsksInOrder first past handle store ignoring begun turns (MakeCall (calls.Find id)) ask =
-    AsksBehind nothing_in_front turns (λ own. AsksFolder store own (λ folder. asks.Read (loose_path folder (sought store.parts ignoring (Find id)))) ask)
-AsksInOrder first past handle store ignoring begun turns (MakeCall (calls.Header id)) ask =
-    AsksBehind nothing_in_front turns (λ own. AsksFolder store own (λ folder. asks.Read (loose_path folder (sought store.parts ignoring (Header id)))) ask)
-AsksInOrder first past handle store ignoring begun turns (MakeCall (calls.Test id)) ask =
-    AsksBehind nothing_in_front turns (λ own. AsksFolder store own (λ folder. asks.Look (loose_path folder (sought store.parts ignoring (Test id))) true) ask)
-AsksInOrder first past handle store ignoring begun turns (MakeCall (calls.Write kind size bytes known)) ask =
+abbrev pub AsksInOrder : Volume → List Event → (handle : ℕ) → Store → (modes : Modes) → (begun turns : ℕ) → Task → DiskAsk → Type 0
+AsksInOrder first past handle store modes begun turns OpenStore ask = (turns ≡ 0) × (ask ≡ asks.Look store.parts.objects true)
+AsksInOrder first past handle store modes begun turns (MakeCall (calls.Find id)) ask =
+    AsksBehind nothing_in_front turns (λ own. AsksFolder store own (λ folder. asks.Read (loose_path folder (sought store.parts modes.ignoring (Find id)))) ask)
+AsksInOrder first past handle store modes begun turns (MakeCall (calls.Header id)) ask =
+    AsksBehind nothing_in_front turns (λ own. AsksFolder store own (λ folder. asks.Read (loose_path folder (sought store.parts modes.ignoring (Header id)))) ask)
+AsksInOrder first past handle store modes begun turns (MakeCall (calls.Test id)) ask =
+    AsksBehind nothing_in_front turns (λ own. AsksFolder store own (λ folder. asks.Look (loose_path folder (sought store.parts modes.ignoring (Test id))) true) ask)
+AsksInOrder first past handle store modes begun turns (MakeCall (calls.Write kind size bytes known)) ask =
     AsksBehind nothing_in_front turns (λ own. AsksToWrite first past handle begun own (to_write store.parts.objects kind size bytes known) ask)
 
 -- Whether a task may end in a turn that asks for nothing, since its work has ended before it asks: none of these does.
@@ -70,7 +70,7 @@ MayEndUnasked OpenStore = ⊥
 MayEndUnasked (MakeCall call) = ⊥
 
 -- What a turn asks for, if it asks for anything. No task of these asks for an event of a core.
-abbrev pub AsksAsTask : Volume → List Event → (handle : ℕ) → Store → (ignoring : Bool) → (begun turns : ℕ) → Task → Option Ask → Type 0
-AsksAsTask first past handle store ignoring begun turns task None = MayEndUnasked task
-AsksAsTask first past handle store ignoring begun turns task (Some (ToDisk ask)) = AsksInOrder first past handle store ignoring begun turns task ask
-AsksAsTask first past handle store ignoring begun turns task (Some (ToCore event)) = ⊥
+abbrev pub AsksAsTask : Volume → List Event → (handle : ℕ) → Store → (modes : Modes) → (begun turns : ℕ) → Task → Option Ask → Type 0
+AsksAsTask first past handle store modes begun turns task None = MayEndUnasked task
+AsksAsTask first past handle store modes begun turns task (Some (ToDisk ask)) = AsksInOrder first past handle store modes begun turns task ask
+AsksAsTask first past handle store modes begun turns task (Some (ToCore event)) = ⊥

@@ -9,7 +9,7 @@ use Rattle.gix_odb_world.specs.declared.step.Step.{Step}
 use Rattle.gix_odb_world.specs.declared.step.Step.TheVariants as steps
 use Rattle.gix_odb_world.specs.declared.step.Outcome.TheVariants as outcomes
 use Rattle.gix_odb_world.specs.Event.{Event}
-use Rattle.gix_odb_world.specs.Status.{MakeCall, OpenStore, Store, Task}
+use Rattle.gix_odb_world.specs.Status.{MakeCall, OpenStore, Store, Task, Modes}
 
 -- the event that has the number `begun` was applied, and started a call on a handle
 pub record BegunBy (events : List Event) (handle begun : ℕ) (call : Call) : Type 0 where
@@ -74,11 +74,12 @@ pub record AppliedSince (P : Step → Type 0) (events : List Event) (number : �
   pub applied : event.outcome ≡ outcomes.Applied
   pub step : P event.step
 
--- A store is that of the latest open step of a handle, and the mode is that of the `Ignore` steps since.
-pub record HoldsStore (events : List Event) (handle : ℕ) (store : Store) (ignoring : Bool) : Type 0 where
+-- A store is that of the latest open step of a handle, and the modes are those of the steps since: it ignores replacements from an
+-- `Ignore` step on.
+pub record HoldsStore (events : List Event) (handle : ℕ) (store : Store) (modes : Modes) : Type 0 where
   pub step : IsOpenStore events handle store
   pub latest : NoneSince (IsOpenOf handle) events store.opened
-  pub mode : (ignoring ≡ true) ↔ AppliedSince (IsIgnoreOf handle) events store.opened
+  pub ignoring : (modes.ignoring ≡ true) ↔ AppliedSince (IsIgnoreOf handle) events store.opened
 
 -- ---- the turns of a handle
 

@@ -14,9 +14,8 @@ use Rattle.gix_odb.specs.declared.init.Error as opening
 use Rattle.gix_odb.specs.declared.init.Error.TheVariants as opening_errors
 use Rattle.gix_odb.specs.declared.find.Error as finding
 use Rattle.gix_odb.specs.declared.find.Error.TheVariants as find_errors
-use Rattle.gix_odb.specs.LookOrder.{job_of}
 pub use Rattle.gix_odb.specs.Moments.{Sometime}
-use Rattle.gix_odb.specs.Contents.{folder_list}
+use Rattle.gix_odb.specs.Contents.{folder_list, job_of}
 use Rattle.gix_odb_world.specs.AtWork.{Store}
 use Rattle.gix_odb.specs.OpenOrder.{most_slots}
 

@@ -1,12 +1,12 @@
 -- How a handle of the code stands for a store.
-use Rattle.std.specs.Prelude.{◌≡◌, Bool, false, List}
+use Rattle.std.specs.Prelude.{◌≡◌, false, List}
 use Rattle.std.specs.BTreeMap.{IsFromIterResult}
 use Rattle.odb_base.specs.Path.{Path}
 use Rattle.gix_hash.specs.declared.object_id.ObjectId.{ObjectId}
 use Rattle.gix_hash.specs.ObjectId.{id_cmp}
 use Rattle.gix_odb.specs.Contents.{replacement_in}
 use Rattle.gix_odb.specs.HandleState.{replacement_of}
-use Rattle.gix_odb_world.specs.Status.{Store}
+use Rattle.gix_odb_world.specs.Status.{Store, Modes}
 use Rattle.gix_odb.specs.OpenOrder.{given_slots}
 use Rattle.gix_odb.specs.declared.handle_state.HandleState.{HandleState}
 use Rattle.gix_odb.specs.declared.init.Options.{Options}
@@ -20,11 +20,11 @@ pub record IsOpened (objects : Path) (folders : List Path) (replacements : List 
   pub limit : handle.store.value.alloc_limit_bytes ≡ options.alloc_limit_bytes
   pub slots : handle.store.value.slots ≡ given_slots options.slots
 
--- the handle is one of the store, in a mode
-pub record IsHandleOf (store : Store) (ignoring : Bool) (handle : HandleState) : Type 0 where
+-- the handle is one of the store, in these modes
+pub record IsHandleOf (store : Store) (modes : Modes) (handle : HandleState) : Type 0 where
   pub objects : handle.store.value.objects ≡ store.parts.objects
   pub folders : handle.store.value.folders ≡ store.parts.folders
   pub replacements : (id : ObjectId) → replacement_of handle id ≡ replacement_in store.parts id
-  pub mode : handle.ignore_replacements ≡ ignoring
+  pub ignoring : handle.ignore_replacements ≡ modes.ignoring
   pub limit : handle.store.value.alloc_limit_bytes ≡ store.parts.limit
   pub slots : handle.store.value.slots ≡ store.slots

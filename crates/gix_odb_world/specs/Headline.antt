@@ -75,12 +75,12 @@ pub record Works (first : Volume) (past : List Event) (handle : ℕ) (running : 
   -- the turns that it tells are all that its handle took since
   pub counted : running.turns ≡ turns_since past handle running.begun
   -- in the store of the latest open step of its handle, and in the mode of the steps since
-  pub opened : HoldsStore past handle running.store running.ignoring
+  pub opened : HoldsStore past handle running.store running.modes
   -- what it asks for, which the event tells with its answer
   pub ask : Option Ask
   pub asks : ask_in running.store running.work ≡ ask
   -- which is a call of the disk, the one of this turn of the task: of turn t of a find, the read of the loose path in the t-th folder
-  pub in_order : AsksAsTask first past handle running.store running.ignoring running.begun running.turns running.task ask
+  pub in_order : AsksAsTask first past handle running.store running.modes running.begun running.turns running.task ask
   pub asked : e.entry.did ≡ did_asked (disk_after first past) ask
   pub told : e.asked ≡ told_now (disk_after first past) ask
   pub goes : e.outcome ≡ outcome_of (fed_in running.store running.work (answered e.asked))
@@ -104,7 +104,7 @@ pub record Law (first : Volume) (past : List Event) (e : Event) : Type 0 where
   -- a reply keeps its promise, which is that of the task that the step `begun` set
   pub promise : (handle : ℕ) (running : Running) (task : Task) (reply : Reply) → Turns past e handle running
       → BegunAs past handle running.begun running.store task
-      → e.outcome ≡ outcomes.Reply reply → Promise first (past ++ e ∷ []) handle running.store running.ignoring running.begun task reply
+      → e.outcome ≡ outcomes.Reply reply → Promise first (past ++ e ∷ []) handle running.store running.modes running.begun task reply
   -- a call that goes on has had fewer turns than its bound
   pub in_time : (handle : ℕ) (running : Running) (task : Task) (entries : ℕ) → Turns past e handle running
       → BegunAs past handle running.begun running.store task

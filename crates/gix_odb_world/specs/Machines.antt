@@ -30,7 +30,7 @@ ended = record {
 abbrev pub at : (work : Work) → At work
 at (Opening state) = record { machine = opening; state = state; is = refl }
 at (Calling (Looking state)) = record { machine = looking; state = state; is = refl }
-at (Calling (Writing folder)) = record { machine = writing; state = folder; is = refl }
+at (Calling (Writing call)) = record { machine = writing; state = call; is = refl }
 at (Calling (Written reply)) = record { machine = ended; state = reply; is = refl }
 
 -- what work asks for in a store, unless it is done

@@ -1,5 +1,5 @@
 -- What the reply to an opening or a call promises of the moments from its start to the reply.
-use Rattle.std.specs.Prelude.{◌≡◌, ℕ, ◌≤◌, Bool, true, false, List, length}
+use Rattle.std.specs.Prelude.{◌≡◌, ℕ, ◌≤◌, true, false, List, length}
 use Rattle.odb_tree.specs.Tree.{Tree}
 use Rattle.odb_disk.specs.MemDisk.{Volume}
 use Rattle.gix_hash.specs.declared.object_id.ObjectId.{ObjectId}
@@ -13,7 +13,7 @@ use Rattle.gix_odb.specs.declared.call.Call.TheVariants as calls
 use Rattle.gix_odb.specs.Contents.{Answer, Object, HeaderOf, Presence, sought}
 use Rattle.gix_odb.specs.Held.{Held, Still}
 use Rattle.gix_odb_world.specs.Event.{Event}
-use Rattle.gix_odb_world.specs.Status.{Store, Task, OpenStore, MakeCall}
+use Rattle.gix_odb_world.specs.Status.{Store, Task, OpenStore, MakeCall, Modes}
 use Rattle.gix_odb_world.specs.Run.{tree_at, FailedSince}
 use Rattle.gix_odb_world.specs.Writing.{to_write}
 use Rattle.gix_odb_world.specs.Written.{PromiseOfWrite}
@@ -64,18 +64,18 @@ OpeningPromise trees Failed store begun now (replies.Refused (call_errors.Open e
 OpeningPromise trees Failed store begun now reply = ⊥
 
 -- What the reply to a query promises, of the id that it seeks.
-abbrev pub QueryPromise : (ℕ → Tree) → Type 0 → Store → (ignoring : Bool) → ℕ → ℕ → Query → Reply → Type 0
-QueryPromise trees Failed store ignoring begun now query reply = Keeps trees Failed store begun now query (sought store.parts ignoring query) (claim_of query reply)
+abbrev pub QueryPromise : (ℕ → Tree) → Type 0 → Store → (modes : Modes) → ℕ → ℕ → Query → Reply → Type 0
+QueryPromise trees Failed store modes begun now query reply = Keeps trees Failed store begun now query (sought store.parts modes.ignoring query) (claim_of query reply)
 
 -- What a reply that the last event gives promises, by the task that the handle was begun with.
-abbrev pub Promise : Volume → List Event → (handle : ℕ) → Store → (ignoring : Bool) → ℕ → Task → Reply → Type 0
-Promise first events handle store ignoring begun OpenStore reply =
+abbrev pub Promise : Volume → List Event → (handle : ℕ) → Store → (modes : Modes) → ℕ → Task → Reply → Type 0
+Promise first events handle store modes begun OpenStore reply =
     OpeningPromise (tree_at first events) (FailedSince events handle begun) store begun (length events) reply
-Promise first events handle store ignoring begun (MakeCall (calls.Find id)) reply =
-    QueryPromise (tree_at first events) (FailedSince events handle begun) store ignoring begun (length events) (Find id) reply
-Promise first events handle store ignoring begun (MakeCall (calls.Header id)) reply =
-    QueryPromise (tree_at first events) (FailedSince events handle begun) store ignoring begun (length events) (Header id) reply
-Promise first events handle store ignoring begun (MakeCall (calls.Test id)) reply =
-    QueryPromise (tree_at first events) (FailedSince events handle begun) store ignoring begun (length events) (Test id) reply
-Promise first events handle store ignoring begun (MakeCall (calls.Write kind size bytes known)) reply =
+Promise first events handle store modes begun (MakeCall (calls.Find id)) reply =
+    QueryPromise (tree_at first events) (FailedSince events handle begun) store modes begun (length events) (Find id) reply
+Promise first events handle store modes begun (MakeCall (calls.Header id)) reply =
+    QueryPromise (tree_at first events) (FailedSince events handle begun) store modes begun (length events) (Header id) reply
+Promise first events handle store modes begun (MakeCall (calls.Test id)) reply =
+    QueryPromise (tree_at first events) (FailedSince events handle begun) store modes begun (length events) (Test id) reply
+Promise first events handle store modes begun (MakeCall (calls.Write kind size bytes known)) reply =
     PromiseOfWrite first events handle begun (to_write store.parts.objects kind size bytes known) reply

@@ -12,7 +12,7 @@ use Rattle.gix_odb.specs.declared.call.Reply.{Reply}
 use Rattle.gix_odb.specs.declared.call.Reply.TheVariants as replies
 use Rattle.gix_odb.specs.declared.init.Options.{Options}
 use Rattle.gix_odb.specs.declared.open_state.OpenState.TheVariants.{Looking}
-pub use Rattle.gix_odb_world.specs.AtWork.{Store, Task, OpenStore, MakeCall, Running}
+pub use Rattle.gix_odb_world.specs.AtWork.{Store, Task, OpenStore, MakeCall, Modes, Running, modes_at_opening, now_ignoring}
 use Rattle.gix_odb_world.specs.Machines.{fed_in, write_in}
 use Rattle.gix_odb_world.specs.declared.step.Step.{Step}
 use Rattle.gix_odb_world.specs.declared.step.Step.TheVariants as steps
@@ -25,13 +25,13 @@ use Rattle.gix_odb_world.specs.Event.{Asked, Event, answered}
 -- what a handle does: nothing, since no handle has the number; rest; or work
 pub data Status : Type 0 where
   Free : Status
-  Resting : (store : Store) (ignoring : Bool) → Status
+  Resting : (store : Store) (modes : Modes) → Status
   Working : (running : Running) → Status
 
 -- a handle that does this is at a write, of which this is the call of the objects directory
-pub record IsAtWrite (status : Status) (running : Running) (folder : LooseCall) : Type 0 where
+pub record IsAtWrite (status : Status) (running : Running) (call : LooseCall) : Type 0 where
   pub works : status ≡ Working running
-  pub writes : write_in running.work ≡ Some folder
+  pub writes : write_in running.work ≡ Some call
 
 -- ---- what a step makes of a handle
 
@@ -43,27 +43,27 @@ store_at number path folders replacements options = record {
 }
 
 -- the work with which a task of a store's handle begins
-abbrev pub begun_with : Store → (ignoring : Bool) → Task → Work
-begun_with store ignoring OpenStore = Opening Looking
-begun_with store ignoring (MakeCall call) = Calling (calls.started store.parts.objects store.parts.limit (sought store.parts ignoring) call)
+abbrev pub begun_with : Store → (modes : Modes) → Task → Work
+begun_with store modes OpenStore = Opening Looking
+begun_with store modes (MakeCall call) = Calling (calls.started store.parts.objects store.parts.limit (sought store.parts modes.ignoring) call)
 
 -- what a store's handle is at whose task is set by the event that has a number
-abbrev pub running_from : ℕ → Task → Store → (ignoring : Bool) → Running
-running_from number task store ignoring =
-    record { store = store; ignoring = ignoring; begun = number; turns = 0; task = task; work = begun_with store ignoring task }
+abbrev pub running_from : ℕ → Task → Store → (modes : Modes) → Running
+running_from number task store modes =
+    record { store = store; modes = modes; begun = number; turns = 0; task = task; work = begun_with store modes task }
 
 -- an opening works from its step on
 abbrev pub opening_at : ℕ → Store → Status
-opening_at number store = Working (running_from number OpenStore store false)
+opening_at number store = Working (running_from number OpenStore store modes_at_opening)
 
 -- an idle handle ignores replacements from now on
 abbrev pub ignoring_from : Status → Status
-ignoring_from (Resting store ignoring) = Resting store true
+ignoring_from (Resting store modes) = Resting store (now_ignoring modes)
 ignoring_from status = status
 
 -- a started call works from its step on
 abbrev pub started : ℕ → Call → Status → Status
-started number call (Resting store ignoring) = Working (running_from number (MakeCall call) store ignoring)
+started number call (Resting store modes) = Working (running_from number (MakeCall call) store modes)
 started number call status = status
 
 -- whether a reply refuses an opening
@@ -71,9 +71,9 @@ abbrev pub refuses_opening : Reply → Bool
 refuses_opening (replies.Refused (call_errors.Open error)) = true
 refuses_opening reply = false
 
--- a refused opening leaves the number free; a call that has its reply leaves its handle at rest
-abbrev pub after_reply : Store → (ignoring : Bool) → Reply → Status
-after_reply store ignoring reply = if refuses_opening reply then Free else Resting store ignoring
+-- what a reply leaves of a handle: a refused opening leaves its number free, and after any other reply it is at rest
+abbrev pub after_reply : {A : Type 0} → (free rest : A) → Reply → A
+after_reply free rest reply = if refuses_opening reply then free else rest
 
 -- a handle's work goes on as what is left of it, with a turn more
 abbrev pub gone_on : Running → (left : Work) → Running
@@ -81,7 +81,7 @@ gone_on running left = record running { turns = running.turns + 1; work = left }
 
 -- a handle whose turn came to a reply, or to the work that is left
 abbrev pub come_to : Running → Result Reply Work → Status
-come_to running (Ok reply) = after_reply running.store running.ignoring reply
+come_to running (Ok reply) = after_reply Free (Resting running.store running.modes) reply
 come_to running (Err left) = Working (gone_on running left)
 
 -- a turn after which the work goes on, by what it was answered
@@ -90,7 +90,7 @@ turned asked (Working running) = come_to running (fed_in running.store running.w
 turned asked status = status
 
 abbrev pub replied : Reply → Status → Status
-replied reply (Working running) = after_reply running.store running.ignoring reply
+replied reply (Working running) = after_reply Free (Resting running.store running.modes) reply
 replied reply status = status
 
 -- ---- the handles of a run

@@ -16,7 +16,7 @@ use Rattle.gix_odb_world.specs.declared.handle.Handle.{Handle}
 use Rattle.gix_odb.specs.declared.handle_state.HandleState.{HandleState}
 use Rattle.gix_odb_world.specs.declared.work.Work.{Work}
 use Rattle.gix_odb_world.specs.Run.{did_of, has_failed}
-use Rattle.gix_odb_world.specs.Status.{refuses_opening}
+use Rattle.gix_odb_world.specs.Status.{after_reply}
 use Rattle.gix_odb_world.specs.WorkOrder.{fed_on}
 use Rattle.gix_odb_world.specs.declared.world.World.{World}
 use Rattle.gix_odb_world.specs.World.{handle_at}
@@ -54,13 +54,13 @@ abbrev pub with_ignoring : Option Handle → Option Handle
 with_ignoring None = None
 with_ignoring (Some handle) = Some (record handle { state = record handle.state { ignore_replacements = true } })
 
--- a handle after the reply to its work: none after a refused opening, else at rest
-abbrev pub after_reply : HandleState → Reply → Option Handle
-after_reply state reply = if refuses_opening reply then None else Some (record { state = state; work = None })
+-- a handle at rest
+abbrev pub at_rest : HandleState → Option Handle
+at_rest state = Some (record { state = state; work = None })
 
 -- a handle after its turn left its work so
 abbrev pub after_turn : HandleState → Result Reply Work → Option Handle
-after_turn state (Ok reply) = after_reply state reply
+after_turn state (Ok reply) = after_reply None (at_rest state) reply
 after_turn state (Err work) = Some (record { state = state; work = Some work })
 
 -- the world differs from another in the handle that has a number, and in nothing else

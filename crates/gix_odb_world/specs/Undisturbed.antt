@@ -24,8 +24,8 @@ use Rattle.gix_odb_world.specs.Writing.{AskedAt, IsRename, LeavesAlone, LeftAlon
 -- place `made`.
 pub record HasMade (first : Volume) (events : List Event) (handle made : ℕ) (path : Path) (now : ℕ) : Type 0 where
   pub running : Running
-  pub folder : LooseCall
-  pub at : IsAtWrite (status_of (take now events) handle) running folder
+  pub call : LooseCall
+  pub at : IsAtWrite (status_of (take now events) handle) running call
   pub later : running.begun ≤ made
   pub before : made < now
   pub number : ℕ

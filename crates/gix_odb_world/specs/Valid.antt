@@ -28,7 +28,7 @@ pub data Phase : Type 0 where
 
 abbrev pub phase_of : Status → Phase
 phase_of Free = NoneThere
-phase_of (Resting store ignoring) = Idle
+phase_of (Resting store modes) = Idle
 phase_of (Working running) = Running
 
 -- no two items of a list are equal by an order

@@ -28,8 +28,8 @@ pub record GivesName (events : List Event) (place : ℕ) (w : ToWrite) (to : Pat
   pub handle : ℕ
   pub turn : IsTurnOf handle event.step
   pub running : Running
-  pub folder : LooseCall
-  pub at : IsAtWrite (status_of (take place events) handle) running folder
+  pub call : LooseCall
+  pub at : IsAtWrite (status_of (take place events) handle) running call
   pub begins : BegunBy (take place events) handle running.begun (call_to_write w)
   pub into : w.objects ≡ running.store.parts.objects
   pub from : Path

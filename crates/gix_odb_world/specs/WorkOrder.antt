@@ -8,7 +8,6 @@ use Rattle.gix_odb.specs.declared.call.Reply.{Reply}
 use Rattle.gix_odb.specs.declared.call_state.CallState.{CallState}
 use Rattle.gix_odb.specs.declared.handle_state.HandleState.{HandleState}
 use Rattle.gix_odb.specs.declared.open_state.OpenState.{OpenState}
-use Rattle.gix_odb.specs.declared.open_state.OpenState.TheVariants as opens
 use Rattle.gix_odb_world.specs.declared.work.Work.{Work}
 use Rattle.gix_odb_world.specs.declared.work.Work.TheVariants.{Opening, Calling}
 
@@ -27,9 +26,9 @@ abbrev pub fed_after : HandleState → Work → Option DiskAnswer → Work
 fed_after handle work None = work
 fed_after handle work (Some answer) = fed_on handle work answer
 
-abbrev pub opening_result : OpenState → Result Reply Work
-opening_result opens.Looking = Err (Opening opens.Looking)
-opening_result (opens.Done reply) = Ok reply
+abbrev pub opening_result : Result Reply OpenState → Result Reply Work
+opening_result (Ok reply) = Ok reply
+opening_result (Err state) = Err (Opening state)
 
 abbrev pub calling_result : Result Reply CallState → Result Reply Work
 calling_result (Ok reply) = Ok reply
@@ -37,5 +36,5 @@ calling_result (Err state) = Err (Calling state)
 
 -- the reply of work that is done, or the work that goes on
 abbrev pub result_in : Work → Result Reply Work
-result_in (Opening state) = opening_result state
+result_in (Opening state) = opening_result (openings.result_of state)
 result_in (Calling state) = calling_result (calls.result_of state)

@@ -23,10 +23,10 @@ handle_at world number = get nat_cmp world.handles number
 abbrev pub Matches : Status → Option Handle → Type 0
 Matches Free None = Unit {0}
 Matches Free (Some handle) = ⊥
-Matches (Resting store ignoring) None = ⊥
-Matches (Resting store ignoring) (Some handle) = IsHandleOf store ignoring handle.state × (handle.work ≡ None)
+Matches (Resting store modes) None = ⊥
+Matches (Resting store modes) (Some handle) = IsHandleOf store modes handle.state × (handle.work ≡ None)
 Matches (Working running) None = ⊥
-Matches (Working running) (Some handle) = IsHandleOf running.store running.ignoring handle.state × (handle.work ≡ Some running.work)
+Matches (Working running) (Some handle) = IsHandleOf running.store running.modes handle.state × (handle.work ≡ Some running.work)
 
 -- these events from this first disk lead to the world
 pub record Explains (first : Volume) (events : List Event) (world : World) : Type 0 where

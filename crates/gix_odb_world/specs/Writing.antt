@@ -54,6 +54,13 @@ head_to_write w = record { objects = w.objects; kind = w.kind; size = w.size }
 abbrev pub name_to_write : ToWrite → ObjectId
 name_to_write w = name_for w.known (hash_to_write w.known) (head_to_write w) w.bytes
 
+-- an object gets this id, and there are so many bytes, other than were told
+abbrev pub GetsName : ToWrite → ObjectId → Type 0
+GetsName w id = id ≡ name_to_write w
+
+abbrev pub HasOther : ToWrite → (actual : ℕ) → Type 0
+HasOther w actual = OtherLength (Some w.bytes) w.size actual
+
 -- ---- what was asked of the disk
 
 -- in the event at a place, which is a turn of the handle, this call of the disk was made and was answered so
@@ -93,8 +100,8 @@ DoneSince first events handle begun ask = AskedSince first events handle begun a
 -- The cause of an error of a write. Its data are at hand, so no source of them fails.
 abbrev pub CauseOfWrite : Volume → List Event → (handle begun : ℕ) → ToWrite → loose_write.Error → Type 0
 CauseOfWrite first events handle begun w error =
-    WriteCause (head_to_write w) (λ id. id ≡ name_to_write w) (RefusedSince first events handle begun) (TakenSince first events handle begun)
-    (DoneSince first events handle begun) ⊥ ⊥ (OtherLength (Some w.bytes) w.size) error
+    WriteCause (head_to_write w) (GetsName w) (RefusedSince first events handle begun) (TakenSince first events handle begun)
+    (DoneSince first events handle begun) ⊥ ⊥ (HasOther w) error
 
 -- ---- what its turns changed
 
@@ -115,8 +122,8 @@ abbrev pub ChangedNothing : List Event → (handle begun : ℕ) → Type 0
 ChangedNothing events handle begun = EachTurn events handle begun (λ e. e.entry.change ≡ None)
 
 -- none of its turns renamed
-abbrev pub RenamedNothing : List Event → (handle begun : ℕ) → Type 0
-RenamedNothing events handle begun = EachTurn events handle begun (λ e. ¬ (IsRename e.entry.change))
+abbrev pub NoTurnRenamed : List Event → (handle begun : ℕ) → Type 0
+NoTurnRenamed events handle begun = EachTurn events handle begun (λ e. ¬ (IsRename e.entry.change))
 
 -- the call that makes a temporary file with a number, if there is one
 abbrev pub IsMaking : Path → Option ℕ → Did → Type 0
@@ -125,8 +132,8 @@ IsMaking objects (Some number) did =
     (failed : Bool) × (did ≡ Disk (op_of (asks.NewFile (temp_path objects number))) (temp_path objects number) failed)
 
 -- none of its turns made a file, but for the temporary file with this number, if there is one
-abbrev pub MadeOnly : List Event → (handle begun : ℕ) → Path → Option ℕ → Type 0
-MadeOnly events handle begun objects number = EachTurn events handle begun (λ e. IsNewFile e.entry.change → IsMaking objects number e.entry.did)
+abbrev pub TurnsMadeOnly : List Event → (handle begun : ℕ) → Path → Option ℕ → Type 0
+TurnsMadeOnly events handle begun objects number = EachTurn events handle begun (λ e. IsNewFile e.entry.change → IsMaking objects number e.entry.did)
 
 -- the event at a place left a path and its way alone, the file that the path leads to included
 abbrev pub LeavesAlone : Volume → List Event → Path → (place : ℕ) → Type 0

@@ -18,7 +18,7 @@ use Rattle.gix_odb_loose.specs.declared.write.Error.TheVariants as loose_errors
 use Rattle.gix_odb_loose.specs.declared.write.Message.TheVariants as messages
 use Rattle.gix_odb_world.specs.Event.{Event}
 use Rattle.gix_odb_world.specs.Run.{tree_at}
-use Rattle.gix_odb_world.specs.Writing.{AskedAt, CauseOfWrite, ChangedNothing, LeftAlone, MadeOnly, RenamedNothing, ToWrite, name_to_write}
+use Rattle.gix_odb_world.specs.Writing.{AskedAt, CauseOfWrite, ChangedNothing, LeftAlone, TurnsMadeOnly, NoTurnRenamed, ToWrite, name_to_write}
 use Rattle.gix_odb.specs.declared.call.CallError.TheVariants as call_errors
 use Rattle.gix_odb.specs.declared.call.Reply.{Reply}
 use Rattle.gix_odb.specs.declared.call.Reply.TheVariants as replies
@@ -41,7 +41,7 @@ pub record HasWritten (first : Volume) (events : List Event) (handle begun : ℕ
   pub renames : change_of_rename (tree_at first events (length past)) (temp_path w.objects number) (loose_path w.objects id)
       ≡ Ok (Rename source target)
   pub change : last.entry.change ≡ Some (Rename source target)
-  pub only : RenamedNothing past handle begun
+  pub only : NoTurnRenamed past handle begun
   -- where nobody else touched the file, and no link was replaced on the way of the object's path, this reads as the object
   pub reads : LeftAlone first events handle (temp_path w.objects number) (made + 1) (length past)
       → crosses (tree_at first events (length past)) (loose_path w.objects id) target ≡ false
@@ -53,9 +53,9 @@ AsksRemoval first events handle place path = (answer : DiskAnswer) × AskedAt fi
 
 -- A refused write made no name of an object. It made no file, or its last turn asked to remove the one that it made.
 pub record WasRefused (first : Volume) (events : List Event) (handle begun : ℕ) (w : ToWrite) (error : loose_write.Error) : Type 0 where
-  pub unnamed : RenamedNothing events handle begun
+  pub unnamed : NoTurnRenamed events handle begun
   pub made : Option ℕ
-  pub makes : MadeOnly events handle begun w.objects made
+  pub makes : TurnsMadeOnly events handle begun w.objects made
   pub cleared : (made ≡ None)
       ⊎ ((number : ℕ) × (past : ℕ) × (made ≡ Some number) × (length events ≡ past + 1) × AsksRemoval first events handle past (temp_path w.objects number))
   -- where no temporary file could be made, it changed nothing

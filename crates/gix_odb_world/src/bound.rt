@@ -3,6 +3,8 @@ ghost use Rattle.std.specs.Prelude.{◌≡◌, ◌≤◌, ◌+◌};
 ghost use Rattle.gix_odb_world.specs.Bound.{most_changes, turn_bound};
 ghost use Rattle.gix_odb_world.specs.Valid.{most_folders};
 
+use gix_odb_loose::PIECE_SIZE;
+
 /// The turns of a lap through a store for its list, for each slot and for each entry of a folder that is listed.
 const TURNS_EACH: u128 = 8;
 
@@ -15,9 +17,6 @@ const LAPS_WITHOUT_CHANGE: u128 = 2;
 /// The turns of a write beside those of its pieces: its names, its header, its directory, its rename and the removal of
 /// its file.
 const TURNS_BESIDE_PIECES: u128 = 40;
-
-/// The most bytes of one append of a write.
-const PIECE_SIZE: u128 = 65_536;
 
 /// The most turns that a call may take, by the slots and the folders of its store, the changes of the list
 /// that it bears, the greatest number of entries in a `pack` or prefix folder, and the bytes of a write.
@@ -36,7 +35,7 @@ pub fn bound_of(
     let lap = TURNS_EACH + TURNS_EACH * u128::from(slots) + u128::from(folders) * per_folder;
     let writing = match write {
         None => 0,
-        Some(bytes) => TURNS_BESIDE_PIECES + u128::from(bytes).div_ceil(PIECE_SIZE),
+        Some(bytes) => TURNS_BESIDE_PIECES + u128::from(bytes).div_ceil(PIECE_SIZE as u128),
     };
     (u128::from(max_changes) + LAPS_WITHOUT_CHANGE) * lap + writing
 }

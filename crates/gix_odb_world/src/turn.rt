@@ -2,6 +2,7 @@
 ghost use Rattle.std.specs.Prelude.{if◌then◌else◌, ◌≡◌, IfOk, OnOk, None, Some};
 ghost use Rattle.odb_disk.specs.Ask.{answer_now};
 ghost use Rattle.gix_odb_world.specs.Run.{has_failed};
+ghost use Rattle.gix_odb_world.specs.Status.{after_reply};
 ghost use Rattle.gix_odb_world.specs.Headline.{outcome_of};
 ghost use Rattle.gix_odb_world.specs.WorkOrder.{ask_on, fed_on, result_in};
 ghost use Rattle.gix_odb_world.specs.Table as tables;
@@ -135,7 +136,7 @@ pub fn settled(state: HandleState, work: Work) -> (Outcome, Option<Handle>)
 
 /// A handle after the reply to its work: none after a refused opening, else at rest.
 fn at_rest(state: HandleState, reply: &Reply) -> Option<Handle>
-    ensures rests { result ≡ tables.after_reply state reply.now }
+    ensures rests { result ≡ after_reply None (tables.at_rest state) reply.now }
 {
     match reply {
         Reply::Refused(CallError::Open(_)) => None,

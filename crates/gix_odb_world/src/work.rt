@@ -45,8 +45,10 @@ impl Work {
         ensures replied { result ≡ result_in self }
     {
         match self {
-            Work::Opening(OpenState::Done(reply)) => Ok(reply),
-            Work::Opening(OpenState::Looking) => Err(Work::Opening(OpenState::Looking)),
+            Work::Opening(state) => match state.into_reply() {
+                Ok(reply) => Ok(reply),
+                Err(state) => Err(Work::Opening(state)),
+            },
             Work::Calling(state) => match state.into_reply() {
                 Ok(reply) => Ok(reply),
                 Err(state) => Err(Work::Calling(state)),

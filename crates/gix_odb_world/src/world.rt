@@ -201,11 +201,9 @@ impl World {
         ensures continues { OnOk result (Continues self.old (Step.Start number call.now) self.new) }
         ensures noted { OnOk result (HasOneMore self.old self.new) }
     {
-        if let Some(why) = self.why_not_idle(number) {
-            return self.misuse(why);
-        }
-        let Some(handle) = self.handles.get(&number) else {
-            unreachable!("a handle that is idle is there");
+        let handle = match self.idle(number) {
+            Ok(handle) => handle,
+            Err(why) => return self.misuse(why),
         };
         let state = CallState::start(alloc, &handle.state, call)?;
         self.set_work(number, Some(Work::Calling(state)));
@@ -217,10 +215,12 @@ impl World {
         ensures continues { OnOk result (Continues self.old (Step.Turn number) self.new) }
         ensures noted { OnOk result (HasOneMore self.old self.new) }
     {
-        if let Some(why) = self.why_not_running(number) {
-            return self.misuse(why);
-        }
-        let (state, work) = self.take_work(number);
+        let (state, work) = match self.take_work(number) {
+            Ok(taken) => taken,
+            Err(why) => return self.misuse(why),
+        };
+        // A disk shows a tree: each node lies in a directory.
+        let _ = self.disk.tree();
         match carried_out(alloc, &mut self.disk, &state, work) {
             Ok((did, change, work)) => self.settle(number, state, work, did, change),
             Err(error) => {
@@ -228,24 +228,6 @@ impl World {
                 Err(error)
             }
         }
-    }
-
-    /// Takes a handle that runs a call out of the table.
-    fn take_work(&mut self, number: u32) -> (HandleState, Work)
-        requires runs { reasons.why_not_running (phase_of_handle (handle_at self.old number)) ≡ None }
-        ensures taken { handle_at self.old number ≡ Some (record { state = result.0; work = Some result.1 }) }
-        ensures sets { SetsHandle self.old self.new number None }
-        ensures is_tree { IsTree (tree_of self.new.disk.state) }
-    {
-        // A disk shows a tree: each node lies in a directory.
-        let _ = self.disk.tree();
-        let Some(Handle { state, work }) = self.take(number) else {
-            unreachable!("a handle that runs a call is there");
-        };
-        let Some(work) = work else {
-            unreachable!("a handle that runs a call is at work");
-        };
-        (state, work)
     }
 
     /// Puts a handle back after its turn, and adds the outcome and the record of the turn.

@@ -1,7 +1,7 @@
 -- What one event more makes of the steps from which a handle has its task, its store and its mode.
 use Rattle.std.proofs.Common.{◌≡◌, ℕ, ◌+◌, ◌≤◌, Bool, true, false, List, [], ◌∷◌, ◌++◌, length, Some, None, Result, Ok, Err, refl, sym, ◌∙◌, ap, subst, arith, inl, inr}
 use Rattle.std.specs.Prelude.{slice_get, if◌then◌else◌}
-use Rattle.std.proofs.lemmas.List.{length-append}
+use Rattle.std.proofs.lemmas.List.{length_push}
 use Rattle.std.proofs.lemmas.Option.{slice_get_within}
 use Rattle.odb_base.specs.Path.{Path}
 use Rattle.gix_hash.specs.declared.object_id.ObjectId.{ObjectId}
@@ -17,7 +17,7 @@ use Rattle.gix_odb_world.specs.declared.step.Outcome.TheVariants as outcomes
 use Rattle.gix_odb_world.specs.Event.{Asked, Event, answered}
 use Rattle.gix_odb_world.specs.declared.work.Work.{Work}
 use Rattle.gix_odb_world.specs.Machines.{fed_in}
-use Rattle.gix_odb_world.specs.Status.{MakeCall, OpenStore, Running, Status, Store, Task, Free, Resting, Working, come_to, ignoring_from, refuses_opening, replied, started, store_at, turned}
+use Rattle.gix_odb_world.specs.Status.{MakeCall, OpenStore, Running, Status, Store, Task, Free, Resting, Working, come_to, ignoring_from, refuses_opening, replied, started, store_at, turned, Modes, modes_at_opening, now_ignoring}
 use Rattle.gix_odb_world.specs.Begun.{AppliedSince, BegunAs, BegunBy, HoldsStore, IsIgnoreOf, IsOpenOf, IsTaskOf, NoneSince, OpenedBy}
 use Rattle.gix_odb_world.specs.Valid.{phase_of, why_not_idle}
 use Rattle.gix_odb_world.proofs.RunLemmas.{slice_get-kept, slice_get-last, slice_get-push}
@@ -60,8 +60,8 @@ pub record IsLatestTask (events : List Event) (handle : ℕ) (running : Running)
 
 abbrev pub Stems : List Event → (handle : ℕ) → Status → Type 0
 Stems events handle Free = Unit {0}
-Stems events handle (Resting store ignoring) = HoldsStore events handle store ignoring
-Stems events handle (Working running) = HoldsStore events handle running.store running.ignoring × IsLatestTask events handle running
+Stems events handle (Resting store modes) = HoldsStore events handle store modes
+Stems events handle (Working running) = HoldsStore events handle running.store running.modes × IsLatestTask events handle running
 
 open_is_task : (handle : ℕ) (step : Step) → IsOpenOf handle step → IsTaskOf handle step
 open_is_task handle (steps.Open other path folders replacements options) is = is
@@ -75,9 +75,6 @@ given_as (Given slots) = refl
 module _ (events : List Event) (e : Event) where
   abbrev whole : List Event
   whole = events ++ e ∷ []
-
-  whole_length : length whole ≡ length events + 1
-  whole_length = length-append events (e ∷ [])
 
   -- the last event is no such step
   abbrev Apart : (Step → Type 0) → Type 0
@@ -94,7 +91,7 @@ module _ (events : List Event) (e : Event) where
   pub none_after : (P : Step → Type 0) → NoneSince P whole (length events + 1)
   none_after P place x later there applied is =
       let within = slice_get_within whole place x there in
-      let count = whole_length in
+      let count = length_push events e in
       omega (arith, within, later, count)
 
   no_applied_after : (P : Step → Type 0) → ¬ (AppliedSince P whole (length events + 1))
@@ -159,32 +156,32 @@ module _ (events : List Event) (e : Event) where
 
   module _ (handle : ℕ) where
     pub holds_opened : (store : Store) → store.opened ≡ length events + 1 → OpenedBy whole handle store.opened store
-        → HoldsStore whole handle store false
+        → HoldsStore whole handle store modes_at_opening
     holds_opened store number o =
         record {
           step = o;
           latest = subst (NoneSince (IsOpenOf handle) whole) (sym number) (none_after (IsOpenOf handle));
-          mode = (λ is. absurd (cc is), λ a. absurd (no_applied_after (IsIgnoreOf handle) (subst (AppliedSince (IsIgnoreOf handle) whole) number a)));
+          ignoring = (λ is. absurd (cc is), λ a. absurd (no_applied_after (IsIgnoreOf handle) (subst (AppliedSince (IsIgnoreOf handle) whole) number a)));
         }
 
-    holds_kept : (store : Store) (ignoring : Bool) → Apart (IsOpenOf handle) → Apart (IsIgnoreOf handle) → HoldsStore events handle store ignoring
-        → HoldsStore whole handle store ignoring
-    holds_kept store ignoring no_open no_ignore h =
+    holds_kept : (store : Store) (modes : Modes) → Apart (IsOpenOf handle) → Apart (IsIgnoreOf handle) → HoldsStore events handle store modes
+        → HoldsStore whole handle store modes
+    holds_kept store modes no_open no_ignore h =
         record {
           step = opened_kept handle store.opened store h.step;
           latest = none_push (IsOpenOf handle) store.opened no_open h.latest;
-          mode = (λ is. applied_kept (IsIgnoreOf handle) store.opened (h.mode.0 is), λ a. h.mode.1 (applied_before (IsIgnoreOf handle) store.opened no_ignore a));
+          ignoring = (λ is. applied_kept (IsIgnoreOf handle) store.opened (h.ignoring.0 is), λ a. h.ignoring.1 (applied_before (IsIgnoreOf handle) store.opened no_ignore a));
         }
 
-    holds_ignoring : (store : Store) (ignoring : Bool) → e.step ≡ steps.Ignore handle → e.outcome ≡ outcomes.Applied
-        → HoldsStore events handle store ignoring → HoldsStore whole handle store true
-    holds_ignoring store ignoring step applied h =
+    holds_ignoring : (store : Store) (modes : Modes) → e.step ≡ steps.Ignore handle → e.outcome ≡ outcomes.Applied
+        → HoldsStore events handle store modes → HoldsStore whole handle store (now_ignoring modes)
+    holds_ignoring store modes step applied h =
         let within = slice_get_within events h.step.place h.step.event h.step.there in
         let number = h.step.number in
         record {
           step = opened_kept handle store.opened store h.step;
           latest = none_push (IsOpenOf handle) store.opened (λ _ is. subst (IsOpenOf handle) step is) h.latest;
-          mode = (λ _. applied_now (IsIgnoreOf handle) store.opened (omega (arith, within, number)) applied (subst (IsIgnoreOf handle) (sym step) refl), λ _. refl);
+          ignoring = (λ _. applied_now (IsIgnoreOf handle) store.opened (omega (arith, within, number)) applied (subst (IsIgnoreOf handle) (sym step) refl), λ _. refl);
         }
 
     -- ---- the task
@@ -195,46 +192,46 @@ module _ (events : List Event) (e : Event) where
 
     pub stems_kept : (status : Status) → Apart (IsTaskOf handle) → Apart (IsIgnoreOf handle) → Stems events handle status → Stems whole handle status
     stems_kept Free no_task no_ignore stems = tt
-    stems_kept (Resting store ignoring) no_task no_ignore stems = holds_kept store ignoring (λ applied is. no_task applied (open_is_task handle e.step is)) no_ignore stems
+    stems_kept (Resting store modes) no_task no_ignore stems = holds_kept store modes (λ applied is. no_task applied (open_is_task handle e.step is)) no_ignore stems
     stems_kept (Working running) no_task no_ignore stems =
-        (holds_kept running.store running.ignoring (λ applied is. no_task applied (open_is_task handle e.step is)) no_ignore stems.0, task_kept running no_task stems.1)
+        (holds_kept running.store running.modes (λ applied is. no_task applied (open_is_task handle e.step is)) no_ignore stems.0, task_kept running no_task stems.1)
 
     -- ---- what a step makes of a handle
 
     pub stems_ignoring : (status : Status) → None ≡ why_not_idle (phase_of status) → e.step ≡ steps.Ignore handle → e.outcome ≡ outcomes.Applied
         → Stems events handle status → Stems whole handle (ignoring_from status)
     stems_ignoring Free idle step applied stems = tt
-    stems_ignoring (Resting store ignoring) idle step applied stems = holds_ignoring store ignoring step applied stems
+    stems_ignoring (Resting store modes) idle step applied stems = holds_ignoring store modes step applied stems
     stems_ignoring (Working running) idle step applied stems = absurd (cc idle)
 
     pub stems_started : (call : Call) (status : Status) → None ≡ why_not_idle (phase_of status) → e.step ≡ steps.Start handle call
         → e.outcome ≡ outcomes.Applied → Stems events handle status → Stems whole handle (started (length events + 1) call status)
     stems_started call Free idle step applied stems = tt
-    stems_started call (Resting store ignoring) idle step applied stems = (
-      holds_kept store ignoring (λ _ is. subst (IsOpenOf handle) step is) (λ _ is. subst (IsIgnoreOf handle) step is) stems,
+    stems_started call (Resting store modes) idle step applied stems = (
+      holds_kept store modes (λ _ is. subst (IsOpenOf handle) step is) (λ _ is. subst (IsIgnoreOf handle) step is) stems,
       record { begins = record { place = length events; number = refl; event = e; there = slice_get-last events e; applied = applied; starts = step }; latest = none_after (IsTaskOf handle) },
     )
     stems_started call (Working running) idle step applied stems = absurd (cc idle)
 
-stems_rest : (events : List Event) (handle : ℕ) (store : Store) (ignoring frees : Bool) → HoldsStore events handle store ignoring
-    → Stems events handle (if frees then Free else Resting store ignoring)
-stems_rest events handle store ignoring true holds = tt
-stems_rest events handle store ignoring false holds = holds
+stems_rest : (events : List Event) (handle : ℕ) (store : Store) (modes : Modes) (frees : Bool) → HoldsStore events handle store modes
+    → Stems events handle (if frees then Free else Resting store modes)
+stems_rest events handle store modes true holds = tt
+stems_rest events handle store modes false holds = holds
 
 -- a turn's reply frees its handle or leaves it at rest, and what is left of its work has the same task
 stems_come : (events : List Event) (handle : ℕ) (running : Running) (result : Result Reply Work) → Stems events handle (Working running)
     → Stems events handle (come_to running result)
-stems_come events handle running (Ok reply) stems = stems_rest events handle running.store running.ignoring (refuses_opening reply) stems.0
+stems_come events handle running (Ok reply) stems = stems_rest events handle running.store running.modes (refuses_opening reply) stems.0
 stems_come events handle running (Err left) stems = (stems.0, record { begins = stems.1.begins; latest = stems.1.latest })
 
 pub stems_turned : (events : List Event) (handle : ℕ) (asked : Asked) (status : Status) → Stems events handle status
     → Stems events handle (turned asked status)
 stems_turned events handle asked Free stems = tt
-stems_turned events handle asked (Resting store ignoring) stems = stems
+stems_turned events handle asked (Resting store modes) stems = stems
 stems_turned events handle asked (Working running) stems = stems_come events handle running (fed_in running.store running.work (answered asked)) stems
 
 pub stems_replied : (events : List Event) (handle : ℕ) (reply : Reply) (status : Status) → Stems events handle status
     → Stems events handle (replied reply status)
 stems_replied events handle reply Free stems = tt
-stems_replied events handle reply (Resting store ignoring) stems = stems
-stems_replied events handle reply (Working running) stems = stems_rest events handle running.store running.ignoring (refuses_opening reply) stems.0
+stems_replied events handle reply (Resting store modes) stems = stems
+stems_replied events handle reply (Working running) stems = stems_rest events handle running.store running.modes (refuses_opening reply) stems.0

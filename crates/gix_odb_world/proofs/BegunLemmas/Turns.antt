@@ -1,10 +1,9 @@
 -- The turns that running work tells are those that its handle took since the work began, after each event of a lawful run.
-use Rattle.std.proofs.Common.{◌≡◌, ℕ, zero, suc, ◌+◌, ◌≤◌, Bool, true, false, cond, List, [], ◌∷◌, ◌++◌, length, take, drop, Some, Result, Ok, Err, refl, sym, ◌∙◌, ap, subst, arith, inl, inr}
-use Rattle.std.specs.Prelude.{slice_get, ◌==◌, if◌then◌else◌, count_by}
+use Rattle.std.proofs.Common.{◌≡◌, ℕ, ◌+◌, ◌≤◌, Bool, true, false, cond, List, [], ◌∷◌, ◌++◌, length, drop, Some, Result, Ok, Err, refl, sym, ◌∙◌, ap, subst, arith}
+use Rattle.std.specs.Prelude.{◌==◌, if◌then◌else◌, count_by}
 use Rattle.std.proofs.lemmas.Bool.{eqb-true}
-use Rattle.std.proofs.lemmas.List.{drop-append-le, drop_all, length-append}
+use Rattle.std.proofs.lemmas.List.{drop-append-le, drop_all, length_push}
 use Rattle.std.proofs.lemmas.List.Sums.{sum_by_push}
-use Rattle.std.proofs.Math.Seq.{take-length}
 use Rattle.odb_disk.specs.MemDisk.{Volume}
 use Rattle.odb_base.specs.Path.{Path}
 use Rattle.gix_hash.specs.declared.object_id.ObjectId.{ObjectId}
@@ -18,14 +17,13 @@ use Rattle.gix_odb_world.specs.declared.step.Outcome.TheVariants as outcomes
 use Rattle.gix_odb_world.specs.declared.step.Why.{Why}
 use Rattle.gix_odb_world.specs.declared.work.Work.{Work}
 use Rattle.gix_odb_world.specs.Event.{Asked, Event, answered}
-use Rattle.gix_odb_world.specs.Status.{MakeCall, OpenStore, Running, Status, Store, Task, Free, Resting, Working}
-use Rattle.gix_odb_world.specs.Status.{come_to, ignoring_from, opening_at, refuses_opening, replied, running_from, started, status_after, status_of, statuses_from, store_at, turned, with_status}
+use Rattle.gix_odb_world.specs.Status.{MakeCall, OpenStore, Running, Status, Store, Task, Free, Resting, Working, Modes, modes_at_opening}
+use Rattle.gix_odb_world.specs.Status.{come_to, ignoring_from, opening_at, refuses_opening, replied, running_from, started, status_after, status_of, store_at, turned, with_status}
 use Rattle.gix_odb_world.specs.Begun.{is_turn_of, turns_since}
 use Rattle.gix_odb_world.specs.Machines.{fed_in}
 use Rattle.gix_odb_world.specs.Valid.{misuse_of, phase_of, why_not_after, why_not_running}
 use Rattle.gix_odb_world.specs.Headline.{IsLawful, IsTurn, Law, Suits}
-use Rattle.gix_odb_world.proofs.RunLemmas.{status_of-push}
-use Rattle.gix_odb_world.proofs.RunSteps.{event_or_end, none_beyond, take_next}
+use Rattle.gix_odb_world.proofs.AlongRun.{along_run}
 
 -- running work tells as many turns as its handle took since it began
 abbrev pub Counts : List Event → (handle : ℕ) → Status → Type 0
@@ -42,9 +40,6 @@ module _ (past : List Event) (e : Event) where
   abbrev whole : List Event
   whole = past ++ e ∷ []
 
-  whole_length : length whole ≡ length past + 1
-  whole_length = length-append past (e ∷ [])
-
   turns_since-push : (handle number : ℕ) → number ≤ length past
       → turns_since whole handle number ≡ turns_since past handle number + added (is_turn_of handle e.step)
   turns_since-push handle number within =
@@ -54,11 +49,11 @@ module _ (past : List Event) (e : Event) where
   -- one that is no turn of the handle adds none
   counts_kept : (handle : ℕ) (status : Status) → is_turn_of handle e.step ≡ false → Counts past handle status → Counts whole handle status
   counts_kept handle Free other counts = tt
-  counts_kept handle (Resting store ignoring) other counts = tt
+  counts_kept handle (Resting store modes) other counts = tt
   counts_kept handle (Working running) other counts =
       let now = turns_since-push handle running.begun counts.0 in
       let none : added (is_turn_of handle e.step) ≡ 0 = ap added other in
-      let count = whole_length in
+      let count = length_push past e in
       let within = counts.0 in
       (omega (arith, within, count), omega (arith, counts.1, now, none))
 
@@ -68,47 +63,47 @@ module _ (past : List Event) (e : Event) where
   counts_more handle running left turn counts =
       let now = turns_since-push handle running.begun counts.0 in
       let one : added (is_turn_of handle e.step) ≡ 1 = ap added turn in
-      let count = whole_length in
+      let count = length_push past e in
       let within = counts.0 in
       (omega (arith, within, count), omega (arith, counts.1, now, one))
 
   -- work that the last event began has had none
-  counts_new : (handle : ℕ) (task : Task) (store : Store) (ignoring : Bool) → Counts whole handle (Working (running_from (length past + 1) task store ignoring))
-  counts_new handle task store ignoring =
-      let count = whole_length in
+  counts_new : (handle : ℕ) (task : Task) (store : Store) (modes : Modes) → Counts whole handle (Working (running_from (length past + 1) task store modes))
+  counts_new handle task store modes =
+      let count = length_push past e in
       (omega (arith, count), sym (ap (count_by (λ (x : Event). is_turn_of handle x.step)) (drop_all (length past + 1) whole (omega (arith, count)))))
 
-  counts_rest : (handle : ℕ) (store : Store) (ignoring frees : Bool) → Counts whole handle (if frees then Free else Resting store ignoring)
-  counts_rest handle store ignoring true = tt
-  counts_rest handle store ignoring false = tt
+  counts_rest : (handle : ℕ) (store : Store) (modes : Modes) (frees : Bool) → Counts whole handle (if frees then Free else Resting store modes)
+  counts_rest handle store modes true = tt
+  counts_rest handle store modes false = tt
 
   -- ---- what a step makes of its handle
 
   counts_ignoring : (handle : ℕ) (status : Status) → is_turn_of handle e.step ≡ false → Counts past handle status → Counts whole handle (ignoring_from status)
   counts_ignoring handle Free other counts = tt
-  counts_ignoring handle (Resting store ignoring) other counts = tt
+  counts_ignoring handle (Resting store modes) other counts = tt
   counts_ignoring handle (Working running) other counts = counts_kept handle (Working running) other counts
 
   counts_started : (handle : ℕ) (call : Call) (status : Status) → is_turn_of handle e.step ≡ false → Counts past handle status
       → Counts whole handle (started (length past + 1) call status)
   counts_started handle call Free other counts = tt
-  counts_started handle call (Resting store ignoring) other counts = counts_new handle (MakeCall call) store ignoring
+  counts_started handle call (Resting store modes) other counts = counts_new handle (MakeCall call) store modes
   counts_started handle call (Working running) other counts = counts_kept handle (Working running) other counts
 
   counts_come : (handle : ℕ) (running : Running) (result : Result Reply Work) → is_turn_of handle e.step ≡ true
       → Counts past handle (Working running) → Counts whole handle (come_to running result)
-  counts_come handle running (Ok reply) turn counts = counts_rest handle running.store running.ignoring (refuses_opening reply)
+  counts_come handle running (Ok reply) turn counts = counts_rest handle running.store running.modes (refuses_opening reply)
   counts_come handle running (Err left) turn counts = counts_more handle running left turn counts
 
   counts_turned : (handle : ℕ) (asked : Asked) (status : Status) → is_turn_of handle e.step ≡ true → Counts past handle status → Counts whole handle (turned asked status)
   counts_turned handle asked Free turn counts = tt
-  counts_turned handle asked (Resting store ignoring) turn counts = tt
+  counts_turned handle asked (Resting store modes) turn counts = tt
   counts_turned handle asked (Working running) turn counts = counts_come handle running (fed_in running.store running.work (answered asked)) turn counts
 
   counts_replied : (handle : ℕ) (reply : Reply) (status : Status) → Counts whole handle (replied reply status)
   counts_replied handle reply Free = tt
-  counts_replied handle reply (Resting store ignoring) = tt
-  counts_replied handle reply (Working running) = counts_rest handle running.store running.ignoring (refuses_opening reply)
+  counts_replied handle reply (Resting store modes) = tt
+  counts_replied handle reply (Working running) = counts_rest handle running.store running.modes (refuses_opening reply)
 
 -- ---- what an event makes of all handles
 
@@ -137,7 +132,7 @@ module _ (first : Volume) (past : List Event) (e : Event) (law : Law first past 
       → Counts now handle (with_status table number (opening_at (length past + 1) (store_at (length past + 1) path folders replacements options)) handle)
   counts_opened number path folders replacements options is =
       counts_set number (opening_at (length past + 1) (store_at (length past + 1) path folders replacements options))
-      (counts_new past e number OpenStore (store_at (length past + 1) path folders replacements options) false) (λ h _. ap (is_turn_of h) is)
+      (counts_new past e number OpenStore (store_at (length past + 1) path folders replacements options) modes_at_opening) (λ h _. ap (is_turn_of h) is)
 
   counts_applied : (step : Step) → e.step ≡ step → ¬ (IsTurn step) → (handle : ℕ)
       → Counts now handle (status_after (length past + 1) step outcomes.Applied e.asked table handle)
@@ -170,7 +165,7 @@ module _ (first : Volume) (past : List Event) (e : Event) (law : Law first past 
   -- a misused turn is none of a handle that runs a call
   counts_refused : (handle : ℕ) (why : Why) (status : Status) → Some why ≡ why_not_running (phase_of status) → Counts past handle status → Counts now handle status
   counts_refused handle why Free valid counts = tt
-  counts_refused handle why (Resting store ignoring) valid counts = tt
+  counts_refused handle why (Resting store modes) valid counts = tt
   counts_refused handle why (Working running) valid counts = absurd (cc valid)
 
   counts_misused : (step : Step) (why : Why) → e.step ≡ step → Some why ≡ why_not_after first past step → (handle : ℕ) → Counts now handle (table handle)
@@ -191,28 +186,6 @@ module _ (first : Volume) (past : List Event) (e : Event) (law : Law first past 
 
 -- ---- along a run
 
-counts_none : (handle : ℕ) → Counts [] handle (status_of [] handle)
-unfolding statuses_from
-counts_none handle = tt
-
-module _ (first : Volume) (events : List Event) (lawful : IsLawful first events) where
-  counts_next : (place : ℕ) (e : Event) → slice_get events place ≡ Some e
-      → ((handle : ℕ) → Counts (take place events) handle (status_of (take place events) handle)) → (handle : ℕ)
-      → Counts (take (place + 1) events) handle (status_of (take (place + 1) events) handle)
-  counts_next place e there before handle =
-      let past : List Event = take place events in
-      let law : Law first past e = lawful place e there in
-      subst (λ es. Counts es handle (status_of es handle)) (sym (take_next events place e there))
-      (subst (λ (table : ℕ → Status). Counts (past ++ e ∷ []) handle (table handle)) (sym (status_of-push past e)) (counts_by first past e law before e.outcome law.suits law.valid handle))
-
-  counts_at : (place : ℕ) → place ≤ length events → (handle : ℕ) → Counts (take place events) handle (status_of (take place events) handle)
-  counts_at zero within handle = counts_none handle
-  counts_at (suc place) within handle = elim (event_or_end events place) [
-    | inl at ↦
-        let next : place + 1 ≡ suc place = omega arith in
-        subst (λ n. Counts (take n events) handle (status_of (take n events) handle)) next (counts_next place at.0 at.1 (counts_at place (omega (arith, within))) handle)
-    | inr none ↦ let beyond = none_beyond events place none in absurd (omega (arith, within, beyond))
-  ]
-
-  pub counts_now : (handle : ℕ) → Counts events handle (status_of events handle)
-  counts_now handle = subst (λ es. Counts es handle (status_of es handle)) (take-length events) (counts_at (length events) (omega arith) handle)
+pub counts_now : (first : Volume) (events : List Event) → IsLawful first events → (handle : ℕ) → Counts events handle (status_of events handle)
+counts_now first events lawful =
+    along_run Counts first events lawful (λ handle. tt) (λ past e law before. counts_by first past e law before e.outcome law.suits law.valid)

@@ -5,7 +5,7 @@ use Rattle.odb_base.specs.Path.{Name, Path}
 use Rattle.odb_base.specs.PathLaws.{parent_of-push}
 use Rattle.odb_tree.specs.Tree.{IsTree, Tree, is_directory_content, node_at}
 use Rattle.odb_tree.specs.Tree.Change.{changed}
-use Rattle.odb_tree.specs.Tree.Follow.{followed}
+use Rattle.odb_tree.specs.Tree.Follow.{followed, most_links}
 use Rattle.odb_tree.specs.Tree.Way.{SameOnWay}
 use Rattle.odb_tree.specs.Tree.Write.{WrongKind, and_then, from_followed, in_directory, spot, spot_below, vacant}
 use Rattle.odb_tree.specs.declared.node.Content.TheVariants.{Dir, Link}
@@ -27,7 +27,7 @@ stands_at_itself t is_tree front name n at =
     let last = drop (length front) path in
     let d = IsDir-from t front (is_tree.ways front name n at) in
     let no_link : (target : Path) → d.node.content ≢ Link target = λ target link. (let both : Dir ≡ Link target = sym d.content ∙ link in absurd (cc both)) in
-    let leads : followed t true front ≡ Ok (record { path = front; node = d.node }) = followed_reached t true front 40 front d.node (pass_to_other t is_tree front d.node d.at true no_link) in
+    let leads : followed t true front ≡ Ok (record { path = front; node = d.node }) = followed_reached t true front most_links front d.node (pass_to_other t is_tree front d.node d.at true no_link) in
     ap (spot_below t path) (parent_of-push front name)
     ∙ ap (λ told. and_then (in_directory last) (from_followed told)) leads
     ∙ ap (λ c. if is_directory_content c then Ok (front ++ last) else Err WrongKind) d.content

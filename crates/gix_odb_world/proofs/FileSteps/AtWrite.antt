@@ -12,7 +12,7 @@ use Rattle.gix_odb_world.specs.declared.step.Step.TheVariants as steps
 use Rattle.gix_odb_world.specs.declared.work.Work.{Work}
 use Rattle.gix_odb_world.specs.Event.{Answer, Asked, answered}
 use Rattle.gix_odb_world.specs.Machines.{fed_in, write_in}
-use Rattle.gix_odb_world.specs.Status.{IsAtWrite, MakeCall, Running, Store, Status, Free, Resting, Working, after_turn_of, applied, come_to, gone_on, ignoring_from, opening_at, refuses_opening, replied, running_from, started, status_after, turned, with_status}
+use Rattle.gix_odb_world.specs.Status.{IsAtWrite, MakeCall, Running, Store, Status, Free, Resting, Working, after_turn_of, applied, come_to, gone_on, ignoring_from, opening_at, refuses_opening, replied, running_from, started, status_after, turned, with_status, Modes, now_ignoring}
 use Rattle.gix_odb_world.proofs.MachineLaws.{HasNoFile}
 use Rattle.gix_odb_world.proofs.WorkLaws.{wrote_before}
 
@@ -21,15 +21,15 @@ use Rattle.gix_odb_world.proofs.WorkLaws.{wrote_before}
 -- a handle is at a write in a store that it began at a step
 pub record AtWrite (store : Store) (begun : ℕ) (status : Status) : Type 0 where
   pub running : Running
-  pub folder : LooseCall
-  pub at : IsAtWrite status running folder
+  pub call : LooseCall
+  pub at : IsAtWrite status running call
   pub in_store : running.store ≡ store
   pub since : running.begun ≡ begun
 
 -- and the write has made its file
 pub record AtFile (store : Store) (begun : ℕ) (status : Status) : Type 0 where
   pub at : AtWrite store begun status
-  pub past : ¬ (HasNoFile at.folder)
+  pub past : ¬ (HasNoFile at.call)
 
 one_running : (running other : Running) → Working running ≡ Working other → running ≡ other
 one_running running other same = cc same
@@ -44,29 +44,29 @@ module _ (store : Store) (begun : ℕ) where
   no_write_free : ¬ (Before Free)
   no_write_free a = let is = a.at.works in cc is
 
-  no_write_resting : (own : Store) (mode : Bool) → ¬ (Before (Resting own mode))
-  no_write_resting own mode a = let is = a.at.works in cc is
+  no_write_resting : (own : Store) (modes : Modes) → ¬ (Before (Resting own modes))
+  no_write_resting own modes a = let is = a.at.works in cc is
 
-  rests : (own : Store) (mode frees : Bool) → ¬ (Before (if frees then Free else Resting own mode))
-  rests own mode true = no_write_free
-  rests own mode false = no_write_resting own mode
+  rests : (own : Store) (modes : Modes) (frees : Bool) → ¬ (Before (if frees then Free else Resting own modes))
+  rests own modes true = no_write_free
+  rests own modes false = no_write_resting own modes
 
   -- a reply ends it
   pub ended : (reply : Reply) (status : Status) → ¬ (Before (replied reply status))
   ended reply Free = no_write_free
-  ended reply (Resting own mode) = no_write_resting own mode
-  ended reply (Working running) = rests running.store running.ignoring (refuses_opening reply)
+  ended reply (Resting own modes) = no_write_resting own modes
+  ended reply (Working running) = rests running.store running.modes (refuses_opening reply)
 
   come_before : (running : Running) (answer : Option Answer) (result : Result Reply Work) → fed_in running.store running.work answer ≡ result
       → After (come_to running result) → Before (Working running)
-  come_before running answer (Ok reply) is f = absurd (rests running.store running.ignoring (refuses_opening reply) f.at)
+  come_before running answer (Ok reply) is f = absurd (rests running.store running.modes (refuses_opening reply) f.at)
   come_before running answer (Err left) is f =
       let a : Before (Working (gone_on running left)) = f.at in
       let same : gone_on running left ≡ a.running = one_running (gone_on running left) a.running a.at.works in
-      elim (wrote_before running.store running.work left answer a.folder is (ap (λ (r : Running). write_in r.work) same ∙ a.at.writes)) [
+      elim (wrote_before running.store running.work left answer a.call is (ap (λ (r : Running). write_in r.work) same ∙ a.at.writes)) [
         | inl was ↦ record {
           running = running;
-          folder = was.0;
+          call = was.0;
           at = record { works = refl; writes = was.1 };
           in_store = ap (λ (r : Running). r.store) same ∙ a.in_store;
           since = ap (λ (r : Running). r.begun) same ∙ a.since;
@@ -76,18 +76,18 @@ module _ (store : Store) (begun : ℕ) where
 
   turned_before : (asked : Asked) (status : Status) → After (turned asked status) → Before status
   turned_before asked Free a = a.at
-  turned_before asked (Resting own mode) a = a.at
+  turned_before asked (Resting own modes) a = a.at
   turned_before asked (Working running) a = come_before running (answered asked) (fed_in running.store running.work (answered asked)) refl a
 
   ignoring_before : (status : Status) → Before (ignoring_from status) → Before status
   ignoring_before Free a = a
-  ignoring_before (Resting own mode) a = absurd (no_write_resting own true a)
+  ignoring_before (Resting own modes) a = absurd (no_write_resting own (now_ignoring modes) a)
   ignoring_before (Working running) a = a
 
   started_before : (number : ℕ) (call : Call) (status : Status) → begun < number → Before (started number call status) → Before status
   started_before number call Free soon a = a
-  started_before number call (Resting own mode) soon a =
-      let same : running_from number (MakeCall call) own mode ≡ a.running = one_running (running_from number (MakeCall call) own mode) a.running a.at.works in
+  started_before number call (Resting own modes) soon a =
+      let same : running_from number (MakeCall call) own modes ≡ a.running = one_running (running_from number (MakeCall call) own modes) a.running a.at.works in
       let at : number ≡ begun = ap (λ (r : Running). r.begun) same ∙ a.since in
       absurd (omega (arith, at, soon))
   started_before number call (Working running) soon a = a

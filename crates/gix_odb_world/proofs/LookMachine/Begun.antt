@@ -1,6 +1,6 @@
 -- What a query knows that the last event begins.
-use Rattle.std.proofs.Common.{◌≡◌, ℕ, ◌+◌, Bool, List, [], ◌∷◌, ◌++◌, length, None, refl, subst, arith, inr}
-use Rattle.std.proofs.lemmas.List.{length-append}
+use Rattle.std.proofs.Common.{◌≡◌, ℕ, ◌+◌, List, [], ◌∷◌, ◌++◌, length, None, refl, subst, arith, inr}
+use Rattle.std.proofs.lemmas.List.{length_push}
 use Rattle.odb_disk.specs.MemDisk.{Volume}
 use Rattle.gix_odb.specs.Contents.{sought}
 use Rattle.gix_odb.specs.LookOrder as looks
@@ -10,7 +10,7 @@ use Rattle.gix_odb.specs.declared.look_state.LookState.{LookState}
 use Rattle.gix_odb.specs.declared.query.Query.{Query}
 use Rattle.gix_odb.specs.declared.query.Query.TheVariants.{Find, Header, Test}
 use Rattle.gix_odb_world.specs.declared.work.Work.TheVariants.{Calling}
-use Rattle.gix_odb_world.specs.AtWork.{nothing_in_front}
+use Rattle.gix_odb_world.specs.AtWork.{nothing_in_front, Modes}
 use Rattle.gix_odb_world.specs.Event.{Event}
 use Rattle.gix_odb_world.specs.Running.Query.{IsLooking, call_of}
 use Rattle.gix_odb_world.specs.Status.{MakeCall, OpenStore, Store, Task, begun_with, running_from}
@@ -18,20 +18,20 @@ use Rattle.gix_odb_world.proofs.CallLemmas.{first_or_later}
 use Rattle.gix_odb_world.proofs.MachineLaws.{IsSized}
 use Rattle.gix_odb_world.proofs.RunLemmas.{none_failed_yet}
 
-module _ (first : Volume) (events : List Event) (e : Event) (handle : ℕ) (store : Store) (ignoring : Bool) where
+module _ (first : Volume) (events : List Event) (e : Event) (handle : ℕ) (store : Store) (modes : Modes) where
   abbrev whole : List Event
   whole = events ++ e ∷ []
 
   abbrev Begins : Task → LookState → Type 0
-  Begins task state = IsLooking first whole handle (running_from (length events + 1) task store ignoring) nothing_in_front state
+  Begins task state = IsLooking first whole handle (running_from (length events + 1) task store modes) nothing_in_front state
 
   abbrev begins_at : Query → LookState
-  begins_at query = looks.started store.parts.objects store.parts.limit query (sought store.parts ignoring query)
+  begins_at query = looks.started store.parts.objects store.parts.limit query (sought store.parts modes.ignoring query)
 
   -- a query that the event begins asks the objects directory, and all folders are ahead
   query_begins : (query : Query) → Begins (MakeCall (call_of query)) (begins_at query)
   query_begins query =
-      let count : length whole ≡ length events + 1 = length-append events (e ∷ []) in
+      let count : length whole ≡ length events + 1 = length_push events e in
       record {
         task = refl;
         place = 0;
@@ -55,7 +55,7 @@ module _ (first : Volume) (events : List Event) (e : Event) (handle : ℕ) (stor
   by_query query state at = let same : begins_at query ≡ state = cc at in subst (Begins (MakeCall (call_of query))) same (query_begins query)
 
   -- a state at which a task begins is that of its query
-  pub looking_starts : (task : Task) (state : LookState) → IsSized task → begun_with store ignoring task ≡ Calling (Looking state) → Begins task state
+  pub looking_starts : (task : Task) (state : LookState) → IsSized task → begun_with store modes task ≡ Calling (Looking state) → Begins task state
   looking_starts OpenStore state sized at = absurd (cc at)
   looking_starts (MakeCall (call_kinds.Find id)) state sized at = by_query (Find id) state at
   looking_starts (MakeCall (call_kinds.Header id)) state sized at = by_query (Header id) state at

@@ -2,10 +2,9 @@
 use Rattle.std.proofs.Common.{◌≡◌, inl, inr, ℕ, ◌+◌, ◌<◌, ◌≤◌, true, false, List, [], ◌∷◌, ◌++◌, length, take, Some, Ok, sym, ap, ◌∙◌, subst, arith}
 use Rattle.std.specs.Prelude.{slice_get}
 use Rattle.std.proofs.lemmas.Bool.{cases_lt}
-use Rattle.std.proofs.lemmas.List.{length-append}
+use Rattle.std.proofs.lemmas.List.{length_push}
 use Rattle.std.proofs.lemmas.Option.{slice_get_within}
 use Rattle.odb_base.specs.Path.{Path}
-use Rattle.odb_disk.specs.MemDisk.{Volume}
 use Rattle.odb_tree.specs.Tree.{IsTree, Tree, tree_of}
 use Rattle.odb_tree.specs.Tree.Change.{changed}
 use Rattle.odb_tree.specs.Tree.Follow.{read_of}
@@ -22,14 +21,13 @@ use Rattle.gix_odb_loose.specs.WriteOrder.{temp_path}
 use Rattle.gix_odb.specs.declared.call.Reply.TheVariants as replies
 use Rattle.gix_odb_world.specs.declared.step.Outcome.TheVariants as outcomes
 use Rattle.gix_odb_world.specs.Event.{Event}
-use Rattle.gix_odb_world.specs.Headline.{IsLawful}
 use Rattle.gix_odb_world.specs.Run.{disk_after, tree_at}
 use Rattle.gix_odb_world.specs.Status.{MakeCall}
-use Rattle.gix_odb_world.specs.Running.{RunsThroughout}
 use Rattle.gix_odb_world.specs.Undisturbed.{HasMade, IsUndisturbed}
 use Rattle.gix_odb_world.specs.WholeNames.{GivesName, ReadsWhole, name_path}
 use Rattle.gix_odb_world.specs.Writing.{AskedAt, IsRename, LeftAlone, ToWrite, call_to_write, name_to_write, to_write}
 use Rattle.gix_odb_world.specs.Written.{HasWritten}
+use Rattle.gix_odb_world.proofs.LawfulRun.{LawfulRun}
 use Rattle.gix_odb_world.proofs.FileSteps.{new_at}
 use Rattle.gix_odb_world.proofs.OwnFiles.Standing as files
 use Rattle.gix_odb_world.proofs.OwnFiles.Writer as writers
@@ -37,12 +35,14 @@ use Rattle.gix_odb_world.proofs.RunSteps.{front_of_front, is_tree_at, length_tak
 use Rattle.gix_odb_world.proofs.StandAlone.{Own, own_at_rename}
 use Rattle.gix_odb_world.proofs.RunLemmas.{slice_get-last}
 
-module _ (first : Volume) (events : List Event) (start : IsTree (tree_of first.state)) (lawful : IsLawful first events) (throughout : RunsThroughout first events) where
+module _ (run : LawfulRun) where
+  open run use {first, events, lawful}
+
   abbrev tree : ℕ → Tree
   tree = tree_at first events
 
   is_tree : (now : ℕ) → IsTree (tree now)
-  is_tree = is_tree_at first events start lawful
+  is_tree = is_tree_at run
 
   -- trees of a front of the run
   tree_front : (count place : ℕ) → place ≤ count → tree_at first (take count events) place ≡ tree place
@@ -78,7 +78,7 @@ module _ (first : Volume) (events : List Event) (start : IsTree (tree_of first.s
 
     ends : (id : ObjectId) × (gives.event.outcome ≡ outcomes.Reply (replies.Wrote id))
     ends =
-        writers.rename_ends first events start lawful throughout place gives.event gives.there gives.handle gives.running gives.folder gives.at gives.turn gives.from to gives.moves
+        writers.rename_ends run place gives.event gives.there gives.handle gives.running gives.call gives.at gives.turn gives.from to gives.moves
 
     keeps : HasWritten first upto gives.handle gives.running.begun (to_write gives.running.store.parts.objects w.kind w.size w.bytes w.known) ends.0
     keeps =
@@ -100,14 +100,15 @@ module _ (first : Volume) (events : List Event) (start : IsTree (tree_of first.s
 
     past_long : length written.past ≡ place
     past_long =
-        let one = ap length written.is ∙ length-append written.past (written.last ∷ []) in
-        let two = ap length upto_is ∙ length-append past (gives.event ∷ []) in
+        let one = ap length written.is ∙ length_push written.past written.last in
+        let two = ap length upto_is ∙ length_push past gives.event in
         let three = length_take events place gives.event gives.there in
         omega (arith, one, two, three)
 
     last_is : written.last ≡ gives.event
     last_is =
-        let here : slice_get upto place ≡ Some written.last = ap (λ n. slice_get upto n) (sym past_long) ∙ (ap (λ es. slice_get es (length written.past)) written.is ∙ slice_get-last written.past written.last) in
+        let here : slice_get upto place ≡ Some written.last = ap (λ n. slice_get upto n) (sym past_long)
+        ∙ (ap (λ es. slice_get es (length written.past)) written.is ∙ slice_get-last written.past written.last) in
         writers.one_event upto place written.last gives.event here (there_in_front events place (place + 1) gives.event (omega arith) gives.there)
 
     moved : Rename written.source written.target ≡ Rename gives.from to
@@ -120,7 +121,7 @@ module _ (first : Volume) (events : List Event) (start : IsTree (tree_of first.s
     tree_upto = ap (λ n. tree_at first upto (n + 1)) past_long ∙ tree_front (place + 1) (place + 1) (omega arith)
 
     made_whole : (written.made < place + 1) × AskedAt first events gives.handle written.made (asks.NewFile (temp_path w.objects written.number)) answers.Done
-    made_whole = writers.asked_whole first events start lawful throughout gives.handle (place + 1) written.made (temp_path w.objects written.number) written.makes
+    made_whole = writers.asked_whole run gives.handle (place + 1) written.made (temp_path w.objects written.number) written.makes
 
     made_before : written.made < place
     made_before = elim (cases_lt written.made place) [
@@ -128,7 +129,7 @@ module _ (first : Volume) (events : List Event) (start : IsTree (tree_of first.s
       | inr late ↦
           let before = made_whole.0 in
           let at : written.made ≡ place = omega (arith, before, late) in
-          let new = new_at first events start lawful gives.handle written.made (temp_path w.objects written.number) made_whole.1 in
+          let new = new_at run gives.handle written.made (temp_path w.objects written.number) made_whole.1 in
           let one : made_whole.1.event ≡ gives.event = writers.one_event events place made_whole.1.event gives.event (ap (slice_get events) (sym at) ∙ made_whole.1.there) gives.there in
           let both : Some (PutFile new.spot 0 []) ≡ Some (Rename gives.from to) = sym new.put ∙ (ap (λ (x : Event). x.entry.change) one ∙ gives.moves) in
           absurd (cc both)
@@ -140,7 +141,7 @@ module _ (first : Volume) (events : List Event) (start : IsTree (tree_of first.s
       made = written.made;
       has = record {
         running = gives.running;
-        folder = gives.folder;
+        call = gives.call;
         at = gives.at;
         later = written.later;
         before = made_before;
@@ -152,7 +153,8 @@ module _ (first : Volume) (events : List Event) (start : IsTree (tree_of first.s
       reads = λ alone free.
           let target : written.target ≡ to = cc moved in
           let was : LeftAlone first upto gives.handle (temp_path w.objects written.number) (written.made + 1) (length written.past) =
-          subst (LeftAlone first upto gives.handle (temp_path w.objects written.number) (written.made + 1)) (sym past_long) (alone_front gives.handle (written.made + 1) place (place + 1) (temp_path w.objects written.number) (omega arith) alone) in
+          subst (LeftAlone first upto gives.handle (temp_path w.objects written.number) (written.made + 1)) (sym past_long)
+          (alone_front gives.handle (written.made + 1) place (place + 1) (temp_path w.objects written.number) (omega arith) alone) in
           let clear : crosses (tree_at first upto (length written.past)) (name_path w) written.target ≡ false =
           ap (λ t. crosses t (name_path w) written.target) tree_past ∙ (ap (crosses (tree place) (name_path w)) target ∙ free) in
           ap (λ t. read_of t (name_path w)) (sym tree_upto) ∙ written.reads was clear;
@@ -162,8 +164,8 @@ module _ (first : Volume) (events : List Event) (start : IsTree (tree_of first.s
     renames_it = subst IsRename (sym gives.moves) tt
 
     module _ (calm : IsUndisturbed first events place) where
-      own : Own first events start lawful throughout gives.handle given.made (temp_path w.objects given.number) place
-      own = own_at_rename first events start lawful throughout place gives.event gives.handle given.made (temp_path w.objects given.number) calm gives.there gives.turn renames_it given.has
+      own : Own run gives.handle given.made (temp_path w.objects given.number) place
+      own = own_at_rename run place gives.event gives.handle given.made (temp_path w.objects given.number) calm gives.there gives.turn renames_it given.has
 
       from_is : file_spot (tree place) (temp_path w.objects given.number) ≡ Ok gives.from
       from_is =
@@ -173,7 +175,7 @@ module _ (first : Volume) (events : List Event) (start : IsTree (tree_of first.s
           own.own.leads ∙ ap Ok same
 
       next_is : tree (place + 1) ≡ changed (tree place) (Rename gives.from to)
-      next_is = files.changed_to first events start lawful throughout place gives.event gives.there (Rename gives.from to) gives.moves
+      next_is = files.changed_to run place gives.event gives.there (Rename gives.from to) gives.moves
 
       pub whole_after : crosses (tree place) (name_path w) to ≡ false → ReadsWhole first events (name_path w) w (place + 1)
       whole_after free = given.reads own.alone free

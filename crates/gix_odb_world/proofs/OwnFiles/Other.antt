@@ -1,9 +1,8 @@
 -- What the turn of another write makes of a temporary file.
-use Rattle.std.proofs.Common.{◌≡◌, ◌≢◌, ◌⊎◌, inl, inr, ℕ, ◌+◌, true, List, [], ◌∷◌, ◌++◌, Some, Ok, sym, ap, ◌∙◌, subst}
+use Rattle.std.proofs.Common.{◌≡◌, ◌≢◌, ◌⊎◌, inl, inr, ℕ, ◌+◌, true, [], ◌∷◌, ◌++◌, Some, Ok, sym, ap, ◌∙◌, subst}
 use Rattle.std.specs.Prelude.{slice_get}
 use Rattle.odb_base.specs.Path.{Name, Path}
-use Rattle.odb_disk.specs.MemDisk.{Volume}
-use Rattle.odb_tree.specs.Tree.{IsTree, Tree, tree_of}
+use Rattle.odb_tree.specs.Tree.{Tree}
 use Rattle.odb_tree.specs.Tree.Change.{changed}
 use Rattle.odb_tree.specs.Tree.Way.{SameOnWay, crosses}
 use Rattle.odb_tree.specs.Tree.Write.{file_spot}
@@ -12,20 +11,21 @@ use Rattle.odb_tree.proofs.OwnWayLaws.{Cut, OwnSpot, cut_after, cut_no_file, own
 use Rattle.gix_odb_loose.specs.WriteOrder.{temp_name}
 use Rattle.gix_odb_loose.proofs.NameLaws.{IsTemporary, temp_path-is}
 use Rattle.gix_odb_world.specs.Event.{Event}
-use Rattle.gix_odb_world.specs.Headline.{IsLawful}
 use Rattle.gix_odb_world.specs.Run.{tree_at}
-use Rattle.gix_odb_world.specs.Running.{RunsThroughout}
 use Rattle.gix_odb_world.specs.Undisturbed.{HasMade}
+use Rattle.gix_odb_world.proofs.LawfulRun.{LawfulRun}
 use Rattle.gix_odb_world.proofs.FileSteps.{NotTemporary}
 use Rattle.gix_odb_world.proofs.OwnFiles.Writer.{is_tree, ByWriter}
 use Rattle.gix_odb_world.proofs.OwnFiles.Standing.{Own, Lost, Files, changed_to, lost_by, Wrote, wrote, temporary, CutNow}
 
-module _ (first : Volume) (events : List Event) (start : IsTree (tree_of first.state)) (lawful : IsLawful first events) (throughout : RunsThroughout first events) where
+module _ (run : LawfulRun) where
+  open run use {first, events}
+
   abbrev tree : ℕ → Tree
   tree = tree_at first events
 
   module _ (now : ℕ) (e : Event) (there : slice_get events now ≡ Some e) where
-    module _ (files : Files first events start lawful throughout now) (handle made : ℕ) (path : Path) (hm : HasMade first events handle made path now) (b : ByWriter first events start lawful throughout now e) (apart : b.handle ≢ handle) where
+    module _ (files : Files run now) (handle made : ℕ) (path : Path) (hm : HasMade first events handle made path now) (b : ByWriter run now e) (apart : b.handle ≢ handle) where
       abbrev front : Path
       front = hm.running.store.parts.objects
 
@@ -36,21 +36,21 @@ module _ (first : Volume) (events : List Event) (start : IsTree (tree_of first.s
       path_is = hm.named ∙ temp_path-is front hm.number
 
       after_is : tree (now + 1) ≡ changed (tree now) b.change
-      after_is = changed_to first events start lawful throughout now e there b.change b.is
+      after_is = changed_to run now e there b.change b.is
 
-      another : (o : Own first events start lawful throughout handle made path now) (w : Wrote first events start lawful throughout now e there b)
+      another : (o : Own run handle made path now) (w : Wrote run now e there b)
           → w.from ≢ o.spot
       another o w same = elim w.whose [
-        | inl root ↦ stop_below_root (tree now) (is_tree first events start lawful throughout now) true path o.spot (own_stops (tree now) path o.spot o.own) (root ∙ same)
+        | inl root ↦ stop_below_root (tree now) (is_tree run now) true path o.spot (own_stops (tree now) path o.spot o.own) (root ∙ same)
         | inr his ↦ files.apart handle b.handle made his.0 path his.1 (λ h. apart (sym h)) hm his.2 o his.3.0 (sym (his.3.1 ∙ same))
       ]
 
       gone_by : Cut NotTemporary (tree (now + 1)) front → (r : Path) → file_spot (tree (now + 1)) path ≢ Ok r
-      gone_by cut r leads = cut_no_file NotTemporary (tree (now + 1)) (is_tree first events start lawful throughout (now + 1)) front name cut r (ap (file_spot (tree (now + 1))) (sym path_is) ∙ leads)
+      gone_by cut r leads = cut_no_file NotTemporary (tree (now + 1)) (is_tree run (now + 1)) front name cut r (ap (file_spot (tree (now + 1))) (sym path_is) ∙ leads)
 
-      cut_now : (o : Own first events start lawful throughout handle made path now) (w : Wrote first events start lawful throughout now e there b)
+      cut_now : (o : Own run handle made path now) (w : Wrote run now e there b)
           → ways.CutsOff (tree now) front name o.spot w.from b.change
-          → CutNow first events start lawful throughout now e there handle made path hm o.spot
+          → CutNow run now e there handle made path hm o.spot
       cut_now o w c =
           let cut : Cut NotTemporary (tree (now + 1)) front =
           record { stop = c.to; stops = subst (λ u. ways.Stops u true front c.to) (sym after_is) c.stops; apart = w.does_it.onto c.to c.is } in
@@ -70,22 +70,24 @@ module _ (first : Volume) (events : List Event) (start : IsTree (tree_of first.s
           }
 
       -- it leaves the file and its way alone, or cuts the way off
-      pub own_spared : (o : Own first events start lawful throughout handle made path now)
-          → SameOnWay (tree now) (tree (now + 1)) true path ⊎ CutNow first events start lawful throughout now e there handle made path hm o.spot
+      pub own_spared : (o : Own run handle made path now)
+          → SameOnWay (tree now) (tree (now + 1)) true path ⊎ CutNow run now e there handle made path hm o.spot
       own_spared o =
-          let w = wrote first events start lawful throughout now e there files b in
+          let w = wrote run now e there files b in
           let own = subst (λ p. OwnSpot (tree now) p o.spot) path_is o.own in
-          elim (own_after (tree now) (is_tree first events start lawful throughout now) front name o.spot own w.from (another o w) b.change w.does_it.own (λ p renames same. w.does_it.onto p renames (subst IsTemporary (sym same) (temporary first events start lawful throughout now e there handle made path hm o.spot o.own)))) [
+          elim (own_after (tree now) (is_tree run now) front name o.spot own w.from (another o w) b.change w.does_it.own
+          (λ p renames same. w.does_it.onto p renames (subst IsTemporary (sym same) (temporary run now e there handle made path hm o.spot o.own)))) [
             | inl same ↦ inl (subst (λ u. SameOnWay (tree now) u true path) (sym after_is) (subst (SameOnWay (tree now) (changed (tree now) b.change) true) (sym path_is) same))
             | inr c ↦ inr (cut_now o w c)
           ]
 
       -- a way that was cut off stays so
-      pub lost_spared : Lost first events start lawful throughout path now → Lost first events start lawful throughout path (now + 1)
+      pub lost_spared : Lost run path now → Lost run path (now + 1)
       lost_spared l =
-          let w = wrote first events start lawful throughout now e there files b in
+          let w = wrote run now e there files b in
           let away : w.from ≢ l.cut.stop = λ same. elim w.whose [
-            | inl root ↦ stop_below_root (tree now) (is_tree first events start lawful throughout now) true l.front l.cut.stop l.cut.stops (root ∙ same)
-            | inr his ↦ l.cut.apart (subst IsTemporary (his.3.1 ∙ same) (temporary first events start lawful throughout now e there b.handle his.0 his.1 his.2 his.3.0.spot his.3.0.own))
+            | inl root ↦ stop_below_root (tree now) (is_tree run now) true l.front l.cut.stop l.cut.stops (root ∙ same)
+            | inr his ↦ l.cut.apart (subst IsTemporary (his.3.1 ∙ same) (temporary run now e there b.handle his.0 his.1 his.2 his.3.0.spot his.3.0.own))
           ] in
-          lost_by first events start lawful throughout now e there path l (subst (λ u. Cut NotTemporary u l.front) (sym after_is) (cut_after NotTemporary (tree now) l.front l.cut (is_tree first events start lawful throughout now) w.from b.change w.does_it.own away w.does_it.onto))
+          lost_by run now e there path l (subst (λ u. Cut NotTemporary u l.front) (sym after_is)
+          (cut_after NotTemporary (tree now) l.front l.cut (is_tree run now) w.from b.change w.does_it.own away w.does_it.onto))

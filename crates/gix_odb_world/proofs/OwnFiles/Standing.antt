@@ -1,12 +1,11 @@
 -- What has become of a temporary file after an event: it stands at its own spot, or its way was cut off.
-use Rattle.std.proofs.Common.{◌≡◌, ◌≢◌, ◌⊎◌, inl, inr, ℕ, ◌+◌, ◌<◌, Bool, true, false, List, [], take, Option, Some, None, Ok, refl, sym, ap, ◌∙◌, subst, arith}
+use Rattle.std.proofs.Common.{◌≡◌, ◌≢◌, ◌⊎◌, inl, inr, ℕ, ◌+◌, ◌<◌, Bool, true, false, [], take, Option, Some, None, Ok, refl, sym, ap, ◌∙◌, subst, arith}
 use Rattle.std.specs.Prelude.{slice_get, ◌==◌}
 use Rattle.std.proofs.lemmas.Bool.{eqb-false, eqb-true}
 use Rattle.std.proofs.lemmas.Option.{slice_get_within}
 use Rattle.odb_base.specs.Path.{Path, parent_of}
 use Rattle.odb_base.specs.PathLaws.{parent_of-push, parent_of-some}
-use Rattle.odb_disk.specs.MemDisk.{Volume}
-use Rattle.odb_tree.specs.Tree.{IsTree, Tree, tree_of}
+use Rattle.odb_tree.specs.Tree.{Tree}
 use Rattle.odb_tree.specs.Tree.Change.{changed}
 use Rattle.odb_tree.specs.Tree.Way.{SameOnWay}
 use Rattle.odb_tree.specs.Tree.Write.{file_spot, spot}
@@ -23,12 +22,11 @@ use Rattle.gix_odb_loose.proofs.NameLaws.{IsTemporary, temp_path-is, temporary_s
 use Rattle.gix_odb.specs.CallOrder.{hash_to_write}
 use Rattle.gix_odb_world.specs.Event.{Event}
 use Rattle.gix_odb_world.specs.Status.{IsAtWrite, Running, Store, Status, status_after, status_of}
-use Rattle.gix_odb_world.specs.Headline.{IsLawful}
 use Rattle.gix_odb_world.specs.Run.{IsTurnOf, tree_at}
-use Rattle.gix_odb_world.specs.Running.{RunsThroughout}
 use Rattle.gix_odb_world.specs.Running.Write.{IsWriting, write_at}
 use Rattle.gix_odb_world.specs.Undisturbed.{CutsOff, HasMade}
 use Rattle.gix_odb_world.specs.Writing.{LeftAlone, ToWrite, head_to_write}
+use Rattle.gix_odb_world.proofs.LawfulRun.{LawfulRun}
 use Rattle.gix_odb_world.proofs.FileSteps.{Does, NotTemporary, does, does_first, does_nothing}
 use Rattle.gix_odb_world.proofs.FileSteps.AtWrite.{AtWrite, write_before}
 use Rattle.gix_odb_world.proofs.MachineLaws.{HasNoFile}
@@ -39,17 +37,19 @@ abbrev job_at : ToWrite → WriteStage → WriteJob
 job_at w stage = record { head = head_to_write w; stage = stage; bytes = w.bytes; hash = hash_to_write w.known; known = w.known }
 
 -- a write at a stage that has a file has made it
-makes_no_more : (w : ToWrite) (stage : WriteStage) (number : ℕ) (folder : LooseCall) → folder ≡ write_at w stage → number_made stage ≡ Some number
-    → ¬ (HasNoFile folder)
-makes_no_more w stage number folder is made none =
+makes_no_more : (w : ToWrite) (stage : WriteStage) (number : ℕ) (call : LooseCall) → call ≡ write_at w stage → number_made stage ≡ Some number
+    → ¬ (HasNoFile call)
+makes_no_more w stage number call is made none =
     let same : write_at w stage ≡ write_at none.write (Making none.number) = sym is ∙ none.is in
-    let staged : Writing (job_at w stage) ≡ Writing (job_at none.write (Making none.number)) = ap (λ (call : LooseCall). call.stage) same in
+    let staged : Writing (job_at w stage) ≡ Writing (job_at none.write (Making none.number)) = ap (λ (loose : LooseCall). loose.stage) same in
     let jobs : job_at w stage ≡ job_at none.write (Making none.number) = cc staged in
     let at : stage ≡ Making none.number = ap (λ (job : WriteJob). job.stage) jobs in
     let both : None ≡ Some number = ap number_made (sym at) ∙ made in
     cc both
 
-module _ (first : Volume) (events : List Event) (start : IsTree (tree_of first.state)) (lawful : IsLawful first events) (throughout : RunsThroughout first events) where
+module _ (run : LawfulRun) where
+  open run use {first, events}
+
   abbrev tree : ℕ → Tree
   tree = tree_at first events
 
@@ -77,7 +77,7 @@ module _ (first : Volume) (events : List Event) (start : IsTree (tree_of first.s
   pub lost_no_file : (now : ℕ) (path : Path) → Lost path now → (s : Path) → file_spot (tree now) path ≢ Ok s
   lost_no_file now path lost s leads =
       let named = parent_of-some path lost.front lost.parent in
-      cut_no_file NotTemporary (tree now) (is_tree first events start lawful throughout now) lost.front named.0 lost.cut s (ap (file_spot (tree now)) (sym named.1) ∙ leads)
+      cut_no_file NotTemporary (tree now) (is_tree run now) lost.front named.0 lost.cut s (ap (file_spot (tree now)) (sym named.1) ∙ leads)
 
   pub parent_made : (handle made now : ℕ) (path : Path) (hm : HasMade first events handle made path now)
       → parent_of path ≡ Some hm.running.store.parts.objects
@@ -91,24 +91,24 @@ module _ (first : Volume) (events : List Event) (start : IsTree (tree_of first.s
   -- ---- one event more
 
   -- a handle that is at a write after an event, by the status that the event left
-  pub at_write_next : (now : ℕ) (e : Event) → slice_get events now ≡ Some e → (handle : ℕ) (running : Running) (folder : LooseCall)
-      → IsAtWrite (status_of (take (now + 1) events) handle) running folder
+  pub at_write_next : (now : ℕ) (e : Event) → slice_get events now ≡ Some e → (handle : ℕ) (running : Running) (call : LooseCall)
+      → IsAtWrite (status_of (take (now + 1) events) handle) running call
       → AtWrite running.store running.begun (status_after (now + 1) e.step e.outcome e.asked (status_of (take now events)) handle)
-  at_write_next now e there handle running folder at =
+  at_write_next now e there handle running call at =
       record {
         running = running;
-        folder = folder;
-        at = record { works = ap (λ (table : ℕ → Status). table handle) (sym (status_next first events start lawful now e there)) ∙ at.works; writes = at.writes };
+        call = call;
+        at = record { works = ap (λ (table : ℕ → Status). table handle) (sym (status_next run now e there)) ∙ at.works; writes = at.writes };
         in_store = refl;
         since = refl;
       }
 
   module _ (now : ℕ) (e : Event) (there : slice_get events now ≡ Some e) where
     pub unchanged : e.entry.change ≡ None → tree (now + 1) ≡ tree now
-    unchanged none = subst (IsLeft (tree now) (tree (now + 1))) none (left_at first events start lawful now e there)
+    unchanged none = subst (IsLeft (tree now) (tree (now + 1))) none (left_at run now e there)
 
     pub changed_to : (c : Change) → e.entry.change ≡ Some c → tree (now + 1) ≡ changed (tree now) c
-    changed_to c is = subst (IsLeft (tree now) (tree (now + 1))) is (left_at first events start lawful now e there)
+    changed_to c is = subst (IsLeft (tree now) (tree (now + 1))) is (left_at run now e there)
 
     pub alone_push : (handle from : ℕ) (path : Path) → LeftAlone first events handle path from now
         → (¬ (IsTurnOf handle e.step) → SameOnWay (tree now) (tree (now + 1)) true path) → LeftAlone first events handle path from (now + 1)
@@ -127,18 +127,18 @@ module _ (first : Volume) (events : List Event) (start : IsTree (tree_of first.s
     unfolding at_write_next
     made_before handle made path hm soon =
         let later = hm.later in
-        let at = at_write_next now e there handle hm.running hm.folder hm.at in
+        let at = at_write_next now e there handle hm.running hm.call hm.at in
         let within = slice_get_within events now e there in
-        let writes : IsWriting first (take (now + 1) events) handle hm.running hm.folder =
-        writing_at first events start lawful throughout (now + 1) handle hm.running hm.folder (omega (arith, within)) hm.at in
-        let stage = stage_of_made first events start lawful throughout handle made (now + 1) path hm writes in
-        let past = makes_no_more writes.write writes.stage stage.0 hm.folder writes.is stage.1 in
+        let writes : IsWriting first (take (now + 1) events) handle hm.running hm.call =
+        writing_at run (now + 1) handle hm.running hm.call (omega (arith, within)) hm.at in
+        let stage = stage_of_made run handle made (now + 1) path hm writes in
+        let past = makes_no_more writes.write writes.stage stage.0 hm.call writes.is stage.1 in
         let was =
         write_before hm.running.store hm.running.begun (status_of (take now events)) handle (now + 1) e.step e.outcome e.asked (omega (arith, later, soon)) (record { at = at; past = past }) in
         let since = was.since in
         record {
           running = was.running;
-          folder = was.folder;
+          call = was.call;
           at = was.at;
           later = omega (arith, later, since);
           before = soon;
@@ -150,7 +150,14 @@ module _ (first : Volume) (events : List Event) (start : IsTree (tree_of first.s
     pub own_same : (handle made : ℕ) (path : Path) → SameOnWay (tree now) (tree (now + 1)) true path → Own handle made path now
         → Own handle made path (now + 1)
     own_same handle made path same o =
-        record { spot = o.spot; event = o.event; there = o.there; put = o.put; own = own_kept (tree now) (tree (now + 1)) path o.spot same o.own; alone = alone_push handle (made + 1) path o.alone (λ _. same) }
+        record {
+          spot = o.spot;
+          event = o.event;
+          there = o.there;
+          put = o.put;
+          own = own_kept (tree now) (tree (now + 1)) path o.spot same o.own;
+          alone = alone_push handle (made + 1) path o.alone (λ _. same);
+        }
 
     pub lost_by : (path : Path) (l : Lost path now) → Cut NotTemporary (tree (now + 1)) l.front → Lost path (now + 1)
     lost_by path l cut = record { front = l.front; parent = l.parent; cut = cut }
@@ -164,26 +171,27 @@ module _ (first : Volume) (events : List Event) (start : IsTree (tree_of first.s
     same_way path none = same_tree_on_way (tree now) (tree (now + 1)) path (unchanged none)
 
     -- the writer's own file, where it has one
-    pub record Wrote (b : ByWriter first events start lawful throughout now e) : Type 0 where
+    pub record Wrote (b : ByWriter run now e) : Type 0 where
       pub from : Path
       pub does_it : Does (tree now) from b.change
       pub whose : ([] ≡ from) ⊎ ((made : ℕ) × (path : Path) × HasMade first events b.handle made path now × ((o : Own b.handle made path now) × (o.spot ≡ from)))
 
-    pub wrote : Files now → (b : ByWriter first events start lawful throughout now e) → Wrote b
+    pub wrote : Files now → (b : ByWriter run now e) → Wrote b
     unfolding made_at_stage
     wrote files b = by_number (number_made b.writes.stage) refl
       where
         by_number : (number : Option ℕ) → number_made b.writes.stage ≡ number → Wrote b
-        by_number None none = record { from = []; does_it = does_first (tree now) (is_tree first events start lawful throughout now) b.running.store.parts.objects b.change b.writes.stage [] none b.moves; whose = inl refl }
+        by_number None none = record { from = []; does_it = does_first (tree now) (is_tree run now) b.running.store.parts.objects b.change b.writes.stage [] none b.moves; whose = inl refl }
         by_number (Some number) stage =
-            let hm = made_at_stage first events start lawful throughout now b.handle b.running b.folder b.at b.writes number stage in
+            let hm = made_at_stage run now b.handle b.running b.call b.at b.writes number stage in
             elim (files.each b.handle hm.0 (temp_path b.running.store.parts.objects number) hm.1) [
               | inl o ↦ record {
                 from = o.spot;
-                does_it = does (tree now) (is_tree first events start lawful throughout now) b.running.store.parts.objects b.change b.writes.stage number o.spot stage o.own b.moves;
+                does_it = does (tree now) (is_tree run now) b.running.store.parts.objects b.change b.writes.stage number o.spot stage o.own b.moves;
                 whose = inr (hm.0, temp_path b.running.store.parts.objects number, hm.1, (o, refl));
               }
-              | inr lost ↦ absurd (does_nothing (tree now) (is_tree first events start lawful throughout now) b.running.store.parts.objects b.change b.writes.stage number stage (cut_made b.handle hm.0 now (temp_path b.running.store.parts.objects number) hm.1 now lost) b.moves)
+              | inr lost ↦ absurd (does_nothing (tree now) (is_tree run now) b.running.store.parts.objects b.change b.writes.stage number stage
+                  (cut_made b.handle hm.0 now (temp_path b.running.store.parts.objects number) hm.1 now lost) b.moves)
             ]
 
     pub temporary : (handle made : ℕ) (path : Path) → HasMade first events handle made path now → (s : Path) → OwnSpot (tree now) path s

@@ -4,8 +4,7 @@ use Rattle.std.specs.Prelude.{slice_get}
 use Rattle.std.proofs.lemmas.Option.{slice_get_within}
 use Rattle.odb_base.specs.Path.{Path}
 use Rattle.odb_disk.specs.Ask.{answer_now}
-use Rattle.odb_disk.specs.MemDisk.{Volume}
-use Rattle.odb_tree.specs.Tree.{IsTree, Tree, tree_of}
+use Rattle.odb_tree.specs.Tree.{Tree}
 use Rattle.odb_tree.specs.Tree.Change.{changed}
 use Rattle.odb_tree.specs.Tree.Write.{change_of_append}
 use Rattle.odb_tree.specs.declared.change.Change.{Change}
@@ -20,20 +19,23 @@ use Rattle.gix_odb_loose.specs.declared.write_order.WriteStage.TheVariants as st
 use Rattle.gix_odb_world.specs.declared.step.Outcome.TheVariants as outcomes
 use Rattle.gix_odb_world.specs.Event.{Event}
 use Rattle.gix_odb_world.specs.Status.{status_of}
-use Rattle.gix_odb_world.specs.Headline.{IsLawful, outcome_of}
+use Rattle.gix_odb_world.specs.Headline.{outcome_of}
 use Rattle.gix_odb_world.specs.Run.{IsTurnOf, disk_after, tree_at}
-use Rattle.gix_odb_world.specs.Running.{RunsThroughout}
 use Rattle.gix_odb_world.specs.Running.Write.{IsWriting, result_of_write, write_at}
 use Rattle.gix_odb_world.specs.Undisturbed.{HasMade}
 use Rattle.gix_odb_world.specs.Writing.{IsRename}
+use Rattle.gix_odb_world.proofs.LawfulRun.{LawfulRun}
 use Rattle.gix_odb_world.proofs.DiskTurns.{CallsDisk, calls_disk}
 use Rattle.gix_odb_world.proofs.FileSteps.{WriterMoves, does_nothing}
 use Rattle.gix_odb_world.proofs.RunSteps.{there_in_front}
 use Rattle.gix_odb_world.proofs.WorkLaws.{ends_as_write}
-use Rattle.gix_odb_world.proofs.OwnFiles.Writer.{removing_ends, no_write_after, is_tree, writing_at, stage_of_made, within_events, moves_of}
+use Rattle.gix_odb_world.proofs.OwnFiles.Ends.{no_write_after, removing_ends}
+use Rattle.gix_odb_world.proofs.OwnFiles.Writer.{is_tree, writing_at, stage_of_made, within_events, moves_of}
 use Rattle.gix_odb_world.proofs.OwnFiles.Standing.{Own, Lost, cut_made, at_write_next, changed_to, alone_push, own_same, same_way}
 
-module _ (first : Volume) (events : List Event) (start : IsTree (tree_of first.state)) (lawful : IsLawful first events) (throughout : RunsThroughout first events) where
+module _ (run : LawfulRun) where
+  open run use {first, events, lawful}
+
   abbrev tree : ℕ → Tree
   tree = tree_at first events
 
@@ -42,79 +44,79 @@ module _ (first : Volume) (events : List Event) (start : IsTree (tree_of first.s
       works : CallsDisk first (take now events) handle hm.running e
       works = calls_disk first (take now events) handle hm.running e ((lawful now e there).worked handle hm.running (record { step = turn; status = hm.at.works }))
 
-      writes : IsWriting first (take now events) handle hm.running hm.folder
-      writes = writing_at first events start lawful throughout now handle hm.running hm.folder (within_events first events start lawful throughout now e there) hm.at
+      writes : IsWriting first (take now events) handle hm.running hm.call
+      writes = writing_at run now handle hm.running hm.call (within_events run now e there) hm.at
 
       own_moves : (c : Change) → e.entry.change ≡ Some c → WriterMoves (tree now) hm.running.store.parts.objects writes.stage c
-      own_moves c is = moves_of first events start lawful throughout now e handle hm.running hm.folder hm.at.writes writes works c is
+      own_moves c is = moves_of run now e handle hm.running hm.call hm.at.writes writes works c is
 
       -- one that was cut off changes nothing
-      pub lost_turn : Lost first events start lawful throughout path now → e.entry.change ≡ None
+      pub lost_turn : Lost run path now → e.entry.change ≡ None
       lost_turn l = by_change e.entry.change refl
         where
           by_change : (change : Option Change) → e.entry.change ≡ change → e.entry.change ≡ None
           by_change None is = is
           by_change (Some c) is =
-              let at = stage_of_made first events start lawful throughout handle made now path hm writes in
-              absurd (does_nothing (tree now) (is_tree first events start lawful throughout now) hm.running.store.parts.objects c writes.stage at.0 at.1 (cut_made first events start lawful throughout handle made now path hm now l) (own_moves c is))
+              let at = stage_of_made run handle made now path hm writes in
+              absurd (does_nothing (tree now) (is_tree run now) hm.running.store.parts.objects c writes.stage at.0 at.1 (cut_made run handle made now path hm now l) (own_moves c is))
 
       -- one that goes on leaves its file at its spot
-      pub own_turn : (o : Own first events start lawful throughout handle made path now) → HasMade first events handle made path (now + 1)
-          → Own first events start lawful throughout handle made path (now + 1)
+      pub own_turn : (o : Own run handle made path now) → HasMade first events handle made path (now + 1)
+          → Own run handle made path (now + 1)
       own_turn o after = by_change e.entry.change refl
         where
           at : (number : ℕ) × (number_made writes.stage ≡ Some number) × (path ≡ temp_path hm.running.store.parts.objects number)
-          at = stage_of_made first events start lawful throughout handle made now path hm writes
+          at = stage_of_made run handle made now path hm writes
 
           unnamed : ¬ (IsRename e.entry.change)
           unnamed =
               let later = after.later in
               let before = hm.before in
               let within = slice_get_within events now e there in
-              let writes_on = writing_at first events start lawful throughout (now + 1) handle after.running after.folder (omega (arith, within)) after.at in
+              let writes_on = writing_at run (now + 1) handle after.running after.call (omega (arith, within)) after.at in
               writes_on.stands.unnamed now e (omega (arith, later, before)) (there_in_front events now (now + 1) e (omega arith) there) turn
 
           goes_on : (number : ℕ) (refusal : Refusal) → writes.stage ≡ stages.Removing number refusal → ⊥
           goes_on number refusal stage =
-              let same : hm.folder ≡ write_at writes.write (stages.Removing number refusal) = writes.is ∙ ap (write_at writes.write) stage in
+              let same : hm.call ≡ write_at writes.write (stages.Removing number refusal) = writes.is ∙ ap (write_at writes.write) stage in
               let answer = answer_now (disk_after first (take now events)) works.ask in
               let ends = removing_ends writes.write number refusal answer in
-              let done : result_of_write (loose_order.fed hm.folder answer) ≡ Ok ends.0 = ap (λ f. result_of_write (loose_order.fed f answer)) same ∙ ends.1 in
-              let outcome : e.outcome ≡ outcomes.Reply ends.0 = works.goes ∙ ap outcome_of (ends_as_write hm.running.store hm.running.work hm.folder answer ends.0 hm.at.writes done) in
+              let done : result_of_write (loose_order.fed hm.call answer) ≡ Ok ends.0 = ap (λ f. result_of_write (loose_order.fed f answer)) same ∙ ends.1 in
+              let outcome : e.outcome ≡ outcomes.Reply ends.0 = works.goes ∙ ap outcome_of (ends_as_write hm.running.store hm.running.work hm.call answer ends.0 hm.at.writes done) in
               no_write_after after.running.store after.running.begun (now + 1) e.step e.outcome e.asked (status_of (take now events)) handle ends.0 turn outcome
-              (at_write_next first events start lawful throughout now e there handle after.running after.folder after.at)
+              (at_write_next run now e there handle after.running after.call after.at)
 
           own_by : (c : Change) → e.entry.change ≡ Some c → OwnSpot (changed (tree now) c) path o.spot
-              → Own first events start lawful throughout handle made path (now + 1)
+              → Own run handle made path (now + 1)
           own_by c is own =
               record {
                 spot = o.spot;
                 event = o.event;
                 there = o.there;
                 put = o.put;
-                own = subst (λ u. OwnSpot u path o.spot) (sym (changed_to first events start lawful throughout now e there c is)) own;
-                alone = alone_push first events start lawful throughout now e there handle (made + 1) path o.alone (λ other. absurd (other turn));
+                own = subst (λ u. OwnSpot u path o.spot) (sym (changed_to run now e there c is)) own;
+                alone = alone_push run now e there handle (made + 1) path o.alone (λ other. absurd (other turn));
               }
 
           appended : (c : Change) (n : ℕ) (more : List ℕ) → e.entry.change ≡ Some c → at.0 ≡ n
               → change_of_append (tree now) (temp_path hm.running.store.parts.objects n) more ≡ Ok c
-              → Own first events start lawful throughout handle made path (now + 1)
+              → Own run handle made path (now + 1)
           appended c n more is same moves =
               let named : path ≡ temp_path hm.running.store.parts.objects n = at.2 ∙ ap (temp_path hm.running.store.parts.objects) same in
-              own_by c is (own_appended (tree now) (is_tree first events start lawful throughout now) path c o.spot o.own more (ap (λ p. change_of_append (tree now) p more) named ∙ moves))
+              own_by c is (own_appended (tree now) (is_tree run now) path c o.spot o.own more (ap (λ p. change_of_append (tree now) p more) named ∙ moves))
 
           by_stage : (c : Change) → e.entry.change ≡ Some c → (stage : WriteStage) → writes.stage ≡ stage → number_made stage ≡ Some at.0
-              → WriterMoves (tree now) hm.running.store.parts.objects stage c → Own first events start lawful throughout handle made path (now + 1)
+              → WriterMoves (tree now) hm.running.store.parts.objects stage c → Own run handle made path (now + 1)
           by_stage c is (stages.Making n) stage number moves = absurd (cc number)
           by_stage c is (stages.Heading n) stage number moves = appended c n moves.0 is (cc number) moves.1
           by_stage c is (stages.Filling n written) stage number moves = appended c n moves.0 is (cc number) moves.1
           by_stage c is (stages.Foldering n id) stage number moves =
-              own_by c is (own_kept (tree now) (changed (tree now) c) path o.spot (own_foldered (tree now) (is_tree first events start lawful throughout now) path c o.spot o.own _ moves) o.own)
+              own_by c is (own_kept (tree now) (changed (tree now) c) path o.spot (own_foldered (tree now) (is_tree run now) path c o.spot o.own _ moves) o.own)
           by_stage c is (stages.Moving n id) stage number moves =
               let r = rename_change (tree now) (temp_path hm.running.store.parts.objects n) c (loose_path hm.running.store.parts.objects id) moves in
               absurd (unnamed (subst IsRename (sym (is ∙ ap Some r.4)) tt))
           by_stage c is (stages.Removing n refusal) stage number moves = absurd (goes_on n refusal stage)
 
-          by_change : (change : Option Change) → e.entry.change ≡ change → Own first events start lawful throughout handle made path (now + 1)
-          by_change None is = own_same first events start lawful throughout now e there handle made path (same_way first events start lawful throughout now e there path is) o
+          by_change : (change : Option Change) → e.entry.change ≡ change → Own run handle made path (now + 1)
+          by_change None is = own_same run now e there handle made path (same_way run now e there path is) o
           by_change (Some c) is = by_stage c is writes.stage refl at.1 (own_moves c is)

@@ -61,7 +61,7 @@ turn_asking first events e handle (Some (ToCore event)) turn did asked change tr
 
 module _ (first : Volume) (events : List Event) (handle : ℕ) (running : Running) (task : Task) where
   pub order_of : (ask : Option Ask) → TakesTurn first events handle running task ask
-      → AsksAsTask first events handle running.store running.ignoring running.begun running.turns task ask
+      → AsksAsTask first events handle running.store running.modes running.begun running.turns task ask
   order_of None takes = takes
   order_of (Some (ToDisk ask)) takes = takes.in_order
   order_of (Some (ToCore event)) takes = absurd event

@@ -15,11 +15,11 @@ use Rattle.gix_odb_world.proofs.Machines.{laws_at}
 module _ (first : Volume) (events : List Event) (handle : ℕ) (running : Running) (work : Work) (knows : Knows first events handle running work) where
   -- what it asks for comes in the order of its task, and makes a change that the task may make
   pub turn_of : TakesTurn first events handle running running.task (ask_in running.store work)
-  turn_of = (laws_at work).takes first events handle running (at work).state knows
+  turn_of = (laws_at work).turns.takes first events handle running (at work).state knows
 
   -- where it asks for nothing, it has its reply
   pub end_of : ask_in running.store work ≡ None → (reply : Reply) × (fed_in running.store work None ≡ Ok reply)
-  end_of none = let ends = (laws_at work).ends first events handle running (at work).state knows none in (ends.0, ap (placed (at work).machine) ends.1)
+  end_of none = let ends = (laws_at work).turns.ends first events handle running (at work).state knows none in (ends.0, ap (placed (at work).machine) ends.1)
 
 -- what a machine comes to, among all work
 placed_comes : (first : Volume) (events : List Event) (e : Event) (handle : ℕ) (running : Running) (m : Machine) → KeepsLaws m
@@ -40,4 +40,4 @@ pub come_of : (first : Volume) (events : List Event) (e : Event) (handle : ℕ) 
 come_of first events e handle running since work knows is =
     placed_comes first events e handle running (at work).machine (laws_at work)
     ((at work).machine.feed running.store (at work).state (answer_after first events (ask_in running.store work)))
-    ((laws_at work).comes first events e handle running since (at work).state knows is)
+    ((laws_at work).turns.comes first events e handle running since (at work).state knows is)

@@ -1,19 +1,17 @@
 -- What a turn of a write comes to: what it knows where it goes on, and what its end keeps of its promise.
 use Rattle.std.specs.Prelude.{◌==◌, Bool, true, false, nat_le, if◌then◌else◌}
-use Rattle.std.proofs.Common.{◌≡◌, ℕ, ◌+◌, ◌≤◌, List, [], ◌∷◌, ◌++◌, length, take, Contains, Option, Some, None, Ok, Err, refl, sym, ap, ◌∙◌, subst, zero, suc, ◌⊎◌, arith, inl, inr, length-append}
+use Rattle.std.proofs.Common.{◌≡◌, ℕ, ◌+◌, List, [], ◌∷◌, ◌++◌, length, take, Contains, Option, Some, None, Ok, Err, refl, sym, ap, ◌∙◌, subst, zero, suc, ◌⊎◌, arith, inl, inr}
 use Rattle.std.proofs.lemmas.Grind.{common_steps}
-use Rattle.std.proofs.lemmas.List.{take_all}
+use Rattle.std.proofs.lemmas.List.{take_all, length_push}
 use Rattle.std.proofs.lemmas.List.Elements.{Contains-append_cases}
 use Rattle.odb_base.specs.Path.{Path}
 use Rattle.odb_disk.specs.Ask.{answer_now}
-use Rattle.odb_disk.specs.MemDisk.{Volume}
 use Rattle.odb_tree.specs.Tree.Write.{written}
 use Rattle.odb_disk.specs.declared.ask.DiskAnswer.{DiskAnswer}
 use Rattle.odb_disk.specs.declared.ask.DiskAnswer.TheVariants as answers
 use Rattle.odb_disk.specs.declared.ask.DiskAsk.{DiskAsk}
 use Rattle.odb_disk.specs.declared.ask.DiskAsk.TheVariants as asks
 use Rattle.odb_tree.specs.declared.disk_error.DiskError.TheVariants as disk_errors
-use Rattle.gix_hash.specs.declared.object_id.ObjectId.{ObjectId}
 use Rattle.gix_object.specs.Loose.{header_of}
 use Rattle.gix_odb.specs.CallOrder.{hash_to_write}
 use Rattle.gix_odb_loose.proofs.CauseLaws.Write.{WriteCause-wider}
@@ -24,7 +22,6 @@ use Rattle.gix_odb_loose.proofs.WriteCauseLaws.{refused_cause}
 use Rattle.gix_odb_loose.proofs.WriteDoneLaws.{IsAlong-done}
 use Rattle.gix_odb_loose.specs.WriteJobs.{supplied}
 use Rattle.gix_odb_loose.specs.WriteOrder.{error_from, number_made, temp_path}
-use Rattle.gix_odb_loose.specs.WriteStreams.{OtherLength}
 use Rattle.gix_odb_loose.specs.declared.write.Error.TheVariants as loose_errors
 use Rattle.gix_odb_loose.specs.declared.write.Message.TheVariants as messages
 use Rattle.gix_odb_loose.specs.declared.write_at_hand.Onward.{Onward}
@@ -33,34 +30,26 @@ use Rattle.gix_odb_loose.specs.declared.write_order.Refusal.{Refusal}
 use Rattle.gix_odb_loose.specs.declared.write_order.Refusal.TheVariants as refusals
 use Rattle.gix_odb_loose.specs.declared.write_order.WriteAsk.{WriteAsk}
 use Rattle.gix_odb_loose.specs.declared.write_order.WriteAsk.TheVariants as wants
-use Rattle.gix_odb_loose.specs.declared.write_order.WriteHead.{WriteHead}
 use Rattle.gix_odb_loose.specs.declared.write_order.WriteStage.TheVariants as stages
 use Rattle.gix_odb_world.specs.Event.{Event}
 use Rattle.gix_odb_world.specs.Run.{disk_after}
 use Rattle.gix_odb_world.specs.Running.Write.{Holds, HoldsFile, IsUntouched, StandsAt, content_at, job_to_write}
-use Rattle.gix_odb_world.specs.Writing.{AskedAt, AskedSince, CauseOfWrite, ChangedNothing, DoneSince, IsNewFile, IsRename, MadeOnly, RefusedSince, RenamedNothing, TakenSince, ToWrite, head_to_write, name_to_write}
+use Rattle.gix_odb_world.specs.Writing.{AskedAt, AskedSince, CauseOfWrite, ChangedNothing, DoneSince, GetsName, HasOther, IsNewFile, IsRename, TurnsMadeOnly, RefusedSince, NoTurnRenamed, TakenSince, head_to_write, name_to_write}
 use Rattle.gix_odb_world.specs.Written.{HasWritten, WasRefused}
 use Rattle.gix_odb_world.proofs.RefusedLemmas.{refused_on_way}
 use Rattle.gix_odb_world.proofs.WriteAsk.Quiet.{never_wants}
 use Rattle.gix_odb_world.proofs.WriteKept.{asked_kept, each_turn_push}
-use Rattle.gix_odb_world.proofs.WriteTurn.Common.{IsTurnWith, made_same, own}
+use Rattle.gix_odb_world.proofs.WriteTurn.Common.{made_same, Makes, own, TurnOfWrite}
 
-module _ (first : Volume) (events : List Event) (e : Event) (handle begun turns : ℕ) (w : ToWrite) (since : begun ≤ length events) where
+module _ (t : TurnOfWrite) where
+  open t use {first, events, e, handle, begun, turns, w, since}
+
   abbrev whole : List Event
   whole = events ++ e ∷ []
 
-  abbrev head : WriteHead
-  head = head_to_write w
-
-  abbrev Named : ObjectId → Type 0
-  Named id = id ≡ name_to_write w
-
-  abbrev Counted : ℕ → Type 0
-  Counted n = OtherLength (Some w.bytes) w.size n
-
-  module _ (ask : DiskAsk) (is : IsTurnWith first events e handle ask) (answer : DiskAnswer) (given : answer ≡ answer_now (disk_after first events) ask) where
+  module _ (ask : DiskAsk) (is : Makes t ask) (answer : DiskAnswer) (given : answer ≡ answer_now (disk_after first events) ask) where
     asked_since : AskedSince first whole handle begun ask answer
-    asked_since = record { place = length events; later = since; at = own first events e handle begun turns w since ask is answer given }
+    asked_since = record { place = length events; later = since; at = own t ask is answer given }
 
     module _ (past : List Exchange) (asked : (x : Exchange) → Contains past x → AskedSince first events handle begun x.ask x.answer) where
       abbrev longer : List Exchange
@@ -77,39 +66,44 @@ module _ (first : Volume) (events : List Event) (e : Event) (handle begun turns 
             | inr last ↦ subst (λ (y : Exchange). AskedSince first whole handle begun y.ask y.answer) (one x last) asked_since
           ]
 
-      cause_now : (refusal : Refusal) → HasCauseIn head Named ⊥ Counted longer (error_from head refusal) → CauseOfWrite first whole handle begun w (error_from head refusal)
+      cause_now : (refusal : Refusal) → HasCauseIn (head_to_write w) (GetsName w) ⊥ (HasOther w) longer (error_from (head_to_write w) refusal)
+          → CauseOfWrite first whole handle begun w (error_from (head_to_write w) refusal)
       cause_now refusal h =
-          WriteCause-wider head (RefusedIn longer) (RefusedSince first whole handle begun) (TakenIn longer) (TakenSince first whole handle begun) (DoneIn longer) (DoneSince first whole handle begun)
-          (λ a making r. refused_on_way first whole handle begun a making r.0 (all_asked (exchanged a r.0) r.1) r.2) (λ a t. all_asked (exchanged a (answers.Refused disk_errors.Exists)) t) (λ a d. all_asked (exchanged a answers.Done) d) ⊥ ⊥ (λ f. f)
-          Named Named (λ id n. n) (WantedIn longer) ⊥ (λ m. let a = all_asked (exchanged m.0 (answers.Refused disk_errors.NoMemory)) m.1 in absurd (never_wants (disk_after first (take a.place whole)) m.0 a.at.given))
-          Counted Counted (λ n k. k) (error_from head refusal) h
+          WriteCause-wider (head_to_write w) (RefusedIn longer) (RefusedSince first whole handle begun) (TakenIn longer) (TakenSince first whole handle begun) (DoneIn longer)
+          (DoneSince first whole handle begun)
+          (λ a making r. refused_on_way first whole handle begun a making r.0 (all_asked (exchanged a r.0) r.1) r.2)
+          (λ a t. all_asked (exchanged a (answers.Refused disk_errors.Exists)) t) (λ a d. all_asked (exchanged a answers.Done) d) ⊥ ⊥ (λ f. f)
+          (GetsName w) (GetsName w) (λ id n. n) (WantedIn longer) ⊥
+          (λ m. let a = all_asked (exchanged m.0 (answers.Refused disk_errors.NoMemory)) m.1 in absurd (never_wants (disk_after first (take a.place whole)) m.0 a.at.given))
+          (HasOther w) (HasOther w) (λ n k. k) (error_from (head_to_write w) refusal) h
 
       -- what a turn comes to
       abbrev pub Goes : Onward → Type 0
       Goes (Stage stage) = StandsAt first whole handle begun (turns + 1) w stage
       Goes (End (Ok id)) = HasWritten first whole handle begun w id
-      Goes (End (Err refusal)) = WasRefused first whole handle begun w (error_from head refusal)
+      Goes (End (Err refusal)) = WasRefused first whole handle begun w (error_from (head_to_write w) refusal)
 
       -- where no temporary file could be made, nothing was changed
       abbrev IsUntouchedAt : Refusal → Type 0
-      IsUntouchedAt refusal = (at : Path) → error_from head refusal ≡ loose_errors.Io messages.CreateTempFile at → ChangedNothing whole handle begun
+      IsUntouchedAt refusal = (at : Path) → error_from (head_to_write w) refusal ≡ loose_errors.Io messages.CreateTempFile at → ChangedNothing whole handle begun
 
       -- what is to be shown of it, beside its exchanges
       abbrev pub Parts : Onward → Type 0
       Parts (Stage stage) =
-          (¬ (IsRename e.entry.change)) × MadeOnly whole handle begun w.objects (number_made stage) × Holds first whole handle begun w.objects (number_made stage) (content_at w stage)
+          (¬ (IsRename e.entry.change)) × TurnsMadeOnly whole handle begun w.objects (number_made stage) × Holds first whole handle begun w.objects (number_made stage) (content_at w stage)
           × IsUntouched whole handle begun (number_made stage)
       Parts (End (Ok id)) = HasWritten first whole handle begun w id
       Parts (End (Err refusal)) =
-          (¬ (IsRename e.entry.change)) × IsUntouchedAt refusal × ((made : Option ℕ) × MadeOnly whole handle begun w.objects made
-          × ((made ≡ None) ⊎ ((number : ℕ) × (place : ℕ) × (made ≡ Some number) × (length whole ≡ place + 1) × ((a : DiskAnswer) × AskedAt first whole handle place (asks.Remove (temp_path w.objects number)) a))))
+          (¬ (IsRename e.entry.change)) × IsUntouchedAt refusal × ((made : Option ℕ) × TurnsMadeOnly whole handle begun w.objects made
+          × ((made ≡ None) ⊎ ((number : ℕ) × (place : ℕ) × (made ≡ Some number) × (length whole ≡ place + 1)
+          × ((a : DiskAnswer) × AskedAt first whole handle place (asks.Remove (temp_path w.objects number)) a))))
 
-      pub goes : RenamedNothing events handle begun → turns ≡ length past → (onward : Onward) → IsAlong (job_to_write w) onward longer → Parts onward → Goes onward
+      pub goes : NoTurnRenamed events handle begun → turns ≡ length past → (onward : Onward) → IsAlong (job_to_write w) onward longer → Parts onward → Goes onward
       goes unnamed had (Stage stage) along parts =
           record {
             past = longer;
             along = along;
-            had = ap (λ (n : ℕ). n + 1) had ∙ sym (length-append past (exchanged ask answer ∷ []));
+            had = ap (λ (n : ℕ). n + 1) had ∙ sym (length_push past (exchanged ask answer));
             asked = all_asked;
             unnamed = each_turn_push events e handle begun _ unnamed (λ turn. parts.0);
             made = parts.1;
@@ -124,7 +118,8 @@ module _ (first : Volume) (events : List Event) (e : Event) (handle begun turns 
             made = parts.2.0;
             makes = parts.2.1;
             cleared = parts.2.2;
-            cause = cause_now refusal (refused_cause head Named ⊥ Counted refusal longer (IsAlong-done head (hash_to_write w.known) w.known w.bytes (End (Err refusal)) longer along));
+            cause = cause_now refusal (refused_cause (head_to_write w) (GetsName w) ⊥ (HasOther w) refusal longer
+                (IsAlong-done (head_to_write w) (hash_to_write w.known) w.known w.bytes (End (Err refusal)) longer along));
           }
 
       -- The next piece is appended, or the end of the data is told, as soon as data are asked for.
@@ -147,7 +142,8 @@ module _ (first : Volume) (events : List Event) (e : Event) (handle begun turns 
       supplied_parts (wants.Done end) parts = parts
 
   -- what is left where the file is to be removed
-  pub cleared : (ask : DiskAsk) (is : IsTurnWith first events e handle ask) (answer : DiskAnswer) (given : answer ≡ answer_now (disk_after first events) ask) (past : List Exchange) (asked : (x : Exchange) → Contains past x → AskedSince first events handle begun x.ask x.answer)
-      → (number : ℕ) (refusal : Refusal) → ¬ (IsRename e.entry.change) → ¬ (IsNewFile e.entry.change) → MadeOnly events handle begun w.objects (Some number)
+  pub cleared : (ask : DiskAsk) (is : Makes t ask) (answer : DiskAnswer) (given : answer ≡ answer_now (disk_after first events) ask) (past : List Exchange)
+      (asked : (x : Exchange) → Contains past x → AskedSince first events handle begun x.ask x.answer)
+      → (number : ℕ) (refusal : Refusal) → ¬ (IsRename e.entry.change) → ¬ (IsNewFile e.entry.change) → TurnsMadeOnly events handle begun w.objects (Some number)
       → Parts ask is answer given past asked (Stage (stages.Removing number refusal))
-  cleared ask is answer given past asked number refusal unmoved unmade made = (unmoved, made_same first events e handle begun turns w since ask is answer given (Some number) unmade made, tt, tt)
+  cleared ask is answer given past asked number refusal unmoved unmade made = (unmoved, made_same t ask is answer given (Some number) unmade made, tt, tt)

@@ -1,5 +1,6 @@
 -- What is common to all turns of a write: what was asked, what stands in its file, and what its end or its next stage needs.
 use Rattle.std.proofs.Common.{◌≡◌, ℕ, ◌+◌, ◌≤◌, List, [], ◌∷◌, ◌++◌, length, Option, Some, None, Ok, sym, ap, ◌∙◌, subst, arith}
+use Rattle.std.proofs.lemmas.List.{length_push}
 use Rattle.std.proofs.Math.Seq.{take-length}
 use Rattle.odb_base.specs.Path.{Path}
 use Rattle.odb_disk.specs.Ask.{answer_now, op_of}
@@ -21,24 +22,25 @@ use Rattle.gix_hash.specs.declared.object_id.ObjectId.{ObjectId}
 use Rattle.gix_odb_loose.specs.Exchanges.{Exchange}
 use Rattle.gix_odb_loose.specs.WriteHistory.{IsStopped}
 use Rattle.gix_odb_loose.specs.WriteOrder.{error_from}
-use Rattle.gix_odb_loose.specs.WriteStreams.{OtherLength}
 use Rattle.gix_odb_loose.specs.declared.write.Error.TheVariants as loose_errors
 use Rattle.gix_odb_loose.specs.declared.write.Message.TheVariants as messages
 use Rattle.gix_odb_loose.specs.declared.write_order.Refusal.{Refusal}
 use Rattle.gix_odb_loose.specs.declared.write_order.Refusal.TheVariants as refusals
 use Rattle.gix_odb_loose.specs.declared.write_order.WriteHead.{WriteHead}
+use Rattle.gix_odb_loose.specs.declared.write_order.WriteStage.{WriteStage}
 use Rattle.gix_odb_world.specs.Recorded.{path_recorded}
 use Rattle.gix_odb_world.specs.declared.record.Did.TheVariants.{Disk}
 use Rattle.gix_odb_world.specs.Event.{OfDisk, Event}
 use Rattle.gix_odb_world.specs.Run.{IsTurnOf, change_by, disk_after, disk_after_asked, tree_at}
-use Rattle.gix_odb_world.specs.Running.Write.{HoldsFile}
-use Rattle.gix_odb_world.specs.Writing.{AskedAt, IsNewFile, IsRename, MadeOnly, ToWrite, head_to_write, name_to_write}
+use Rattle.gix_odb_world.specs.Running.Write.{HoldsFile, StandsAt}
+use Rattle.gix_odb_world.specs.Writing.{AskedAt, IsNewFile, IsRename, TurnsMadeOnly, ToWrite}
 use Rattle.gix_odb_world.proofs.RunLemmas.{tree_at-now}
 use Rattle.gix_odb_world.proofs.WriteAsk.{Made}
-use Rattle.gix_odb_world.proofs.WriteKept.{alone_before, asked_at_kept, asked_now, each_turn_push, whole_length}
+use Rattle.gix_odb_world.proofs.WriteKept.{alone_before, asked_at_kept, asked_now, each_turn_push}
 
 -- a write that is to remove its file was not refused the making of it
-pub made_before_removal : (head : WriteHead) (Named : ObjectId → Type 0) (Counted : ℕ → Type 0) (number : ℕ) (refusal : Refusal) (past : List Exchange) (at : Path) → IsStopped head Named ⊥ Counted number refusal past
+pub made_before_removal : (head : WriteHead) (Named : ObjectId → Type 0) (Counted : ℕ → Type 0) (number : ℕ) (refusal : Refusal) (past : List Exchange) (at : Path)
+    → IsStopped head Named ⊥ Counted number refusal past
     → error_from head refusal ≡ loose_errors.Io messages.CreateTempFile at → (P : Type 0) → P
 made_before_removal head Named Counted number (refusals.Io messages.CreateTempFile) past at stopped same P = absurd stopped
 made_before_removal head Named Counted number (refusals.Io messages.WriteHeader) past at stopped same P = absurd (cc same)
@@ -56,7 +58,28 @@ pub record IsTurnWith (first : Volume) (events : List Event) (e : Event) (handle
   pub change : e.entry.change ≡ change_by (disk_after first events) ask
   pub tree : IsTree (tree_of (disk_after first events).state)
 
-module _ (first : Volume) (events : List Event) (e : Event) (handle begun turns : ℕ) (w : ToWrite) (since : begun ≤ length events) where
+-- a turn of a write: its handle adds an event to a history, and has had so many turns of the write before, since its task was set
+pub record TurnOfWrite : Type 0 where
+  pub first : Volume
+  pub events : List Event
+  pub e : Event
+  pub handle : ℕ
+  pub begun : ℕ
+  pub turns : ℕ
+  pub w : ToWrite
+  pub since : begun ≤ length events
+
+-- what the write knows that stands at a stage before it
+abbrev pub Stands : TurnOfWrite → WriteStage → Type 0
+Stands t stage = StandsAt t.first t.events t.handle t.begun t.turns t.w stage
+
+-- it makes this call of the disk
+abbrev pub Makes : TurnOfWrite → DiskAsk → Type 0
+Makes t ask = IsTurnWith t.first t.events t.e t.handle ask
+
+module _ (t : TurnOfWrite) where
+  open t use {first, events, e, handle, begun, turns, w, since}
+
   abbrev whole : List Event
   whole = events ++ e ∷ []
 
@@ -69,21 +92,12 @@ module _ (first : Volume) (events : List Event) (e : Event) (handle begun turns 
   abbrev now : Tree
   now = tree_at first whole (length events + 1)
 
-  abbrev head : WriteHead
-  head = head_to_write w
-
-  abbrev Named : ObjectId → Type 0
-  Named id = id ≡ name_to_write w
-
-  abbrev Counted : ℕ → Type 0
-  Counted n = OtherLength (Some w.bytes) w.size n
-
   pub before_is : tree_of disk.state ≡ before
   before_is = ap (λ es. tree_of (disk_after first es).state) (sym (take-length events))
 
   -- ---- what is common to all turns
 
-  module _ (ask : DiskAsk) (is : IsTurnWith first events e handle ask) (answer : DiskAnswer) (given : answer ≡ answer_now disk ask) where
+  module _ (ask : DiskAsk) (is : Makes t ask) (answer : DiskAnswer) (given : answer ≡ answer_now disk ask) where
     pub is_tree : IsTree before
     is_tree = subst IsTree before_is is.tree
 
@@ -102,25 +116,29 @@ module _ (first : Volume) (events : List Event) (e : Event) (handle begun turns 
     own = asked_now first events e handle ask answer is.turn is.did (is.asked ∙ ap (OfDisk ask) (sym given)) given
 
     -- a file of the write's own after its own call
-    pub own_holds : (path : Path) (bytes more : List ℕ) → ((s : Path) → HasFile before path s bytes 0 → HasFile now path s more 0) → HoldsFile first events handle begun path bytes → HoldsFile first whole handle begun path more
+    pub own_holds : (path : Path) (bytes more : List ℕ) → ((s : Path) → HasFile before path s bytes 0 → HasFile now path s more 0) → HoldsFile first events handle begun path bytes
+        → HoldsFile first whole handle begun path more
     own_holds path bytes more step h =
         record {
           made = h.made;
           later = h.later;
           makes = asked_at_kept first events e handle h.made _ _ h.makes;
           holds = λ alone.
-              let old = h.holds (alone_before first events e handle path (h.made + 1) (length whole) (omega (arith, whole_length first events e)) alone) in
-              (old.0, subst (λ n. HasFile (tree_at first whole n) path old.0 more 0) (sym (whole_length first events e)) (step old.0 old.1));
+              let old = h.holds (alone_before first events e handle path (h.made + 1) (length whole) (omega (arith, length_push events e)) alone) in
+              (old.0, subst (λ n. HasFile (tree_at first whole n) path old.0 more 0) (sym (length_push events e)) (step old.0 old.1));
         }
 
     -- an append to it
-    pub appended_holds : (path : Path) (bytes more : List ℕ) → Made disk ask (change_of_append (tree_of disk.state) path more) → HoldsFile first events handle begun path bytes → HoldsFile first whole handle begun path (bytes ++ more)
+    pub appended_holds : (path : Path) (bytes more : List ℕ) → Made disk ask (change_of_append (tree_of disk.state) path more) → HoldsFile first events handle begun path bytes
+        → HoldsFile first whole handle begun path (bytes ++ more)
     appended_holds path bytes more m =
         own_holds path bytes (bytes ++ more)
-        (λ s has. subst (λ t. HasFile t path s (bytes ++ more) 0) (sym (now_changed m.change m.made)) (has_more before is_tree path s bytes 0 has more m.change (subst (λ t. change_of_append t path more ≡ Ok m.change) before_is m.is)))
+        (λ s has. subst (λ t. HasFile t path s (bytes ++ more) 0) (sym (now_changed m.change m.made))
+        (has_more before is_tree path s bytes 0 has more m.change (subst (λ t. change_of_append t path more ≡ Ok m.change) before_is m.is)))
 
     -- a directory that is made
-    pub foldered_holds : (path folder : Path) (bytes : List ℕ) → Made disk ask (change_of_make_dir (tree_of disk.state) folder) → HoldsFile first events handle begun path bytes → HoldsFile first whole handle begun path bytes
+    pub foldered_holds : (path folder : Path) (bytes : List ℕ) → Made disk ask (change_of_make_dir (tree_of disk.state) folder) → HoldsFile first events handle begun path bytes
+        → HoldsFile first whole handle begun path bytes
     foldered_holds path folder bytes m =
         own_holds path bytes bytes
         (λ s has.
@@ -142,7 +160,7 @@ module _ (first : Volume) (events : List Event) (e : Event) (handle begun turns 
           makes = subst (λ a. AskedAt first whole handle (length events) a answers.Done) asks_it (subst (λ a. AskedAt first whole handle (length events) ask a) done own);
           holds = λ alone.
               let new = has_new_file before is_tree path m.change (subst (λ t. change_of_new_file t path ≡ Ok m.change) before_is m.is) in
-              (new.0, subst (λ n. HasFile (tree_at first whole n) path new.0 [] 0) (sym (whole_length first events e)) (subst (λ t. HasFile t path new.0 [] 0) (sym (now_changed m.change m.made)) new.1));
+              (new.0, subst (λ n. HasFile (tree_at first whole n) path new.0 [] 0) (sym (length_push events e)) (subst (λ t. HasFile t path new.0 [] 0) (sym (now_changed m.change m.made)) new.1));
         }
 
     -- a change that is none is no rename and makes no file
@@ -152,5 +170,5 @@ module _ (first : Volume) (events : List Event) (e : Event) (handle begun turns 
     pub no_file : change_by disk ask ≡ None → ¬ (IsNewFile e.entry.change)
     no_file none makes = subst IsNewFile (is.change ∙ none) makes
 
-    pub made_same : (number : Option ℕ) → ¬ (IsNewFile e.entry.change) → MadeOnly events handle begun w.objects number → MadeOnly whole handle begun w.objects number
+    pub made_same : (number : Option ℕ) → ¬ (IsNewFile e.entry.change) → TurnsMadeOnly events handle begun w.objects number → TurnsMadeOnly whole handle begun w.objects number
     made_same number none old = each_turn_push events e handle begun _ old (λ turn makes. absurd (none makes))

@@ -1,5 +1,5 @@
 -- The turns in which a write appends its header and its data.
-use Rattle.std.proofs.Common.{◌≡◌, ◌≢◌, ℕ, ◌+◌, ◌≤◌, Bool, true, false, nat_le, List, [], ◌∷◌, ◌++◌, length, take, Contains, Some, sym, ap, ◌∙◌, subst, arith, append-nil, append_assoc}
+use Rattle.std.proofs.Common.{◌≡◌, ◌≢◌, ℕ, ◌+◌, Bool, true, false, nat_le, List, [], ◌∷◌, ◌++◌, length, take, Contains, Some, sym, ap, ◌∙◌, subst, arith, append-nil, append_assoc}
 use Rattle.std.specs.Prelude.{if◌then◌else◌}
 use Rattle.odb_base.specs.Path.{Path}
 use Rattle.odb_disk.specs.Ask.{answer_now}
@@ -27,13 +27,15 @@ use Rattle.gix_odb_loose.specs.declared.write_order.WriteStage.TheVariants as st
 use Rattle.gix_odb_loose.proofs.WriteDoneLaws.Data.{data_grown}
 use Rattle.gix_odb_world.specs.Event.{Event}
 use Rattle.gix_odb_world.specs.Run.{disk_after}
-use Rattle.gix_odb_world.specs.Running.Write.{HoldsFile, StandsAt}
-use Rattle.gix_odb_world.specs.Writing.{AskedSince, IsNewFile, IsRename, MadeOnly, ToWrite}
+use Rattle.gix_odb_world.specs.Running.Write.{HoldsFile}
+use Rattle.gix_odb_world.specs.Writing.{AskedSince, IsNewFile, IsRename, TurnsMadeOnly}
 use Rattle.gix_odb_world.proofs.WriteAsk.{Made, done_made, told_append, undone_made}
-use Rattle.gix_odb_world.proofs.WriteTurn.Common.{IsTurnWith, appended_holds, no_rename, no_file, made_same}
+use Rattle.gix_odb_world.proofs.WriteTurn.Common.{appended_holds, made_same, Makes, no_file, no_rename, Stands, TurnOfWrite}
 use Rattle.gix_odb_world.proofs.WriteTurn.Comes.{Parts, PartsTo, cleared}
 
-module _ (first : Volume) (events : List Event) (e : Event) (handle begun turns : ℕ) (w : ToWrite) (since : begun ≤ length events) where
+module _ (t : TurnOfWrite) where
+  open t use {first, events, e, handle, begun, w}
+
   abbrev whole : List Event
   whole = events ++ e ∷ []
 
@@ -45,34 +47,38 @@ module _ (first : Volume) (events : List Event) (e : Event) (handle begun turns 
     path = temp_path w.objects number
 
     -- an append of header or data
-    module _ (more : List ℕ) (is : IsTurnWith first events e handle (asks.Append path more)) where
+    module _ (more : List ℕ) (is : Makes t (asks.Append path more)) where
       append_made : answers.Done ≡ answer_now disk (asks.Append path more) → Made disk (asks.Append path more) (change_of_append (tree_of disk.state) path more)
       append_made given = done_made disk (asks.Append path more) (change_of_append (tree_of disk.state) path more) (told_append (tree_of disk.state) path more) given
 
       append_is : (m : Made disk (asks.Append path more) (change_of_append (tree_of disk.state) path more)) → (s : Path) × (e.entry.change ≡ Some (Append s more))
       append_is m = let c = append_change (tree_of disk.state) path m.change more m.is in (c.0, is.change ∙ (m.made ∙ ap Some c.2))
 
-      unappended : (answer : DiskAnswer) (given : answer ≡ answer_now disk (asks.Append path more)) (past : List Exchange) (asked : (x : Exchange) → Contains past x → AskedSince first events handle begun x.ask x.answer) (refusal : Refusal)
-          → answers.Done ≢ answer → MadeOnly events handle begun w.objects (Some number) → Parts first events e handle begun turns w since (asks.Append path more) is answer given past asked (Stage (stages.Removing number refusal))
+      unappended : (answer : DiskAnswer) (given : answer ≡ answer_now disk (asks.Append path more)) (past : List Exchange)
+          (asked : (x : Exchange) → Contains past x → AskedSince first events handle begun x.ask x.answer) (refusal : Refusal)
+          → answers.Done ≢ answer → TurnsMadeOnly events handle begun w.objects (Some number) → Parts t (asks.Append path more) is answer given past asked (Stage (stages.Removing number refusal))
       unappended answer given past asked refusal undone made =
           let none = undone_made disk (asks.Append path more) (change_of_append (tree_of disk.state) path more) (told_append (tree_of disk.state) path more) (λ d. undone (d ∙ sym given)) in
-          cleared first events e handle begun turns w since (asks.Append path more) is answer given past asked number refusal (no_rename first events e handle begun turns w since (asks.Append path more) is answer given none) (no_file first events e handle begun turns w since (asks.Append path more) is answer given none) made
+          cleared t (asks.Append path more) is answer given past asked number refusal (no_rename t (asks.Append path more) is answer given none)
+          (no_file t (asks.Append path more) is answer given none) made
 
     -- the header
-    module _ (s : StandsAt first events handle begun turns w (stages.Heading number)) (is : IsTurnWith first events e handle (asks.Append path (header_of w.kind w.size))) where
+    module _ (s : Stands t (stages.Heading number)) (is : Makes t (asks.Append path (header_of w.kind w.size))) where
       abbrev header : List ℕ
       header = header_of w.kind w.size
 
-      unheaded : (answer : DiskAnswer) (given : answer ≡ answer_now disk (asks.Append path header)) (refusal : Refusal) → answers.Done ≢ answer → Parts first events e handle begun turns w since (asks.Append path header) is answer given s.past s.asked (Stage (stages.Removing number refusal))
+      unheaded : (answer : DiskAnswer) (given : answer ≡ answer_now disk (asks.Append path header)) (refusal : Refusal) → answers.Done ≢ answer
+          → Parts t (asks.Append path header) is answer given s.past s.asked (Stage (stages.Removing number refusal))
       unheaded answer given refusal undone = unappended header is answer given s.past s.asked refusal undone s.made
 
-      pub heading : (answer : DiskAnswer) (given : answer ≡ answer_now disk (asks.Append path header)) → PartsTo first events e handle begun turns w since (asks.Append path header) is answer given s.past s.asked (next_write w.size 0 (stages.Heading number) answer)
+      pub heading : (answer : DiskAnswer) (given : answer ≡ answer_now disk (asks.Append path header))
+          → PartsTo t (asks.Append path header) is answer given s.past s.asked (next_write w.size 0 (stages.Heading number) answer)
       heading answers.Done given =
           let m = append_made header is given in
           let c = append_is header is m in (
             λ renames. subst IsRename c.1 renames,
-            made_same first events e handle begun turns w since (asks.Append path header) is answers.Done given (Some number) (λ makes. subst IsNewFile c.1 makes) s.made,
-            subst (HoldsFile first whole handle begun path) (sym (append-nil header)) (appended_holds first events e handle begun turns w since (asks.Append path header) is answers.Done given path [] header m s.holds),
+            made_same t (asks.Append path header) is answers.Done given (Some number) (λ makes. subst IsNewFile c.1 makes) s.made,
+            subst (HoldsFile first whole handle begun path) (sym (append-nil header)) (appended_holds t (asks.Append path header) is answers.Done given path [] header m s.holds),
             tt,
           )
       heading (answers.Meta meta) given = unheaded (answers.Meta meta) given (refusals.Io messages.WriteHeader) (λ d. cc d)
@@ -83,14 +89,16 @@ module _ (first : Volume) (events : List Event) (e : Event) (handle begun turns 
       heading (answers.Refused error) given = unheaded (answers.Refused error) given (refused_by (refusals.Io messages.WriteHeader) (answers.Refused error)) (λ d. cc d)
 
     -- a piece of the data
-    module _ (written : ℕ) (s : StandsAt first events handle begun turns w (stages.Filling number written)) (next : HasNext w.size w.bytes (stages.Filling number written)) (is : IsTurnWith first events e handle (asks.Append path (piece_at w.size w.bytes written))) where
+    module _ (written : ℕ) (s : Stands t (stages.Filling number written)) (next : HasNext w.size w.bytes (stages.Filling number written))
+        (is : Makes t (asks.Append path (piece_at w.size w.bytes written))) where
       abbrev piece : List ℕ
       piece = piece_at w.size w.bytes written
 
       abbrev FillingParts : (answer : DiskAnswer) → answer ≡ answer_now disk (asks.Append path piece) → WriteAsk → Type 0
-      FillingParts answer given wanted = PartsTo first events e handle begun turns w since (asks.Append path piece) is answer given s.past s.asked wanted
+      FillingParts answer given wanted = PartsTo t (asks.Append path piece) is answer given s.past s.asked wanted
 
-      unfilled : (answer : DiskAnswer) (given : answer ≡ answer_now disk (asks.Append path piece)) (refusal : Refusal) → answers.Done ≢ answer → FillingParts answer given (wants.Disk (stages.Removing number refusal))
+      unfilled : (answer : DiskAnswer) (given : answer ≡ answer_now disk (asks.Append path piece)) (refusal : Refusal) → answers.Done ≢ answer
+          → FillingParts answer given (wants.Disk (stages.Removing number refusal))
       unfilled answer given refusal undone = unappended piece is answer given s.past s.asked refusal undone s.made
 
       filled : (given : answers.Done ≡ answer_now disk (asks.Append path piece)) (fits : Bool)
@@ -98,17 +106,21 @@ module _ (first : Volume) (events : List Event) (e : Event) (handle begun turns 
       filled given true =
           let m = append_made piece is given in
           let c = append_is piece is m in
-          let grows = append_assoc (header_of w.kind w.size) (take written w.bytes) piece ∙ ap (λ (xs : List ℕ). header_of w.kind w.size ++ xs) (data_grown w.bytes written (room_behind w.size written) (omega (arith, next.1))) in (
+          let grows = append_assoc (header_of w.kind w.size) (take written w.bytes) piece
+          ∙ ap (λ (xs : List ℕ). header_of w.kind w.size ++ xs) (data_grown w.bytes written (room_behind w.size written) (omega (arith, next.1))) in (
             λ renames. subst IsRename c.1 renames,
-            made_same first events e handle begun turns w since (asks.Append path piece) is answers.Done given (Some number) (λ makes. subst IsNewFile c.1 makes) s.made,
-            subst (HoldsFile first whole handle begun path) grows (appended_holds first events e handle begun turns w since (asks.Append path piece) is answers.Done given path (header_of w.kind w.size ++ take written w.bytes) piece m s.holds),
+            made_same t (asks.Append path piece) is answers.Done given (Some number) (λ makes. subst IsNewFile c.1 makes) s.made,
+            subst (HoldsFile first whole handle begun path) grows
+                (appended_holds t (asks.Append path piece) is answers.Done given path (header_of w.kind w.size ++ take written w.bytes) piece m s.holds),
             tt,
           )
       filled given false =
           let c = append_is piece is (append_made piece is given) in
-          cleared first events e handle begun turns w since (asks.Append path piece) is answers.Done given s.past s.asked number (refusals.SizeMismatch (grown written (length piece))) (λ renames. subst IsRename c.1 renames) (λ makes. subst IsNewFile c.1 makes) s.made
+          cleared t (asks.Append path piece) is answers.Done given s.past s.asked number (refusals.SizeMismatch (grown written (length piece)))
+          (λ renames. subst IsRename c.1 renames) (λ makes. subst IsNewFile c.1 makes) s.made
 
-      pub filling : (answer : DiskAnswer) (given : answer ≡ answer_now disk (asks.Append path piece)) → FillingParts answer given (next_write w.size (length piece) (stages.Filling number written) answer)
+      pub filling : (answer : DiskAnswer) (given : answer ≡ answer_now disk (asks.Append path piece))
+          → FillingParts answer given (next_write w.size (length piece) (stages.Filling number written) answer)
       filling answers.Done given = filled given (nat_le (written + length piece) w.size)
       filling (answers.Meta meta) given = unfilled (answers.Meta meta) given (refusals.Io messages.StreamData) (λ d. cc d)
       filling (answers.Dir dir) given = unfilled (answers.Dir dir) given (refusals.Io messages.StreamData) (λ d. cc d)

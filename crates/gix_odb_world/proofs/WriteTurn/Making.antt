@@ -1,5 +1,5 @@
 -- The turn in which a write makes its temporary file, or tries the next name.
-use Rattle.std.proofs.Common.{◌≡◌, ◌≢◌, ℕ, ◌+◌, ◌≤◌, Bool, true, false, nat_lt, List, [], length, Some, None, Err, refl, sym, ap, ◌∙◌, subst, inl}
+use Rattle.std.proofs.Common.{◌≡◌, ◌≢◌, ℕ, ◌+◌, Bool, true, false, nat_lt, [], Some, None, Err, refl, sym, ap, ◌∙◌, subst, inl}
 use Rattle.std.specs.Prelude.{if◌then◌else◌}
 use Rattle.odb_base.specs.Path.{Path}
 use Rattle.odb_disk.specs.Ask.{answer_now}
@@ -19,16 +19,16 @@ use Rattle.gix_odb_loose.specs.declared.write_order.Refusal.TheVariants as refus
 use Rattle.gix_odb_loose.specs.declared.write_order.WriteAsk.{WriteAsk}
 use Rattle.gix_odb_loose.specs.declared.write_order.WriteAsk.TheVariants as wants
 use Rattle.gix_odb_loose.specs.declared.write_order.WriteStage.TheVariants as stages
-use Rattle.gix_odb_world.specs.Event.{Event}
 use Rattle.gix_odb_world.specs.Run.{change_by, disk_after}
-use Rattle.gix_odb_world.specs.Running.Write.{StandsAt}
-use Rattle.gix_odb_world.specs.Writing.{IsRename, ToWrite}
+use Rattle.gix_odb_world.specs.Writing.{IsRename}
 use Rattle.gix_odb_world.proofs.WriteAsk.{done_made, told_new_file, undone_made}
 use Rattle.gix_odb_world.proofs.WriteKept.{each_turn_push}
-use Rattle.gix_odb_world.proofs.WriteTurn.Common.{IsTurnWith, new_holds, no_rename, no_file, made_same}
+use Rattle.gix_odb_world.proofs.WriteTurn.Common.{made_same, Makes, new_holds, no_file, no_rename, Stands, TurnOfWrite}
 use Rattle.gix_odb_world.proofs.WriteTurn.Comes.{PartsTo}
 
-module _ (first : Volume) (events : List Event) (e : Event) (handle begun turns : ℕ) (w : ToWrite) (since : begun ≤ length events) where
+module _ (t : TurnOfWrite) where
+  open t use {first, events, e, handle, begun, w}
+
   abbrev disk : Volume
   disk = disk_after first events
 
@@ -37,22 +37,31 @@ module _ (first : Volume) (events : List Event) (e : Event) (handle begun turns 
     path = temp_path w.objects number
 
     -- the file is made, or the next name is tried
-    module _ (s : StandsAt first events handle begun turns w (stages.Making number)) (is : IsTurnWith first events e handle (asks.NewFile path)) where
+    module _ (s : Stands t (stages.Making number)) (is : Makes t (asks.NewFile path)) where
       abbrev MakingParts : (answer : DiskAnswer) → answer ≡ answer_now disk (asks.NewFile path) → WriteAsk → Type 0
-      MakingParts answer given wanted = PartsTo first events e handle begun turns w since (asks.NewFile path) is answer given s.past s.asked wanted
+      MakingParts answer given wanted = PartsTo t (asks.NewFile path) is answer given s.past s.asked wanted
 
       untaken : answers.Done ≢ answer_now disk (asks.NewFile path) → change_by disk (asks.NewFile path) ≡ None
       untaken undone = undone_made disk (asks.NewFile path) (change_of_new_file (tree_of disk.state) path) (told_new_file (tree_of disk.state) path) undone
 
       unmade : (answer : DiskAnswer) (given : answer ≡ answer_now disk (asks.NewFile path)) (refusal : Refusal) → answers.Done ≢ answer → MakingParts answer given (wants.Done (Err refusal))
       unmade answer given refusal undone =
-          let none = untaken (λ d. undone (d ∙ sym given)) in
-          (no_rename first events e handle begun turns w since (asks.NewFile path) is answer given none, λ at same. each_turn_push events e handle begun _ s.untouched (λ turn. is.change ∙ none), (None, made_same first events e handle begun turns w since (asks.NewFile path) is answer given None (no_file first events e handle begun turns w since (asks.NewFile path) is answer given none) s.made, inl refl))
+          let none = untaken (λ d. undone (d ∙ sym given)) in (
+            no_rename t (asks.NewFile path) is answer given none,
+            λ at same. each_turn_push events e handle begun _ s.untouched (λ turn. is.change ∙ none),
+            (None, made_same t (asks.NewFile path) is answer given None (no_file t (asks.NewFile path) is answer given none) s.made, inl refl),
+          )
 
-      next_name : (given : answers.Refused disk_errors.Exists ≡ answer_now disk (asks.NewFile path)) (more : Bool) → MakingParts (answers.Refused disk_errors.Exists) given (if more then wants.Disk (stages.Making (number + 1)) else wants.Done (Err (refusals.Io messages.CreateTempFile)))
+      next_name : (given : answers.Refused disk_errors.Exists ≡ answer_now disk (asks.NewFile path)) (more : Bool)
+          → MakingParts (answers.Refused disk_errors.Exists) given
+          (if more then wants.Disk (stages.Making (number + 1)) else wants.Done (Err (refusals.Io messages.CreateTempFile)))
       next_name given true =
-          let none = untaken (λ d. cc (d, given)) in
-          (no_rename first events e handle begun turns w since (asks.NewFile path) is _ given none, made_same first events e handle begun turns w since (asks.NewFile path) is _ given None (no_file first events e handle begun turns w since (asks.NewFile path) is _ given none) s.made, tt, each_turn_push events e handle begun _ s.untouched (λ turn. is.change ∙ none))
+          let none = untaken (λ d. cc (d, given)) in (
+            no_rename t (asks.NewFile path) is _ given none,
+            made_same t (asks.NewFile path) is _ given None (no_file t (asks.NewFile path) is _ given none) s.made,
+            tt,
+            each_turn_push events e handle begun _ s.untouched (λ turn. is.change ∙ none),
+          )
       next_name given false = unmade (answers.Refused disk_errors.Exists) given (refusals.Io messages.CreateTempFile) (λ d. cc d)
 
       pub making : (answer : DiskAnswer) (given : answer ≡ answer_now disk (asks.NewFile path)) → MakingParts answer given (next_write w.size 0 (stages.Making number) answer)
@@ -62,7 +71,7 @@ module _ (first : Volume) (events : List Event) (e : Event) (handle begun turns 
           let change_is : e.entry.change ≡ Some (PutFile c.0 0 []) = is.change ∙ (m.made ∙ ap Some c.2) in (
             λ renames. subst IsRename change_is renames,
             each_turn_push events e handle begun _ (λ place x later there turn makes. absurd (s.made place x later there turn makes)) (λ turn makes. (next_fails disk, is.did)),
-            new_holds first events e handle begun turns w since (asks.NewFile path) is answers.Done given path refl refl m,
+            new_holds t (asks.NewFile path) is answers.Done given path refl refl m,
             tt,
           )
       making (answers.Refused disk_errors.Exists) given = next_name given (nat_lt (number + 1) temp_names)

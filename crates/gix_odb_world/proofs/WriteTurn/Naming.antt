@@ -1,5 +1,6 @@
 -- The turns in which a write makes the directory of its object, gives the name, or removes its file.
-use Rattle.std.proofs.Common.{◌≡◌, ◌≢◌, ℕ, ◌+◌, ◌≤◌, false, List, [], ◌∷◌, ◌++◌, length, Option, Some, None, Ok, Err, refl, sym, ap, ◌∙◌, subst, arith, inr}
+use Rattle.std.proofs.Common.{◌≡◌, ◌≢◌, ℕ, ◌+◌, false, List, [], ◌∷◌, ◌++◌, length, Option, Some, None, Ok, Err, refl, sym, ap, ◌∙◌, subst, arith, inr}
+use Rattle.std.proofs.lemmas.List.{length_push}
 use Rattle.odb_base.specs.Path.{Path}
 use Rattle.odb_disk.specs.Ask.{answer_now}
 use Rattle.odb_disk.specs.MemDisk.{Volume}
@@ -23,27 +24,27 @@ use Rattle.gix_odb_loose.proofs.WriteDoneLaws.{IsAlong-done}
 use Rattle.gix_odb_loose.specs.LooseFile.{loose_path}
 use Rattle.gix_odb_loose.specs.WriteDone.{HasDone}
 use Rattle.gix_odb_loose.specs.WriteOrder.{next_write, prefix_path, refused_by, temp_path}
-use Rattle.gix_odb_loose.specs.WriteStreams.{OtherLength}
 use Rattle.gix_odb_loose.specs.declared.write_at_hand.Onward.TheVariants.{Stage}
 use Rattle.gix_odb_loose.specs.declared.write_order.Refusal.{Refusal}
 use Rattle.gix_odb_loose.specs.declared.write_order.Refusal.TheVariants as refusals
 use Rattle.gix_odb_loose.specs.declared.write_order.WriteAsk.{WriteAsk}
 use Rattle.gix_odb_loose.specs.declared.write_order.WriteAsk.TheVariants as wants
-use Rattle.gix_odb_loose.specs.declared.write_order.WriteHead.{WriteHead}
 use Rattle.gix_odb_loose.specs.declared.write_order.WriteStage.TheVariants as stages
 use Rattle.gix_odb.specs.CallOrder.{hash_to_write}
 use Rattle.gix_odb_world.specs.Event.{Event}
 use Rattle.gix_odb_world.specs.Run.{change_by, disk_after, tree_at}
-use Rattle.gix_odb_world.specs.Running.Write.{StandsAt, job_to_write}
-use Rattle.gix_odb_world.specs.Writing.{ChangedNothing, IsNewFile, IsRename, ToWrite, head_to_write, name_to_write}
+use Rattle.gix_odb_world.specs.Running.Write.{job_to_write}
+use Rattle.gix_odb_world.specs.Writing.{ChangedNothing, GetsName, HasOther, IsNewFile, IsRename, head_to_write}
 use Rattle.gix_odb_world.specs.Written.{HasWritten}
 use Rattle.gix_odb_world.proofs.RunLemmas.{tree_at-before}
 use Rattle.gix_odb_world.proofs.WriteAsk.{change_by-all, done_made, told_make_dir, told_remove, told_rename, undone_made}
-use Rattle.gix_odb_world.proofs.WriteKept.{alone_before, asked_at_kept, whole_length}
-use Rattle.gix_odb_world.proofs.WriteTurn.Common.{IsTurnWith, made_before_removal, before_is, is_tree, now_changed, own, foldered_holds, same_holds, no_rename, no_file, made_same}
+use Rattle.gix_odb_world.proofs.WriteKept.{alone_before, asked_at_kept}
+use Rattle.gix_odb_world.proofs.WriteTurn.Common.{before_is, foldered_holds, is_tree, made_before_removal, made_same, Makes, no_file, no_rename, now_changed, own, same_holds, Stands, TurnOfWrite}
 use Rattle.gix_odb_world.proofs.WriteTurn.Comes.{PartsTo, cleared}
 
-module _ (first : Volume) (events : List Event) (e : Event) (handle begun turns : ℕ) (w : ToWrite) (since : begun ≤ length events) where
+module _ (t : TurnOfWrite) where
+  open t use {first, events, e, handle, begun, w}
+
   abbrev whole : List Event
   whole = events ++ e ∷ []
 
@@ -52,15 +53,6 @@ module _ (first : Volume) (events : List Event) (e : Event) (handle begun turns 
 
   abbrev before : Tree
   before = tree_at first events (length events)
-
-  abbrev head : WriteHead
-  head = head_to_write w
-
-  abbrev Named : ObjectId → Type 0
-  Named id = id ≡ name_to_write w
-
-  abbrev Counted : ℕ → Type 0
-  Counted n = OtherLength (Some w.bytes) w.size n
 
   module _ (number : ℕ) where
     abbrev path : Path
@@ -71,17 +63,19 @@ module _ (first : Volume) (events : List Event) (e : Event) (handle begun turns 
       folder = prefix_path w.objects id
 
       -- the directory of the object
-      module _ (s : StandsAt first events handle begun turns w (stages.Foldering number id)) (is : IsTurnWith first events e handle (asks.MakeDir folder)) where
+      module _ (s : Stands t (stages.Foldering number id)) (is : Makes t (asks.MakeDir folder)) where
         abbrev FolderingParts : (answer : DiskAnswer) → answer ≡ answer_now disk (asks.MakeDir folder) → WriteAsk → Type 0
-        FolderingParts answer given wanted = PartsTo first events e handle begun turns w since (asks.MakeDir folder) is answer given s.past s.asked wanted
+        FolderingParts answer given wanted = PartsTo t (asks.MakeDir folder) is answer given s.past s.asked wanted
 
         unfolded : answers.Done ≢ answer_now disk (asks.MakeDir folder) → change_by disk (asks.MakeDir folder) ≡ None
         unfolded undone = undone_made disk (asks.MakeDir folder) (change_of_make_dir (tree_of disk.state) folder) (told_make_dir (tree_of disk.state) folder) undone
 
-        unfoldered : (answer : DiskAnswer) (given : answer ≡ answer_now disk (asks.MakeDir folder)) (refusal : Refusal) → answers.Done ≢ answer → FolderingParts answer given (wants.Disk (stages.Removing number refusal))
+        unfoldered : (answer : DiskAnswer) (given : answer ≡ answer_now disk (asks.MakeDir folder)) (refusal : Refusal) → answers.Done ≢ answer
+            → FolderingParts answer given (wants.Disk (stages.Removing number refusal))
         unfoldered answer given refusal undone =
             let none = unfolded (λ d. undone (d ∙ sym given)) in
-            cleared first events e handle begun turns w since (asks.MakeDir folder) is answer given s.past s.asked number refusal (no_rename first events e handle begun turns w since (asks.MakeDir folder) is answer given none) (no_file first events e handle begun turns w since (asks.MakeDir folder) is answer given none) s.made
+            cleared t (asks.MakeDir folder) is answer given s.past s.asked number refusal (no_rename t (asks.MakeDir folder) is answer given none)
+            (no_file t (asks.MakeDir folder) is answer given none) s.made
 
         pub foldering : (answer : DiskAnswer) (given : answer ≡ answer_now disk (asks.MakeDir folder)) → FolderingParts answer given (next_write w.size 0 (stages.Foldering number id) answer)
         foldering answers.Done given =
@@ -89,15 +83,15 @@ module _ (first : Volume) (events : List Event) (e : Event) (handle begun turns 
             let c = make_dir_change (tree_of disk.state) folder m.change m.is in
             let change_is : e.entry.change ≡ Some (MakeDir c.0 _) = is.change ∙ (m.made ∙ ap Some c.2) in (
               λ renames. subst IsRename change_is renames,
-              made_same first events e handle begun turns w since (asks.MakeDir folder) is answers.Done given (Some number) (λ makes. subst IsNewFile change_is makes) s.made,
-              foldered_holds first events e handle begun turns w since (asks.MakeDir folder) is answers.Done given path folder (header_of w.kind w.size ++ w.bytes) m s.holds,
+              made_same t (asks.MakeDir folder) is answers.Done given (Some number) (λ makes. subst IsNewFile change_is makes) s.made,
+              foldered_holds t (asks.MakeDir folder) is answers.Done given path folder (header_of w.kind w.size ++ w.bytes) m s.holds,
               tt,
             )
         foldering (answers.Refused disk_errors.Exists) given =
             let none = unfolded (λ d. cc (d, given)) in (
-              no_rename first events e handle begun turns w since (asks.MakeDir folder) is _ given none,
-              made_same first events e handle begun turns w since (asks.MakeDir folder) is _ given (Some number) (no_file first events e handle begun turns w since (asks.MakeDir folder) is _ given none) s.made,
-              same_holds first events e handle begun turns w since (asks.MakeDir folder) is _ given path (header_of w.kind w.size ++ w.bytes) none s.holds,
+              no_rename t (asks.MakeDir folder) is _ given none,
+              made_same t (asks.MakeDir folder) is _ given (Some number) (no_file t (asks.MakeDir folder) is _ given none) s.made,
+              same_holds t (asks.MakeDir folder) is _ given path (header_of w.kind w.size ++ w.bytes) none s.holds,
               tt,
             )
         foldering (answers.Meta meta) given = unfoldered (answers.Meta meta) given refusals.IoRaw (λ d. cc d)
@@ -116,23 +110,26 @@ module _ (first : Volume) (events : List Event) (e : Event) (handle begun turns 
       abbrev name_path : Path
       name_path = loose_path w.objects id
 
-      module _ (s : StandsAt first events handle begun turns w (stages.Moving number id)) (is : IsTurnWith first events e handle (asks.Rename path name_path)) where
+      module _ (s : Stands t (stages.Moving number id)) (is : Makes t (asks.Rename path name_path)) where
         abbrev MovingParts : (answer : DiskAnswer) → answer ≡ answer_now disk (asks.Rename path name_path) → WriteAsk → Type 0
-        MovingParts answer given wanted = PartsTo first events e handle begun turns w since (asks.Rename path name_path) is answer given s.past s.asked wanted
+        MovingParts answer given wanted = PartsTo t (asks.Rename path name_path) is answer given s.past s.asked wanted
 
         abbrev has_done : HasDone (job_to_write w) (stages.Moving number id) s.past
-        has_done = IsAlong-done head (hash_to_write w.known) w.known w.bytes (Stage (stages.Moving number id)) s.past s.along
+        has_done = IsAlong-done (head_to_write w) (hash_to_write w.known) w.known w.bytes (Stage (stages.Moving number id)) s.past s.along
 
-        unmoved : (answer : DiskAnswer) (given : answer ≡ answer_now disk (asks.Rename path name_path)) (refusal : Refusal) → answers.Done ≢ answer → MovingParts answer given (wants.Disk (stages.Removing number refusal))
+        unmoved : (answer : DiskAnswer) (given : answer ≡ answer_now disk (asks.Rename path name_path)) (refusal : Refusal) → answers.Done ≢ answer
+            → MovingParts answer given (wants.Disk (stages.Removing number refusal))
         unmoved answer given refusal undone =
-            let none = undone_made disk (asks.Rename path name_path) (change_of_rename (tree_of disk.state) path name_path) (told_rename (tree_of disk.state) path name_path) (λ d. undone (d ∙ sym given)) in
-            cleared first events e handle begun turns w since (asks.Rename path name_path) is answer given s.past s.asked number refusal (no_rename first events e handle begun turns w since (asks.Rename path name_path) is answer given none) (no_file first events e handle begun turns w since (asks.Rename path name_path) is answer given none) s.made
+            let none = undone_made disk (asks.Rename path name_path) (change_of_rename (tree_of disk.state) path name_path) (told_rename (tree_of disk.state) path name_path)
+            (λ d. undone (d ∙ sym given)) in
+            cleared t (asks.Rename path name_path) is answer given s.past s.asked number refusal (no_rename t (asks.Rename path name_path) is answer given none)
+            (no_file t (asks.Rename path name_path) is answer given none) s.made
 
         moved : (given : answers.Done ≡ answer_now disk (asks.Rename path name_path)) → HasWritten first whole handle begun w id
         moved given =
             let ask : DiskAsk = asks.Rename path name_path in
             let m = done_made disk ask (change_of_rename (tree_of disk.state) path name_path) (told_rename (tree_of disk.state) path name_path) given in
-            let done : change_of_rename before path name_path ≡ Ok m.change = subst (λ t. change_of_rename t path name_path ≡ Ok m.change) (before_is first events e handle begun turns w since) m.is in
+            let done : change_of_rename before path name_path ≡ Ok m.change = subst (λ t. change_of_rename t path name_path ≡ Ok m.change) (before_is t) m.is in
             let c = rename_change before path m.change name_path done in
             let h = s.holds in
             let there : before ≡ tree_at first whole (length events) = sym (tree_at-before first events e (length events) (omega arith)) in
@@ -153,12 +150,13 @@ module _ (first : Volume) (events : List Event) (e : Event) (handle begun turns 
               only = s.unnamed;
               reads = λ alone free.
                   let has = h.holds (alone_before first events e handle path (h.made + 1) (length events) (omega arith) alone) in
-                  let f = moves_file before (is_tree first events e handle begun turns w since ask is answers.Done given) path has.0 (header_of w.kind w.size ++ w.bytes) 0 has.1 name_path m.change done in
+                  let f = moves_file before (is_tree t ask is answers.Done given) path has.0 (header_of w.kind w.size ++ w.bytes) 0 has.1 name_path m.change done in
                   let both : Rename has.0 f.0 ≡ Rename c.0 c.1 = sym f.2 ∙ c.4 in
                   let target : f.0 ≡ c.1 = cc both in
-                  let free_here : crosses before name_path f.0 ≡ false = subst (λ t. crosses t name_path f.0 ≡ false) (sym there) (subst (λ p. crosses (tree_at first whole (length events)) name_path p ≡ false) (sym target) free) in
-                  let reads = moved_reads before (is_tree first events e handle begun turns w since ask is answers.Done given) path has.0 (header_of w.kind w.size ++ w.bytes) 0 has.1 name_path f.0 (done ∙ ap Ok f.2) free_here in
-                  subst (λ t. read_of t name_path ≡ Ok (header_of w.kind w.size ++ w.bytes, 0)) (sym (now_changed first events e handle begun turns w since ask is answers.Done given m.change m.made))
+                  let free_here : crosses before name_path f.0 ≡ false = subst (λ t. crosses t name_path f.0 ≡ false) (sym there)
+                  (subst (λ p. crosses (tree_at first whole (length events)) name_path p ≡ false) (sym target) free) in
+                  let reads = moved_reads before (is_tree t ask is answers.Done given) path has.0 (header_of w.kind w.size ++ w.bytes) 0 has.1 name_path f.0 (done ∙ ap Ok f.2) free_here in
+                  subst (λ t. read_of t name_path ≡ Ok (header_of w.kind w.size ++ w.bytes, 0)) (sym (now_changed t ask is answers.Done given m.change m.made))
                   (subst (λ d. read_of (changed before d) name_path ≡ Ok (header_of w.kind w.size ++ w.bytes, 0)) (sym f.2) reads);
             }
 
@@ -172,8 +170,8 @@ module _ (first : Volume) (events : List Event) (e : Event) (handle begun turns 
         moving (answers.Refused error) given = unmoved (answers.Refused error) given (refused_by (refusals.Persist id) (answers.Refused error)) (λ d. cc d)
 
     -- the removal
-    pub removing : (refusal : Refusal) (s : StandsAt first events handle begun turns w (stages.Removing number refusal)) (is : IsTurnWith first events e handle (asks.Remove path)) (answer : DiskAnswer) (given : answer ≡ answer_now disk (asks.Remove path))
-        → PartsTo first events e handle begun turns w since (asks.Remove path) is answer given s.past s.asked (wants.Done (Err refusal))
+    pub removing : (refusal : Refusal) (s : Stands t (stages.Removing number refusal)) (is : Makes t (asks.Remove path)) (answer : DiskAnswer) (given : answer ≡ answer_now disk (asks.Remove path))
+        → PartsTo t (asks.Remove path) is answer given s.past s.asked (wants.Done (Err refusal))
     removing refusal s is answer given =
         let never : (P : Option Change → Type 0) → P None → ((s' : Path) → P (Some (Remove s'))) → P e.entry.change =
         λ P none some.
@@ -181,10 +179,12 @@ module _ (first : Volume) (events : List Event) (e : Event) (handle begun turns 
         (change_by-all disk (asks.Remove path) (change_of_remove (tree_of disk.state) path) (told_remove (tree_of disk.state) path) P none
         (λ change told. let c = remove_change (tree_of disk.state) path change told in subst (λ d. P (Some d)) (sym c.2) (some c.0))) in (
           never (λ c. ¬ (IsRename c)) (λ r. r) (λ s' r. r),
-          λ at same. made_before_removal head Named Counted number refusal s.past at (IsAlong-done head (hash_to_write w.known) w.known w.bytes (Stage (stages.Removing number refusal)) s.past s.along).history same (ChangedNothing whole handle begun),
+          λ at same. made_before_removal (head_to_write w) (GetsName w) (HasOther w) number refusal s.past at
+              (IsAlong-done (head_to_write w) (hash_to_write w.known) w.known w.bytes (Stage (stages.Removing number refusal)) s.past s.along).history same
+              (ChangedNothing whole handle begun),
           (
             Some number,
-            made_same first events e handle begun turns w since (asks.Remove path) is answer given (Some number) (never (λ c. ¬ (IsNewFile c)) (λ r. r) (λ s' r. r)) s.made,
-            inr (number, length events, refl, whole_length first events e, (answer, own first events e handle begun turns w since (asks.Remove path) is answer given)),
+            made_same t (asks.Remove path) is answer given (Some number) (never (λ c. ¬ (IsNewFile c)) (λ r. r) (λ s' r. r)) s.made,
+            inr (number, length events, refl, length_push events e, (answer, own t (asks.Remove path) is answer given)),
           ),
         )

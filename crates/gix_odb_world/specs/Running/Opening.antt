@@ -1,8 +1,7 @@
 -- What an opening knows, and its machine, of which a public clause needs what it asks and where an answer leads it.
-use Rattle.std.specs.Prelude.{◌≡◌, ℕ, List, length, None, Result, Ok, Err}
+use Rattle.std.specs.Prelude.{◌≡◌, ℕ, List, length, None}
 use Rattle.gix_odb.specs.Contents.{folder_list}
 use Rattle.gix_odb.specs.OpenOrder as openings
-use Rattle.gix_odb.specs.declared.call.Reply.{Reply}
 use Rattle.gix_odb.specs.declared.open_state.OpenState.{OpenState}
 use Rattle.gix_odb.specs.declared.open_state.OpenState.TheVariants as opens
 use Rattle.gix_odb_world.specs.declared.work.Work.TheVariants.{Opening}
@@ -21,18 +20,13 @@ pub record IsOpening (events : List Event) (handle : ℕ) (running : Running) (s
 
 -- ---- its machine
 
--- an opening that is done has its reply
-abbrev pub result_of_opening : OpenState → Result Reply OpenState
-result_of_opening opens.Looking = Err opens.Looking
-result_of_opening (opens.Done reply) = Ok reply
-
 -- an opening as a machine: one look, and then its reply
 abbrev pub opening : Machine
 opening = record {
   State = OpenState;
   work = λ state. Opening state;
   ask = λ store state. to_disk (openings.ask_of store.parts.objects state);
-  feed = λ store state answer. by_answer (result_of_opening state) (λ told. result_of_opening (openings.fed store.slots state told)) answer;
+  feed = λ store state answer. by_answer (openings.result_of state) (λ told. openings.result_of (openings.fed store.slots state told)) answer;
   writes = λ state. None;
   IsFor = λ task state. task ≡ OpenStore;
   bound = λ store task entries. turn_bound 0 (length (folder_list store.parts)) 0 entries None;

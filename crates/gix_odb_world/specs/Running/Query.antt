@@ -60,7 +60,7 @@ pub record IsLooking (first : Volume) (events : List Event) (handle : ℕ) (runn
   pub task : running.task ≡ MakeCall (call_of state.head.query)
   pub place : ℕ
   pub turns : running.turns ≡ front + place
-  pub seeks_id : state.head.id ≡ sought running.store.parts running.ignoring state.head.query
+  pub seeks_id : state.head.id ≡ sought running.store.parts running.modes.ignoring state.head.query
   pub seeks : Seeks (tree_at first events) (FailedSince events handle running.begun) running.store running.begun (length events) place state.head.query state.head.id state.stage
 
 -- ---- its machine

@@ -27,7 +27,7 @@ use Rattle.gix_odb_world.specs.AtWork.{MakeCall, Running, Task, nothing_in_front
 use Rattle.gix_odb_world.specs.Bound.{bound_of_task}
 use Rattle.gix_odb_world.specs.Run.{tree_at}
 use Rattle.gix_odb.specs.CallOrder.{hash_to_write, wrote_as}
-use Rattle.gix_odb_world.specs.Writing.{AskedAt, AskedSince, ChangedNothing, LeftAlone, MadeOnly, RenamedNothing, ToWrite, call_to_write, head_to_write}
+use Rattle.gix_odb_world.specs.Writing.{AskedAt, AskedSince, ChangedNothing, LeftAlone, TurnsMadeOnly, NoTurnRenamed, ToWrite, call_to_write, head_to_write}
 
 -- a write that has asked nothing
 abbrev pub job_to_write : ToWrite → WriteJob
@@ -68,25 +68,25 @@ pub record StandsAt (first : Volume) (events : List Event) (handle begun own : �
   pub along : IsAlong (job_to_write w) (Stage stage) past
   pub had : own ≡ length past
   pub asked : (x : Exchange) → Contains past x → AskedSince first events handle begun x.ask x.answer
-  pub unnamed : RenamedNothing events handle begun
-  pub made : MadeOnly events handle begun w.objects (number_made stage)
+  pub unnamed : NoTurnRenamed events handle begun
+  pub made : TurnsMadeOnly events handle begun w.objects (number_made stage)
   pub untouched : IsUntouched events handle begun (number_made stage)
   pub holds : Holds first events handle begun w.objects (number_made stage) (content_at w stage)
 
 -- A running write: what it is to write, and what it knows after so many turns of its own. Its handle's task may be another one, of
 -- which other turns, that changed nothing, came in front.
-pub record IsWriting (first : Volume) (events : List Event) (handle : ℕ) (running : Running) (folder : LooseCall) : Type 0 where
+pub record IsWriting (first : Volume) (events : List Event) (handle : ℕ) (running : Running) (call : LooseCall) : Type 0 where
   pub write : ToWrite
   pub into : write.objects ≡ running.store.parts.objects
   pub fits : write.size < 2 ^ 64
   pub stage : WriteStage
-  pub is : folder ≡ write_at write stage
+  pub is : call ≡ write_at write stage
   pub own : ℕ
   pub stands : StandsAt first events handle running.begun own write stage
 
 -- a write that is the task of its handle, behind so many turns of it
-pub record IsAtOwnWrite (first : Volume) (events : List Event) (handle : ℕ) (running : Running) (front : ℕ) (folder : LooseCall) : Type 0 where
-  pub writing : IsWriting first events handle running folder
+pub record IsAtOwnWrite (first : Volume) (events : List Event) (handle : ℕ) (running : Running) (front : ℕ) (call : LooseCall) : Type 0 where
+  pub writing : IsWriting first events handle running call
   pub task : running.task ≡ MakeCall (call_to_write writing.write)
   pub turns : running.turns ≡ front + writing.own
 
@@ -94,29 +94,29 @@ pub record IsAtOwnWrite (first : Volume) (events : List Event) (handle : ℕ) (r
 
 -- a call of the objects directory goes on, unless it has its reply
 abbrev pub replied_by : LooseCall → Option LooseReply → Result Reply LooseCall
-replied_by folder None = Err folder
-replied_by folder (Some reply) = Ok (wrote_as reply)
+replied_by call None = Err call
+replied_by call (Some reply) = Ok (wrote_as reply)
 
 -- a write that is done has its reply
 abbrev pub result_of_write : LooseCall → Result Reply LooseCall
-result_of_write folder = replied_by folder (reply_of folder)
+result_of_write call = replied_by call (reply_of call)
 
 -- a write may be at the stages of its own call
-pub record IsForWrite (task : Task) (folder : LooseCall) : Type 0 where
+pub record IsForWrite (task : Task) (call : LooseCall) : Type 0 where
   pub write : ToWrite
   pub task_is : task ≡ MakeCall (call_to_write write)
   pub stage : WriteStage
-  pub is : folder ≡ write_at write stage
+  pub is : call ≡ write_at write stage
 
 -- a write as a machine, with nothing in front of it
 abbrev pub writing : Machine
 writing = record {
   State = LooseCall;
-  work = λ folder. Calling (Writing folder);
-  ask = λ store folder. to_disk (disk_ask_of folder);
-  feed = λ store folder answer. by_answer (Err folder) (λ told. result_of_write (loose_order.fed folder told)) answer;
-  writes = λ folder. Some folder;
-  IsFor = λ task folder. IsForWrite task folder;
+  work = λ call. Calling (Writing call);
+  ask = λ store call. to_disk (disk_ask_of call);
+  feed = λ store call answer. by_answer (Err call) (λ told. result_of_write (loose_order.fed call told)) answer;
+  writes = λ call. Some call;
+  IsFor = λ task call. IsForWrite task call;
   bound = λ store task entries. bound_of_task store task entries;
-  Knows = λ first events handle running folder. IsAtOwnWrite first events handle running nothing_in_front folder;
+  Knows = λ first events handle running call. IsAtOwnWrite first events handle running nothing_in_front call;
 }

@@ -1,5 +1,6 @@
 //! The handles of a world, each under its number.
-ghost use Rattle.std.specs.Prelude.{◌≡◌, OnOk, true, None, Some};
+ghost use Rattle.std.specs.Prelude.{◌≡◌, IfOk, OnErr, OnOk, true, None, Some};
+ghost use Rattle.std.specs.Result.{result_err};
 ghost use Rattle.gix_odb_world.specs.Valid as reasons;
 ghost use Rattle.gix_odb_world.specs.World.{handle_at};
 ghost use Rattle.gix_odb_world.specs.Table.{SetsHandle, phase_of_handle, with_ignoring, with_work};
@@ -8,6 +9,7 @@ use super::World;
 use crate::handle::Handle;
 use crate::step::Why;
 use crate::work::Work;
+use gix_odb::HandleState;
 use odb_base::NoMemory;
 use std::mem::replace;
 
@@ -28,12 +30,23 @@ impl World {
         drop(old);
     }
 
-    /// Takes the handle that has a number out of the table.
-    pub(super) fn take(&mut self, number: u32) -> Option<Handle>
-        ensures taken { result ≡ handle_at self.old number }
-        ensures sets { SetsHandle self.old self.new number None }
+    /// Takes a handle that is at work out of the table. Any other one stays where it is.
+    pub(super) fn take_work(&mut self, number: u32) -> Result<(HandleState, Work), Why>
+        ensures taken { IfOk result (λ taken. handle_at self.old number ≡ Some (record { state = taken.0; work = Some taken.1 })) }
+        ensures sets { OnOk result (SetsHandle self.old self.new number None) }
+        ensures why { result_err result ≡ reasons.why_not_running (phase_of_handle (handle_at self.old number)) }
+        ensures kept { OnErr result (self.new ≡ self.old) }
     {
-        self.handles.remove(&number)
+        if let Some(why) = self.why_not_running(number) {
+            return Err(why);
+        }
+        match self.handles.remove(&number) {
+            None => Err(Why::NoHandle),
+            Some(Handle { state, work }) => match work {
+                None => Err(Why::NotRunning),
+                Some(work) => Ok((state, work)),
+            },
+        }
     }
 
     /// Puts a handle under a number that has none, if there is one to put.
@@ -75,17 +88,25 @@ impl World {
         }
     }
 
+    /// The handle that has a number, if it is idle, or why it isn't.
+    pub(super) fn idle(&self, number: u32) -> Result<&Handle, Why>
+        ensures handle { IfOk result (λ handle. handle_at self.now number ≡ Some handle.now) }
+        ensures why { result_err result ≡ reasons.why_not_idle (phase_of_handle (handle_at self.now number)) }
+    {
+        match self.handles.get(&number) {
+            None => Err(Why::NoHandle),
+            Some(handle) => match handle.work {
+                None => Ok(handle),
+                Some(_) => Err(Why::Busy),
+            },
+        }
+    }
+
     /// Why a step that needs an idle handle isn't valid.
     pub(super) fn why_not_idle(&self, number: u32) -> Option<Why>
         ensures why { result ≡ reasons.why_not_idle (phase_of_handle (handle_at self.now number)) }
     {
-        let Some(handle) = self.handles.get(&number) else {
-            return Some(Why::NoHandle);
-        };
-        match handle.work {
-            None => None,
-            Some(_) => Some(Why::Busy),
-        }
+        self.idle(number).err()
     }
 
     /// Why a turn isn't valid.

@@ -8,7 +8,8 @@ use Rattle.gix_odb_world.proofs.opening.are_good_folders.Goals as goal
 pub loop-folder-preserved : goal.loop-folder-preserved
 loop-folder-preserved c =
     has_more c.args.path.now c.args.folders.now c.loop-folder.paths c.insert-in-loop-folder.new.self c.folder-item.result c.loop-folder.folder-index
-    (omega (arith, c.loop-folder-test.true, ap length c.as_slice-folder-items.ensures.value)) (subst (λ folders. c.folder-item.result ≡ get_or folders c.loop-folder.folder-index c.folder-item.result) c.as_slice-folder-items.ensures.value c.folder-item.is) c.loop-folder.invariant
+    (omega (arith, c.loop-folder-test.true, ap length c.as_slice-folder-items.ensures.value))
+    (subst (λ folders. c.folder-item.result ≡ get_or folders c.loop-folder.folder-index c.folder-item.result) c.as_slice-folder-items.ensures.value c.folder-item.is) c.loop-folder.invariant
     (subst (λ path. Updates path_cmp c.loop-folder.paths c.insert-in-loop-folder.new.self path true) c.in_ok-try_clone-2.ensures.copy c.in_ok-insert-2.ensures.updates)
 
 -- all folders are in the set

@@ -9,7 +9,9 @@ use Rattle.gix_odb_world.proofs.world.World.change.Goals as goal
 
 pub returns-in_ok-made-in-Ok-clause-continues : goal.returns-in_ok-made-in-Ok-clause-continues
 returns-in_ok-made-in-Ok-clause-continues c =
-    on_ok_weaker c.note.result (changed c.args.self.now c.note.new.self c.change.new.self c.args.change.now c.in_ok-made-in-Ok.made c.in-Ok.ensures.possible c.in-Ok.ensures.made c.in_ok-made-in-Ok.ensures.copy) c.note.ensures.notes
+    on_ok_weaker c.note.result
+    (changed c.args.self.now c.note.new.self c.change.new.self c.args.change.now c.in_ok-made-in-Ok.made
+    c.in-Ok.ensures.possible c.in-Ok.ensures.made c.in_ok-made-in-Ok.ensures.copy) c.note.ensures.notes
 
 pub returns-in-Err-Impossible-clause-continues : goal.returns-in-Err-Impossible-clause-continues
 returns-in-Err-Impossible-clause-continues c =

@@ -6,7 +6,8 @@ use Rattle.gix_odb_world.specs.declared.step.Step.TheVariants as steps
 use Rattle.gix_odb_world.proofs.world.World.close.Goals as goal
 
 pub returns-in-Some-clause-continues : goal.returns-in-Some-clause-continues
-returns-in-Some-clause-continues c = on_ok_weaker c.misuse.result (misused c.args.self.now c.misuse.new.self (steps.Close c.args.number) c.in-Some.why (sym c.in-Some.ensures.why)) c.misuse.ensures.notes
+returns-in-Some-clause-continues c = on_ok_weaker c.misuse.result
+    (misused c.args.self.now c.misuse.new.self (steps.Close c.args.number) c.in-Some.why (sym c.in-Some.ensures.why)) c.misuse.ensures.notes
 
 pub returns-clause-continues : goal.returns-clause-continues
 returns-clause-continues c =
