@@ -52,7 +52,7 @@ module _ (store : Store) (kind : Kind) (size : ℕ) (known : Option ObjectId) (c
         refused =
             λ error is.
             WriteCause-wider (write_head store kind size) (Refuses state (Rose faults now) run.exchanges) (Refuses state (Rose earlier later) run.exchanges)
-                (FoundThere run.exchanges) (FoundThere run.exchanges) (DoneIn run.exchanges) (DoneIn run.exchanges)
+            (FoundThere run.exchanges) (FoundThere run.exchanges) (DoneIn run.exchanges) (DoneIn run.exchanges)
             (λ ask making h. (h.0, h.1, h.2, elim h.3 [ inl failed ↦ inl (failed.0, rose_between earlier faults now later since until failed.1) | inr other ↦ inr other ]))
             (λ ask h. h) (λ ask h. h) (HasFailed content) (HasFailed content) (λ h. h) (GetsName w) (GetsName w) (λ id h. h) (Unit {0}) (Unit {0}) (λ h. h)
             (OtherLength (bytes_told content) size) (OtherLength (bytes_told content) size) (λ n h. h) error (run.refused error is);
@@ -90,12 +90,12 @@ module _ (store : Store) (known : Option ObjectId) (kind : Kind) (bytes : List �
 -- What was found in the first store, these bytes, was written into the second one.
 module _ (from to : Store) (id : ObjectId) (before middle after : Option State) (faults then now : ℕ) (kept : middle ≡ before) (since : faults ≤ then)
     (found : Result (Option Kind) FindError) (kind : Kind) (bytes gave : List ℕ) (finds : IfSome before (λ s. Finds from id s (Rose faults then) (put_in found gave)))
-        (is : found ≡ Ok (Some kind)) (whole : bytes ≡ gave) where
+    (is : found ≡ Ok (Some kind)) (whole : bytes ≡ gave) where
   finds_in : (s : State) → before ≡ Some s → Finds from id s (Rose faults then) (put_in (Ok (Some kind)) bytes)
   finds_in s told =
       subst (λ (all : List ℕ). Finds from id s (Rose faults then) (put_in (Ok (Some kind)) all)) (sym whole)
       (subst (λ (r : Result (Option Kind) FindError). Finds from id s (Rose faults then) (put_in r gave)) is
-          (at_told before (λ x. Finds from id x (Rose faults then) (put_in found gave)) s told finds))
+      (at_told before (λ x. Finds from id x (Rose faults then) (put_in found gave)) s told finds))
 
   -- an object was copied, or the write was refused
   pub copy_made : (answer : Result ObjectId Error) → IsWrite to kind bytes (Some id) (seen middle after then now) answer → IsCopy from to id (seen before after faults now) answer

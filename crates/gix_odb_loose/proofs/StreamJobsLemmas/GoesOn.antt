@@ -8,7 +8,7 @@ use Rattle.odb_disk.specs.declared.ask.DiskAsk.{DiskAsk}
 use Rattle.gix_hash.specs.declared.kind.Kind.{Kind as HashKind}
 use Rattle.gix_hash.specs.declared.object_id.ObjectId.{ObjectId}
 use Rattle.gix_odb_loose.specs.WriteNames.{Names}
-use Rattle.gix_odb_loose.specs.WriteOrder.{number_made, ended_with, source_failed}
+use Rattle.gix_odb_loose.specs.WriteOrder.{number_made, source_failed}
 use Rattle.gix_odb_loose.specs.WritePieces.{room_behind}
 use Rattle.gix_odb_loose.specs.StreamJobs.Progress.{Begun, SourceFailed}
 use Rattle.gix_odb_loose.specs.StreamJobs.Reads.{Loses, Takes}

@@ -1,28 +1,24 @@
 -- What a write holds is kept by the answer to its ask.
-use Rattle.std.specs.Prelude.{◌≡◌, ◌≢◌, ℕ, ◌+◌, ◌-◌, ◌^◌, ◌≤◌, Bool, true, false, nat_lt, nat_le, min, List, [], ◌∷◌, ◌++◌, length, Option, Some, None, Ok, Err, IfSome, if◌then◌else◌, refl}
+use Rattle.std.specs.Prelude.{◌≡◌, ◌≢◌, ℕ, ◌+◌, ◌-◌, ◌^◌, ◌≤◌, true, false, min, List, [], ◌∷◌, ◌++◌, length, Option, Some, None, Ok, Err, IfSome, refl}
 use Rattle.std.proofs.Common.{inr, sym, ap, ◌∙◌, subst, arith, append-nil}
 use Rattle.std.proofs.lemmas.Grind.{common_steps}
 use Rattle.std.proofs.lemmas.List.{length-append}
 use Rattle.odb_disk.specs.declared.ask.DiskAsk.{DiskAsk}
 use Rattle.odb_disk.specs.declared.ask.DiskAsk.TheVariants as asks
 use Rattle.odb_disk.specs.declared.ask.DiskAnswer.{DiskAnswer}
-use Rattle.odb_disk.specs.declared.ask.DiskAnswer.TheVariants as answers
-use Rattle.odb_tree.specs.declared.disk_error.DiskError.TheVariants as disk_errors
 use Rattle.gix_hash.specs.declared.object_id.ObjectId.{ObjectId}
 use Rattle.gix_odb_loose.specs.Exchanges.{Exchange}
 use Rattle.gix_odb_loose.specs.WriteHistory.{data_after}
 use Rattle.gix_odb_loose.specs.WritePieces.{IsInPieces, room_behind}
 use Rattle.gix_odb_loose.proofs.WriteHistoryLaws.{CountsTooMany, IsNextPiece}
 use Rattle.gix_odb_loose.specs.WriteNames.{Names}
-use Rattle.gix_odb_loose.specs.WriteOrder.{temp_names, temp_path, next_write, made_by, headed_by, filled_by, foldered_by, moved_by, grown}
+use Rattle.gix_odb_loose.specs.WriteOrder.{temp_path, next_write, made_by, headed_by, filled_by, foldered_by, moved_by, grown}
 use Rattle.gix_odb_loose.specs.StreamJobs.Progress.{Begun, NamedBy, SourceFailed, Took, WentTo}
 use Rattle.gix_odb_loose.specs.StreamJobs.AtStage.{HasPiece, IsNext, Named, Holds, HoldsNone, IsReady, removal_at}
 use Rattle.gix_odb_loose.specs.WriteStreams.{OtherLength}
 use Rattle.gix_odb_loose.specs.declared.write_streamed.StreamJob.{StreamJob}
-use Rattle.gix_odb_loose.specs.declared.write.Message.TheVariants as messages
 use Rattle.gix_odb_loose.specs.declared.write_order.WriteAsk.{WriteAsk}
 use Rattle.gix_odb_loose.specs.declared.write_order.WriteAsk.TheVariants as wants
-use Rattle.gix_odb_loose.specs.declared.write_order.Refusal.TheVariants as refusals
 use Rattle.gix_odb_loose.specs.declared.write_order.WriteStage.{WriteStage}
 use Rattle.gix_odb_loose.specs.declared.write_order.WriteStage.TheVariants as stages
 use Rattle.gix_odb_loose.proofs.WriteStreamsLemmas.{Draws-length}

@@ -1,20 +1,16 @@
 -- The data that a write has appended where an answer led it, when they are all at hand: a front of them, in whole pieces.
-use Rattle.std.specs.Prelude.{◌≡◌, ℕ, ◌+◌, ◌-◌, ◌^◌, ◌<◌, ◌≤◌, Bool, true, false, nat_lt, nat_le, min, List, [], ◌++◌, length, take, drop, Ok, Err, if◌then◌else◌, refl}
+use Rattle.std.specs.Prelude.{◌≡◌, ℕ, ◌+◌, ◌-◌, ◌^◌, ◌<◌, ◌≤◌, min, List, [], ◌++◌, length, take, drop, Ok, Err, refl}
 use Rattle.std.proofs.Common.{inr, sym, ap, ◌∙◌, arith, append_assoc, take-append-drop}
 use Rattle.std.proofs.lemmas.Grind.{common_steps}
 use Rattle.std.proofs.lemmas.List.{length-append, length-take-le, take_at}
 use Rattle.odb_disk.specs.declared.ask.DiskAnswer.{DiskAnswer}
-use Rattle.odb_disk.specs.declared.ask.DiskAnswer.TheVariants as answers
-use Rattle.odb_tree.specs.declared.disk_error.DiskError.TheVariants as disk_errors
 use Rattle.gix_hash.specs.declared.object_id.ObjectId.{ObjectId}
 use Rattle.gix_odb_loose.specs.WriteDone.{GetsNameOf, CountsOf, data_at, HasNext}
 use Rattle.gix_odb_loose.specs.WriteHistory.{data_after}
 use Rattle.gix_odb_loose.specs.WriteJobs.{piece_at, piece_of}
-use Rattle.gix_odb_loose.specs.WriteOrder.{temp_names, next_write, made_by, headed_by, filled_by, foldered_by, moved_by, grown, written_in}
+use Rattle.gix_odb_loose.specs.WriteOrder.{next_write, made_by, headed_by, filled_by, foldered_by, moved_by, written_in}
 use Rattle.gix_odb_loose.specs.WritePieces.{IsInPieces, room_behind}
-use Rattle.gix_odb_loose.specs.declared.write.Message.TheVariants as messages
 use Rattle.gix_odb_loose.specs.declared.write_at_hand.WriteJob.{WriteJob}
-use Rattle.gix_odb_loose.specs.declared.write_order.Refusal.TheVariants as refusals
 use Rattle.gix_odb_loose.specs.declared.write_order.WriteAsk.{WriteAsk}
 use Rattle.gix_odb_loose.specs.declared.write_order.WriteAsk.TheVariants as wants
 use Rattle.gix_odb_loose.specs.declared.write_order.WriteStage.{WriteStage}
