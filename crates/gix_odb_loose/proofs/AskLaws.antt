@@ -125,7 +125,8 @@ module _ (job : WriteJob) where
       let same : ask_in now ≡ ask = cc asked in
       call_along now (next_in now answer) (past ++ exchanged ask answer ∷ []) h.0
       (subst (λ (j : WriteJob). IsAlong job (next_in j answer) (past ++ exchanged ask answer ∷ [])) (sym h.0)
-      (subst (λ (a : DiskAsk). IsAlong job (next_in (record job { stage = now.stage }) answer) (past ++ exchanged a answer ∷ [])) (ap ask_in (sym h.0) ∙ same) (IsAlong-next now.stage past answer h.1)))
+      (subst (λ (a : DiskAsk). IsAlong job (next_in (record job { stage = now.stage }) answer) (past ++ exchanged a answer ∷ [])) (ap ask_in (sym h.0) ∙ same)
+      (IsAlong-next now.stage past answer h.1)))
 
 -- A call that is to write has asked nothing.
 pub IsCallAlong-start : (job : WriteJob) → IsCallAlong job (calls.Writing job) []

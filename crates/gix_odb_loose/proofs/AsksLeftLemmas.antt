@@ -76,7 +76,8 @@ module _ (job : WriteJob) where
       omega (arith, least', fewer)
 
   fits_left : (number written : ℕ) (b : Bool) → nat_le (written + piece written) job.head.size ≡ b
-      → writes_left n (onward_ask (supplied job (if b then wants.Data number (written + piece written) else wants.Disk (stages.Removing number (refusals.SizeMismatch (grown written (piece written))))))) < 4 + pieces_of (n - written)
+      → writes_left n (onward_ask (supplied job (if b then wants.Data number (written + piece written) else wants.Disk
+      (stages.Removing number (refusals.SizeMismatch (grown written (piece written))))))) < 4 + pieces_of (n - written)
   fits_left number written true e = grown_left number written (nat_le n (written + piece written)) refl (grind (arith, common_steps, e))
   fits_left number written false e = omega arith
 

@@ -39,7 +39,8 @@ module _ (head : WriteHead) (number : ℕ) (id : ObjectId) (bytes : List ℕ) (b
       let path_is : loose_path head.objects id ≡ prefix_path head.objects id ++ name ∷ [] = sym (append_assoc head.objects (take 2 (hex_of id) ∷ []) (name ∷ [])) in
       let change = rename_change (tree_of back.state) (temp_path head.objects number) (Rename back.source back.target) (loose_path head.objects id) back.renames in
       let target : change.1 ≡ back.target = cc change.4 in
-      let there = replaceable_spot (tree_of back.state) (loose_path head.objects id) back.target (subst (λ (p : Path). replaceable (tree_of back.state) (loose_path head.objects id) ≡ Ok p) target change.3) in
+      let there = replaceable_spot (tree_of back.state) (loose_path head.objects id) back.target
+      (subst (λ (p : Path). replaceable (tree_of back.state) (loose_path head.objects id) ≡ Ok p) target change.3) in
       back.reads
       (ap (λ (p : Path). crosses (tree_of back.state) p back.target) path_is
       ∙ crosses_plain (tree_of back.state) (prefix_path head.objects id) plain name back.target (ap (spot (tree_of back.state)) (sym path_is) ∙ there))
@@ -71,6 +72,8 @@ written_is_found store kind size hash known source s new exchanges id writes fit
     let back = writes.read_back in
     let head = write_head store kind size in
     let same : after ≡ written back.state (Some (Rename back.source back.target)) = cc (sym is ∙ back.leaves) in
-    let read = subst (λ (now : State). read_of (tree_of now) (loose_path (store_path store) id) ≡ Ok (header_of kind size ++ writes.bytes, 0)) (sym same) (reads_back_own head writes.number id writes.bytes (left_by (Some s) writes.moved.before) new back (plain back.state back.reached)) in
+    let read = subst (λ (now : State). read_of (tree_of now) (loose_path (store_path store) id) ≡ Ok (header_of kind size ++ writes.bytes, 0)) (sym same)
+    (reads_back_own head writes.number id writes.bytes (left_by (Some s) writes.moved.before) new back (plain back.state back.reached)) in
     finds.finds (record { kind = kind; bytes = writes.bytes })
-    (gives_object (store_limit store) (tree_of after) head id writes.bytes 0 writes.size (subst (λ (n : ℕ). n < 2 ^ 64) (sym writes.size) fits) (subst (λ (n : ℕ). IsWithin (store_limit store) n) (sym writes.size) within) read)
+    (gives_object (store_limit store) (tree_of after) head id writes.bytes 0 writes.size (subst (λ (n : ℕ). n < 2 ^ 64) (sym writes.size) fits)
+    (subst (λ (n : ℕ). IsWithin (store_limit store) n) (sym writes.size) within) read)

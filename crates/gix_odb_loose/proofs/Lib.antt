@@ -9,6 +9,7 @@ pub mod StillAskLaws
 pub mod NameLaws
 mod RunLemmas
 pub mod RoomLemmas
+mod WriteOrderLemmas
 mod WriteJobsLemmas
 mod WriteStreamsLemmas
 pub mod AskLaws

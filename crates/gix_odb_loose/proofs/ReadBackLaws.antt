@@ -122,7 +122,8 @@ holds_there path folder bytes left answers.Done there h given =
     let step = make_dir_stepped h.state folder (subst (λ (o : Option State). IsGiven o (exchanged (asks.MakeDir folder) answers.Done)) h.is given) in
     let change = make_dir_change (tree_of h.state) folder step.change step.is in
     let kept = subst (λ (c : Change). HasFile (changed (tree_of h.state) c) path h.spot bytes 0) (sym change.2)
-    (has_file_kept (tree_of h.state) (changed (tree_of h.state) (MakeDir change.0 _)) path h.spot bytes 0 (kept_by_make_dir (tree_of h.state) h.tree path h.spot bytes 0 h.file folder change.0 _ change.1) h.file) in
+    (has_file_kept (tree_of h.state) (changed (tree_of h.state) (MakeDir change.0 _)) path h.spot bytes 0
+    (kept_by_make_dir (tree_of h.state) h.tree path h.spot bytes 0 h.file folder change.0 _ change.1) h.file) in
     to_tree h.state step.change path h.spot bytes (IsTree-changed (tree_of h.state) step.change h.tree (make_dir_possible (tree_of h.state) h.tree folder step.change step.is)) kept _
     (ap (λ (o : Option State). state_told_after o (asks.MakeDir folder) answers.Done) h.is ∙ step.leaves)
 holds_there path folder bytes left (answers.Refused disk_errors.Exists) there h given =
@@ -188,7 +189,8 @@ module _ (head : WriteHead) (number : ℕ) (id : ObjectId) (bytes : List ℕ) (s
       let x = exchanged (asks.MakeDir (prefix_path head.objects id)) is.answer in
       let all = subst (AreGiven (Some s)) is.is given in
       subst (Holds temporary (header_of head.kind head.size ++ bytes)) (sym (ap (left_by (Some s)) is.is ∙ left_by-push (Some s) is.before x))
-      (holds_there temporary (prefix_path head.objects id) (header_of head.kind head.size ++ bytes) _ is.answer is.there (holds_filled is.before is.filled (before_given is.before x all)) (last_given is.before x all))
+      (holds_there temporary (prefix_path head.objects id) (header_of head.kind head.size ++ bytes) _ is.answer is.there
+      (holds_filled is.before is.filled (before_given is.before x all)) (last_given is.before x all))
 
   -- an object that got its name is read back
   pub moved_reads_back : (past : List Exchange) → (is : IsMoved head number id bytes past) → AreGiven (Some s) past
@@ -208,7 +210,8 @@ module _ (head : WriteHead) (number : ℕ) (id : ObjectId) (bytes : List ℕ) (s
         target = move.0;
         renames = renames;
         leaves =
-            ap (left_by (Some s)) is.is ∙ left_by-push (Some s) is.before x ∙ ap (λ (o : Option State). state_told_after o (asks.Rename temporary to) answers.Done) h.is ∙ step.leaves ∙ ap (λ (c : Change). Some (written h.state (Some c))) move.2;
+            ap (left_by (Some s)) is.is ∙ left_by-push (Some s) is.before x ∙ ap (λ (o : Option State). state_told_after o (asks.Rename temporary to) answers.Done) h.is
+            ∙ step.leaves ∙ ap (λ (c : Change). Some (written h.state (Some c))) move.2;
         reads =
             λ free.
             ap (λ (t : Tree). read_of t to) (tree_of-written h.state (Rename h.spot move.0))

@@ -127,7 +127,8 @@ object_answers : (read : Reading) (limit : Option ℕ) (Failed : Type 0) (result
 object_answers read limit Failed result h =
     record {
       found = λ object e. h.found (object.kind, object.bytes) (sym (pair_object result) ∙ ap pair_result e);
-      finds = λ object g. comes_object Failed result (Some (object.kind, object.bytes)) (Some object) refl (h.finds (object.kind, object.bytes) (record { bytes = g.bytes; time = g.time; given = g.given; holds = g.holds }));
+      finds = λ object g. comes_object Failed result (Some (object.kind, object.bytes)) (Some object) refl
+          (h.finds (object.kind, object.bytes) (record { bytes = g.bytes; time = g.time; given = g.given; holds = g.holds }));
       none = λ e. h.none (sym (pair_object result) ∙ ap pair_result e);
       misses = λ e. comes_object Failed result None None refl (h.misses e);
     }
@@ -185,21 +186,28 @@ module _ (state : Option State) (store : Store) (id : ObjectId) (at : Path) (giv
   test_cause (Err error) is = subst (λ (p : Path). TestCause p Failed ⊤ error) same (tested_by-Err at Failed ⊤ given cause (λ _. tt) error (sym is))
 
   module _ (told : IfSome state (λ s. AnswersAsk given (file_answer (read_of (tree_of s) at)))) where
-    -- a find
+    -- a find, where the object's path is this one
+    abbrev FindsAt : Path → Result (Option (Kind × List ℕ)) Error → Type 0
+    FindsAt path result =
+        IfSome state (λ s. AnswersRead (read_of (tree_of s) path) (λ bytes object. HoldsObject (store_limit store) bytes object.kind object.bytes) Failed (object_result result))
+
     pub find_answers : (result : Result (Option (Kind × List ℕ)) Error) → result ≡ found_by at (store_limit store) given → IfSome state (λ s. Finds store id s Failed (object_result result))
     find_answers result is =
-        subst (λ (p : Path). IfSome state (λ s. AnswersRead (read_of (tree_of s) p) (λ bytes object. HoldsObject (store_limit store) bytes object.kind object.bytes) Failed (object_result result))) same
-        (subst (λ (r : Result (Option (Kind × List ℕ)) Error). IfSome state (λ s. AnswersRead (read_of (tree_of s) at) (λ bytes object. HoldsObject (store_limit store) bytes object.kind object.bytes) Failed (object_result r))) (sym is)
+        subst (λ (p : Path). FindsAt p result) same
+        (subst (FindsAt at) (sym is)
         (find_told state at (store_limit store) given Failed cause told))
 
     pub find_cause : (error : Error) → Err error ≡ found_by at (store_limit store) given → FindRefused store id state Failed error
     find_cause error is = subst (λ (p : Path). FindCause p (store_limit store) (GaveIn state p) Failed ⊤ error) same (find_refused state at (store_limit store) given Failed cause told error (sym is))
 
     -- a look for a header
+    abbrev TellsAt : Path → Result (Option (ℕ × Kind)) Error → Type 0
+    TellsAt path result = IfSome state (λ s. AnswersRead (read_of (tree_of s) path) (λ bytes x. HoldsHeader bytes x.1 x.0) Failed result)
+
     pub header_answers : (result : Result (Option (ℕ × Kind)) Error) → result ≡ header_by at given → IfSome state (λ s. TellsHeader store id s Failed result)
     header_answers result is =
-        subst (λ (p : Path). IfSome state (λ s. AnswersRead (read_of (tree_of s) p) (λ bytes x. HoldsHeader bytes x.1 x.0) Failed result)) same
-        (subst (λ (r : Result (Option (ℕ × Kind)) Error). IfSome state (λ s. AnswersRead (read_of (tree_of s) at) (λ bytes x. HoldsHeader bytes x.1 x.0) Failed r)) (sym is) (header_told state at given Failed cause told))
+        subst (λ (p : Path). TellsAt p result) same
+        (subst (TellsAt at) (sym is) (header_told state at given Failed cause told))
 
     pub header_cause : (result : Result (Option (ℕ × Kind)) Error) → result ≡ header_by at given → IfErr result (HeaderRefused store id state Failed)
     header_cause (Ok found) is = tt

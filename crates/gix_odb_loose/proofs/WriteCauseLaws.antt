@@ -39,7 +39,8 @@ tried_in head (suc number) below less =
       | inl lower ↦ Contains-append_left (tried head number) _ _ (tried_in head number below lower)
       | inr same ↦
           let is : number ≡ below = omega arith in
-          subst (λ (n : ℕ). TakenIn (tried head number ++ exchanged (asks.NewFile (temp_path head.objects number)) (answers.Refused disk_errors.Exists) ∷ []) (asks.NewFile (temp_path head.objects n))) is
+          subst (λ (n : ℕ). TakenIn (tried head number ++ exchanged (asks.NewFile (temp_path head.objects number)) (answers.Refused disk_errors.Exists) ∷ [])
+          (asks.NewFile (temp_path head.objects n))) is
           (last_in (tried head number) (exchanged (asks.NewFile (temp_path head.objects number)) (answers.Refused disk_errors.Exists)))
     ]
 
@@ -62,7 +63,8 @@ module _ (head : WriteHead) (number : ℕ) where
   pieces_in appended past h = λ k d less.
       let piece : List ℕ = slice_index_or h.pieces k d in
       subst (λ (xs : List Exchange). Contains xs (appended_as piece)) (sym h.is)
-      (Contains-append_right (headed head number) (map appended_as h.pieces) (appended_as piece) (k, omega (arith, less, length-map h.pieces appended_as), get_or-map appended_as h.pieces k d (appended_as piece) less))
+      (Contains-append_right (headed head number) (map appended_as h.pieces) (appended_as piece)
+      (k, omega (arith, less, length-map h.pieces appended_as), get_or-map appended_as h.pieces k d (appended_as piece) less))
 
   foldered_in : (id : ObjectId) (appended : List ℕ) (past : List Exchange) → IsFoldered head number id appended past → DoneIn past new_file
   foldered_in id appended past h = subst (λ (xs : List Exchange). DoneIn xs new_file) (sym h.is) (Contains-append_left h.before _ _ (filled_in appended h.before h.filled))
@@ -108,15 +110,19 @@ module _ (head : WriteHead) (Named : ObjectId → Type 0) (SourceFailed : Type 0
     abbrev Shown : (DiskAsk → DiskAnswer → Type 0) → Type 0
     Shown So = IsAnswered head Named So stage past
 
+    -- the ask of this stage, answered so
+    abbrev asked : List ℕ → DiskAnswer → Exchange
+    asked piece answer = exchanged (write_ask head piece stage) answer
+
     refused_in : (h : Shown IsRefused) → RefusedIn past (write_ask head h.piece stage)
     refused_in h =
-        (h.answer, subst (λ (xs : List Exchange). Contains xs (exchanged (write_ask head h.piece stage) h.answer)) (sym h.is) (last_in h.before (exchanged (write_ask head h.piece stage) h.answer)), h.so)
+        (h.answer, subst (λ (xs : List Exchange). Contains xs (asked h.piece h.answer)) (sym h.is) (last_in h.before (asked h.piece h.answer)), h.so)
 
     wanted_in : Shown Wants → WantedIn past
     wanted_in h = (
       write_ask head h.piece stage,
-      subst (λ (xs : List Exchange). Contains xs (exchanged (write_ask head h.piece stage) (answers.Refused disk_errors.NoMemory))) (sym h.is)
-          (subst (λ (a : DiskAnswer). Contains (h.before ++ exchanged (write_ask head h.piece stage) h.answer ∷ []) (exchanged (write_ask head h.piece stage) a)) h.so (last_in h.before (exchanged (write_ask head h.piece stage) h.answer))),
+      subst (λ (xs : List Exchange). Contains xs (asked h.piece (answers.Refused disk_errors.NoMemory))) (sym h.is)
+          (subst (λ (a : DiskAnswer). Contains (h.before ++ asked h.piece h.answer ∷ []) (asked h.piece a)) h.so (last_in h.before (asked h.piece h.answer))),
     )
 
     -- what was seen before it
@@ -137,13 +143,27 @@ module _ (head : WriteHead) (Named : ObjectId → Type 0) (SourceFailed : Type 0
 
   stopped_cause : (number : ℕ) (refusal : Refusal) (past : List Exchange) → IsStopped head Named SourceFailed Counted number refusal past → Caused past (error_from head refusal)
   stopped_cause number (refusals.Io messages.CreateTempFile) past h = absurd h
-  stopped_cause number (refusals.Io messages.WriteHeader) past h =
-      (refl, (number, before_in (stages.Heading number) past IsRefused h _ (subst (λ (xs : List Exchange). DoneIn xs (asks.NewFile (temp_path head.objects number))) (sym h.well.1) (made_in head number)), refused_in (stages.Heading number) past h))
+  stopped_cause number (refusals.Io messages.WriteHeader) past h = (
+    refl,
+    (
+      number,
+      before_in (stages.Heading number) past IsRefused h _
+          (subst (λ (xs : List Exchange). DoneIn xs (asks.NewFile (temp_path head.objects number))) (sym h.well.1) (made_in head number)),
+      refused_in (stages.Heading number) past h,
+    ),
+  )
   stopped_cause number (refusals.Io messages.StreamData) past h =
       elim h [
         | inl failed ↦ (refl, inl failed.0)
-        | inr one ↦
-            (refl, inr (number, one.1.piece, before_in (stages.Filling number one.0) past IsRefused one.1 _ (filled_in head number one.1.appended one.1.before one.1.well.1), refused_in (stages.Filling number one.0) past one.1))
+        | inr one ↦ (
+          refl,
+          inr (
+            number,
+            one.1.piece,
+            before_in (stages.Filling number one.0) past IsRefused one.1 _ (filled_in head number one.1.appended one.1.before one.1.well.1),
+            refused_in (stages.Filling number one.0) past one.1,
+          ),
+        )
       ]
   stopped_cause number refusals.IoRaw past h = (h.0, h.1.well.1, refused_in (stages.Foldering number h.0) past h.1)
   stopped_cause number (refusals.Persist id) past h = (
@@ -153,7 +173,11 @@ module _ (head : WriteHead) (Named : ObjectId → Type 0) (SourceFailed : Type 0
     (
       number,
       before_in (stages.Moving number id) past IsRefused h _ (foldered_in head number id h.appended h.before h.well.2),
-      elim (there_in head number id h.appended h.before h.well.2) [ inl d ↦ inl (before_in (stages.Moving number id) past IsRefused h _ d) | inr t ↦ inr (before_in (stages.Moving number id) past IsRefused h _ t) ],
+      elim (there_in head number id h.appended h.before h.well.2) [
+        | inl d ↦ inl (before_in (stages.Moving number id) past IsRefused h _ d)
+        | inr t ↦ inr
+            (before_in (stages.Moving number id) past IsRefused h _ t)
+      ],
       refused_in (stages.Moving number id) past h,
     ),
   )

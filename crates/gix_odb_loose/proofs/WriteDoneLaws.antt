@@ -55,7 +55,8 @@ module _ (job : WriteJob) where
         let all : written ≡ length job.bytes = omega (arith, short, fed.2) in
         let whole : appended ≡ job.bytes = fed.0 ∙ take_all written job.bytes short in
         ended number written past (written == job.head.size)
-        (IsHistory-ended job.head (GetsNameOf job) ⊥ (CountsOf job) number written (name_of job) job.bytes past refl (λ other. (omega (arith, fed.1, other), inl (omega (arith, fed.1, other, all), all)))
+        (IsHistory-ended job.head (GetsNameOf job) ⊥ (CountsOf job) number written (name_of job) job.bytes past refl
+        (λ other. (omega (arith, fed.1, other), inl (omega (arith, fed.1, other, all), all)))
         (subst (λ (xs : List ℕ). Past xs (stages.Filling number written) past) whole history))
     by_end false e =
         let more : written < length job.bytes = grind (arith, common_steps, e) in

@@ -61,7 +61,8 @@ module _ (head : WriteHead) (Named : ObjectId → Type 0) (SourceFailed : Type 0
       unmade : (answer : DiskAnswer) → IsRefused (asks.NewFile temporary) answer → refused_by (refusals.Io messages.CreateTempFile) answer ≡ refusals.Io messages.CreateTempFile
           → Onwards [] (wants.Done (Err (refused_by (refusals.Io messages.CreateTempFile) answer))) (tries answer)
       unmade answer refused same =
-          inl (refused_as head Named (stages.Making number) [] [] past (below, refl, is) (IsUnmade head Named) (refusals.Io messages.CreateTempFile) (λ xs row. inr (number, row)) (λ xs want. (number, want)) answer refused same)
+          inl (refused_as head Named (stages.Making number) [] [] past (below, refl, is) (IsUnmade head Named) (refusals.Io messages.CreateTempFile) (λ xs row. inr (number, row))
+          (λ xs want. (number, want)) answer refused same)
 
       made_next : (answer : DiskAnswer) → Onwards [] (made_by number answer) (tries answer)
       made_next answers.Done = (refl, ap (λ (xs : List Exchange). xs ++ exchanged (asks.NewFile temporary) answers.Done ∷ []) is, below)
@@ -77,7 +78,8 @@ module _ (head : WriteHead) (Named : ObjectId → Type 0) (SourceFailed : Type 0
       made_next (answers.Refused disk_errors.NotEmpty) = unmade (answers.Refused disk_errors.NotEmpty) tt refl
       made_next (answers.Refused disk_errors.Failed) = unmade (answers.Refused disk_errors.Failed) tt refl
       made_next (answers.Refused disk_errors.NoMemory) =
-          inl (wanted head Named (stages.Making number) [] [] past (below, refl, is) (IsUnmade head Named) (refusals.Io messages.CreateTempFile) (λ xs row. inr (number, row)) (λ xs want. (number, want)))
+          inl (wanted head Named (stages.Making number) [] [] past (below, refl, is) (IsUnmade head Named) (refusals.Io messages.CreateTempFile) (λ xs row. inr (number, row))
+          (λ xs want. (number, want)))
 
     -- the header is appended
     module _ (is : past ≡ made head number) (below : number < temp_names) where
@@ -133,7 +135,8 @@ module _ (head : WriteHead) (Named : ObjectId → Type 0) (SourceFailed : Type 0
           }
 
       fits_next : (fits : Bool) → nat_le (written + length piece) head.size ≡ fits
-          → Onwards (appended ++ piece) (if fits then wants.Data number (written + length piece) else wants.Disk (stages.Removing number (refusals.SizeMismatch (grown written (length piece))))) (past ++ exchanged append answers.Done ∷ [])
+          → Onwards (appended ++ piece) (if fits then wants.Data number (written + length piece) else wants.Disk
+          (stages.Removing number (refusals.SizeMismatch (grown written (length piece))))) (past ++ exchanged append answers.Done ∷ [])
       fits_next true e = (ap (λ (n : ℕ). n + length piece) so_far ∙ sym (length-append appended piece), more_filled)
       fits_next false e =
           let counts = too_many (grind (arith, common_steps, e)) in
@@ -214,7 +217,8 @@ module _ (head : WriteHead) (Named : ObjectId → Type 0) (SourceFailed : Type 0
   -- A write that stands at a stage is carried on by the answer to its ask.
   pub IsHistory-next : (stage : WriteStage) (appended piece : List ℕ) (past : List Exchange) (answer : DiskAnswer) → CountsTooMany stage piece → IsNextPiece stage piece
       → IsHistory head Named SourceFailed Counted appended stage past
-      → IsHistoryOnward head Named SourceFailed Counted (data_after stage piece answer appended) (next_write head.size (length piece) stage answer) (past ++ exchanged (write_ask head piece stage) answer ∷ [])
+      → IsHistoryOnward head Named SourceFailed Counted (data_after stage piece answer appended) (next_write head.size (length piece) stage answer)
+      (past ++ exchanged (write_ask head piece stage) answer ∷ [])
   IsHistory-next (stages.Making number) appended piece past answer counts next is =
       subst (λ (xs : List ℕ). Onwards xs (made_by number answer) (past ++ exchanged (asks.NewFile (temp_path head.objects number)) answer ∷ [])) (sym is.1) (made_next past number is.0 is.2 answer)
   IsHistory-next (stages.Heading number) appended piece past answer counts next is =

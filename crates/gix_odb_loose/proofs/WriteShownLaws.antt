@@ -53,7 +53,8 @@ module _ (head : WriteHead) (Named : ObjectId → Type 0) where
         → IsAnswered head Named So (stages.Making number) past → All P past
     making_all number So isnt past h =
         subst (All P) (sym h.is)
-        (All-push P h.before (exchanged (asks.NewFile (temp_path head.objects number)) h.answer) (subst (All P) (sym h.well.2) (tried_all number (omega (arith, h.well.0)))) (makes number h.well.0 h.answer (isnt _ h.answer h.so)))
+        (All-push P h.before (exchanged (asks.NewFile (temp_path head.objects number)) h.answer) (subst (All P) (sym h.well.2) (tried_all number (omega (arith, h.well.0))))
+        (makes number h.well.0 h.answer (isnt _ h.answer h.so)))
 
     pub unmade_all : (refusal : Refusal) (past : List Exchange) → IsUnmade head Named refusal past → All P past
     unmade_all (refusals.Io messages.CreateTempFile) past h =
@@ -94,7 +95,8 @@ module _ (head : WriteHead) (Named : ObjectId → Type 0) where
           → is_done answer ≡ false → P (exchanged (write_ask head piece stage) answer)
       last_of (stages.Making n) appended piece past answer e h isnt_done = absurd (cc e)
       last_of (stages.Heading n) appended piece past answer e h isnt_done =
-          let same : n ≡ number = cc e in subst (λ (m : ℕ). P (exchanged (asks.Append (temp_path head.objects m) (header_of head.kind head.size)) answer)) (sym same) (appends (header_of head.kind head.size) answer)
+          let same : n ≡ number = cc e in subst (λ (m : ℕ). P (exchanged (asks.Append (temp_path head.objects m) (header_of head.kind head.size)) answer)) (sym same)
+          (appends (header_of head.kind head.size) answer)
       last_of (stages.Filling n written) appended piece past answer e h isnt_done =
           let same : n ≡ number = cc e in subst (λ (m : ℕ). P (exchanged (asks.Append (temp_path head.objects m) piece) answer)) (sym same) (appends piece answer)
       last_of (stages.Foldering n id) appended piece past answer e h isnt_done = folders id h.1 answer

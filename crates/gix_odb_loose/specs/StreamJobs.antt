@@ -16,7 +16,7 @@ use Rattle.gix_odb_loose.specs.declared.write_order.WriteAsk.TheVariants as want
 use Rattle.gix_odb_loose.specs.declared.write_order.Refusal.{Refusal}
 use Rattle.gix_odb_loose.specs.declared.write_order.WriteHead.{WriteHead}
 use Rattle.gix_odb_loose.specs.StreamJobs.Progress.{Begun}
-use Rattle.gix_odb_loose.specs.StreamJobs.Standing.{StandsAt, LedAt, WaitsAt, BreaksAt, IsAtItsEnd, IsBrokenOff}
+use Rattle.gix_odb_loose.specs.StreamJobs.Standing.{StandsAt, StandsBefore, WaitsAt, BreaksAt, IsAtItsEnd, IsBrokenOff}
 
 -- a write asks the disk next
 abbrev pub IsUnderway : Begun → Option State → ℕ → Option (List ℕ) → ℕ → StreamJob → Type 0
@@ -36,16 +36,16 @@ abbrev pub GoesOn : {E : Type 0} → Begun → Option State → ℕ → Option (
 GoesOn w state now rest source_now job (Ok x) = IsUnderway w state now rest source_now job
 GoesOn w state now rest source_now job (Err error) = IsBroken w state now rest source_now job
 
--- what an answer leads to
-abbrev pub Leads : Begun → Option State → ℕ → Option (List ℕ) → ℕ → StreamJob → WriteAsk → Type 0
-Leads w state now rest source_now job (wants.Disk stage) = LedAt w state now rest source_now job stage
-Leads w state now rest source_now job (wants.Data number written) = WaitsAt w state now rest source_now job number written
-Leads w state now rest source_now job (wants.Done end) = (job.head ≡ w.head) × IsAtItsEnd w state now rest source_now end
+-- what an answer led to: a stage, data that are asked for, or the end
+abbrev pub AnsweredTo : Begun → Option State → ℕ → Option (List ℕ) → ℕ → StreamJob → WriteAsk → Type 0
+AnsweredTo w state now rest source_now job (wants.Disk stage) = StandsBefore w state now rest source_now job stage
+AnsweredTo w state now rest source_now job (wants.Data number written) = WaitsAt w state now rest source_now job number written
+AnsweredTo w state now rest source_now job (wants.Done end) = (job.head ≡ w.head) × IsAtItsEnd w state now rest source_now end
 
--- what one call of the disk comes to: its answer leads on, or memory ran out before it
-abbrev pub LeadsTo : {E : Type 0} → Begun → Option State → ℕ → Option (List ℕ) → ℕ → StreamJob → Result WriteAsk E → Type 0
-LeadsTo w state now rest source_now job (Ok wanted) = Leads w state now rest source_now job wanted
-LeadsTo w state now rest source_now job (Err error) = IsBroken w state now rest source_now job
+-- what one call of the disk comes to: its answer led on, or memory ran out before it
+abbrev pub AsksTo : {E : Type 0} → Begun → Option State → ℕ → Option (List ℕ) → ℕ → StreamJob → Result WriteAsk E → Type 0
+AsksTo w state now rest source_now job (Ok wanted) = AnsweredTo w state now rest source_now job wanted
+AsksTo w state now rest source_now job (Err error) = IsBroken w state now rest source_now job
 
 -- some write is underway
 abbrev pub IsSomeUnderway : Option State → ℕ → Option (List ℕ) → ℕ → StreamJob → Type 0

@@ -84,6 +84,20 @@ abbrev pub HasNotFailed : Content → Type 0
 HasNotFailed (AtHand bytes) = ⊤
 HasNotFailed (Streamed left before now) = now ≡ before
 
+-- what a source had left before a write, where it tells that, and its counts of faults
+abbrev pub streamed : {S : Type 0} → (left : S → Option (List ℕ)) (faults : S → ℕ) (before now : S) → Content
+streamed left faults before now = Streamed (left before) (faults before) (faults now)
+
+-- the state of a disk before a write and after, where it tells that, and its counts of faults
+pub record DiskSeen : Type 0 where
+  pub state : Option State
+  pub state_now : Option State
+  pub faults : ℕ
+  pub faults_now : ℕ
+
+abbrev pub disk_seen : {D : Type 0} → (state : D → Option State) (faults : D → ℕ) (before now : D) → DiskSeen
+disk_seen state faults before now = record { state = state before; state_now = state now; faults = faults before; faults_now = faults now }
+
 -- a write that was made: what it was given, what it left of the disk, and what it answered
 pub record Write : Type 0 where
   pub head : WriteHead
@@ -91,27 +105,12 @@ pub record Write : Type 0 where
   -- the id that the object is known to have
   pub known : Option ObjectId
   pub content : Content
-  -- the state of the disk before and after, where it tells that, and its counts of faults
-  pub state : Option State
-  pub state_now : Option State
-  pub faults : ℕ
-  pub faults_now : ℕ
+  pub disk : DiskSeen
   pub answer : Result ObjectId Error
 
 -- a write of this kind and size into a store, by where its data come from, what it left of the disk, and what it answered
-abbrev pub write_into : Store → Kind → (size : ℕ) (known : Option ObjectId) → Content → (state state_now : Option State) (faults faults_now : ℕ) → Result ObjectId Error → Write
-write_into store kind size known content state state_now faults faults_now answer =
-    record {
-      head = write_head store kind size;
-      hash = store_hash store;
-      known = known;
-      content = content;
-      state = state;
-      state_now = state_now;
-      faults = faults;
-      faults_now = faults_now;
-      answer = answer;
-    }
+abbrev pub write_into : Store → Kind → (size : ℕ) (known : Option ObjectId) → Content → DiskSeen → Result ObjectId Error → Write
+write_into store kind size known content disk answer = record { head = write_head store kind size; hash = store_hash store; known = known; content = content; disk = disk; answer = answer }
 
 -- the object gets this id, where its data are told
 abbrev pub GetsName : Write → ObjectId → Type 0
@@ -121,8 +120,8 @@ GetsName w id = NamedFrom w.head w.hash w.known (bytes_told w.content) id
 pub record WriteRuns (w : Write) : Type 0 where
   -- the calls of the disk that it made, and what they were answered and left
   pub exchanges : List Exchange
-  pub given : AreGiven w.state exchanges
-  pub left : w.state_now ≡ left_by w.state exchanges
+  pub given : AreGiven w.disk.state exchanges
+  pub left : w.disk.state_now ≡ left_by w.disk.state exchanges
   -- each is one of the write's own
   pub own : AreOwn w.head (GetsName w) exchanges
   -- and they are those of a write that has the same data at hand, where they are told: each is the one that the answers
@@ -131,15 +130,15 @@ pub record WriteRuns (w : Write) : Type 0 where
   -- no read of the source failed; or one did, and the removal of the temporary file was asked next
   pub spared : HasNotFailed w.content ⊎ IsStoppedBySource w.head exchanges w.answer
   -- an object that was written got its name last
-  pub wrote : (id : ObjectId) → w.answer ≡ Ok id → Writes w.head w.hash w.known (bytes_told w.content) w.state w.state_now exchanges id
+  pub wrote : (id : ObjectId) → w.answer ≡ Ok id → Writes w.head w.hash w.known (bytes_told w.content) w.disk.state w.disk.state_now exchanges id
   -- a refused write went well up to what refused it, and removed last the temporary file that it made
   pub stopped : (error : Error) → w.answer ≡ Err error → IsRefusedWrite w.head (GetsName w) (HasFailed w.content) (OtherLength (bytes_told w.content) w.head.size) exchanges error
   -- so it made no name of an object, and left no file but one whose removal was refused too
   pub unnamed : (error : Error) → w.answer ≡ Err error → RenamedNothing exchanges
   pub cleared : (error : Error) → w.answer ≡ Err error → LeavesNothing w.head exchanges
   -- where no temporary file could be made, the disk is as it was
-  pub untouched : (at : Path) → w.answer ≡ Err (errors.Io messages.CreateTempFile at) → w.state_now ≡ w.state
+  pub untouched : (at : Path) → w.answer ≡ Err (errors.Io messages.CreateTempFile at) → w.disk.state_now ≡ w.disk.state
   -- and it has its cause
   pub refused : (error : Error) → w.answer ≡ Err error
-      → WriteCause w.head (GetsName w) (Refuses w.state (Rose w.faults w.faults_now) exchanges) (FoundThere exchanges) (DoneIn exchanges) (HasFailed w.content) ⊤
+      → WriteCause w.head (GetsName w) (Refuses w.disk.state (Rose w.disk.faults w.disk.faults_now) exchanges) (FoundThere exchanges) (DoneIn exchanges) (HasFailed w.content) ⊤
       (OtherLength (bytes_told w.content) w.head.size) error

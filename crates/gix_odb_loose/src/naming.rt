@@ -1,5 +1,5 @@
 //! The name that a written object gets: the id that was handed in, or the hash of its header and data.
-ghost use Rattle.std.specs.Prelude.{◌≡◌, ℕ, List, Option, [], ◌++◌, IfOk};
+ghost use Rattle.std.specs.Prelude.{◌≡◌, ℕ, List, Option, Some, [], ◌++◌, IfOk};
 ghost use Rattle.gix_odb_loose.specs.WriteNames.{Names, name_for};
 ghost use Rattle.gix_hash.specs.Hash.{HasTaken, hasher_kind};
 ghost use Rattle.gix_object.specs.Loose.{header_of};
@@ -28,7 +28,7 @@ impl Naming {
         head: &WriteHead,
         known: Option<ObjectId>,
     ) -> Result<Naming, NoMemory>
-        ensures start { IfOk result (λ naming. Names known hash head.now [] naming) }
+        ensures start { IfOk result (λ naming. Names known hash head.now [] (Some naming)) }
     {
         match known {
             Some(id) => Ok(Naming::Known(id)),
@@ -39,7 +39,7 @@ impl Naming {
     /// Takes in the next bytes of the data.
     pub fn update(&mut self, bytes: &[u8])
         ensures taken { (known : Option id_of_object) (hash : hash_kind) (head : head_of_write) (before : List ℕ) →
-            Names known hash head before self.old → Names known hash head (before ++ bytes.now) self.new }
+            Names known hash head before (Some self.old) → Names known hash head (before ++ bytes.now) (Some self.new) }
     {
         match self {
             Naming::Known(_) => {}
@@ -50,7 +50,7 @@ impl Naming {
     /// The id.
     pub fn finish(self) -> ObjectId
         ensures name { (known : Option id_of_object) (hash : hash_kind) (head : head_of_write) (all : List ℕ) →
-            Names known hash head all self → result ≡ name_for known hash head all }
+            Names known hash head all (Some self) → result ≡ name_for known hash head all }
     {
         match self {
             Naming::Known(id) => id,

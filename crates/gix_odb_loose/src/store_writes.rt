@@ -7,7 +7,7 @@ ghost use Rattle.gix_odb_loose.specs.Store.{store_hash};
 ghost use Rattle.gix_odb_loose.specs.StreamJobs.Progress.{Begun, write_made};
 ghost use Rattle.gix_odb_loose.specs.StreamJobs.AtStage.{IsNew};
 ghost use Rattle.gix_odb_loose.specs.StreamJobs.{IsSomeUnderway, IsToldBy, IsUnderway};
-ghost use Rattle.gix_odb_loose.specs.WriteRuns.{WriteRuns, Streamed, AtHand, write_head, write_into};
+ghost use Rattle.gix_odb_loose.specs.WriteRuns.{WriteRuns, AtHand, disk_seen, streamed, write_head, write_into};
 ghost use Rattle.gix_odb_loose.specs.WriteStreams.{IsAtEnd, TakesFrom};
 
 use crate::lent::Lent;
@@ -33,7 +33,7 @@ impl Store {
         from: &[u8],
     ) -> Result<ObjectId, write::Error>
         ensures run { WriteRuns (write_into self.now kind (length from.now) None (AtHand from.now)
-            (D.state disk.old) (D.state disk.new) (D.faults disk.old) (D.faults disk.new) result) }
+            (disk_seen D.state D.faults disk.old disk.new) result) }
         ensures id { IfOk result (λ id. id ≡ object_id (store_hash self.now) kind from.now) }
         ensures kind { IfOk result (λ id. kind_of id ≡ store_hash self.now) }
         ensures later { D.faults disk.old ≤ D.faults disk.new }
@@ -54,7 +54,7 @@ impl Store {
     ) -> Result<ObjectId, write::Error>
         requires hash { kind_of id ≡ store_hash self.now }
         ensures run { WriteRuns (write_into self.now kind (length from.now) (Some id) (AtHand from.now)
-            (D.state disk.old) (D.state disk.new) (D.faults disk.old) (D.faults disk.new) result) }
+            (disk_seen D.state D.faults disk.old disk.new) result) }
         ensures id { IfOk result (λ answered. answered ≡ id) }
         ensures later { D.faults disk.old ≤ D.faults disk.new }
         ensures streams { D.streams disk.new ≡ D.streams disk.old }
@@ -75,8 +75,8 @@ impl Store {
         size: u64,
         from: &mut S,
     ) -> Result<ObjectId, write::Error>
-        ensures run { WriteRuns (write_into self.now kind size None (Streamed (S.left from.old) (S.faults from.old) (S.faults from.new))
-            (D.state disk.old) (D.state disk.new) (D.faults disk.old) (D.faults disk.new) result) }
+        ensures run { WriteRuns (write_into self.now kind size None (streamed S.left S.faults from.old from.new)
+            (disk_seen D.state D.faults disk.old disk.new) result) }
         ensures from { IsDrawn (stream_of (S.left from.old) (S.faults from.old) (S.left from.new) (S.faults from.new)) }
         ensures few { TakesFrom size (S.left from.old) (S.left from.new) (S.faults from.old) (S.faults from.new) }
         ensures whole { IfOk result (λ _. IsWhole size (S.left from.old) (S.left from.new)) }
@@ -100,8 +100,8 @@ impl Store {
         id: ObjectId,
     ) -> Result<ObjectId, write::Error>
         requires hash { kind_of id ≡ store_hash self.now }
-        ensures run { WriteRuns (write_into self.now kind size (Some id) (Streamed (S.left from.old) (S.faults from.old) (S.faults from.new))
-            (D.state disk.old) (D.state disk.new) (D.faults disk.old) (D.faults disk.new) result) }
+        ensures run { WriteRuns (write_into self.now kind size (Some id) (streamed S.left S.faults from.old from.new)
+            (disk_seen D.state D.faults disk.old disk.new) result) }
         ensures from { IsDrawn (stream_of (S.left from.old) (S.faults from.old) (S.left from.new) (S.faults from.new)) }
         ensures few { TakesFrom size (S.left from.old) (S.left from.new) (S.faults from.old) (S.faults from.new) }
         ensures whole { IfOk result (λ _. IsWhole size (S.left from.old) (S.left from.new)) }
@@ -121,7 +121,7 @@ impl Store {
         object: &O,
     ) -> Result<ObjectId, write::Error>
         ensures run { WriteRuns (write_into self.now (O.kind object.now) (length (O.bytes object.now)) None (AtHand (O.bytes object.now))
-            (D.state disk.old) (D.state disk.new) (D.faults disk.old) (D.faults disk.new) result) }
+            (disk_seen D.state D.faults disk.old disk.new) result) }
         ensures id { IfOk result (λ id. id ≡ object_id (store_hash self.now) (O.kind object.now) (O.bytes object.now)) }
         ensures kind { IfOk result (λ id. kind_of id ≡ store_hash self.now) }
         ensures later { D.faults disk.old ≤ D.faults disk.new }
@@ -144,8 +144,8 @@ impl Store {
         known: Option<ObjectId>,
         from: &mut S,
     ) -> Result<ObjectId, write::Error>
-        ensures run { WriteRuns (write_into self.now kind size known (Streamed (S.left from.old) (S.faults from.old) (S.faults from.new))
-            (D.state disk.old) (D.state disk.new) (D.faults disk.old) (D.faults disk.new) result) }
+        ensures run { WriteRuns (write_into self.now kind size known (streamed S.left S.faults from.old from.new)
+            (disk_seen D.state D.faults disk.old disk.new) result) }
         ensures taken { TakesFrom size (S.left from.old) (S.left from.new) (S.faults from.old) (S.faults from.new) }
         ensures ended { IfOk result (λ _. IsAtEnd (S.left from.new)) }
         ensures later { D.faults disk.old ≤ D.faults disk.new }

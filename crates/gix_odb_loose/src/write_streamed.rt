@@ -11,8 +11,8 @@ ghost use Rattle.gix_hash.specs.declared.object_id.ObjectId.{ObjectId as id_of_o
 ghost use Rattle.gix_odb_loose.specs.WriteNames.{Names};
 ghost use Rattle.gix_odb_loose.specs.StreamJobs.Progress.{Begun};
 ghost use Rattle.gix_odb_loose.specs.StreamJobs.AtStage.{calls_left};
-ghost use Rattle.gix_odb_loose.specs.StreamJobs.Standing.{LedAt, WaitsAt, IsEnded, IsBrokenOff};
-ghost use Rattle.gix_odb_loose.specs.StreamJobs.{IsUnderway, IsSomeUnderway, Leads, LeadsTo, GoesOn, TurnsTo, RunsTo, IsBroken};
+ghost use Rattle.gix_odb_loose.specs.StreamJobs.Standing.{StandsBefore, WaitsAt, IsEnded, IsBrokenOff};
+ghost use Rattle.gix_odb_loose.specs.StreamJobs.{IsUnderway, IsSomeUnderway, AnsweredTo, AsksTo, GoesOn, TurnsTo, RunsTo, IsBroken};
 
 use crate::fetch::{Fetched, next_piece};
 use crate::naming::Naming;
@@ -29,7 +29,8 @@ use std::mem;
 pub struct StreamJob {
     pub head: WriteHead,
     pub stage: WriteStage,
-    pub naming: Naming,
+    /// The naming of the data, until their end was told.
+    pub naming: Option<Naming>,
     /// The piece that is to be appended. It is empty elsewhere.
     pub piece: ByteList,
     /// Whether the source came to its end.
@@ -58,7 +59,7 @@ impl StreamJob {
         Ok(StreamJob {
             head,
             stage: WriteStage::Making { number: 0 },
-            naming,
+            naming: Some(naming),
             piece: ByteList::new(alloc),
             has_ended: false,
             removal,
@@ -133,9 +134,9 @@ impl StreamJob {
 
     // The call of the disk of its stage: what the answer leads to.
     fn asked<D: Disk>(&mut self, alloc: Global, disk: &mut D) -> Result<WriteAsk, NoMemory>
-        ensures leads { (w : Begun) (rest : Option (List ℕ)) (source_now : ℕ) →
+        ensures asks { (w : Begun) (rest : Option (List ℕ)) (source_now : ℕ) →
             IsUnderway w (D.state disk.old) (D.faults disk.old) rest source_now self.old →
-            LeadsTo w (D.state disk.new) (D.faults disk.new) rest source_now self.new result }
+            AsksTo w (D.state disk.new) (D.faults disk.new) rest source_now self.new result }
         ensures fewer { (w : Begun) (rest : Option (List ℕ)) (source_now : ℕ) →
             IsUnderway w (D.state disk.old) (D.faults disk.old) rest source_now self.old →
             IfOk result (λ wanted. calls_left self.new wanted < calls_left self.old (WriteAsk.Disk self.old.stage)) }
@@ -172,10 +173,10 @@ impl StreamJob {
         wanted: WriteAsk,
     ) -> Result<Option<Result<ObjectId, Refusal>>, NoMemory>
         ensures goes_on { (w : Begun) (state : Option State) (now : ℕ) →
-            Leads w state now (S.left from.old) (S.faults from.old) self.old wanted →
+            AnsweredTo w state now (S.left from.old) (S.faults from.old) self.old wanted →
             TurnsTo w state now (S.left from.new) (S.faults from.new) self.new result }
         ensures fewer { (w : Begun) (state : Option State) (now : ℕ) →
-            Leads w state now (S.left from.old) (S.faults from.old) self.old wanted →
+            AnsweredTo w state now (S.left from.old) (S.faults from.old) self.old wanted →
             IfOk result (λ end. end ≡ None → calls_left self.new (WriteAsk.Disk self.new.stage) ≤ calls_left self.old wanted) }
         ensures head { self.new.head ≡ self.old.head }
     {
@@ -195,7 +196,7 @@ impl StreamJob {
     // Stands at a stage that an answer led to. The removal of a file that is to be made is made ready.
     fn stand(&mut self, alloc: Global, stage: WriteStage) -> Result<(), NoMemory>
         ensures goes_on { (w : Begun) (state : Option State) (now : ℕ) (rest : Option (List ℕ)) (source_now : ℕ) →
-            LedAt w state now rest source_now self.old stage → GoesOn w state now rest source_now self.new result }
+            StandsBefore w state now rest source_now self.old stage → GoesOn w state now rest source_now self.new result }
         ensures same { OnOk result (calls_left self.new (WriteAsk.Disk self.new.stage) ≡ calls_left self.old (WriteAsk.Disk stage)) }
         ensures head { self.new.head ≡ self.old.head }
     {
@@ -259,7 +260,9 @@ impl StreamJob {
         ensures removal { self.new.removal ≡ self.old.removal }
     {
         self.has_ended = piece.len() < most;
-        self.naming.update(piece.as_slice());
+        if let Some(naming) = &mut self.naming {
+            naming.update(piece.as_slice());
+        }
         drop(mem::replace(&mut self.piece, piece));
     }
 
@@ -269,9 +272,9 @@ impl StreamJob {
         ensures head { self.new.head ≡ self.old.head }
         ensures removal { self.new.removal ≡ self.old.removal }
     {
-        let unnamed = Naming::Known(ObjectId::null(gix_hash::Kind::Sha1));
-        let id = mem::replace(&mut self.naming, unnamed).finish();
-        self.stage = ended(number, written, self.head.size, id);
+        if let Some(naming) = self.naming.take() {
+            self.stage = ended(number, written, self.head.size, naming.finish());
+        }
     }
 }
 

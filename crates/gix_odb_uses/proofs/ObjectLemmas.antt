@@ -50,7 +50,8 @@ module _ (store : Store) (id : ObjectId) (s : State) (Failed : Type 0) where
   absent bytes result finds is = finds.none (ap (λ (r : Result (Option Kind) Error). put_in r bytes) is)
 
   -- an object that is held is the one that is found
-  pub same_found : (kind : Kind) (bytes : List ℕ) (found : Option Kind) (gave : List ℕ) → Finds store id s Failed (put_in (Ok found) gave) → IsHeld store id s kind bytes → (found ≡ Some kind) × (gave ≡ bytes)
+  pub same_found : (kind : Kind) (bytes : List ℕ) (found : Option Kind) (gave : List ℕ) → Finds store id s Failed (put_in (Ok found) gave) → IsHeld store id s kind bytes
+      → (found ≡ Some kind) × (gave ≡ bytes)
   same_found kind bytes None gave finds is =
       let object : Object = record { kind = kind; bytes = bytes } in
       let differs : ◌≡◌ {A = Option Object} None (Some object) = finds.finds object is in
@@ -62,7 +63,8 @@ module _ (store : Store) (id : ObjectId) (s : State) (Failed : Type 0) where
       (ap (λ (o : Object). Some o.kind) same, ap (λ (o : Object). o.bytes) same)
 
   -- where something else is found, an object isn't held
-  pub not_held : (kind : Kind) (bytes : List ℕ) (found : Option Kind) (gave : List ℕ) → (found ≡ Some kind → gave ≡ bytes → ⊥) → (result : Result (Option Kind) Error) → result ≡ Ok found → Finds store id s Failed (put_in result gave) → ¬ (IsHeld store id s kind bytes)
+  pub not_held : (kind : Kind) (bytes : List ℕ) (found : Option Kind) (gave : List ℕ) → (found ≡ Some kind → gave ≡ bytes → ⊥) → (result : Result (Option Kind) Error)
+      → result ≡ Ok found → Finds store id s Failed (put_in result gave) → ¬ (IsHeld store id s kind bytes)
   not_held kind bytes found gave differs result is finds held =
       let same = same_found kind bytes found gave (subst (λ (r : Result (Option Kind) Error). Finds store id s Failed (put_in r gave)) is finds) held in
       differs same.0 same.1

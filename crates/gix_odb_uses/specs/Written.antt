@@ -8,7 +8,7 @@ use Rattle.gix_object.specs.declared.kind.Kind.{Kind}
 use Rattle.gix_object.specs.declared.kind.Kind.TheVariants.{Blob}
 use Rattle.gix_odb_loose.specs.Answers.{FindRefused}
 use Rattle.gix_odb_loose.specs.Store.{store_hash}
-use Rattle.gix_odb_loose.specs.WriteRuns.{AtHand, WriteRuns, write_head, write_into}
+use Rattle.gix_odb_loose.specs.WriteRuns.{AtHand, DiskSeen, WriteRuns, write_head, write_into}
 use Rattle.gix_odb_loose.specs.WriteRuns.ReadBack.{ReadsBack}
 use Rattle.gix_odb_loose.specs.WriteStreams.{OtherLength}
 use Rattle.gix_odb_loose.specs.declared.store.Store.{Store}
@@ -21,8 +21,8 @@ use Rattle.gix_odb_uses.specs.declared.error.Error.TheVariants.{NotKept, NotRead
 -- What was done to the disk is a write of these bytes into a store, which answered so. `WriteRuns` says what a write does:
 -- an object that is written gets its name last, and a refused write has its cause, makes no name of an object, and leaves no
 -- file but one whose removal was refused too.
-abbrev pub IsWrite : Store → Kind → List ℕ → (known : Option ObjectId) → (before after : Option State) → (faults now : ℕ) → Result ObjectId WriteError → Type 0
-IsWrite store kind bytes known before after faults now answer = WriteRuns (write_into store kind (length bytes) known (AtHand bytes) before after faults now answer)
+abbrev pub IsWrite : Store → Kind → List ℕ → (known : Option ObjectId) → DiskSeen → Result ObjectId WriteError → Type 0
+IsWrite store kind bytes known disk answer = WriteRuns (write_into store kind (length bytes) known (AtHand bytes) disk answer)
 
 -- ---- bytes that are kept
 
@@ -31,27 +31,27 @@ blob_id store bytes = object_id (store_hash store) Blob bytes
 
 -- Bytes weren't kept: the write was refused; or they were written, and then the find was refused, or the file doesn't hold
 -- them, where the disk tells its state.
-abbrev pub IsRefusedKeep : Store → List ℕ → (before after : Option State) → (faults now : ℕ) → Error → Type 0
-IsRefusedKeep store bytes before after faults now (NotWritten error) = IsWrite store Blob bytes None before after faults now (Err error)
-IsRefusedKeep store bytes before after faults now (NotRead error) =
-    IsWrite store Blob bytes None before after faults now (Ok (blob_id store bytes)) × FindRefused store (blob_id store bytes) after (Rose faults now) error
-IsRefusedKeep store bytes before after faults now NotKept =
-    IsWrite store Blob bytes None before after faults now (Ok (blob_id store bytes)) × IfSome after (λ s. ¬ (IsHeld store (blob_id store bytes) s Blob bytes))
+abbrev pub IsRefusedKeep : Store → List ℕ → DiskSeen → Error → Type 0
+IsRefusedKeep store bytes disk (NotWritten error) = IsWrite store Blob bytes None disk (Err error)
+IsRefusedKeep store bytes disk (NotRead error) =
+    IsWrite store Blob bytes None disk (Ok (blob_id store bytes)) × FindRefused store (blob_id store bytes) disk.state_now (Rose disk.faults disk.faults_now) error
+IsRefusedKeep store bytes disk NotKept =
+    IsWrite store Blob bytes None disk (Ok (blob_id store bytes)) × IfSome disk.state_now (λ s. ¬ (IsHeld store (blob_id store bytes) s Blob bytes))
 
 -- ---- an object that is copied
 
 -- an object of the first store was written into the second one under its id, and the write answered so
-pub record IsCopy (from to : Store) (id : ObjectId) (before after : Option State) (faults now : ℕ) (answer : Result ObjectId WriteError) : Type 0 where
+pub record IsCopy (from to : Store) (id : ObjectId) (disk : DiskSeen) (answer : Result ObjectId WriteError) : Type 0 where
   pub kind : Kind
   pub bytes : List ℕ
   -- the file of the first store holds it, where the disk tells its state
-  pub held : IfSome before (λ s. IsHeld from id s kind bytes)
-  pub written : IsWrite to kind bytes (Some id) before after faults now answer
+  pub held : IfSome disk.state (λ s. IsHeld from id s kind bytes)
+  pub written : IsWrite to kind bytes (Some id) disk answer
 
 -- it was copied; or there is none to copy, and nothing was changed
-abbrev pub IsCopied : (from to : Store) → ObjectId → (before after : Option State) → (faults now : ℕ) → Bool → Type 0
-IsCopied from to id before after faults now true = IsCopy from to id before after faults now (Ok id)
-IsCopied from to id before after faults now false = IfSome before (IsAbsent from id) × (after ≡ before)
+abbrev pub IsCopied : (from to : Store) → ObjectId → DiskSeen → Bool → Type 0
+IsCopied from to id disk true = IsCopy from to id disk (Ok id)
+IsCopied from to id disk false = IfSome disk.state (IsAbsent from id) × (disk.state_now ≡ disk.state)
 
 -- An object that the first store holds can be read at its path in the second one: its header, and then its data, unless a
 -- link was replaced that is crossed on the way of this path.
@@ -61,10 +61,10 @@ CanBeRead from to id state after true =
 CanBeRead from to id state after false = ⊤
 
 -- an object wasn't copied: it couldn't be read, and nothing was changed; or it couldn't be written
-abbrev pub IsRefusedCopy : (from to : Store) → ObjectId → (before after : Option State) → (faults now : ℕ) → Error → Type 0
-IsRefusedCopy from to id before after faults now (NotRead error) = FindRefused from id before (Rose faults now) error × (after ≡ before)
-IsRefusedCopy from to id before after faults now (NotWritten error) = IsCopy from to id before after faults now (Err error)
-IsRefusedCopy from to id before after faults now NotKept = ⊥
+abbrev pub IsRefusedCopy : (from to : Store) → ObjectId → DiskSeen → Error → Type 0
+IsRefusedCopy from to id disk (NotRead error) = FindRefused from id disk.state (Rose disk.faults disk.faults_now) error × (disk.state_now ≡ disk.state)
+IsRefusedCopy from to id disk (NotWritten error) = IsCopy from to id disk (Err error)
+IsRefusedCopy from to id disk NotKept = ⊥
 
 -- ---- what a source gives
 

@@ -60,7 +60,8 @@ end_of path object true true = Ok (Some (object.kind, object.rest))
 end_of path object true false = Err (errors.SizeMismatch (length object.rest) object.size path)
 
 end_of-tests : (path : Path) (object : LooseObject) (within same : Bool)
-    → (let found : Result (Option (Kind × List ℕ)) Error = Ok (Some (object.kind, object.rest)) in if not within then Err (errors.OutOfMemory object.size) else if same then found else Err (errors.SizeMismatch (length object.rest) object.size path)) ≡ end_of path object within same
+    → (let found : Result (Option (Kind × List ℕ)) Error = Ok (Some (object.kind, object.rest)) in if not within then Err
+    (errors.OutOfMemory object.size) else if same then found else Err (errors.SizeMismatch (length object.rest) object.size path)) ≡ end_of path object within same
 end_of-tests path object false same = refl
 end_of-tests path object true true = refl
 end_of-tests path object true false = refl
@@ -173,8 +174,24 @@ module _ (path : Path) (Gave : Reading → Type 0) (Failed Wanting : Type 0) whe
     sizes_cause bytes time gave object loose true true a l error e = absurd (cc e)
     sizes_cause bytes time gave object loose true false a l error e =
         let is : errors.SizeMismatch (length object.rest) object.size path ≡ error = cc e in
-        subst (FindCause path limit Gave Failed Wanting) is
-        (refl, (Ok (bytes, time), gave, record { bytes = bytes; time = time; kind = object.kind; rest = object.rest; given = refl; header = loose; within = a; length_is = refl; differs = eqb-false _ _ l }))
+        subst (FindCause path limit Gave Failed Wanting) is (
+          refl,
+          (
+            Ok (bytes, time),
+            gave,
+            record {
+              bytes = bytes;
+              time = time;
+              kind = object.kind;
+              rest = object.rest;
+              given = refl;
+              header = loose;
+              within = a;
+              length_is = refl;
+              differs = eqb-false _ _ l;
+            },
+          ),
+        )
 
     object_from-Err : (bytes : List ℕ) (time : ℕ) → Gave (Ok (bytes, time)) → (spelled : Result LooseObject Flaw) → spelled_in bytes ≡ spelled → (error : Error)
         → object_from path limit spelled ≡ Err error

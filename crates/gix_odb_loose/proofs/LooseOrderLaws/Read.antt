@@ -108,7 +108,8 @@ module _ {A : Type 0} (from : List ℕ → Result (Option A) Error) (path : Path
     (unreadable_is : (Failed ⊎ Seen Gave IsUnreadable) → Cause (unreadable path)) (memory_is : Wanting → Cause errors.NoMemory)
     (failed : given ≡ answers.Refused disk_errors.Failed → Failed) (wanting : given ≡ answers.Refused disk_errors.NoMemory → Wanting)
     (file : (bytes : List ℕ) (time : ℕ) → given ≡ answers.File bytes time → (error : Error) → from bytes ≡ Err error → Cause error)
-    (other : given ≢ answers.Refused disk_errors.Failed → given ≢ answers.Refused disk_errors.Absent → ((bytes : List ℕ) (time : ℕ) → given ≢ answers.File bytes time) → given ≢ answers.Refused disk_errors.NoMemory → Seen Gave IsUnreadable) where
+    (other : given ≢ answers.Refused disk_errors.Failed → given ≢ answers.Refused disk_errors.Absent → ((bytes : List ℕ) (time : ℕ) → given ≢ answers.File bytes time)
+    → given ≢ answers.Refused disk_errors.NoMemory → Seen Gave IsUnreadable) where
   read_by-cause : (error : Error) (answer : DiskAnswer) → given ≡ answer → read_by from path answer ≡ Err error → Cause error
   read_by-cause error (answers.File bytes time) is e = file bytes time is error e
   read_by-cause error (answers.Refused disk_errors.Absent) is e = absurd (cc e)

@@ -20,7 +20,7 @@ use Rattle.gix_odb_loose.specs.WriteOrder.{temp_path, number_made}
 use Rattle.gix_odb_loose.specs.StreamJobs.Progress.{Begun, SourceFailed, IsSpared, LostAt}
 use Rattle.gix_odb_loose.specs.StreamJobs.SameAsks.{at_hand}
 use Rattle.gix_odb_loose.specs.StreamJobs.Standing.{StandsAt, IsAtItsEnd, BreaksAt, IsBrokenOff}
-use Rattle.gix_odb_loose.specs.StreamJobs.{IsUnderway, IsBroken, LeadsTo, TurnsTo, RunsTo}
+use Rattle.gix_odb_loose.specs.StreamJobs.{IsUnderway, IsBroken, AsksTo, TurnsTo, RunsTo}
 use Rattle.gix_odb_loose.specs.StreamJobs.AtStage.{IsReady, removal_at}
 use Rattle.gix_odb_loose.specs.declared.write_streamed.StreamJob.{StreamJob}
 use Rattle.gix_odb_loose.specs.declared.write_order.WriteAsk.{WriteAsk}
@@ -40,11 +40,11 @@ pub turns_broken : {E : Type 0} (w : Begun) (state : Option State) (now : ℕ) (
 turns_broken w state now rest source_now job (Ok x) err broken = absurd (cc err)
 turns_broken w state now rest source_now job (Err error) err broken = broken
 
-pub leads_broken : {E : Type 0} (w : Begun) (state : Option State) (now : ℕ) (rest : Option (List ℕ)) (source_now : ℕ) (job : StreamJob) (result : Result WriteAsk E) → IsErr result
+pub asks_broken : {E : Type 0} (w : Begun) (state : Option State) (now : ℕ) (rest : Option (List ℕ)) (source_now : ℕ) (job : StreamJob) (result : Result WriteAsk E) → IsErr result
     → IsBroken w state now rest source_now job
-    → LeadsTo w state now rest source_now job result
-leads_broken w state now rest source_now job (Ok x) err broken = absurd (cc err)
-leads_broken w state now rest source_now job (Err error) err broken = broken
+    → AsksTo w state now rest source_now job result
+asks_broken w state now rest source_now job (Ok x) err broken = absurd (cc err)
+asks_broken w state now rest source_now job (Err error) err broken = broken
 
 -- memory ran out before the next ask
 pub broken_first : (w : Begun) (state : Option State) (now : ℕ) (rest : Option (List ℕ)) (source_now : ℕ) (job fed : StreamJob) → fed ≡ record job { piece = [] }

@@ -13,7 +13,7 @@ use Rattle.gix_odb_loose.specs.WritePieces.{room_behind}
 use Rattle.gix_odb_loose.specs.StreamJobs.Progress.{Begun, SourceFailed}
 use Rattle.gix_odb_loose.specs.StreamJobs.Reads.{Loses, Takes}
 use Rattle.gix_odb_loose.specs.StreamJobs.AtStage.{IsReady}
-use Rattle.gix_odb_loose.specs.StreamJobs.Standing.{StandsAt, LedAt, WaitsAt, BreaksAt, IsEnded}
+use Rattle.gix_odb_loose.specs.StreamJobs.Standing.{StandsAt, StandsBefore, WaitsAt, BreaksAt, IsEnded}
 use Rattle.gix_odb_loose.specs.StreamJobs.{IsUnderway, IsBroken, GoesOn}
 use Rattle.gix_odb_loose.specs.declared.write_streamed.StreamJob.{StreamJob}
 use Rattle.gix_odb_loose.specs.declared.write_order.WriteHead.{WriteHead}
@@ -34,7 +34,7 @@ module _ (w : Begun) (state : Option State) (now : ℕ) (rest : Option (List ℕ
       → IsUnderway w state now rest source_now new
   on_end last new head removal ended =
       stands_ended w state now rest source_now job number written waits (waits.holds.0.ended last) new head removal
-      (ended.is ∙ ap (λ (id : ObjectId). ended_with job.head.size id number written) (ended.named w.known w.hash w.head waits.all waits.holds.0.named))
+      (ended w.known w.hash w.head waits.all waits.holds.0.named)
 
   module _ (most : ℕ) (room : most ≡ room_behind job.head.size written) (last : Option (List ℕ)) (later : ℕ) where
     abbrev room_is : most ≡ room_behind w.head.size written
@@ -77,7 +77,7 @@ module _ (w : Begun) (state : Option State) (now : ℕ) (rest : Option (List ℕ
           let waits' = fed_nothing w state now rest source_now job number written waits last later piece takes_room taken head removal is ended_is names open' none in
           let at_end = at_end_nothing w state now rest source_now job number written waits last later piece takes_room taken head removal is ended_is names open' none in
           stands_ended w state now last later taken number written waits' at_end new head' removal'
-          (ended'.is ∙ ap (λ (id : ObjectId). ended_with taken.head.size id number written) (ended'.named w.known w.hash w.head waits'.all names))
+          (ended' w.known w.hash w.head waits'.all names)
 
 pub goes_on_broken : {E : Type 0} (w : Begun) (state : Option State) (now : ℕ) (rest : Option (List ℕ)) (source_now : ℕ) (job : StreamJob) (result : Result (Unit {0}) E) → IsErr result
     → IsBroken w state now rest source_now job → GoesOn w state now rest source_now job result
@@ -87,10 +87,10 @@ goes_on_broken w state now rest source_now job (Err error) err broken = broken
 -- ---- where an answer led
 
 -- memory ran out for it
-pub led_broken : (w : Begun) (state : Option State) (now : ℕ) (rest : Option (List ℕ)) (source_now : ℕ) (job new : StreamJob) (stage : WriteStage) → new.removal ≡ job.removal → new.stage ≡ stage
-    → LedAt w state now rest source_now job stage
+pub before_broken : (w : Begun) (state : Option State) (now : ℕ) (rest : Option (List ℕ)) (source_now : ℕ) (job new : StreamJob) (stage : WriteStage) → new.removal ≡ job.removal → new.stage ≡ stage
+    → StandsBefore w state now rest source_now job stage
     → IsBroken w state now rest source_now new
-led_broken w state now rest source_now job new stage same is led =
+before_broken w state now rest source_now job new stage same is led =
     subst (λ (s : WriteStage). BreaksAt w state now rest source_now new s) (sym is)
     (record {
       past = led.past;

@@ -27,6 +27,7 @@ use Rattle.gix_odb_loose.specs.declared.write_order.WriteStage.{WriteStage}
 use Rattle.gix_odb_loose.specs.declared.write_order.WriteStage.TheVariants as stages
 use Rattle.gix_odb_loose.proofs.WriteStreamsLemmas.{Draws-length}
 use Rattle.gix_odb_loose.proofs.RoomLemmas.{room_few, whole_piece}
+use Rattle.gix_odb_loose.proofs.WriteOrderLemmas.{by_made, by_headed, by_filled, by_foldered, by_moved}
 
 module _ (w : Begun) (rest : Option (List ℕ)) (job fed : StreamJob) (removal : fed.removal ≡ job.removal) (naming : fed.naming ≡ job.naming) (ended : fed.has_ended ≡ job.has_ended) where
   -- what is held of what an answer leads to
@@ -47,24 +48,8 @@ module _ (w : Begun) (rest : Option (List ℕ)) (job fed : StreamJob) (removal :
       still : Names w.known w.hash w.head [] fed.naming
       still = subst (Names w.known w.hash w.head []) (sym naming) named
 
-      kept_name : (more : Bool) → Kept appended all (if more then wants.Disk (stages.Making (number + 1)) else wants.Done (Err (refusals.Io messages.CreateTempFile)))
-      kept_name true = ((unread, ended ∙ open', still), tt)
-      kept_name false = tt
-
       kept_made : (answer : DiskAnswer) → Kept appended all (made_by number answer)
-      kept_made answers.Done = ((unread, ended ∙ open', still), stays)
-      kept_made (answers.Meta meta) = tt
-      kept_made (answers.Dir dir) = tt
-      kept_made (answers.Entry entry) = tt
-      kept_made answers.End = tt
-      kept_made (answers.File bytes time) = tt
-      kept_made (answers.Refused disk_errors.Exists) = kept_name (nat_lt (number + 1) temp_names)
-      kept_made (answers.Refused disk_errors.Absent) = tt
-      kept_made (answers.Refused disk_errors.WrongKind) = tt
-      kept_made (answers.Refused disk_errors.LinkLoop) = tt
-      kept_made (answers.Refused disk_errors.NotEmpty) = tt
-      kept_made (answers.Refused disk_errors.Failed) = tt
-      kept_made (answers.Refused disk_errors.NoMemory) = tt
+      kept_made = by_made (λ held wanted. Kept held all wanted) appended number ((unread, ended ∙ open', still), stays) (λ more. ((unread, ended ∙ open', still), tt)) (λ refusal. tt)
 
       begins : HasPiece w rest 0 appended all [] fed.naming fed.has_ended
       begins =
@@ -76,13 +61,7 @@ module _ (w : Begun) (rest : Option (List ℕ)) (job fed : StreamJob) (removal :
           }
 
       kept_headed : (answer : DiskAnswer) → Kept appended all (headed_by number answer)
-      kept_headed answers.Done = ((begins, λ e. (0, omega arith)), stays)
-      kept_headed (answers.Meta meta) = (tt, stays)
-      kept_headed (answers.Dir dir) = (tt, stays)
-      kept_headed (answers.Entry entry) = (tt, stays)
-      kept_headed answers.End = (tt, stays)
-      kept_headed (answers.File found time) = (tt, stays)
-      kept_headed (answers.Refused error) = (tt, stays)
+      kept_headed = by_headed (λ held wanted. Kept held all wanted) appended number (λ held refusal. (tt, stays)) ((begins, λ e. (0, omega arith)), stays)
 
     module _ (written : ℕ) (appended all piece : List ℕ) (has : HasPiece w rest written appended all piece job.naming job.has_ended) (next : IsNext w written job.piece job.has_ended)
         (is_piece : piece ≡ job.piece) where
@@ -91,55 +70,27 @@ module _ (w : Begun) (rest : Option (List ℕ)) (job fed : StreamJob) (removal :
           let whole = whole_piece w.head.size written (length piece) full fits in
           (next.in_pieces.0 + 1, omega (arith, next.in_pieces.1, whole))
 
-      kept_fits : (fits : Bool) → nat_le (written + length piece) w.head.size ≡ fits
-          → Kept (appended ++ piece) all (if fits then wants.Data number (written + length piece) else wants.Disk (stages.Removing number (refusals.SizeMismatch (grown written (length piece)))))
-      kept_fits true e = (
-        (
-          record {
-            is = has.is ∙ sym (append-nil (appended ++ piece));
-            named = subst (Names w.known w.hash w.head all) (sym naming) has.named;
-            within = grind (arith, common_steps, e);
-            ended = λ d. has.ended (sym ended ∙ d);
-          },
-          λ d. more_pieces (ap length is_piece ∙ next.full (sym ended ∙ d)) (grind (arith, common_steps, e)),
-        ),
-        stays,
-      )
-      kept_fits false e = (tt, stays)
-
       kept_filled : (answer : DiskAnswer) → Kept (data_after (stages.Filling number written) piece answer appended) all (filled_by number written w.head.size (length piece) answer)
-      kept_filled answers.Done = kept_fits (nat_le (written + length piece) w.head.size) refl
-      kept_filled (answers.Meta meta) = (tt, stays)
-      kept_filled (answers.Dir dir) = (tt, stays)
-      kept_filled (answers.Entry entry) = (tt, stays)
-      kept_filled answers.End = (tt, stays)
-      kept_filled (answers.File found time) = (tt, stays)
-      kept_filled (answers.Refused error) = (tt, stays)
+      kept_filled =
+          by_filled (λ held wanted. Kept held all wanted) appended number (λ held refusal. (tt, stays)) w.head.size written (length piece) piece (λ e. (
+            (
+              record {
+                is = has.is ∙ sym (append-nil (appended ++ piece));
+                named = subst (Names w.known w.hash w.head all) (sym naming) has.named;
+                within = grind (arith, common_steps, e);
+                ended = λ d. has.ended (sym ended ∙ d);
+              },
+              λ d. more_pieces (ap length is_piece ∙ next.full (sym ended ∙ d)) (grind (arith, common_steps, e)),
+            ),
+            stays,
+          ))
 
     module _ (id : ObjectId) (appended all : List ℕ) (named : Named w rest appended all id) where
       kept_foldered : (answer : DiskAnswer) → Kept appended all (foldered_by number id answer)
-      kept_foldered answers.Done = (named, stays)
-      kept_foldered (answers.Meta meta) = (tt, stays)
-      kept_foldered (answers.Dir dir) = (tt, stays)
-      kept_foldered (answers.Entry entry) = (tt, stays)
-      kept_foldered answers.End = (tt, stays)
-      kept_foldered (answers.File found time) = (tt, stays)
-      kept_foldered (answers.Refused disk_errors.Exists) = (named, stays)
-      kept_foldered (answers.Refused disk_errors.Absent) = (tt, stays)
-      kept_foldered (answers.Refused disk_errors.WrongKind) = (tt, stays)
-      kept_foldered (answers.Refused disk_errors.LinkLoop) = (tt, stays)
-      kept_foldered (answers.Refused disk_errors.NotEmpty) = (tt, stays)
-      kept_foldered (answers.Refused disk_errors.Failed) = (tt, stays)
-      kept_foldered (answers.Refused disk_errors.NoMemory) = (tt, stays)
+      kept_foldered = by_foldered (λ held wanted. Kept held all wanted) appended number (λ held refusal. (tt, stays)) id (named, stays)
 
       kept_moved : (answer : DiskAnswer) → Kept appended all (moved_by number id answer)
-      kept_moved answers.Done = named
-      kept_moved (answers.Meta meta) = (tt, stays)
-      kept_moved (answers.Dir dir) = (tt, stays)
-      kept_moved (answers.Entry entry) = (tt, stays)
-      kept_moved answers.End = (tt, stays)
-      kept_moved (answers.File found time) = (tt, stays)
-      kept_moved (answers.Refused error) = (tt, stays)
+      kept_moved = by_moved (λ held wanted. Kept held all wanted) appended number (λ held refusal. (tt, stays)) id named
 
   module _ (source_now : ℕ) (appended all : List ℕ) (past : List Exchange) where
     pub kept : (stage : WriteStage) (answer : DiskAnswer) → WentTo w source_now appended stage past → Holds w rest appended all job stage → job.removal ≡ removal_at w stage

@@ -15,7 +15,7 @@ use Rattle.gix_odb_loose.specs.WritePieces.{room_behind}
 use Rattle.gix_odb_loose.specs.StreamJobs.Progress.{Begun, NamedBy, SourceFailed, Took, WentTo}
 use Rattle.gix_odb_loose.specs.StreamJobs.SameAsks.{at_hand}
 use Rattle.gix_odb_loose.specs.StreamJobs.Reads.{Loses, Takes}
-use Rattle.gix_odb_loose.specs.StreamJobs.AtStage.{HasPiece, IsNext}
+use Rattle.gix_odb_loose.specs.StreamJobs.AtStage.{HasPiece, Holds, IsNext, removal_at}
 use Rattle.gix_odb_loose.specs.StreamJobs.Standing.{StandsAt, WaitsAt, BreaksAt}
 use Rattle.gix_odb_loose.specs.StreamJobs.{IsUnderway}
 use Rattle.gix_odb_loose.specs.WriteStreams.{Draws, IsAtEnd, OtherLength}
@@ -83,9 +83,13 @@ module _ (w : Begun) (state : Option State) (now : ℕ) where
       ended_follows : (bytes : List ℕ) → w.left ≡ Some bytes → IsAlong (at_hand w bytes) (Stage (ended_with w.head.size id number written)) fed.past
       ended_follows bytes is = follows_end w bytes number written fed.past fed.all (subst (λ (left : Option (List ℕ)). IfSome left (λ bytes. bytes ≡ fed.all)) is whole) so_far (fed.follows bytes is)
 
-      by_length : (same : Bool) → (written == w.head.size) ≡ same
-          → StandsAt w state now rest source_now new (if same then stages.Foldering number id else stages.Removing number (refusals.SizeMismatch written))
-      by_length true e =
+      -- where the length of the data leads
+      abbrev stage_by : (same : Bool) → WriteStage
+      stage_by same = if same then stages.Foldering number id else stages.Removing number (refusals.SizeMismatch written)
+
+      stands_by : (same : Bool) → (written == w.head.size) ≡ same → new.removal ≡ removal_at w (stage_by same) → Holds w rest fed.appended fed.all new (stage_by same)
+          → StandsAt w state now rest source_now new (stage_by same)
+      stands_by same e ready holds =
           record {
             past = fed.past;
             appended = fed.appended;
@@ -93,28 +97,16 @@ module _ (w : Begun) (state : Option State) (now : ℕ) where
             did = fed.did;
             took = fed.took;
             head = head ∙ fed.head;
-            removal = removal ∙ fed.removal;
-            history =
-                subst (λ (b : Bool). WentTo w source_now fed.appended (if b then stages.Foldering number id else stages.Removing number (refusals.SizeMismatch written)) fed.past) e ended_history;
-            holds = (at_end, all_appended, ap (name_for w.known w.hash w.head) all_appended);
+            removal = ready;
+            history = subst (λ (b : Bool). WentTo w source_now fed.appended (stage_by b) fed.past) e ended_history;
+            holds = holds;
             spared = inl fed.spared;
-            follows = λ bytes is. inl (subst (λ (b : Bool). IsAlong (at_hand w bytes) (Stage (if b then stages.Foldering number id else stages.Removing number (refusals.SizeMismatch written))) fed.past) e (ended_follows bytes is));
+            follows = λ bytes told. inl (subst (λ (b : Bool). IsAlong (at_hand w bytes) (Stage (stage_by b)) fed.past) e (ended_follows bytes told));
           }
-      by_length false e =
-          record {
-            past = fed.past;
-            appended = fed.appended;
-            all = fed.all;
-            did = fed.did;
-            took = fed.took;
-            head = head ∙ fed.head;
-            removal = removal ∙ fed.removal;
-            history =
-                subst (λ (b : Bool). WentTo w source_now fed.appended (if b then stages.Foldering number id else stages.Removing number (refusals.SizeMismatch written)) fed.past) e ended_history;
-            holds = tt;
-            spared = inl fed.spared;
-            follows = λ bytes is. inl (subst (λ (b : Bool). IsAlong (at_hand w bytes) (Stage (if b then stages.Foldering number id else stages.Removing number (refusals.SizeMismatch written))) fed.past) e (ended_follows bytes is));
-          }
+
+      by_length : (same : Bool) → (written == w.head.size) ≡ same → StandsAt w state now rest source_now new (stage_by same)
+      by_length true e = stands_by true e (removal ∙ fed.removal) (at_end, all_appended, ap (name_for w.known w.hash w.head) all_appended)
+      by_length false e = stands_by false e (removal ∙ fed.removal) tt
 
       pub stands_ended : new.stage ≡ ended_with job.head.size id number written → IsUnderway w state now rest source_now new
       stands_ended is =

@@ -108,7 +108,8 @@ module _ (w : Begun) (bytes : List ℕ) where
             before = past;
             along = fails.cuts.along;
             removed =
-                subst (λ (n : Option ℕ). IsRemovedAfter w.head n past (past ++ exchanged (asks.Remove (temp_path w.head.objects fails.number)) answer ∷ [])) (sym (fails.cuts.made ∙ ap number_made fails.is)) (answer, refl);
+                subst (λ (n : Option ℕ). IsRemovedAfter w.head n past (past ++ exchanged (asks.Remove (temp_path w.head.objects fails.number)) answer ∷ []))
+                (sym (fails.cuts.made ∙ ap number_made fails.is)) (answer, refl);
           },
         ))
 

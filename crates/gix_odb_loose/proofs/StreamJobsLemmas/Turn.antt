@@ -19,7 +19,7 @@ use Rattle.gix_odb_loose.specs.WritePieces.{room_behind}
 use Rattle.gix_odb_loose.specs.StreamJobs.Progress.{Begun, NamedBy, SourceFailed, IsSpared, FailedAt, Did, WentToWanted, WentTo}
 use Rattle.gix_odb_loose.specs.StreamJobs.AtStage.{Holds}
 use Rattle.gix_odb_loose.specs.StreamJobs.Standing.{StandsAt}
-use Rattle.gix_odb_loose.specs.StreamJobs.{Leads}
+use Rattle.gix_odb_loose.specs.StreamJobs.{AnsweredTo}
 use Rattle.gix_odb_loose.specs.WriteStreams.{Draws, OtherLength}
 use Rattle.gix_odb_loose.specs.declared.write_streamed.StreamJob.{StreamJob}
 use Rattle.gix_odb_loose.specs.declared.write.Message.TheVariants as messages
@@ -52,7 +52,8 @@ module _ (w : Begun) (state new : Option State) (now later : ℕ) (ask : DiskAsk
       record {
         given = AreGiven-push w.state past (exchanged ask answer) did.given (subst (λ (s : Option State). IfSome s (λ t. AnswersAsk answer (answer_of (tree_of t) ask))) did.left given);
         left = left ∙ ap (λ (s : Option State). state_told_after s ask answer) did.left ∙ sym (left_by-push w.state past (exchanged ask answer));
-        failed = all_more (λ (x : Exchange). x.answer ≡ answers.Refused disk_errors.Failed → Rose w.faults later) past (exchanged ask answer) (faults_later w.faults now later past more did.failed) (λ e. let rose = cause e in grind (arith, rose, did.later));
+        failed = all_more (λ (x : Exchange). x.answer ≡ answers.Refused disk_errors.Failed → Rose w.faults later) past (exchanged ask answer)
+            (faults_later w.faults now later past more did.failed) (λ e. let rose = cause e in grind (arith, rose, did.later));
         later = omega (arith, did.later, more);
         tree = inr (first_tree past did);
       }
@@ -118,10 +119,10 @@ module _ (w : Begun) (state new : Option State) (now later : ℕ) (rest : Option
   spared_next : ask ≡ write_ask w.head job.piece stage → SparedTo (next_write w.head.size (length job.piece) stage answer)
   spared_next is = elim at.spared [ inl spared ↦ spared_to (next_write w.head.size (length job.piece) stage answer) spared | inr failed ↦ failed_to is failed ]
 
-  leads_to : (appended : List ℕ) (wanted : WriteAsk) → WentToWanted w source_now appended wanted past' → Kept w rest job fed removal naming ended appended at.all wanted → Followed wanted
+  answered_by : (appended : List ℕ) (wanted : WriteAsk) → WentToWanted w source_now appended wanted past' → Kept w rest job fed removal naming ended appended at.all wanted → Followed wanted
       → SparedTo wanted
-      → Leads w new later rest source_now fed wanted
-  leads_to appended (wants.Disk onward) history kept follows spared =
+      → AnsweredTo w new later rest source_now fed wanted
+  answered_by appended (wants.Disk onward) history kept follows spared =
       record {
         past = past';
         appended = appended;
@@ -135,7 +136,7 @@ module _ (w : Begun) (state new : Option State) (now later : ℕ) (rest : Option
         spared = inl spared;
         follows = λ bytes told. inl (follows bytes told);
       }
-  leads_to appended (wants.Data number written) history kept follows spared =
+  answered_by appended (wants.Data number written) history kept follows spared =
       record {
         past = past';
         appended = appended;
@@ -150,16 +151,18 @@ module _ (w : Begun) (state new : Option State) (now later : ℕ) (rest : Option
         spared = spared;
         follows = follows;
       }
-  leads_to appended (wants.Done (Ok id)) history kept follows spared =
+  answered_by appended (wants.Done (Ok id)) history kept follows spared =
       (head ∙ at.head, record { past = past'; appended = appended; all = at.all; did = did'; took = at.took; ends = (history, kept); spared = spared; follows = follows })
-  leads_to appended (wants.Done (Err refusal)) history kept follows spared =
+  answered_by appended (wants.Done (Err refusal)) history kept follows spared =
       (head ∙ at.head, record { past = past'; appended = appended; all = at.all; did = did'; took = at.took; ends = history; spared = spared; follows = follows })
 
-  pub leads : ask ≡ write_ask w.head job.piece stage → Leads w new later rest source_now fed (next_write w.head.size (length job.piece) stage answer)
-  leads is =
-      leads_to (data_after stage job.piece answer at.appended) (next_write w.head.size (length job.piece) stage answer)
-      (subst (λ (a : DiskAsk). WentToWanted w source_now (data_after stage job.piece answer at.appended) (next_write w.head.size (length job.piece) stage answer) (at.past ++ exchanged a answer ∷ [])) (sym is)
-      (IsHistory-next w.head (NamedBy w) (SourceFailed w source_now) (OtherLength w.left w.head.size) stage at.appended job.piece at.past answer (counts w rest job fed removal naming ended source_now at.appended at.all at.past stage at.history at.holds at.took)
+  pub answered_to : ask ≡ write_ask w.head job.piece stage → AnsweredTo w new later rest source_now fed (next_write w.head.size (length job.piece) stage answer)
+  answered_to is =
+      answered_by (data_after stage job.piece answer at.appended) (next_write w.head.size (length job.piece) stage answer)
+      (subst (λ (a : DiskAsk). WentToWanted w source_now (data_after stage job.piece answer at.appended) (next_write w.head.size (length job.piece) stage answer)
+      (at.past ++ exchanged a answer ∷ [])) (sym is)
+      (IsHistory-next w.head (NamedBy w) (SourceFailed w source_now) (OtherLength w.left w.head.size) stage at.appended job.piece at.past answer
+      (counts w rest job fed removal naming ended source_now at.appended at.all at.past stage at.history at.holds at.took)
       (next_piece w rest job fed removal naming ended source_now at.appended at.all at.past stage at.holds) at.history))
       (kept w rest job fed removal naming ended source_now at.appended at.all at.past stage answer at.history at.holds at.removal) (followed is) (spared_next is)
 
@@ -175,10 +178,11 @@ module _ (w : Begun) (state new : Option State) (now later : ℕ) (rest : Option
   wanted_is : wanted ≡ next_write w.head.size (length job.piece) stage answer
   wanted_is = is ∙ ap (λ (h : WriteHead). next_write h.size len stage answer) (head_is ∙ at.head) ∙ ap (λ (n : ℕ). next_write w.head.size n stage answer) len_is
 
-  pub turn_leads : IfSome state (λ s. AnswersAsk answer (answer_of (tree_of s) ask)) → new ≡ state_told_after state ask answer → now ≤ later
+  pub turn_answered : IfSome state (λ s. AnswersAsk answer (answer_of (tree_of s) ask)) → new ≡ state_told_after state ask answer → now ≤ later
       → (answer ≡ answers.Refused disk_errors.Failed → Rose now later) → IfSome state (λ s. IsTree (tree_of s))
-      → Leads w new later rest source_now fed wanted
-  turn_leads given left more cause tree =
-      subst (λ (a : WriteAsk). Leads w new later rest source_now fed a) (sym wanted_is)
-      (leads w state new now later rest source_now job fed stage ask answer given left more cause tree (ap (λ (j : StreamJob). j.removal) same) (ap (λ (j : StreamJob). j.naming) same) (ap (λ (j : StreamJob). j.has_ended) same) head_is
+      → AnsweredTo w new later rest source_now fed wanted
+  turn_answered given left more cause tree =
+      subst (λ (a : WriteAsk). AnsweredTo w new later rest source_now fed a) (sym wanted_is)
+      (answered_to w state new now later rest source_now job fed stage ask answer given left more cause tree (ap (λ (j : StreamJob). j.removal) same)
+      (ap (λ (j : StreamJob). j.naming) same) (ap (λ (j : StreamJob). j.has_ended) same) head_is
       (ap (λ (j : StreamJob). j.piece) same) at (asked ∙ ap (λ (h : WriteHead). write_ask h job.piece stage) at.head))

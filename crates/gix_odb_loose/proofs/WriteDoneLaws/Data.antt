@@ -22,6 +22,7 @@ use Rattle.gix_odb_loose.specs.declared.write_order.WriteStage.TheVariants as st
 use Rattle.gix_odb_loose.proofs.AsksLeftLemmas as left
 use Rattle.gix_odb_loose.proofs.RoomLemmas.{has_room, room_within, room_few, whole_piece}
 use Rattle.gix_odb_loose.proofs.WriteHistoryLaws.{CountsTooMany, IsNextPiece}
+use Rattle.gix_odb_loose.proofs.WriteOrderLemmas.{by_made, by_headed, by_filled, by_foldered, by_moved}
 
 -- the data before a piece, and the piece, are the data behind it
 pub data_grown : (bytes : List ℕ) (written room : ℕ) → written ≤ length bytes
@@ -60,33 +61,11 @@ module _ (job : WriteJob) where
   FedTo appended (wants.Done (Err refusal)) = Unit {0}
 
   module _ (number : ℕ) where
-    fed_name : (more : Bool) → FedTo [] (if more then wants.Disk (stages.Making (number + 1)) else wants.Done (Err (refusals.Io messages.CreateTempFile)))
-    fed_name true = tt
-    fed_name false = tt
-
     fed_made : (answer : DiskAnswer) → FedTo [] (made_by number answer)
-    fed_made answers.Done = tt
-    fed_made (answers.Meta meta) = tt
-    fed_made (answers.Dir dir) = tt
-    fed_made (answers.Entry entry) = tt
-    fed_made answers.End = tt
-    fed_made (answers.File bytes time) = tt
-    fed_made (answers.Refused disk_errors.Exists) = fed_name (nat_lt (number + 1) temp_names)
-    fed_made (answers.Refused disk_errors.Absent) = tt
-    fed_made (answers.Refused disk_errors.WrongKind) = tt
-    fed_made (answers.Refused disk_errors.LinkLoop) = tt
-    fed_made (answers.Refused disk_errors.NotEmpty) = tt
-    fed_made (answers.Refused disk_errors.Failed) = tt
-    fed_made (answers.Refused disk_errors.NoMemory) = tt
+    fed_made = by_made FedTo [] number tt (λ more. tt) (λ refusal. tt)
 
     fed_headed : (answer : DiskAnswer) → FedTo [] (headed_by number answer)
-    fed_headed answers.Done = (refl, omega arith, omega arith, λ more. (0, refl))
-    fed_headed (answers.Meta meta) = tt
-    fed_headed (answers.Dir dir) = tt
-    fed_headed (answers.Entry entry) = tt
-    fed_headed answers.End = tt
-    fed_headed (answers.File bytes time) = tt
-    fed_headed (answers.Refused error) = tt
+    fed_headed = by_headed FedTo [] number (λ held refusal. tt) (refl, omega arith, omega arith, λ more. (0, refl))
 
     module _ (written : ℕ) (next : HasNext job.head.size job.bytes (stages.Filling number written)) where
       abbrev piece : List ℕ
@@ -95,9 +74,9 @@ module _ (job : WriteJob) where
       piece_is : length piece ≡ min (room_behind job.head.size written) (length job.bytes - written)
       piece_is = left.piece_is job written
 
-      fed_fits : (fits : Bool) → nat_le (written + length piece) job.head.size ≡ fits
-          → FedTo (take written job.bytes ++ piece) (if fits then wants.Data number (written + length piece) else wants.Disk (stages.Removing number (refusals.SizeMismatch (grown written (length piece)))))
-      fed_fits true e =
+      fed_filled : (answer : DiskAnswer) → FedTo (data_after (stages.Filling number written) piece answer (take written job.bytes)) (filled_by number written job.head.size (length piece) answer)
+      fed_filled =
+          by_filled FedTo (take written job.bytes) number (λ held refusal. tt) job.head.size written (length piece) piece (λ e.
           let within : written + length piece ≤ job.head.size = grind (arith, common_steps, e) in (
             data_grown job.bytes written (room_behind job.head.size written) (omega (arith, next.1)),
             within,
@@ -105,42 +84,14 @@ module _ (job : WriteJob) where
             λ more.
                 let full = whole_piece job.head.size written (length piece) (omega (arith, piece_is, more)) within in
                 (next.2.0 + 1, omega (arith, full, next.2.1)),
-          )
-      fed_fits false e = tt
-
-      fed_filled : (answer : DiskAnswer) → FedTo (data_after (stages.Filling number written) piece answer (take written job.bytes)) (filled_by number written job.head.size (length piece) answer)
-      fed_filled answers.Done = fed_fits (nat_le (written + length piece) job.head.size) refl
-      fed_filled (answers.Meta meta) = tt
-      fed_filled (answers.Dir dir) = tt
-      fed_filled (answers.Entry entry) = tt
-      fed_filled answers.End = tt
-      fed_filled (answers.File bytes time) = tt
-      fed_filled (answers.Refused error) = tt
+          ))
 
     module _ (id : ObjectId) where
       fed_foldered : (answer : DiskAnswer) → FedTo job.bytes (foldered_by number id answer)
-      fed_foldered answers.Done = refl
-      fed_foldered (answers.Meta meta) = tt
-      fed_foldered (answers.Dir dir) = tt
-      fed_foldered (answers.Entry entry) = tt
-      fed_foldered answers.End = tt
-      fed_foldered (answers.File bytes time) = tt
-      fed_foldered (answers.Refused disk_errors.Exists) = refl
-      fed_foldered (answers.Refused disk_errors.Absent) = tt
-      fed_foldered (answers.Refused disk_errors.WrongKind) = tt
-      fed_foldered (answers.Refused disk_errors.LinkLoop) = tt
-      fed_foldered (answers.Refused disk_errors.NotEmpty) = tt
-      fed_foldered (answers.Refused disk_errors.Failed) = tt
-      fed_foldered (answers.Refused disk_errors.NoMemory) = tt
+      fed_foldered = by_foldered FedTo job.bytes number (λ held refusal. tt) id refl
 
       fed_moved : (answer : DiskAnswer) → FedTo job.bytes (moved_by number id answer)
-      fed_moved answers.Done = refl
-      fed_moved (answers.Meta meta) = tt
-      fed_moved (answers.Dir dir) = tt
-      fed_moved (answers.Entry entry) = tt
-      fed_moved answers.End = tt
-      fed_moved (answers.File bytes time) = tt
-      fed_moved (answers.Refused error) = tt
+      fed_moved = by_moved FedTo job.bytes number (λ held refusal. tt) id refl
 
   abbrev piece_for : WriteStage → List ℕ
   piece_for stage = piece_of job.head.size job.bytes (written_in stage)

@@ -27,7 +27,8 @@ cut_whole pieces cut in_pieces = subst AreWhole (sym cut.is) (by_last cut.last c
     by_last [] is h = subst AreWhole (sym (append-nil cut.whole)) cut.are_whole
     by_last (piece ∷ []) is h =
         let count = in_pieces.0 in
-        let long : length (concat pieces) ≡ length (concat cut.whole) + length (concat (piece ∷ [])) = ap (λ (ps : List (List ℕ)). length (concat ps)) is ∙ ap length (concat-append cut.whole (piece ∷ [])) ∙ length-append (concat cut.whole) (concat (piece ∷ [])) in
+        let long : length (concat pieces) ≡ length (concat cut.whole) + length (concat (piece ∷ [])) = ap (λ (ps : List (List ℕ)). length (concat ps)) is
+        ∙ ap length (concat-append cut.whole (piece ∷ [])) ∙ length-append (concat cut.whole) (concat (piece ∷ [])) in
         let one : length (concat (piece ∷ [])) ≡ length piece = ap length (append-nil piece) in
         let wholes = whole_length cut.whole cut.are_whole in
         All-push (λ (p : List ℕ). length p ≡ piece_size) cut.whole piece cut.are_whole (omega (arith, in_pieces.1, long, one, wholes, h.0, h.1))
@@ -51,7 +52,8 @@ cut_count pieces cut = by_last cut.last cut.is cut.is_last
         omega (arith, count, long, wholes)
     by_last (piece ∷ []) is h =
         let count : length pieces ≡ length cut.whole + 1 = ap length is ∙ length-append cut.whole (piece ∷ []) in
-        let long : length (concat pieces) ≡ length (concat cut.whole) + length (concat (piece ∷ [])) = ap (λ (ps : List (List ℕ)). length (concat ps)) is ∙ ap length (concat-append cut.whole (piece ∷ [])) ∙ length-append (concat cut.whole) (concat (piece ∷ [])) in
+        let long : length (concat pieces) ≡ length (concat cut.whole) + length (concat (piece ∷ [])) = ap (λ (ps : List (List ℕ)). length (concat ps)) is
+        ∙ ap length (concat-append cut.whole (piece ∷ [])) ∙ length-append (concat cut.whole) (concat (piece ∷ [])) in
         let one : length (concat (piece ∷ [])) ≡ length piece = ap length (append-nil piece) in
         omega (arith, count, long, one, wholes, h.0, h.1)
     by_last (piece ∷ other ∷ more) is h = absurd h

@@ -67,13 +67,22 @@ module _ (head : WriteHead) (Named : ObjectId → Type 0) (Counted : ℕ → Typ
       elim h [
         | inl run ↦ inl (run.0, elim run.1 [ inl unmade ↦ inl unmade | inr one ↦ inr (one.0, one.1, unfailing_stop one.0 run.0 one.1 one.2, one.3) ], run.2)
         | inr broken ↦
-            inr (record { stage = broken.0.stage; appended = broken.0.appended; before = broken.0.before; history = unfailing_history broken.0.appended broken.0.stage broken.0.before broken.0.history; removed = broken.0.removed }, broken.1)
+            inr (
+              record {
+                stage = broken.0.stage;
+                appended = broken.0.appended;
+                before = broken.0.before;
+                history = unfailing_history broken.0.appended broken.0.stage broken.0.before broken.0.history;
+                removed = broken.0.removed;
+              },
+              broken.1,
+            )
       ]
 
 -- a write by what it was given and left
 abbrev pub write_by : WriteHead → HashKind → Option ObjectId → Content → (state new : Option State) (before now : ℕ) → Result ObjectId Error → Write
 write_by head hash known content state new before now result =
-    record { head = head; hash = hash; known = known; content = content; state = state; state_now = new; faults = before; faults_now = now; answer = result }
+    record { head = head; hash = hash; known = known; content = content; disk = record { state = state; state_now = new; faults = before; faults_now = now }; answer = result }
 
 module _ (head : WriteHead) (hash : HashKind) (content : Content) (state new : Option State) (before now : ℕ) (result : Result ObjectId Error) where
   abbrev Runs : Option ObjectId → Type 0
@@ -155,7 +164,8 @@ module _ (head : WriteHead) (hash : HashKind) (known : Option ObjectId) (lent by
             λ error is.
             WriteCause-wider head (Refuses state (Rose before now) run.exchanges) (Refuses state (Rose before now) run.exchanges) (FoundThere run.exchanges) (FoundThere run.exchanges)
             (DoneIn run.exchanges) (DoneIn run.exchanges) (λ ask m r. r) (λ ask t. t) (λ ask d. d)
-            (Rose 0 0) ⊥ unfailing (NamedFrom head hash known (Some lent)) (NamedFrom head hash known (Some lent)) (λ id n. n) ⊤ ⊤ (λ m. m) (OtherLength (Some lent) head.size) (OtherLength (Some lent) head.size) (λ n k. k) error (run.refused error is);
+            (Rose 0 0) ⊥ unfailing (NamedFrom head hash known (Some lent)) (NamedFrom head hash known (Some lent)) (λ id n. n) ⊤ ⊤ (λ m. m) (OtherLength (Some lent) head.size)
+            (OtherLength (Some lent) head.size) (λ n k. k) error (run.refused error is);
       }
 
   pub runs_at_hand : lent ≡ bytes → WriteRuns (write_by head hash known (Streamed (Some lent) 0 0) state new before now result)

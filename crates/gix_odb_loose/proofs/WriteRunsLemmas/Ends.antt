@@ -22,7 +22,7 @@ use Rattle.gix_odb_loose.specs.WriteOwn.{AreOwn, LeavesNothing}
 use Rattle.gix_odb_loose.specs.WriteOrder.{error_from, temp_path}
 use Rattle.gix_odb_loose.specs.WriteRuns.RefusedAsks.{Refuses, FoundThere}
 use Rattle.gix_odb_loose.specs.WriteRuns.{IsRefusedWrite, IsStoppedBySource, Writes, WriteRuns}
-use Rattle.gix_odb_loose.specs.StreamJobs.Progress.{write_made, Begun, NamedBy, SourceFailed, IsSpared, Did, Took, BrokeOff}
+use Rattle.gix_odb_loose.specs.StreamJobs.Progress.{write_made, begun_in, Begun, NamedBy, SourceFailed, IsSpared, Did, Took, BrokeOff}
 use Rattle.gix_odb_loose.specs.StreamJobs.SameAsks.{at_hand}
 use Rattle.gix_odb_loose.specs.StreamJobs.AtStage.{IsNew}
 use Rattle.gix_odb_loose.specs.StreamJobs.Standing.{IsAtItsEnd, IsBrokenOff}
@@ -47,6 +47,8 @@ use Rattle.gix_odb_loose.proofs.StreamJobsLemmas.SameAsks.{runs_end}
 use Rattle.gix_odb_loose.proofs.StreamJobsLemmas.Ends.{stands_first}
 use Rattle.gix_odb_loose.specs.WriteNames.{Names}
 use Rattle.gix_odb_loose.specs.declared.write_streamed.StreamJob.{StreamJob}
+use Rattle.gix_odb_loose.specs.declared.store.Store.{Store}
+use Rattle.gix_object.specs.declared.kind.Kind.{Kind}
 use Rattle.gix_hash.specs.declared.kind.Kind.{Kind as HashKind}
 use Rattle.gix_odb_loose.proofs.WriteRunsLemmas.RefusedAsks.{refuses_in}
 
@@ -58,7 +60,8 @@ reads_back None new head number id bytes past moved given left tree = tt
 reads_back (Some s) new head number id bytes past moved given left tree =
     elim tree [
       | inl none ↦ absurd
-          (let long = ap length (sym moved.is ∙ none) in omega (arith, long, length-append moved.before (exchanged (asks.Rename (temp_path head.objects number) (loose_path head.objects id)) answers.Done ∷ [])))
+          (let long = ap length (sym moved.is ∙ none) in omega
+          (arith, long, length-append moved.before (exchanged (asks.Rename (temp_path head.objects number) (loose_path head.objects id)) answers.Done ∷ [])))
       | inr is ↦ subst (ReadsBack head number id bytes (left_by (Some s) moved.before)) (sym left) (moved_reads_back head number id bytes s is past moved given)
     ]
 
@@ -227,6 +230,10 @@ for_memory (Ok x) h = absurd h
 for_memory (Err error) h = ap (λ (e : Error). Err e) h
 
 -- ---- how it begins
+
+-- a write into a store as it began, on a disk and from a source
+abbrev pub begun_on : {S D : Type 0} → Store → Kind → ℕ → Option ObjectId → (left : S → Option (List ℕ)) (failures : S → ℕ) → S → (state : D → Option State) (faults : D → ℕ) → D → Begun
+begun_on store kind size known left failures source state faults disk = begun_in store kind size known (left source) (failures source) (state disk) (faults disk)
 
 pub new_underway : (w : Begun) (job : StreamJob) → IsNew w.head w.hash w.known job → IsUnderway w w.state w.faults w.left w.source_faults job
 new_underway w job new = stands_first w job new.about new.stage new.has_ended new.naming new.removal

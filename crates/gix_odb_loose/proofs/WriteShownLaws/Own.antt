@@ -28,7 +28,11 @@ module _ (head : WriteHead) (Named : ObjectId → Type 0) where
     refused_own refusal past run =
         elim run [
           | inl none ↦ record { number = 0; each = unmade_all head Named (Own 0) (λ n below answer isnt_done. (n, below, refl)) refusal past none }
-          | inr one ↦ record { number = one.0; each = removed_all head Named SourceFailed Counted (Own one.0) one.1 past one.0 (λ answer. refl) (history_own (stages.Removing one.0 refusal) one.0 [] one.1 refl one.2) one.3 }
+          | inr one ↦ record {
+            number = one.0;
+            each = removed_all head Named SourceFailed Counted (Own one.0) one.1 past one.0 (λ answer. refl)
+                (history_own (stages.Removing one.0 refusal) one.0 [] one.1 refl one.2) one.3;
+          }
         ]
 
     pub broken_own : (past : List Exchange) → IsBrokenRun head Named SourceFailed Counted past → AreOwn head Named past
@@ -37,7 +41,11 @@ module _ (head : WriteHead) (Named : ObjectId → Type 0) where
         by_number : (stage : WriteStage) (number : ℕ) → number_made stage ≡ Some number → IsHistory head Named SourceFailed Counted run.appended stage run.before
             → IsRemovedAfter head (Some number) run.before past → AreOwn head Named past
         by_number stage number e h removed =
-            record { number = number; each = removed_all head Named SourceFailed Counted (Own number) run.before past number (λ answer. refl) (history_own stage number run.appended run.before e h) removed }
+            record {
+              number = number;
+              each = removed_all head Named SourceFailed Counted (Own number) run.before past number (λ answer. refl)
+                  (history_own stage number run.appended run.before e h) removed;
+            }
 
         by_stage : (stage : WriteStage) → IsHistory head Named SourceFailed Counted run.appended stage run.before → IsRemovedAfter head (number_made stage) run.before past → AreOwn head Named past
         by_stage (stages.Making number) h removed =

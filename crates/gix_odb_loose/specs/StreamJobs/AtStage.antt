@@ -30,7 +30,7 @@ Unread w all job = (all ≡ []) × (job.has_ended ≡ false) × Names w.known w.
 abbrev pub Named : Begun → Option (List ℕ) → (appended all : List ℕ) → ObjectId → Type 0
 Named w rest appended all id = IsAtEnd rest × (all ≡ appended) × (id ≡ name_for w.known w.hash w.head appended)
 
-pub record HasPiece (w : Begun) (rest : Option (List ℕ)) (written : ℕ) (appended all piece : List ℕ) (naming : Naming) (has_ended : Bool) : Type 0 where
+pub record HasPiece (w : Begun) (rest : Option (List ℕ)) (written : ℕ) (appended all piece : List ℕ) (naming : Option Naming) (has_ended : Bool) : Type 0 where
   pub is : all ≡ appended ++ piece
   pub named : Names w.known w.hash w.head all naming
   pub within : written ≤ w.head.size

@@ -86,10 +86,7 @@ write_made w state now source_now result =
       hash = w.hash;
       known = w.known;
       content = Streamed w.left w.source_faults source_now;
-      state = w.state;
-      state_now = state;
-      faults = w.faults;
-      faults_now = now;
+      disk = record { state = w.state; state_now = state; faults = w.faults; faults_now = now };
       answer = result;
     }
 

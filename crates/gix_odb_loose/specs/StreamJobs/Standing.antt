@@ -42,9 +42,9 @@ pub record Stands (Ready : DiskAsk → Type 0) (w : Begun) (state : Option State
 abbrev pub StandsAt : Begun → Option State → ℕ → Option (List ℕ) → ℕ → StreamJob → WriteStage → Type 0
 StandsAt w state now rest source_now job stage = Stands (λ removal. removal ≡ removal_at w stage) w state now rest source_now job stage
 
--- it was led there by an answer
-abbrev pub LedAt : Begun → Option State → ℕ → Option (List ℕ) → ℕ → StreamJob → WriteStage → Type 0
-LedAt w state now rest source_now job stage = Stands (λ removal. IsReady w removal stage) w state now rest source_now job stage
+-- it was put before a stage by an answer: its removal is ready, but where the next temporary name is to be tried
+abbrev pub StandsBefore : Begun → Option State → ℕ → Option (List ℕ) → ℕ → StreamJob → WriteStage → Type 0
+StandsBefore w state now rest source_now job stage = Stands (λ removal. IsReady w removal stage) w state now rest source_now job stage
 
 -- a write that asks for data behind so many bytes
 pub record WaitsAt (w : Begun) (state : Option State) (now : ℕ) (rest : Option (List ℕ)) (source_now : ℕ) (job : StreamJob) (number written : ℕ) : Type 0 where
@@ -73,11 +73,10 @@ pub record BreaksAt (w : Begun) (state : Option State) (now : ℕ) (rest : Optio
   pub spared : IsSpared w source_now ⊎ LostAt w stage past
   pub follows : (bytes : List ℕ) → w.left ≡ Some bytes → CutsAt (at_hand w bytes) stage past
 
--- the end of the data was told, with the id that the naming of the data gives
-pub record IsEnded (number written size : ℕ) (naming : Naming) (stage : WriteStage) : Type 0 where
-  pub id : ObjectId
-  pub is : stage ≡ ended_with size id number written
-  pub named : (known : Option ObjectId) (hash : HashKind) (head : WriteHead) (all : List ℕ) → Names known hash head all naming → id ≡ name_for known hash head all
+-- the end of the data was told, with the id that they get by their naming
+abbrev pub IsEnded : (number written size : ℕ) → Option Naming → WriteStage → Type 0
+IsEnded number written size naming stage =
+    (known : Option ObjectId) (hash : HashKind) (head : WriteHead) (all : List ℕ) → Names known hash head all naming → stage ≡ ended_with size (name_for known hash head all) number written
 
 -- ---- the end of a write
 

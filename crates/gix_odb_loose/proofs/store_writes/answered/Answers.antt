@@ -12,7 +12,8 @@ returns-in_err-end-clause-taken g c = λ w at. let off = c.in_err-end.ensures.ra
 
 pub returns-clause-run : goal.returns-clause-run
 returns-clause-run g c =
-    λ w at. runs_told w _ _ _ _ c.in_ok-end.end (c.in_ok-end.ensures.ran w at) c.told.result (subst (λ h. IsToldBy h c.in_ok-end.end c.told.result) (c.in_ok-end.ensures.head ∙ at.head) c.told.ensures.answer)
+    λ w at. runs_told w _ _ _ _ c.in_ok-end.end (c.in_ok-end.ensures.ran w at) c.told.result
+    (subst (λ h. IsToldBy h c.in_ok-end.end c.told.result) (c.in_ok-end.ensures.head ∙ at.head) c.told.ensures.answer)
 
 pub returns-clause-taken : goal.returns-clause-taken
 returns-clause-taken g c = λ w at. let end = c.in_ok-end.ensures.ran w at in took_from w _ _ end.all end.took

@@ -6,4 +6,5 @@ pub returns-in-Some-clause-kind : goal.returns-in-Some-clause-kind
 returns-in-Some-clause-kind g c =
     let found : c.try_header.result ≡ Ok (Some (c.in-Some.field-0-0, c.in-Some.kind)) = grind (arith, c.in_ok-kind.was, c.in-Some.is, c.in-Some.kind-is) in
     if_told (g.D.Disk.state c.args.disk.now) _
-    (λ s told. kind_told c.args.store.now c.args.id.now s _ c.in-Some.field-0-0 c.in-Some.kind c.try_header.result (at_told (g.D.Disk.state c.args.disk.now) _ s told c.try_header.ensures.answer) found)
+    (λ s told. kind_told c.args.store.now c.args.id.now s _ c.in-Some.field-0-0 c.in-Some.kind c.try_header.result
+        (at_told (g.D.Disk.state c.args.disk.now) _ s told c.try_header.ensures.answer) found)

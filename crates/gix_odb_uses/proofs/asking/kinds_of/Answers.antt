@@ -31,7 +31,8 @@ returns-in_err-kind-clause-refused g c =
     if_err_made c.from_residual.result error _ c.from_residual.ensures.1 (
       _,
       Contains-get_or c.args.ids.now c.loop-id.id-index _ c.loop-id-test.true,
-      header_refused c.args.store.now _ (state c.loop-id.disk) (state c.args.disk.now) (sym c.loop-id.invariant.kept) (Rose then now) (Rose start now) (rose_between start then now now c.loop-id.invariant.later (omega arith)) error
+      header_refused c.args.store.now _ (state c.loop-id.disk) (state c.args.disk.now) (sym c.loop-id.invariant.kept) (Rose then now) (Rose start now)
+          (rose_between start then now now c.loop-id.invariant.later (omega arith)) error
           c.in_err-kind.ensures.refused,
     )
 

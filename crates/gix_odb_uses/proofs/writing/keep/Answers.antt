@@ -47,7 +47,8 @@ returns-clause-refused g c =
     let start = g.D.Disk.faults c.args.disk.now in
     let middle = g.D.Disk.faults c.write_buf.new.disk in
     let now = g.D.Disk.faults c.find_into.new.disk in
-    let differs : c.in_ok-kind.kind ≡ Some Blob → c.find_into.new.out.items ≡ bytes → ⊥ = λ blob same. (let yes = c.is_blob.ensures.told.1 (blob, c.as_slice.ensures.value ∙ same) in let no = c.if-is_blob.false in cc (yes, no)) in (
+    let differs : c.in_ok-kind.kind ≡ Some Blob → c.find_into.new.out.items ≡ bytes
+        → ⊥ = λ blob same. (let yes = c.is_blob.ensures.told.1 (blob, c.as_slice.ensures.value ∙ same) in let no = c.if-is_blob.false in cc (yes, no)) in (
       first_write store bytes _ (state c.write_buf.new.disk) _ start middle now c.in_ok-id.id c.in_ok-id.ensures.id c.find_into.ensures.kept c.find_into.ensures.later c.in_ok-id.ensures.run,
       if_told (state c.find_into.new.disk) _ (λ s told is.
           let finds = at_told (state c.write_buf.new.disk) _ s (sym c.find_into.ensures.kept ∙ told) c.find_into.ensures.answer in

@@ -6,7 +6,8 @@ use Rattle.gix_odb_loose.proofs.store.Store.find_into.Goals as goal
 pub returns-in-Ok-Some-clause-answer : goal.returns-in-Ok-Some-clause-answer
 returns-in-Ok-Some-clause-answer g c =
     rw (c.into_vec.ensures.items)
-    (find_answers _ c.args.self.now c.args.id.now _ _ _ c.in_ok-path.ensures.path c.in_ok-answer.ensures.cause c.in_ok-answer.ensures.told (Ok (Some (c.in-Ok-Some.kind, c.in-Ok-Some.bytes))) (cc (c.in-Ok-Some.is, c.in-Ok-Some.field-0-is, c.in_ok-found.ensures.answer)))
+    (find_answers _ c.args.self.now c.args.id.now _ _ _ c.in_ok-path.ensures.path c.in_ok-answer.ensures.cause c.in_ok-answer.ensures.told
+    (Ok (Some (c.in-Ok-Some.kind, c.in-Ok-Some.bytes))) (cc (c.in-Ok-Some.is, c.in-Ok-Some.field-0-is, c.in_ok-found.ensures.answer)))
 
 pub returns-in-Ok-None-clause-answer : goal.returns-in-Ok-None-clause-answer
 returns-in-Ok-None-clause-answer g c =

@@ -1,5 +1,4 @@
-use Rattle.gix_odb_loose.specs.StreamJobs.Progress.{begun_in}
-use Rattle.gix_odb_loose.proofs.WriteRunsLemmas.Ends.{for_memory, new_underway, runs_nothing}
+use Rattle.gix_odb_loose.proofs.WriteRunsLemmas.Ends.{begun_on, for_memory, new_underway, runs_nothing}
 use Rattle.gix_odb_loose.proofs.store.Store.run_write.Goals as goal
 
 pub returns-in_err-job-clause-run : goal.returns-in_err-job-clause-run
@@ -7,15 +6,15 @@ returns-in_err-job-clause-run g c = runs_nothing _ c.from_residual.result (for_m
 
 pub answered-answer-requires : goal.answered-answer-requires
 answered-answer-requires g c =
-    let w = begun_in c.args.self.now c.args.kind c.args.size c.args.known (g.S.Source.left c.args.from.now) (g.S.Source.faults c.args.from.now) (g.D.Disk.state c.args.disk.now) (g.D.Disk.faults c.args.disk.now) in
+    let w = begun_on c.args.self.now c.args.kind c.args.size c.args.known g.S.Source.left g.S.Source.faults c.args.from.now g.D.Disk.state g.D.Disk.faults c.args.disk.now in
     record { underway = (w, new_underway w c.in_ok-job.job c.in_ok-job.ensures.begun) }
 
 pub returns-clause-run : goal.returns-clause-run
 returns-clause-run g c =
-    let w = begun_in c.args.self.now c.args.kind c.args.size c.args.known (g.S.Source.left c.args.from.now) (g.S.Source.faults c.args.from.now) (g.D.Disk.state c.args.disk.now) (g.D.Disk.faults c.args.disk.now) in
+    let w = begun_on c.args.self.now c.args.kind c.args.size c.args.known g.S.Source.left g.S.Source.faults c.args.from.now g.D.Disk.state g.D.Disk.faults c.args.disk.now in
     c.answered-answer.ensures.run w (new_underway w c.in_ok-job.job c.in_ok-job.ensures.begun)
 
 pub returns-clause-taken : goal.returns-clause-taken
 returns-clause-taken g c =
-    let w = begun_in c.args.self.now c.args.kind c.args.size c.args.known (g.S.Source.left c.args.from.now) (g.S.Source.faults c.args.from.now) (g.D.Disk.state c.args.disk.now) (g.D.Disk.faults c.args.disk.now) in
+    let w = begun_on c.args.self.now c.args.kind c.args.size c.args.known g.S.Source.left g.S.Source.faults c.args.from.now g.D.Disk.state g.D.Disk.faults c.args.disk.now in
     c.answered-answer.ensures.taken w (new_underway w c.in_ok-job.job c.in_ok-job.ensures.begun)

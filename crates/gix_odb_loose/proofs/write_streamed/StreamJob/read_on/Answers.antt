@@ -1,5 +1,6 @@
-use Rattle.std.specs.Prelude.{ℕ, ◌≤◌, List, length}
+use Rattle.std.specs.Prelude.{ℕ, ◌≤◌, List, ◌++◌, length}
 use Rattle.std.proofs.Common.{refl, sym, subst}
+use Rattle.gix_odb_loose.specs.WriteNames.{name_for}
 use Rattle.gix_odb_loose.specs.declared.write_order.WriteHead.{WriteHead}
 use Rattle.gix_odb_loose.specs.declared.write_order.WriteStage.TheVariants as stages
 use Rattle.gix_odb_loose.proofs.StreamJobsLemmas.GoesOn.{on_end, on_lost, on_failed, on_piece, on_nothing, goes_on_broken}
@@ -12,7 +13,9 @@ returns-then-self-clause-goes_on g c =
 
 pub returns-then-self-clause-fewer : goal.returns-then-self-clause-fewer
 returns-then-self-clause-fewer g c =
-    λ w state now at. let ended = c.end.ensures.ended in ended_less c.args.self.now c.end.new.self c.args.number c.args.written c.args.self.now.head.size ended.id ended.is
+    λ w state now at.
+    ended_less c.args.self.now c.end.new.self c.args.number c.args.written c.args.self.now.head.size (name_for w.known w.hash w.head at.all)
+    (c.end.ensures.ended w.known w.hash w.head at.all at.holds.0.named)
 
 -- memory ran out behind what was read
 pub returns-in_err-next_piece-clause-goes_on : goal.returns-in_err-next_piece-clause-goes_on
@@ -61,4 +64,7 @@ returns-else-not-is_empty-clause-goes_on g c =
 
 pub returns-else-not-is_empty-clause-fewer : goal.returns-else-not-is_empty-clause-fewer
 returns-else-not-is_empty-clause-fewer g c =
-    λ w state now at. let ended = c.end-in-Piece.ensures.ended in ended_less c.args.self.now c.end-in-Piece.new.self c.args.number c.args.written c.take.new.self.head.size ended.id ended.is
+    λ w state now at.
+    let all = at.all ++ c.in-Piece.piece in
+    ended_less c.args.self.now c.end-in-Piece.new.self c.args.number c.args.written c.take.new.self.head.size (name_for w.known w.hash w.head all)
+    (c.end-in-Piece.ensures.ended w.known w.hash w.head all (c.take.ensures.naming w.known w.hash w.head at.all at.holds.0.named))

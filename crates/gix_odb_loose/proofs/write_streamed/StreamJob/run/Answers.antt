@@ -25,7 +25,8 @@ returns-in-Ok-Some-clause-ran g c = λ w at. came_to w _ _ _ _ c.turn.new.self c
 
 pub returns-in-Err-clause-ran : goal.returns-in-Err-clause-ran
 returns-in-Err-clause-ran g c =
-    λ w at. c.clear.ensures.cleared w (g.S.Source.left c.turn.new.from) (g.S.Source.faults c.turn.new.from) (came_to_want w _ _ _ _ c.turn.new.self c.turn.result (c.turn.ensures.turned w (c.turns.invariant.underway w at)) c.in-Err.field-0 c.in-Err.is)
+    λ w at. c.clear.ensures.cleared w (g.S.Source.left c.turn.new.from) (g.S.Source.faults c.turn.new.from)
+    (came_to_want w _ _ _ _ c.turn.new.self c.turn.result (c.turn.ensures.turned w (c.turns.invariant.underway w at)) c.in-Err.field-0 c.in-Err.is)
 
 pub returns-in-Err-clause-streams : goal.returns-in-Err-clause-streams
 returns-in-Err-clause-streams g c =
