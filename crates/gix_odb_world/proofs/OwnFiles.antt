@@ -178,7 +178,11 @@ module _ (run : LawfulRun) where
   module _ (now : ℕ) (none : slice_get events now ≡ None) where
     files_over : Files run now → Files run (suc now)
     files_over files = record {
-      each = λ handle made path hm. elim (files.each handle made path (over_made run now none handle made path hm)) [ inl o ↦ inl (over_own run now none handle made path o) | inr l ↦ inr (over_lost run now none path l) ];
+      each = λ handle made path hm. elim (files.each handle made path (over_made run now none handle made path hm)) [
+        | inl o ↦ inl
+            (over_own run now none handle made path o)
+        | inr l ↦ inr (over_lost run now none path l)
+      ];
       apart = λ handle other made last path twin differs hm his a b same.
           let was = over_made run now none handle made path hm in
           let been = over_made run now none other last twin his in

@@ -15,7 +15,7 @@ use Rattle.gix_object.specs.Loose.{header_of}
 use Rattle.gix_object.proofs.LooseLaws.{length-header_of-fits}
 use Rattle.gix_odb_loose.specs.Exchanges.{exchanged}
 use Rattle.gix_odb_loose.specs.LooseFile.{loose_path}
-use Rattle.gix_odb_loose.specs.WriteDone.{data_at}
+use Rattle.gix_odb_loose.specs.WriteDone.{GetsNameOf, CountsOf, data_at}
 use Rattle.gix_odb_loose.specs.WriteJobs.{piece_of}
 use Rattle.gix_odb_loose.specs.WriteOrder.{number_in, number_made, prefix_path, temp_names, temp_path}
 use Rattle.gix_odb_loose.specs.WritePieces.{piece_size, room_behind}
@@ -28,8 +28,8 @@ use Rattle.gix_odb_world.specs.Event.{Event}
 use Rattle.gix_odb_world.specs.Status.{MakeCall, Running}
 use Rattle.gix_odb_world.specs.Changes.{ChangesInTask, ChangesInWrite, IsOneOfFive}
 use Rattle.gix_odb_world.specs.Run.{change_by, disk_after}
-use Rattle.gix_odb_world.specs.Running.Write.{IsWriting, StandsAt}
-use Rattle.gix_odb_world.specs.Writing.{DoneSince, GetsName, HasOther, ToWrite, call_to_write, head_to_write, name_to_write, to_write}
+use Rattle.gix_odb_world.specs.Running.Write.{IsWriting, StandsAt, job_to_write}
+use Rattle.gix_odb_world.specs.Writing.{DoneSince, ToWrite, call_to_write, head_to_write, name_to_write, to_write}
 use Rattle.gix_odb_world.proofs.WriteAsk.{change_by-all, told_append, told_make_dir, told_new_file, told_remove, told_rename}
 use Rattle.gix_odb_world.proofs.WriteTurn.{ask_at_stage, done_at}
 
@@ -103,13 +103,15 @@ module _ (first : Volume) (events : List Event) (handle begun turns : ℕ) (w : 
   IsOwn stage = (ask_at_stage w stage ≡ asks.NewFile (temp_path w.objects (number_in stage))) ⊎ DoneSince first events handle begun (asks.NewFile (temp_path w.objects (number_in stage)))
 
   pub below : (stage : WriteStage) → StandsAt first events handle begun turns w stage → number_in stage < temp_names
-  below stage s = history_below (head_to_write w) (GetsName w) ⊥ (HasOther w) stage (data_at w.bytes stage) s.past (done_at first events handle begun turns w stage s).history
+  below stage s = history_below (head_to_write w) (GetsNameOf (job_to_write w)) ⊥ (CountsOf (job_to_write w)) stage (data_at w.bytes stage) s.past
+      (done_at first events handle begun turns w stage s).history
 
   pub made_before : (stage : WriteStage) (number : ℕ) → number_made stage ≡ Some number → StandsAt first events handle begun turns w stage
       → DoneSince first events handle begun (asks.NewFile (temp_path w.objects number))
   made_before stage number made s =
       s.asked (exchanged (asks.NewFile (temp_path w.objects number)) answers.Done)
-      (history_makes (head_to_write w) (GetsName w) number ⊥ (HasOther w) stage (data_at w.bytes stage) s.past made (done_at first events handle begun turns w stage s).history)
+      (history_makes (head_to_write w) (GetsNameOf (job_to_write w)) number ⊥ (CountsOf (job_to_write w)) stage (data_at w.bytes stage) s.past made
+      (done_at first events handle begun turns w stage s).history)
 
   is_own : (stage : WriteStage) → StandsAt first events handle begun turns w stage → IsOwn stage
   is_own (stages.Making number) s = inl refl

@@ -30,7 +30,7 @@ use Rattle.gix_odb_world.specs.Writing.{ToWrite, call_to_write, head_to_write, t
 use Rattle.gix_odb_world.specs.Written.{PromiseOfWrite}
 use Rattle.gix_odb_world.proofs.MachineLaws as laws
 use Rattle.gix_odb_world.proofs.WriteTurn.{ask_at_stage, stage_goes}
-use Rattle.gix_odb_world.proofs.WriteTurn.Common.{IsTurnWith, TurnOfWrite}
+use Rattle.gix_odb_world.proofs.WriteTurn.Common.{IsTurnWith, TurnOfWrite, call_at}
 use Rattle.gix_odb_world.proofs.WriteTurn.Comes.{Goes}
 
 abbrev job_at : ToWrite → WriteStage → WriteJob
@@ -75,7 +75,7 @@ module _ (first : Volume) (events : List Event) (e : Event) (handle : ℕ) (runn
       turn = record { first = first; events = events; e = e; handle = handle; begun = running.begun; turns = writes.own; w = w; since = since }
 
       abbrev WriteGoes : Onward → Type 0
-      WriteGoes onward = Goes turn (ask_at_stage w writes.stage) is given refl writes.stands.past writes.stands.asked onward
+      WriteGoes onward = Goes turn (call_at turn writes.stage writes.stands (ask_at_stage w writes.stage) is given refl) onward
 
       onward_comes : (onward : Onward) → WriteGoes onward → WriteComes (result_of_write (record { stage = written_to (job_at w writes.stage) (advance_to (job_at w writes.stage) onward) }))
       onward_comes (Stage stage) goes =

@@ -22,7 +22,7 @@ use Rattle.gix_odb_world.specs.Event.{Event}
 use Rattle.gix_odb_world.specs.Run.{disk_after}
 use Rattle.gix_odb_world.specs.Running.Write.{StandsAt, job_to_write}
 use Rattle.gix_odb_world.specs.Writing.{ToWrite, head_to_write}
-use Rattle.gix_odb_world.proofs.WriteTurn.Common.{Makes, Stands, TurnOfWrite}
+use Rattle.gix_odb_world.proofs.WriteTurn.Common.{Makes, Stands, TurnOfWrite, call_at}
 use Rattle.gix_odb_world.proofs.WriteTurn.Comes.{Goes, PartsTo, goes, supplied_parts}
 use Rattle.gix_odb_world.proofs.WriteTurn.Making.{making}
 use Rattle.gix_odb_world.proofs.WriteTurn.Filling.{filling, heading}
@@ -44,7 +44,7 @@ module _ (t : TurnOfWrite) where
   disk = disk_after first events
 
   parts_at : (stage : WriteStage) (s : Stands t stage) (is : Makes t (ask_at_stage w stage)) (answer : DiskAnswer) (given : answer ≡ answer_now disk (ask_at_stage w stage))
-      → PartsTo t (ask_at_stage w stage) is answer given s.past s.asked (next_write w.size (length (piece_of w.size w.bytes (written_in stage))) stage answer)
+      → PartsTo t (call_at t stage s (ask_at_stage w stage) is answer given) (next_write w.size (length (piece_of w.size w.bytes (written_in stage))) stage answer)
   parts_at (stages.Making number) s is answer given = making t number s is answer given
   parts_at (stages.Heading number) s is answer given = heading t number s is answer given
   parts_at (stages.Filling number written) s is answer given = filling t number written s (done_at first events handle begun turns w (stages.Filling number written) s).next is answer given
@@ -54,8 +54,9 @@ module _ (t : TurnOfWrite) where
 
   -- A write that stands at a stage knows as much after the answer, or its end keeps its promise.
   pub stage_goes : (stage : WriteStage) (s : Stands t stage) (is : Makes t (ask_at_stage w stage)) (answer : DiskAnswer) (given : answer ≡ answer_now disk (ask_at_stage w stage))
-      → Goes t (ask_at_stage w stage) is answer given s.past s.asked (next_in (record (job_to_write w) { stage = stage }) answer)
+      → Goes t (call_at t stage s (ask_at_stage w stage) is answer given) (next_in (record (job_to_write w) { stage = stage }) answer)
   stage_goes stage s is answer given =
-      goes t (ask_at_stage w stage) is answer given s.past s.asked s.unnamed s.had (next_in (record (job_to_write w) { stage = stage }) answer)
+      goes t (call_at t stage s (ask_at_stage w stage) is answer given) s.unnamed s.had (next_in (record (job_to_write w) { stage = stage }) answer)
       (IsAlong-next (job_to_write w) stage s.past answer s.along)
-      (supplied_parts t (ask_at_stage w stage) is answer given s.past s.asked (next_write w.size (length (piece_of w.size w.bytes (written_in stage))) stage answer) (parts_at stage s is answer given))
+      (supplied_parts t (call_at t stage s (ask_at_stage w stage) is answer given) (next_write w.size (length (piece_of w.size w.bytes (written_in stage))) stage answer)
+      (parts_at stage s is answer given))

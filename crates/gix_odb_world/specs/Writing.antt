@@ -54,13 +54,6 @@ head_to_write w = record { objects = w.objects; kind = w.kind; size = w.size }
 abbrev pub name_to_write : ToWrite → ObjectId
 name_to_write w = name_for w.known (hash_to_write w.known) (head_to_write w) w.bytes
 
--- an object gets this id, and there are so many bytes, other than were told
-abbrev pub GetsName : ToWrite → ObjectId → Type 0
-GetsName w id = id ≡ name_to_write w
-
-abbrev pub HasOther : ToWrite → (actual : ℕ) → Type 0
-HasOther w actual = OtherLength (Some w.bytes) w.size actual
-
 -- ---- what was asked of the disk
 
 -- in the event at a place, which is a turn of the handle, this call of the disk was made and was answered so
@@ -100,8 +93,8 @@ DoneSince first events handle begun ask = AskedSince first events handle begun a
 -- The cause of an error of a write. Its data are at hand, so no source of them fails.
 abbrev pub CauseOfWrite : Volume → List Event → (handle begun : ℕ) → ToWrite → loose_write.Error → Type 0
 CauseOfWrite first events handle begun w error =
-    WriteCause (head_to_write w) (GetsName w) (RefusedSince first events handle begun) (TakenSince first events handle begun)
-    (DoneSince first events handle begun) ⊥ ⊥ (HasOther w) error
+    WriteCause (head_to_write w) (λ id. id ≡ name_to_write w) (RefusedSince first events handle begun) (TakenSince first events handle begun)
+    (DoneSince first events handle begun) ⊥ ⊥ (OtherLength (Some w.bytes) w.size) error
 
 -- ---- what its turns changed
 

@@ -16,7 +16,7 @@ use Rattle.gix_hash.specs.declared.object_id.ObjectId.{ObjectId}
 use Rattle.gix_odb_loose.specs.Exchanges.{exchanged}
 use Rattle.gix_odb_loose.specs.LooseOrder.{disk_ask_of}
 use Rattle.gix_odb_loose.specs.LooseOrder as loose_order
-use Rattle.gix_odb_loose.specs.WriteDone.{data_at}
+use Rattle.gix_odb_loose.specs.WriteDone.{GetsNameOf, CountsOf, data_at}
 use Rattle.gix_odb_loose.specs.WriteOrder.{number_made, prefix_path, temp_path}
 use Rattle.gix_odb_loose.specs.declared.call.LooseCall.{LooseCall}
 use Rattle.gix_odb_loose.specs.declared.write_order.WriteStage.{WriteStage}
@@ -33,9 +33,9 @@ use Rattle.gix_odb_world.specs.Status.{IsAtWrite, Running, Working, status_of}
 use Rattle.gix_odb_world.specs.Headline.{outcome_of}
 use Rattle.gix_odb_world.specs.Run.{IsTurnOf, change_by, disk_after, tree_at}
 use Rattle.gix_odb_world.specs.Running.{Knows, Runs}
-use Rattle.gix_odb_world.specs.Running.Write.{IsWriting, result_of_write, write_at}
+use Rattle.gix_odb_world.specs.Running.Write.{IsWriting, result_of_write, write_at, job_to_write}
 use Rattle.gix_odb_world.specs.Undisturbed.{HasMade}
-use Rattle.gix_odb_world.specs.Writing.{AskedAt, GetsName, HasOther, IsMaking, IsNewFile, head_to_write}
+use Rattle.gix_odb_world.specs.Writing.{AskedAt, IsMaking, IsNewFile, head_to_write}
 use Rattle.gix_odb_world.proofs.LawfulRun.{LawfulRun}
 use Rattle.gix_odb_world.proofs.DiskTurns.{CallsDisk, calls_disk}
 use Rattle.gix_odb_world.proofs.FileSteps.{IsNewAt, WriterMoves, new_at, writer_moves}
@@ -92,7 +92,7 @@ module _ (run : LawfulRun) where
       → (made : ℕ) × HasMade first events handle made (temp_path running.store.parts.objects number) now
   made_at_stage now handle running call at writes number stage =
       let w = writes.write in
-      let among = history_makes (head_to_write w) (GetsName w) number ⊥ (HasOther w) writes.stage (data_at w.bytes writes.stage) writes.stands.past stage
+      let among = history_makes (head_to_write w) (GetsNameOf (job_to_write w)) number ⊥ (CountsOf (job_to_write w)) writes.stage (data_at w.bytes writes.stage) writes.stands.past stage
       (done_at first (take now events) handle running.begun writes.own w writes.stage writes.stands).history in
       let asked = writes.stands.asked (exchanged (asks.NewFile (temp_path w.objects number)) answers.Done) among in
       let whole = asked_whole handle now asked.place (temp_path w.objects number) asked.at in (

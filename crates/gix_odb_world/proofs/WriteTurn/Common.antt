@@ -1,5 +1,5 @@
 -- What is common to all turns of a write: what was asked, what stands in its file, and what its end or its next stage needs.
-use Rattle.std.proofs.Common.{◌≡◌, ℕ, ◌+◌, ◌≤◌, List, [], ◌∷◌, ◌++◌, length, Option, Some, None, Ok, sym, ap, ◌∙◌, subst, arith}
+use Rattle.std.proofs.Common.{Contains, ◌≡◌, ℕ, ◌+◌, ◌≤◌, List, [], ◌∷◌, ◌++◌, length, Option, Some, None, Ok, sym, ap, ◌∙◌, subst, arith}
 use Rattle.std.proofs.lemmas.List.{length_push}
 use Rattle.std.proofs.Math.Seq.{take-length}
 use Rattle.odb_base.specs.Path.{Path}
@@ -33,7 +33,7 @@ use Rattle.gix_odb_world.specs.declared.record.Did.TheVariants.{Disk}
 use Rattle.gix_odb_world.specs.Event.{OfDisk, Event}
 use Rattle.gix_odb_world.specs.Run.{IsTurnOf, change_by, disk_after, disk_after_asked, tree_at}
 use Rattle.gix_odb_world.specs.Running.Write.{HoldsFile, StandsAt}
-use Rattle.gix_odb_world.specs.Writing.{AskedAt, IsNewFile, IsRename, TurnsMadeOnly, ToWrite}
+use Rattle.gix_odb_world.specs.Writing.{AskedAt, AskedSince, IsNewFile, IsRename, TurnsMadeOnly, ToWrite}
 use Rattle.gix_odb_world.proofs.RunLemmas.{tree_at-now}
 use Rattle.gix_odb_world.proofs.WriteAsk.{Made}
 use Rattle.gix_odb_world.proofs.WriteKept.{alone_before, asked_at_kept, asked_now, each_turn_push}
@@ -77,6 +77,20 @@ Stands t stage = StandsAt t.first t.events t.handle t.begun t.turns t.w stage
 abbrev pub Makes : TurnOfWrite → DiskAsk → Type 0
 Makes t ask = IsTurnWith t.first t.events t.e t.handle ask
 
+-- its call of the disk and the answer, and the calls that the write made before it
+pub record CallOfTurn (t : TurnOfWrite) : Type 0 where
+  pub ask : DiskAsk
+  pub is : Makes t ask
+  pub answer : DiskAnswer
+  pub given : answer ≡ answer_now (disk_after t.first t.events) ask
+  pub past : List Exchange
+  pub asked : (x : Exchange) → Contains past x → AskedSince t.first t.events t.handle t.begun x.ask x.answer
+
+-- the call that is made at a stage
+abbrev pub call_at : (t : TurnOfWrite) (stage : WriteStage) → Stands t stage → (ask : DiskAsk) → Makes t ask → (answer : DiskAnswer)
+    → answer ≡ answer_now (disk_after t.first t.events) ask → CallOfTurn t
+call_at t stage s ask is answer given = record { ask = ask; is = is; answer = answer; given = given; past = s.past; asked = s.asked }
+
 module _ (t : TurnOfWrite) where
   open t use {first, events, e, handle, begun, turns, w, since}
 
@@ -97,7 +111,9 @@ module _ (t : TurnOfWrite) where
 
   -- ---- what is common to all turns
 
-  module _ (ask : DiskAsk) (is : Makes t ask) (answer : DiskAnswer) (given : answer ≡ answer_now disk ask) where
+  module _ (call : CallOfTurn t) where
+    open call use {ask, is, answer, given}
+
     pub is_tree : IsTree before
     is_tree = subst IsTree before_is is.tree
 

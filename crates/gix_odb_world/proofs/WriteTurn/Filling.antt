@@ -1,5 +1,5 @@
 -- The turns in which a write appends its header and its data.
-use Rattle.std.proofs.Common.{◌≡◌, ◌≢◌, ℕ, ◌+◌, Bool, true, false, nat_le, List, [], ◌∷◌, ◌++◌, length, take, Contains, Some, sym, ap, ◌∙◌, subst, arith, append-nil, append_assoc}
+use Rattle.std.proofs.Common.{◌≡◌, ◌≢◌, ℕ, ◌+◌, Bool, true, false, nat_le, List, [], ◌∷◌, ◌++◌, length, take, Some, sym, ap, ◌∙◌, subst, arith, append-nil, append_assoc}
 use Rattle.std.specs.Prelude.{if◌then◌else◌}
 use Rattle.odb_base.specs.Path.{Path}
 use Rattle.odb_disk.specs.Ask.{answer_now}
@@ -12,7 +12,6 @@ use Rattle.odb_disk.specs.declared.ask.DiskAsk.TheVariants as asks
 use Rattle.odb_tree.specs.declared.change.Change.TheVariants.{Append}
 use Rattle.odb_tree.proofs.WayWriteLaws.{append_change}
 use Rattle.gix_object.specs.Loose.{header_of}
-use Rattle.gix_odb_loose.specs.Exchanges.{Exchange}
 use Rattle.gix_odb_loose.specs.WriteDone.{HasNext}
 use Rattle.gix_odb_loose.specs.WriteJobs.{piece_at}
 use Rattle.gix_odb_loose.specs.WriteOrder.{grown, next_write, refused_by, temp_path}
@@ -23,14 +22,15 @@ use Rattle.gix_odb_loose.specs.declared.write_order.Refusal.{Refusal}
 use Rattle.gix_odb_loose.specs.declared.write_order.Refusal.TheVariants as refusals
 use Rattle.gix_odb_loose.specs.declared.write_order.WriteAsk.{WriteAsk}
 use Rattle.gix_odb_loose.specs.declared.write_order.WriteAsk.TheVariants as wants
+use Rattle.gix_odb_loose.specs.declared.write_order.WriteStage.{WriteStage}
 use Rattle.gix_odb_loose.specs.declared.write_order.WriteStage.TheVariants as stages
 use Rattle.gix_odb_loose.proofs.WriteDoneLaws.Data.{data_grown}
 use Rattle.gix_odb_world.specs.Event.{Event}
 use Rattle.gix_odb_world.specs.Run.{disk_after}
 use Rattle.gix_odb_world.specs.Running.Write.{HoldsFile}
-use Rattle.gix_odb_world.specs.Writing.{AskedSince, IsNewFile, IsRename, TurnsMadeOnly}
+use Rattle.gix_odb_world.specs.Writing.{IsNewFile, IsRename, TurnsMadeOnly}
 use Rattle.gix_odb_world.proofs.WriteAsk.{Made, done_made, told_append, undone_made}
-use Rattle.gix_odb_world.proofs.WriteTurn.Common.{appended_holds, made_same, Makes, no_file, no_rename, Stands, TurnOfWrite}
+use Rattle.gix_odb_world.proofs.WriteTurn.Common.{CallOfTurn, Makes, Stands, TurnOfWrite, appended_holds, call_at, made_same, no_file, no_rename}
 use Rattle.gix_odb_world.proofs.WriteTurn.Comes.{Parts, PartsTo, cleared}
 
 module _ (t : TurnOfWrite) where
@@ -54,31 +54,34 @@ module _ (t : TurnOfWrite) where
       append_is : (m : Made disk (asks.Append path more) (change_of_append (tree_of disk.state) path more)) → (s : Path) × (e.entry.change ≡ Some (Append s more))
       append_is m = let c = append_change (tree_of disk.state) path m.change more m.is in (c.0, is.change ∙ (m.made ∙ ap Some c.2))
 
-      unappended : (answer : DiskAnswer) (given : answer ≡ answer_now disk (asks.Append path more)) (past : List Exchange)
-          (asked : (x : Exchange) → Contains past x → AskedSince first events handle begun x.ask x.answer) (refusal : Refusal)
-          → answers.Done ≢ answer → TurnsMadeOnly events handle begun w.objects (Some number) → Parts t (asks.Append path more) is answer given past asked (Stage (stages.Removing number refusal))
-      unappended answer given past asked refusal undone made =
+      unappended : (stage : WriteStage) (s : Stands t stage) (answer : DiskAnswer) (given : answer ≡ answer_now disk (asks.Append path more)) (refusal : Refusal)
+          → answers.Done ≢ answer → TurnsMadeOnly events handle begun w.objects (Some number)
+          → Parts t (call_at t stage s (asks.Append path more) is answer given) (Stage (stages.Removing number refusal))
+      unappended stage s answer given refusal undone made =
           let none = undone_made disk (asks.Append path more) (change_of_append (tree_of disk.state) path more) (told_append (tree_of disk.state) path more) (λ d. undone (d ∙ sym given)) in
-          cleared t (asks.Append path more) is answer given past asked number refusal (no_rename t (asks.Append path more) is answer given none)
-          (no_file t (asks.Append path more) is answer given none) made
+          let call : CallOfTurn t = call_at t stage s (asks.Append path more) is answer given in
+          cleared t call number refusal (no_rename t call none) (no_file t call none) made
 
     -- the header
     module _ (s : Stands t (stages.Heading number)) (is : Makes t (asks.Append path (header_of w.kind w.size))) where
       abbrev header : List ℕ
       header = header_of w.kind w.size
 
+      abbrev heading_call : (answer : DiskAnswer) → answer ≡ answer_now disk (asks.Append path header) → CallOfTurn t
+      heading_call answer given = call_at t (stages.Heading number) s (asks.Append path header) is answer given
+
       unheaded : (answer : DiskAnswer) (given : answer ≡ answer_now disk (asks.Append path header)) (refusal : Refusal) → answers.Done ≢ answer
-          → Parts t (asks.Append path header) is answer given s.past s.asked (Stage (stages.Removing number refusal))
-      unheaded answer given refusal undone = unappended header is answer given s.past s.asked refusal undone s.made
+          → Parts t (heading_call answer given) (Stage (stages.Removing number refusal))
+      unheaded answer given refusal undone = unappended header is (stages.Heading number) s answer given refusal undone s.made
 
       pub heading : (answer : DiskAnswer) (given : answer ≡ answer_now disk (asks.Append path header))
-          → PartsTo t (asks.Append path header) is answer given s.past s.asked (next_write w.size 0 (stages.Heading number) answer)
+          → PartsTo t (heading_call answer given) (next_write w.size 0 (stages.Heading number) answer)
       heading answers.Done given =
           let m = append_made header is given in
           let c = append_is header is m in (
             λ renames. subst IsRename c.1 renames,
-            made_same t (asks.Append path header) is answers.Done given (Some number) (λ makes. subst IsNewFile c.1 makes) s.made,
-            subst (HoldsFile first whole handle begun path) (sym (append-nil header)) (appended_holds t (asks.Append path header) is answers.Done given path [] header m s.holds),
+            made_same t (heading_call answers.Done given) (Some number) (λ makes. subst IsNewFile c.1 makes) s.made,
+            subst (HoldsFile first whole handle begun path) (sym (append-nil header)) (appended_holds t (heading_call answers.Done given) path [] header m s.holds),
             tt,
           )
       heading (answers.Meta meta) given = unheaded (answers.Meta meta) given (refusals.Io messages.WriteHeader) (λ d. cc d)
@@ -94,12 +97,15 @@ module _ (t : TurnOfWrite) where
       abbrev piece : List ℕ
       piece = piece_at w.size w.bytes written
 
+      abbrev filling_call : (answer : DiskAnswer) → answer ≡ answer_now disk (asks.Append path piece) → CallOfTurn t
+      filling_call answer given = call_at t (stages.Filling number written) s (asks.Append path piece) is answer given
+
       abbrev FillingParts : (answer : DiskAnswer) → answer ≡ answer_now disk (asks.Append path piece) → WriteAsk → Type 0
-      FillingParts answer given wanted = PartsTo t (asks.Append path piece) is answer given s.past s.asked wanted
+      FillingParts answer given wanted = PartsTo t (filling_call answer given) wanted
 
       unfilled : (answer : DiskAnswer) (given : answer ≡ answer_now disk (asks.Append path piece)) (refusal : Refusal) → answers.Done ≢ answer
           → FillingParts answer given (wants.Disk (stages.Removing number refusal))
-      unfilled answer given refusal undone = unappended piece is answer given s.past s.asked refusal undone s.made
+      unfilled answer given refusal undone = unappended piece is (stages.Filling number written) s answer given refusal undone s.made
 
       filled : (given : answers.Done ≡ answer_now disk (asks.Append path piece)) (fits : Bool)
           → FillingParts answers.Done given (if fits then wants.Data number (written + length piece) else wants.Disk (stages.Removing number (refusals.SizeMismatch (grown written (length piece)))))
@@ -109,14 +115,14 @@ module _ (t : TurnOfWrite) where
           let grows = append_assoc (header_of w.kind w.size) (take written w.bytes) piece
           ∙ ap (λ (xs : List ℕ). header_of w.kind w.size ++ xs) (data_grown w.bytes written (room_behind w.size written) (omega (arith, next.1))) in (
             λ renames. subst IsRename c.1 renames,
-            made_same t (asks.Append path piece) is answers.Done given (Some number) (λ makes. subst IsNewFile c.1 makes) s.made,
+            made_same t (filling_call answers.Done given) (Some number) (λ makes. subst IsNewFile c.1 makes) s.made,
             subst (HoldsFile first whole handle begun path) grows
-                (appended_holds t (asks.Append path piece) is answers.Done given path (header_of w.kind w.size ++ take written w.bytes) piece m s.holds),
+                (appended_holds t (filling_call answers.Done given) path (header_of w.kind w.size ++ take written w.bytes) piece m s.holds),
             tt,
           )
       filled given false =
           let c = append_is piece is (append_made piece is given) in
-          cleared t (asks.Append path piece) is answers.Done given s.past s.asked number (refusals.SizeMismatch (grown written (length piece)))
+          cleared t (filling_call answers.Done given) number (refusals.SizeMismatch (grown written (length piece)))
           (λ renames. subst IsRename c.1 renames) (λ makes. subst IsNewFile c.1 makes) s.made
 
       pub filling : (answer : DiskAnswer) (given : answer ≡ answer_now disk (asks.Append path piece))

@@ -23,7 +23,7 @@ use Rattle.gix_odb_world.specs.Run.{change_by, disk_after}
 use Rattle.gix_odb_world.specs.Writing.{IsRename}
 use Rattle.gix_odb_world.proofs.WriteAsk.{done_made, told_new_file, undone_made}
 use Rattle.gix_odb_world.proofs.WriteKept.{each_turn_push}
-use Rattle.gix_odb_world.proofs.WriteTurn.Common.{made_same, Makes, new_holds, no_file, no_rename, Stands, TurnOfWrite}
+use Rattle.gix_odb_world.proofs.WriteTurn.Common.{CallOfTurn, Makes, Stands, TurnOfWrite, call_at, made_same, new_holds, no_file, no_rename}
 use Rattle.gix_odb_world.proofs.WriteTurn.Comes.{PartsTo}
 
 module _ (t : TurnOfWrite) where
@@ -38,8 +38,11 @@ module _ (t : TurnOfWrite) where
 
     -- the file is made, or the next name is tried
     module _ (s : Stands t (stages.Making number)) (is : Makes t (asks.NewFile path)) where
+      abbrev call : (answer : DiskAnswer) → answer ≡ answer_now disk (asks.NewFile path) → CallOfTurn t
+      call answer given = call_at t (stages.Making number) s (asks.NewFile path) is answer given
+
       abbrev MakingParts : (answer : DiskAnswer) → answer ≡ answer_now disk (asks.NewFile path) → WriteAsk → Type 0
-      MakingParts answer given wanted = PartsTo t (asks.NewFile path) is answer given s.past s.asked wanted
+      MakingParts answer given wanted = PartsTo t (call answer given) wanted
 
       untaken : answers.Done ≢ answer_now disk (asks.NewFile path) → change_by disk (asks.NewFile path) ≡ None
       untaken undone = undone_made disk (asks.NewFile path) (change_of_new_file (tree_of disk.state) path) (told_new_file (tree_of disk.state) path) undone
@@ -47,9 +50,9 @@ module _ (t : TurnOfWrite) where
       unmade : (answer : DiskAnswer) (given : answer ≡ answer_now disk (asks.NewFile path)) (refusal : Refusal) → answers.Done ≢ answer → MakingParts answer given (wants.Done (Err refusal))
       unmade answer given refusal undone =
           let none = untaken (λ d. undone (d ∙ sym given)) in (
-            no_rename t (asks.NewFile path) is answer given none,
+            no_rename t (call answer given) none,
             λ at same. each_turn_push events e handle begun _ s.untouched (λ turn. is.change ∙ none),
-            (None, made_same t (asks.NewFile path) is answer given None (no_file t (asks.NewFile path) is answer given none) s.made, inl refl),
+            (None, made_same t (call answer given) None (no_file t (call answer given) none) s.made, inl refl),
           )
 
       next_name : (given : answers.Refused disk_errors.Exists ≡ answer_now disk (asks.NewFile path)) (more : Bool)
@@ -57,8 +60,8 @@ module _ (t : TurnOfWrite) where
           (if more then wants.Disk (stages.Making (number + 1)) else wants.Done (Err (refusals.Io messages.CreateTempFile)))
       next_name given true =
           let none = untaken (λ d. cc (d, given)) in (
-            no_rename t (asks.NewFile path) is _ given none,
-            made_same t (asks.NewFile path) is _ given None (no_file t (asks.NewFile path) is _ given none) s.made,
+            no_rename t (call _ given) none,
+            made_same t (call _ given) None (no_file t (call _ given) none) s.made,
             tt,
             each_turn_push events e handle begun _ s.untouched (λ turn. is.change ∙ none),
           )
@@ -71,7 +74,7 @@ module _ (t : TurnOfWrite) where
           let change_is : e.entry.change ≡ Some (PutFile c.0 0 []) = is.change ∙ (m.made ∙ ap Some c.2) in (
             λ renames. subst IsRename change_is renames,
             each_turn_push events e handle begun _ (λ place x later there turn makes. absurd (s.made place x later there turn makes)) (λ turn makes. (next_fails disk, is.did)),
-            new_holds t (asks.NewFile path) is answers.Done given path refl refl m,
+            new_holds t (call answers.Done given) path refl refl m,
             tt,
           )
       making (answers.Refused disk_errors.Exists) given = next_name given (nat_lt (number + 1) temp_names)

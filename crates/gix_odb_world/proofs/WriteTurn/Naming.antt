@@ -22,7 +22,7 @@ use Rattle.gix_hash.specs.declared.object_id.ObjectId.{ObjectId}
 use Rattle.gix_object.specs.Loose.{header_of}
 use Rattle.gix_odb_loose.proofs.WriteDoneLaws.{IsAlong-done}
 use Rattle.gix_odb_loose.specs.LooseFile.{loose_path}
-use Rattle.gix_odb_loose.specs.WriteDone.{HasDone}
+use Rattle.gix_odb_loose.specs.WriteDone.{GetsNameOf, CountsOf, HasDone}
 use Rattle.gix_odb_loose.specs.WriteOrder.{next_write, prefix_path, refused_by, temp_path}
 use Rattle.gix_odb_loose.specs.declared.write_at_hand.Onward.TheVariants.{Stage}
 use Rattle.gix_odb_loose.specs.declared.write_order.Refusal.{Refusal}
@@ -34,12 +34,12 @@ use Rattle.gix_odb.specs.CallOrder.{hash_to_write}
 use Rattle.gix_odb_world.specs.Event.{Event}
 use Rattle.gix_odb_world.specs.Run.{change_by, disk_after, tree_at}
 use Rattle.gix_odb_world.specs.Running.Write.{job_to_write}
-use Rattle.gix_odb_world.specs.Writing.{ChangedNothing, GetsName, HasOther, IsNewFile, IsRename, head_to_write}
+use Rattle.gix_odb_world.specs.Writing.{ChangedNothing, IsNewFile, IsRename, head_to_write}
 use Rattle.gix_odb_world.specs.Written.{HasWritten}
 use Rattle.gix_odb_world.proofs.RunLemmas.{tree_at-before}
 use Rattle.gix_odb_world.proofs.WriteAsk.{change_by-all, done_made, told_make_dir, told_remove, told_rename, undone_made}
 use Rattle.gix_odb_world.proofs.WriteKept.{alone_before, asked_at_kept}
-use Rattle.gix_odb_world.proofs.WriteTurn.Common.{before_is, foldered_holds, is_tree, made_before_removal, made_same, Makes, no_file, no_rename, now_changed, own, same_holds, Stands, TurnOfWrite}
+use Rattle.gix_odb_world.proofs.WriteTurn.Common.{CallOfTurn, Makes, Stands, TurnOfWrite, before_is, call_at, foldered_holds, is_tree, made_before_removal, made_same, no_file, no_rename, now_changed, own, same_holds}
 use Rattle.gix_odb_world.proofs.WriteTurn.Comes.{PartsTo, cleared}
 
 module _ (t : TurnOfWrite) where
@@ -64,8 +64,11 @@ module _ (t : TurnOfWrite) where
 
       -- the directory of the object
       module _ (s : Stands t (stages.Foldering number id)) (is : Makes t (asks.MakeDir folder)) where
+        abbrev foldering_call : (answer : DiskAnswer) → answer ≡ answer_now disk (asks.MakeDir folder) → CallOfTurn t
+        foldering_call answer given = call_at t (stages.Foldering number id) s (asks.MakeDir folder) is answer given
+
         abbrev FolderingParts : (answer : DiskAnswer) → answer ≡ answer_now disk (asks.MakeDir folder) → WriteAsk → Type 0
-        FolderingParts answer given wanted = PartsTo t (asks.MakeDir folder) is answer given s.past s.asked wanted
+        FolderingParts answer given wanted = PartsTo t (foldering_call answer given) wanted
 
         unfolded : answers.Done ≢ answer_now disk (asks.MakeDir folder) → change_by disk (asks.MakeDir folder) ≡ None
         unfolded undone = undone_made disk (asks.MakeDir folder) (change_of_make_dir (tree_of disk.state) folder) (told_make_dir (tree_of disk.state) folder) undone
@@ -74,8 +77,8 @@ module _ (t : TurnOfWrite) where
             → FolderingParts answer given (wants.Disk (stages.Removing number refusal))
         unfoldered answer given refusal undone =
             let none = unfolded (λ d. undone (d ∙ sym given)) in
-            cleared t (asks.MakeDir folder) is answer given s.past s.asked number refusal (no_rename t (asks.MakeDir folder) is answer given none)
-            (no_file t (asks.MakeDir folder) is answer given none) s.made
+            cleared t (foldering_call answer given) number refusal (no_rename t (foldering_call answer given) none)
+            (no_file t (foldering_call answer given) none) s.made
 
         pub foldering : (answer : DiskAnswer) (given : answer ≡ answer_now disk (asks.MakeDir folder)) → FolderingParts answer given (next_write w.size 0 (stages.Foldering number id) answer)
         foldering answers.Done given =
@@ -83,15 +86,15 @@ module _ (t : TurnOfWrite) where
             let c = make_dir_change (tree_of disk.state) folder m.change m.is in
             let change_is : e.entry.change ≡ Some (MakeDir c.0 _) = is.change ∙ (m.made ∙ ap Some c.2) in (
               λ renames. subst IsRename change_is renames,
-              made_same t (asks.MakeDir folder) is answers.Done given (Some number) (λ makes. subst IsNewFile change_is makes) s.made,
-              foldered_holds t (asks.MakeDir folder) is answers.Done given path folder (header_of w.kind w.size ++ w.bytes) m s.holds,
+              made_same t (foldering_call answers.Done given) (Some number) (λ makes. subst IsNewFile change_is makes) s.made,
+              foldered_holds t (foldering_call answers.Done given) path folder (header_of w.kind w.size ++ w.bytes) m s.holds,
               tt,
             )
         foldering (answers.Refused disk_errors.Exists) given =
             let none = unfolded (λ d. cc (d, given)) in (
-              no_rename t (asks.MakeDir folder) is _ given none,
-              made_same t (asks.MakeDir folder) is _ given (Some number) (no_file t (asks.MakeDir folder) is _ given none) s.made,
-              same_holds t (asks.MakeDir folder) is _ given path (header_of w.kind w.size ++ w.bytes) none s.holds,
+              no_rename t (foldering_call _ given) none,
+              made_same t (foldering_call _ given) (Some number) (no_file t (foldering_call _ given) none) s.made,
+              same_holds t (foldering_call _ given) path (header_of w.kind w.size ++ w.bytes) none s.holds,
               tt,
             )
         foldering (answers.Meta meta) given = unfoldered (answers.Meta meta) given refusals.IoRaw (λ d. cc d)
@@ -111,8 +114,11 @@ module _ (t : TurnOfWrite) where
       name_path = loose_path w.objects id
 
       module _ (s : Stands t (stages.Moving number id)) (is : Makes t (asks.Rename path name_path)) where
+        abbrev moving_call : (answer : DiskAnswer) → answer ≡ answer_now disk (asks.Rename path name_path) → CallOfTurn t
+        moving_call answer given = call_at t (stages.Moving number id) s (asks.Rename path name_path) is answer given
+
         abbrev MovingParts : (answer : DiskAnswer) → answer ≡ answer_now disk (asks.Rename path name_path) → WriteAsk → Type 0
-        MovingParts answer given wanted = PartsTo t (asks.Rename path name_path) is answer given s.past s.asked wanted
+        MovingParts answer given wanted = PartsTo t (moving_call answer given) wanted
 
         abbrev has_done : HasDone (job_to_write w) (stages.Moving number id) s.past
         has_done = IsAlong-done (head_to_write w) (hash_to_write w.known) w.known w.bytes (Stage (stages.Moving number id)) s.past s.along
@@ -122,8 +128,8 @@ module _ (t : TurnOfWrite) where
         unmoved answer given refusal undone =
             let none = undone_made disk (asks.Rename path name_path) (change_of_rename (tree_of disk.state) path name_path) (told_rename (tree_of disk.state) path name_path)
             (λ d. undone (d ∙ sym given)) in
-            cleared t (asks.Rename path name_path) is answer given s.past s.asked number refusal (no_rename t (asks.Rename path name_path) is answer given none)
-            (no_file t (asks.Rename path name_path) is answer given none) s.made
+            cleared t (moving_call answer given) number refusal (no_rename t (moving_call answer given) none)
+            (no_file t (moving_call answer given) none) s.made
 
         moved : (given : answers.Done ≡ answer_now disk (asks.Rename path name_path)) → HasWritten first whole handle begun w id
         moved given =
@@ -150,13 +156,13 @@ module _ (t : TurnOfWrite) where
               only = s.unnamed;
               reads = λ alone free.
                   let has = h.holds (alone_before first events e handle path (h.made + 1) (length events) (omega arith) alone) in
-                  let f = moves_file before (is_tree t ask is answers.Done given) path has.0 (header_of w.kind w.size ++ w.bytes) 0 has.1 name_path m.change done in
+                  let f = moves_file before (is_tree t (moving_call answers.Done given)) path has.0 (header_of w.kind w.size ++ w.bytes) 0 has.1 name_path m.change done in
                   let both : Rename has.0 f.0 ≡ Rename c.0 c.1 = sym f.2 ∙ c.4 in
                   let target : f.0 ≡ c.1 = cc both in
                   let free_here : crosses before name_path f.0 ≡ false = subst (λ t. crosses t name_path f.0 ≡ false) (sym there)
                   (subst (λ p. crosses (tree_at first whole (length events)) name_path p ≡ false) (sym target) free) in
-                  let reads = moved_reads before (is_tree t ask is answers.Done given) path has.0 (header_of w.kind w.size ++ w.bytes) 0 has.1 name_path f.0 (done ∙ ap Ok f.2) free_here in
-                  subst (λ t. read_of t name_path ≡ Ok (header_of w.kind w.size ++ w.bytes, 0)) (sym (now_changed t ask is answers.Done given m.change m.made))
+                  let reads = moved_reads before (is_tree t (moving_call answers.Done given)) path has.0 (header_of w.kind w.size ++ w.bytes) 0 has.1 name_path f.0 (done ∙ ap Ok f.2) free_here in
+                  subst (λ t. read_of t name_path ≡ Ok (header_of w.kind w.size ++ w.bytes, 0)) (sym (now_changed t (moving_call answers.Done given) m.change m.made))
                   (subst (λ d. read_of (changed before d) name_path ≡ Ok (header_of w.kind w.size ++ w.bytes, 0)) (sym f.2) reads);
             }
 
@@ -171,20 +177,21 @@ module _ (t : TurnOfWrite) where
 
     -- the removal
     pub removing : (refusal : Refusal) (s : Stands t (stages.Removing number refusal)) (is : Makes t (asks.Remove path)) (answer : DiskAnswer) (given : answer ≡ answer_now disk (asks.Remove path))
-        → PartsTo t (asks.Remove path) is answer given s.past s.asked (wants.Done (Err refusal))
+        → PartsTo t (call_at t (stages.Removing number refusal) s (asks.Remove path) is answer given) (wants.Done (Err refusal))
     removing refusal s is answer given =
+        let call : CallOfTurn t = call_at t (stages.Removing number refusal) s (asks.Remove path) is answer given in
         let never : (P : Option Change → Type 0) → P None → ((s' : Path) → P (Some (Remove s'))) → P e.entry.change =
         λ P none some.
         subst P (sym is.change)
         (change_by-all disk (asks.Remove path) (change_of_remove (tree_of disk.state) path) (told_remove (tree_of disk.state) path) P none
         (λ change told. let c = remove_change (tree_of disk.state) path change told in subst (λ d. P (Some d)) (sym c.2) (some c.0))) in (
           never (λ c. ¬ (IsRename c)) (λ r. r) (λ s' r. r),
-          λ at same. made_before_removal (head_to_write w) (GetsName w) (HasOther w) number refusal s.past at
+          λ at same. made_before_removal (head_to_write w) (GetsNameOf (job_to_write w)) (CountsOf (job_to_write w)) number refusal s.past at
               (IsAlong-done (head_to_write w) (hash_to_write w.known) w.known w.bytes (Stage (stages.Removing number refusal)) s.past s.along).history same
               (ChangedNothing whole handle begun),
           (
             Some number,
-            made_same t (asks.Remove path) is answer given (Some number) (never (λ c. ¬ (IsNewFile c)) (λ r. r) (λ s' r. r)) s.made,
-            inr (number, length events, refl, length_push events e, (answer, own t (asks.Remove path) is answer given)),
+            made_same t call (Some number) (never (λ c. ¬ (IsNewFile c)) (λ r. r) (λ s' r. r)) s.made,
+            inr (number, length events, refl, length_push events e, (answer, own t call)),
           ),
         )
