@@ -48,3 +48,21 @@ module _ {A : Type 0} where
   trashed (Loaded file) = Garbage file
   trashed (Garbage file) = Garbage file
   trashed Missing = Missing
+
+  -- a file is stored where none is loaded
+  abbrev pub stored : A → FileState A → FileState A
+  stored file Unloaded = Loaded file
+  stored file (Loaded old) = Loaded old
+  stored file (Garbage old) = Garbage old
+  stored file Missing = Loaded file
+
+  -- a file that was passed over is missing where it wasn't loaded
+  abbrev pub passed : FileState A → FileState A
+  passed Unloaded = Missing
+  passed (Loaded file) = Loaded file
+  passed (Garbage file) = Garbage file
+  passed Missing = Missing
+
+  -- a file in the state that a change of states gives it
+  abbrev pub with_state : (FileState A → FileState A) → OnDiskFile A → OnDiskFile A
+  with_state change file = file_at file.path (change file.state)

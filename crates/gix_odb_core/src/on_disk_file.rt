@@ -1,10 +1,10 @@
 //! A file of a slot: its path, and whether it is loaded.
-ghost use Rattle.std.specs.Prelude.{◌≡◌};
+ghost use Rattle.std.specs.Prelude.{◌≡◌, IfOk};
 ghost use Rattle.std.specs.Option.{option_copied};
-ghost use Rattle.gix_odb_core.specs.OnDiskFile.{file_at, file_path, file_state, is_disposable, is_loaded, loaded, put_back, trashed};
+ghost use Rattle.gix_odb_core.specs.OnDiskFile.{file_at, file_path, file_state, is_disposable, is_loaded, loaded, put_back, trashed, with_state};
 
 use crate::Shared;
-use odb_base::PathText;
+use odb_base::{NoMemory, PathText};
 
 /// Whether a file is loaded, and whether a listing still has it.
 #[derive(Drop)]
@@ -39,6 +39,13 @@ impl<T> OnDiskFile<T> {
         ensures path { result.now ≡ file_path self.now }
     {
         self.path.value()
+    }
+
+    /// Its path, which has one owner more.
+    pub(crate) fn shared_path(&self) -> Result<Shared<PathText>, NoMemory>
+        ensures path { IfOk result (λ path. path ≡ file_path self.now) }
+    {
+        self.path.try_clone()
     }
 
     /// Whether its bytes are at hand.
@@ -88,5 +95,47 @@ impl<T: Drop> OnDiskFile<T> {
             FileState::Loaded(file) => FileState::Garbage(file),
             other => other,
         };
+    }
+}
+
+impl<F: Drop> FileState<Shared<F>> {
+    /// The same state, of which what was read has one owner more.
+    fn try_clone(&self) -> Result<FileState<Shared<F>>, NoMemory>
+        ensures copy { IfOk result (λ copy. copy ≡ self.now) }
+    {
+        match self {
+            FileState::Unloaded => Ok(FileState::Unloaded),
+            FileState::Loaded(file) => Ok(FileState::Loaded(file.try_clone()?)),
+            FileState::Garbage(file) => Ok(FileState::Garbage(file.try_clone()?)),
+            FileState::Missing => Ok(FileState::Missing),
+        }
+    }
+}
+
+impl<F: Drop> OnDiskFile<Shared<F>> {
+    /// A copy of the file of a slot, which shares its path and what was read.
+    pub(crate) fn try_clone(&self) -> Result<OnDiskFile<Shared<F>>, NoMemory>
+        ensures copy { IfOk result (λ copy. copy ≡ self.now) }
+    {
+        let path = self.path.try_clone()?;
+        Ok(OnDiskFile::new(path, self.state.try_clone()?))
+    }
+
+    /// A copy that is put back.
+    pub(crate) fn copy_put_back(&self) -> Result<OnDiskFile<Shared<F>>, NoMemory>
+        ensures put_back { IfOk result (λ copy. copy ≡ with_state put_back self.now) }
+    {
+        let mut copy = self.try_clone()?;
+        copy.put_back();
+        Ok(copy)
+    }
+
+    /// A copy that is trashed.
+    pub(crate) fn copy_trashed(&self) -> Result<OnDiskFile<Shared<F>>, NoMemory>
+        ensures trashed { IfOk result (λ copy. copy ≡ with_state trashed self.now) }
+    {
+        let mut copy = self.try_clone()?;
+        copy.trash();
+        Ok(copy)
     }
 }

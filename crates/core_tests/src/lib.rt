@@ -1,0 +1,43 @@
+//! What no clause of the core of a store says: that events get through, the worked rows, and that a plain second model tells the same.
+//!
+//! Each test is a table. A row is an event in words, and behind a bar what is to come of it; `events` and `shown` say which words there are.
+#![tactic(auto)]
+
+#[cfg(test)]
+mod apart;
+#[cfg(test)]
+mod events;
+#[cfg(test)]
+mod file_states;
+#[cfg(test)]
+mod files;
+#[cfg(test)]
+mod generator;
+#[cfg(test)]
+mod made_up;
+#[cfg(test)]
+mod model;
+#[cfg(test)]
+mod model_rows;
+#[cfg(test)]
+mod model_shown;
+#[cfg(test)]
+mod pack_ids;
+#[cfg(test)]
+mod plan;
+#[cfg(test)]
+mod played;
+#[cfg(test)]
+mod refusals;
+#[cfg(test)]
+mod reports;
+#[cfg(test)]
+mod rows;
+#[cfg(test)]
+mod shown;
+#[cfg(test)]
+mod table;
+#[cfg(test)]
+mod text;
+#[cfg(test)]
+mod words;

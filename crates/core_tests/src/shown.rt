@@ -1,0 +1,196 @@
+//! Answers, views, reports and entries as text.
+//!
+//! A view is `#ENTRY LIST GENERATION.STATE`, with `unread` behind it where no listing was published, then in brackets the
+//! listed indices that are loaded, those of other slots, and what is still to be loaded. An index is `SLOT:PATH`, with
+//! `=COUNT` for a single one and `*COUNT` for a multi-pack index of so many objects, and its packs behind it: `-` is
+//! unloaded, `!` missing, `=COUNT` loaded and `~COUNT` garbage.
+use crate::events::{put_event, word_of_why};
+use crate::text::Text;
+use gix_odb_core::{
+    Core, Effect, Entry, Listed, LoadedIndex, Metrics, OnDiskFile, Passed, Refusal, Report, Shared,
+    SnapshotIndex, Todo, View,
+};
+use gix_pack::data;
+use std::alloc::Global;
+use std::test::Fail;
+
+/// An answer as text.
+pub fn answer_shown(alloc: Global, answer: &Result<Effect, Refusal>) -> Result<String, Fail> {
+    let mut text = Text::new(alloc);
+    put_answer(&mut text, answer);
+    text.done()
+}
+
+fn put_answer(text: &mut Text, answer: &Result<Effect, Refusal>) {
+    match answer {
+        Ok(effect) => put_effect(text, effect),
+        Err(refusal) => put_refusal(text, *refusal),
+    }
+}
+
+fn put_effect(text: &mut Text, effect: &Effect) {
+    match effect {
+        Effect::Seen(view) => put_view(text, "seen #", view),
+        Effect::Reported { view, report } => put_reported(text, view, report),
+        Effect::Removed => text.put("removed"),
+        Effect::Put { view, stored } => {
+            put_view(text, if *stored { "stored #" } else { "left #" }, view);
+        }
+        Effect::Published(view) => put_view(text, "published #", view),
+        Effect::Unchanged(view) => put_view(text, "unchanged #", view),
+        Effect::Outdated { list_no } => text.marked("outdated ", *list_no),
+    }
+}
+
+fn put_refusal(text: &mut Text, refusal: Refusal) {
+    match refusal {
+        Refusal::InsufficientSlots { current, needed } => {
+            text.marked("insufficient ", current as u64);
+            text.marked(" ", needed as u64);
+        }
+        Refusal::GenerationOverflow => text.put("overflow"),
+        Refusal::NoMemory => text.put("memory"),
+    }
+}
+
+/// Puts a word and a view behind a text.
+fn put_view(text: &mut Text, word: &str, view: &View) {
+    put_numbers(text, word, view);
+    text.put(" [");
+    put_indices(text, view.snapshot.indices.value().as_slice());
+    text.put("] [");
+    put_indices(text, view.snapshot.kept.value().as_slice());
+    text.put("] [");
+    put_todo(text, view.todo.value().as_slice());
+    text.put("]");
+}
+
+fn put_numbers(text: &mut Text, word: &str, view: &View) {
+    text.marked(word, view.snapshot.entry);
+    text.marked(" ", view.list_no);
+    text.marked(" ", u64::from(view.snapshot.marker.generation));
+    text.marked(".", view.snapshot.marker.state_id);
+    if !view.read {
+        text.put(" unread");
+    }
+}
+
+fn put_indices(text: &mut Text, indices: &[SnapshotIndex]) {
+    for index in indices {
+        text.comma();
+        text.number(u64::from(index.slot));
+        text.path(":", index.path.value());
+        put_loaded(text, &index.index);
+        put_packs(text, index.packs.value().as_slice());
+    }
+}
+
+fn put_loaded(text: &mut Text, index: &LoadedIndex) {
+    match index {
+        LoadedIndex::Single(file) => text.marked("=", u64::from(file.value().num_objects())),
+        LoadedIndex::Multi(file) => text.marked("*", u64::from(file.value().num_objects())),
+    }
+}
+
+fn put_packs(text: &mut Text, packs: &[OnDiskFile<Shared<data::File>>]) {
+    for pack in packs {
+        text.path(" ", pack.path());
+        put_state(text, pack);
+    }
+}
+
+fn put_state(text: &mut Text, pack: &OnDiskFile<Shared<data::File>>) {
+    match pack.loaded() {
+        None => text.put(if pack.is_disposable() { "!" } else { "-" }),
+        Some(file) => {
+            let mark = if pack.is_disposable() { "~" } else { "=" };
+            text.marked(mark, u64::from(file.value().num_objects()));
+        }
+    }
+}
+
+fn put_todo(text: &mut Text, todo: &[Todo]) {
+    for todo in todo {
+        text.comma();
+        text.number(u64::from(todo.slot));
+        text.path(":", todo.path.value());
+    }
+}
+
+/// A report behind a view: the counts, the listed slots, with `*` for multi-pack indices, `=` for loaded ones and `!`
+/// for those with a file that is garbage or missing, and the files that were passed over.
+fn put_reported(text: &mut Text, view: &View, report: &Report) {
+    put_view(text, "reported #", view);
+    put_metrics(text, &report.metrics);
+    text.put(" [");
+    put_listed(text, report.listed.value().as_slice());
+    text.put("] [");
+    put_passed(text, report.passed_over.value().as_slice());
+    text.put("]");
+}
+
+/// Puts counts behind a text, in the order of the fields.
+fn put_metrics(text: &mut Text, metrics: &Metrics) {
+    text.marked(" ", metrics.num_handles as u64);
+    text.marked(" ", metrics.num_refreshes as u64);
+    text.marked(" ", metrics.open_reachable_indices as u64);
+    text.marked(" ", metrics.known_reachable_indices as u64);
+    text.marked(" ", metrics.open_reachable_packs as u64);
+    text.marked(" ", metrics.known_packs as u64);
+    text.marked(" ", metrics.unused_slots as u64);
+    text.marked(" ", metrics.unreachable_indices as u64);
+    text.marked(" ", metrics.unreachable_packs as u64);
+    text.marked(" ", metrics.loose_dbs as u64);
+}
+
+fn put_listed(text: &mut Text, listed: &[Listed]) {
+    for row in listed {
+        text.comma();
+        text.path("", row.path.value());
+        text.put(if row.multi { "*" } else { "" });
+        text.put(if row.loaded { "=" } else { "" });
+        text.put(if row.disposable { "!" } else { "" });
+    }
+}
+
+fn put_passed(text: &mut Text, passed: &[Passed]) {
+    for file in passed {
+        text.comma();
+        text.path("", file.path.value());
+        text.put(" ");
+        text.put(word_of_why(file.why));
+    }
+}
+
+/// An entry of a journal: its number, its event and its answer.
+fn put_entry(text: &mut Text, entry: &Entry) {
+    text.number(entry.number);
+    put_event(text, entry.seat, &entry.event);
+    text.put(": ");
+    put_answer(text, &entry.answer);
+}
+
+/// The entry of a journal at a place, counted from 0.
+pub fn entry_shown(alloc: Global, core: &Core, place: usize) -> Result<String, Fail> {
+    let mut text = Text::new(alloc);
+    match core.journal().get(place) {
+        Some(entry) => put_entry(&mut text, entry),
+        None => text.put("none"),
+    }
+    text.done()
+}
+
+/// What a core shows now, and the counts over it.
+pub fn present_shown(alloc: Global, core: &Core) -> Result<String, Fail> {
+    let mut text = Text::new(alloc);
+    put_view(&mut text, "#", core.look());
+    put_metrics(&mut text, &core.metrics());
+    text.done()
+}
+
+/// Counts as text.
+pub fn metrics_shown(alloc: Global, metrics: &Metrics) -> Result<String, Fail> {
+    let mut text = Text::new(alloc);
+    put_metrics(&mut text, metrics);
+    text.done()
+}

@@ -1,0 +1,20 @@
+//! Rows of words, and what is compared.
+use std::test::Fail;
+
+/// The first word of a text and what stands behind it, which is empty where there is one word alone.
+pub fn cut(text: &str) -> (&str, &str) {
+    text.split_once(' ').unwrap_or((text, ""))
+}
+
+/// The event of a row, and what is to come of it.
+pub fn halves(row: &str) -> (&str, &str) {
+    row.split_once(" | ").unwrap_or((row, ""))
+}
+
+/// Fails where a row gives something else than is wanted.
+pub fn compare(row: &str, found: &str, want: &str) -> Result<(), Fail> {
+    if found == want {
+        return Ok(());
+    }
+    Err(Fail::new(format_args!("{row}: {found} in place of {want}")))
+}

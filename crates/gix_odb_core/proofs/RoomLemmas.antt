@@ -1,0 +1,95 @@
+-- A listing that there is room for, and the counters that rise with it.
+use Rattle.std.proofs.Common.{◌≡◌, ◌≢◌, ℕ, ◌+◌, ◌-◌, ◌<◌, ◌≤◌, ◌^◌, Bool, true, false, cond, not, ◌==◌, ◌||◌, ◌&&◌, nat_lt, All, List, [], ◌∷◌, length, get_or, map, take, refl, sym, ap, subst, ◌∙◌, is_some, arith, eq-eqb}
+use Rattle.std.specs.List.{list_any, zip}
+use Rattle.std.proofs.lemmas.Bool.{le-ltb}
+use Rattle.std.proofs.lemmas.List.{take_all, take_more}
+use Rattle.std.proofs.lemmas.List.Elements.{All-push}
+use Rattle.gix_odb_core.proofs.SlotsAfterLemmas.{length-slots_after}
+use Rattle.gix_odb_core.specs.Handles.{is_any_stable}
+use Rattle.gix_odb_core.specs.Publish.{free_places, list_after, new_rows, settled, slot_at, slots_after, with_taken}
+use Rattle.gix_odb_core.specs.Counts.{IsFewPacks}
+use Rattle.gix_odb_core.specs.Slots.{Slot, new_filled}
+use Rattle.gix_odb_core.specs.Steps.{Outdated, TooFew, publishing, last_generation, last_state, settled_as, takes_over, with_room, would_overflow}
+use Rattle.gix_odb_core.specs.declared.listing.Listing.{Listing}
+use Rattle.gix_odb_core.specs.declared.listing.ListingRow.{ListingRow}
+use Rattle.gix_odb_core.specs.declared.shape.Shape.{Shape}
+
+-- ---- counters that can rise
+
+neither : (a b : Bool) → (a || b) ≡ false → (a ≡ false) × (b ≡ false)
+neither true b h = absurd cc
+neither false b h = (refl, h)
+
+apart : (n m : ℕ) → (n == m) ≡ false → n ≢ m
+apart n m differ same = let yes : (n == m) ≡ true = eq-eqb n m same in absurd cc
+
+module _ (shape : Shape) (renewed : Bool) (rises : would_overflow shape false renewed ≡ false) where
+  pub state_rises : shape.state_id ≢ 18446744073709551615
+  state_rises = apart shape.state_id last_state (neither (shape.state_id == last_state) (renewed && shape.generation == last_generation) rises).0
+
+  pub generation_rises : shape.generation < 2 ^ 32 → shape.generation + cond renewed 1 0 < 2 ^ 32
+  generation_rises small = by renewed (neither (shape.state_id == last_state) (renewed && shape.generation == last_generation) rises).1
+    where
+      by : (b : Bool) → (b && shape.generation == last_generation) ≡ false → shape.generation + cond b 1 0 < 2 ^ 32
+      by true h = let other : shape.generation ≢ 4294967295 = apart shape.generation last_generation h in omega arith
+      by false h = omega arith
+
+-- ---- which slots are taken over
+
+any-zip : {B : Type 0} (p : ℕ → Bool) (xs : List ℕ) (ys : List B) → list_any (λ (pair : ℕ × B). p pair.0) (zip xs ys) ≡ list_any p (take (length ys) xs)
+any-zip p [] [] = refl
+any-zip p [] (y ∷ ys) = refl
+any-zip p (x ∷ xs) [] = refl
+any-zip p (x ∷ xs) (y ∷ ys) = ap (λ (b : Bool). p x || b) (any-zip p xs ys)
+
+module _ (shape : Shape) (rows : List ListingRow) (stable : Bool) (free : List ℕ) (after : List Slot)
+    (stable_is : stable ≡ is_any_stable shape.handles) (free_is : free ≡ free_places stable rows shape.slots shape.list)
+    (after_is : after ≡ with_taken (zip free (new_rows shape.slots rows)) (map (settled stable rows) shape.slots))
+  where
+    slots_are : after ≡ slots_after (is_any_stable shape.handles) rows shape.slots shape.list
+    slots_are =
+        after_is
+        ∙ ap (λ (places : List ℕ). with_taken (zip places (new_rows shape.slots rows)) (map (settled stable rows) shape.slots)) free_is
+        ∙ ap (λ (s : Bool). slots_after s rows shape.slots shape.list) stable_is
+
+    pub length-after : length after ≡ length shape.slots
+    length-after = ap (length {A = Slot}) slots_are ∙ length-slots_after (is_any_stable shape.handles) rows shape.slots shape.list
+
+    pub with_room-from : (news : ℕ) (list : List ℕ) (renewed : Bool) → length (new_rows shape.slots rows) ≡ news
+        → renewed ≡ list_any (λ place. is_some (slot_at shape.slots place)) (take news free) → list ≡ list_after rows after
+        → settled_as shape rows after list renewed ≡ with_room shape rows
+    with_room-from news list renewed new over places =
+        let seats = free_places (is_any_stable shape.handles) rows shape.slots shape.list in
+        let free_are : free ≡ seats = free_is ∙ ap (λ (s : Bool). free_places s rows shape.slots shape.list) stable_is in
+        let renews : renewed ≡ takes_over shape.slots (zip seats (new_rows shape.slots rows)) =
+        over
+        ∙ ap (λ (n : ℕ). list_any (λ place. is_some (slot_at shape.slots place)) (take n free)) (sym new)
+        ∙ sym (any-zip (λ place. is_some (slot_at shape.slots place)) free (new_rows shape.slots rows))
+        ∙ ap (λ (l : List ℕ). takes_over shape.slots (zip l (new_rows shape.slots rows))) free_are in
+        ap (λ (l : List ℕ). settled_as shape rows after l renewed) places
+        ∙ ap (λ (s : List Slot). settled_as shape rows s (list_after rows s) renewed) slots_are
+        ∙ ap (λ (b : Bool). settled_as shape rows (slots_after (is_any_stable shape.handles) rows shape.slots shape.list)
+        (list_after rows (slots_after (is_any_stable shape.handles) rows shape.slots shape.list)) b) renews
+
+-- ---- a listing that there is room for is published so
+
+pub publishing-roomy : (shape : Shape) (listing : Listing) → listing.base ≡ shape.list_no
+    → length (new_rows shape.slots listing.rows) ≤ length (free_places (is_any_stable shape.handles) listing.rows shape.slots shape.list)
+    → with_room shape listing.rows ≡ publishing shape listing
+publishing-roomy shape listing base room =
+    let free = length (free_places (is_any_stable shape.handles) listing.rows shape.slots shape.list) in
+    let news = length (new_rows shape.slots listing.rows) in
+    ap (λ (b : Bool). cond b (TooFew (news - free)) (with_room shape listing.rows)) (sym (le-ltb free news room))
+    ∙ ap (λ (b : Bool). cond (not b) Outdated (cond (nat_lt free news) (TooFew (news - free)) (with_room shape listing.rows))) (sym (eq-eqb listing.base shape.list_no base))
+
+-- ---- a row more has few packs
+
+pub few_rows-step : (rows : List ListingRow) (i : ℕ) (row : ListingRow) (n : ℕ) → i < length rows → row ≡ get_or rows i row → n ≡ length (new_filled row).packs → n < 4294967296
+    → All (λ r. IsFewPacks (new_filled r)) (take i rows) → All (λ r. IsFewPacks (new_filled r)) (take (i + 1) rows)
+few_rows-step rows i row n within is count small so_far =
+    let one : IsFewPacks (new_filled row) = omega (arith, count, small) in
+    subst (All (λ (r : ListingRow). IsFewPacks (new_filled r))) (sym (take_more rows i row within))
+    (All-push (λ (r : ListingRow). IsFewPacks (new_filled r)) (take i rows) (get_or rows i row) so_far (subst (λ (r : ListingRow). IsFewPacks (new_filled r)) is one))
+
+pub few_rows-end : (rows : List ListingRow) (i : ℕ) → length rows ≤ i → All (λ r. IsFewPacks (new_filled r)) (take i rows) → All (λ r. IsFewPacks (new_filled r)) rows
+few_rows-end rows i past so_far = subst (All (λ (r : ListingRow). IsFewPacks (new_filled r))) (take_all i rows past) so_far

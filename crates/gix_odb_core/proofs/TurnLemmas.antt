@@ -1,0 +1,136 @@
+-- What an event comes to is what it makes of a shape, and what it answers.
+use Rattle.std.proofs.Common.{◌≡◌, ℕ, ◌+◌, Bool, true, false, cond, ◌==◌, List, Option, Some, None, Ok, Err, refl, ◌∙◌, set}
+use Rattle.gix_odb_core.proofs.PublishingRule.{publishing_rule}
+use Rattle.gix_odb_core.specs.Publish.{slot_at}
+use Rattle.gix_odb_core.specs.Replay.{Answer, answer_of, publish_answer, put_answer}
+use Rattle.gix_odb_core.specs.Shelf.{settled_by, shelf_of}
+use Rattle.gix_odb_core.specs.State.{view_behind}
+use Rattle.gix_odb_core.specs.Steps.{Publishing, Outdated, TooFew, Overflows, Unchanged, Published, after, last_state, publishing, shape_published, shape_stored, slot_with_index, slot_with_pack}
+use Rattle.gix_odb_core.specs.Turn.{answer_with, changes_to, handles_after, publish_turn, put_turn, quiet, turn_of}
+use Rattle.gix_odb_core.specs.Views.{view_of}
+use Rattle.gix_odb_core.specs.declared.event.Effect.TheVariants as effects
+use Rattle.gix_odb_core.specs.declared.event.Event.{Event}
+use Rattle.gix_odb_core.specs.declared.event.Event.TheVariants as event
+use Rattle.gix_odb_core.specs.declared.event.Refusal.TheVariants as refusals
+use Rattle.gix_odb_core.specs.declared.journal.Entry.{Entry}
+use Rattle.gix_odb_core.specs.declared.listing.Listing.{Listing}
+use Rattle.gix_odb_core.specs.declared.shape.Shape.{Shape}
+use Rattle.gix_odb_core.specs.declared.shape.Shelf.{Shelf}
+use Rattle.gix_odb_core.specs.declared.slot.Filled.{Filled}
+use Rattle.gix_odb_core.specs.declared.turn.Told.TheVariants as told
+use Rattle.gix_odb_core.specs.declared.turn.Turn.{Turn}
+
+-- ---- a file that is stored
+
+pub put_turn-after : (shape : Shape) (slot : ℕ) (filled : Option Filled) → settled_by shape (put_turn shape slot filled).shelf ≡ shape_stored shape slot filled
+put_turn-after shape slot None = refl
+put_turn-after shape slot (Some filled) = by (shape.state_id == last_state)
+  where
+    by : (b : Bool) → settled_by shape (Turn.shelf (cond b (quiet (told.Refused refusals.GenerationOverflow))
+        (changes_to (record (shelf_of shape) { slots = set shape.slots slot (Some filled); state_id = shape.state_id + 1 }) (told.Put true))))
+        ≡ cond b shape (record shape { slots = set shape.slots slot (Some filled); state_id = shape.state_id + 1 })
+    by true = refl
+    by false = refl
+
+pub put_turn-answer : (shape now : Shape) (slot number : ℕ) (filled : Option Filled) → put_answer shape now number filled ≡ answer_with (put_turn shape slot filled).told (view_of now number)
+put_turn-answer shape now slot number None = refl
+put_turn-answer shape now slot number (Some filled) = by (shape.state_id == last_state)
+  where
+    by : (b : Bool) → ◌≡◌ {A = Answer} (cond b (Err refusals.GenerationOverflow) (Ok (effects.Put (view_of now number) true)))
+        (answer_with (Turn.told (cond b (quiet (told.Refused refusals.GenerationOverflow))
+        (changes_to (record (shelf_of shape) { slots = set shape.slots slot (Some filled); state_id = shape.state_id + 1 }) (told.Put true)))) (view_of now number))
+    by true = refl
+    by false = refl
+
+-- ---- a listing that is published
+
+pub publish_turn-after : (shape : Shape) (listing : Listing) → settled_by shape (publish_turn shape (publishing shape listing)).shelf ≡ shape_published shape (publishing shape listing)
+publish_turn-after shape listing =
+    publishing_rule (λ (p : Publishing). settled_by shape (publish_turn shape p).shelf ≡ shape_published shape p) shape listing refl (λ base short. refl)
+    (λ confirmed renewed over. refl) refl (λ renewed. refl)
+
+pub publish_turn-answer : (shape : Shape) (number : ℕ) (publishing : Publishing) → publish_answer shape number publishing ≡ answer_with (publish_turn shape publishing).told
+    (view_of (shape_published shape publishing) number)
+publish_turn-answer shape number Outdated = refl
+publish_turn-answer shape number (TooFew needed) = refl
+publish_turn-answer shape number Overflows = refl
+publish_turn-answer shape number (Unchanged now) = refl
+publish_turn-answer shape number (Published now) = refl
+
+-- ---- the whole
+
+-- what a turn leaves of the slots leaves the handles
+kept-settled : (shape : Shape) (shelf : Option Shelf) → ◌≡◌ {A = Shape} (record (settled_by shape shelf) { handles = shape.handles }) (settled_by shape shelf)
+kept-settled shape None = refl
+kept-settled shape (Some shelf) = refl
+
+-- the handles don't matter to it
+pub settled-handles : (shape : Shape) (handles : List (ℕ × Bool)) (shelf : Option Shelf)
+    → ◌≡◌ {A = Shape} (settled_by (record shape { handles = handles }) shelf) (record (settled_by shape shelf) { handles = handles })
+settled-handles shape handles None = refl
+settled-handles shape handles (Some shelf) = refl
+
+put_keeps : (shape : Shape) (slot : ℕ) (filled : Option Filled) → ◌≡◌ {A = Shape} (record (settled_by shape (put_turn shape slot filled).shelf) { handles = shape.handles })
+    (shape_stored shape slot filled)
+put_keeps shape slot filled = kept-settled shape (put_turn shape slot filled).shelf ∙ put_turn-after shape slot filled
+
+pub after-turn : (entries : List Entry) (shape : Shape) (seat : ℕ) (happens : Event)
+    → ◌≡◌ {A = Shape} (record (settled_by shape (turn_of entries shape happens).shelf) { handles = handles_after shape.handles seat happens }) (after shape seat happens)
+after-turn entries shape seat (event.Register stable) = refl
+after-turn entries shape seat event.Upgrade = refl
+after-turn entries shape seat event.Remove = refl
+after-turn entries shape seat event.Look = refl
+after-turn entries shape seat event.Report = refl
+after-turn entries shape seat (event.PutIndex slot path file) = put_keeps shape slot (slot_with_index path file (slot_at shape.slots slot))
+after-turn entries shape seat (event.PutPack pack path file) = put_keeps shape pack.index (slot_with_pack path file (slot_at shape.slots pack.index))
+after-turn entries shape seat (event.PassOver slot path why) = refl
+after-turn entries shape seat (event.Publish listing) = kept-settled shape (publish_turn shape (publishing shape listing)).shelf ∙ publish_turn-after shape listing
+
+pub answer-turn : (entries : List Entry) (shape : Shape) (number seat : ℕ) (happens : Event)
+    → answer_of entries shape number seat happens ≡ answer_with (turn_of entries shape happens).told (view_of (after shape seat happens) number)
+answer-turn entries shape number seat (event.Register stable) = refl
+answer-turn entries shape number seat event.Upgrade = refl
+answer-turn entries shape number seat event.Remove = refl
+answer-turn entries shape number seat event.Look = refl
+answer-turn entries shape number seat event.Report = refl
+answer-turn entries shape number seat (event.PutIndex slot path file) =
+    put_turn-answer shape (after shape seat (event.PutIndex slot path file)) slot number (slot_with_index path file (slot_at shape.slots slot))
+answer-turn entries shape number seat (event.PutPack pack path file) =
+    put_turn-answer shape (after shape seat (event.PutPack pack path file)) pack.index number (slot_with_pack path file (slot_at shape.slots pack.index))
+answer-turn entries shape number seat (event.PassOver slot path why) = refl
+answer-turn entries shape number seat (event.Publish listing) = publish_turn-answer shape number (publishing shape listing)
+
+-- what is shown behind a turn is what the shape shows then
+pub view_behind-turn : (shape : Shape) (shelf : Option Shelf) (entry number : ℕ) → view_behind (view_of shape entry) shelf number ≡ view_of (settled_by shape shelf) number
+view_behind-turn shape None entry number = refl
+view_behind-turn shape (Some shelf) entry number = refl
+
+-- ---- no event answers want of memory by itself
+
+no_memory-put : (shape now : Shape) (number : ℕ) (filled : Option Filled) → ¬ (put_answer shape now number filled ≡ Err refusals.NoMemory)
+no_memory-put shape now number None h = cc
+no_memory-put shape now number (Some filled) h = by (shape.state_id == last_state) h
+  where
+    by : (b : Bool) → ¬ (◌≡◌ {A = Answer} (cond b (Err refusals.GenerationOverflow) (Ok (effects.Put (view_of now number) true))) (Err refusals.NoMemory))
+    by true h = cc
+    by false h = cc
+
+no_memory-publish : (shape : Shape) (number : ℕ) (publishing : Publishing) → ¬ (publish_answer shape number publishing ≡ Err refusals.NoMemory)
+no_memory-publish shape number Outdated h = cc
+no_memory-publish shape number (TooFew needed) h = cc
+no_memory-publish shape number Overflows h = cc
+no_memory-publish shape number (Unchanged now) h = cc
+no_memory-publish shape number (Published now) h = cc
+
+pub no_memory-answer : (entries : List Entry) (shape : Shape) (number seat : ℕ) (happens : Event) → ¬ (answer_of entries shape number seat happens ≡ Err refusals.NoMemory)
+no_memory-answer entries shape number seat (event.Register stable) h = cc
+no_memory-answer entries shape number seat event.Upgrade h = cc
+no_memory-answer entries shape number seat event.Remove h = cc
+no_memory-answer entries shape number seat event.Look h = cc
+no_memory-answer entries shape number seat event.Report h = cc
+no_memory-answer entries shape number seat (event.PutIndex slot path file) h =
+    no_memory-put shape (after shape seat (event.PutIndex slot path file)) number (slot_with_index path file (slot_at shape.slots slot)) h
+no_memory-answer entries shape number seat (event.PutPack pack path file) h =
+    no_memory-put shape (after shape seat (event.PutPack pack path file)) number (slot_with_pack path file (slot_at shape.slots pack.index)) h
+no_memory-answer entries shape number seat (event.PassOver slot path why) h = cc
+no_memory-answer entries shape number seat (event.Publish listing) h = no_memory-publish shape number (publishing shape listing) h

@@ -1,0 +1,17 @@
+use Rattle.std.proofs.Common.{◌≡◌, ℕ, IfOk, length, ap, subst, ◌∙◌, arith}
+use Rattle.gix_odb_core.proofs.RoomLemmas.{publishing-roomy}
+use Rattle.gix_odb_core.specs.Steps.{Publishing, with_room}
+use Rattle.gix_odb_core.specs.Turn.{publish_turn}
+use Rattle.gix_odb_core.proofs.shape.Shape.publish.Goals as goal
+
+pub returns-clause-turn : goal.returns-clause-turn
+returns-clause-turn c =
+    let rows = c.as_slice-rows.ensures.value in
+    let slots = c.as_slice-slots.ensures.value in
+    let list = c.as_slice-2.ensures.value in
+    let stable = c.is_any_stable-stable.ensures.stable in
+    let count = rw (slots, rows) at c.count_new-news.ensures.count in
+    let free = rw (stable, rows, slots, list) at c.in_ok-free.ensures.free in
+    let roomy = publishing-roomy c.args.self.now c.args.listing.now c.if-listing-self.false
+    (omega (arith, count, ap (length {A = ℕ}) free, c.if-len-news.false, c.len.ensures, c.deref.ensures.len, ap (length {A = ℕ}) c.deref.ensures.value)) in
+    subst (λ (p : Publishing). IfOk c.publish_with_room.result (λ turn. turn ≡ publish_turn c.args.self.now p)) (ap (with_room c.args.self.now) rows ∙ roomy) c.publish_with_room.ensures.turn

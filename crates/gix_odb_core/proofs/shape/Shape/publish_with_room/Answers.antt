@@ -1,0 +1,30 @@
+use Rattle.std.proofs.Common.{◌≡◌, List, length, map, ap, ◌∙◌, arith}
+use Rattle.std.specs.List.{zip}
+use Rattle.gix_odb_core.proofs.RoomLemmas.{length-after, with_room-from}
+use Rattle.gix_odb_core.specs.Publish.{list_after, new_rows, settled, with_taken}
+use Rattle.gix_odb_core.specs.Slots.{Slot}
+use Rattle.gix_odb_core.specs.Turn.{publish_turn}
+use Rattle.gix_odb_core.proofs.shape.Shape.publish_with_room.Goals as goal
+
+pub list_after-requires : goal.list_after-requires
+list_after-requires c =
+    let slots = c.as_slice-slots.ensures.value in
+    let after : c.in_ok-after.after ≡ with_taken (zip c.args.free.now (new_rows c.args.self.now.slots c.args.rows.now)) (map (settled c.args.stable c.args.rows.now) c.args.self.now.slots) =
+    c.in_ok-after.ensures.slots ∙ ap (λ (s : List Slot). with_taken (zip c.args.free.now (new_rows s c.args.rows.now)) (map (settled c.args.stable c.args.rows.now) s)) slots in
+    let long = length-after c.args.self.now c.args.rows.now c.args.stable c.args.free.now c.in_ok-after.after c.requires.stable c.requires.free after in
+    record { few = omega (arith, c.requires.few, long, ap (length {A = Slot}) c.as_slice.ensures.value) }
+
+pub returns : goal.returns
+returns c =
+    let slots = c.as_slice-slots.ensures.value in
+    let after : c.in_ok-after.after ≡ with_taken (zip c.args.free.now (new_rows c.args.self.now.slots c.args.rows.now)) (map (settled c.args.stable c.args.rows.now) c.args.self.now.slots) =
+    c.in_ok-after.ensures.slots ∙ ap (λ (s : List Slot). with_taken (zip c.args.free.now (new_rows s c.args.rows.now)) (map (settled c.args.stable c.args.rows.now) s)) slots in
+    let list : c.in_ok-list.list ≡ list_after c.args.rows.now c.in_ok-after.after = c.in_ok-list.ensures.list ∙ ap (list_after c.args.rows.now) c.as_slice.ensures.value in
+    let renewed = rw slots at c.takes_over-renewed.ensures.over in
+    record {
+      turn =
+          c.settled_as.ensures.turn
+          ∙ ap (publish_turn c.args.self.now)
+          (with_room-from c.args.self.now c.args.rows.now c.args.stable c.args.free.now c.in_ok-after.after
+          c.requires.stable c.requires.free after c.args.news c.in_ok-list.list c.takes_over-renewed.result c.requires.news renewed list);
+    }

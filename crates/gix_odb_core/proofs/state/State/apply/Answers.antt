@@ -1,0 +1,31 @@
+use Rattle.std.proofs.Common.{length, sym, ap, subst, ◌∙◌, arith}
+use Rattle.gix_odb_core.proofs.CoreLemmas.{never_refused-other}
+use Rattle.gix_odb_core.proofs.StateLemmas.{removed-next, settled-next}
+use Rattle.gix_odb_core.proofs.TurnLemmas.{no_memory-answer}
+use Rattle.gix_odb_core.specs.Replay.{Answer, CanHappen, number_behind}
+use Rattle.gix_odb_core.specs.State.{IsNextState, entries_in}
+use Rattle.gix_odb_core.specs.declared.event.Event.{Event}
+use Rattle.gix_odb_core.specs.declared.event.Event.TheVariants as event
+use Rattle.gix_odb_core.specs.declared.journal.Entry.{Entry}
+use Rattle.gix_odb_core.proofs.state.State.apply.Goals as goal
+
+pub returns-in-Remove-clause-next : goal.returns-in-Remove-clause-next
+returns-in-Remove-clause-next c = λ some.
+    let can = subst (λ (e : Event). CanHappen c.args.self.now.shape c.args.seat e) c.in-Remove.is c.requires.can_happen in
+    let next = removed-next c.args.self.now c.remove.new.self c.args.seat c.requires.kept can c.remove.ensures.removed c.remove.ensures.entries c.remove.ensures.handles c.remove.ensures.capacity in
+    subst (λ (e : Event). IsNextState c.args.self.now c.args.seat e c.remove.result c.remove.new.self) (sym c.in-Remove.is)
+    (subst (λ (a : Answer). IsNextState c.args.self.now c.args.seat event.Remove a c.remove.new.self) (sym c.remove.ensures.answer) next)
+
+pub returns : goal.returns
+returns c =
+    let plan = c.in_ok-plan.ensures in
+    let next =
+    settled-next c.args.self.now c.prepare.new.self c.settle.new.self c.args.seat c.args.event c.in_ok-plan.plan c.requires.kept c.requires.can_happen plan.few_packs plan.plan plan.noted plan.entries
+    c.settle.ensures.settled c.settle.ensures.entries (omega (arith, plan.room, plan.handles, c.settle.ensures.capacity, ap (length {A = Entry}) plan.entries)) in
+    record {
+      memory = λ lacks.
+          absurd (no_memory-answer (entries_in c.args.self.now) c.args.self.now.shape (number_behind (entries_in c.args.self.now)) c.args.seat c.args.event
+          (sym next.answer ∙ sym c.settle.ensures.answer ∙ lacks));
+      next = λ some. subst (λ (a : Answer). IsNextState c.args.self.now c.args.seat c.args.event a c.settle.new.self) (sym c.settle.ensures.answer) next;
+      never_refused = never_refused-other c.args.event c.settle.result c.in_default.not-Remove;
+    }

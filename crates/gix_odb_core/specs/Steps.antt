@@ -1,0 +1,123 @@
+-- What an event makes of a shape, and what it answers.
+pub mod Files
+use Rattle.std.specs.Prelude.{ℕ, ◌+◌, ◌-◌, Bool, true, false, ◌&&◌, ◌||◌, ◌==◌, not, List, [], length, replicate, ◌≤◌, Option, Some, None, is_some, nat_lt, slice_set, if◌then◌else◌}
+use Rattle.std.specs.List.{AllPass, filter_map, list_any}
+use Rattle.gix_odb_core.specs.Handles.{is_any_stable, with_seat, without_seat}
+use Rattle.gix_odb_core.specs.OnDiskFile.{is_loaded}
+use Rattle.gix_odb_core.specs.Publish.{free_places, list_after, new_rows, same_list, slot_at, slots_after, taken}
+use Rattle.gix_odb_core.specs.Slots.{IsApart, Slot}
+use Rattle.gix_odb_core.specs.declared.event.Event.{Event}
+use Rattle.gix_odb_core.specs.declared.event.Event.TheVariants as event
+use Rattle.gix_odb_core.specs.declared.listing.Listing.{Listing}
+use Rattle.gix_odb_core.specs.declared.listing.ListingRow.{ListingRow}
+use Rattle.gix_odb_core.specs.declared.shape.Shape.{Shape}
+use Rattle.gix_odb_core.specs.declared.slot.Filled.{Filled}
+use Rattle.gix_odb_core.specs.declared.slot.IndexFile.{IndexFile}
+use Rattle.gix_odb_core.specs.declared.slot.IndexFile.TheVariants.{Single, Multi}
+pub use Rattle.gix_odb_core.specs.Steps.Files.{index_passed, index_with, passed_at, slot_passed, slot_with_index, slot_with_pack, stored_at, takes, with_index}
+
+-- the shape of a core that was just made: all slots are empty, and nothing was read
+abbrev pub opening_shape : ℕ → ℕ → ℕ → ℕ → Shape
+opening_shape slots folders generation state =
+    record { folders = folders; slots = replicate slots None; list = []; read = false; list_no = 0; generation = generation; state_id = state; handles = [] }
+
+-- ---- the answer to a listing
+
+-- the greatest numbers of the generation, and of the state
+abbrev pub last_generation : ℕ
+last_generation = 4294967295
+
+abbrev pub last_state : ℕ
+last_state = 18446744073709551615
+
+-- what publishing a listing comes to
+pub data Publishing : Type 0 where
+  Outdated : Publishing
+  TooFew : (needed : ℕ) → Publishing
+  Overflows : Publishing
+  Unchanged : Shape → Publishing
+  Published : Shape → Publishing
+
+-- whether a slot is taken over that held something
+abbrev pub takes_over : List Slot → List (ℕ × ListingRow) → Bool
+takes_over slots pairs = list_any (λ pair. is_some (slot_at slots pair.0)) pairs
+
+-- the list is as it was, and no slot was newly taken
+abbrev pub is_confirmed : Shape → List ListingRow → List ℕ → Bool
+is_confirmed shape rows list = shape.read && same_list list shape.list && length (new_rows shape.slots rows) == 0
+
+-- whether a counter that would have to rise stands at its greatest value
+abbrev pub would_overflow : Shape → (confirmed renewed : Bool) → Bool
+would_overflow shape confirmed renewed = (not confirmed && shape.state_id == last_state) || (renewed && shape.generation == last_generation)
+
+-- the shape with a new list
+abbrev pub with_list : Shape → List Slot → List ℕ → (renewed : Bool) → Shape
+with_list shape slots list renewed =
+    record shape {
+      slots = slots;
+      list = list;
+      read = true;
+      list_no = shape.list_no + 1;
+      state_id = shape.state_id + 1;
+      generation = shape.generation + (if renewed then 1 else 0);
+    }
+
+-- a listing that there is room for: its slots and its list, and whether a slot was taken over
+abbrev pub settled_as : Shape → List ListingRow → List Slot → List ℕ → (renewed : Bool) → Publishing
+settled_as shape rows slots list renewed =
+    if would_overflow shape (is_confirmed shape rows list) renewed then Overflows
+    else if is_confirmed shape rows list then Unchanged (record shape { slots = slots })
+    else Published (with_list shape slots list renewed)
+
+abbrev pub with_room : Shape → List ListingRow → Publishing
+with_room shape rows =
+    let stable = is_any_stable shape.handles in
+    let slots = slots_after stable rows shape.slots shape.list in
+    settled_as shape rows slots (list_after rows slots) (takes_over shape.slots (taken stable rows shape.slots shape.list))
+
+-- the listing began before the newest list; or more rows are new than slots are free
+abbrev pub publishing : Shape → Listing → Publishing
+publishing shape listing =
+    let free = free_places (is_any_stable shape.handles) listing.rows shape.slots shape.list in
+    let news = new_rows shape.slots listing.rows in
+    if not (listing.base == shape.list_no) then Outdated
+    else if nat_lt (length free) (length news) then TooFew (length news - length free)
+    else with_room shape listing.rows
+
+abbrev pub shape_published : Shape → Publishing → Shape
+shape_published shape (Unchanged after) = after
+shape_published shape (Published after) = after
+shape_published shape publishing = shape
+
+-- ---- what an event makes of a shape
+
+-- a file is stored in a slot, where it is, and the state number rises; at its greatest value nothing happens
+abbrev pub shape_stored : Shape → ℕ → Option Filled → Shape
+shape_stored shape slot None = shape
+shape_stored shape slot (Some filled) =
+    if shape.state_id == last_state then shape else record shape { slots = slice_set shape.slots slot (Some filled); state_id = shape.state_id + 1 }
+
+abbrev pub after : Shape → (seat : ℕ) → Event → Shape
+after shape seat (event.Register stable) = record shape { handles = with_seat shape.handles seat stable }
+after shape seat event.Upgrade = record shape { handles = with_seat shape.handles seat true }
+after shape seat event.Remove = record shape { handles = without_seat shape.handles seat }
+after shape seat event.Look = shape
+after shape seat event.Report = shape
+after shape seat (event.PutIndex slot path file) = shape_stored shape slot (slot_with_index path file (slot_at shape.slots slot))
+after shape seat (event.PutPack pack path file) = shape_stored shape pack.index (slot_with_pack path file (slot_at shape.slots pack.index))
+after shape seat (event.PassOver slot path why) = record shape { slots = slice_set shape.slots slot (slot_passed path (slot_at shape.slots slot)) }
+after shape seat (event.Publish listing) = shape_published shape (publishing shape listing)
+
+-- ---- what holds of every shape that events come to
+
+abbrev pub is_read : IndexFile → Bool
+is_read (Single file) = true
+is_read (Multi file) = is_loaded file.state
+
+pub record IsShape (shape : Shape) : Type 0 where
+  -- no two slots hold the same single index, or the same multi-index of one time
+  pub apart : IsApart shape.slots
+  -- the list is one of filled slots
+  pub listed : AllPass (λ place. is_some (slot_at shape.slots place)) shape.list
+  pub multis : AllPass (λ filled. is_read filled.index) (filter_map (λ slot. slot) shape.slots)
+  pub numbered : shape.list_no ≤ shape.state_id

@@ -1,0 +1,70 @@
+-- What an event comes to, apart from the handles and before the view that it hands over. No public clause cites this.
+use Rattle.std.specs.Prelude.{ℕ, ◌+◌, ◌==◌, true, false, List, length, Option, Some, None, Ok, Err, slice_set, if◌then◌else◌}
+use Rattle.gix_odb_core.specs.Handles.{Handles, with_seat, without_seat}
+use Rattle.gix_odb_core.specs.Publish.{slot_at}
+use Rattle.gix_odb_core.specs.Replay.{Answer, report_of}
+use Rattle.gix_odb_core.specs.Shelf.{shelf_of}
+use Rattle.gix_odb_core.specs.Steps.{Publishing, Outdated, TooFew, Overflows, Unchanged, Published, last_state, publishing, slot_passed, slot_with_index, slot_with_pack}
+use Rattle.gix_odb_core.specs.declared.event.Effect.TheVariants as effects
+use Rattle.gix_odb_core.specs.declared.event.Event.{Event}
+use Rattle.gix_odb_core.specs.declared.event.Event.TheVariants as event
+use Rattle.gix_odb_core.specs.declared.event.Refusal.TheVariants as refusals
+use Rattle.gix_odb_core.specs.declared.journal.Entry.{Entry}
+use Rattle.gix_odb_core.specs.declared.shape.Shape.{Shape}
+use Rattle.gix_odb_core.specs.declared.shape.Shelf.{Shelf}
+use Rattle.gix_odb_core.specs.declared.slot.Filled.{Filled}
+use Rattle.gix_odb_core.specs.declared.turn.Told.{Told}
+use Rattle.gix_odb_core.specs.declared.turn.Told.TheVariants as told
+use Rattle.gix_odb_core.specs.declared.turn.Turn.{Turn}
+use Rattle.gix_odb_core.specs.declared.view.View.{View}
+
+-- an answer, with the view that it hands over
+abbrev pub answer_with : Told → View → Answer
+answer_with told.Seen view = Ok (effects.Seen view)
+answer_with (told.Reported report) view = Ok (effects.Reported view report)
+answer_with told.Removed view = Ok effects.Removed
+answer_with (told.Put stored) view = Ok (effects.Put view stored)
+answer_with told.Published view = Ok (effects.Published view)
+answer_with told.Unchanged view = Ok (effects.Unchanged view)
+answer_with (told.Outdated list_no) view = Ok (effects.Outdated list_no)
+answer_with (told.Refused refusal) view = Err refusal
+
+abbrev pub quiet : Told → Turn
+quiet told = record { shelf = None; told = told }
+
+abbrev pub changes_to : Shelf → Told → Turn
+changes_to shelf told = record { shelf = Some shelf; told = told }
+
+-- the handles after an event
+abbrev pub handles_after : Handles → ℕ → Event → Handles
+handles_after handles seat (event.Register stable) = with_seat handles seat stable
+handles_after handles seat event.Upgrade = with_seat handles seat true
+handles_after handles seat event.Remove = without_seat handles seat
+handles_after handles seat other = handles
+
+-- ---- turns
+
+abbrev pub put_turn : Shape → (slot : ℕ) → Option Filled → Turn
+put_turn shape slot None = quiet (told.Put false)
+put_turn shape slot (Some filled) =
+    if shape.state_id == last_state then quiet (told.Refused refusals.GenerationOverflow)
+    else changes_to (record (shelf_of shape) { slots = slice_set shape.slots slot (Some filled); state_id = shape.state_id + 1 }) (told.Put true)
+
+abbrev pub publish_turn : Shape → Publishing → Turn
+publish_turn shape Outdated = quiet (told.Outdated shape.list_no)
+publish_turn shape (TooFew needed) = quiet (told.Refused (refusals.InsufficientSlots (length shape.slots) needed))
+publish_turn shape Overflows = quiet (told.Refused refusals.GenerationOverflow)
+publish_turn shape (Unchanged now) = changes_to (shelf_of now) told.Unchanged
+publish_turn shape (Published now) = changes_to (shelf_of now) told.Published
+
+abbrev pub turn_of : List Entry → Shape → Event → Turn
+turn_of entries shape (event.Register stable) = quiet told.Seen
+turn_of entries shape event.Upgrade = quiet told.Seen
+turn_of entries shape event.Remove = quiet told.Removed
+turn_of entries shape event.Look = quiet told.Seen
+turn_of entries shape event.Report = quiet (told.Reported (report_of shape entries))
+turn_of entries shape (event.PutIndex slot path file) = put_turn shape slot (slot_with_index path file (slot_at shape.slots slot))
+turn_of entries shape (event.PutPack pack path file) = put_turn shape pack.index (slot_with_pack path file (slot_at shape.slots pack.index))
+turn_of entries shape (event.PassOver slot path why) =
+    changes_to (record (shelf_of shape) { slots = slice_set shape.slots slot (slot_passed path (slot_at shape.slots slot)) }) told.Seen
+turn_of entries shape (event.Publish listing) = publish_turn shape (publishing shape listing)

@@ -1,0 +1,128 @@
+//! The core of a store: its state, and the journal of what happened to it.
+use crate::event::{Effect, Event, Refusal};
+use crate::journal::Journal;
+use crate::metrics::Metrics;
+use crate::state::State;
+use crate::view::View;
+use odb_base::NoMemory;
+use std::alloc::Global;
+use std::marker::Model;
+
+/// What a core was made with.
+#[derive(Clone, Copy)]
+struct Opening {
+    slots: u16,
+    folders: usize,
+    generation: u32,
+    state: u64,
+}
+
+/// The core of a store, which contracts see as its history: the shape that it was made with, and the entries of its journal.
+///
+/// It reads no disk and waits for nobody. Its present shape is what the journal replays to.
+#[derive(Drop)]
+pub struct Core {
+    opening: Opening,
+    state: State,
+}
+
+impl Model for Core {
+    ghost use Rattle.gix_odb_core.specs.History.{History};
+
+    ghost Value = { History };
+
+    ghost use Rattle.gix_odb_core.specs.Core.{IsCore, history_of};
+
+    ghost view = { history_of };
+
+    ghost invariant = { IsCore };
+}
+
+impl Core {
+    ghost use Rattle.std.specs.Prelude.{◌≡◌, ℕ, ◌≤◌, ◌⊎◌, IfOk, OnErr};
+    ghost use Rattle.gix_odb_core.specs.Causes.{HasTooFewSlots, StandsAtLast};
+    ghost use Rattle.gix_odb_core.specs.History.{opened, present};
+    ghost use Rattle.gix_odb_core.specs.Journal.{entries_of};
+    ghost use Rattle.gix_odb_core.specs.Metrics.{metrics_of};
+    ghost use Rattle.gix_odb_core.specs.Possible.{IsOpened, IsPossible};
+    ghost use Rattle.gix_odb_core.specs.Replay.{Appends, CanHappen, IsLegal, IsNeverRefused, answer_of, number_behind, refreshes_in};
+    ghost use Rattle.gix_odb_core.specs.State.{newest};
+    ghost use Rattle.gix_odb_core.specs.Steps.{IsShape, after};
+    ghost use Rattle.gix_odb_core.specs.Views.{view_of};
+
+    /// A core with so many empty slots, of a store with so many folders.
+    pub fn new(alloc: Global, slots: u16, folders: usize) -> Result<Core, NoMemory>
+        requires few { slots ≤ 32767 }
+        ensures opened { IfOk result (λ core. core ≡ opened slots folders 0 0) }
+    {
+        Core::at_counts(alloc, slots, folders, 0, 0)
+    }
+
+    /// A core whose generation and state number begin here.
+    pub fn at_counts(
+        alloc: Global,
+        slots: u16,
+        folders: usize,
+        generation: u32,
+        state: u64,
+    ) -> Result<Core, NoMemory>
+        requires few { slots ≤ 32767 }
+        ensures opened { IfOk result (λ core. core ≡ opened slots folders generation state) }
+    {
+        let opening = Opening {
+            slots,
+            folders,
+            generation,
+            state,
+        };
+        Ok(Core {
+            opening,
+            state: State::opening(alloc, slots, folders, generation, state)?,
+        })
+    }
+
+    /// Takes an event of a handle in, and answers it.
+    pub fn apply(&mut self, alloc: Global, seat: u32, event: Event) -> Result<Effect, Refusal>
+        requires can_happen { CanHappen (present self.old) seat event }
+        ensures opening { self.new.opening ≡ self.old.opening }
+        ensures answer { (result ≡ Err Refusal.NoMemory) ⊎ (result ≡ answer_of self.old.entries (present self.old) (number_behind self.old.entries) seat event) }
+        ensures replayed { ¬ (result ≡ Err Refusal.NoMemory) → present self.new ≡ after (present self.old) seat event }
+        ensures appended { ¬ (result ≡ Err Refusal.NoMemory) → Appends self.old.opening self.old.entries self.new.entries seat event result }
+
+        // A refused event leaves slots, list, counters and handles alone. Want of memory leaves the journal too.
+        ensures refused { OnErr result (present self.new ≡ present self.old) }
+        ensures memory { result ≡ Err Refusal.NoMemory → self.new ≡ self.old }
+        ensures never_refused { IsNeverRefused event result }
+
+        // Why it is refused.
+        ensures too_few { (current needed : ℕ) → result ≡ Err (Refusal.InsufficientSlots current needed) → HasTooFewSlots (present self.old) event current needed }
+        ensures at_last { result ≡ Err Refusal.GenerationOverflow → StandsAtLast (present self.old) }
+    {
+        self.state.apply(alloc, seat, event)
+    }
+
+    /// What it shows now, handed over with the newest entry.
+    pub fn look(&self) -> &View
+        ensures view { result.now ≡ view_of (present self.now) (newest self.now.entries) }
+        ensures shape { IsShape (present self.now) }
+    {
+        &self.state.view
+    }
+
+    /// What happened to it. It is legal, and each event could happen when it came.
+    pub fn journal(&self) -> &Journal
+        ensures entries { entries_of result.now ≡ self.now.entries }
+        ensures legal { IsLegal self.now.opening self.now.entries }
+        ensures opened { IsOpened self.now.opening }
+        ensures possible { IsPossible self.now.opening self.now.entries }
+    {
+        &self.state.journal
+    }
+
+    /// The counts over it.
+    pub fn metrics(&self) -> Metrics
+        ensures metrics { result ≡ metrics_of (present self.now) (refreshes_in self.now.entries) }
+    {
+        self.state.shape.metrics(self.state.refreshes)
+    }
+}

@@ -1,0 +1,103 @@
+//! What happens to a core, and what it answers.
+ghost use Rattle.std.specs.Prelude.{◌≡◌};
+ghost use Rattle.gix_odb_core.specs.declared.event.Refusal.TheVariants.{NoMemory as out_of_memory};
+
+use crate::listing::Listing;
+use crate::metrics::Report;
+use crate::view::View;
+use crate::{PackId, Shared};
+use gix_pack::{data, index};
+use odb_base::{NoMemory, PathText};
+use thiserror::Error;
+
+/// Why a file was passed over.
+#[derive(Clone, Copy, Debug, PartialEq, Eq)]
+pub enum PassWhy {
+    /// Nothing was at its path.
+    Absent,
+    /// The call of the disk failed.
+    Failed,
+    /// Something else than a file was there.
+    WrongKind,
+    /// Too many links led on.
+    LinkLoop,
+    /// The bytes are no index, or no pack.
+    Bad,
+}
+
+/// What happens to a core, by a handle that has a seat.
+#[derive(Drop)]
+pub enum Event {
+    /// The handle begins.
+    Register {
+        stable: bool,
+    },
+    /// The handle is stable from now on.
+    Upgrade,
+    /// The handle ends.
+    Remove,
+    /// The handle takes a view.
+    Look,
+    /// The handle asks for a report.
+    Report,
+    /// An index was read.
+    PutIndex {
+        slot: u16,
+        path: PathText,
+        file: Shared<index::File>,
+    },
+    /// A pack was read.
+    PutPack {
+        pack: PackId,
+        path: PathText,
+        file: Shared<data::File>,
+    },
+    /// A file could not be read.
+    PassOver {
+        slot: u16,
+        path: PathText,
+        why: PassWhy,
+    },
+    /// The folders were listed.
+    Publish(Listing),
+}
+
+/// What an event answers.
+#[derive(Drop)]
+pub enum Effect {
+    /// The view.
+    Seen(View),
+    /// The report, beside the view.
+    Reported { view: View, report: Report },
+    /// The handle is gone.
+    Removed,
+    /// Whether the file was stored, beside the view.
+    Put { view: View, stored: bool },
+    /// There is a new list.
+    Published(View),
+    /// The list is as it was.
+    Unchanged(View),
+    /// Another list was published since the listing began.
+    Outdated { list_no: u64 },
+}
+
+/// Why an event was refused.
+#[derive(Clone, Copy, Debug, Error)]
+pub enum Refusal {
+    /// More rows are new than slots are free.
+    #[error("{current} slots are too few: {needed} more are needed")]
+    InsufficientSlots { current: usize, needed: usize },
+    /// A counter stands at its greatest value, and would have to rise.
+    #[error("the generation or the state number cannot rise any more")]
+    GenerationOverflow,
+    #[error("out of memory")]
+    NoMemory,
+}
+
+impl From<NoMemory> for Refusal {
+    ghost from_gives = { λ _ e. e ≡ out_of_memory };
+
+    fn from(_: NoMemory) -> Refusal {
+        Refusal::NoMemory
+    }
+}

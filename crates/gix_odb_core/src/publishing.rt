@@ -1,0 +1,224 @@
+//! What a listing that is published comes to.
+ghost use Rattle.std.specs.Prelude.{◌≡◌, ◌≤◌, ◌<◌, true, false, All, IfOk, is_some, length, map, take, if◌then◌else◌};
+ghost use Rattle.std.specs.List.{list_any, zip};
+ghost use Rattle.gix_odb_core.specs.Handles.{is_any_stable as any_stable};
+ghost use Rattle.gix_odb_core.specs.Publish.{free_places, new_rows, same_list, settled as settled_slot, slot_at, with_taken};
+ghost use Rattle.gix_odb_core.specs.Counts.{IsFewPacks};
+ghost use Rattle.gix_odb_core.specs.Shelf.{shelf_of};
+ghost use Rattle.gix_odb_core.specs.Slots.{new_filled};
+ghost use Rattle.gix_odb_core.specs.Steps.{is_confirmed, publishing, settled_as, with_list, with_room, would_overflow};
+ghost use Rattle.gix_odb_core.specs.Turn.{publish_turn};
+
+use crate::event::Refusal;
+use crate::listing::{Listing, ListingRow};
+use crate::publish::{all_settled, count_new, free_places, list_after, take};
+use crate::shape::{Shape, Shelf};
+use crate::slot::{Slot, SlotList};
+use crate::turn::{Told, Turn};
+use odb_base::{NoMemory, Sequence};
+use std::alloc::Global;
+
+/// How many packs a slot has that a row takes: one, or as many as its multi-pack index names.
+fn count_packs(row: &ListingRow) -> u32
+    ensures packs { result ≡ length (new_filled row.now).packs }
+{
+    match &row.multi {
+        None => 1,
+        Some(file) => file.value().num_indices(),
+    }
+}
+
+/// The most packs of a row. It is a number of 32 bits, on which the counts over a core rest.
+fn most_packs(rows: &[ListingRow]) -> u32
+    ensures few { All (λ row. IsFewPacks (new_filled row)) rows.now }
+{
+    let mut most = 0;
+    for row in rows {
+        most = count_packs(row).max(most);
+    }
+    most
+}
+
+/// Whether a slot holds something.
+fn is_filled(slots: &[Slot], place: usize) -> bool
+    ensures filled { result ≡ is_some (slot_at slots.now place) }
+{
+    match slots.get(place) {
+        Some(slot) => slot.is_some(),
+        None => false,
+    }
+}
+
+/// Whether one of these slots holds something.
+fn is_any_filled(slots: &[Slot], places: &[usize]) -> bool
+    ensures filled { result ≡ list_any (λ place. is_some (slot_at slots.now place)) places.now }
+{
+    for place in places {
+        if is_filled(slots, *place) {
+            return true;
+        }
+    }
+    false
+}
+
+/// Whether one of so many free slots, the first of them, holds something.
+fn takes_over(slots: &[Slot], free: &[usize], news: usize) -> bool
+    requires room { news ≤ length free.now }
+    ensures over { result ≡ list_any (λ place. is_some (slot_at slots.now place)) (take news free.now) }
+{
+    is_any_filled(slots, &free[..news])
+}
+
+/// By how much the generation rises.
+fn risen(renewed: bool) -> u32
+    ensures risen { result ≡ (if renewed then 1 else 0) }
+{
+    if renewed { 1 } else { 0 }
+}
+
+/// The slots after a listing that there is room for.
+fn slots_after(
+    alloc: Global,
+    stable: bool,
+    rows: &[ListingRow],
+    slots: &[Slot],
+    free: &[usize],
+) -> Result<SlotList, NoMemory>
+    requires within { All (λ place. place < length slots.now) free.now }
+    ensures slots { IfOk result (λ after. after ≡ with_taken (zip free.now (new_rows slots.now rows.now)) (map (settled_slot stable rows.now) slots.now)) }
+{
+    let mut after = all_settled(alloc, stable, rows, slots)?;
+    take(alloc, &mut after, free, rows, slots)?;
+    Ok(Sequence::from_vec(after))
+}
+
+impl Shape {
+    /// Whether the list is as it was, and no slot was newly taken.
+    fn is_confirmed(&self, rows: &[ListingRow], list: &Sequence<u16>) -> bool
+        ensures confirmed { result ≡ is_confirmed self.now rows.now list.now }
+    {
+        self.read && *list == self.list && count_new(rows, self.slots.as_slice()) == 0
+    }
+
+    /// Whether a counter that would have to rise stands at its greatest value.
+    fn would_overflow(&self, confirmed: bool, renewed: bool) -> bool
+        ensures overflows { result ≡ would_overflow self.now confirmed renewed }
+    {
+        (!confirmed && self.state_id == u64::MAX) || (renewed && self.generation == u32::MAX)
+    }
+
+    /// The shape with a new list.
+    fn with_list(&self, slots: SlotList, list: Sequence<u16>, renewed: bool) -> Shelf
+        requires numbered { self.now.list_no ≤ self.now.state_id }
+        requires rises { would_overflow self.now false renewed ≡ false }
+        ensures shelf { result ≡ shelf_of (with_list self.now slots list renewed) }
+    {
+        let generation = self.generation;
+        let state_id = self.state_id;
+        Shelf {
+            slots,
+            list,
+            read: true,
+            list_no: self.list_no + 1,
+            generation: generation + risen(renewed),
+            state_id: state_id + 1,
+        }
+    }
+
+    /// The shape with the list that it has.
+    fn with_same_list(&self, slots: SlotList, list: Sequence<u16>) -> Shelf
+        requires same { same_list list self.now.list ≡ true }
+        ensures shelf { result ≡ shelf_of (record self.now { slots = slots }) }
+    {
+        Shelf {
+            slots,
+            list,
+            read: self.read,
+            list_no: self.list_no,
+            generation: self.generation,
+            state_id: self.state_id,
+        }
+    }
+
+    /// What a listing comes to that there is room for, by its slots and its list, and whether a slot was taken over.
+    fn settled_as(
+        &self,
+        rows: &[ListingRow],
+        slots: SlotList,
+        list: Sequence<u16>,
+        renewed: bool,
+    ) -> Turn
+        requires numbered { self.now.list_no ≤ self.now.state_id }
+        ensures turn { result ≡ publish_turn self.now (settled_as self.now rows.now slots list renewed) }
+    {
+        let confirmed = self.is_confirmed(rows, &list);
+        if self.would_overflow(confirmed, renewed) {
+            return Turn::quiet(Told::Refused(Refusal::GenerationOverflow));
+        }
+        if confirmed {
+            Turn {
+                shelf: Some(self.with_same_list(slots, list)),
+                told: Told::Unchanged,
+            }
+        } else {
+            Turn {
+                shelf: Some(self.with_list(slots, list, renewed)),
+                told: Told::Published,
+            }
+        }
+    }
+
+    /// What a listing comes to that there is room for.
+    fn publish_with_room(
+        &self,
+        alloc: Global,
+        stable: bool,
+        rows: &[ListingRow],
+        free: &[usize],
+        news: usize,
+    ) -> Result<Turn, NoMemory>
+        requires few { length self.now.slots ≤ 32767 }
+        requires numbered { self.now.list_no ≤ self.now.state_id }
+        requires stable { stable ≡ any_stable self.now.handles }
+        requires free { free.now ≡ free_places stable rows.now self.now.slots self.now.list }
+        requires within { All (λ place. place < length self.now.slots) free.now }
+        requires news { length (new_rows self.now.slots rows.now) ≡ news }
+        requires room { news ≤ length free.now }
+        ensures turn { IfOk result (λ turn. turn ≡ publish_turn self.now (with_room self.now rows.now)) }
+    {
+        let slots = self.slots.as_slice();
+        let renewed = takes_over(slots, free, news);
+        let after = slots_after(alloc, stable, rows, slots, free)?;
+        let list = list_after(alloc, rows, after.as_slice())?;
+        Ok(self.settled_as(rows, after, list, renewed))
+    }
+
+    /// What a listing comes to.
+    pub(crate) fn publish(&self, alloc: Global, listing: &Listing) -> Result<Turn, NoMemory>
+        requires few { length self.now.slots ≤ 32767 }
+        requires numbered { self.now.list_no ≤ self.now.state_id }
+        ensures turn { IfOk result (λ turn. turn ≡ publish_turn self.now (publishing self.now listing.now)) }
+        ensures few_packs { All (λ row. IsFewPacks (new_filled row)) listing.now.rows }
+    {
+        // That a number of 32 bits tells how many packs a row has is known once it is read.
+        let _most = most_packs(listing.rows.as_slice());
+        if listing.base != self.list_no {
+            return Ok(Turn::quiet(Told::Outdated {
+                list_no: self.list_no,
+            }));
+        }
+        let rows = listing.rows.as_slice();
+        let slots = self.slots.as_slice();
+        let stable = self.handles.is_any_stable();
+        let free = free_places(alloc, stable, rows, slots, self.list.as_slice())?;
+        let news = count_new(rows, slots);
+        if free.len() < news {
+            let needed = news - free.len();
+            return Ok(Turn::quiet(Told::Refused(Refusal::InsufficientSlots {
+                current: slots.len(),
+                needed,
+            })));
+        }
+        self.publish_with_room(alloc, stable, rows, &free, news)
+    }
+}

@@ -1,0 +1,397 @@
+//! The present state of a core, beside its journal.
+ghost use Rattle.std.specs.Prelude.{◌≡◌, ◌+◌, ◌<◌, ◌≤◌, ◌++◌, ◌∷◌, [], IfOk, IfSome, OnOk, OnErr, length, vec_capacity, vec_len, if◌then◌else◌};
+ghost use Rattle.gix_odb_core.specs.Counts.{HasFewRows};
+ghost use Rattle.gix_odb_core.specs.Handles.{IsRegistered};
+ghost use Rattle.gix_odb_core.specs.Replay.{CanHappen, IsNeverRefused, is_refresh, number_behind, report_of};
+ghost use Rattle.gix_odb_core.specs.Steps.{opening_shape};
+ghost use Rattle.gix_odb_core.specs.State.{IsKept, IsNextState, IsPlan, IsRoomFor, IsSameState, entered, entries_for, entries_in, entry_of, noted, removed, settled_with, view_behind};
+ghost use Rattle.gix_odb_core.specs.Turn.{answer_with, turn_of};
+
+use crate::Shared;
+use crate::counts::listed;
+use crate::event::{Effect, Event, PassWhy, Refusal};
+use crate::journal::{Entry, Journal};
+use crate::metrics::{Passed, PassedList, Report};
+use crate::shape::{Shape, Shelf};
+use crate::turn::{Told, Turn, answer};
+use crate::view::View;
+use odb_base::{NoMemory, PathText, Sequence};
+use std::alloc::Global;
+
+/// The present state of a core, beside its journal.
+#[derive(Drop)]
+pub struct State {
+    pub(crate) shape: Shape,
+    /// What the shape shows, handed over with the newest entry.
+    pub(crate) view: View,
+    /// The files that were passed over.
+    pub(crate) passed: Sequence<Passed>,
+    /// How many listings were published or confirmed the list.
+    pub(crate) refreshes: usize,
+    pub(crate) journal: Journal,
+}
+
+/// What an event will leave and answer: once there is memory for all of it, nothing refuses it any more.
+#[derive(Drop)]
+struct Plan {
+    shelf: Option<Shelf>,
+    view: View,
+    /// The answer as the journal keeps it.
+    kept: Result<Effect, Refusal>,
+    /// The answer as it is given.
+    given: Result<Effect, Refusal>,
+}
+
+/// What is shown once an event left this.
+fn view_behind(
+    alloc: Global,
+    view: &View,
+    shelf: &Option<Shelf>,
+    entry: u64,
+) -> Result<View, NoMemory>
+    requires few { IfSome shelf.now (λ shelf. length shelf.slots ≤ 32767) }
+    ensures view { IfOk result (λ behind. behind ≡ view_behind view.now shelf.now entry) }
+{
+    match shelf {
+        None => view.at(entry),
+        Some(shelf) => shelf.view(alloc, entry),
+    }
+}
+
+/// Two copies of an answer.
+#[derive(Drop)]
+struct Answers {
+    /// The answer as the journal keeps it.
+    kept: Result<Effect, Refusal>,
+    /// The answer as it is given.
+    given: Result<Effect, Refusal>,
+}
+
+/// An answer twice, each with a copy of the view where it hands one over.
+fn answer_twice(told: &Told, view: &View) -> Result<Answers, NoMemory>
+    ensures kept { IfOk result (λ answers. answers.kept ≡ answer_with told.now view.now) }
+    ensures given { IfOk result (λ answers. answers.given ≡ answer_with told.now view.now) }
+{
+    let kept = answer(told, view)?;
+    match answer(told, view) {
+        Ok(given) => Ok(Answers { kept, given }),
+        Err(lack) => {
+            drop(kept);
+            Err(lack)
+        }
+    }
+}
+
+/// The plan that leaves this, and is shown and answered so.
+fn plan_of(shelf: Option<Shelf>, view: View, answers: Answers) -> Plan
+    ensures plan { result ≡ record { shelf = shelf; view = view; kept = answers.kept; given = answers.given } }
+{
+    let Answers { kept, given } = answers;
+    Plan {
+        shelf,
+        view,
+        kept,
+        given,
+    }
+}
+
+/// The plan of what an event leaves and tells, whose entry has this number.
+fn planned_with(
+    alloc: Global,
+    view: &View,
+    shelf: Option<Shelf>,
+    told: &Told,
+    entry: u64,
+) -> Result<Plan, NoMemory>
+    requires few { IfSome shelf (λ shelf. length shelf.slots ≤ 32767) }
+    ensures plan { IfOk result (λ plan. IsPlan view.now (record { shelf = shelf; told = told.now }) entry plan) }
+{
+    let view = view_behind(alloc, view, &shelf, entry)?;
+    let answers = answer_twice(told, &view)?;
+    Ok(plan_of(shelf, view, answers))
+}
+
+/// The plan of a turn, whose entry has this number.
+fn planned(alloc: Global, view: &View, turn: Turn, entry: u64) -> Result<Plan, NoMemory>
+    requires few { IfSome turn.shelf (λ shelf. length shelf.slots ≤ 32767) }
+    ensures plan { IfOk result (λ plan. IsPlan view.now turn entry plan) }
+{
+    let Turn { shelf, told } = turn;
+    planned_with(alloc, view, shelf, &told, entry)
+}
+
+/// A copy of a file that was passed over, which shares its path.
+fn copied_passed(passed: &Passed) -> Result<Passed, NoMemory>
+    ensures copy { IfOk result (λ copy. copy ≡ passed.now) }
+{
+    Ok(Passed {
+        path: passed.path.try_clone()?,
+        why: passed.why,
+    })
+}
+
+/// The files that were passed over, as a report has them.
+fn reported(alloc: Global, passed: &[Passed]) -> Result<PassedList, NoMemory>
+    ensures copy { IfOk result (λ copies. copies ≡ passed.now) }
+{
+    let mut copies = Sequence::new(alloc);
+    for file in passed {
+        copies.push(copied_passed(file)?)?;
+    }
+    Ok(Shared::new(alloc, copies)?)
+}
+
+/// Notes that a file was passed over. Want of memory leaves the list.
+fn note_passed(
+    alloc: Global,
+    passed: &mut Sequence<Passed>,
+    path: &PathText,
+    why: PassWhy,
+) -> Result<(), NoMemory>
+    ensures noted { OnOk result (passed.new ≡ passed.old ++ (record { path = path.now; why = why }) ∷ []) }
+    ensures kept { OnErr result (passed.new ≡ passed.old) }
+{
+    let path = Shared::new(alloc, path.try_clone(alloc)?)?;
+    passed.push(Passed { path, why })?;
+    Ok(())
+}
+
+/// One where an answer published a listing, or confirmed the list.
+fn refreshes_in(answer: &Result<Effect, Refusal>) -> usize
+    ensures refreshes { result ≡ (if is_refresh answer.now then 1 else 0) }
+{
+    match answer {
+        Ok(Effect::Published(_)) | Ok(Effect::Unchanged(_)) => 1,
+        _ => 0,
+    }
+}
+
+impl State {
+    /// The state of a core that was just made, with an empty journal.
+    pub(crate) fn opening(
+        alloc: Global,
+        slots: u16,
+        folders: usize,
+        generation: u32,
+        state_id: u64,
+    ) -> Result<State, NoMemory>
+        requires few { slots ≤ 32767 }
+        ensures shape { IfOk result (λ state. state.shape ≡ opening_shape slots folders generation state_id) }
+        ensures entries { IfOk result (λ state. state.journal.entries.items ≡ []) }
+        ensures kept { IfOk result IsKept }
+    {
+        let shelf = Shelf::opening(alloc, slots, generation, state_id)?;
+        let view = shelf.view(alloc, 0)?;
+        Ok(State {
+            shape: Shape::without_handles(alloc, folders, shelf),
+            view,
+            passed: Sequence::new(alloc),
+            refreshes: 0,
+            journal: Journal {
+                entries: Vec::new(alloc),
+            },
+        })
+    }
+
+    /// What a core reports of itself.
+    fn report(&self, alloc: Global) -> Result<Report, NoMemory>
+        requires kept { IsKept self.now }
+        ensures report { IfOk result (λ report. report ≡ report_of self.now.shape self.now.journal.entries.items) }
+    {
+        let listed = listed(
+            alloc,
+            self.shape.slots.as_slice(),
+            self.shape.list.as_slice(),
+        )?;
+        let passed_over = reported(alloc, self.passed.as_slice())?;
+        Ok(Report {
+            metrics: self.shape.metrics(self.refreshes),
+            listed,
+            passed_over,
+        })
+    }
+
+    /// What an event comes to.
+    fn turn(&self, alloc: Global, event: &Event) -> Result<Turn, NoMemory>
+        requires kept { IsKept self.now }
+        ensures turn { IfOk result (λ turn. turn ≡ turn_of self.now.journal.entries.items self.now.shape event.now) }
+        ensures few_packs { IfOk result (λ _. HasFewRows event.now) }
+    {
+        match event {
+            Event::Register { .. } | Event::Upgrade | Event::Look => Ok(Turn::quiet(Told::Seen)),
+            Event::Remove => Ok(Turn::quiet(Told::Removed)),
+            Event::Report => Ok(Turn::quiet(Told::Reported(self.report(alloc)?))),
+            Event::PutIndex { slot, path, file } => {
+                self.shape.put_index(alloc, *slot as usize, path, file)
+            }
+            Event::PutPack { pack, path, file } => {
+                self.shape.put_pack(alloc, pack.index, path, file)
+            }
+            Event::PassOver { slot, path, .. } => self.shape.pass_over(alloc, *slot as usize, path),
+            Event::Publish(listing) => self.shape.publish(alloc, listing),
+        }
+    }
+
+    /// The number of the next entry, which stands still at its greatest value.
+    pub(crate) fn next_number(&self) -> u64
+        ensures number { result ≡ number_behind self.now.journal.entries.items }
+    {
+        (self.journal.entries.len() as u64).saturating_add(1)
+    }
+
+    /// Makes room for the event's entry, and for one more for each handle that will be registered then.
+    fn make_room(&mut self, event: &Event) -> Result<(), NoMemory>
+        ensures same { self.new ≡ entered self.old self.new.journal }
+        ensures entries { self.new.journal.entries.items ≡ self.old.journal.entries.items }
+        ensures grows { vec_capacity self.old.journal.entries ≤ vec_capacity self.new.journal.entries }
+        ensures room { OnOk result (IsRoomFor event.now (length self.old.shape.handles) self.new.journal) }
+    {
+        let handles = self.shape.handles.len();
+        let room = match event {
+            Event::Register { .. } => handles + 2,
+            _ => handles + 1,
+        };
+        self.journal.entries.reserve(room)?;
+        Ok(())
+    }
+
+    /// Notes what an event does besides: to the handles, and to the files that were passed over. Want of memory changes nothing.
+    fn note(&mut self, alloc: Global, seat: u32, event: &Event) -> Result<(), NoMemory>
+        requires stays { ¬ (event.now ≡ Event.Remove) }
+        requires can_happen { CanHappen self.old.shape seat event.now }
+        ensures noted { OnOk result (self.new ≡ noted self.old seat event.now) }
+        ensures handles { OnOk result (length self.new.shape.handles + 1 ≤ length self.old.shape.handles + entries_for event.now) }
+        ensures kept { OnErr result (self.new ≡ self.old) }
+    {
+        match event {
+            Event::Register { stable } => self.shape.handles.set(seat, *stable),
+            Event::Upgrade => self.shape.handles.set(seat, true),
+            Event::PassOver { path, why, .. } => {
+                note_passed(alloc, &mut self.passed, path, *why)
+            }
+            _ => Ok(()),
+        }
+    }
+
+    /// The plan of an event.
+    fn plan(&self, alloc: Global, event: &Event) -> Result<Plan, NoMemory>
+        requires kept { IsKept self.now }
+        ensures plan { IfOk result (λ plan. IsPlan self.now.view (turn_of self.now.journal.entries.items self.now.shape event.now) (number_behind self.now.journal.entries.items) plan) }
+        ensures few_packs { OnOk result (HasFewRows event.now) }
+    {
+        let turn = self.turn(alloc, event)?;
+        planned(alloc, &self.view, turn, self.next_number())
+    }
+
+    /// Notes what an event does besides, and gives its plan back. Want of memory changes nothing.
+    fn note_with(
+        &mut self,
+        alloc: Global,
+        seat: u32,
+        event: &Event,
+        plan: Plan,
+    ) -> Result<Plan, NoMemory>
+        requires stays { ¬ (event.now ≡ Event.Remove) }
+        requires can_happen { CanHappen self.old.shape seat event.now }
+        ensures plan { IfOk result (λ given. given ≡ plan) }
+        ensures noted { OnOk result (self.new ≡ noted self.old seat event.now) }
+        ensures handles { OnOk result (length self.new.shape.handles + 1 ≤ length self.old.shape.handles + entries_for event.now) }
+        ensures kept { OnErr result (self.new ≡ self.old) }
+    {
+        match self.note(alloc, seat, event) {
+            Ok(()) => Ok(plan),
+            Err(lack) => {
+                drop(plan);
+                Err(lack)
+            }
+        }
+    }
+
+    /// Makes the plan of an event, takes the room that it wants, and notes what it does besides. Want of memory leaves all but spare room.
+    fn prepare(&mut self, alloc: Global, seat: u32, event: &Event) -> Result<Plan, NoMemory>
+        requires kept { IsKept self.old }
+        requires stays { ¬ (event.now ≡ Event.Remove) }
+        requires can_happen { CanHappen self.old.shape seat event.now }
+        ensures plan { IfOk result (λ plan. IsPlan self.old.view (turn_of self.old.journal.entries.items self.old.shape event.now) (number_behind self.old.journal.entries.items) plan) }
+        ensures few_packs { OnOk result (HasFewRows event.now) }
+        ensures noted { OnOk result (self.new ≡ entered (noted self.old seat event.now) self.new.journal) }
+        ensures kept { OnErr result (self.new ≡ entered self.old self.new.journal) }
+        ensures entries { self.new.journal.entries.items ≡ self.old.journal.entries.items }
+        ensures grows { vec_capacity self.old.journal.entries ≤ vec_capacity self.new.journal.entries }
+        ensures room { OnOk result (IsRoomFor event.now (length self.old.shape.handles) self.new.journal) }
+        ensures handles { OnOk result (length self.new.shape.handles + 1 ≤ length self.old.shape.handles + entries_for event.now) }
+    {
+        self.make_room(event)?;
+        let plan = self.plan(alloc, event)?;
+        self.note_with(alloc, seat, event, plan)
+    }
+
+    /// Takes what an event leaves, and journals it.
+    fn settle(&mut self, seat: u32, event: Event, plan: Plan) -> Result<Effect, Refusal>
+        requires room { vec_len self.old.journal.entries < vec_capacity self.old.journal.entries }
+        requires counted { self.old.refreshes ≤ vec_len self.old.journal.entries }
+        ensures settled { self.new ≡ entered (settled_with self.old plan) self.new.journal }
+        ensures entries { entries_in self.new ≡ entries_in self.old ++ entry_of (entries_in self.old) seat event plan.kept ∷ [] }
+        ensures capacity { vec_capacity self.new.journal.entries ≡ vec_capacity self.old.journal.entries }
+        ensures answer { result ≡ plan.given }
+    {
+        let Plan {
+            shelf,
+            view,
+            kept,
+            given,
+        } = plan;
+        let number = self.next_number();
+        self.shape.settle_by(shelf);
+        self.view = view;
+        self.refreshes += refreshes_in(&kept);
+        self.journal.entries.push_reserved(Entry {
+            number,
+            seat,
+            event,
+            answer: kept,
+        });
+        given
+    }
+
+    /// Removes a handle, and journals it. There is room for it since the handle was registered.
+    fn remove(&mut self, seat: u32) -> Result<Effect, Refusal>
+        requires room { vec_len self.old.journal.entries < vec_capacity self.old.journal.entries }
+        requires registered { IsRegistered self.old.shape.handles seat }
+        ensures handles { length self.new.shape.handles + 1 ≡ length self.old.shape.handles }
+        ensures removed { self.new ≡ entered (removed self.old seat) self.new.journal }
+        ensures entries { entries_in self.new ≡ entries_in self.old ++ entry_of (entries_in self.old) seat Event.Remove (Ok Effect.Removed) ∷ [] }
+        ensures capacity { vec_capacity self.new.journal.entries ≡ vec_capacity self.old.journal.entries }
+        ensures answer { result ≡ Ok Effect.Removed }
+    {
+        let number = self.next_number();
+        self.shape.handles.remove(seat);
+        self.view.snapshot.entry = number;
+        self.journal.entries.push_reserved(Entry {
+            number,
+            seat,
+            event: Event::Remove,
+            answer: Ok(Effect::Removed),
+        });
+        Ok(Effect::Removed)
+    }
+    /// Takes an event in: its answer, what it leaves, and its entry.
+    pub(crate) fn apply(
+        &mut self,
+        alloc: Global,
+        seat: u32,
+        event: Event,
+    ) -> Result<Effect, Refusal>
+        requires kept { IsKept self.old }
+        requires can_happen { CanHappen self.old.shape seat event }
+        ensures memory { result ≡ Err Refusal.NoMemory → IsSameState self.old self.new }
+        ensures next { ¬ (result ≡ Err Refusal.NoMemory) → IsNextState self.old seat event result self.new }
+        ensures never_refused { IsNeverRefused event result }
+    {
+        if let Event::Remove = event {
+            return self.remove(seat);
+        }
+        let plan = self.prepare(alloc, seat, &event)?;
+        self.settle(seat, event, plan)
+    }
+}

@@ -1,0 +1,109 @@
+//! What a handle sees of a core.
+ghost use Rattle.std.specs.Prelude.{◌≡◌, IfOk};
+ghost use Rattle.gix_odb_core.specs.Views.{view_at};
+
+use crate::Shared;
+use crate::slot::PackFileList;
+use gix_pack::{index, multi_index};
+use odb_base::{NoMemory, PathText, Sequence};
+
+/// Which state of a core a snapshot shows.
+#[derive(Clone, Copy, Debug, Default, PartialEq, Eq)]
+pub struct SlotIndexMarker {
+    /// How often slots were taken over.
+    pub generation: u32,
+    /// How often files or lists changed.
+    pub state_id: u64,
+}
+
+/// An index that is loaded.
+#[derive(Drop)]
+pub enum LoadedIndex {
+    Single(Shared<index::File>),
+    Multi(Shared<multi_index::File>),
+}
+
+/// A loaded index with its packs.
+#[derive(Drop)]
+pub struct SnapshotIndex {
+    pub slot: u16,
+    pub path: Shared<PathText>,
+    pub index: LoadedIndex,
+    pub packs: Shared<PackFileList>,
+}
+
+/// Loaded indices, in the order in which they are asked.
+pub type LoadedList = Sequence<SnapshotIndex>;
+
+/// An index that is listed and not loaded.
+#[derive(Drop)]
+pub struct Todo {
+    pub slot: u16,
+    pub path: Shared<PathText>,
+}
+
+/// Indices that are listed and not loaded, in the order of the list.
+pub type TodoList = Sequence<Todo>;
+
+/// The loaded files at one moment.
+#[derive(Drop)]
+pub struct Snapshot {
+    /// Those of the listed slots.
+    pub indices: Shared<LoadedList>,
+    /// Those of the filled slots that are not listed.
+    pub kept: Shared<LoadedList>,
+    pub marker: SlotIndexMarker,
+    /// The number of the journal's entry with which it was handed over.
+    pub entry: u64,
+}
+
+/// What a core shows at one moment.
+#[derive(Drop)]
+pub struct View {
+    pub snapshot: Snapshot,
+    /// The number of the list.
+    pub list_no: u64,
+    /// Whether a listing was published.
+    pub read: bool,
+    /// What is still to be loaded.
+    pub todo: Shared<TodoList>,
+}
+
+impl Snapshot {
+    /// A copy, which shares the lists, as one that is handed over with another entry.
+    fn at(&self, entry: u64) -> Result<Snapshot, NoMemory>
+        ensures copy { IfOk result (λ copy. copy ≡ record self.now { entry = entry }) }
+    {
+        let indices = self.indices.try_clone()?;
+        let kept = self.kept.try_clone()?;
+        Ok(Snapshot {
+            indices,
+            kept,
+            marker: self.marker,
+            entry,
+        })
+    }
+}
+
+impl View {
+    /// A copy, which shares the lists, as one that is handed over with another entry.
+    pub(crate) fn at(&self, entry: u64) -> Result<View, NoMemory>
+        ensures copy { IfOk result (λ copy. copy ≡ view_at self.now entry) }
+    {
+        let snapshot = self.snapshot.at(entry)?;
+        let todo = self.todo.try_clone()?;
+        Ok(View {
+            snapshot,
+            list_no: self.list_no,
+            read: self.read,
+            todo,
+        })
+    }
+
+    /// A copy, which shares the lists.
+    pub fn try_clone(&self) -> Result<View, NoMemory>
+        ensures copy { IfOk result (λ copy. copy ≡ self.now) }
+    {
+        self.at(self.snapshot.entry)
+    }
+}
