@@ -3,11 +3,12 @@ use gix_odb_core::PackId;
 use std::test::Fail;
 
 /// Slots, places in a multi-pack index, and the numbers that stand for them.
-const PACKS: [(usize, Option<u32>, u32); 6] = [
+const PACKS: [(usize, Option<u32>, u32); 7] = [
     (0, None, 0),
     (32_767, None, 32_767),
     (0, Some(0), 32_768),
     (32_767, Some(0), 65_535),
+    (0, Some(65_535), 4_294_934_528),
     (1, Some(1), 98_305),
     (32_767, Some(65_535), 4_294_967_295),
 ];
@@ -43,5 +44,7 @@ fn numbers_of_packs(rt: HostRuntime) -> Result<(), Fail> {
 fn number_without_the_bit(rt: HostRuntime) -> Result<(), Fail> {
     let pack = PackId::from_intrinsic_pack_id(65_536);
     assert!(rt; pack.index == 65_536 && pack.multipack_index == None);
+    let last = PackId::from_intrinsic_pack_id(4_294_934_527);
+    assert!(rt; last.index == 4_294_934_527 && last.multipack_index == None);
     Ok(())
 }

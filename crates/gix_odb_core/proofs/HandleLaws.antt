@@ -151,13 +151,14 @@ without_seat-same (first ∷ handles) seat rising = by (nat_cmp seat first.0) (r
     by Greater order is rest = let this : is_eq (nat_cmp seat first.0) ≡ false = ap is_eq is in rw this rest
 
 -- what an event makes of the registration of its own seat
-abbrev own : Event → Option Bool → Option Bool
+abbrev pub own : Event → Option Bool → Option Bool
 own (event.Register stable) before = Some stable
 own event.Upgrade before = Some true
 own event.Remove before = None
 own other before = before
 
-own_seat : (handles : Handles) (seat : ℕ) (happens : Event) → IsRising handles → registered (handles_after handles seat happens) seat ≡ own happens (registered handles seat)
+-- its own seat after an event, and any other
+pub own_seat : (handles : Handles) (seat : ℕ) (happens : Event) → IsRising handles → registered (handles_after handles seat happens) seat ≡ own happens (registered handles seat)
 own_seat handles seat (event.Register stable) rising = with_seat-same handles seat stable
 own_seat handles seat event.Upgrade rising = with_seat-same handles seat true
 own_seat handles seat event.Remove rising = without_seat-same handles seat rising
@@ -168,7 +169,7 @@ own_seat handles seat (event.PutPack pack path file) rising = refl
 own_seat handles seat (event.PassOver slot path why) rising = refl
 own_seat handles seat (event.Publish listing) rising = refl
 
-other_seat : (handles : Handles) (seat : ℕ) (happens : Event) (other : ℕ) → (other ≡ seat → ⊥) → registered (handles_after handles seat happens) other ≡ registered handles other
+pub other_seat : (handles : Handles) (seat : ℕ) (happens : Event) (other : ℕ) → (other ≡ seat → ⊥) → registered (handles_after handles seat happens) other ≡ registered handles other
 other_seat handles seat (event.Register stable) other differ = with_seat-other handles seat stable other differ
 other_seat handles seat event.Upgrade other differ = with_seat-other handles seat true other differ
 other_seat handles seat event.Remove other differ = without_seat-other handles seat other differ

@@ -16,7 +16,7 @@ pub mod GarbageLaws
 pub mod SnapshotLaws
 pub mod HandleLaws
 mod OpenedLemmas
-mod HandleLemmas
+pub mod HandleLemmas
 mod ShownLemmas
 mod AnswerLemmas
 mod StepLemmas

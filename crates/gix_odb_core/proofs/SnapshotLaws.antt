@@ -111,6 +111,15 @@ entry_hands seat entry = by (nat_eq entry.seat seat) (view_in entry.answer) refl
           ap (λ (c : Bool). filter_map (λ (e : Entry). view_in e.answer) (cond c (entry ∷ []) [])) is ∙ ap (λ (v : Option View). cons_option v []) at,
         )
 
+-- an entry that hands over no view, as a refused one, leaves each snapshot
+pub entry_without_a_view_leaves_snapshots : (seat : ℕ) (past : List Entry) (entry : Entry) → view_in entry.answer ≡ None → snapshot_of seat (past ++ entry ∷ []) ≡ snapshot_of seat past
+entry_without_a_view_leaves_snapshots seat past entry none = snapshot-append seat past (entry ∷ []) ∙ ap (last_or (snapshot_of seat past)) (by (entry_hands seat entry))
+  where
+    by : (handed_to seat (entry ∷ []) ≡ []) ⊎ ((view : View) × (entry.seat ≡ seat) × (view_in entry.answer ≡ Some view) × (handed_to seat (entry ∷ []) ≡ view ∷ []))
+        → handed_to seat (entry ∷ []) ≡ []
+    by (inl is) = is
+    by (inr (view, own, some, is)) = absurd (let wrong : ◌≡◌ {A = Option View} None (Some view) = sym none ∙ some in cc)
+
 module _ (seat : ℕ) where
   abbrev HasLast : List Entry → Type 0
   HasLast entries = (view : View) → snapshot_of seat entries ≡ Some view → IsHandedLast seat entries view

@@ -1,4 +1,4 @@
--- The present state of a core beside its journal, and what each part of an event's work does to it. No public clause cites this.
+-- The present state of a core beside its journal, and what each part of an event's work does to it. Of these words a public clause cites `newest` alone.
 use Rattle.std.specs.Prelude.{◌≡◌, ℕ, ◌+◌, ◌≤◌, ◌++◌, List, [], ◌∷◌, length, min, Option, Some, None, vec_capacity, if◌then◌else◌}
 use Rattle.std.specs.Option.{option_to_list}
 use Rattle.gix_odb_core.specs.Counts.{IsCountable}

@@ -39,7 +39,7 @@ impl Model for Core {
 }
 
 impl Core {
-    ghost use Rattle.std.specs.Prelude.{◌≡◌, ℕ, ◌≤◌, ◌⊎◌, IfOk, OnErr};
+    ghost use Rattle.std.specs.Prelude.{◌≡◌, ℕ, ◌≤◌, ◌⊎◌, IfOk, OnErr, length};
     ghost use Rattle.gix_odb_core.specs.Causes.{HasTooFewSlots, StandsAtLast};
     ghost use Rattle.gix_odb_core.specs.History.{opened, present};
     ghost use Rattle.gix_odb_core.specs.Journal.{entries_of};
@@ -105,6 +105,7 @@ impl Core {
     pub fn look(&self) -> &View
         ensures view { result.now ≡ view_of (present self.now) (newest self.now.entries) }
         ensures shape { IsShape (present self.now) }
+        ensures few { length (present self.now).slots ≤ 32767 }
     {
         &self.state.view
     }

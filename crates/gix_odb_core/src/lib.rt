@@ -41,6 +41,7 @@ pub use on_disk_file::{FileState, OnDiskFile};
 pub use pack_id::{IndexId, PackId};
 pub use shape::Shape;
 pub use shared::Shared;
+pub use slot::{PackFile, PackFileList};
 pub use view::{
     LoadedIndex, LoadedList, SlotIndexMarker, Snapshot, SnapshotIndex, Todo, TodoList, View,
 };

@@ -23,9 +23,9 @@ pub struct Shape {
     pub read: bool,
     /// How many lists were published.
     pub list_no: u64,
-    /// How often slots were taken over.
+    /// How many listings took over slots that held something.
     pub generation: u32,
-    /// How often files or lists changed.
+    /// How many lists were published and files stored.
     pub state_id: u64,
     /// The registered handles.
     pub handles: HandleTable,

@@ -10,9 +10,9 @@ use odb_base::{NoMemory, PathText, Sequence};
 /// Which state of a core a snapshot shows.
 #[derive(Clone, Copy, Debug, Default, PartialEq, Eq)]
 pub struct SlotIndexMarker {
-    /// How often slots were taken over.
+    /// How many listings took over slots that held something.
     pub generation: u32,
-    /// How often files or lists changed.
+    /// How many lists were published and files stored.
     pub state_id: u64,
 }
 
