@@ -4,7 +4,8 @@ use Rattle.gix_odb_core.specs.Handles.{Handles, is_any_stable}
 use Rattle.gix_odb_core.specs.Publish.{free_places, list_after, new_rows, slot_at, slots_after, taken}
 use Rattle.gix_odb_core.specs.Replay.{Answer}
 use Rattle.gix_odb_core.specs.Slots.{Slot}
-use Rattle.gix_odb_core.specs.Steps.{Publishing, Outdated, TooFew, Overflows, Unchanged, Published, after, is_confirmed, last_state, publishing, settled_as, shape_published, shape_stored, slot_with_index, slot_with_pack, takes_over, with_list, with_room, would_overflow}
+use Rattle.gix_odb_core.specs.Steps.{Publishing, Outdated, TooFew, Overflows, Unchanged, Published, after, is_confirmed, last_state, publishing, settled_as}
+use Rattle.gix_odb_core.specs.Steps.{shape_published, shape_stored, slot_with_index, slot_with_pack, takes_over, with_list, with_room, would_overflow}
 use Rattle.gix_odb_core.specs.Turn.{handles_after}
 use Rattle.gix_odb_core.specs.declared.event.Event.{Event}
 use Rattle.gix_odb_core.specs.declared.event.Event.TheVariants as event

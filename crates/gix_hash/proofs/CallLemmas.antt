@@ -1,5 +1,6 @@
 -- What the calls on ids ensure, over plain variables.
-use Rattle.std.proofs.Common.{◌≡◌, ◌≢◌, ℕ, zero, suc, ◌*◌, ◌<◌, nat_lt, true, false, List, length, replicate, Option, Some, None, ◌↔◌, MatchOption, is_err, OnOk, IfOk, IsErr, IsOk, IsTrue, Result, Ok, Err, refl, sym, ap, ◌∙◌, arith}
+use Rattle.std.proofs.Common.{◌≡◌, ◌≢◌, ℕ, zero, suc, ◌*◌, ◌<◌, nat_lt, true, false, List, length, replicate, Option, Some, None, ◌↔◌}
+use Rattle.std.proofs.Common.{MatchOption, is_err, OnOk, IfOk, IsErr, IsOk, IsTrue, Result, Ok, Err, refl, sym, ap, ◌∙◌, arith}
 use Rattle.std.proofs.lemmas.Bool.{false_from_ne_true}
 use Rattle.std.proofs.lemmas.List.Sums.{AllPass-from_list_all}
 use Rattle.std.proofs.lemmas.List.Elements.{All-weaker}

@@ -1,5 +1,6 @@
 -- Every event keeps the counts over a shape small: no slot has more packs than a number of 32 bits tells, and the list is no longer than the slots are many.
-use Rattle.std.proofs.Common.{◌≡◌, ℕ, ◌+◌, ◌<◌, ◌≤◌, inl, inr, Bool, true, false, cond, ◌==◌, ◌||◌, nat_eq, All, List, [], ◌∷◌, length, map, set, position, Option, Some, None, refl, sym, subst, ◌∙◌, arith}
+use Rattle.std.proofs.Common.{◌≡◌, ℕ, ◌+◌, ◌<◌, ◌≤◌, inl, inr, Bool, true, false, cond, ◌==◌, ◌||◌, nat_eq, All, List}
+use Rattle.std.proofs.Common.{[], ◌∷◌, length, map, set, position, Option, Some, None, refl, sym, subst, ◌∙◌, arith}
 use Rattle.std.specs.List.{cons_option, list_any}
 use Rattle.std.proofs.lemmas.Bool.{cases_lt, eqb-true}
 use Rattle.std.proofs.lemmas.List.{get_or_default, get_or_past, length-map, length-set}
@@ -16,7 +17,8 @@ use Rattle.gix_odb_core.specs.OnDiskFile.{put_back, trashed, with_state}
 use Rattle.gix_odb_core.specs.Publish.{list_after, settled, slot_at, slots_after}
 use Rattle.gix_odb_core.specs.Replay.{CanHappen}
 use Rattle.gix_odb_core.specs.Slots.{HasDifferentPaths, Slot, holds, new_filled}
-use Rattle.gix_odb_core.specs.Steps.{Publishing, after, index_with, last_state, passed_at, publishing, shape_published, shape_stored, slot_passed, slot_with_index, slot_with_pack, stored_at, takes, with_index}
+use Rattle.gix_odb_core.specs.Steps.{Publishing, after, index_with, last_state, passed_at, publishing, shape_published, shape_stored}
+use Rattle.gix_odb_core.specs.Steps.{slot_passed, slot_with_index, slot_with_pack, stored_at, takes, with_index}
 use Rattle.gix_odb_core.specs.declared.event.Event.{Event}
 use Rattle.gix_odb_core.specs.declared.event.Event.TheVariants as event
 use Rattle.gix_odb_core.specs.declared.listing.Listing.{Listing}

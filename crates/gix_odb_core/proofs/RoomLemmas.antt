@@ -1,5 +1,6 @@
 -- A listing that there is room for, and the counters that rise with it.
-use Rattle.std.proofs.Common.{◌≡◌, ◌≢◌, ℕ, ◌+◌, ◌-◌, ◌<◌, ◌≤◌, ◌^◌, Bool, true, false, cond, not, ◌==◌, ◌||◌, ◌&&◌, nat_lt, All, List, [], ◌∷◌, length, get_or, map, take, refl, sym, ap, subst, ◌∙◌, is_some, arith, eq-eqb}
+use Rattle.std.proofs.Common.{◌≡◌, ◌≢◌, ℕ, ◌+◌, ◌-◌, ◌<◌, ◌≤◌, ◌^◌, Bool, true, false, cond, not, ◌==◌, ◌||◌, ◌&&◌, nat_lt, All}
+use Rattle.std.proofs.Common.{List, [], ◌∷◌, length, get_or, map, take, refl, sym, ap, subst, ◌∙◌, is_some, arith, eq-eqb}
 use Rattle.std.specs.List.{list_any, zip}
 use Rattle.std.proofs.lemmas.Bool.{le-ltb}
 use Rattle.std.proofs.lemmas.List.{take_all, take_more}

@@ -1,7 +1,8 @@
 //! Folders and options among the words of the command line.
 ghost use Rattle.std.specs.Prelude.{◌≡◌, ◌==◌, IfOk, Some, Ok, map, string_bytes};
 ghost use Rattle.std.specs.List.{before_first, after_first};
-ghost use Rattle.list_walk.specs.Words.{asked_by_next, asked_of, asked_with, count_of, counted, flagged, is_option, no_choices, no_words, or_no_such, with_any, with_count, with_folder, with_number, with_option, with_value, with_word, words_of};
+ghost use Rattle.list_walk.specs.Words.{asked_by_next, asked_of, asked_with, count_of, counted, flagged, is_option, no_choices, no_words, or_no_such};
+ghost use Rattle.list_walk.specs.Words.{with_any, with_count, with_folder, with_number, with_option, with_value, with_word, words_of};
 ghost use Rattle.list_walk.specs.Folder.{folder_of};
 ghost use Rattle.odb_base.specs.Decimal.{number_of};
 

@@ -82,7 +82,9 @@ impl Find for Shelf {
 
     ghost hash = { λ shelf. shelf.hash };
 
-    ghost finds = { λ shelf id answer after. (after ≡ shelf) × IfOk answer (λ found. IfSome found (λ object. shelf.object ≡ Some (record { id = id; kind = object.kind; bytes = object.bytes })) × IfNone found (IfSome shelf.object (λ stored. stored.id ≡ id → ⊥))) };
+    ghost finds = { λ shelf id answer after. (after ≡ shelf) × IfOk answer (λ found.
+        IfSome found (λ object. shelf.object ≡ Some (record { id = id; kind = object.kind; bytes = object.bytes }))
+        × IfNone found (IfSome shelf.object (λ stored. stored.id ≡ id → ⊥))) };
 
     fn try_find<'a, R: Wait>(
         &mut self,
@@ -109,7 +111,10 @@ impl FindHeader for Shelf {
 
     ghost hash = { λ shelf. shelf.hash };
 
-    ghost finds_header = { λ shelf id answer after. (after ≡ shelf) × IfOk answer (λ found. IfSome found (λ header. IsSome shelf.object × IfSome shelf.object (λ stored. (stored.id ≡ id) × (header.kind ≡ stored.kind) × (header.size ≡ length stored.bytes))) × IfNone found (IfSome shelf.object (λ stored. stored.id ≡ id → ⊥))) };
+    ghost finds_header = { λ shelf id answer after. (after ≡ shelf) × IfOk answer (λ found.
+        IfSome found (λ header. IsSome shelf.object
+        × IfSome shelf.object (λ stored. (stored.id ≡ id) × (header.kind ≡ stored.kind) × (header.size ≡ length stored.bytes)))
+        × IfNone found (IfSome shelf.object (λ stored. stored.id ≡ id → ⊥))) };
 
     fn try_header<R: Wait>(
         &mut self,
@@ -151,7 +156,8 @@ impl Write for Shelf {
 
     ghost writes = { λ shelf object known answer after. IfOk answer (λ id. after ≡ record shelf { object = Some (record { id = id; kind = object.kind; bytes = object.bytes }) }) };
 
-    ghost streams = { λ shelf kind size stream known answer after. IfOk answer (λ id. IfSome stream.left (λ bytes. after ≡ record shelf { object = Some (record { id = id; kind = kind; bytes = bytes }) })) };
+    ghost streams = { λ shelf kind size stream known answer after. IfOk answer (λ id.
+        IfSome stream.left (λ bytes. after ≡ record shelf { object = Some (record { id = id; kind = kind; bytes = bytes }) })) };
 
     fn write_buf<R: Wait>(
         &mut self,

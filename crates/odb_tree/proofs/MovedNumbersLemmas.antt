@@ -1,5 +1,6 @@
 -- That the numbers of a tree's nodes stay well kept where a part of it moves, or a file grows.
-use Rattle.std.proofs.Common.{◌≡◌, ◌≢◌, ℕ, ◌&&◌, ◌||◌, true, false, not, List, ◌++◌, Option, Some, None, IsSome, is_some, is_none, Result, Ok, Err, OnOk, OnErr, cond, refl, sym, ap, ◌∙◌, subst, inl, inr}
+use Rattle.std.proofs.Common.{◌≡◌, ◌≢◌, ℕ, ◌&&◌, ◌||◌, true, false, not, List, ◌++◌, Option, Some, None, IsSome, is_some}
+use Rattle.std.proofs.Common.{is_none, Result, Ok, Err, OnOk, OnErr, cond, refl, sym, ap, ◌∙◌, subst, inl, inr}
 use Rattle.std.specs.Option.{IfSome}
 use Rattle.std.proofs.lemmas.Bool.{false≢true, and_parts, and_from, not-true}
 use Rattle.odb_base.specs.Path.{Path}

@@ -12,7 +12,8 @@ use Rattle.odb_tree.specs.declared.change.Change.{Change}
 use Rattle.odb_tree.specs.declared.change.Change.TheVariants.{PutFile, MakeDir, Rename, Append}
 use Rattle.odb_tree.proofs.WriteLaws.{read_at_spot}
 use Rattle.odb_tree.proofs.WayLaws.{read_kept, file_spot_kept, spot_kept, same_unfollowed, same_make_dir, vacant_off_file}
-use Rattle.odb_tree.proofs.WayWriteLaws.{new_file_spot, new_file_file_spot, new_file_read_through, append_spot, append_file_spot, append_read_through, rename_read_through, new_file_change, append_change, file_renamed}
+use Rattle.odb_tree.proofs.WayWriteLaws.{new_file_spot, new_file_file_spot, new_file_read_through, append_spot, append_file_spot}
+use Rattle.odb_tree.proofs.WayWriteLaws.{append_read_through, rename_read_through, new_file_change, append_change, file_renamed}
 
 -- ---- what its owner does
 

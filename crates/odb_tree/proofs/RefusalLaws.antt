@@ -6,7 +6,8 @@ use Rattle.odb_tree.specs.Tree.{Tree, node_at, is_directory, is_directory_conten
 use Rattle.odb_tree.specs.Tree.Change.{is_file_content, device_of, parent_node}
 use Rattle.odb_tree.specs.Tree.Follow as following
 use Rattle.odb_tree.specs.Tree.Write as writing
-use Rattle.odb_tree.specs.Tree.Write.{and_then, from_followed, in_directory, spot, spot_below, vacant, vacant_spot, movable, movable_spot, replaceable, file_spot, file_path, change_of_make_dir, change_of_new_file, change_of_append, change_of_rename}
+use Rattle.odb_tree.specs.Tree.Write.{and_then, from_followed, in_directory, spot, spot_below, vacant, vacant_spot, movable, movable_spot, replaceable}
+use Rattle.odb_tree.specs.Tree.Write.{file_spot, file_path, change_of_make_dir, change_of_new_file, change_of_append, change_of_rename}
 use Rattle.odb_tree.specs.declared.node.Node.{Node}
 use Rattle.odb_tree.specs.declared.change.Change.TheVariants.{PutFile, MakeDir, Rename, Append}
 

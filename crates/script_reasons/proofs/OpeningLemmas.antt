@@ -6,7 +6,8 @@ use Rattle.std.proofs.lemmas.Bool.{and_parts, not-false, or_parts}
 use Rattle.std.specs.Cmp.Lexicographic.{same_text}
 use Rattle.odb_base.specs.Decimal.{number_below}
 use Rattle.odb_base.specs.Path.{path_of, same_name}
-use Rattle.odb_script.specs.Opening.{choice_of, chosen_by, gives_slots, handle_of, has_value, is_unbuilt, is_unbuilt_option, name_in, named_choice, nothing_chosen, open_of, value_in, with_choice, with_next}
+use Rattle.odb_script.specs.Opening.{choice_of, chosen_by, gives_slots, handle_of, has_value, is_unbuilt, is_unbuilt_option}
+use Rattle.odb_script.specs.Opening.{name_in, named_choice, nothing_chosen, open_of, value_in, with_choice, with_next}
 use Rattle.odb_script.specs.Split.{Fields}
 use Rattle.odb_script.specs.declared.choice.Choice.{Choice}
 use Rattle.odb_script.specs.declared.choice.Choice.TheVariants as choices

@@ -12,7 +12,8 @@ use Rattle.odb_tree.specs.declared.entry.Entry.{Entry}
 use Rattle.walkdir.specs.BuiltWalk.{walking}
 use Rattle.walkdir.specs.Error.{io_error}
 use Rattle.walkdir.specs.Failures.{failures_among}
-use Rattle.walkdir.specs.Walk.{Ancestor, ContentsOf, Item, Order, WalkOf, Walking, WalksOf, Alone, Child, Closed, Deepest, Entered, Failed, Lost, NoDevice, NoRoot, Nothing, Opened, Root, Unopened, Wrong}
+use Rattle.walkdir.specs.Walk.{Ancestor, ContentsOf, Item, Order, WalkOf, Walking, WalksOf, Alone, Child, Closed, Deepest}
+use Rattle.walkdir.specs.Walk.{Entered, Failed, Lost, NoDevice, NoRoot, Nothing, Opened, Root, Unopened, Wrong}
 use Rattle.walkdir.specs.Walk.Children.{AreChildren, ChildrenOf, IsStreamed, child_of, error_in, Broken, Ended, Next}
 use Rattle.walkdir.specs.Walk.Entries.{around, comes_after, shown}
 use Rattle.walkdir.specs.Options.{Built, is_given}
@@ -23,7 +24,8 @@ use Rattle.walkdir.proofs.FailuresLaws.{failures-append}
 use Rattle.walkdir.proofs.SortedLemmas.{ordered_failures}
 use Rattle.walkdir.proofs.StableLaws.{stable_once}
 use Rattle.walkdir.proofs.WalkLaws.{same_for_any_most, same_with_most}
-use Rattle.walkdir.proofs.WalkCases.{front_sound, rest_sound, refused_as, as_wrong, as_closed, as_alone, as_entered, as_deepest, as_unopened, as_opened, as_nothing, as_lost, as_child, as_no_device, as_no_root, as_root}
+use Rattle.walkdir.proofs.WalkCases.{front_sound, rest_sound, refused_as, as_wrong, as_closed, as_alone, as_entered, as_deepest}
+use Rattle.walkdir.proofs.WalkCases.{as_unopened, as_opened, as_nothing, as_lost, as_child, as_no_device, as_no_root, as_root}
 
 -- ---- lists without failures
 

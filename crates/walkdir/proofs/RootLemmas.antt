@@ -17,7 +17,8 @@ use Rattle.walkdir.specs.Turns.Stands.{BeginsWalk, HandlesEntry, IsIn}
 use Rattle.walkdir.specs.Turns.Taken.{FoundDevice, KnowsDevice}
 use Rattle.walkdir.specs.Walk.{Walking, Ancestor, Item, HasDevice, IsWalk, Tells, WalkOf, told_at}
 use Rattle.walkdir.specs.Walk.Answers.{IsRefused}
-use Rattle.walkdir.specs.Walk.Entries.{around, entering, enters_directory, enters_root_link, entry_by, is_looked_at, is_root_link, loop_at, place_of, device_at, same_place, shown, taken_for, through_link, unless_loop}
+use Rattle.walkdir.specs.Walk.Entries.{around, entering, enters_directory, enters_root_link, entry_by, is_looked_at, is_root_link}
+use Rattle.walkdir.specs.Walk.Entries.{loop_at, place_of, device_at, same_place, shown, taken_for, through_link, unless_loop}
 use Rattle.walkdir.specs.Walk as walks
 use Rattle.walkdir.specs.declared.builder.Options.{Options}
 use Rattle.walkdir.specs.declared.error.Error.{Error}

@@ -10,7 +10,8 @@ use Rattle.odb_tree.specs.declared.entry.Entry.{Entry}
 use Rattle.odb_tree.specs.declared.meta.Meta.{Meta}
 use Rattle.walkdir.specs.Error.{io_error}
 use Rattle.walkdir.specs.Failures.{failures_among}
-use Rattle.walkdir.specs.Walk.{Ancestor, ContentsOf, HasDevice, IsWalk, Item, WalkOf, Walking, WalksOf, Alone, Child, Closed, Deepest, Entered, Failed, Lost, NoDevice, NoRoot, Nothing, Opened, Root, Unopened, Wrong}
+use Rattle.walkdir.specs.Walk.{Ancestor, ContentsOf, HasDevice, IsWalk, Item, WalkOf, Walking, WalksOf, Alone, Child, Closed}
+use Rattle.walkdir.specs.Walk.{Deepest, Entered, Failed, Lost, NoDevice, NoRoot, Nothing, Opened, Root, Unopened, Wrong}
 use Rattle.walkdir.specs.Walk.Children.{ChildrenOf}
 use Rattle.walkdir.specs.Walk.Answers.{IsRefused}
 use Rattle.walkdir.specs.Walk.Entries.{around, below_greatest, enter, entering, entry_by, is_looked_at, shown, taken_for}

@@ -1,6 +1,7 @@
 -- What a walk gives doesn't depend on how many directories may be open.
 use Rattle.std.proofs.Common.{◌≡◌, ℕ, List, refl, ◌∙◌}
-use Rattle.walkdir.specs.Walk.{Walking, Ancestor, Item, WalkOf, ContentsOf, WalksOf, IsWalk, Failed, Wrong, Closed, Alone, Entered, Deepest, Unopened, Opened, Nothing, Lost, Child, NoDevice, NoRoot, Root}
+use Rattle.walkdir.specs.Walk.{Walking, Ancestor, Item, WalkOf, ContentsOf, WalksOf, IsWalk, Failed, Wrong, Closed, Alone}
+use Rattle.walkdir.specs.Walk.{Entered, Deepest, Unopened, Opened, Nothing, Lost, Child, NoDevice, NoRoot, Root}
 use Rattle.walkdir.specs.Walk.Entries.{taken_for, entering}
 use Rattle.walkdir.specs.WalkLaws.{GiveOneList, GivesOneList, IsSameForAnyMost, with_most}
 use Rattle.walkdir.specs.declared.dent.DirEntry.{DirEntry}

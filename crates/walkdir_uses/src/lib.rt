@@ -18,7 +18,8 @@ ghost use Rattle.walkdir.specs.Progress.{FailsByFault, Keeps, begun, has_its_str
 ghost use Rattle.walkdir.specs.declared.sort.NoSort.{NoSort};
 ghost use Rattle.walkdir.specs.StackProgress.{progress};
 ghost use Rattle.walkdir.specs.Walk.{IsWalk, Item};
-ghost use Rattle.walkdir_uses.specs.Found.{AreOnly, EndsWith, FoundIn, IsRefusedAmong, IsRefusedLook, IsStoppedBy, IsStoppedIn, as_given, below, inside, is_visible, paths_of_files, total_size, visible_names};
+ghost use Rattle.walkdir_uses.specs.Found.{AreOnly, EndsWith, FoundIn, IsRefusedAmong, IsRefusedLook, IsStoppedBy, IsStoppedIn};
+ghost use Rattle.walkdir_uses.specs.Found.{as_given, below, inside, is_visible, paths_of_files, total_size, visible_names};
 
 use std::alloc::{AllocError, Global};
 use walkdir::{DirEntry, Disk, IntoIter, Kind, NoSort, PathText, Result, Sorter, Walk, WalkDir};

@@ -1,5 +1,6 @@
 -- Digits with zeros behind them, and the prefixes that are made of them.
-use Rattle.std.proofs.Common.{◌≡◌, ℕ, zero, suc, ◌-◌, ◌*◌, ◌≤◌, true, List, [], ◌∷◌, ◌++◌, length, take, drop, inl, inr, Result, Ok, Err, IfOk, IsOk, IsErrOf, IsTrue, IsFalse, ◌↔◌, refl, sym, ap, ◌∙◌, subst, arith, length-append, length-take-le}
+use Rattle.std.proofs.Common.{◌≡◌, ℕ, zero, suc, ◌-◌, ◌*◌, ◌≤◌, true, List, [], ◌∷◌, ◌++◌, length, take, drop, inl, inr, Result, Ok, Err}
+use Rattle.std.proofs.Common.{IfOk, IsOk, IsErrOf, IsTrue, IsFalse, ◌↔◌, refl, sym, ap, ◌∙◌, subst, arith, length-append, length-take-le}
 use Rattle.std.proofs.lemmas.Bool.{and_parts}
 use Rattle.std.proofs.Math.Seq.{take-append_seam, drop-append_seam}
 use Rattle.gix_hash.specs.Kind.{digits_in, len_in_bytes_of, most_digits}

@@ -17,7 +17,8 @@ use Rattle.gix_odb_world.specs.declared.step.Outcome.TheVariants as outcomes
 use Rattle.gix_odb_world.specs.Event.{Asked, Event, answered}
 use Rattle.gix_odb_world.specs.declared.work.Work.{Work}
 use Rattle.gix_odb_world.specs.Machines.{fed_in}
-use Rattle.gix_odb_world.specs.Status.{MakeCall, OpenStore, Running, Status, Store, Task, Free, Resting, Working, come_to, ignoring_from, refuses_opening, replied, started, store_at, turned, Modes, modes_at_opening, now_ignoring}
+use Rattle.gix_odb_world.specs.Status.{MakeCall, OpenStore, Running, Status, Store, Task, Free, Resting, Working, come_to, ignoring_from}
+use Rattle.gix_odb_world.specs.Status.{refuses_opening, replied, started, store_at, turned, Modes, modes_at_opening, now_ignoring}
 use Rattle.gix_odb_world.specs.Begun.{AppliedSince, BegunAs, BegunBy, HoldsStore, IsIgnoreOf, IsOpenOf, IsTaskOf, NoneSince, OpenedBy}
 use Rattle.gix_odb_world.specs.Valid.{phase_of, why_not_idle}
 use Rattle.gix_odb_world.proofs.RunLemmas.{slice_get-kept, slice_get-last, slice_get-push}

@@ -12,7 +12,8 @@ use Rattle.gix_odb_world.specs.declared.step.Step.TheVariants as steps
 use Rattle.gix_odb_world.specs.declared.work.Work.{Work}
 use Rattle.gix_odb_world.specs.Event.{Answer, Asked, answered}
 use Rattle.gix_odb_world.specs.Machines.{fed_in, write_in}
-use Rattle.gix_odb_world.specs.Status.{IsAtWrite, MakeCall, Running, Store, Status, Free, Resting, Working, after_turn_of, applied, come_to, gone_on, ignoring_from, opening_at, refuses_opening, replied, running_from, started, status_after, turned, with_status, Modes, now_ignoring}
+use Rattle.gix_odb_world.specs.Status.{IsAtWrite, MakeCall, Running, Store, Status, Free, Resting, Working, after_turn_of, applied, come_to, gone_on, ignoring_from}
+use Rattle.gix_odb_world.specs.Status.{opening_at, refuses_opening, replied, running_from, started, status_after, turned, with_status, Modes, now_ignoring}
 use Rattle.gix_odb_world.proofs.MachineLaws.{HasNoFile}
 use Rattle.gix_odb_world.proofs.WorkLaws.{wrote_before}
 

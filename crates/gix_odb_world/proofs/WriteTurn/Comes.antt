@@ -33,7 +33,8 @@ use Rattle.gix_odb_loose.specs.declared.write_order.WriteStage.TheVariants as st
 use Rattle.gix_odb_world.specs.Event.{Event}
 use Rattle.gix_odb_world.specs.Run.{disk_after}
 use Rattle.gix_odb_world.specs.Running.Write.{Holds, HoldsFile, IsUntouched, StandsAt, content_at, job_to_write}
-use Rattle.gix_odb_world.specs.Writing.{AskedAt, AskedSince, CauseOfWrite, ChangedNothing, DoneSince, IsNewFile, IsRename, TurnsMadeOnly, RefusedSince, NoTurnRenamed, TakenSince, head_to_write, name_to_write}
+use Rattle.gix_odb_world.specs.Writing.{AskedAt, AskedSince, CauseOfWrite, ChangedNothing, DoneSince, IsNewFile, IsRename, TurnsMadeOnly}
+use Rattle.gix_odb_world.specs.Writing.{RefusedSince, NoTurnRenamed, TakenSince, head_to_write, name_to_write}
 use Rattle.gix_odb_world.specs.Written.{HasWritten, WasRefused}
 use Rattle.gix_odb_world.proofs.RefusedLemmas.{refused_on_way}
 use Rattle.gix_odb_world.proofs.WriteAsk.Quiet.{never_wants}

@@ -39,7 +39,8 @@ use Rattle.gix_odb_world.specs.Written.{HasWritten}
 use Rattle.gix_odb_world.proofs.RunLemmas.{tree_at-before}
 use Rattle.gix_odb_world.proofs.WriteAsk.{change_by-all, done_made, told_make_dir, told_remove, told_rename, undone_made}
 use Rattle.gix_odb_world.proofs.WriteKept.{alone_before, asked_at_kept}
-use Rattle.gix_odb_world.proofs.WriteTurn.Common.{CallOfTurn, Makes, Stands, TurnOfWrite, before_is, call_at, foldered_holds, is_tree, made_before_removal, made_same, no_file, no_rename, now_changed, own, same_holds}
+use Rattle.gix_odb_world.proofs.WriteTurn.Common.{CallOfTurn, Makes, Stands, TurnOfWrite, before_is, call_at, foldered_holds, is_tree}
+use Rattle.gix_odb_world.proofs.WriteTurn.Common.{made_before_removal, made_same, no_file, no_rename, now_changed, own, same_holds}
 use Rattle.gix_odb_world.proofs.WriteTurn.Comes.{PartsTo, cleared}
 
 module _ (t : TurnOfWrite) where

@@ -1,5 +1,6 @@
 -- The parts of a text: its front and its last name, its names with slashes, and what goes on behind another.
-use Rattle.std.proofs.Common.{◌≡◌, ◌≢◌, inl, inr, ◌==◌, ℕ, suc, ◌+◌, ◌-◌, ◌<◌, true, false, cond, List, [], ◌∷◌, ◌++◌, length, get_or, take, drop, map, append-nil, append_assoc, Some, None, refl, sym, ap, subst, ◌∙◌, lit<, arith, length-append}
+use Rattle.std.proofs.Common.{◌≡◌, ◌≢◌, inl, inr, ◌==◌, ℕ, suc, ◌+◌, ◌-◌, ◌<◌, true, false, cond, List, [], ◌∷◌, ◌++◌, length, get_or, take}
+use Rattle.std.proofs.Common.{drop, map, append-nil, append_assoc, Some, None, refl, sym, ap, subst, ◌∙◌, lit<, arith, length-append}
 use Rattle.std.specs.List.{All, slice_split, list_any, list_all, flat_map, starts_with}
 use Rattle.std.specs.Str.Pattern.{RFindsChar, SplitsAroundMatch}
 use Rattle.std.proofs.Math.Seq.{get_or-append_seam, drop-append-add}

@@ -10,7 +10,8 @@ use Rattle.odb_disk.specs.MemDisk.{Volume, after_call}
 use Rattle.odb_disk.specs.Streams.{Streams, still_gives}
 use Rattle.odb_tree.specs.Entries.{opened}
 use Rattle.odb_disk.specs.StreamAsks.{streams_after, after_opening, after_taking, least_closed}
-use Rattle.odb_disk.specs.Ask.{dir_answer, entry_answer, write_answer, answer_of, answer_in, change_of_ask, state_after, streams_left, is_counted, fails_now, after_count, after_ask, AnswersAsk, IsCounted, ran_out}
+use Rattle.odb_disk.specs.Ask.{dir_answer, entry_answer, write_answer, answer_of, answer_in, change_of_ask, state_after, streams_left}
+use Rattle.odb_disk.specs.Ask.{is_counted, fails_now, after_count, after_ask, AnswersAsk, IsCounted, ran_out}
 use Rattle.odb_tree.specs.declared.change.Change.{Change}
 use Rattle.odb_tree.specs.declared.entry.Entry.{Entry}
 use Rattle.odb_tree.specs.declared.disk_error.DiskError.{DiskError}

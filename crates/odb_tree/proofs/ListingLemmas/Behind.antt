@@ -1,5 +1,6 @@
 -- The first node behind a path, and what lies below an entry of a directory.
-use Rattle.std.proofs.Common.{◌≡◌, ◌≢◌, ◌&&◌, Bool, true, false, cond, [], ◌∷◌, ◌++◌, length, drop, map, Option, Some, None, IsSome, is_some, T, refl, sym, ap, subst, ◌∙◌, append-nil, length-append, arith}
+use Rattle.std.proofs.Common.{◌≡◌, ◌≢◌, ◌&&◌, Bool, true, false, cond, [], ◌∷◌, ◌++◌, length, drop, map, Option, Some}
+use Rattle.std.proofs.Common.{None, IsSome, is_some, T, refl, sym, ap, subst, ◌∙◌, append-nil, length-append, arith}
 use Rattle.std.specs.Ordering.{is_lt, is_gt, ordering_reverse}
 use Rattle.std.specs.declared.cmp.Ordering.{Ordering}
 use Rattle.std.specs.declared.cmp.Ordering.TheVariants.{Less, Equal, Greater}

@@ -8,7 +8,8 @@ use Rattle.odb_tree.specs.Tree.{Tree, IsTree, node_at, is_directory, is_director
 use Rattle.odb_tree.specs.Tree.Follow as following
 use Rattle.odb_tree.specs.Tree.Follow.{followed, read_of, most_links}
 use Rattle.odb_tree.specs.Tree.Change.{changed, is_file_content}
-use Rattle.odb_tree.specs.Tree.Write.{WrongKind, from_followed, in_directory, and_then, file_path, spot, spot_below, movable, replaceable, file_spot, change_of_make_dir, change_of_append, change_of_rename, change_of_remove}
+use Rattle.odb_tree.specs.Tree.Write.{WrongKind, from_followed, in_directory, and_then, file_path, spot, spot_below, movable, replaceable}
+use Rattle.odb_tree.specs.Tree.Write.{file_spot, change_of_make_dir, change_of_append, change_of_rename, change_of_remove}
 use Rattle.odb_tree.specs.Tree.Write as writing
 use Rattle.odb_tree.specs.Tree.Way.{on_way, is_link, crosses, SameOnWay}
 use Rattle.odb_tree.specs.declared.node.Node.{Node}

@@ -6,7 +6,8 @@ use Rattle.odb_base.specs.PathLaws.{parent_of-push}
 use Rattle.odb_tree.specs.Tree.{Tree, IsTree, node_at, is_directory, is_directory_content}
 use Rattle.odb_tree.specs.Tree.Follow.{followed, most_links}
 use Rattle.odb_tree.specs.Tree.Change.{changed, is_file_content, lies_in_directory}
-use Rattle.odb_tree.specs.Tree.Write.{WrongKind, from_followed, in_directory, spot, spot_below, vacant, replaceable, file_spot, change_of_make_dir, change_of_new_file, change_of_append, change_of_rename, change_of_remove}
+use Rattle.odb_tree.specs.Tree.Write.{WrongKind, from_followed, in_directory, spot, spot_below, vacant, replaceable, file_spot, change_of_make_dir}
+use Rattle.odb_tree.specs.Tree.Write.{change_of_new_file, change_of_append, change_of_rename, change_of_remove}
 use Rattle.odb_tree.specs.Tree.Way.{on_way, is_link, SameOnWay}
 use Rattle.odb_tree.specs.declared.node.Node.{Node}
 use Rattle.odb_tree.specs.declared.change.Change.{Change}
@@ -19,7 +20,8 @@ use Rattle.odb_tree.proofs.WriteLaws.{untouched}
 use Rattle.odb_tree.proofs.WayLemmas.Alike.{outline}
 use Rattle.odb_tree.proofs.WayLemmas.Spots.{file_no_link}
 use Rattle.odb_tree.proofs.WayLemmas.Stops.{still_reached, stop_trod}
-use Rattle.odb_tree.proofs.WayLaws.{Trod, Passed, Crossed, Last, Behind, file_spot_kept, file_spot_own, front_on_way, on_way_kept, place_on_way, same_append, same_directory, same_make_dir, same_put_file, same_remove, same_rename, same_unfollowed, spot_kept}
+use Rattle.odb_tree.proofs.WayLaws.{Trod, Passed, Crossed, Last, Behind, file_spot_kept, file_spot_own, front_on_way, on_way_kept, place_on_way, same_append}
+use Rattle.odb_tree.proofs.WayLaws.{same_directory, same_make_dir, same_put_file, same_remove, same_rename, same_unfollowed, spot_kept}
 use Rattle.odb_tree.proofs.WayWriteLaws.{append_change, append_file_spot, append_spot, file_renamed, file_removed, make_dir_change, new_file_change, new_file_file_spot, new_file_spot}
 
 -- ---- a file on a way

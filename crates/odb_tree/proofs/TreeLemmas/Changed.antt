@@ -4,7 +4,8 @@ use Rattle.std.proofs.lemmas.Bool.{false≢true, and_parts, not-true}
 use Rattle.odb_base.specs.Path.{Path}
 use Rattle.odb_tree.specs.Tree.{Tree, State, IsTree, tree_of, state_of, node_at, with_node, without, names_in, is_directory}
 use Rattle.odb_tree.specs.Tree.Follow.{Place, Refusal, followed, most_links}
-use Rattle.odb_tree.specs.Tree.Change.{parent_node, lies_in_directory, is_nil, is_file_place, is_possible_in, is_possible, changed, after_change, least_free, put_node, put_over, link_node, link_over, device_of, with_moved, with_longer, longer, is_file, with_time, timed}
+use Rattle.odb_tree.specs.Tree.Change.{parent_node, lies_in_directory, is_nil, is_file_place, is_possible_in, is_possible, changed, after_change, least_free}
+use Rattle.odb_tree.specs.Tree.Change.{put_node, put_over, link_node, link_over, device_of, with_moved, with_longer, longer, is_file, with_time, timed}
 use Rattle.odb_tree.specs.Tree.Write.{after_write}
 use Rattle.odb_tree.specs.declared.node.Node.{Node}
 use Rattle.odb_tree.specs.declared.node.Content.{Content}

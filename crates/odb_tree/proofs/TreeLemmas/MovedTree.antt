@@ -1,5 +1,6 @@
 -- A tree stays a tree where what can be moved is moved.
-use Rattle.std.proofs.Common.{◌≡◌, ◌≢◌, ◌⊎◌, true, false, not, ◌&&◌, [], ◌∷◌, ◌++◌, length, drop, Option, Some, None, is_none, refl, sym, ap, ◌∙◌, inl, inr, cond, subst, append-nil, append_assoc, length-append, arith}
+use Rattle.std.proofs.Common.{◌≡◌, ◌≢◌, ◌⊎◌, true, false, not, ◌&&◌, [], ◌∷◌, ◌++◌, length, drop, Option, Some, None, is_none}
+use Rattle.std.proofs.Common.{refl, sym, ap, ◌∙◌, inl, inr, cond, subst, append-nil, append_assoc, length-append, arith}
 use Rattle.std.proofs.lemmas.Bool.{false≢true, false_from_ne_true, and_parts, not-true}
 use Rattle.std.proofs.lemmas.List.{append_cancel_left}
 use Rattle.std.proofs.lemmas.Option.{same_Some}
@@ -14,7 +15,8 @@ use Rattle.odb_tree.specs.declared.node.Content.TheVariants.{File, Dir, Link}
 use Rattle.odb_tree.proofs.TreeLemmas.{cases_path, node_at-put, node_at-put_other, node_at-taken, node_at-taken_other}
 use Rattle.odb_tree.proofs.TreeLemmas.Follow.{way_is_directory}
 use Rattle.odb_tree.proofs.TreeLemmas.Change.{root_lies_nowhere, lies_in-push, lies_in-node, split_last}
-use Rattle.odb_tree.proofs.TreeLemmas.Moved.{begins, begins-append, begins-own, begins-more, root_begins, moved_below, moved_target, moved_away, moved_other, WasBelow, WasThere, at_after_move, moved_onto_itself}
+use Rattle.odb_tree.proofs.TreeLemmas.Moved.{begins, begins-append, begins-own, begins-more, root_begins, moved_below, moved_target}
+use Rattle.odb_tree.proofs.TreeLemmas.Moved.{moved_away, moved_other, WasBelow, WasThere, at_after_move, moved_onto_itself}
 
 -- ---- paths
 

@@ -1,5 +1,6 @@
 -- Laws of inode numbers: the least that no node has.
-use Rattle.std.proofs.Common.{◌≡◌, ◌≢◌, ◌⊎◌, ℕ, zero, suc, ◌+◌, ◌<◌, ◌≤◌, ◌==◌, max, fold, unwrap_or, Bool, true, false, not, cond, List, [], ◌∷◌, Some, None, refl, sym, ap, ◌∙◌, inl, inr, eqb-true, arith}
+use Rattle.std.proofs.Common.{◌≡◌, ◌≢◌, ◌⊎◌, ℕ, zero, suc, ◌+◌, ◌<◌, ◌≤◌, ◌==◌, max, fold, unwrap_or, Bool, true, false}
+use Rattle.std.proofs.Common.{not, cond, List, [], ◌∷◌, Some, None, refl, sym, ap, ◌∙◌, inl, inr, eqb-true, arith}
 use Rattle.std.specs.List.{list_any, find, range_with_len}
 use Rattle.std.proofs.lemmas.Bool.{false≢true, not-true, or_cases, false_from_ne_true, cases_eq, cases_lt}
 use Rattle.odb_tree.specs.Tree.{Tree, node_at, inode_numbers}

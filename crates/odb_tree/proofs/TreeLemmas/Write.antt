@@ -8,7 +8,8 @@ use Rattle.odb_tree.specs.Tree.{Tree, IsTree, node_at, names_in, is_directory, i
 use Rattle.odb_tree.specs.Tree.Follow as following
 use Rattle.odb_tree.specs.Tree.Follow.{Place, followed, most_links}
 use Rattle.odb_tree.specs.Tree.Change.{is_nil, parent_node, device_of, lies_in_directory, is_file_content, is_file_place, can_move, is_possible_in}
-use Rattle.odb_tree.specs.Tree.Write.{Refusal, WrongKind, NotEmpty, from_followed, and_then, in_directory, spot_below, spot, vacant_spot, vacant, movable_spot, movable, replaceable, removable_spot, removable, file_path, file_spot, change_of_make_dir, change_of_new_file, change_of_append, change_of_rename, change_of_remove}
+use Rattle.odb_tree.specs.Tree.Write.{Refusal, WrongKind, NotEmpty, from_followed, and_then, in_directory, spot_below, spot, vacant_spot, vacant, movable_spot, movable, replaceable}
+use Rattle.odb_tree.specs.Tree.Write.{removable_spot, removable, file_path, file_spot, change_of_make_dir, change_of_new_file, change_of_append, change_of_rename, change_of_remove}
 use Rattle.odb_tree.specs.declared.node.Node.{Node}
 use Rattle.odb_tree.specs.declared.change.Change.{Change}
 use Rattle.odb_tree.specs.declared.change.Change.TheVariants.{PutFile, MakeDir, Rename, Append, Remove}

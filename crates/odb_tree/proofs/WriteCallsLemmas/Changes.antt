@@ -6,7 +6,8 @@ use Rattle.odb_tree.specs.Tree.{Tree, IsTree, node_at, with_node, is_directory}
 use Rattle.odb_tree.specs.Tree.Follow as following
 use Rattle.odb_tree.specs.Tree.Follow.{Place, followed}
 use Rattle.odb_tree.specs.Tree.Change.{lies_in_directory, parent_node, device_of, is_file_content, is_file_place, with_longer, longer, changed}
-use Rattle.odb_tree.specs.Tree.Write.{Refusal, Absent, WrongKind, LinkLoop, Exists, NotEmpty, from_followed, and_then, vacant, movable, replaceable, removable, file_path, file_spot, change_of_make_dir, change_of_new_file, change_of_append, change_of_rename, change_of_remove, done, changed_by}
+use Rattle.odb_tree.specs.Tree.Write.{Refusal, Absent, WrongKind, LinkLoop, Exists, NotEmpty, from_followed, and_then, vacant, movable, replaceable, removable, file_path}
+use Rattle.odb_tree.specs.Tree.Write.{file_spot, change_of_make_dir, change_of_new_file, change_of_append, change_of_rename, change_of_remove, done, changed_by}
 use Rattle.odb_tree.specs.TreeCalls.{impossible_by}
 use Rattle.odb_tree.specs.Answers.{Tells}
 use Rattle.odb_tree.specs.declared.node.Node.{Node}

@@ -5,7 +5,8 @@ use Rattle.odb_tree.specs.Tree.{Tree, node_at, names_in, is_directory}
 use Rattle.odb_tree.specs.Tree.Follow as following
 use Rattle.odb_tree.specs.Tree.Follow.{Place, pass, followed, followed_within, most_links}
 use Rattle.odb_tree.specs.Tree.Change.{is_nil, is_file_content}
-use Rattle.odb_tree.specs.Tree.Write.{Refusal, Absent, WrongKind, Exists, NotEmpty, from_followed, and_then, in_directory, spot_below, spot, vacant_spot, vacant, movable_spot, movable, replaceable, removable_spot, removable, file_path, file_spot}
+use Rattle.odb_tree.specs.Tree.Write.{Refusal, Absent, WrongKind, Exists, NotEmpty, from_followed, and_then, in_directory, spot_below, spot, vacant_spot}
+use Rattle.odb_tree.specs.Tree.Write.{vacant, movable_spot, movable, replaceable, removable_spot, removable, file_path, file_spot}
 use Rattle.odb_tree.specs.TreeCalls.{Ends, path_of_place}
 use Rattle.odb_tree.specs.Answers.{Tells}
 use Rattle.odb_tree.specs.declared.node.Node.{Node}

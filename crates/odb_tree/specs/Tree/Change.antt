@@ -1,5 +1,6 @@
 -- What a change may do to a tree, and which changes are possible.
-use Rattle.std.specs.Prelude.{ℕ, ◌+◌, ◌==◌, ◌&&◌, ◌++◌, Bool, true, false, not, max, fold, find, List, [], ◌∷◌, length, drop, Option, Some, None, is_some, is_none, unwrap_or, option_and_then, Result, Ok, Err, if◌then◌else◌}
+use Rattle.std.specs.Prelude.{ℕ, ◌+◌, ◌==◌, ◌&&◌, ◌++◌, Bool, true, false, not, max, fold, find, List, [], ◌∷◌, length, drop, Option}
+use Rattle.std.specs.Prelude.{Some, None, is_some, is_none, unwrap_or, option_and_then, Result, Ok, Err, if◌then◌else◌}
 use Rattle.std.specs.List.{list_any, range_with_len, starts_with, filter_map}
 use Rattle.odb_base.specs.Path.{Path, Name, parent_of, same_name}
 use Rattle.odb_tree.specs.Tree.{Tree, State, tree_of, state_of, tree_of_entries, node_at, with_node, without, names_in, inode_numbers, is_directory, is_directory_content}

@@ -17,7 +17,8 @@ impl Tree {
     ghost use Rattle.odb_tree.specs.Tree.{IsTree};
     ghost use Rattle.odb_tree.specs.Tree.Follow.{followed_within};
     ghost use Rattle.odb_tree.specs.Tree.Change.{is_possible_in};
-    ghost use Rattle.odb_tree.specs.Tree.Write.{from_followed, spot, vacant, movable, replaceable, removable, file_spot, change_of_make_dir, change_of_new_file, change_of_append, change_of_rename, change_of_remove, done, changed_by};
+    ghost use Rattle.odb_tree.specs.Tree.Write.{from_followed, spot, vacant, movable, replaceable, removable, file_spot};
+    ghost use Rattle.odb_tree.specs.Tree.Write.{change_of_make_dir, change_of_new_file, change_of_append, change_of_rename, change_of_remove, done, changed_by};
     ghost use Rattle.odb_tree.specs.TreeCalls.{path_of_place};
 
     /// Makes a directory where nothing stands. A refused call changes nothing.

@@ -54,7 +54,8 @@ returns-in_err-push-clause-back g c =
     ∙ c.in_ok-entry-items.ensures.begun in
     let back = left_back g.D.Disk.state g.D.Disk.streams g.D.Disk.faults g.D.Disk.answered (λ walk streams. progress g.S.Sorter.order walk streams) g.S.Sorter.order c.args.walk
     (g.D.Disk.streams c.args.disk.now)
-    (g.D.Disk.streams c.drop-entry-iterator-in_err-push.new.self.0) c.into_iter-entry-iterator.result c.loop-entry.yielded c.loop-entry.entry-iterator c.next.result c.next.new.self begun c.loop-entry.yielded_by
+    (g.D.Disk.streams c.drop-entry-iterator-in_err-push.new.self.0)
+    c.into_iter-entry-iterator.result c.loop-entry.yielded c.loop-entry.entry-iterator c.next.result c.next.new.self begun c.loop-entry.yielded_by
     c.next.ensures.steps c.drop-entry-iterator-in_err-push.ensures.back in
     search rules
 

@@ -15,7 +15,8 @@ returns-then-choices-clause-ends g c =
         held = g.K.Sink.held c.walked.new.sink;
         told = g.E.Sink.held c.walked.new.errors;
       };
-    }) c.at.result c.chosen-walk.result c.at.ensures.root c.at.ensures.options c.chosen-walk.ensures.walk _ _ c.sort_by_file_name.result c.sort_by_file_name.ensures.sorted refl c.if-choices.true c.walked.ensures.ends
+    }) c.at.result c.chosen-walk.result c.at.ensures.root c.at.ensures.options c.chosen-walk.ensures.walk _ _
+    c.sort_by_file_name.result c.sort_by_file_name.ensures.sorted refl c.if-choices.true c.walked.ensures.ends
 
 pub returns-else-choices-clause-ends : goal.returns-else-choices-clause-ends
 returns-else-choices-clause-ends g c =

@@ -22,4 +22,5 @@ returns-in_err-take-clause-unlisted g c =
     let (found, each, is) = c.loop-name.invariant in
     let some = subst (λ s. Yields g.I.Iterator.next_gives s c.loop-name.yielded c.loop-name.name-iterator) c.into_iter-name-iterator.ensures.into_iter_gives c.loop-name.yielded_by in
     if_err c.from_residual.result c.in_err-take.field-0.0 (λ e. ListsNone g.I.Iterator.next_gives c.args.names c.args.most e) c.from_residual.ensures.1
-    (lists_no_more g.I.Iterator.next_gives c.args.names _ c.next.new.self c.args.most c.loop-name.yielded c.in-Some.name found c.loop-name.listing c.take.new.self c.in_err-take.field-0.0 some c.in-Some.ensures.steps each is c.in_err-take.ensures.takes)
+    (lists_no_more g.I.Iterator.next_gives c.args.names _ c.next.new.self c.args.most
+    c.loop-name.yielded c.in-Some.name found c.loop-name.listing c.take.new.self c.in_err-take.field-0.0 some c.in-Some.ensures.steps each is c.in_err-take.ensures.takes)

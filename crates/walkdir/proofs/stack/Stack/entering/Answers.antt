@@ -13,7 +13,8 @@ use Rattle.walkdir.specs.AnsweredTurns.{IsEnteringTold}
 use Rattle.walkdir.proofs.AnsweredLemmas.{leads_still}
 use Rattle.walkdir.proofs.AnsweredLemmas.Calls.{look_known, look_leads, look_refused}
 use Rattle.walkdir.proofs.stack.Stack.entering.Goals as goal
-use Rattle.walkdir.proofs.stack.Stack.entering.Goals.{then-not-is_link-via-then-not-is_link, then-not-is_link-via-else-not-is_link+then-depth-ne0, then-not-is_link-via-else-not-is_link+else-depth-ne0+then-not-self}
+use Rattle.walkdir.proofs.stack.Stack.entering.Goals.{then-not-is_link-via-then-not-is_link, then-not-is_link-via-else-not-is_link+then-depth-ne0}
+use Rattle.walkdir.proofs.stack.Stack.entering.Goals.{then-not-is_link-via-else-not-is_link+else-depth-ne0+then-not-self}
 
 pub returns-then-is_dir-clause-enters : goal.returns-then-is_dir-clause-enters
 returns-then-is_dir-clause-enters g c =
