@@ -26,7 +26,7 @@ use Rattle.gix_odb_loose.specs.declared.write_at_hand.Advance.{Advance}
 use Rattle.gix_odb_loose.specs.declared.write_at_hand.Advance.TheVariants as advances
 use Rattle.gix_odb_loose.specs.declared.write_at_hand.WriteJob.{WriteJob}
 use Rattle.gix_odb_loose.specs.declared.call.Next.{Next}
-use Rattle.gix_odb_loose.specs.declared.call.Next.TheVariants as lent
+use Rattle.gix_odb_loose.specs.declared.call.Next.TheVariants as nexts
 use Rattle.gix_odb_loose.specs.declared.call.Stage.{Stage}
 use Rattle.gix_odb_loose.specs.declared.call.Stage.TheVariants as stages
 use Rattle.gix_odb_loose.specs.LooseOrder.Answered.{tested_by, found_by, header_by}
@@ -60,8 +60,8 @@ ask_of call = asked_at call.stage
 
 -- the same with the reply lent
 abbrev pub asked_as : Next → LooseAsk
-asked_as (lent.Disk ask) = loose_asks.Disk ask
-asked_as (lent.Done reply) = loose_asks.Done reply.now
+asked_as (nexts.Disk ask) = loose_asks.Disk ask
+asked_as (nexts.Done reply) = loose_asks.Done reply.now
 
 -- the call of the disk, if there is one; the reply, if the call is done
 abbrev pub disk_ask_in : LooseAsk → Option DiskAsk

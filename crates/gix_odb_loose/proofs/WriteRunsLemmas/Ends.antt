@@ -1,6 +1,6 @@
 -- From the end of a write to what its run promises.
 use Rattle.std.specs.Result.{IsErrAnd}
-use Rattle.std.specs.Prelude.{◌≡◌, ◌⊎◌, ⊤, ℕ, false, List, [], ◌∷◌, length, Option, Some, None, Result, Ok, Err, IfOk, IfSome, refl}
+use Rattle.std.specs.Prelude.{◌≡◌, ◌⊎◌, ⊤, ℕ, List, [], ◌∷◌, length, Option, Some, None, Result, Ok, Err, IfOk, IfSome, refl}
 use Rattle.std.proofs.Common.{inl, inr, sym, ap, ◌∙◌, subst, arith}
 use Rattle.odb_base.specs.Faults.{Rose}
 use Rattle.odb_tree.specs.Tree.{State, IsTree, tree_of}
@@ -22,11 +22,10 @@ use Rattle.gix_odb_loose.specs.WriteOwn.{AreOwn, LeavesNothing}
 use Rattle.gix_odb_loose.specs.WriteOrder.{error_from, temp_path}
 use Rattle.gix_odb_loose.specs.WriteRuns.RefusedAsks.{Refuses, FoundThere}
 use Rattle.gix_odb_loose.specs.WriteRuns.{IsRefusedWrite, IsStoppedBySource, Writes, WriteRuns}
-use Rattle.gix_odb_loose.specs.StreamJobs.Progress.{write_made, begun_in, Begun, NamedBy, SourceFailed, IsSpared, Did, Took, BrokeOff}
+use Rattle.gix_odb_loose.specs.StreamJobs.Progress.{write_made, Begun, NamedBy, SourceFailed, IsSpared, Did, Took, BrokeOff}
 use Rattle.gix_odb_loose.specs.StreamJobs.SameAsks.{at_hand}
-use Rattle.gix_odb_loose.specs.StreamJobs.AtStage.{IsNew}
 use Rattle.gix_odb_loose.specs.StreamJobs.Standing.{IsAtItsEnd, IsBrokenOff}
-use Rattle.gix_odb_loose.specs.StreamJobs.{IsToldBy, IsUnderway}
+use Rattle.gix_odb_loose.specs.StreamJobs.{IsToldBy}
 use Rattle.gix_odb_loose.specs.WriteStreams.{IsAtEnd, OtherLength, TakesFrom}
 use Rattle.gix_odb_loose.proofs.WriteShownLaws.{refused_unnamed, refused_cleared, broken_unnamed, broken_cleared}
 use Rattle.gix_odb_loose.proofs.WriteShownLaws.Own.{refused_own, broken_own, moved_own}
@@ -44,12 +43,6 @@ use Rattle.odb_base.specs.Path.{Path}
 use Rattle.gix_odb_loose.proofs.AskLaws.{IsAlong-start}
 use Rattle.gix_odb_loose.proofs.WriteStreamsLemmas.{Draws-end}
 use Rattle.gix_odb_loose.proofs.StreamJobsLemmas.SameAsks.{runs_end}
-use Rattle.gix_odb_loose.proofs.StreamJobsLemmas.Ends.{stands_first}
-use Rattle.gix_odb_loose.specs.WriteNames.{Names}
-use Rattle.gix_odb_loose.specs.declared.write_streamed.StreamJob.{StreamJob}
-use Rattle.gix_odb_loose.specs.declared.store.Store.{Store}
-use Rattle.gix_object.specs.declared.kind.Kind.{Kind}
-use Rattle.gix_hash.specs.declared.kind.Kind.{Kind as HashKind}
 use Rattle.gix_odb_loose.proofs.WriteRunsLemmas.RefusedAsks.{refuses_in}
 
 -- an object that got its name is read back, where the states are told
@@ -228,26 +221,3 @@ runs_nothing w result is =
 pub for_memory : {A : Type 0} (result : Result A Error) → IsErrAnd result (λ e. e ≡ errors.NoMemory) → result ≡ Err errors.NoMemory
 for_memory (Ok x) h = absurd h
 for_memory (Err error) h = ap (λ (e : Error). Err e) h
-
--- ---- how it begins
-
--- a write into a store as it began, on a disk and from a source
-abbrev pub begun_on : {S D : Type 0} → Store → Kind → ℕ → Option ObjectId → (left : S → Option (List ℕ)) (failures : S → ℕ) → S → (state : D → Option State) (faults : D → ℕ) → D → Begun
-begun_on store kind size known left failures source state faults disk = begun_in store kind size known (left source) (failures source) (state disk) (faults disk)
-
-pub new_underway : (w : Begun) (job : StreamJob) → IsNew w.head w.hash w.known job → IsUnderway w w.state w.faults w.left w.source_faults job
-new_underway w job new = stands_first w job new.about new.stage new.has_ended new.naming new.removal
-
-pub new_in : {E : Type 0} (head made : WriteHead) (hash taken : HashKind) (known : Option ObjectId) (result : Result StreamJob E) → made ≡ head → taken ≡ hash → IfOk result (λ job. job.head ≡ made)
-    → IfOk result (λ job. job.stage ≡ stages.Making 0)
-    → IfOk result (λ job. job.has_ended ≡ false) → IfOk result (λ job. Names known taken made [] job.naming) → IfOk result (λ job. job.removal ≡ asks.Remove (temp_path made.objects 0))
-    → IfOk result (IsNew head hash known)
-new_in head made hash taken known (Err error) same hash_is heads stage ended naming removal = tt
-new_in head made hash taken known (Ok job) same hash_is heads stage ended naming removal =
-    record {
-      about = heads ∙ same;
-      stage = stage;
-      has_ended = ended;
-      naming = subst (λ (h : HashKind). Names known h head [] job.naming) hash_is (subst (λ (h : WriteHead). Names known taken h [] job.naming) same naming);
-      removal = removal ∙ ap (λ (h : WriteHead). asks.Remove (temp_path h.objects 0)) same;
-    }

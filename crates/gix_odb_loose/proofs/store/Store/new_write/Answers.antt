@@ -2,7 +2,7 @@ use Rattle.std.proofs.Common.{ap, ◌∙◌}
 use Rattle.odb_base.specs.Path.{Path}
 use Rattle.gix_odb_loose.specs.declared.write_order.WriteHead.{WriteHead}
 use Rattle.gix_odb_loose.specs.WriteRuns.{write_head}
-use Rattle.gix_odb_loose.proofs.WriteRunsLemmas.Ends.{new_in}
+use Rattle.gix_odb_loose.proofs.WriteRunsLemmas.Begins.{new_in}
 use Rattle.gix_odb_loose.proofs.store.Store.new_write.Goals as goal
 
 pub returns : goal.returns

@@ -1,4 +1,5 @@
-use Rattle.gix_odb_loose.proofs.WriteRunsLemmas.Ends.{begun_on, for_memory, new_underway, runs_nothing}
+use Rattle.gix_odb_loose.proofs.WriteRunsLemmas.Begins.{begun_on, new_underway}
+use Rattle.gix_odb_loose.proofs.WriteRunsLemmas.Ends.{for_memory, runs_nothing}
 use Rattle.gix_odb_loose.proofs.store.Store.run_write.Goals as goal
 
 pub returns-in_err-job-clause-run : goal.returns-in_err-job-clause-run
