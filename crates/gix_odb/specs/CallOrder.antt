@@ -21,7 +21,7 @@ use Rattle.gix_odb.specs.declared.call.CallError.TheVariants as call_errors
 use Rattle.gix_odb.specs.declared.call.Reply.{Reply}
 use Rattle.gix_odb.specs.declared.call.Reply.TheVariants as replies
 use Rattle.gix_odb.specs.declared.call_state.CallState.{CallState}
-use Rattle.gix_odb.specs.declared.call_state.CallState.TheVariants.{Looking, Writing, Written}
+use Rattle.gix_odb.specs.declared.call_state.CallState.TheVariants.{Looking, Writing}
 use Rattle.gix_odb.specs.declared.look_state.LookState.{LookState}
 use Rattle.gix_odb.specs.declared.query.Query.{Query}
 use Rattle.gix_odb.specs.declared.query.Query.TheVariants.{Find, Header, Test}
@@ -50,13 +50,13 @@ wrote_as (loose_replies.Wrote (Ok id)) = replies.Wrote id
 wrote_as (loose_replies.Wrote (Err error)) = replies.Refused (call_errors.Write (write_errors.LooseWrite error))
 wrote_as reply = replies.NotFound
 
-abbrev pub written_by : LooseCall → Option LooseReply → CallState
-written_by call None = Writing call
-written_by call (Some reply) = Written (wrote_as reply)
+abbrev pub replied_by : LooseCall → Option LooseReply → Result Reply LooseCall
+replied_by call None = Err call
+replied_by call (Some reply) = Ok (wrote_as reply)
 
--- a write goes on, or has its reply
-abbrev pub after_write : LooseCall → CallState
-after_write call = written_by call (reply_of call)
+-- the reply of a write that is done, or the write
+abbrev pub result_of_write : LooseCall → Result Reply LooseCall
+result_of_write call = replied_by call (reply_of call)
 
 -- the size of a write has 64 bits
 abbrev pub HasSize : Call → Type 0
@@ -76,11 +76,10 @@ started objects limit sought (call_kinds.Header id) = looking objects limit soug
 started objects limit sought (call_kinds.Test id) = looking objects limit sought (Test id)
 started objects limit sought (call_kinds.Write kind size bytes id) = Writing (writing objects kind size bytes id)
 
--- the call of a folder that waits for the disk, if there is one
+-- the folder's call at which a call stands, if there is one
 abbrev pub waiting_in : CallState → Option LooseCall
 waiting_in (Looking state) = looks.waiting_in state
 waiting_in (Writing call) = Some call
-waiting_in (Written reply) = None
 
 -- the next call of the disk, if there is one
 abbrev pub ask_of : CallState → Option DiskAsk
@@ -90,14 +89,16 @@ abbrev pub looking_result : Result Reply LookState → Result Reply CallState
 looking_result (Ok reply) = Ok reply
 looking_result (Err state) = Err (Looking state)
 
+abbrev pub writing_result : Result Reply LooseCall → Result Reply CallState
+writing_result (Ok reply) = Ok reply
+writing_result (Err call) = Err (Writing call)
+
 -- the reply of a call that is done, or the call
 abbrev pub result_of : CallState → Result Reply CallState
 result_of (Looking state) = looking_result (looks.result_of state)
-result_of (Writing call) = Err (Writing call)
-result_of (Written reply) = Ok reply
+result_of (Writing call) = writing_result (result_of_write call)
 
 -- a call after the answer to its call of the disk
 abbrev pub fed : List Path → (limit : Option ℕ) → CallState → DiskAnswer → CallState
 fed folders limit (Looking state) answer = Looking (looks.fed folders limit state answer)
-fed folders limit (Writing call) answer = after_write (loose_order.fed call answer)
-fed folders limit (Written reply) answer = Written reply
+fed folders limit (Writing call) answer = Writing (loose_order.fed call answer)

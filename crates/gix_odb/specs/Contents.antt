@@ -71,16 +71,18 @@ job_of (Find asked) id = jobs.Find id
 job_of (Header asked) id = jobs.Header id
 job_of (Test asked) id = jobs.Contains id
 
--- what a loose file answers, as an answer of a store
-abbrev pub of_loose : loose.Answer → Answer
-of_loose (loose.Object kind bytes) = Object kind bytes
-of_loose (loose.HeaderOf kind size) = HeaderOf (Loose kind size)
-of_loose loose.Presence = Presence
+-- What a loose file answers a call, as an answer of a store. A file holds answers of one form alone for a call, so what the last row
+-- makes of those of another form never counts.
+abbrev pub of_loose : Query → loose.Answer → Answer
+of_loose (Find asked) (loose.Object kind bytes) = Object kind bytes
+of_loose (Header asked) (loose.HeaderOf kind size) = HeaderOf (Loose kind size)
+of_loose call own = Presence
 
--- Contents hold an answer of a call that seeks an id. What a loose file holds its folder says: a find is answered by a file of that
--- kind and data, the data as long as its header says and within the limit; a header by the file's header alone; a test by any file.
+-- Contents hold an answer of a call that seeks an id. A loose file holds an object if it is a header with that kind and the length of
+-- the data, and then the data, whose length is within the limit. It holds a header if it begins with it. Any file holds the answer of
+-- a test.
 abbrev pub Holds : StoreData → Query → (id : ObjectId) → Contents → Answer → Type 0
-Holds store call id (LooseFile bytes) answer = (own : loose.Answer) × (answer ≡ of_loose own) × loose.Holds store.limit (job_of call id) bytes own
+Holds store call id (LooseFile bytes) answer = (own : loose.Answer) × (answer ≡ of_loose call own) × loose.Holds store.limit (job_of call id) bytes own
 
 -- contents are sound for a call that seeks an id where they hold some answer of it
 abbrev pub IsSound : StoreData → Query → (id : ObjectId) → Contents → Type 0

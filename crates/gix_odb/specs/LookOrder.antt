@@ -15,7 +15,7 @@ use Rattle.gix_odb_loose.specs.declared.find.Error.TheVariants as errors
 use Rattle.gix_odb_loose.specs.declared.store.Store as loose
 use Rattle.gix_odb.specs.Contents.{job_of}
 use Rattle.gix_odb.specs.declared.query.Query.{Query}
-use Rattle.gix_odb.specs.declared.query.Query.TheVariants.{Test}
+use Rattle.gix_odb.specs.declared.query.Query.TheVariants.{Find, Header, Test}
 use Rattle.gix_odb.specs.declared.call.CallError.TheVariants as call_errors
 use Rattle.gix_odb.specs.declared.call.Reply.{Reply}
 use Rattle.gix_odb.specs.declared.call.Reply.TheVariants as replies
@@ -50,14 +50,15 @@ verdict_on_test (Ok false) = verdicts.Misses
 verdict_on_test (Err errors.NoMemory) = verdicts.Ends (refused errors.NoMemory)
 verdict_on_test (Err error) = verdicts.Notes error
 
--- An object, a header and an error end the query; nothing at the path is a miss. A folder that is asked for an object writes none.
-abbrev pub verdict_on : LooseReply → Verdict
-verdict_on (loose_replies.Contains answer) = verdict_on_test answer
-verdict_on (loose_replies.Found (Ok (Some found))) = verdicts.Ends (replies.Found found.0 found.1)
-verdict_on (loose_replies.Header (Ok (Some found))) = verdicts.Ends (replies.Header (headers.Loose found.1 found.0))
-verdict_on (loose_replies.Found (Err error)) = verdicts.Ends (refused error)
-verdict_on (loose_replies.Header (Err error)) = verdicts.Ends (refused error)
-verdict_on reply = verdicts.Misses
+-- What the query makes of the reply to its job: an object, a header and an error end it; nothing at the path is a miss. So is the reply
+-- to another job, which no folder gives.
+abbrev pub verdict_on : Query → LooseReply → Verdict
+verdict_on (Find asked) (loose_replies.Found (Ok (Some found))) = verdicts.Ends (replies.Found found.0 found.1)
+verdict_on (Find asked) (loose_replies.Found (Err error)) = verdicts.Ends (refused error)
+verdict_on (Header asked) (loose_replies.Header (Ok (Some found))) = verdicts.Ends (replies.Header (headers.Loose found.1 found.0))
+verdict_on (Header asked) (loose_replies.Header (Err error)) = verdicts.Ends (refused error)
+verdict_on (Test asked) (loose_replies.Contains answer) = verdict_on_test answer
+verdict_on call reply = verdicts.Misses
 
 -- so far a query has come: the folder at a place comes next, among those beside the objects directory, and so much is noted
 abbrev pub round_at : (next : ℕ) → (noted : Option Error) → Round
@@ -127,7 +128,7 @@ after_verdict folders limit head round (verdicts.Notes error) = at_next limit he
 -- a folder's call goes on, or its reply takes the query on
 abbrev pub by_reply : List Path → (limit : Option ℕ) → Head → Round → LooseCall → Option LooseReply → Stage
 by_reply folders limit head round call None = stages.Loose round call
-by_reply folders limit head round call (Some reply) = after_verdict folders limit head round (verdict_on reply)
+by_reply folders limit head round call (Some reply) = after_verdict folders limit head round (verdict_on head.query reply)
 
 abbrev pub after_call : List Path → (limit : Option ℕ) → Head → Round → LooseCall → Stage
 after_call folders limit head round call = by_reply folders limit head round call (reply_of call)

@@ -1,7 +1,7 @@
 //! The order of work of a call on a handle: an object is looked for, or written.
 ghost use Rattle.std.specs.Prelude.{◌≡◌, ◌<◌, ◌^◌, IfOk};
 ghost use Rattle.std.specs.Option.{option_copied};
-ghost use Rattle.gix_odb.specs.CallOrder.{HasSize, after_write, ask_of, hash_to_write, result_of, started, waiting_in, writing, wrote_as};
+ghost use Rattle.gix_odb.specs.CallOrder.{HasSize, ask_of, hash_to_write, result_of, started, waiting_in, writing, wrote_as};
 ghost use Rattle.gix_odb.specs.CallOrder as calls;
 ghost use Rattle.gix_odb.specs.HandleState.{folders_of, limit_of, objects_of, sought_by};
 
@@ -24,10 +24,8 @@ use std::alloc::Global;
 pub enum CallState {
     /// An object is looked for in the folders of the store.
     Looking(LookState),
-    /// An object is being written, by a call of the objects directory.
+    /// An object is being written, by a call of the objects directory, whose reply is that of the write.
     Writing(LooseCall),
-    /// The write has its reply.
-    Written(Reply),
 }
 
 impl CallState {
@@ -59,14 +57,13 @@ impl CallState {
         }
     }
 
-    /// The call of a folder that waits for the disk; there is none where the call is done.
+    /// The folder's call at which this one stands; there is none where a query is done.
     fn waiting(&self) -> Option<&LooseCall>
         ensures waiting { option_copied result ≡ waiting_in self.now }
     {
         match self {
             CallState::Looking(state) => state.waiting(),
             CallState::Writing(call) => Some(call),
-            CallState::Written(_) => None,
         }
     }
 
@@ -83,8 +80,7 @@ impl CallState {
             CallState::Looking(state) => {
                 Ok(CallState::Looking(state.feed(alloc, handle, answer)?))
             }
-            CallState::Writing(call) => Ok(after(call.feed(alloc, answer)?)),
-            CallState::Written(reply) => Ok(CallState::Written(reply)),
+            CallState::Writing(call) => Ok(CallState::Writing(call.feed(alloc, answer)?)),
         }
     }
 
@@ -97,8 +93,10 @@ impl CallState {
                 Ok(reply) => Ok(reply),
                 Err(state) => Err(CallState::Looking(state)),
             },
-            CallState::Writing(call) => Err(CallState::Writing(call)),
-            CallState::Written(reply) => Ok(reply),
+            CallState::Writing(call) => match call.into_reply() {
+                Ok(reply) => Ok(told(reply)),
+                Err(call) => Err(CallState::Writing(call)),
+            },
         }
     }
 }
@@ -142,16 +140,6 @@ fn hash_of(id: Option<ObjectId>) -> gix_hash::Kind
     match id {
         Some(id) => id.kind(),
         None => gix_hash::Kind::Sha1,
-    }
-}
-
-// A write after it was fed an answer.
-fn after(call: LooseCall) -> CallState
-    ensures after { result ≡ after_write call }
-{
-    match call.into_reply() {
-        Ok(reply) => CallState::Written(told(reply)),
-        Err(call) => CallState::Writing(call),
     }
 }
 

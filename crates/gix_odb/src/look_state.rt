@@ -164,7 +164,7 @@ impl Head {
         ensures after { IfOk result (λ stage. stage ≡ looks.after_call (folders_of handle.now) (limit_of handle.now) self round call) }
     {
         match call.into_reply() {
-            Ok(reply) => self.after_verdict(alloc, handle, round, verdict_on(reply)),
+            Ok(reply) => self.after_verdict(alloc, handle, round, verdict_on(self.query, reply)),
             Err(call) => Ok(Stage::Loose { round, call }),
         }
     }
@@ -227,21 +227,22 @@ fn job_of(query: Query, id: ObjectId) -> LooseJob
     }
 }
 
-fn verdict_on(reply: LooseReply) -> Verdict
-    ensures verdict { result ≡ looks.verdict_on reply }
+// What a query makes of the reply to its job.
+fn verdict_on(query: Query, reply: LooseReply) -> Verdict
+    ensures verdict { result ≡ looks.verdict_on query reply }
 {
-    match reply {
-        LooseReply::Contains(answer) => verdict_on_test(answer),
-        LooseReply::Found(Ok(Some((kind, bytes)))) => Verdict::Ends(Reply::Found { kind, bytes }),
-        LooseReply::Header(Ok(Some((size, kind)))) => {
+    match (query, reply) {
+        (Query::Find(_), LooseReply::Found(Ok(Some((kind, bytes))))) => {
+            Verdict::Ends(Reply::Found { kind, bytes })
+        }
+        (Query::Find(_), LooseReply::Found(Err(error))) => Verdict::Ends(refused(error)),
+        (Query::Header(_), LooseReply::Header(Ok(Some((size, kind))))) => {
             Verdict::Ends(Reply::Header(find::Header::Loose { kind, size }))
         }
-        LooseReply::Found(Err(error)) => Verdict::Ends(refused(error)),
-        LooseReply::Header(Err(error)) => Verdict::Ends(refused(error)),
-        LooseReply::Found(Ok(None)) => Verdict::Misses,
-        LooseReply::Header(Ok(None)) => Verdict::Misses,
-        // No folder is asked to write here.
-        LooseReply::Wrote(_) => Verdict::Misses,
+        (Query::Header(_), LooseReply::Header(Err(error))) => Verdict::Ends(refused(error)),
+        (Query::Test(_), LooseReply::Contains(answer)) => verdict_on_test(answer),
+        // Nothing is at the path; or the reply is that to another job, which no folder gives.
+        _ => Verdict::Misses,
     }
 }
 

@@ -205,4 +205,4 @@ module _ (trees : ℕ → Tree) (Failed : Type 0) (store : Store) (begun now pla
         let says = folder_says trees Failed store begun now later disk shown fails head.id asked among head.query in
         let fed = loose_order.fed call_asked given in
         subst (λ (reply : Option LooseReply). ComesAt (by_reply store.parts.folders store.parts.limit head (round_at place noted) fed reply)) (sym says.1)
-        (verdict_comes noted (verdict_on says.0) says.2 carried)
+        (verdict_comes noted (verdict_on head.query says.0) says.2 carried)

@@ -29,10 +29,9 @@ use Rattle.gix_odb.specs.declared.query.Query.{Query}
 use Rattle.gix_odb.specs.declared.query.Query.TheVariants.{Find, Header, Test}
 use Rattle.gix_odb.specs.declared.look_state.Verdict.{Verdict}
 use Rattle.gix_odb.specs.declared.look_state.Verdict.TheVariants as verdicts
-use Rattle.gix_odb.specs.declared.find.Header.TheVariants as headers
 use Rattle.gix_odb.specs.LookOrder.{asking, loose_store, verdict_on}
 use Rattle.gix_odb_world.specs.Causes.{GaveSometime, LooseCause}
-use Rattle.gix_odb.specs.Contents.{Answer, HeaderOf, Holds, LooseFile, Object, Presence, folder_list, job_of, of_loose}
+use Rattle.gix_odb.specs.Contents.{LooseFile, folder_list, job_of, of_loose}
 use Rattle.gix_odb_world.specs.Status.{Store}
 use Rattle.gix_odb.specs.Held.{Held}
 use Rattle.gix_odb_world.specs.Promise.{Keeps, claim_of}
@@ -86,7 +85,7 @@ module _ (trees : ℕ → Tree) (Failed : Type 0) (store : Store) (begun now : �
   SaysNow call reply = Says at store.parts.limit (job_of call id) (tree_of disk.state) (next_fails disk ≡ true) ⊥ reply
 
   abbrev SaysBy : Query → LooseReply → Type 0
-  SaysBy call reply = VerdictSays trees Failed store begun now call id folder (next_fails disk) (verdict_on reply)
+  SaysBy call reply = VerdictSays trees Failed store begun now call id folder (next_fails disk) (verdict_on call reply)
 
   -- what a read of the path gives now
   abbrev IsRead : Reading → Type 0
@@ -107,7 +106,7 @@ module _ (trees : ℕ → Tree) (Failed : Type 0) (store : Store) (begun now : �
   -- what the file at the path holds now was held in the call
   held_now : (call : Query) (own : loose_files.Answer)
       → loose_files.Gives (read_of (tree_of disk.state) at) (λ bytes. loose_files.Holds store.parts.limit (job_of call id) bytes own)
-      → Held trees store.parts store.opened begun now call id (of_loose own)
+      → Held trees store.parts store.opened begun now call id (of_loose call own)
   held_now call own gives =
       let read = subst (λ tree. read_of tree at ≡ Ok (gives.bytes, gives.time)) (sym shown) gives.given in
       record {

@@ -7,7 +7,7 @@ use Rattle.odb_tree.specs.Tree.{IsTree, tree_of}
 use Rattle.odb_disk.specs.StreamAsks.{is_of_streams}
 use Rattle.odb_disk.specs.declared.ask.DiskAsk.{DiskAsk}
 use Rattle.odb_disk.specs.declared.ask.DiskAnswer.{DiskAnswer}
-use Rattle.gix_odb.specs.CallOrder.{HasSize}
+use Rattle.gix_odb.specs.CallOrder.{HasSize, result_of_write}
 use Rattle.gix_odb.specs.declared.call.Reply.{Reply}
 use Rattle.gix_odb.specs.declared.handle_state.HandleState.{HandleState}
 use Rattle.gix_odb_loose.specs.LooseOrder.{disk_ask_of}
@@ -26,7 +26,7 @@ use Rattle.gix_odb_world.specs.Machines.{at}
 use Rattle.gix_odb_world.specs.Promise.{Promise}
 use Rattle.gix_odb_world.specs.Run.{IsTurnOf, change_by, disk_after, told_now}
 use Rattle.gix_odb_world.specs.Running.{Knows}
-use Rattle.gix_odb_world.specs.Running.Write.{IsWriting, result_of_write, write_at}
+use Rattle.gix_odb_world.specs.Running.Write.{IsWriting, write_at}
 use Rattle.gix_odb_world.specs.Writing.{ToWrite}
 use Rattle.gix_odb_world.specs.Status.{MakeCall, OpenStore, Running, Store, Task, begun_with, gone_on, running_from, Modes}
 use Rattle.gix_odb_world.specs.WorkOrder.{ask_on, fed_after, result_in}

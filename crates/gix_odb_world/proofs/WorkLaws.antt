@@ -4,6 +4,7 @@ use Rattle.odb_disk.specs.MemDisk.{Volume}
 use Rattle.odb_disk.specs.StreamAsks.{is_of_streams}
 use Rattle.odb_disk.specs.declared.ask.DiskAsk.{DiskAsk}
 use Rattle.odb_disk.specs.declared.ask.DiskAnswer.{DiskAnswer}
+use Rattle.gix_odb.specs.CallOrder.{result_of_write}
 use Rattle.gix_odb.specs.declared.call.Reply.{Reply}
 use Rattle.gix_odb.specs.declared.handle_state.HandleState.{HandleState}
 use Rattle.gix_odb_loose.specs.LooseOrder.{disk_ask_of}
@@ -16,7 +17,7 @@ use Rattle.gix_odb_world.specs.Machine.{At, Machine, placed}
 use Rattle.gix_odb_world.specs.Machines.{at, ask_in, fed_in, write_in}
 use Rattle.gix_odb_world.specs.Run.{change_by, disk_after}
 use Rattle.gix_odb_world.specs.Running.{Knows}
-use Rattle.gix_odb_world.specs.Running.Write.{IsWriting, result_of_write}
+use Rattle.gix_odb_world.specs.Running.Write.{IsWriting}
 use Rattle.gix_odb_world.specs.Status.{Running, Store, Modes}
 use Rattle.gix_odb_world.specs.WorkOrder.{ask_on, fed_after, result_in}
 use Rattle.gix_odb_world.proofs.MachineLaws.{HasNoFile}

@@ -18,14 +18,14 @@ use Rattle.gix_odb.specs.declared.call.Reply.{Reply}
 use Rattle.gix_odb.specs.declared.call_state.CallState.TheVariants.{Writing}
 use Rattle.gix_odb_world.specs.declared.work.Work.TheVariants.{Calling}
 use Rattle.gix_odb_world.specs.Bound.{bound_of_task, default_changes, laps_without_change, turns_beside_pieces, turns_of_lap}
-use Rattle.gix_odb.specs.CallOrder.{hash_to_write}
+use Rattle.gix_odb.specs.CallOrder.{hash_to_write, result_of_write}
 use Rattle.gix_odb.specs.Contents.{folder_list}
 use Rattle.gix_odb_world.specs.AtWork.{nothing_in_front}
 use Rattle.gix_odb_world.specs.Event.{Event}
 use Rattle.gix_odb_world.specs.Status.{MakeCall, Running, gone_on}
 use Rattle.gix_odb_world.specs.Promise.{Promise}
 use Rattle.gix_odb_world.specs.Run.{disk_after}
-use Rattle.gix_odb_world.specs.Running.Write.{IsAtOwnWrite, IsWriting, result_of_write, writing}
+use Rattle.gix_odb_world.specs.Running.Write.{IsAtOwnWrite, IsWriting, writing}
 use Rattle.gix_odb_world.specs.Writing.{ToWrite, call_to_write, head_to_write, to_write}
 use Rattle.gix_odb_world.specs.Written.{PromiseOfWrite}
 use Rattle.gix_odb_world.proofs.MachineLaws as laws

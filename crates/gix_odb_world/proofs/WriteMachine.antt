@@ -1,17 +1,16 @@
 -- A write keeps the laws of a machine.
 pub mod Asks
-use Rattle.std.proofs.Common.{◌≡◌, inl, ℕ, ◌+◌, ◌≤◌, List, [], ◌∷◌, ◌++◌, length, Ok, Option, Some, None, refl, sym, ◌∙◌, ap, subst}
+use Rattle.std.proofs.Common.{◌≡◌, inl, ℕ, ◌+◌, ◌≤◌, List, [], ◌∷◌, ◌++◌, length, Result, Ok, Err, Option, Some, None, refl, sym, ◌∙◌, ap, subst}
 use Rattle.odb_disk.specs.MemDisk.{Volume}
 use Rattle.odb_disk.specs.Ask.{answer_now}
 use Rattle.odb_disk.specs.declared.ask.DiskAnswer.{DiskAnswer}
 use Rattle.odb_disk.specs.declared.ask.DiskAsk.{DiskAsk}
 use Rattle.gix_odb_loose.specs.LooseOrder as loose_order
-use Rattle.gix_odb_loose.specs.LooseOrder.{disk_ask_of, reply_of}
+use Rattle.gix_odb_loose.specs.LooseOrder.{disk_ask_of}
 use Rattle.gix_odb_loose.specs.declared.call.LooseCall.{LooseCall}
-use Rattle.gix_odb_loose.specs.declared.call.LooseReply.{LooseReply}
 use Rattle.gix_odb_loose.proofs.StillAskLaws.{call_asks_still}
 use Rattle.gix_odb.specs.CallOrder as calls
-use Rattle.gix_odb.specs.CallOrder.{result_of, written_by}
+use Rattle.gix_odb.specs.CallOrder.{result_of_write, writing_result}
 use Rattle.gix_odb.specs.declared.call.Call.TheVariants as call_kinds
 use Rattle.gix_odb.specs.declared.call.Reply.{Reply}
 use Rattle.gix_odb.specs.declared.call_state.CallState.TheVariants.{Writing}
@@ -21,7 +20,7 @@ use Rattle.gix_odb_world.specs.AtWork.{nothing_in_front, Modes}
 use Rattle.gix_odb_world.specs.Event.{Event, from_disk, to_disk}
 use Rattle.gix_odb_world.specs.Machine.{placed}
 use Rattle.gix_odb_world.specs.Run.{disk_after}
-use Rattle.gix_odb_world.specs.Running.Write.{IsAtOwnWrite, IsWriting, replied_by, result_of_write, writing}
+use Rattle.gix_odb_world.specs.Running.Write.{IsAtOwnWrite, IsWriting, writing}
 use Rattle.gix_odb_world.specs.Status.{MakeCall, OpenStore, Running, Store, Task, begun_with, running_from}
 use Rattle.gix_odb_world.specs.WorkOrder.{calling_result, fed_after, result_in}
 use Rattle.gix_odb_world.proofs.WriteMachine.Asks.{in_order_write}
@@ -32,15 +31,14 @@ use Rattle.gix_odb_world.proofs.WriteKept.{writing_begun, writing_push}
 use Rattle.gix_odb_world.proofs.WriteTurn.{ask_at_stage}
 use Rattle.gix_odb_world.proofs.WriteTurn.Common.{IsTurnWith}
 
-write_placed : (call : LooseCall) (reply : Option LooseReply)
-    → calling_result (result_of (written_by call reply)) ≡ placed writing (replied_by call reply)
-write_placed call None = refl
-write_placed call (Some reply) = refl
+write_placed : (result : Result Reply LooseCall) → calling_result (writing_result result) ≡ placed writing result
+write_placed (Ok reply) = refl
+write_placed (Err call) = refl
 
 write_feeds : (store : Store) (code : HandleState) (call : LooseCall) (answer : Option DiskAnswer)
     → result_in (fed_after code (Calling (Writing call)) answer) ≡ placed writing (writing.feed store call (from_disk answer))
-write_feeds store code call None = refl
-write_feeds store code call (Some answer) = write_placed (loose_order.fed call answer) (reply_of (loose_order.fed call answer))
+write_feeds store code call None = write_placed (result_of_write call)
+write_feeds store code call (Some answer) = write_placed (result_of_write (loose_order.fed call answer))
 
 -- a state at which a task begins is that of its write
 write_starts : (first : Volume) (events : List Event) (e : Event) (handle : ℕ) (store : Store) (modes : Modes) (task : Task) (call : LooseCall)

@@ -1,37 +1,23 @@
 -- Which machine each kind of work is of, and what it asks and comes to. A further machine has one line here. A status keeps the code's
 -- `Work`, and a function by its cases computes to a machine and its state; a sum of machines would need that function beside it.
-use Rattle.std.specs.Prelude.{Option, None, Result, Ok, refl}
+use Rattle.std.specs.Prelude.{Option, Result, refl}
 use Rattle.gix_odb.specs.declared.call.Reply.{Reply}
-use Rattle.gix_odb.specs.declared.call_state.CallState.TheVariants.{Looking, Writing, Written}
+use Rattle.gix_odb.specs.declared.call_state.CallState.TheVariants.{Looking, Writing}
 use Rattle.gix_odb_loose.specs.declared.call.LooseCall.{LooseCall}
 use Rattle.gix_odb_world.specs.declared.work.Work.{Work}
 use Rattle.gix_odb_world.specs.declared.work.Work.TheVariants.{Opening, Calling}
 use Rattle.gix_odb_world.specs.AtWork.{Store}
 use Rattle.gix_odb_world.specs.Event.{Answer, Ask}
-use Rattle.gix_odb_world.specs.Machine.{At, Machine, placed}
+use Rattle.gix_odb_world.specs.Machine.{At, placed}
 use Rattle.gix_odb_world.specs.Running.Opening.{opening}
 use Rattle.gix_odb_world.specs.Running.Query.{looking}
 use Rattle.gix_odb_world.specs.Running.Write.{writing}
-
--- a write that has its reply is no work: no handle is at it
-abbrev pub ended : Machine
-ended = record {
-  State = Reply;
-  work = λ reply. Calling (Written reply);
-  ask = λ store reply. None;
-  feed = λ store reply answer. Ok reply;
-  writes = λ reply. None;
-  IsFor = λ task reply. ⊥;
-  bound = λ store task entries. 0;
-  Knows = λ first events handle running reply. ⊥;
-}
 
 -- the machine that each work is of, and at which state
 abbrev pub at : (work : Work) → At work
 at (Opening state) = record { machine = opening; state = state; is = refl }
 at (Calling (Looking state)) = record { machine = looking; state = state; is = refl }
 at (Calling (Writing call)) = record { machine = writing; state = call; is = refl }
-at (Calling (Written reply)) = record { machine = ended; state = reply; is = refl }
 
 -- what work asks for in a store, unless it is done
 abbrev pub ask_in : Store → Work → Option Ask

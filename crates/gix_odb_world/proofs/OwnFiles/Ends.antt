@@ -7,6 +7,7 @@ use Rattle.gix_hash.specs.declared.object_id.ObjectId.{ObjectId}
 use Rattle.gix_odb_loose.specs.LooseOrder as loose_order
 use Rattle.gix_odb_loose.specs.declared.write_order.Refusal.{Refusal}
 use Rattle.gix_odb_loose.specs.declared.write_order.WriteStage.TheVariants as stages
+use Rattle.gix_odb.specs.CallOrder.{result_of_write}
 use Rattle.gix_odb.specs.declared.call.Reply.{Reply}
 use Rattle.gix_odb.specs.declared.call.Reply.TheVariants as replies
 use Rattle.gix_odb_world.specs.declared.step.Outcome.{Outcome}
@@ -15,7 +16,7 @@ use Rattle.gix_odb_world.specs.declared.step.Step.{Step}
 use Rattle.gix_odb_world.specs.declared.step.Step.TheVariants as steps
 use Rattle.gix_odb_world.specs.Event.{Asked}
 use Rattle.gix_odb_world.specs.Status.{Store, Status, replied, status_after}
-use Rattle.gix_odb_world.specs.Running.Write.{result_of_write, write_at}
+use Rattle.gix_odb_world.specs.Running.Write.{write_at}
 use Rattle.gix_odb_world.specs.Writing.{ToWrite}
 use Rattle.gix_odb_world.proofs.FileSteps.AtWrite.{AtWrite, ended}
 

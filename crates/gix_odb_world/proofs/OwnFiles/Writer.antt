@@ -22,18 +22,17 @@ use Rattle.gix_odb_loose.specs.declared.call.LooseCall.{LooseCall}
 use Rattle.gix_odb_loose.specs.declared.write_order.WriteStage.{WriteStage}
 use Rattle.gix_odb_loose.specs.declared.write_order.WriteStage.TheVariants as stages
 use Rattle.gix_odb_loose.proofs.WriteMadeLaws.{history_makes}
-use Rattle.gix_odb.specs.declared.call.Reply.{Reply}
+use Rattle.gix_odb.specs.CallOrder.{result_of_write}
 use Rattle.gix_odb.specs.declared.call.Reply.TheVariants as replies
 use Rattle.gix_odb_world.specs.declared.record.Did.TheVariants.{Disk}
 use Rattle.gix_odb_world.specs.declared.step.Outcome.TheVariants as outcomes
-use Rattle.gix_odb_world.specs.declared.step.Step.TheVariants as steps
 use Rattle.gix_odb_world.specs.Event.{Event, ToDisk, to_disk}
 use Rattle.gix_odb_world.specs.Machines.{write_in}
 use Rattle.gix_odb_world.specs.Status.{IsAtWrite, Running, Working, status_of}
 use Rattle.gix_odb_world.specs.Headline.{outcome_of}
 use Rattle.gix_odb_world.specs.Run.{IsTurnOf, change_by, disk_after, tree_at}
 use Rattle.gix_odb_world.specs.Running.{Knows, Runs}
-use Rattle.gix_odb_world.specs.Running.Write.{IsWriting, result_of_write, write_at, job_to_write}
+use Rattle.gix_odb_world.specs.Running.Write.{IsWriting, write_at, job_to_write}
 use Rattle.gix_odb_world.specs.Undisturbed.{HasMade}
 use Rattle.gix_odb_world.specs.Writing.{AskedAt, IsMaking, IsNewFile, head_to_write}
 use Rattle.gix_odb_world.proofs.LawfulRun.{LawfulRun}

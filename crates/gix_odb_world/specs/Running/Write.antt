@@ -1,5 +1,5 @@
 -- What a write has seen and done since it began. No public clause needs more of it than its name.
-use Rattle.std.specs.Prelude.{◌+◌, ◌<◌, ◌^◌, [], ◌++◌, ◌≡◌, ℕ, ◌≤◌, List, length, take, Contains, Option, Some, None, Result, Ok, Err}
+use Rattle.std.specs.Prelude.{◌+◌, ◌<◌, ◌^◌, [], ◌++◌, ◌≡◌, ℕ, ◌≤◌, List, length, take, Contains, Option, Some, None}
 use Rattle.odb_base.specs.Path.{Path}
 use Rattle.odb_disk.specs.MemDisk.{Volume}
 use Rattle.odb_disk.specs.declared.ask.DiskAnswer.TheVariants as answers
@@ -9,16 +9,14 @@ use Rattle.gix_object.specs.Loose.{header_of}
 use Rattle.gix_odb_loose.specs.Exchanges.{Exchange}
 use Rattle.gix_odb_loose.specs.WriteAsks.{IsAlong, write_of}
 use Rattle.gix_odb_loose.specs.WriteOrder.{number_made, temp_path}
-use Rattle.gix_odb_loose.specs.LooseOrder.{disk_ask_of, reply_of}
+use Rattle.gix_odb_loose.specs.LooseOrder.{disk_ask_of}
 use Rattle.gix_odb_loose.specs.LooseOrder as loose_order
 use Rattle.gix_odb_loose.specs.declared.call.LooseCall.{LooseCall}
-use Rattle.gix_odb_loose.specs.declared.call.LooseReply.{LooseReply}
 use Rattle.gix_odb_loose.specs.declared.call.Stage.TheVariants as loose_stages
 use Rattle.gix_odb_loose.specs.declared.write_at_hand.Onward.TheVariants.{Stage}
 use Rattle.gix_odb_loose.specs.declared.write_at_hand.WriteJob.{WriteJob}
 use Rattle.gix_odb_loose.specs.declared.write_order.WriteStage.{WriteStage}
 use Rattle.gix_odb_loose.specs.declared.write_order.WriteStage.TheVariants as write_stages
-use Rattle.gix_odb.specs.declared.call.Reply.{Reply}
 use Rattle.gix_odb.specs.declared.call_state.CallState.TheVariants.{Writing}
 use Rattle.gix_odb_world.specs.declared.work.Work.TheVariants.{Calling}
 use Rattle.gix_odb_world.specs.Event.{Event, to_disk}
@@ -26,7 +24,7 @@ use Rattle.gix_odb_world.specs.Machine.{Machine, by_answer}
 use Rattle.gix_odb_world.specs.AtWork.{MakeCall, Running, Task, nothing_in_front}
 use Rattle.gix_odb_world.specs.Bound.{bound_of_task}
 use Rattle.gix_odb_world.specs.Run.{tree_at}
-use Rattle.gix_odb.specs.CallOrder.{hash_to_write, wrote_as}
+use Rattle.gix_odb.specs.CallOrder.{hash_to_write, result_of_write}
 use Rattle.gix_odb_world.specs.Writing.{AskedAt, AskedSince, ChangedNothing, LeftAlone, TurnsMadeOnly, NoTurnRenamed, ToWrite, call_to_write, head_to_write}
 
 -- a write that has asked nothing
@@ -92,15 +90,6 @@ pub record IsAtOwnWrite (first : Volume) (events : List Event) (handle : ℕ) (r
 
 -- ---- its machine
 
--- a call of the objects directory goes on, unless it has its reply
-abbrev pub replied_by : LooseCall → Option LooseReply → Result Reply LooseCall
-replied_by call None = Err call
-replied_by call (Some reply) = Ok (wrote_as reply)
-
--- a write that is done has its reply
-abbrev pub result_of_write : LooseCall → Result Reply LooseCall
-result_of_write call = replied_by call (reply_of call)
-
 -- a write may be at the stages of its own call
 pub record IsForWrite (task : Task) (call : LooseCall) : Type 0 where
   pub write : ToWrite
@@ -114,7 +103,7 @@ writing = record {
   State = LooseCall;
   work = λ call. Calling (Writing call);
   ask = λ store call. to_disk (disk_ask_of call);
-  feed = λ store call answer. by_answer (Err call) (λ told. result_of_write (loose_order.fed call told)) answer;
+  feed = λ store call answer. by_answer (result_of_write call) (λ told. result_of_write (loose_order.fed call told)) answer;
   writes = λ call. Some call;
   IsFor = λ task call. IsForWrite task call;
   bound = λ store task entries. bound_of_task store task entries;
