@@ -74,7 +74,7 @@ pub record Works (first : Volume) (past : List Event) (handle : ℕ) (running : 
   pub latest : NoneSince (IsTaskOf handle) past running.begun
   -- the turns that it tells are all that its handle took since
   pub counted : running.turns ≡ turns_since past handle running.begun
-  -- in the store of the latest open step of its handle, and in the mode of the steps since
+  -- its store is that of the latest open step of its handle, and the modes of its handle are those that the steps since then set
   pub opened : HoldsStore past handle running.store running.modes
   -- what it asks for, which the event tells with its answer
   pub ask : Option Ask

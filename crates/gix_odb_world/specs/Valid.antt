@@ -35,7 +35,8 @@ phase_of (Working running) = Running
 abbrev pub are_distinct : {A : Type 0} → (A → A → Ordering) → List A → Bool
 are_distinct cmp items = distinct_count (eq_by_cmp cmp) items == length items
 
--- the most folders of a store beside its objects directory: with it they are 256, so that the place of a folder has 8 bits
+-- The most folders of a store beside its objects directory: with it they are 256, so that the place of a folder has 8 bits, and the
+-- bound of a call's turns, which has a sum over the folders, is a number of 128 bits.
 abbrev pub most_folders : ℕ
 most_folders = 255
 

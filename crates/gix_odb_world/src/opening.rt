@@ -13,7 +13,8 @@ use odb_base::{NoMemory, PathText};
 use std::alloc::Global;
 use std::collections::{BTreeMap, BTreeSet};
 
-/// The most folders of a store beside its objects directory.
+/// The most folders of a store beside its objects directory: with it they are 256, so that the place of a folder has 8
+/// bits, and the bound of a call's turns, which has a sum over the folders, is a number of 128 bits.
 const MAX_FOLDERS: usize = 255;
 
 /// The state of a handle whose opening begins, or nothing where a condition of opening doesn't hold.

@@ -219,7 +219,8 @@ impl World {
             Ok(taken) => taken,
             Err(why) => return self.misuse(why),
         };
-        // A disk shows a tree: each node lies in a directory.
+        // The proof takes from this call that the disk shows a tree, each node of which lies in a directory: what a call of
+        // the disk changes and what it leaves alone is told of trees.
         let _ = self.disk.tree();
         match carried_out(alloc, &mut self.disk, &state, work) {
             Ok((did, change, work)) => self.settle(number, state, work, did, change),

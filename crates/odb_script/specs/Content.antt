@@ -69,7 +69,7 @@ packs_of text = items_of named_pack_of (at_semicolons text) []
 abbrev pub loose_file : Object → List ℕ
 loose_file object = header_of object.kind (length object.bytes) ++ object.bytes
 
--- packs and indices are written of fewer objects; no script is long enough for so many
+-- Packs and indices are written of fewer objects: a row of an index names a wide offset by 31 bits. No script is long enough for so many.
 abbrev pub object_limit : ℕ
 object_limit = 2 ^ 31
 

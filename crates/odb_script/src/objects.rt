@@ -10,7 +10,7 @@ use gix_pack::{NamedPack, Object, multi_index};
 use odb_base::{ByteList, NoMemory, PathName, Sequence};
 use std::alloc::Global;
 
-/// Packs and indices are written of fewer objects.
+/// Packs and indices are written of fewer objects: a row of an index names a wide offset by 31 bits.
 const OBJECT_LIMIT: usize = 1 << 31;
 
 /// `KIND:DATA`, by the first colon.
