@@ -1,16 +1,20 @@
--- Each turn makes a call of the disk, since no task of today's ends unasked or asks for an event of a core.
-use Rattle.std.proofs.Common.{◌≡◌, ℕ, List, Option, Some, None, refl, ap, ◌∙◌}
+-- A turn calls the disk, or leaves it as it was. A turn of a write calls it.
+use Rattle.std.proofs.Common.{◌≡◌, ◌⊎◌, inl, inr, ℕ, List, Option, Some, None, refl, sym, ap, ◌∙◌, subst}
 use Rattle.odb_disk.specs.MemDisk.{Volume, next_fails}
 use Rattle.odb_disk.specs.Ask.{answer_now, op_of}
 use Rattle.odb_disk.specs.declared.ask.DiskAsk.{DiskAsk}
-use Rattle.gix_odb_world.specs.declared.record.Did.TheVariants.{Disk}
-use Rattle.gix_odb_world.specs.Asks.{AsksAsTask, MayEndUnasked}
-use Rattle.gix_odb_world.specs.Event.{Ask, FromDisk, OfDisk, ToCore, ToDisk, Event, answered}
-use Rattle.gix_odb_world.specs.Headline.{Works, outcome_of}
-use Rattle.gix_odb_world.specs.Machines.{ask_in, fed_in}
+use Rattle.gix_odb_loose.specs.LooseOrder.{disk_ask_of}
+use Rattle.gix_odb_loose.specs.declared.call.LooseCall.{LooseCall}
+use Rattle.gix_odb_world.specs.declared.record.Did.TheVariants.{Disk, Nothing}
+use Rattle.gix_odb_world.specs.Event.{Ask, FromDisk, OfDisk, ToCore, ToDisk, Event, answered, to_disk}
+use Rattle.gix_odb_world.specs.Headline.{LeavesDisk, Works, outcome_of}
+use Rattle.gix_odb_world.specs.Machines.{ask_in, fed_in, write_in}
 use Rattle.gix_odb_world.specs.Recorded.{path_recorded}
 use Rattle.gix_odb_world.specs.Run.{change_asked, change_by, did_asked, disk_after, told_now}
-use Rattle.gix_odb_world.specs.Status.{MakeCall, OpenStore, Running, Task}
+use Rattle.gix_odb_world.specs.Running.Write.{IsWriting}
+use Rattle.gix_odb_world.specs.Status.{Running}
+use Rattle.gix_odb_world.proofs.WorkLaws.{asks_as_write}
+use Rattle.gix_odb_world.proofs.WriteTurn.{ask_at_stage}
 
 -- what a turn does that makes a call of the disk
 pub record CallsDisk (first : Volume) (past : List Event) (handle : ℕ) (running : Running) (e : Event) : Type 0 where
@@ -21,19 +25,18 @@ pub record CallsDisk (first : Volume) (past : List Event) (handle : ℕ) (runnin
   pub goes : e.outcome ≡ outcome_of (fed_in running.store running.work (Some (FromDisk (answer_now (disk_after first past) ask))))
   pub changed : e.entry.change ≡ change_by (disk_after first past) ask
 
-never_unasked : (task : Task) → ¬ (MayEndUnasked task)
-never_unasked OpenStore may = may
-never_unasked (MakeCall call) may = may
+-- an event changed nothing, and made no call of the disk
+pub record IsQuiet (e : Event) : Type 0 where
+  pub none : e.entry.change ≡ None
+  pub did : e.entry.did ≡ Nothing
+  pub leaves : LeavesDisk e.asked
 
 module _ (first : Volume) (past : List Event) (handle : ℕ) (running : Running) (e : Event) (works : Works first past handle running e) where
   abbrev disk : Volume
   disk = disk_after first past
 
-  by_ask : (ask : Option Ask) → works.ask ≡ ask
-      → AsksAsTask first past handle running.store running.modes running.begun running.turns running.task ask
-      → CallsDisk first past handle running e
-  by_ask None is order = absurd (never_unasked running.task order)
-  by_ask (Some (ToDisk ask)) is order =
+  by_call : (ask : DiskAsk) → works.ask ≡ Some (ToDisk ask) → CallsDisk first past handle running e
+  by_call ask is =
       let told : e.asked ≡ OfDisk ask (answer_now disk ask) = works.told ∙ ap (told_now disk) is in
       record {
         ask = ask;
@@ -43,7 +46,27 @@ module _ (first : Volume) (past : List Event) (handle : ℕ) (running : Running)
         goes = works.goes ∙ ap (λ asked. outcome_of (fed_in running.store running.work (answered asked))) told;
         changed = works.changed ∙ ap (change_asked disk) is;
       }
-  by_ask (Some (ToCore event)) is order = absurd order
 
-  pub calls_disk : CallsDisk first past handle running e
-  calls_disk = by_ask works.ask refl works.in_order
+  -- a turn that asks for nothing, or for an event of a core, leaves the disk
+  by_ask : (ask : Option Ask) → works.ask ≡ ask → CallsDisk first past handle running e ⊎ IsQuiet e
+  by_ask (Some (ToDisk ask)) is = inl (by_call ask is)
+  by_ask None is = inr (record {
+    none = works.changed ∙ ap (change_asked disk) is;
+    did = works.asked ∙ ap (did_asked disk) is;
+    leaves = subst LeavesDisk (sym (works.told ∙ ap (told_now disk) is)) tt;
+  })
+  by_ask (Some (ToCore event)) is = inr (record {
+    none = works.changed ∙ ap (change_asked disk) is;
+    did = works.asked ∙ ap (did_asked disk) is;
+    leaves = subst LeavesDisk (sym (works.told ∙ ap (told_now disk) is)) tt;
+  })
+
+  pub called_or_quiet : CallsDisk first past handle running e ⊎ IsQuiet e
+  called_or_quiet = by_ask works.ask refl
+
+  -- a write asks in each turn what its stage does
+  pub write_calls : (call : LooseCall) → write_in running.work ≡ Some call → IsWriting first past handle running call
+      → CallsDisk first past handle running e
+  write_calls call write writes =
+      by_call (ask_at_stage writes.write writes.stage)
+      (sym works.asks ∙ (asks_as_write running.store running.work call write ∙ ap (λ f. to_disk (disk_ask_of f)) writes.is))

@@ -16,10 +16,10 @@ use Rattle.gix_odb_loose.specs.declared.call.LooseCall.{LooseCall}
 use Rattle.gix_odb_loose.specs.declared.write_order.WriteStage.TheVariants.{Making}
 use Rattle.gix_odb_world.specs.declared.record.Did.TheVariants.{Nothing}
 use Rattle.gix_odb_world.specs.declared.work.Work.{Work}
-use Rattle.gix_odb_world.specs.Asks.{AsksInOrder, MayEndUnasked}
+use Rattle.gix_odb_world.specs.Asks.{AsksInOrder, MayAskCore, MayEndUnasked}
 use Rattle.gix_odb_world.specs.Bound.{bound_of_task}
 use Rattle.gix_odb_world.specs.Changes.{ChangesInTask}
-use Rattle.gix_odb_world.specs.Event.{Answer, Ask, Event, FromDisk, OfNothing, ToCore, ToDisk, answered, from_disk, to_disk}
+use Rattle.gix_odb_world.specs.Event.{Answer, Ask, Event, FromDisk, ToCore, ToDisk, answered, from_disk, to_disk}
 use Rattle.gix_odb_world.specs.Handle.{IsHandleOf}
 use Rattle.gix_odb_world.specs.Machine.{At, Machine, placed}
 use Rattle.gix_odb_world.specs.Machines.{at}
@@ -41,21 +41,21 @@ pub record HasTurn (first : Volume) (events : List Event) (handle : ℕ) (runnin
 abbrev pub TakesTurn : Volume → List Event → (handle : ℕ) → Running → Task → Option Ask → Type 0
 TakesTurn first events handle running task None = MayEndUnasked task
 TakesTurn first events handle running task (Some (ToDisk ask)) = HasTurn first events handle running task ask
-TakesTurn first events handle running task (Some (ToCore event)) = ⊥
+TakesTurn first events handle running task (Some (ToCore event)) = MayAskCore task event
 
--- the last event is a turn of the handle in which nothing was asked
-pub record IsTurnUnasked (first : Volume) (events : List Event) (e : Event) (handle : ℕ) : Type 0 where
+-- the last event is a turn of the handle that asked so, and made no call of the disk
+pub record IsTurnOffDisk (first : Volume) (events : List Event) (e : Event) (handle : ℕ) (ask : Option Ask) : Type 0 where
   pub turn : IsTurnOf handle e.step
   pub did : e.entry.did ≡ Nothing
-  pub asked : e.asked ≡ OfNothing
+  pub asked : e.asked ≡ told_now (disk_after first events) ask
   pub change : e.entry.change ≡ None
   pub tree : IsTree (tree_of (disk_after first events).state)
 
 -- the last event is a turn of the handle that asked so
 abbrev pub IsTurnAsking : Volume → List Event → Event → (handle : ℕ) → Option Ask → Type 0
-IsTurnAsking first events e handle None = IsTurnUnasked first events e handle
+IsTurnAsking first events e handle None = IsTurnOffDisk first events e handle None
 IsTurnAsking first events e handle (Some (ToDisk ask)) = IsTurnWith first events e handle ask
-IsTurnAsking first events e handle (Some (ToCore event)) = ⊥
+IsTurnAsking first events e handle (Some (ToCore event)) = IsTurnOffDisk first events e handle (Some (ToCore event))
 
 -- the answer to what is asked after some events
 abbrev pub answer_after : Volume → List Event → Option Ask → Option Answer

@@ -22,11 +22,11 @@ use Rattle.gix_odb_world.specs.Event.{Asked, OfNothing, OfDisk, OfCore, Event}
 use Rattle.gix_odb_world.specs.Status.{Running, Status, Free, Resting, Working, status_of, status_after}
 use Rattle.gix_odb_world.specs.Headline.{IsTurn, Law, LeavesDisk, Suits, Turns}
 use Rattle.gix_odb_world.specs.Changes.{ChangesAs, change_applied}
-use Rattle.gix_odb_world.specs.Run.{change_by, did_of_asked, disk_after, disk_after_event, disk_after_asked, tree_at}
+use Rattle.gix_odb_world.specs.Run.{change_by, did_of_asked, disk_after, disk_after_change, disk_after_event, disk_after_asked, tree_at}
 use Rattle.gix_odb_world.specs.Undisturbed.{IsOutside}
 use Rattle.gix_odb_world.specs.Valid.{misuse_of, phase_of, why_not_after, why_not_running}
 use Rattle.gix_odb_world.proofs.LawfulRun.{LawfulRun}
-use Rattle.gix_odb_world.proofs.DiskTurns.{CallsDisk, calls_disk}
+use Rattle.gix_odb_world.proofs.DiskTurns.{CallsDisk, IsQuiet, called_or_quiet}
 use Rattle.gix_odb_world.proofs.RunLemmas.{disk_after-push, status_of-push}
 pub use Rattle.gix_odb_world.proofs.RunSteps.Fronts.{event_or_end, front_of_front, length_take, none_beyond, take_next, take_none, there_in_front, there_in_whole}
 
@@ -45,15 +45,10 @@ pub record IsMade (first : Volume) (past : List Event) (e : Event) : Type 0 wher
   pub outside : IsOutside e
   pub makes : e.entry.change ≡ Some change
   pub did : e.entry.did ≡ Nothing
-  pub asked : e.asked ≡ OfNothing
+  pub leaves : LeavesDisk e.asked
   pub possible : is_possible (disk_after first past).state change ≡ true
 
--- nothing changed
-pub record IsQuiet (e : Event) : Type 0 where
-  pub none : e.entry.change ≡ None
-  pub did : e.entry.did ≡ Nothing
-  pub asked : e.asked ≡ OfNothing
-
+-- Where neither happened, nothing changed and the disk wasn't called: a step of a handle may have asked for an event of a core.
 pub data Kind (first : Volume) (past : List Event) (e : Event) : Type 0 where
   Turned : IsTurned first past e → Kind first past e
   Made : IsMade first past e → Kind first past e
@@ -67,11 +62,6 @@ at_work (Working running) valid = (running, refl)
 possible_by : (b : Bool) (why : Why) → None ≡ (if b then None else Some why) → b ≡ true
 possible_by true why valid = refl
 possible_by false why valid = absurd (cc)
-
-none_asked : (asked : Asked) → Nothing ≡ did_of_asked asked → asked ≡ OfNothing
-none_asked OfNothing is = refl
-none_asked (OfDisk ask answer) is = absurd (cc is)
-none_asked (OfCore event answer) is = absurd event
 
 left_disk : (asked : Asked) → LeavesDisk asked → did_of_asked asked ≡ Nothing
 left_disk OfNothing left = refl
@@ -88,24 +78,24 @@ module _ (first : Volume) (past : List Event) (e : Event) (law : Law first past 
       let t = turn_step e.step is in
       let a = at_work (status_of past t.0) (subst (λ s. None ≡ why_not_after first past s) t.1 valid) in
       let turn : Turns past e t.0 a.0 = record { step = t.1; status = a.1 } in
-      Turned (record { handle = t.0; running = a.0; turn = turn; works = calls_disk first past t.0 a.0 e (law.worked t.0 a.0 turn) })
+      elim (called_or_quiet first past t.0 a.0 e (law.worked t.0 a.0 turn)) [
+        | inl calls ↦ Turned (record { handle = t.0; running = a.0; turn = turn; works = calls })
+        | inr quiet ↦ Quiet quiet
+      ]
 
-  quiet : e.entry.change ≡ None → e.entry.did ≡ Nothing → Kind first past e
-  quiet none did = Quiet (record { none = none; did = did; asked = none_asked e.asked (sym did ∙ law.did) })
-
-  kind_applied : (step : Step) → e.step ≡ step → e.outcome ≡ outcomes.Applied → ¬ (IsTurn step) → e.entry.did ≡ Nothing
+  kind_applied : (step : Step) → e.step ≡ step → e.outcome ≡ outcomes.Applied → ¬ (IsTurn step) → LeavesDisk e.asked
       → e.entry.change ≡ change_applied step → None ≡ why_not_after first past step → Kind first past e
-  kind_applied (steps.Turn handle) s o other did made valid = absurd (other tt)
-  kind_applied (steps.Disk change) s o other did made valid =
-      Made (record { change = change; outside = (change, s, o); makes = made; did = did; asked = none_asked e.asked (sym did ∙ law.did); possible = possible_by _ _ valid })
-  kind_applied step s o other did made valid = quiet made did
+  kind_applied (steps.Turn handle) s o other leaves made valid = absurd (other tt)
+  kind_applied (steps.Disk change) s o other leaves made valid =
+      Made (record { change = change; outside = (change, s, o); makes = made; did = law.did ∙ left_disk e.asked leaves; leaves = leaves; possible = possible_by _ _ valid })
+  kind_applied step s o other leaves made valid = Quiet (record { none = made; did = law.did ∙ left_disk e.asked leaves; leaves = leaves })
 
   kind_by : (outcome : Outcome) → e.outcome ≡ outcome → Suits e.step outcome e.asked → ChangesAs e.step outcome e.entry.change
       → misuse_of outcome ≡ why_not_after first past e.step → Kind first past e
-  kind_by outcomes.Applied o suits made valid = kind_applied e.step refl o suits.0 (law.did ∙ left_disk e.asked suits.1) made valid
+  kind_by outcomes.Applied o suits made valid = kind_applied e.step refl o suits.0 suits.1 made valid
   kind_by outcomes.Pending o suits made valid = turned suits.0 valid
   kind_by (outcomes.Reply reply) o suits made valid = turned suits valid
-  kind_by (outcomes.Misuse why) o suits made valid = quiet made (law.did ∙ ap did_of_asked suits)
+  kind_by (outcomes.Misuse why) o suits made valid = Quiet (record { none = made; did = law.did ∙ ap did_of_asked suits; leaves = subst LeavesDisk (sym suits) tt })
 
   pub kind_of : Kind first past e
   kind_of = kind_by e.outcome refl law.suits law.change law.valid
@@ -124,16 +114,22 @@ module _ (first : Volume) (past : List Event) (e : Event) where
   abbrev pub after : Tree
   after = tree_of (disk_after_event disk e).state
 
-  after_by : (asked : Asked) (change : Option Change) → e.asked ≡ asked → e.entry.change ≡ change
-      → after ≡ tree_of (disk_after_asked disk asked change).state
-  after_by asked change asked_is change_is = ap (λ a. tree_of (disk_after_asked disk a e.entry.change).state) asked_is ∙ ap (λ c. tree_of (disk_after_asked disk asked c).state) change_is
+  -- where the disk wasn't called, the record's change alone takes it on
+  by_change_alone : (asked : Asked) (change : Option Change) → LeavesDisk asked → disk_after_asked disk asked change ≡ disk_after_change disk change
+  by_change_alone OfNothing change leaves = refl
+  by_change_alone (OfDisk ask answer) change leaves = absurd leaves
+  by_change_alone (OfCore event answer) change leaves = refl
+
+  after_by : (change : Option Change) → LeavesDisk e.asked → e.entry.change ≡ change → after ≡ tree_of (disk_after_change disk change).state
+  after_by change leaves is =
+      ap (λ (d : Volume). tree_of d.state) (by_change_alone e.asked e.entry.change leaves) ∙ ap (λ c. tree_of (disk_after_change disk c).state) is
 
   quietly : IsQuiet e → after ≡ tree_of disk.state
-  quietly q = after_by OfNothing None q.asked q.none
+  quietly q = after_by None q.leaves q.none
 
   made_outside : (m : IsMade first past e) → after ≡ changed (tree_of disk.state) m.change
   unfolding after_outside_change
-  made_outside m = after_by OfNothing (Some m.change) m.asked m.makes ∙ after_change-tree disk.state m.change
+  made_outside m = after_by (Some m.change) m.leaves m.makes ∙ after_change-tree disk.state m.change
 
   left_by_turn : (change : Option Change) → after ≡ tree_of (written disk.state change) → IsLeft (tree_of disk.state) after change
   left_by_turn None is = is

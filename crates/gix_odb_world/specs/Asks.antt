@@ -13,7 +13,7 @@ use Rattle.gix_odb.specs.declared.call.Call.TheVariants as calls
 use Rattle.gix_odb.specs.declared.query.Query.TheVariants.{Find, Header, Test}
 use Rattle.gix_odb.specs.Contents.{folder_list, sought}
 use Rattle.gix_odb_world.specs.AtWork.{nothing_in_front, Modes}
-use Rattle.gix_odb_world.specs.Event.{Ask, Event, ToCore, ToDisk}
+use Rattle.gix_odb_world.specs.Event.{Ask, CoreEvent, Event, ToCore, ToDisk}
 use Rattle.gix_odb_world.specs.Status.{Store, MakeCall, OpenStore, Task}
 use Rattle.gix_odb_world.specs.Writing.{DoneSince, ToWrite, name_to_write, to_write}
 
@@ -69,8 +69,13 @@ abbrev pub MayEndUnasked : Task → Type 0
 MayEndUnasked OpenStore = ⊥
 MayEndUnasked (MakeCall call) = ⊥
 
--- What a turn asks for, if it asks for anything. No task of these asks for an event of a core.
+-- Whether a task may ask for an event of a core: none of these does.
+abbrev pub MayAskCore : Task → CoreEvent → Type 0
+MayAskCore OpenStore event = ⊥
+MayAskCore (MakeCall call) event = ⊥
+
+-- What a turn asks for, if it asks for anything.
 abbrev pub AsksAsTask : Volume → List Event → (handle : ℕ) → Store → (modes : Modes) → (begun turns : ℕ) → Task → Option Ask → Type 0
 AsksAsTask first past handle store modes begun turns task None = MayEndUnasked task
 AsksAsTask first past handle store modes begun turns task (Some (ToDisk ask)) = AsksInOrder first past handle store modes begun turns task ask
-AsksAsTask first past handle store modes begun turns task (Some (ToCore event)) = ⊥
+AsksAsTask first past handle store modes begun turns task (Some (ToCore event)) = MayAskCore task event

@@ -13,6 +13,9 @@ CoreEvent = ⊥
 abbrev pub CoreAnswer : Type 0
 CoreAnswer = ⊥
 
+abbrev pub core_answer : CoreEvent → CoreAnswer
+core_answer event = absurd event
+
 -- what work asks for: a call of the disk, or an event of a core
 pub data Ask : Type 0 where
   ToDisk : (ask : DiskAsk) → Ask

@@ -25,11 +25,11 @@ pub record Machine : Type 1 where
   -- what a handle at a state knows of the events since its task was set, and how its turns are counted
   pub Knows : Volume → List Event → (handle : ℕ) → Running → State → Type 0
 
--- what the answer makes of work that asks the disk alone, by what is made of it without an answer and with one of the disk's
+-- what the answer makes of work that asks the disk alone, by what is made of it without an answer of the disk and with one
 abbrev pub by_answer : {R : Type 0} → (unasked : R) → (DiskAnswer → R) → Option Answer → R
 by_answer unasked fed None = unasked
 by_answer unasked fed (Some (FromDisk answer)) = fed answer
-by_answer unasked fed (Some (FromCore answer)) = absurd answer
+by_answer unasked fed (Some (FromCore answer)) = unasked
 
 -- some work is that of a machine at a state
 pub record At (work : Work) : Type 1 where

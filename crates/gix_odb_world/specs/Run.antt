@@ -14,7 +14,7 @@ use Rattle.gix_odb_world.specs.declared.record.Did.{Did}
 use Rattle.gix_odb_world.specs.declared.record.Did.TheVariants.{Nothing, Disk}
 use Rattle.gix_odb_world.specs.declared.step.Step.{Step}
 use Rattle.gix_odb_world.specs.declared.step.Step.TheVariants as steps
-use Rattle.gix_odb_world.specs.Event.{Ask, Asked, OfNothing, OfDisk, OfCore, ToCore, ToDisk, Event}
+use Rattle.gix_odb_world.specs.Event.{Ask, Asked, OfNothing, OfDisk, OfCore, ToCore, ToDisk, Event, core_answer}
 
 abbrev pub disk_after_change : Volume → Option Change → Volume
 disk_after_change disk None = disk
@@ -50,11 +50,11 @@ did_of_asked OfNothing = Nothing
 did_of_asked (OfDisk ask answer) = did_of ask answer
 did_of_asked (OfCore event answer) = Nothing
 
--- what an event tells that asked so: a call of the disk has the answer that the disk gives then
+-- what an event tells that asked so: a call of the disk has the answer that the disk gives then, and an event of a core that of the core
 abbrev pub told_now : Volume → Option Ask → Asked
 told_now disk None = OfNothing
 told_now disk (Some (ToDisk ask)) = OfDisk ask (answer_now disk ask)
-told_now disk (Some (ToCore event)) = absurd event
+told_now disk (Some (ToCore event)) = OfCore event (core_answer event)
 
 -- the record of what was asked so: a call of the disk fails where its number is listed
 abbrev pub did_asked : Volume → Option Ask → Did

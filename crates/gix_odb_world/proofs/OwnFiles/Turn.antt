@@ -26,7 +26,7 @@ use Rattle.gix_odb_world.specs.Running.Write.{IsWriting, write_at}
 use Rattle.gix_odb_world.specs.Undisturbed.{HasMade}
 use Rattle.gix_odb_world.specs.Writing.{IsRename}
 use Rattle.gix_odb_world.proofs.LawfulRun.{LawfulRun}
-use Rattle.gix_odb_world.proofs.DiskTurns.{CallsDisk, calls_disk}
+use Rattle.gix_odb_world.proofs.DiskTurns.{CallsDisk, write_calls}
 use Rattle.gix_odb_world.proofs.FileSteps.{WriterMoves, does_nothing}
 use Rattle.gix_odb_world.proofs.RunSteps.{there_in_front}
 use Rattle.gix_odb_world.proofs.WorkLaws.{ends_as_write}
@@ -42,11 +42,13 @@ module _ (run : LawfulRun) where
 
   module _ (now : ℕ) (e : Event) (there : slice_get events now ≡ Some e) where
     module _ (handle made : ℕ) (path : Path) (hm : HasMade first events handle made path now) (turn : IsTurnOf handle e.step) where
-      works : CallsDisk first (take now events) handle hm.running e
-      works = calls_disk first (take now events) handle hm.running e ((lawful now e there).worked handle hm.running (record { step = turn; status = hm.at.works }))
-
       writes : IsWriting first (take now events) handle hm.running hm.call
       writes = writing_at run now handle hm.running hm.call (within_events run now e there) hm.at
+
+      works : CallsDisk first (take now events) handle hm.running e
+      works =
+          write_calls first (take now events) handle hm.running e ((lawful now e there).worked handle hm.running (record { step = turn; status = hm.at.works }))
+          hm.call hm.at.writes writes
 
       own_moves : (c : Change) → e.entry.change ≡ Some c → WriterMoves (tree now) hm.running.store.parts.objects writes.stage c
       own_moves c is = moves_of run now e handle hm.running hm.call hm.at.writes writes works c is

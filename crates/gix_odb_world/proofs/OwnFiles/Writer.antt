@@ -36,7 +36,7 @@ use Rattle.gix_odb_world.specs.Running.Write.{IsWriting, write_at, job_to_write}
 use Rattle.gix_odb_world.specs.Undisturbed.{HasMade}
 use Rattle.gix_odb_world.specs.Writing.{AskedAt, IsMaking, IsNewFile, head_to_write}
 use Rattle.gix_odb_world.proofs.LawfulRun.{LawfulRun}
-use Rattle.gix_odb_world.proofs.DiskTurns.{CallsDisk, calls_disk}
+use Rattle.gix_odb_world.proofs.DiskTurns.{CallsDisk, write_calls}
 use Rattle.gix_odb_world.proofs.FileSteps.{IsNewAt, WriterMoves, new_at, writer_moves}
 use Rattle.gix_odb_world.proofs.OwnFiles.Ends.{moving_ends}
 use Rattle.gix_odb_world.proofs.RunSteps.{IsTurned, front_of_front, is_tree_at, there_in_front, there_in_whole}
@@ -206,7 +206,9 @@ module _ (run : LawfulRun) where
       writes = writing_at place handle running call (within_events place e there) at
 
       works : CallsDisk first (take place events) handle running e
-      works = calls_disk first (take place events) handle running e ((lawful place e there).worked handle running (record { step = turn; status = at.works }))
+      works =
+          write_calls first (take place events) handle running e ((lawful place e there).worked handle running (record { step = turn; status = at.works }))
+          call at.writes writes
 
       by_stage : (stage : WriteStage) → writes.stage ≡ stage → WriterMoves (tree place) objects stage (Rename from to)
           → (id : ObjectId) × (e.outcome ≡ outcomes.Reply (replies.Wrote id))

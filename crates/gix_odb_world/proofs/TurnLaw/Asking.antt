@@ -31,20 +31,20 @@ pub suits_turn : (number : ℕ) (result : Result Reply Work) (asked : Asked) →
 suits_turn number (Ok reply) asked ends = tt
 suits_turn number (Err work) OfNothing ends = let end = ends refl in let both : Err work ≡ Ok end.0 = end.1 in absurd (cc both)
 suits_turn number (Err work) (OfDisk ask answer) ends = (tt, tt)
-suits_turn number (Err work) (OfCore event answer) ends = absurd event
+suits_turn number (Err work) (OfCore event answer) ends = (tt, tt)
 
 -- what tells nothing was asked for nothing
 pub told_nothing : (disk : Volume) (ask : Option Ask) → told_now disk ask ≡ OfNothing → ask ≡ None
 told_nothing disk None is = refl
 told_nothing disk (Some (ToDisk ask)) is = absurd (cc is)
-told_nothing disk (Some (ToCore event)) is = absurd event
+told_nothing disk (Some (ToCore event)) is = absurd (cc is)
 
 -- the record says that a call of the disk failed exactly where its number is listed
 pub did_told : (disk : Volume) (ask : Option Ask) → ((call : DiskAsk) → ask ≡ Some (ToDisk call) → is_of_streams call ≡ false)
     → did_of_asked (told_now disk ask) ≡ did_asked disk ask
 did_told disk None still = refl
 did_told disk (Some (ToDisk ask)) still = ap (Disk (op_of ask) (path_recorded ask)) (has_failed-now disk ask (still ask refl))
-did_told disk (Some (ToCore event)) still = absurd event
+did_told disk (Some (ToCore event)) still = refl
 
 pub fails_listed : (disk : Volume) (ask : Option Ask) → FailsAsListed disk (did_asked disk ask)
 fails_listed disk None = tt
@@ -57,14 +57,14 @@ pub turn_asking : (first : Volume) (events : List Event) (e : Event) (handle : �
     → IsTurnAsking first events e handle ask
 turn_asking first events e handle None turn did asked change tree = record { turn = turn; did = did; asked = asked; change = change; tree = tree }
 turn_asking first events e handle (Some (ToDisk ask)) turn did asked change tree = record { turn = turn; did = did; asked = asked; change = change; tree = tree }
-turn_asking first events e handle (Some (ToCore event)) turn did asked change tree = absurd event
+turn_asking first events e handle (Some (ToCore event)) turn did asked change tree = record { turn = turn; did = did; asked = asked; change = change; tree = tree }
 
 module _ (first : Volume) (events : List Event) (handle : ℕ) (running : Running) (task : Task) where
   pub order_of : (ask : Option Ask) → TakesTurn first events handle running task ask
       → AsksAsTask first events handle running.store running.modes running.begun running.turns task ask
   order_of None takes = takes
   order_of (Some (ToDisk ask)) takes = takes.in_order
-  order_of (Some (ToCore event)) takes = absurd event
+  order_of (Some (ToCore event)) takes = takes
 
   pub five_of : (ask : Option Ask) → TakesTurn first events handle running task ask
       → ChangesAsAsked first events handle running.store running.begun task ask (change_asked (disk_after first events) ask)
