@@ -1,7 +1,7 @@
 -- A turn calls the disk, or leaves it as it was. A turn of a write calls it.
 use Rattle.std.proofs.Common.{◌≡◌, ◌⊎◌, inl, inr, ℕ, List, Option, Some, None, refl, sym, ap, ◌∙◌, subst}
-use Rattle.odb_disk.specs.MemDisk.{Volume, next_fails}
-use Rattle.odb_disk.specs.Ask.{answer_now, op_of}
+use Rattle.odb_disk.specs.MemDisk.{Volume}
+use Rattle.odb_disk.specs.Ask.{answer_now, fails_now, op_of}
 use Rattle.odb_disk.specs.declared.ask.DiskAsk.{DiskAsk}
 use Rattle.gix_odb_loose.specs.LooseOrder.{disk_ask_of}
 use Rattle.gix_odb_loose.specs.declared.call.LooseCall.{LooseCall}
@@ -20,7 +20,7 @@ use Rattle.gix_odb_world.proofs.WriteTurn.{ask_at_stage}
 pub record CallsDisk (first : Volume) (past : List Event) (handle : ℕ) (running : Running) (e : Event) : Type 0 where
   pub ask : DiskAsk
   pub asks : ask_in running.store running.work ≡ Some (ToDisk ask)
-  pub asked : e.entry.did ≡ Disk (op_of ask) (path_recorded ask) (next_fails (disk_after first past))
+  pub asked : e.entry.did ≡ Disk (op_of ask) (path_recorded ask) (fails_now (disk_after first past) ask)
   pub told : e.asked ≡ OfDisk ask (answer_now (disk_after first past) ask)
   pub goes : e.outcome ≡ outcome_of (fed_in running.store running.work (Some (FromDisk (answer_now (disk_after first past) ask))))
   pub changed : e.entry.change ≡ change_by (disk_after first past) ask

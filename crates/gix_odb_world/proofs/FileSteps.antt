@@ -3,7 +3,7 @@ pub mod AtWrite
 use Rattle.std.proofs.Common.{◌≡◌, ℕ, ◌+◌, List, [], take, Some, None, Result, Ok, Err, sym, ap, ◌∙◌, subst}
 use Rattle.std.specs.Result.{result_ok}
 use Rattle.odb_base.specs.Path.{Path}
-use Rattle.odb_disk.specs.Ask.{change_of_ask, op_of}
+use Rattle.odb_disk.specs.Ask.{change_of_ask, fails_now, op_of}
 use Rattle.odb_disk.specs.MemDisk.{Volume, next_fails}
 use Rattle.odb_tree.specs.Tree.{IsTree, Tree, tree_of}
 use Rattle.odb_tree.specs.Tree.Change.{changed}
@@ -174,7 +174,7 @@ module _ (run : LawfulRun) where
     | Turned t ↦
         let disk = disk_after first (take made events) in
         let before = tree_at first events made in
-        let both : Disk (op_of t.works.ask) (path_recorded t.works.ask) (next_fails disk) ≡ Disk ops.NewFile path (next_fails disk) = sym t.works.asked ∙ a.did in
+        let both : Disk (op_of t.works.ask) (path_recorded t.works.ask) (fails_now disk t.works.ask) ≡ Disk ops.NewFile path (next_fails disk) = sym t.works.asked ∙ a.did in
         let ask = new_file_ask t.works.ask path (cc both) (cc both) in
         let m = done_made disk (asks.NewFile path) (change_of_new_file before path) (told_new_file before path) a.given in
         let makes : a.event.entry.change ≡ Some m.change = t.works.changed ∙ (ap (change_by disk) ask ∙ m.made) in

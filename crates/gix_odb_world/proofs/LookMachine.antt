@@ -2,12 +2,12 @@
 pub mod Asks
 pub mod Begun
 pub mod Comes
-use Rattle.std.proofs.Common.{◌≡◌, ℕ, ◌+◌, ◌*◌, ◌<◌, ◌≤◌, false, List, [], ◌∷◌, ◌++◌, length, Option, None, Some, Ok, Err, Result, refl, sym, ◌∙◌, ap, subst, arith}
+use Rattle.std.proofs.Common.{◌≡◌, ℕ, ◌+◌, ◌*◌, ◌<◌, ◌≤◌, true, false, List, [], ◌∷◌, ◌++◌, length, Option, None, Some, Ok, Err, Result, refl, sym, ◌∙◌, ap, subst, arith}
 use Rattle.std.proofs.lemmas.List.{length_push}
 use Rattle.std.proofs.Math.Nat.{mul-le-mul}
 use Rattle.odb_tree.specs.Tree.{tree_of}
-use Rattle.odb_disk.specs.MemDisk.{Volume}
-use Rattle.odb_disk.specs.Ask.{answer_now, change_of_ask}
+use Rattle.odb_disk.specs.MemDisk.{Volume, next_fails}
+use Rattle.odb_disk.specs.Ask.{answer_now, change_of_ask, fails_now}
 use Rattle.odb_disk.specs.StreamAsks.{is_of_streams}
 use Rattle.odb_disk.specs.declared.ask.DiskAnswer.{DiskAnswer}
 use Rattle.odb_disk.specs.declared.ask.DiskAsk.{DiskAsk}
@@ -37,11 +37,12 @@ use Rattle.gix_odb_world.specs.Running.Query.{IsLooking, Seeks, call_of, looking
 use Rattle.gix_odb_world.specs.Status.{MakeCall, Running, Store, Task}
 use Rattle.gix_odb_world.specs.WorkOrder.{calling_result, fed_after, result_in}
 use Rattle.gix_odb_world.proofs.LookMachine.Asks.{in_order_query}
+use Rattle.gix_odb_world.proofs.FailedLemmas.{fails_now-still}
 use Rattle.gix_odb_world.proofs.FolderLemmas.{ask_found}
 use Rattle.gix_odb_world.proofs.LookMachine.Begun.{looking_starts}
 use Rattle.gix_odb_world.proofs.LookMachine.Comes.{LookComes, look_comes}
 use Rattle.gix_odb_world.proofs.MachineLaws.{AsksDisk, HasTurn, KeepsLaws, MachineComes, quiet_turn, same_ask, turns_by_disk, writes_nothing}
-use Rattle.gix_odb_world.proofs.QuietTurn.{failed_earlier, fails_now, shown_now}
+use Rattle.gix_odb_world.proofs.QuietTurn.{failed_earlier, failed_now, shown_now}
 use Rattle.gix_odb_world.proofs.RunLemmas.{failed-kept, tree_at-before}
 use Rattle.gix_odb_world.proofs.RunningLemmas.{looking_push}
 use Rattle.gix_odb_world.proofs.WriteAsk.Quiet.{change_by-quiet}
@@ -90,9 +91,10 @@ looking_bounded store task query is entries =
 
 -- ---- its call of the disk
 
-looking_still : (store : Store) (stage : Stage) (ask : DiskAsk) → ask_at stage ≡ Some ask → is_of_streams ask ≡ false
-looking_still store (stages.Loose round call) ask is = call_asks_still call ask is
-looking_still store (stages.Done reply) ask is = absurd (cc is)
+-- which isn't of streams
+looking_still : (stage : Stage) (ask : DiskAsk) → ask_at stage ≡ Some ask → is_of_streams ask ≡ false
+looking_still (stages.Loose round call) ask is = call_asks_still call ask is
+looking_still (stages.Done reply) ask is = absurd (cc is)
 
 module _ (first : Volume) (events : List Event) (handle : ℕ) (running : Running) (state : LookState) (knows : IsLooking first events handle running nothing_in_front state) where
   -- the call of the folder that it asks
@@ -124,12 +126,21 @@ module _ (first : Volume) (events : List Event) (handle : ℕ) (running : Runnin
       count : length events + 1 ≡ length whole
       count = sym (length_push events e)
 
+      counted : fails_now (disk_after first events) ask ≡ next_fails (disk_after first events)
+      counted = fails_now-still (disk_after first events) ask (looking_still state.stage ask is)
+
+      broke : next_fails (disk_after first events) ≡ true → FailedSince whole handle running.begun
+      broke fails = failed_now first events e handle running since ask turn (counted ∙ fails)
+
+      worked : next_fails (disk_after first events) ≡ false → FailedSince whole handle running.begun → FailedSince events handle running.begun
+      worked works = failed_earlier first events e handle running since ask turn (counted ∙ works)
+
       abbrev Comes : Result Reply LookState → Type 0
       Comes result =
           LookComes (tree_at first events) (tree_at first whole) (FailedSince events handle running.begun)
           (FailedSince whole handle running.begun) running.store running.modes running.begun (length events) since
           (tree_at-before first events e) (failed-kept events e handle running.begun) (disk_after first events) (shown_now first events e handle running since ask turn looking_quiet)
-          (fails_now first events e handle running since ask turn) (failed_earlier first events e handle running since ask turn) knows.place state.head result
+          broke worked knows.place state.head result
 
       by_query : (query : Query) (reply : Reply)
           → QueryPromise (tree_at first whole) (FailedSince whole handle running.begun) running.store running.modes running.begun (length whole) query reply
@@ -162,14 +173,13 @@ module _ (first : Volume) (events : List Event) (handle : ℕ) (running : Runnin
           (look_comes (tree_at first events) (tree_at first whole) (FailedSince events handle running.begun)
           (FailedSince whole handle running.begun) running.store running.modes running.begun (length events) since
           (tree_at-before first events e) (failed-kept events e handle running.begun) (disk_after first events) (shown_now first events e handle running since ask turn looking_quiet)
-          (fails_now first events e handle running since ask turn) (failed_earlier first events e handle running since ask turn) knows.place state ask knows.seeks_id knows.seeks is)
+          broke worked knows.place state ask knows.seeks_id knows.seeks is)
 
 -- ---- its laws
 
 looking_turns : AsksDisk looking (λ store state. looks.ask_of state)
 looking_turns = record {
   is = λ store state. refl;
-  still = λ store state. looking_still store state.stage;
   some = looking_names;
   takes = looking_takes;
   comes = looking_comes;

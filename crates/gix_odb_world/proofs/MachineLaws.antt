@@ -1,10 +1,9 @@
 -- What a machine has to show, so that a handle may be at it. The laws are no fields of the machine: they speak of statuses and promises,
 -- which are folded by the machines and so stand above them.
-use Rattle.std.proofs.Common.{◌≡◌, ◌⊎◌, ℕ, ◌+◌, ◌<◌, ◌≤◌, false, List, [], ◌∷◌, ◌++◌, length, Option, Some, None, Result, Ok, Err, refl, sym, ap, ◌∙◌, subst}
+use Rattle.std.proofs.Common.{◌≡◌, ◌⊎◌, ℕ, ◌+◌, ◌<◌, ◌≤◌, List, [], ◌∷◌, ◌++◌, length, Option, Some, None, Result, Ok, Err, refl, sym, ap, ◌∙◌, subst}
 use Rattle.odb_disk.specs.MemDisk.{Volume}
 use Rattle.odb_disk.specs.Ask.{answer_now}
 use Rattle.odb_tree.specs.Tree.{IsTree, tree_of}
-use Rattle.odb_disk.specs.StreamAsks.{is_of_streams}
 use Rattle.odb_disk.specs.declared.ask.DiskAsk.{DiskAsk}
 use Rattle.odb_disk.specs.declared.ask.DiskAnswer.{DiskAnswer}
 use Rattle.gix_odb.specs.CallOrder.{HasSize, result_of_write}
@@ -122,8 +121,6 @@ pub record KeepsWriteLaws (m : Machine) : Type 1 where
 
 -- What a machine has to show of its turns.
 pub record KeepsTurnLaws (m : Machine) : Type 1 where
-  -- it names no call of streams
-  pub still : (store : Store) (state : m.State) (ask : DiskAsk) → m.ask store state ≡ Some (ToDisk ask) → is_of_streams ask ≡ false
   -- what it asks for comes in the order of its task, and makes a change that the task may make
   pub takes : (first : Volume) (events : List Event) (handle : ℕ) (running : Running) (state : m.State) → m.Knows first events handle running state
       → TakesTurn first events handle running running.task (m.ask running.store state)
@@ -169,7 +166,6 @@ same_ask (Some own) ask is = let both : own ≡ ask = cc is in ap Some both
 -- What a machine has to show whose one call of the disk in a turn is this.
 pub record AsksDisk (m : Machine) (call : Store → m.State → Option DiskAsk) : Type 1 where
   pub is : (store : Store) (state : m.State) → m.ask store state ≡ to_disk (call store state)
-  pub still : (store : Store) (state : m.State) (ask : DiskAsk) → call store state ≡ Some ask → is_of_streams ask ≡ false
   -- it asks for one at each state at which a handle may be
   pub some : (first : Volume) (events : List Event) (handle : ℕ) (running : Running) (state : m.State) → m.Knows first events handle running state
       → (ask : DiskAsk) × (call running.store state ≡ Some ask)
@@ -204,7 +200,6 @@ module _ (m : Machine) (call : Store → m.State → Option DiskAsk) (disk : Ask
 
   pub turns_by_disk : KeepsTurnLaws m
   turns_by_disk = record {
-    still = λ store state ask is. disk.still store state ask (same_ask (call store state) ask (sym (disk.is store state) ∙ is));
     takes = takes;
     ends = λ first events handle running state knows none. absurd (never_ends first events handle running state knows none);
     comes = λ first events e handle running since state knows. comes first events handle running state knows e since;

@@ -4,9 +4,8 @@ use Rattle.std.proofs.Common.{◌≡◌, ℕ, ◌+◌, ◌≤◌, true, false, c
 use Rattle.std.proofs.lemmas.List.{length_push}
 use Rattle.odb_tree.specs.Tree.{tree_of}
 use Rattle.odb_tree.specs.declared.disk_error.DiskError.TheVariants as disk_errors
-use Rattle.odb_disk.specs.MemDisk.{Volume, next_fails}
-use Rattle.odb_disk.specs.Ask.{answer_now, answer_of, change_of_ask}
-use Rattle.odb_disk.specs.StreamAsks.{is_of_streams}
+use Rattle.odb_disk.specs.MemDisk.{Volume}
+use Rattle.odb_disk.specs.Ask.{answer_now, answer_of, change_of_ask, fails_now}
 use Rattle.odb_disk.specs.declared.ask.DiskAnswer.{DiskAnswer}
 use Rattle.odb_disk.specs.declared.ask.DiskAnswer.TheVariants as answers
 use Rattle.odb_disk.specs.declared.ask.DiskAsk.{DiskAsk}
@@ -33,7 +32,7 @@ use Rattle.gix_odb_world.specs.WorkOrder.{fed_after, opening_result, result_in}
 use Rattle.gix_odb_world.proofs.FolderLemmas.{look_quiet}
 use Rattle.gix_odb_world.proofs.MachineLaws.{AsksDisk, HasTurn, IsSized, KeepsLaws, MachineComes, quiet_turn, same_ask as own_ask, turns_by_disk, writes_nothing}
 use Rattle.gix_odb_world.proofs.OpeningMachine.Look.{look_keeps}
-use Rattle.gix_odb_world.proofs.QuietTurn.{fails_now, shown_now}
+use Rattle.gix_odb_world.proofs.QuietTurn.{failed_now, shown_now}
 use Rattle.gix_odb_world.proofs.RunLemmas.{failed_before, none_failed_yet}
 use Rattle.gix_odb_world.proofs.WriteAsk.Quiet.{change_by-quiet}
 use Rattle.gix_odb_world.proofs.WriteTurn.Common.{IsTurnWith}
@@ -76,10 +75,6 @@ opening_kept events e handle running state other knows =
 
 -- ---- its call of the disk
 
-opening_still : (store : Store) (state : OpenState) (ask : DiskAsk) → openings.ask_of store.parts.objects state ≡ Some ask → is_of_streams ask ≡ false
-opening_still store opens.Looking ask is = let same : asks.Look store.parts.objects true ≡ ask = cc is in ap is_of_streams (sym same)
-opening_still store (opens.Done reply) ask is = absurd (cc is)
-
 -- it looks at its objects directory
 in_order_opening : (first : Volume) (events : List Event) (handle : ℕ) (store : Store) (modes : Modes) (begun turns : ℕ) (state : OpenState) (ask : DiskAsk)
     → state ≡ opens.Looking → turns ≡ 0 → openings.ask_of store.parts.objects state ≡ Some ask
@@ -115,13 +110,18 @@ module _ (first : Volume) (events : List Event) (handle : ℕ) (running : Runnin
     abbrev Promised : ℕ → DiskAnswer → Type 0
     Promised now answer = OpeningPromise (tree_at first whole) (FailedSince whole handle running.begun) running.store running.begun now (opening_reply running.store.slots answer)
 
+    look_failed : fails_now (disk_after first events) (asks.Look objects true) ≡ true → FailedSince whole handle running.begun
+    look_failed =
+        subst (λ a. fails_now (disk_after first events) a ≡ true → FailedSince whole handle running.begun) (sym same_ask)
+        (failed_now first events e handle running since ask turn)
+
     look_promised : Promised (length events + 1) (answer_now (disk_after first events) ask)
     look_promised =
         subst (λ a. Promised (length events + 1) (answer_now (disk_after first events) a)) same_ask
-        (subst (λ tree. Promised (length events + 1) (cond (next_fails (disk_after first events)) (answers.Refused disk_errors.Failed) (answer_of tree (asks.Look objects true))))
+        (subst (λ tree. Promised (length events + 1) (cond (fails_now (disk_after first events) (asks.Look objects true)) (answers.Refused disk_errors.Failed) (answer_of tree (asks.Look objects true))))
         (shown_now first events e handle running since ask turn opening_quiet)
         (look_keeps (tree_at first whole) (FailedSince whole handle running.begun) running.store running.begun (length events + 1) (omega (arith, since))
-        (next_fails (disk_after first events)) (fails_now first events e handle running since ask turn)))
+        (fails_now (disk_after first events) (asks.Look objects true)) look_failed))
 
     abbrev Comes : OpenState → Type 0
     Comes s = MachineComes first events e handle running opening (openings.result_of (openings.fed running.store.slots s (answer_now (disk_after first events) ask)))
@@ -145,7 +145,6 @@ opening_ask first events handle running state knows = (asks.Look running.store.p
 opening_turns : AsksDisk opening (λ store state. openings.ask_of store.parts.objects state)
 opening_turns = record {
   is = λ store state. refl;
-  still = opening_still;
   some = opening_ask;
   takes = λ first events handle running state knows ask. opening_takes first events handle running state ask knows;
   comes = λ first events handle running state knows ask. opening_comes first events handle running state ask knows;

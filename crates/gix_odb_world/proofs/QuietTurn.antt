@@ -2,7 +2,8 @@
 use Rattle.std.proofs.Common.{◌≡◌, ℕ, ◌+◌, ◌≤◌, true, false, List, [], ◌∷◌, ◌++◌, length, None, sym, ◌∙◌, ap, subst}
 use Rattle.odb_tree.specs.Tree.{tree_of}
 use Rattle.odb_tree.specs.Tree.Write.{written}
-use Rattle.odb_disk.specs.MemDisk.{Volume, next_fails}
+use Rattle.odb_disk.specs.Ask.{fails_now}
+use Rattle.odb_disk.specs.MemDisk.{Volume}
 use Rattle.odb_disk.specs.declared.ask.DiskAsk.{DiskAsk}
 use Rattle.gix_odb_world.specs.Event.{Event}
 use Rattle.gix_odb_world.specs.Status.{Running}
@@ -17,15 +18,15 @@ module _ (first : Volume) (events : List Event) (e : Event) (handle : ℕ) (runn
   abbrev disk : Volume
   disk = disk_after first events
 
-  listed : Fails e.entry.did → next_fails disk ≡ true
+  listed : Fails e.entry.did → fails_now disk ask ≡ true
   listed failed = subst Fails is.did failed
 
   -- where the call failed, one has failed since the task was set
-  pub fails_now : next_fails disk ≡ true → FailedSince whole handle running.begun
-  fails_now fails = failed_last events e handle running.begun since is.turn (subst Fails (sym is.did) fails)
+  pub failed_now : fails_now disk ask ≡ true → FailedSince whole handle running.begun
+  failed_now fails = failed_last events e handle running.begun since is.turn (subst Fails (sym is.did) fails)
 
   -- where it didn't, one that has failed did so before
-  pub failed_earlier : next_fails disk ≡ false → FailedSince whole handle running.begun → FailedSince events handle running.begun
+  pub failed_earlier : fails_now disk ask ≡ false → FailedSince whole handle running.begun → FailedSince events handle running.begun
   failed_earlier works = failed_before events e handle running.begun (λ turn failed. absurd (cc (listed failed, works)))
 
   -- the tree after it is the one that answered

@@ -1,8 +1,8 @@
 -- What makes something is refused by a failure, or by its way.
 use Rattle.std.proofs.Common.{◌≡◌, ◌≢◌, ℕ, Bool, true, false, List, take, Ok, Err, Result, refl, sym, ap, ◌∙◌, subst, inl, inr}
 use Rattle.std.specs.Prelude.{if◌then◌else◌}
-use Rattle.odb_disk.specs.Ask.{answer_of, write_answer}
-use Rattle.odb_disk.specs.MemDisk.{Volume, next_fails}
+use Rattle.odb_disk.specs.Ask.{answer_of, fails_now, write_answer}
+use Rattle.odb_disk.specs.MemDisk.{Volume}
 use Rattle.odb_tree.specs.Tree.{Tree, tree_of}
 use Rattle.odb_tree.specs.Tree.Write as writing
 use Rattle.odb_tree.specs.Tree.Write.{change_of_append, change_of_make_dir, change_of_new_file, change_of_rename}
@@ -13,7 +13,6 @@ use Rattle.odb_disk.specs.declared.ask.DiskAsk.TheVariants as asks
 use Rattle.odb_tree.specs.declared.change.Change.{Change}
 use Rattle.odb_tree.specs.declared.disk_error.DiskError.{DiskError}
 use Rattle.odb_tree.specs.declared.disk_error.DiskError.TheVariants as disk_errors
-use Rattle.odb_disk.proofs.StillAskLaws.{answer_now-still}
 use Rattle.odb_tree.proofs.RefusalLaws.{append-never, full, make_dir-never, new_file-never, rename-never, there}
 use Rattle.gix_odb_loose.proofs.CauseLaws.Write.{IsMaking}
 use Rattle.gix_odb_loose.specs.WriteHistory.Refused.{IsRefused}
@@ -21,6 +20,7 @@ use Rattle.gix_odb_loose.specs.WriteRuns.RefusedAsks.{IsOnWay}
 use Rattle.gix_odb_world.specs.Event.{OfDisk, Event}
 use Rattle.gix_odb_world.specs.Run.{Fails, disk_after}
 use Rattle.gix_odb_world.specs.Writing.{AskedSince, RefusedSince}
+use Rattle.gix_odb_world.proofs.FailedLemmas.{answer_by_tree}
 use Rattle.gix_odb_world.proofs.WriteAsk.{Told, told_append, told_make_dir, told_new_file, told_rename}
 
 module _ (first : Volume) (events : List Event) (handle begun : ℕ) (ask : DiskAsk) (answer : DiskAnswer) (asked : AskedSince first events handle begun ask answer)
@@ -44,7 +44,7 @@ module _ (first : Volume) (events : List Event) (handle begun : ℕ) (ask : Disk
     by_told (Err writing.Exists) is e = absurd (untaken is (subst (IsRefused ask) e refused))
     by_told (Err writing.NotEmpty) is e = absurd (unfilled is)
 
-    by_failing : (fails : Bool) → next_fails disk ≡ fails → answer ≡ (if fails then answers.Refused disk_errors.Failed else answer_of tree ask)
+    by_failing : (fails : Bool) → fails_now disk ask ≡ fails → answer ≡ (if fails then answers.Refused disk_errors.Failed else answer_of tree ask)
         → RefusedSince first events handle begun ask
     by_failing true fails e =
         inl (record {
@@ -58,7 +58,7 @@ module _ (first : Volume) (events : List Event) (handle begun : ℕ) (ask : Disk
     by_failing false fails e = by_told told refl (e ∙ tells.answer)
 
     pub refused_so : RefusedSince first events handle begun ask
-    refused_so = by_failing (next_fails disk) refl (asked.at.given ∙ answer_now-still disk ask tells.still)
+    refused_so = by_failing (fails_now disk ask) refl (asked.at.given ∙ answer_by_tree disk ask tells.still)
 
 pub refused_on_way : (first : Volume) (events : List Event) (handle begun : ℕ) (ask : DiskAsk) → IsMaking ask → (answer : DiskAnswer)
     → AskedSince first events handle begun ask answer → IsRefused ask answer → RefusedSince first events handle begun ask

@@ -2,8 +2,8 @@
 pub mod Fronts
 use Rattle.std.proofs.Common.{◌≡◌, inl, inr, ℕ, zero, suc, ◌+◌, Bool, true, false, List, take, Option, Some, None, refl, sym, ap, ◌∙◌, subst, arith}
 use Rattle.std.specs.Prelude.{slice_get, if◌then◌else◌}
-use Rattle.odb_disk.specs.Ask.{change_of_ask}
-use Rattle.odb_disk.specs.MemDisk.{Volume, after_outside_change, next_fails}
+use Rattle.odb_disk.specs.Ask.{change_of_ask, fails_now}
+use Rattle.odb_disk.specs.MemDisk.{Volume, after_outside_change}
 use Rattle.odb_tree.specs.Tree.{IsTree, Tree, tree_of}
 use Rattle.odb_tree.specs.Tree.Change.{changed, is_possible}
 use Rattle.odb_tree.specs.Tree.Write.{written}
@@ -145,7 +145,7 @@ module _ (first : Volume) (past : List Event) (e : Event) where
 
 pub change_by_some : (disk : Volume) (ask : DiskAsk) (change : Change) → change_by disk ask ≡ Some change
     → change_of_ask (tree_of disk.state) ask ≡ Some change
-change_by_some disk ask change is = by_failing (next_fails disk) is
+change_by_some disk ask change is = by_failing (fails_now disk ask) is
   where
     by_failing : (fails : Bool) → (if fails then None else change_of_ask (tree_of disk.state) ask) ≡ Some change
         → change_of_ask (tree_of disk.state) ask ≡ Some change

@@ -34,7 +34,6 @@ use Rattle.gix_odb_world.proofs.BegunLemmas.Turns.{Counts, counts_now}
 use Rattle.gix_odb_world.proofs.MachineLaws.{ComesTo, IsTurnAsking, TakesTurn}
 use Rattle.gix_odb_world.proofs.TurnLaw.Asking.{did_told, fails_listed, five_of, order_of, suits_turn, told_nothing, turn_asking}
 use Rattle.gix_odb_world.proofs.TurnLaw.Comes.{come_of, end_of, turn_of}
-use Rattle.gix_odb_world.proofs.WorkLaws.{ask_still}
 
 -- ---- the event of a turn
 
@@ -86,7 +85,7 @@ module _ (first : Volume) (events : List Event) (old : World) (number : ℕ) (ru
     whole = events ++ event ∷ []
 
     did_is : event.entry.did ≡ did_asked (disk_after first events) ask
-    did_is = did_told old.disk ask (ask_still running.store running.work) ∙ ap (λ d. did_asked d ask) explains.disk
+    did_is = did_told old.disk ask ∙ ap (λ d. did_asked d ask) explains.disk
 
     told_is : event.asked ≡ told_now (disk_after first events) ask
     told_is = ap (λ d. told_now d ask) explains.disk
@@ -159,7 +158,7 @@ module _ (first : Volume) (events : List Event) (old : World) (number : ℕ) (ru
           valid = misuse_of-turn after ∙ ap (λ s. why_not_running (phase_of s)) (sym status);
           suits = suits_turn number after told ended;
           change = changes_turn number after event.entry.change;
-          failed = subst (FailsAsListed (disk_after first events)) (sym did_is) (fails_listed (disk_after first events) ask);
+          failed = subst (FailsAsListed (disk_after first events)) (sym told_is) (fails_listed (disk_after first events) ask);
           faults = counted ∙ (ap (λ d. (disk_after_asked d told made).calls.faults) explains.disk ∙ ap (λ (d : Volume). d.calls.faults) (sym (disk_after-push first events event)));
           did = refl;
           worked = of_turn (λ h r. Works first events h r event) works;

@@ -2,7 +2,6 @@
 use Rattle.std.proofs.Common.{◌≡◌, ℕ, ◌+◌, Bool, true, false, List, [], ◌∷◌, ◌++◌, length, Some, None, Ok, Err, Option, Result, refl, sym, ◌∙◌, ap, subst}
 use Rattle.std.specs.Prelude.{if◌then◌else◌, ◌==◌}
 use Rattle.odb_disk.specs.MemDisk.{Volume}
-use Rattle.odb_disk.specs.StreamAsks.{is_of_streams}
 use Rattle.odb_tree.specs.Tree.{IsTree, tree_of}
 use Rattle.odb_tree.specs.declared.change.Change.{Change}
 use Rattle.odb_disk.specs.declared.ask.DiskAsk.{DiskAsk}
@@ -27,7 +26,7 @@ use Rattle.gix_odb_world.specs.Table.{SetsHandle, Notes, after_turn, change_now,
 use Rattle.gix_odb_world.proofs.RunsLemmas.{runs_set}
 use Rattle.gix_odb_world.proofs.StepLemmas.{goes_on, table_noted}
 use Rattle.gix_odb_world.specs.Run.{change_asked, did_of_asked, disk_after_asked, told_now}
-use Rattle.gix_odb_world.proofs.WorkLaws.{ask_still, code_asks, code_feeds}
+use Rattle.gix_odb_world.proofs.WorkLaws.{code_asks, code_feeds}
 use Rattle.gix_odb_world.proofs.TurnLaw.Asking.{answer_on, answer_on-told, change_now-asked, did_now-told, disk_now-asked, work_now-fed}
 use Rattle.gix_odb_world.proofs.WorldLemmas.{matches_set}
 use Rattle.gix_odb_world.proofs.TurnLaw.{come, event, law, matches_next, runs_next}
@@ -79,7 +78,6 @@ module _ (old took mid new : World) (disk : Volume) (number : ℕ) (state : Hand
       let made : Option Change = change_asked old.disk ask in
       let same_disk : took.disk ≡ old.disk = took_it.takes.disk in
       let asks_it : to_disk code ≡ ask = code_asks store running.modes state own work ∙ ap (ask_in store) (sym at) in
-      let still : (call : DiskAsk) → code ≡ Some call → is_of_streams call ≡ false = λ call is. ask_still store running.work call (sym asks_it ∙ ap to_disk is) in
       let did_is : did ≡ did_of_asked told =
       took_it.did_is ∙ (ap (λ d. did_now d code) same_disk ∙ (did_now-told old.disk code ∙ ap (λ a. did_of_asked (told_now old.disk a)) asks_it)) in
       let result : Result Reply Work = fed_in store running.work (answered told) in
@@ -91,7 +89,7 @@ module _ (old took mid new : World) (disk : Volume) (number : ℕ) (state : Hand
       let disk_is : disk ≡ disk_after_asked old.disk told made =
       took_it.disk_is ∙ (ap (λ d. disk_now d code) same_disk ∙ (disk_now-asked old.disk code ∙ ap (λ a. disk_after_asked old.disk (told_now old.disk a) (change_asked old.disk a)) asks_it)) in
       let change_is : change ≡ made =
-      took_it.change_is ∙ (ap (λ d. change_now d code) same_disk ∙ (change_now-asked old.disk code still ∙ ap (change_asked old.disk) asks_it)) in
+      took_it.change_is ∙ (ap (λ d. change_now d code) same_disk ∙ (change_now-asked old.disk code ∙ ap (change_asked old.disk) asks_it)) in
       let tree : IsTree (tree_of old.disk.state) = subst (λ (d : Volume). IsTree (tree_of d.state)) same_disk took_it.tree in
       let outcome_is : outcome ≡ outcome_of result = took_it.outcome_is ∙ ap outcome_of result_is in
       let handle_is : handle ≡ after_turn state result = took_it.handle_is ∙ ap (after_turn state) result_is in

@@ -1,7 +1,6 @@
 -- What holds of any work, since the machine that it is of keeps its laws.
-use Rattle.std.proofs.Common.{◌≡◌, ◌⊎◌, ℕ, false, List, Option, Some, None, Ok, Err, Result, refl, sym, ◌∙◌, ap}
+use Rattle.std.proofs.Common.{◌≡◌, ◌⊎◌, ℕ, List, Option, Some, None, Ok, Err, Result, refl, sym, ◌∙◌, ap}
 use Rattle.odb_disk.specs.MemDisk.{Volume}
-use Rattle.odb_disk.specs.StreamAsks.{is_of_streams}
 use Rattle.odb_disk.specs.declared.ask.DiskAsk.{DiskAsk}
 use Rattle.odb_disk.specs.declared.ask.DiskAnswer.{DiskAnswer}
 use Rattle.gix_odb.specs.CallOrder.{result_of_write}
@@ -35,10 +34,6 @@ pub code_feeds : (store : Store) (modes : Modes) (code : HandleState) → IsHand
     → result_in (fed_after code work answer) ≡ fed_in store work (from_disk answer)
 code_feeds store modes code own work answer =
     ap (λ w. result_in (fed_after code w answer)) (sym (at work).is) ∙ (laws_at work).feeds store modes code own (at work).state answer
-
--- no work names a call of streams
-pub ask_still : (store : Store) (work : Work) (ask : DiskAsk) → ask_in store work ≡ Some (ToDisk ask) → is_of_streams ask ≡ false
-ask_still store work ask is = (laws_at work).turns.still store (at work).state ask is
 
 -- ---- its writes
 

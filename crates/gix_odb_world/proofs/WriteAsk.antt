@@ -4,10 +4,9 @@ use Rattle.std.proofs.Common.{◌≡◌, ◌≢◌, ℕ, Bool, true, false, List
 use Rattle.std.specs.Prelude.{if◌then◌else◌}
 use Rattle.std.specs.Result.{result_ok}
 use Rattle.odb_base.specs.Path.{Path}
-use Rattle.odb_disk.specs.Ask.{answer_now, answer_of, change_of_ask, write_answer}
+use Rattle.odb_disk.specs.Ask.{answer_now, answer_of, change_of_ask, fails_now, write_answer}
 use Rattle.odb_disk.specs.StreamAsks.{is_of_streams}
-use Rattle.odb_disk.proofs.StillAskLaws.{answer_now-still}
-use Rattle.odb_disk.specs.MemDisk.{Volume, next_fails}
+use Rattle.odb_disk.specs.MemDisk.{Volume}
 use Rattle.odb_tree.specs.Tree.{Tree, tree_of}
 use Rattle.odb_tree.specs.Tree.Follow.{Refusal}
 use Rattle.odb_tree.specs.Tree.Write as writing
@@ -19,6 +18,7 @@ use Rattle.odb_disk.specs.declared.ask.DiskAsk.TheVariants as asks
 use Rattle.odb_tree.specs.declared.change.Change.{Change}
 use Rattle.odb_tree.specs.declared.disk_error.DiskError.TheVariants as disk_errors
 use Rattle.gix_odb_world.specs.Run.{change_by}
+use Rattle.gix_odb_world.proofs.FailedLemmas.{answer_by_tree}
 
 -- ---- a call that writes
 
@@ -67,9 +67,9 @@ module _ (disk : Volume) (ask : DiskAsk) (told : Result Change writing.Refusal) 
 
   -- a call that was done made it
   pub done_made : answers.Done ≡ answer_now disk ask → Made disk ask told
-  done_made given = by_failing (next_fails disk) refl (given ∙ answer_now-still disk ask tells.still)
+  done_made given = by_failing (fails_now disk ask) refl (given ∙ answer_by_tree disk ask tells.still)
     where
-      by_failing : (fails : Bool) → next_fails disk ≡ fails → answers.Done ≡ answered fails → Made disk ask told
+      by_failing : (fails : Bool) → fails_now disk ask ≡ fails → answers.Done ≡ answered fails → Made disk ask told
       by_failing true fails e = absurd (cc e)
       by_failing false fails e =
           let d = done_is told (e ∙ tells.answer) in
@@ -77,19 +77,19 @@ module _ (disk : Volume) (ask : DiskAsk) (told : Result Change writing.Refusal) 
 
   -- one that wasn't made none
   pub undone_made : answers.Done ≢ answer_now disk ask → change_by disk ask ≡ None
-  undone_made other = by_failing (next_fails disk) refl (λ e. other (e ∙ sym (answer_now-still disk ask tells.still)))
+  undone_made other = by_failing (fails_now disk ask) refl (λ e. other (e ∙ sym (answer_by_tree disk ask tells.still)))
     where
       by_told : (told' : Result Change writing.Refusal) → answers.Done ≢ write_answer told' → result_ok told' ≡ None
       by_told (Ok change) undone = absurd (undone refl)
       by_told (Err refusal) undone = refl
 
-      by_failing : (fails : Bool) → next_fails disk ≡ fails → answers.Done ≢ answered fails → by fails ≡ None
+      by_failing : (fails : Bool) → fails_now disk ask ≡ fails → answers.Done ≢ answered fails → by fails ≡ None
       by_failing true fails undone = refl
       by_failing false fails undone = tells.change ∙ by_told told (λ e. undone (e ∙ sym tells.answer))
 
   -- what holds of the change that the tree makes holds of the one that was made
   pub change_by-all : (P : Option Change → Type 0) → P None → ((change : Change) → told ≡ Ok change → P (Some change)) → P (change_by disk ask)
-  change_by-all P none some = by_failing (next_fails disk)
+  change_by-all P none some = by_failing (fails_now disk ask)
     where
       by_told : (told' : Result Change writing.Refusal) → told ≡ told' → P (result_ok told')
       by_told (Ok change) is = some change is
@@ -132,7 +132,7 @@ changed_still tree (asks.Rename from to) change is = refl
 changed_still tree (asks.Remove path) change is = refl
 
 pub made_done : (disk : Volume) (ask : DiskAsk) (change : Change) → change_by disk ask ≡ Some change → answer_now disk ask ≡ answers.Done
-made_done disk ask change is = answer_now-still disk ask (changed_still (tree_of disk.state) ask change (told_change (next_fails disk) is)) ∙ by_failing (next_fails disk) is
+made_done disk ask change is = answer_by_tree disk ask (changed_still (tree_of disk.state) ask change (told_change (fails_now disk ask) is)) ∙ by_failing (fails_now disk ask) is
   where
     told_change : (fails : Bool) → (if fails then None else change_of_ask (tree_of disk.state) ask) ≡ Some change
         → change_of_ask (tree_of disk.state) ask ≡ Some change

@@ -5,8 +5,8 @@ use Rattle.std.proofs.lemmas.List.{take-append-le, length_push}
 use Rattle.std.proofs.lemmas.Option.{slice_get_within}
 use Rattle.std.proofs.Math.Seq.{take-append_seam}
 use Rattle.odb_base.specs.Path.{Path}
-use Rattle.odb_disk.specs.Ask.{op_of, answer_now}
-use Rattle.odb_disk.specs.MemDisk.{Volume, next_fails}
+use Rattle.odb_disk.specs.Ask.{op_of, answer_now, fails_now}
+use Rattle.odb_disk.specs.MemDisk.{Volume}
 use Rattle.odb_tree.specs.Tree.{Tree}
 use Rattle.odb_tree.specs.Tree.Way.{SameOnWay}
 use Rattle.odb_disk.specs.declared.ask.DiskAnswer.{DiskAnswer}
@@ -49,7 +49,7 @@ module _ (first : Volume) (events : List Event) (e : Event) where
         event = a.event;
         there = slice_get-kept events e place a.event a.there;
         turn = a.turn;
-        did = a.did ∙ ap (λ es. Disk (op_of ask) (path_recorded ask) (next_fails (disk_after first es))) (sym same);
+        did = a.did ∙ ap (λ es. Disk (op_of ask) (path_recorded ask) (fails_now (disk_after first es) ask)) (sym same);
         asked = a.asked;
         given = a.given ∙ ap (λ es. answer_now (disk_after first es) ask) (sym same);
       }
@@ -60,7 +60,7 @@ module _ (first : Volume) (events : List Event) (e : Event) where
 
   -- the last event's own call
   pub asked_now : (handle : ℕ) (ask : DiskAsk) (answer : DiskAnswer) → IsTurnOf handle e.step
-      → e.entry.did ≡ Disk (op_of ask) (path_recorded ask) (next_fails (disk_after first events))
+      → e.entry.did ≡ Disk (op_of ask) (path_recorded ask) (fails_now (disk_after first events) ask)
       → e.asked ≡ OfDisk ask answer → answer ≡ answer_now (disk_after first events) ask → AskedAt first whole handle (length events) ask answer
   asked_now handle ask answer turn did asked given =
       let same : take (length events) whole ≡ events = take-append_seam events (e ∷ []) in
@@ -68,7 +68,7 @@ module _ (first : Volume) (events : List Event) (e : Event) where
         event = e;
         there = slice_get-last events e;
         turn = turn;
-        did = did ∙ ap (λ es. Disk (op_of ask) (path_recorded ask) (next_fails (disk_after first es))) (sym same);
+        did = did ∙ ap (λ es. Disk (op_of ask) (path_recorded ask) (fails_now (disk_after first es) ask)) (sym same);
         asked = asked;
         given = given ∙ ap (λ es. answer_now (disk_after first es) ask) (sym same);
       }

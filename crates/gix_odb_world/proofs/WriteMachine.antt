@@ -8,7 +8,6 @@ use Rattle.odb_disk.specs.declared.ask.DiskAsk.{DiskAsk}
 use Rattle.gix_odb_loose.specs.LooseOrder as loose_order
 use Rattle.gix_odb_loose.specs.LooseOrder.{disk_ask_of}
 use Rattle.gix_odb_loose.specs.declared.call.LooseCall.{LooseCall}
-use Rattle.gix_odb_loose.proofs.StillAskLaws.{call_asks_still}
 use Rattle.gix_odb.specs.CallOrder as calls
 use Rattle.gix_odb.specs.CallOrder.{result_of_write, writing_result}
 use Rattle.gix_odb.specs.declared.call.Call.TheVariants as call_kinds
@@ -110,7 +109,6 @@ write_ask first events handle running call knows = (ask_at_stage knows.writing.w
 writing_turns : AsksDisk writing (λ store call. disk_ask_of call)
 writing_turns = record {
   is = λ store call. refl;
-  still = λ store call ask is. call_asks_still call ask is;
   some = write_ask;
   takes = λ first events handle running call knows ask. write_takes first events handle running call ask knows;
   comes = λ first events handle running call knows ask. machine_comes first events handle running call ask knows;

@@ -3,19 +3,18 @@
 -- object last and changes nothing else of the tree than five changes tell, each call ends within its bound, and each
 -- error has its cause.
 use Rattle.std.specs.Prelude.{◌≡◌, ℕ, ◌+◌, ◌<◌, List, [], ◌∷◌, ◌++◌, map, length, take, slice_get, Option, Some, Result, Ok, Err}
-use Rattle.odb_disk.specs.MemDisk.{Volume, next_fails}
+use Rattle.odb_disk.specs.Ask.{fails_now}
+use Rattle.odb_disk.specs.MemDisk.{Volume}
 use Rattle.gix_odb.specs.declared.call.Reply.{Reply}
 use Rattle.gix_odb_world.specs.declared.step.Step.{Step}
 use Rattle.gix_odb_world.specs.declared.step.Step.TheVariants as steps
 use Rattle.gix_odb_world.specs.declared.step.Outcome.{Outcome}
 use Rattle.gix_odb_world.specs.declared.step.Outcome.TheVariants as outcomes
-use Rattle.gix_odb_world.specs.declared.record.Did.{Did}
-use Rattle.gix_odb_world.specs.declared.record.Did.TheVariants.{Nothing, Disk}
 use Rattle.gix_odb_world.specs.declared.record.Run.{Run}
 use Rattle.gix_odb_world.specs.declared.work.Work.{Work}
 use Rattle.gix_odb_world.specs.Event.{Ask, Asked, OfNothing, OfDisk, OfCore, Event, answered}
 use Rattle.gix_odb_world.specs.Status.{Running, Task, Working, status_of}
-use Rattle.gix_odb_world.specs.Run.{change_asked, did_asked, did_of_asked, disk_after, told_now, tree_at}
+use Rattle.gix_odb_world.specs.Run.{change_asked, did_asked, did_of_asked, disk_after, has_failed, told_now, tree_at}
 use Rattle.gix_odb_world.specs.Begun.{BegunAs, HoldsStore, IsTaskOf, NoneSince, turns_since}
 use Rattle.gix_odb_world.specs.Changes.{ChangesAs, ChangesAsAsked}
 use Rattle.gix_odb_world.specs.Undisturbed.{WritesStandAlone}
@@ -51,10 +50,10 @@ Suits step outcomes.Pending asked = IsTurn step × AsksSomething asked
 Suits step (outcomes.Reply reply) asked = IsTurn step
 Suits step (outcomes.Misuse why) asked = asked ≡ OfNothing
 
--- a call of the disk fails exactly where its number is listed
-abbrev pub FailsAsListed : Volume → Did → Type 0
-FailsAsListed disk Nothing = Unit {0}
-FailsAsListed disk (Disk op path failed) = failed ≡ next_fails disk
+-- a call of the disk fails exactly where its number is listed; the close of a stream has none, and never fails
+abbrev pub FailsAsListed : Volume → Asked → Type 0
+FailsAsListed disk (OfDisk ask answer) = has_failed answer ≡ fails_now disk ask
+FailsAsListed disk asked = Unit {0}
 
 -- the handle that the event turns, and what it was at
 pub record Turns (past : List Event) (e : Event) (handle : ℕ) (running : Running) : Type 0 where
@@ -94,7 +93,7 @@ pub record Law (first : Volume) (past : List Event) (e : Event) : Type 0 where
   pub valid : misuse_of e.outcome ≡ why_not_after first past e.step
   pub suits : Suits e.step e.outcome e.asked
   pub change : ChangesAs e.step e.outcome e.entry.change
-  pub failed : FailsAsListed (disk_after first past) e.entry.did
+  pub failed : FailsAsListed (disk_after first past) e.asked
   -- the record has the disk's count of faults after the step
   pub faults : e.entry.faults ≡ (disk_after first (past ++ e ∷ [])).calls.faults
   -- the record tells the call of the disk that the event made, and that no other event made one

@@ -2,8 +2,8 @@
 use Rattle.std.specs.Prelude.{◌≡◌, ℕ, ◌≤◌, Bool, true, false, List, fold, take, slice_get, Option, Some, None, if◌then◌else◌}
 use Rattle.odb_tree.specs.Tree.{Tree, tree_of}
 use Rattle.odb_tree.specs.Tree.Write.{written}
-use Rattle.odb_disk.specs.Ask.{after_ask, answer_now, change_of_ask, op_of}
-use Rattle.odb_disk.specs.MemDisk.{Volume, next_fails, after_outside_change}
+use Rattle.odb_disk.specs.Ask.{after_ask, answer_now, change_of_ask, fails_now, op_of}
+use Rattle.odb_disk.specs.MemDisk.{Volume, after_outside_change}
 use Rattle.odb_disk.specs.declared.ask.DiskAnswer.{DiskAnswer}
 use Rattle.odb_disk.specs.declared.ask.DiskAnswer.TheVariants as answers
 use Rattle.odb_disk.specs.declared.ask.DiskAsk.{DiskAsk}
@@ -33,7 +33,7 @@ disk_after_event disk e = disk_after_asked disk e.asked e.entry.change
 
 -- the change that a call of the disk makes: none where it fails or is refused
 abbrev pub change_by : Volume → DiskAsk → Option Change
-change_by disk ask = if next_fails disk then None else change_of_ask (tree_of disk.state) ask
+change_by disk ask = if fails_now disk ask then None else change_of_ask (tree_of disk.state) ask
 
 -- whether a call of the disk failed, by its answer
 abbrev pub has_failed : DiskAnswer → Bool
@@ -59,7 +59,7 @@ told_now disk (Some (ToCore event)) = OfCore event (core_answer event)
 -- the record of what was asked so: a call of the disk fails where its number is listed
 abbrev pub did_asked : Volume → Option Ask → Did
 did_asked disk None = Nothing
-did_asked disk (Some (ToDisk ask)) = Disk (op_of ask) (path_recorded ask) (next_fails disk)
+did_asked disk (Some (ToDisk ask)) = Disk (op_of ask) (path_recorded ask) (fails_now disk ask)
 did_asked disk (Some (ToCore event)) = Nothing
 
 -- the change that what was asked so makes: only a call of the disk makes one

@@ -1,8 +1,8 @@
 -- A write on a handle: what it is to write, and what it asked of the disk and changed since it began.
 use Rattle.std.specs.Prelude.{◌≡◌, ◌⊎◌, ℕ, ◌+◌, ◌<◌, ◌≤◌, Bool, true, List, take, slice_get, Option, Some, None}
 use Rattle.odb_base.specs.Path.{Path}
-use Rattle.odb_disk.specs.Ask.{op_of, answer_now}
-use Rattle.odb_disk.specs.MemDisk.{Volume, next_fails}
+use Rattle.odb_disk.specs.Ask.{op_of, answer_now, fails_now}
+use Rattle.odb_disk.specs.MemDisk.{Volume}
 use Rattle.odb_tree.specs.Tree.Way.{SameOnWay}
 use Rattle.odb_disk.specs.declared.ask.DiskAnswer.{DiskAnswer}
 use Rattle.odb_disk.specs.declared.ask.DiskAnswer.TheVariants as answers
@@ -61,7 +61,7 @@ pub record AskedAt (first : Volume) (events : List Event) (handle place : ℕ) (
   pub event : Event
   pub there : slice_get events place ≡ Some event
   pub turn : IsTurnOf handle event.step
-  pub did : event.entry.did ≡ Disk (op_of ask) (path_recorded ask) (next_fails (disk_after first (take place events)))
+  pub did : event.entry.did ≡ Disk (op_of ask) (path_recorded ask) (fails_now (disk_after first (take place events)) ask)
   pub asked : event.asked ≡ OfDisk ask answer
   pub given : answer ≡ answer_now (disk_after first (take place events)) ask
 

@@ -1,10 +1,9 @@
 -- What a turn does that asks so: what its record says, what it changes, and what the code of it does.
-use Rattle.std.proofs.Common.{◌≡◌, ℕ, false, List, Option, Some, None, Ok, Err, Result, refl, ap}
+use Rattle.std.proofs.Common.{◌≡◌, ℕ, List, Option, Some, None, Ok, Err, Result, refl, ap}
 use Rattle.std.specs.Prelude.{if◌then◌else◌}
 use Rattle.odb_tree.specs.Tree.{IsTree, tree_of}
 use Rattle.odb_disk.specs.MemDisk.{Volume}
 use Rattle.odb_disk.specs.Ask.{answer_now, change_of_ask, op_of}
-use Rattle.odb_disk.specs.StreamAsks.{is_of_streams}
 use Rattle.odb_disk.specs.declared.ask.DiskAsk.{DiskAsk}
 use Rattle.odb_disk.specs.declared.ask.DiskAnswer.{DiskAnswer}
 use Rattle.gix_odb.specs.declared.call.Reply.{Reply}
@@ -40,15 +39,14 @@ told_nothing disk (Some (ToDisk ask)) is = absurd (cc is)
 told_nothing disk (Some (ToCore event)) is = absurd (cc is)
 
 -- the record says that a call of the disk failed exactly where its number is listed
-pub did_told : (disk : Volume) (ask : Option Ask) → ((call : DiskAsk) → ask ≡ Some (ToDisk call) → is_of_streams call ≡ false)
-    → did_of_asked (told_now disk ask) ≡ did_asked disk ask
-did_told disk None still = refl
-did_told disk (Some (ToDisk ask)) still = ap (Disk (op_of ask) (path_recorded ask)) (has_failed-now disk ask (still ask refl))
-did_told disk (Some (ToCore event)) still = refl
+pub did_told : (disk : Volume) (ask : Option Ask) → did_of_asked (told_now disk ask) ≡ did_asked disk ask
+did_told disk None = refl
+did_told disk (Some (ToDisk ask)) = ap (Disk (op_of ask) (path_recorded ask)) (has_failed-now disk ask)
+did_told disk (Some (ToCore event)) = refl
 
-pub fails_listed : (disk : Volume) (ask : Option Ask) → FailsAsListed disk (did_asked disk ask)
+pub fails_listed : (disk : Volume) (ask : Option Ask) → FailsAsListed disk (told_now disk ask)
 fails_listed disk None = tt
-fails_listed disk (Some (ToDisk ask)) = refl
+fails_listed disk (Some (ToDisk ask)) = has_failed-now disk ask
 fails_listed disk (Some (ToCore event)) = tt
 
 pub turn_asking : (first : Volume) (events : List Event) (e : Event) (handle : ℕ) (ask : Option Ask) → IsTurnOf handle e.step
@@ -91,10 +89,9 @@ module _ (disk : Volume) where
   work_now-fed state work None = refl
   work_now-fed state work (Some ask) = refl
 
-  pub change_now-asked : (ask : Option DiskAsk) → ((call : DiskAsk) → ask ≡ Some call → is_of_streams call ≡ false)
-      → change_now disk ask ≡ change_asked disk (to_disk ask)
-  change_now-asked None still = refl
-  change_now-asked (Some ask) still = ap (λ b. if b then None else change_of_ask (tree_of disk.state) ask) (has_failed-now disk ask (still ask refl))
+  pub change_now-asked : (ask : Option DiskAsk) → change_now disk ask ≡ change_asked disk (to_disk ask)
+  change_now-asked None = refl
+  change_now-asked (Some ask) = ap (λ b. if b then None else change_of_ask (tree_of disk.state) ask) (has_failed-now disk ask)
 
   pub disk_now-asked : (ask : Option DiskAsk) → disk_now disk ask ≡ disk_after_asked disk (told_now disk (to_disk ask)) (change_asked disk (to_disk ask))
   disk_now-asked None = refl

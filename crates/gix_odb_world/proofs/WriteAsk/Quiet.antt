@@ -1,11 +1,11 @@
 -- No answer of a disk is for want of memory; which calls change nothing, and what a call leaves of the disk.
-use Rattle.std.proofs.Common.{◌≡◌, ◌≢◌, ℕ, Bool, true, false, List, [], ◌∷◌, Option, Some, None, Result, Ok, Err, refl, sym, ap, ◌∙◌}
-use Rattle.std.specs.Prelude.{if◌then◌else◌, ◌&&◌}
-use Rattle.odb_disk.specs.Ask.{answer_in, answer_now, answer_of, change_of_ask, after_ask, dir_answer, entry_answer, error_of, fails_now, file_answer, is_counted, meta_answer, ran_out, write_answer}
+use Rattle.std.proofs.Common.{◌≡◌, ◌≢◌, ℕ, Bool, true, false, List, [], ◌∷◌, Option, Some, None, Result, Ok, Err, refl, sym, ap}
+use Rattle.std.specs.Prelude.{if◌then◌else◌}
+use Rattle.odb_disk.specs.Ask.{answer_in, answer_now, answer_of, change_of_ask, after_ask, dir_answer, entry_answer, error_of, fails_now, file_answer, meta_answer, ran_out, write_answer}
 use Rattle.odb_disk.specs.StreamAsks.{least_closed}
 use Rattle.odb_disk.specs.Streams.{Streams, still_gives}
 use Rattle.odb_tree.specs.Entries.{opened}
-use Rattle.odb_disk.specs.MemDisk.{Volume, next_fails}
+use Rattle.odb_disk.specs.MemDisk.{Volume}
 use Rattle.odb_tree.specs.Tree.{Tree, State, tree_of}
 use Rattle.odb_tree.specs.Tree.Follow.{Refusal, Absent, WrongKind, LinkLoop, looked, read_of}
 use Rattle.odb_tree.specs.Tree.Write as writing
@@ -90,6 +90,7 @@ never_wants disk ask e =
 
 -- ---- the disk after a call
 
+-- one that fails makes no change
 after_either : (disk : Volume) (change : Option Change) (fails : Bool)
     → written disk.state (if fails then None else change) ≡ (if fails then disk.state else written disk.state change)
 after_either disk change true = refl
@@ -97,40 +98,14 @@ after_either disk change false = refl
 
 -- a call that makes no change in the tree
 pub change_by-quiet : (disk : Volume) (ask : DiskAsk) → change_of_ask (tree_of disk.state) ask ≡ None → change_by disk ask ≡ None
-change_by-quiet disk ask quiet = by_failing (next_fails disk)
+change_by-quiet disk ask quiet = by_failing (fails_now disk ask)
   where
     by_failing : (fails : Bool) → (if fails then None else change_of_ask (tree_of disk.state) ask) ≡ None
     by_failing true = refl
     by_failing false = quiet
 
--- a close of a stream, which isn't counted and never fails, has no change to make
-uncounted_quiet : (tree : Tree) (ask : DiskAsk) → is_counted ask ≡ false → change_of_ask tree ask ≡ None
-unfolding change_of_ask
-uncounted_quiet tree (asks.Look path follow) is = absurd (cc)
-uncounted_quiet tree (asks.Read path) is = absurd (cc)
-uncounted_quiet tree (asks.OpenDir path) is = absurd (cc)
-uncounted_quiet tree (asks.NextEntry dir) is = absurd (cc)
-uncounted_quiet tree (asks.CloseDir dir) is = refl
-uncounted_quiet tree (asks.MakeDir path) is = absurd (cc)
-uncounted_quiet tree (asks.NewFile path) is = absurd (cc)
-uncounted_quiet tree (asks.Append path bytes) is = absurd (cc)
-uncounted_quiet tree (asks.Rename from to) is = absurd (cc)
-uncounted_quiet tree (asks.Remove path) is = absurd (cc)
-
--- a call that fails makes no change
-module _ (disk : Volume) (ask : DiskAsk) where
-  state_by_counted : (counted : Bool) → is_counted ask ≡ counted
-      → (if counted && next_fails disk then disk.state else written disk.state (change_of_ask (tree_of disk.state) ask)) ≡ written disk.state (change_by disk ask)
-  state_by_counted true is = sym (after_either disk (change_of_ask (tree_of disk.state) ask) (next_fails disk))
-  state_by_counted false is =
-      let quiet = uncounted_quiet (tree_of disk.state) ask is in
-      ap (λ (change : Option Change). written disk.state change) (quiet ∙ sym (change_by-quiet disk ask quiet))
-
-  state_by : (if fails_now disk ask then disk.state else written disk.state (change_of_ask (tree_of disk.state) ask)) ≡ written disk.state (change_by disk ask)
-  state_by = state_by_counted (is_counted ask) refl
-
 -- the record of a call takes the disk on as the call did
 pub after_ask-change : (disk : Volume) (ask : DiskAsk)
     → after_ask disk ask ≡ record (after_ask disk ask) { state = written disk.state (change_by disk ask) }
 unfolding after_ask
-after_ask-change disk ask = ap (λ (s : State). record (after_ask disk ask) { state = s }) (state_by disk ask)
+after_ask-change disk ask = ap (λ (s : State). record (after_ask disk ask) { state = s }) (sym (after_either disk (change_of_ask (tree_of disk.state) ask) (fails_now disk ask)))

@@ -3,8 +3,8 @@ use Rattle.std.proofs.Common.{Contains, ◌≡◌, ℕ, ◌+◌, ◌≤◌, List
 use Rattle.std.proofs.lemmas.List.{length_push}
 use Rattle.std.proofs.Math.Seq.{take-length}
 use Rattle.odb_base.specs.Path.{Path}
-use Rattle.odb_disk.specs.Ask.{answer_now, op_of}
-use Rattle.odb_disk.specs.MemDisk.{Volume, next_fails}
+use Rattle.odb_disk.specs.Ask.{answer_now, fails_now, op_of}
+use Rattle.odb_disk.specs.MemDisk.{Volume}
 use Rattle.odb_tree.specs.Tree.{IsTree, Tree, tree_of}
 use Rattle.odb_tree.specs.Tree.Change.{changed}
 use Rattle.odb_tree.specs.Tree.Write.{change_of_append, change_of_make_dir, change_of_new_file, written}
@@ -53,7 +53,7 @@ made_before_removal head Named Counted number refusals.NoMemory past at stopped 
 -- the last event is a turn of the handle that made this call of the disk
 pub record IsTurnWith (first : Volume) (events : List Event) (e : Event) (handle : ℕ) (ask : DiskAsk) : Type 0 where
   pub turn : IsTurnOf handle e.step
-  pub did : e.entry.did ≡ Disk (op_of ask) (path_recorded ask) (next_fails (disk_after first events))
+  pub did : e.entry.did ≡ Disk (op_of ask) (path_recorded ask) (fails_now (disk_after first events) ask)
   pub asked : e.asked ≡ OfDisk ask (answer_now (disk_after first events) ask)
   pub change : e.entry.change ≡ change_by (disk_after first events) ask
   pub tree : IsTree (tree_of (disk_after first events).state)
