@@ -6,7 +6,7 @@ use Rattle.odb_disk.specs.MemDisk.{Volume}
 use Rattle.gix_odb_world.specs.Event.{Event}
 use Rattle.gix_odb_world.specs.Status.{Status, Free, status_after, status_of, statuses_from}
 use Rattle.gix_odb_world.specs.Headline.{IsLawful, Law}
-use Rattle.gix_odb_world.proofs.RunLemmas.{status_of-push}
+use Rattle.gix_odb_world.proofs.HistoryLemmas.{status_of-push}
 use Rattle.gix_odb_world.proofs.RunSteps.{event_or_end, none_beyond, take_next}
 
 module _ (Holds : List Event → (handle : ℕ) → Status → Type 0) where

@@ -31,12 +31,6 @@ module _ (run : LawfulRun) where
   abbrev tree : ℕ → Tree
   tree = tree_at first events
 
-  abbrev Own : ℕ → ℕ → Path → ℕ → Type 0
-  Own = files.Own run
-
-  abbrev Lost : Path → ℕ → Type 0
-  Lost = files.Lost run
-
   abbrev Files : ℕ → Type 0
   Files = files.Files run
 
@@ -100,7 +94,7 @@ module _ (run : LawfulRun) where
     stands_next : (handle : ℕ) (s : Path) → Leaves s now → Stands handle now s → Stands handle (now + 1) s
     stands_next handle s same stands = record { stops = stops_kept (tree now) (tree (now + 1)) true s s same stands.stops; apart = apart }
       where
-        apart : (other last : ℕ) (twin : Path) → other ≢ handle → HasMade first events other last twin (now + 1) → (o : Own other last twin (now + 1))
+        apart : (other last : ℕ) (twin : Path) → other ≢ handle → HasMade first events other last twin (now + 1) → (o : files.Own run other last twin (now + 1))
             → o.spot ≢ s
         apart other last twin differs hm o = elim (along.old_or_new run now e there other last twin hm) [
           | inl soon ↦
@@ -135,14 +129,14 @@ module _ (run : LawfulRun) where
         ]
 
     -- a file stands where its own path leads
-    own_stands : (handle made : ℕ) (path : Path) → HasMade first events handle made path now → (o : Own handle made path now)
+    own_stands : (handle made : ℕ) (path : Path) → HasMade first events handle made path now → (o : files.Own run handle made path now)
         → Stands handle now o.spot
     own_stands handle made path hm o = record {
       stops = spot_stops (tree now) path o.spot o.own;
       apart = λ other last twin differs his p. all.apart other handle last made twin path differs his hm p o;
     }
 
-    cut_now : (handle made : ℕ) (path : Path) (hm : HasMade first events handle made path now) (o : Own handle made path now)
+    cut_now : (handle made : ℕ) (path : Path) (hm : HasMade first events handle made path now) (o : files.Own run handle made path now)
         → files.CutNow run now e there handle made path hm o.spot → CutOff handle made path (now + 1)
     cut_now handle made path hm o c =
         record {

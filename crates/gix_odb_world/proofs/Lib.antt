@@ -4,10 +4,10 @@ mod BoundLemmas
 mod CallLemmas
 mod FailedLemmas
 mod FolderLemmas
-mod OpenLemmas
-mod OpeningLemmas
+mod HandleLemmas
+mod DistinctLemmas
 mod PlayLemmas
-mod RunLemmas
+mod HistoryLemmas
 mod RunSteps
 mod LawfulRun
 mod FileSteps
@@ -16,8 +16,8 @@ mod CutFiles
 mod StandAlone
 mod NameSteps
 mod RunEnds
-mod RunningLemmas
-mod RunsLemmas
+mod QueryKept
+mod KnowsLemmas
 mod MachineLaws
 mod QuietTurn
 mod OpeningMachine

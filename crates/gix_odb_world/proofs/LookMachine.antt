@@ -43,8 +43,8 @@ use Rattle.gix_odb_world.proofs.LookMachine.Begun.{looking_starts}
 use Rattle.gix_odb_world.proofs.LookMachine.Comes.{LookComes, look_comes}
 use Rattle.gix_odb_world.proofs.MachineLaws.{AsksDisk, HasTurn, KeepsLaws, MachineComes, quiet_turn, same_ask, turns_by_disk, writes_nothing}
 use Rattle.gix_odb_world.proofs.QuietTurn.{failed_earlier, failed_now, shown_now}
-use Rattle.gix_odb_world.proofs.RunLemmas.{failed-kept, tree_at-before}
-use Rattle.gix_odb_world.proofs.RunningLemmas.{looking_push}
+use Rattle.gix_odb_world.proofs.HistoryLemmas.{failed-kept, tree_at-before}
+use Rattle.gix_odb_world.proofs.QueryKept.{looking_push}
 use Rattle.gix_odb_world.proofs.WriteAsk.Quiet.{change_by-quiet}
 use Rattle.gix_odb_world.proofs.WriteTurn.Common.{IsTurnWith}
 

@@ -33,7 +33,7 @@ use Rattle.gix_odb_world.proofs.FolderLemmas.{look_quiet}
 use Rattle.gix_odb_world.proofs.MachineLaws.{AsksDisk, HasTurn, IsSized, KeepsLaws, MachineComes, quiet_turn, same_ask as own_ask, turns_by_disk, writes_nothing}
 use Rattle.gix_odb_world.proofs.OpeningMachine.Look.{look_keeps}
 use Rattle.gix_odb_world.proofs.QuietTurn.{failed_now, shown_now}
-use Rattle.gix_odb_world.proofs.RunLemmas.{failed_before, none_failed_yet}
+use Rattle.gix_odb_world.proofs.HistoryLemmas.{failed_before, none_failed_yet}
 use Rattle.gix_odb_world.proofs.WriteAsk.Quiet.{change_by-quiet}
 use Rattle.gix_odb_world.proofs.WriteTurn.Common.{IsTurnWith}
 

@@ -8,7 +8,7 @@ use Rattle.odb_disk.specs.declared.ask.DiskAsk.{DiskAsk}
 use Rattle.gix_odb_world.specs.Event.{Event}
 use Rattle.gix_odb_world.specs.Status.{Running}
 use Rattle.gix_odb_world.specs.Run.{Fails, FailedSince, change_by, disk_after, disk_after_asked, tree_at}
-use Rattle.gix_odb_world.proofs.RunLemmas.{failed_before, failed_last, tree_at-now}
+use Rattle.gix_odb_world.proofs.HistoryLemmas.{failed_before, failed_last, tree_at-now}
 use Rattle.gix_odb_world.proofs.WriteTurn.Common.{IsTurnWith}
 
 module _ (first : Volume) (events : List Event) (e : Event) (handle : ℕ) (running : Running) (since : running.begun ≤ length events) (ask : DiskAsk) (is : IsTurnWith first events e handle ask) where

@@ -27,7 +27,7 @@ use Rattle.gix_odb_world.specs.Undisturbed.{IsOutside}
 use Rattle.gix_odb_world.specs.Valid.{misuse_of, phase_of, why_not_after, why_not_running}
 use Rattle.gix_odb_world.proofs.LawfulRun.{LawfulRun}
 use Rattle.gix_odb_world.proofs.DiskTurns.{CallsDisk, IsQuiet, called_or_quiet}
-use Rattle.gix_odb_world.proofs.RunLemmas.{disk_after-push, status_of-push}
+use Rattle.gix_odb_world.proofs.HistoryLemmas.{disk_after-push, status_of-push}
 pub use Rattle.gix_odb_world.proofs.RunSteps.Fronts.{event_or_end, front_of_front, length_take, none_beyond, take_next, take_none, there_in_front, there_in_whole}
 
 -- ---- what an event is

@@ -25,7 +25,7 @@ use Rattle.gix_odb_world.specs.Valid.{why_not_idle}
 use Rattle.gix_odb_world.specs.World.{Continues, Matches, handle_at}
 use Rattle.gix_odb_world.specs.Table.{SetsHandle, Notes, phase_of_handle, phase_of_work, why_not_now, with_work}
 use Rattle.gix_odb_world.proofs.StepLemmas.{applied}
-use Rattle.gix_odb_world.proofs.RunsLemmas.{begins, runs-push}
+use Rattle.gix_odb_world.proofs.KnowsLemmas.{begins, runs-push}
 
 -- the work of the code is that of the store
 work_started : (store : Store) (modes : Modes) (state : HandleState) (call : Call) → IsHandleOf store modes state

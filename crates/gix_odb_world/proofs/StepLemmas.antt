@@ -24,8 +24,8 @@ use Rattle.gix_odb_world.specs.Headline.{Law, Suits}
 use Rattle.gix_odb_world.specs.Changes.{ChangesAs}
 use Rattle.gix_odb_world.specs.World.{Explains, GoesOn, Continues, IsRunOf, Matches, handle_at}
 use Rattle.gix_odb_world.specs.Table.{SetsHandle, Notes, phase_of_handle, phase_of_work, phase_now, why_not_now}
-use Rattle.gix_odb_world.proofs.RunLemmas.{status_of-push, disk_after-push, IsLawful-push}
-use Rattle.gix_odb_world.proofs.RunsLemmas.{runs-push, runs_set}
+use Rattle.gix_odb_world.proofs.HistoryLemmas.{status_of-push, disk_after-push, IsLawful-push}
+use Rattle.gix_odb_world.proofs.KnowsLemmas.{runs-push, runs_set}
 use Rattle.gix_odb_world.proofs.WorldLemmas.{matches_set, throughout-push}
 
 -- ---- the reason for misuse, by the history and by the world

@@ -27,7 +27,7 @@ use Rattle.gix_odb_world.specs.Promise.{Promise}
 use Rattle.gix_odb_world.specs.Machines.{ask_in, fed_in}
 use Rattle.gix_odb_world.specs.World.{Explains, Matches}
 use Rattle.gix_odb_world.specs.Table.{after_turn}
-use Rattle.gix_odb_world.proofs.RunLemmas.{disk_after-push}
+use Rattle.gix_odb_world.proofs.HistoryLemmas.{disk_after-push}
 use Rattle.gix_odb_world.proofs.BegunLemmas.{stems_now}
 use Rattle.gix_odb_world.proofs.BegunLemmas.OneEvent.{Stems, one_task}
 use Rattle.gix_odb_world.proofs.BegunLemmas.Turns.{Counts, counts_now}

@@ -23,7 +23,7 @@ use Rattle.gix_odb_world.specs.Headline.{outcome_of}
 use Rattle.gix_odb_world.specs.WorkOrder.{ask_on, fed_after, result_in}
 use Rattle.gix_odb_world.specs.World.{Explains, Continues, GoesOn, Matches, handle_at}
 use Rattle.gix_odb_world.specs.Table.{SetsHandle, Notes, after_turn, change_now, did_now, disk_now, work_now}
-use Rattle.gix_odb_world.proofs.RunsLemmas.{runs_set}
+use Rattle.gix_odb_world.proofs.KnowsLemmas.{runs_set}
 use Rattle.gix_odb_world.proofs.StepLemmas.{goes_on, table_noted}
 use Rattle.gix_odb_world.specs.Run.{change_asked, did_of_asked, disk_after_asked, told_now}
 use Rattle.gix_odb_world.proofs.WorkLaws.{code_asks, code_feeds}

@@ -12,7 +12,7 @@ use Rattle.gix_odb_world.specs.Status.{Status, status_of, statuses_from, with_st
 use Rattle.gix_odb_world.specs.Run.{disk_after}
 use Rattle.gix_odb_world.specs.Running.{Runs, RunsThroughout}
 use Rattle.gix_odb_world.specs.World.{Explains, Matches, handle_at}
-use Rattle.gix_odb_world.proofs.RunLemmas.{IsLawful-none, take-push}
+use Rattle.gix_odb_world.proofs.HistoryLemmas.{IsLawful-none, take-push}
 
 throughout_none : (first : Volume) (now handle : ℕ) → Runs first (take now []) handle (status_of (take now []) handle)
 unfolding statuses_from

@@ -32,7 +32,7 @@ use Rattle.gix_odb_world.specs.Status.{MakeCall, Running, Store, running_from}
 use Rattle.gix_odb_world.specs.Run.{IsTurnOf, disk_after, tree_at}
 use Rattle.gix_odb_world.specs.Running.Write.{HoldsFile, Holds, IsAtOwnWrite, IsUntouched, IsWriting, StandsAt, content_at}
 use Rattle.gix_odb_world.specs.Writing.{AskedAt, AskedSince, EachTurn, LeftAlone, ToWrite}
-use Rattle.gix_odb_world.proofs.RunLemmas.{slice_get-push, slice_get-last, slice_get-kept, tree_at-before}
+use Rattle.gix_odb_world.proofs.HistoryLemmas.{slice_get-push, slice_get-last, slice_get-kept, tree_at-before}
 
 -- ---- one event more
 

@@ -21,7 +21,7 @@ use Rattle.gix_odb_world.specs.Status.{MakeCall, OpenStore, Running, Status, Sto
 use Rattle.gix_odb_world.specs.Status.{refuses_opening, replied, started, store_at, turned, Modes, modes_at_opening, now_ignoring}
 use Rattle.gix_odb_world.specs.Begun.{AppliedSince, BegunAs, BegunBy, HoldsStore, IsIgnoreOf, IsOpenOf, IsTaskOf, NoneSince, OpenedBy}
 use Rattle.gix_odb_world.specs.Valid.{phase_of, why_not_idle}
-use Rattle.gix_odb_world.proofs.RunLemmas.{slice_get-kept, slice_get-last, slice_get-push}
+use Rattle.gix_odb_world.proofs.HistoryLemmas.{slice_get-kept, slice_get-last, slice_get-push}
 
 -- ---- one step sets one task
 

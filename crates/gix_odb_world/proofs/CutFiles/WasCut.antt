@@ -18,12 +18,6 @@ module _ (run : LawfulRun) where
   abbrev tree : ℕ → Tree
   tree = tree_at first events
 
-  abbrev Own : ℕ → ℕ → Path → ℕ → Type 0
-  Own = files.Own run
-
-  abbrev Lost : Path → ℕ → Type 0
-  Lost = files.Lost run
-
   -- an event leaves a path and its way alone
   abbrev pub Leaves : Path → ℕ → Type 0
   Leaves s now = SameOnWay (tree now) (tree (now + 1)) true s
@@ -33,12 +27,12 @@ module _ (run : LawfulRun) where
   -- a file stands at a spot, and it is that of no other handle's write
   pub record Stands (handle now : ℕ) (s : Path) : Type 0 where
     pub stops : Stops (tree now) true s s
-    pub apart : (other last : ℕ) (twin : Path) → other ≢ handle → HasMade first events other last twin now → (o : Own other last twin now)
+    pub apart : (other last : ℕ) (twin : Path) → other ≢ handle → HasMade first events other last twin now → (o : files.Own run other last twin now)
         → o.spot ≢ s
 
   -- the event at a place is a turn of another handle that cut the file off, which stood alone until then
   pub record CutAt (handle made : ℕ) (path : Path) (place : ℕ) : Type 0 where
-    pub own : Own handle made path place
+    pub own : files.Own run handle made path place
     pub temporary : IsTemporary own.spot
     pub event : Event
     pub there : slice_get events place ≡ Some event
@@ -48,7 +42,7 @@ module _ (run : LawfulRun) where
     pub cuts : CutsOff (tree place) (tree (place + 1)) path own.spot event
 
   pub record CutOff (handle made : ℕ) (path : Path) (now : ℕ) : Type 0 where
-    pub lost : Lost path now
+    pub lost : files.Lost run path now
     pub place : ℕ
     pub later : made < place
     pub before : place < now
@@ -57,4 +51,4 @@ module _ (run : LawfulRun) where
     pub stands : OthersLeave first events cut.own.spot (place + 1) now → Stands handle now cut.own.spot
 
   abbrev pub AllKept : ℕ → Type 0
-  AllKept now = (handle made : ℕ) (path : Path) → HasMade first events handle made path now → Own handle made path now ⊎ CutOff handle made path now
+  AllKept now = (handle made : ℕ) (path : Path) → HasMade first events handle made path now → files.Own run handle made path now ⊎ CutOff handle made path now

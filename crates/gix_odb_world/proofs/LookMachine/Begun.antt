@@ -16,7 +16,7 @@ use Rattle.gix_odb_world.specs.Running.Query.{IsLooking, call_of}
 use Rattle.gix_odb_world.specs.Status.{MakeCall, OpenStore, Store, Task, begun_with, running_from}
 use Rattle.gix_odb_world.proofs.CallLemmas.{first_or_later}
 use Rattle.gix_odb_world.proofs.MachineLaws.{IsSized}
-use Rattle.gix_odb_world.proofs.RunLemmas.{none_failed_yet}
+use Rattle.gix_odb_world.proofs.HistoryLemmas.{none_failed_yet}
 
 module _ (first : Volume) (events : List Event) (e : Event) (handle : ℕ) (store : Store) (modes : Modes) where
   abbrev whole : List Event

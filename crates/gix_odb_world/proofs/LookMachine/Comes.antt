@@ -16,7 +16,7 @@ use Rattle.gix_odb_world.specs.Running.Query.{Noted, Seeks}
 use Rattle.gix_odb_world.specs.Status.{Store, Modes}
 use Rattle.gix_odb_world.proofs.CallLemmas.{Carried, Comes, turn_comes}
 use Rattle.gix_odb_world.proofs.FolderLemmas.{ask_found}
-use Rattle.gix_odb_world.proofs.RunningLemmas.{cause_wider, leaves_wider}
+use Rattle.gix_odb_world.proofs.QueryKept.{cause_wider, leaves_wider}
 
 module _ (trees wider : ℕ → Tree) (Failed Fails : Type 0) (store : Store) (modes : Modes) (begun now : ℕ) (from : begun ≤ now) (same : (moment : ℕ) → moment ≤ now → wider moment ≡ trees moment)
     (fails : Failed → Fails) (disk : Volume) (shown : wider (now + 1) ≡ tree_of disk.state) (broke : next_fails disk ≡ true → Fails) (sound : next_fails disk ≡ false → Fails → Failed) where

@@ -33,7 +33,7 @@ use Rattle.gix_odb_world.proofs.OwnFiles.Standing as files
 use Rattle.gix_odb_world.proofs.OwnFiles.Writer as writers
 use Rattle.gix_odb_world.proofs.RunSteps.{front_of_front, is_tree_at, length_take, take_next, there_in_front, there_in_whole}
 use Rattle.gix_odb_world.proofs.StandAlone.{Own, own_at_rename}
-use Rattle.gix_odb_world.proofs.RunLemmas.{slice_get-last}
+use Rattle.gix_odb_world.proofs.HistoryLemmas.{slice_get-last}
 
 module _ (run : LawfulRun) where
   open run use {first, events, lawful}

@@ -34,7 +34,7 @@ use Rattle.gix_odb_world.specs.Event.{OfDisk, Event}
 use Rattle.gix_odb_world.specs.Run.{IsTurnOf, change_by, disk_after, disk_after_asked, tree_at}
 use Rattle.gix_odb_world.specs.Running.Write.{HoldsFile, StandsAt}
 use Rattle.gix_odb_world.specs.Writing.{AskedAt, AskedSince, IsNewFile, IsRename, TurnsMadeOnly, ToWrite}
-use Rattle.gix_odb_world.proofs.RunLemmas.{tree_at-now}
+use Rattle.gix_odb_world.proofs.HistoryLemmas.{tree_at-now}
 use Rattle.gix_odb_world.proofs.WriteAsk.{Made}
 use Rattle.gix_odb_world.proofs.WriteKept.{alone_before, asked_at_kept, asked_now, each_turn_push}
 

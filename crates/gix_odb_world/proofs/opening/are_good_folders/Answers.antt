@@ -2,7 +2,7 @@ use Rattle.std.proofs.Common.{◌≡◌, ◌∷◌, ◌+◌, ◌≤◌, ◌==◌
 use Rattle.std.specs.BTreeSet.{Updates, btree_set_len}
 use Rattle.odb_base.specs.Path.{path_cmp}
 use Rattle.gix_odb_world.specs.Valid.{most_folders}
-use Rattle.gix_odb_world.proofs.OpeningLemmas.{Has, good_by_set, has_more, take_past}
+use Rattle.gix_odb_world.proofs.DistinctLemmas.{Has, good_by_set, has_more, take_past}
 use Rattle.gix_odb_world.proofs.opening.are_good_folders.Goals as goal
 
 pub loop-folder-preserved : goal.loop-folder-preserved

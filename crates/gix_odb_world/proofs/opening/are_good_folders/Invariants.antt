@@ -1,5 +1,5 @@
 use Rattle.std.specs.Prelude.{◌∷◌, take}
-use Rattle.gix_odb_world.proofs.OpeningLemmas.{Has}
+use Rattle.gix_odb_world.proofs.DistinctLemmas.{Has}
 use Rattle.gix_odb_world.proofs.opening.are_good_folders.Given as goal
 
 -- the set has the objects directory and the folders so far

@@ -1,7 +1,7 @@
 use Rattle.std.proofs.Common.{sym, ◌∙◌, subst}
 use Rattle.std.specs.BTreeMap.{IsFromIterResult}
 use Rattle.gix_hash.specs.ObjectId.{id_cmp}
-use Rattle.gix_odb_world.proofs.OpeningLemmas.{distinct_if, distinct_unless}
+use Rattle.gix_odb_world.proofs.DistinctLemmas.{distinct_if, distinct_unless}
 use Rattle.gix_odb_world.proofs.opening.replacement_map.Goals as goal
 
 -- no id is replaced twice

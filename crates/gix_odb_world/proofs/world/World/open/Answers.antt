@@ -6,9 +6,9 @@ use Rattle.gix_odb_world.specs.Handle.{IsOpened}
 use Rattle.gix_odb_world.specs.Table.{phase_of_handle}
 use Rattle.gix_odb_world.specs.Valid.{is_openable}
 use Rattle.gix_odb_world.specs.World.{handle_at}
-use Rattle.gix_odb_world.proofs.OpeningLemmas.{none_of, some_of}
+use Rattle.gix_odb_world.proofs.DistinctLemmas.{none_of, some_of}
 use Rattle.gix_odb_world.proofs.StepLemmas.{misused}
-use Rattle.gix_odb_world.proofs.OpenLemmas.{opened, bad_open, taken}
+use Rattle.gix_odb_world.proofs.HandleLemmas.{opened, bad_open, taken}
 use Rattle.gix_odb_world.proofs.world.World.open.Goals as goal
 
 -- the number isn't free

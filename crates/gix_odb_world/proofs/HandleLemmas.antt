@@ -29,9 +29,9 @@ use Rattle.gix_odb_world.specs.Running.{Runs}
 use Rattle.gix_odb_world.specs.Valid.{Phase, NoneThere, Idle, Running, why_not_open, why_not_idle, are_distinct, are_good_folders, is_openable}
 use Rattle.gix_odb_world.specs.World.{Continues, Matches, handle_at}
 use Rattle.gix_odb_world.specs.Table.{SetsHandle, Notes, phase_of_handle, phase_of_work, why_not_now, with_ignoring}
-use Rattle.gix_odb_world.proofs.OpeningLemmas.{IsDistinct-by_count, ids_equal}
+use Rattle.gix_odb_world.proofs.DistinctLemmas.{IsDistinct-by_count, ids_equal}
 use Rattle.gix_odb_world.proofs.StepLemmas.{applied}
-use Rattle.gix_odb_world.proofs.RunsLemmas.{begins, runs-push}
+use Rattle.gix_odb_world.proofs.KnowsLemmas.{begins, runs-push}
 
 runs_opening : (first : Volume) (events : List Event) (e : Event) (handle : ℕ) (store : Store)
     → Runs first (events ++ e ∷ []) handle (opening_at (length events + 1) store)

@@ -18,7 +18,7 @@ use Rattle.gix_odb_world.specs.Event.{Event}
 use Rattle.gix_odb_world.specs.Status.{Running, Store}
 use Rattle.gix_odb_world.specs.Run.{tree_at, IsTurnOf, FailedSince}
 use Rattle.gix_odb_world.specs.Running.Query.{IsLooking, Passed, Leaves, Noted, Seeks}
-use Rattle.gix_odb_world.proofs.RunLemmas.{tree_at-before, failed-kept, failed_before}
+use Rattle.gix_odb_world.proofs.HistoryLemmas.{tree_at-before, failed-kept, failed_before}
 
 -- more moments of the same trees
 module _ (trees wider : ℕ → Tree) (begun now later : ℕ) (le : now ≤ later) (same : (moment : ℕ) → moment ≤ now → wider moment ≡ trees moment) where
