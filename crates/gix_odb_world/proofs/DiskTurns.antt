@@ -9,7 +9,7 @@ use Rattle.gix_odb_world.specs.declared.record.Did.TheVariants.{Disk, Nothing}
 use Rattle.gix_odb_world.specs.Event.{Ask, FromDisk, OfDisk, ToCore, ToDisk, Event, answered, to_disk}
 use Rattle.gix_odb_world.specs.Headline.{LeavesDisk, Works, outcome_of}
 use Rattle.gix_odb_world.specs.Machines.{ask_in, fed_in, write_in}
-use Rattle.gix_odb_world.specs.Recorded.{path_recorded}
+use Rattle.gix_odb_world.specs.Recorded.{opened_in, path_recorded}
 use Rattle.gix_odb_world.specs.Run.{change_asked, change_by, did_asked, disk_after, told_now}
 use Rattle.gix_odb_world.specs.Running.Write.{IsWriting}
 use Rattle.gix_odb_world.specs.Status.{Running}
@@ -20,7 +20,7 @@ use Rattle.gix_odb_world.proofs.WriteTurn.{ask_at_stage}
 pub record CallsDisk (first : Volume) (past : List Event) (handle : ℕ) (running : Running) (e : Event) : Type 0 where
   pub ask : DiskAsk
   pub asks : ask_in running.store running.work ≡ Some (ToDisk ask)
-  pub asked : e.entry.did ≡ Disk (op_of ask) (path_recorded ask) (fails_now (disk_after first past) ask)
+  pub asked : e.entry.did ≡ Disk (op_of ask) (path_recorded (opened_in running.work) ask) (fails_now (disk_after first past) ask)
   pub told : e.asked ≡ OfDisk ask (answer_now (disk_after first past) ask)
   pub goes : e.outcome ≡ outcome_of (fed_in running.store running.work (Some (FromDisk (answer_now (disk_after first past) ask))))
   pub changed : e.entry.change ≡ change_by (disk_after first past) ask
@@ -41,7 +41,7 @@ module _ (first : Volume) (past : List Event) (handle : ℕ) (running : Running)
       record {
         ask = ask;
         asks = works.asks ∙ is;
-        asked = works.asked ∙ ap (did_asked disk) is;
+        asked = works.asked ∙ ap (did_asked (opened_in running.work) disk) is;
         told = told;
         goes = works.goes ∙ ap (λ asked. outcome_of (fed_in running.store running.work (answered asked))) told;
         changed = works.changed ∙ ap (change_asked disk) is;
@@ -52,12 +52,12 @@ module _ (first : Volume) (past : List Event) (handle : ℕ) (running : Running)
   by_ask (Some (ToDisk ask)) is = inl (by_call ask is)
   by_ask None is = inr (record {
     none = works.changed ∙ ap (change_asked disk) is;
-    did = works.asked ∙ ap (did_asked disk) is;
+    did = works.asked ∙ ap (did_asked (opened_in running.work) disk) is;
     leaves = subst LeavesDisk (sym (works.told ∙ ap (told_now disk) is)) tt;
   })
   by_ask (Some (ToCore event)) is = inr (record {
     none = works.changed ∙ ap (change_asked disk) is;
-    did = works.asked ∙ ap (did_asked disk) is;
+    did = works.asked ∙ ap (did_asked (opened_in running.work) disk) is;
     leaves = subst LeavesDisk (sym (works.told ∙ ap (told_now disk) is)) tt;
   })
 

@@ -1,6 +1,6 @@
 -- What a writer changes in a turn, and what stands at the path of his temporary file when he has made it.
 pub mod AtWrite
-use Rattle.std.proofs.Common.{◌≡◌, ℕ, ◌+◌, List, [], take, Some, None, Result, Ok, Err, sym, ap, ◌∙◌, subst}
+use Rattle.std.proofs.Common.{◌≡◌, ℕ, ◌+◌, List, [], take, Option, Some, None, Result, Ok, Err, sym, ap, ◌∙◌, subst}
 use Rattle.std.specs.Result.{result_ok}
 use Rattle.odb_base.specs.Path.{Path}
 use Rattle.odb_disk.specs.Ask.{change_of_ask, fails_now, op_of}
@@ -24,7 +24,7 @@ use Rattle.gix_odb_loose.specs.WriteOrder.{number_made, prefix_path, temp_path}
 use Rattle.gix_odb_loose.specs.declared.write_order.WriteStage.{WriteStage}
 use Rattle.gix_odb_loose.specs.declared.write_order.WriteStage.TheVariants as stages
 use Rattle.gix_odb_loose.proofs.NameLaws.{IsTemporary, object_spot, prefix_path-is, temp_path-is}
-use Rattle.gix_odb_world.specs.Recorded.{path_recorded}
+use Rattle.gix_odb_world.specs.Recorded.{opened_in, path_recorded}
 use Rattle.gix_odb_world.specs.declared.record.Did.TheVariants.{Nothing, Disk}
 use Rattle.gix_odb_world.specs.Event.{Event}
 use Rattle.gix_odb_world.specs.Run.{change_by, disk_after, tree_at}
@@ -144,17 +144,17 @@ module _ (t : Tree) (is_tree : IsTree t) (objects : Path) (c : Change) where
 
 -- ---- the making of a temporary file
 
-new_file_ask : (ask : DiskAsk) (path : Path) → op_of ask ≡ ops.NewFile → path_recorded ask ≡ path → ask ≡ asks.NewFile path
-new_file_ask (asks.Look p follow) path op is = absurd (cc)
-new_file_ask (asks.Read p) path op is = absurd (cc)
-new_file_ask (asks.OpenDir p) path op is = absurd (cc)
-new_file_ask (asks.NextEntry dir) path op is = absurd (cc)
-new_file_ask (asks.CloseDir dir) path op is = absurd (cc)
-new_file_ask (asks.MakeDir p) path op is = absurd (cc)
-new_file_ask (asks.NewFile p) path op is = ap asks.NewFile is
-new_file_ask (asks.Append p bytes) path op is = absurd (cc)
-new_file_ask (asks.Rename from to) path op is = absurd (cc)
-new_file_ask (asks.Remove p) path op is = absurd (cc)
+new_file_ask : (opened : Option Path) (ask : DiskAsk) (path : Path) → op_of ask ≡ ops.NewFile → path_recorded opened ask ≡ path → ask ≡ asks.NewFile path
+new_file_ask opened (asks.Look p follow) path op is = absurd (cc)
+new_file_ask opened (asks.Read p) path op is = absurd (cc)
+new_file_ask opened (asks.OpenDir p) path op is = absurd (cc)
+new_file_ask opened (asks.NextEntry dir) path op is = absurd (cc)
+new_file_ask opened (asks.CloseDir dir) path op is = absurd (cc)
+new_file_ask opened (asks.MakeDir p) path op is = absurd (cc)
+new_file_ask opened (asks.NewFile p) path op is = ap asks.NewFile is
+new_file_ask opened (asks.Append p bytes) path op is = absurd (cc)
+new_file_ask opened (asks.Rename from to) path op is = absurd (cc)
+new_file_ask opened (asks.Remove p) path op is = absurd (cc)
 
 -- where a temporary file was made, at a spot where nothing stood
 pub record IsNewAt (first : Volume) (events : List Event) (made : ℕ) (e : Event) (path : Path) : Type 0 where
@@ -169,13 +169,13 @@ module _ (run : LawfulRun) where
   pub new_at : (handle made : ℕ) (path : Path) (a : AskedAt first events handle made (asks.NewFile path) answers.Done)
       → IsNewAt first events made a.event path
   new_at handle made path a = elim (kind_at run made a.event a.there) [
-    | Quiet q ↦ absurd (let both : Nothing ≡ Disk ops.NewFile path (next_fails (disk_after first (take made events))) = sym q.did ∙ a.did in cc both)
-    | Made m ↦ absurd (let both : Nothing ≡ Disk ops.NewFile path (next_fails (disk_after first (take made events))) = sym m.did ∙ a.did in cc both)
+    | Quiet q ↦ absurd (let both : Nothing ≡ Disk ops.NewFile path (next_fails (disk_after first (take made events))) = sym q.did ∙ a.did.1 in cc both)
+    | Made m ↦ absurd (let both : Nothing ≡ Disk ops.NewFile path (next_fails (disk_after first (take made events))) = sym m.did ∙ a.did.1 in cc both)
     | Turned t ↦
         let disk = disk_after first (take made events) in
         let before = tree_at first events made in
-        let both : Disk (op_of t.works.ask) (path_recorded t.works.ask) (fails_now disk t.works.ask) ≡ Disk ops.NewFile path (next_fails disk) = sym t.works.asked ∙ a.did in
-        let ask = new_file_ask t.works.ask path (cc both) (cc both) in
+        let both : Disk (op_of t.works.ask) (path_recorded (opened_in t.running.work) t.works.ask) (fails_now disk t.works.ask) ≡ Disk ops.NewFile path (next_fails disk) = sym t.works.asked ∙ a.did.1 in
+        let ask = new_file_ask (opened_in t.running.work) t.works.ask path (cc both) (cc both) in
         let m = done_made disk (asks.NewFile path) (change_of_new_file before path) (told_new_file before path) a.given in
         let makes : a.event.entry.change ≡ Some m.change = t.works.changed ∙ (ap (change_by disk) ask ∙ m.made) in
         let n = own_new before (is_tree_at run made) path m.change m.is in

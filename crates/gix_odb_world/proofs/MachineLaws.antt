@@ -43,7 +43,7 @@ TakesTurn first events handle running task (Some (ToDisk ask)) = HasTurn first e
 TakesTurn first events handle running task (Some (ToCore event)) = MayAskCore task event
 
 -- the last event is a turn of the handle that asked so, and made no call of the disk
-pub record IsTurnOffDisk (first : Volume) (events : List Event) (e : Event) (handle : ℕ) (ask : Option Ask) : Type 0 where
+pub record IsTurnWithoutCall (first : Volume) (events : List Event) (e : Event) (handle : ℕ) (ask : Option Ask) : Type 0 where
   pub turn : IsTurnOf handle e.step
   pub did : e.entry.did ≡ Nothing
   pub asked : e.asked ≡ told_now (disk_after first events) ask
@@ -52,9 +52,9 @@ pub record IsTurnOffDisk (first : Volume) (events : List Event) (e : Event) (han
 
 -- the last event is a turn of the handle that asked so
 abbrev pub IsTurnAsking : Volume → List Event → Event → (handle : ℕ) → Option Ask → Type 0
-IsTurnAsking first events e handle None = IsTurnOffDisk first events e handle None
+IsTurnAsking first events e handle None = IsTurnWithoutCall first events e handle None
 IsTurnAsking first events e handle (Some (ToDisk ask)) = IsTurnWith first events e handle ask
-IsTurnAsking first events e handle (Some (ToCore event)) = IsTurnOffDisk first events e handle (Some (ToCore event))
+IsTurnAsking first events e handle (Some (ToCore event)) = IsTurnWithoutCall first events e handle (Some (ToCore event))
 
 -- the answer to what is asked after some events
 abbrev pub answer_after : Volume → List Event → Option Ask → Option Answer

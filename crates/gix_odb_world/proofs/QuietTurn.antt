@@ -19,11 +19,11 @@ module _ (first : Volume) (events : List Event) (e : Event) (handle : ℕ) (runn
   disk = disk_after first events
 
   listed : Fails e.entry.did → fails_now disk ask ≡ true
-  listed failed = subst Fails is.did failed
+  listed failed = subst Fails is.did.1 failed
 
   -- where the call failed, one has failed since the task was set
   pub failed_now : fails_now disk ask ≡ true → FailedSince whole handle running.begun
-  failed_now fails = failed_last events e handle running.begun since is.turn (subst Fails (sym is.did) fails)
+  failed_now fails = failed_last events e handle running.begun since is.turn (subst Fails (sym is.did.1) fails)
 
   -- where it didn't, one that has failed did so before
   pub failed_earlier : fails_now disk ask ≡ false → FailedSince whole handle running.begun → FailedSince events handle running.begun

@@ -53,7 +53,7 @@ module _ (first : Volume) (events : List Event) (handle begun : ℕ) (ask : Disk
             later = asked.later;
             at = record { event = asked.at.event; there = asked.at.there; turn = asked.at.turn; did = asked.at.did; asked = asked.at.asked ∙ ap (OfDisk ask) e; given = sym e ∙ asked.at.given };
           };
-          failed = subst Fails (sym asked.at.did) fails;
+          failed = subst Fails (sym asked.at.did.1) fails;
         })
     by_failing false fails e = by_told told refl (e ∙ tells.answer)
 

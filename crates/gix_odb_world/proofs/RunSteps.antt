@@ -2,6 +2,7 @@
 pub mod Fronts
 use Rattle.std.proofs.Common.{◌≡◌, inl, inr, ℕ, zero, suc, ◌+◌, Bool, true, false, List, take, Option, Some, None, refl, sym, ap, ◌∙◌, subst, arith}
 use Rattle.std.specs.Prelude.{slice_get, if◌then◌else◌}
+use Rattle.odb_base.specs.Path.{Path}
 use Rattle.odb_disk.specs.Ask.{change_of_ask, fails_now}
 use Rattle.odb_disk.specs.MemDisk.{Volume, after_outside_change}
 use Rattle.odb_tree.specs.Tree.{IsTree, Tree, tree_of}
@@ -63,10 +64,10 @@ possible_by : (b : Bool) (why : Why) → None ≡ (if b then None else Some why)
 possible_by true why valid = refl
 possible_by false why valid = absurd (cc)
 
-left_disk : (asked : Asked) → LeavesDisk asked → did_of_asked asked ≡ Nothing
-left_disk OfNothing left = refl
-left_disk (OfDisk ask answer) left = absurd left
-left_disk (OfCore event answer) left = refl
+left_disk : (opened : Option Path) (asked : Asked) → LeavesDisk asked → did_of_asked opened asked ≡ Nothing
+left_disk opened OfNothing left = refl
+left_disk opened (OfDisk ask answer) left = absurd left
+left_disk opened (OfCore event answer) left = refl
 
 turn_step : (step : Step) → IsTurn step → (handle : ℕ) × (step ≡ steps.Turn handle)
 turn_step (steps.Turn handle) turn = (handle, refl)
@@ -87,15 +88,15 @@ module _ (first : Volume) (past : List Event) (e : Event) (law : Law first past 
       → e.entry.change ≡ change_applied step → None ≡ why_not_after first past step → Kind first past e
   kind_applied (steps.Turn handle) s o other leaves made valid = absurd (other tt)
   kind_applied (steps.Disk change) s o other leaves made valid =
-      Made (record { change = change; outside = (change, s, o); makes = made; did = law.did ∙ left_disk e.asked leaves; leaves = leaves; possible = possible_by _ _ valid })
-  kind_applied step s o other leaves made valid = Quiet (record { none = made; did = law.did ∙ left_disk e.asked leaves; leaves = leaves })
+      Made (record { change = change; outside = (change, s, o); makes = made; did = law.did.1 ∙ left_disk law.did.0 e.asked leaves; leaves = leaves; possible = possible_by _ _ valid })
+  kind_applied step s o other leaves made valid = Quiet (record { none = made; did = law.did.1 ∙ left_disk law.did.0 e.asked leaves; leaves = leaves })
 
   kind_by : (outcome : Outcome) → e.outcome ≡ outcome → Suits e.step outcome e.asked → ChangesAs e.step outcome e.entry.change
       → misuse_of outcome ≡ why_not_after first past e.step → Kind first past e
   kind_by outcomes.Applied o suits made valid = kind_applied e.step refl o suits.0 suits.1 made valid
   kind_by outcomes.Pending o suits made valid = turned suits.0 valid
   kind_by (outcomes.Reply reply) o suits made valid = turned suits valid
-  kind_by (outcomes.Misuse why) o suits made valid = Quiet (record { none = made; did = law.did ∙ ap did_of_asked suits; leaves = subst LeavesDisk (sym suits) tt })
+  kind_by (outcomes.Misuse why) o suits made valid = Quiet (record { none = made; did = law.did.1 ∙ ap (did_of_asked law.did.0) suits; leaves = subst LeavesDisk (sym suits) tt })
 
   pub kind_of : Kind first past e
   kind_of = kind_by e.outcome refl law.suits law.change law.valid

@@ -104,7 +104,7 @@ law_quiet first past step outcome change faults valid suits made counted no_repl
       change = made;
       failed = tt;
       faults = counted ∙ ap (λ (disk : Volume). disk.calls.faults) (sym (disk_after-push first past (quiet step outcome change faults)));
-      did = refl;
+      did = (None, refl);
       worked = λ handle running turn.
           let valid_turn : misuse_of outcome ≡ None =
           subst (λ s. misuse_of outcome ≡ why_not_after first past s) turn.step valid ∙ ap (λ s. why_not_running (phase_of s)) turn.status in

@@ -4,6 +4,7 @@ pub mod Comes
 use Rattle.std.proofs.Common.{◌≡◌, ℕ, ◌+◌, ◌<◌, ◌≤◌, Bool, true, false, List, [], ◌∷◌, ◌++◌, length, Option, Some, None, Ok, Err, Result, refl, sym, ◌∙◌, ap, subst, arith}
 use Rattle.std.specs.Prelude.{if◌then◌else◌}
 use Rattle.std.proofs.lemmas.List.{length_push}
+use Rattle.odb_base.specs.Path.{Path}
 use Rattle.odb_tree.specs.Tree.{IsTree, tree_of}
 use Rattle.odb_tree.specs.declared.change.Change.{Change}
 use Rattle.odb_disk.specs.MemDisk.{Volume}
@@ -19,6 +20,7 @@ use Rattle.gix_odb_world.specs.Status.{Free, Resting, Running, Status, Task, Wor
 use Rattle.gix_odb_world.specs.Handle.{IsHandleOf}
 use Rattle.gix_odb_world.specs.Run.{change_asked, did_asked, did_of_asked, disk_after, disk_after_asked, told_now}
 use Rattle.gix_odb_world.specs.Begun.{BegunAs}
+use Rattle.gix_odb_world.specs.Recorded.{opened_in}
 use Rattle.gix_odb_world.specs.Running.{Runs}
 use Rattle.gix_odb_world.specs.Valid.{phase_of, why_not_running, misuse_of}
 use Rattle.gix_odb_world.specs.Headline.{FailsAsListed, Law, Turns, Works, outcome_of}
@@ -67,6 +69,9 @@ module _ (first : Volume) (events : List Event) (old : World) (number : ℕ) (ru
   abbrev pub ask : Option Ask
   ask = ask_in running.store running.work
 
+  abbrev pub opened : Option Path
+  opened = opened_in running.work
+
   abbrev pub told : Asked
   told = told_now old.disk ask
 
@@ -79,13 +84,13 @@ module _ (first : Volume) (events : List Event) (old : World) (number : ℕ) (ru
 
   module _ (tree : IsTree (tree_of old.disk.state)) (faults : ℕ) (counted : faults ≡ (disk_after_asked old.disk told made).calls.faults) where
     abbrev pub event : Event
-    event = record { step = steps.Turn number; outcome = outcome_of after; entry = record { did = did_of_asked told; change = made; faults = faults }; asked = told }
+    event = record { step = steps.Turn number; outcome = outcome_of after; entry = record { did = did_of_asked opened told; change = made; faults = faults }; asked = told }
 
     abbrev pub whole : List Event
     whole = events ++ event ∷ []
 
-    did_is : event.entry.did ≡ did_asked (disk_after first events) ask
-    did_is = did_told old.disk ask ∙ ap (λ d. did_asked d ask) explains.disk
+    did_is : event.entry.did ≡ did_asked opened (disk_after first events) ask
+    did_is = did_told opened old.disk ask ∙ ap (λ d. did_asked opened d ask) explains.disk
 
     told_is : event.asked ≡ told_now (disk_after first events) ask
     told_is = ap (λ d. told_now d ask) explains.disk
@@ -94,7 +99,7 @@ module _ (first : Volume) (events : List Event) (old : World) (number : ℕ) (ru
     change_is = ap (λ d. change_asked d ask) explains.disk
 
     turn_is : IsTurnAsking first events event number ask
-    turn_is = turn_asking first events event number ask refl did_is told_is change_is (subst (λ (d : Volume). IsTree (tree_of d.state)) explains.disk tree)
+    turn_is = turn_asking first events event number opened ask refl did_is told_is change_is (subst (λ (d : Volume). IsTree (tree_of d.state)) explains.disk tree)
 
     abbrev pub WorkNow : Result Reply Work → Type 0
     WorkNow result = ComesTo first events event number running result
@@ -160,7 +165,7 @@ module _ (first : Volume) (events : List Event) (old : World) (number : ℕ) (ru
           change = changes_turn number after event.entry.change;
           failed = subst (FailsAsListed (disk_after first events)) (sym told_is) (fails_listed (disk_after first events) ask);
           faults = counted ∙ (ap (λ d. (disk_after_asked d told made).calls.faults) explains.disk ∙ ap (λ (d : Volume). d.calls.faults) (sym (disk_after-push first events event)));
-          did = refl;
+          did = (opened, refl);
           worked = of_turn (λ h r. Works first events h r event) works;
           promise = λ handle other task reply turns_it began is.
               of_turn (λ h r. (k : Task) → BegunAs events h r.begun r.store k → (o : Reply) → outcome_of after ≡ outcomes.Reply o → Promise first whole h r.store r.modes r.begun k o)

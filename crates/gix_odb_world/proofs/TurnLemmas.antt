@@ -2,6 +2,7 @@
 use Rattle.std.proofs.Common.{◌≡◌, ℕ, ◌+◌, Bool, true, false, List, [], ◌∷◌, ◌++◌, length, Some, None, Ok, Err, Option, Result, refl, sym, ◌∙◌, ap, subst}
 use Rattle.std.specs.Prelude.{if◌then◌else◌, ◌==◌}
 use Rattle.odb_disk.specs.MemDisk.{Volume}
+use Rattle.odb_base.specs.Path.{Path}
 use Rattle.odb_tree.specs.Tree.{IsTree, tree_of}
 use Rattle.odb_tree.specs.declared.change.Change.{Change}
 use Rattle.odb_disk.specs.declared.ask.DiskAsk.{DiskAsk}
@@ -25,6 +26,7 @@ use Rattle.gix_odb_world.specs.World.{Explains, Continues, GoesOn, Matches, hand
 use Rattle.gix_odb_world.specs.Table.{SetsHandle, Notes, after_turn, change_now, did_now, disk_now, work_now}
 use Rattle.gix_odb_world.proofs.KnowsLemmas.{runs_set}
 use Rattle.gix_odb_world.proofs.StepLemmas.{goes_on, table_noted}
+use Rattle.gix_odb_world.specs.Recorded.{opened_in}
 use Rattle.gix_odb_world.specs.Run.{change_asked, did_of_asked, disk_after_asked, told_now}
 use Rattle.gix_odb_world.proofs.WorkLaws.{code_asks, code_feeds}
 use Rattle.gix_odb_world.proofs.TurnLaw.Asking.{answer_on, answer_on-told, change_now-asked, did_now-told, disk_now-asked, work_now-fed}
@@ -55,7 +57,7 @@ record Took (old took mid new : World) (disk : Volume) (number : ℕ) (state : H
     (handle : Option Handle) : Type 0 where
   there : handle_at old number ≡ Some (record { state = state; work = Some work })
   takes : SetsHandle old took number None
-  did_is : did ≡ did_now took.disk (ask_on state work)
+  did_is : did ≡ did_now (opened_in work) took.disk (ask_on state work)
   change_is : change ≡ change_now took.disk (ask_on state work)
   tree : IsTree (tree_of took.disk.state)
   after_is : after ≡ work_now took.disk state work (ask_on state work)
@@ -78,8 +80,11 @@ module _ (old took mid new : World) (disk : Volume) (number : ℕ) (state : Hand
       let made : Option Change = change_asked old.disk ask in
       let same_disk : took.disk ≡ old.disk = took_it.takes.disk in
       let asks_it : to_disk code ≡ ask = code_asks store running.modes state own work ∙ ap (ask_in store) (sym at) in
-      let did_is : did ≡ did_of_asked told =
-      took_it.did_is ∙ (ap (λ d. did_now d code) same_disk ∙ (did_now-told old.disk code ∙ ap (λ a. did_of_asked (told_now old.disk a)) asks_it)) in
+      let opened : Option Path = opened_in running.work in
+      let did_is : did ≡ did_of_asked opened told =
+      took_it.did_is
+      ∙ (ap (λ d. did_now (opened_in work) d code) same_disk
+      ∙ (ap (λ w. did_now (opened_in w) old.disk code) (sym at) ∙ (did_now-told old.disk opened code ∙ ap (λ a. did_of_asked opened (told_now old.disk a)) asks_it))) in
       let result : Result Reply Work = fed_in store running.work (answered told) in
       let left_is : left ≡ fed_after state work (answer_on old.disk code) =
       took_it.after_is ∙ (ap (λ d. work_now d state work code) same_disk ∙ work_now-fed old.disk state work code) in
@@ -117,7 +122,7 @@ module _ (old took mid new : World) (disk : Volume) (number : ℕ) (state : Hand
             (took_it.notes.records
             ∙ (ap (λ rs. rs ++ record { did = did; change = change; faults = mid.disk.calls.faults } ∷ []) (took_it.sets.records ∙ took_it.takes.records)
             ∙ (ap (λ d. old.records ++ record { did = d; change = change; faults = mid.disk.calls.faults } ∷ []) did_is
-            ∙ ap (λ c. old.records ++ record { did = did_of_asked told; change = c; faults = mid.disk.calls.faults } ∷ []) change_is)))
+            ∙ ap (λ c. old.records ++ record { did = did_of_asked opened told; change = c; faults = mid.disk.calls.faults } ∷ []) change_is)))
             (took_it.notes.disk ∙ (took_it.sets.disk ∙ disk_is))
             (λ other. rw (status_after-turn (length events + 1) number told result table) (matches_set old new table number next handle explains.handles put here other))
             (λ other. rw (status_after-turn (length events + 1) number told result table)
@@ -133,7 +138,7 @@ module _ (old took mid new : World) (disk : Volume) (number : ℕ) (state : Hand
 -- each history goes on by the turn
 pub turned_on : (old took mid new : World) (disk : Volume) (number : ℕ) (state : HandleState) (work left : Work) (did : Did) (change : Option Change) (outcome : Outcome) (handle : Option Handle)
     → handle_at old number ≡ Some (record { state = state; work = Some work }) → SetsHandle old took number None
-    → did ≡ did_now took.disk (ask_on state work) → change ≡ change_now took.disk (ask_on state work) → IsTree (tree_of took.disk.state)
+    → did ≡ did_now (opened_in work) took.disk (ask_on state work) → change ≡ change_now took.disk (ask_on state work) → IsTree (tree_of took.disk.state)
     → left ≡ work_now took.disk state work (ask_on state work) → disk ≡ disk_now took.disk (ask_on state work)
     → outcome ≡ outcome_of (result_in left) → handle ≡ after_turn state (result_in left)
     → SetsHandle (record took { disk = disk }) mid number handle → Notes mid new outcome did change → Continues old (steps.Turn number) new

@@ -5,7 +5,7 @@ use Rattle.std.proofs.lemmas.List.{take-append-le, length_push}
 use Rattle.std.proofs.lemmas.Option.{slice_get_within}
 use Rattle.std.proofs.Math.Seq.{take-append_seam}
 use Rattle.odb_base.specs.Path.{Path}
-use Rattle.odb_disk.specs.Ask.{op_of, answer_now, fails_now}
+use Rattle.odb_disk.specs.Ask.{answer_now}
 use Rattle.odb_disk.specs.MemDisk.{Volume}
 use Rattle.odb_tree.specs.Tree.{Tree}
 use Rattle.odb_tree.specs.Tree.Way.{SameOnWay}
@@ -22,14 +22,12 @@ use Rattle.gix_object.specs.declared.kind.Kind.{Kind}
 use Rattle.gix_odb_loose.proofs.AskLaws.{IsAlong-start}
 use Rattle.gix_odb_loose.specs.declared.write_order.WriteStage.{WriteStage}
 use Rattle.gix_odb_loose.specs.declared.write_order.WriteStage.TheVariants as write_stages
-use Rattle.gix_odb_world.specs.Recorded.{path_recorded}
 use Rattle.gix_odb.specs.CallOrder.{hash_to_write, writing}
 use Rattle.gix_odb.specs.declared.call.Call.TheVariants.{Write}
-use Rattle.gix_odb_world.specs.declared.record.Did.TheVariants.{Disk}
 use Rattle.gix_odb_world.specs.AtWork.{nothing_in_front, Modes}
 use Rattle.gix_odb_world.specs.Event.{OfDisk, Event}
 use Rattle.gix_odb_world.specs.Status.{MakeCall, Running, Store, running_from}
-use Rattle.gix_odb_world.specs.Run.{IsTurnOf, disk_after, tree_at}
+use Rattle.gix_odb_world.specs.Run.{IsTurnOf, TellsCall, disk_after, tree_at}
 use Rattle.gix_odb_world.specs.Running.Write.{HoldsFile, Holds, IsAtOwnWrite, IsUntouched, IsWriting, StandsAt, content_at}
 use Rattle.gix_odb_world.specs.Writing.{AskedAt, AskedSince, EachTurn, LeftAlone, ToWrite}
 use Rattle.gix_odb_world.proofs.HistoryLemmas.{slice_get-push, slice_get-last, slice_get-kept, tree_at-before}
@@ -49,7 +47,7 @@ module _ (first : Volume) (events : List Event) (e : Event) where
         event = a.event;
         there = slice_get-kept events e place a.event a.there;
         turn = a.turn;
-        did = a.did ∙ ap (λ es. Disk (op_of ask) (path_recorded ask) (fails_now (disk_after first es) ask)) (sym same);
+        did = subst (λ es. TellsCall (disk_after first es) ask a.event.entry.did) (sym same) a.did;
         asked = a.asked;
         given = a.given ∙ ap (λ es. answer_now (disk_after first es) ask) (sym same);
       }
@@ -60,7 +58,7 @@ module _ (first : Volume) (events : List Event) (e : Event) where
 
   -- the last event's own call
   pub asked_now : (handle : ℕ) (ask : DiskAsk) (answer : DiskAnswer) → IsTurnOf handle e.step
-      → e.entry.did ≡ Disk (op_of ask) (path_recorded ask) (fails_now (disk_after first events) ask)
+      → TellsCall (disk_after first events) ask e.entry.did
       → e.asked ≡ OfDisk ask answer → answer ≡ answer_now (disk_after first events) ask → AskedAt first whole handle (length events) ask answer
   asked_now handle ask answer turn did asked given =
       let same : take (length events) whole ≡ events = take-append_seam events (e ∷ []) in
@@ -68,7 +66,7 @@ module _ (first : Volume) (events : List Event) (e : Event) where
         event = e;
         there = slice_get-last events e;
         turn = turn;
-        did = did ∙ ap (λ es. Disk (op_of ask) (path_recorded ask) (fails_now (disk_after first es) ask)) (sym same);
+        did = subst (λ es. TellsCall (disk_after first es) ask e.entry.did) (sym same) did;
         asked = asked;
         given = given ∙ ap (λ es. answer_now (disk_after first es) ask) (sym same);
       }

@@ -3,6 +3,7 @@
 -- object last and changes nothing else of the tree than five changes tell, each call ends within its bound, and each
 -- error has its cause.
 use Rattle.std.specs.Prelude.{◌≡◌, ℕ, ◌+◌, ◌<◌, List, [], ◌∷◌, ◌++◌, map, length, take, slice_get, Option, Some, Result, Ok, Err}
+use Rattle.odb_base.specs.Path.{Path}
 use Rattle.odb_disk.specs.Ask.{fails_now}
 use Rattle.odb_disk.specs.MemDisk.{Volume}
 use Rattle.gix_odb.specs.declared.call.Reply.{Reply}
@@ -10,9 +11,11 @@ use Rattle.gix_odb_world.specs.declared.step.Step.{Step}
 use Rattle.gix_odb_world.specs.declared.step.Step.TheVariants as steps
 use Rattle.gix_odb_world.specs.declared.step.Outcome.{Outcome}
 use Rattle.gix_odb_world.specs.declared.step.Outcome.TheVariants as outcomes
+use Rattle.gix_odb_world.specs.declared.record.Did.{Did}
 use Rattle.gix_odb_world.specs.declared.record.Run.{Run}
 use Rattle.gix_odb_world.specs.declared.work.Work.{Work}
 use Rattle.gix_odb_world.specs.Event.{Ask, Asked, OfNothing, OfDisk, OfCore, Event, answered}
+use Rattle.gix_odb_world.specs.Recorded.{opened_in}
 use Rattle.gix_odb_world.specs.Status.{Running, Task, Working, status_of}
 use Rattle.gix_odb_world.specs.Run.{change_asked, did_asked, did_of_asked, disk_after, has_failed, told_now, tree_at}
 use Rattle.gix_odb_world.specs.Begun.{BegunAs, HoldsStore, IsTaskOf, NoneSince, turns_since}
@@ -55,6 +58,11 @@ abbrev pub FailsAsListed : Volume → Asked → Type 0
 FailsAsListed disk (OfDisk ask answer) = has_failed answer ≡ fails_now disk ask
 FailsAsListed disk asked = Unit {0}
 
+-- A record tells the call of the disk that its event made, or that it made none. Of a call on an open stream, `asked` of `Works` says
+-- which path it has.
+abbrev pub TellsAsked : Asked → Did → Type 0
+TellsAsked asked did = (opened : Option Path) × (did ≡ did_of_asked opened asked)
+
 -- the handle that the event turns, and what it was at
 pub record Turns (past : List Event) (e : Event) (handle : ℕ) (running : Running) : Type 0 where
   pub step : e.step ≡ steps.Turn handle
@@ -80,7 +88,7 @@ pub record Works (first : Volume) (past : List Event) (handle : ℕ) (running : 
   pub asks : ask_in running.store running.work ≡ ask
   -- which is a call of the disk, the one of this turn of the task: of turn t of a find, the read of the loose path in the t-th folder
   pub in_order : AsksAsTask first past handle running.store running.modes running.begun running.turns running.task ask
-  pub asked : e.entry.did ≡ did_asked (disk_after first past) ask
+  pub asked : e.entry.did ≡ did_asked (opened_in running.work) (disk_after first past) ask
   pub told : e.asked ≡ told_now (disk_after first past) ask
   pub goes : e.outcome ≡ outcome_of (fed_in running.store running.work (answered e.asked))
   -- the change of the record is that of the call
@@ -97,7 +105,7 @@ pub record Law (first : Volume) (past : List Event) (e : Event) : Type 0 where
   -- the record has the disk's count of faults after the step
   pub faults : e.entry.faults ≡ (disk_after first (past ++ e ∷ [])).calls.faults
   -- the record tells the call of the disk that the event made, and that no other event made one
-  pub did : e.entry.did ≡ did_of_asked e.asked
+  pub did : TellsAsked e.asked e.entry.did
   -- a turn does what the order of work says
   pub worked : (handle : ℕ) (running : Running) → Turns past e handle running → Works first past handle running e
   -- a reply keeps its promise, which is that of the task that the step `begun` set

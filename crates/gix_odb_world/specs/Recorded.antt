@@ -1,9 +1,18 @@
 -- The path that the record of a call of the disk has.
-use Rattle.std.specs.Prelude.{[], unwrap_or}
+use Rattle.std.specs.Prelude.{[], Option, None, unwrap_or}
 use Rattle.odb_base.specs.Path.{Path}
 use Rattle.odb_disk.specs.Ask.{path_asked}
 use Rattle.odb_disk.specs.declared.ask.DiskAsk.{DiskAsk}
+use Rattle.gix_odb_world.specs.declared.work.Work.{Work}
+use Rattle.gix_odb_world.specs.declared.work.Work.TheVariants.{Opening, Calling}
 
--- The path that the call names, of a rename its source. A call on an open stream names none, and no handle makes one.
-abbrev pub path_recorded : DiskAsk → Path
-path_recorded ask = unwrap_or (path_asked ask) []
+-- The path with which the stream was opened that the next call of work is on, where it is on one: whoever opened a stream knows it.
+-- No work of these makes such a call.
+abbrev pub opened_in : Work → Option Path
+opened_in (Opening state) = None
+opened_in (Calling state) = None
+
+-- The path that the call names, of a rename its source; or that with which its stream was opened, since a call on an open stream
+-- names none.
+abbrev pub path_recorded : (opened : Option Path) → DiskAsk → Path
+path_recorded opened ask = unwrap_or (path_asked ask) (unwrap_or opened [])

@@ -1,5 +1,6 @@
 -- The disk and its states over a run: state 0 is the handed-in one, and each event takes the disk one step on.
 use Rattle.std.specs.Prelude.{◌≡◌, ℕ, ◌≤◌, Bool, true, false, List, fold, take, slice_get, Option, Some, None, if◌then◌else◌}
+use Rattle.odb_base.specs.Path.{Path}
 use Rattle.odb_tree.specs.Tree.{Tree, tree_of}
 use Rattle.odb_tree.specs.Tree.Write.{written}
 use Rattle.odb_disk.specs.Ask.{after_ask, answer_now, change_of_ask, fails_now, op_of}
@@ -40,15 +41,15 @@ abbrev pub has_failed : DiskAnswer → Bool
 has_failed (answers.Refused disk_errors.Failed) = true
 has_failed answer = false
 
--- the record of a call of the disk
-abbrev pub did_of : DiskAsk → DiskAnswer → Did
-did_of ask answer = Disk (op_of ask) (path_recorded ask) (has_failed answer)
+-- the record of a call of the disk, of a stream that was opened with a path if it is on one
+abbrev pub did_of : (opened : Option Path) → DiskAsk → DiskAnswer → Did
+did_of opened ask answer = Disk (op_of ask) (path_recorded opened ask) (has_failed answer)
 
 -- the record of an event that asked so: only a call of the disk is told
-abbrev pub did_of_asked : Asked → Did
-did_of_asked OfNothing = Nothing
-did_of_asked (OfDisk ask answer) = did_of ask answer
-did_of_asked (OfCore event answer) = Nothing
+abbrev pub did_of_asked : (opened : Option Path) → Asked → Did
+did_of_asked opened OfNothing = Nothing
+did_of_asked opened (OfDisk ask answer) = did_of opened ask answer
+did_of_asked opened (OfCore event answer) = Nothing
 
 -- what an event tells that asked so: a call of the disk has the answer that the disk gives then, and an event of a core that of the core
 abbrev pub told_now : Volume → Option Ask → Asked
@@ -57,10 +58,14 @@ told_now disk (Some (ToDisk ask)) = OfDisk ask (answer_now disk ask)
 told_now disk (Some (ToCore event)) = OfCore event (core_answer event)
 
 -- the record of what was asked so: a call of the disk fails where its number is listed
-abbrev pub did_asked : Volume → Option Ask → Did
-did_asked disk None = Nothing
-did_asked disk (Some (ToDisk ask)) = Disk (op_of ask) (path_recorded ask) (fails_now disk ask)
-did_asked disk (Some (ToCore event)) = Nothing
+abbrev pub did_asked : (opened : Option Path) → Volume → Option Ask → Did
+did_asked opened disk None = Nothing
+did_asked opened disk (Some (ToDisk ask)) = Disk (op_of ask) (path_recorded opened ask) (fails_now disk ask)
+did_asked opened disk (Some (ToCore event)) = Nothing
+
+-- a record is that of a call of the disk, whatever stream it may be on
+abbrev pub TellsCall : Volume → DiskAsk → Did → Type 0
+TellsCall disk ask did = (opened : Option Path) × (did ≡ Disk (op_of ask) (path_recorded opened ask) (fails_now disk ask))
 
 -- the change that what was asked so makes: only a call of the disk makes one
 abbrev pub change_asked : Volume → Option Ask → Option Change

@@ -1,5 +1,6 @@
 -- What the code of a world does with its table of handles and its lists. No public clause cites this.
 use Rattle.std.specs.Prelude.{◌≡◌, ℕ, ◌==◌, true, [], ◌∷◌, ◌++◌, Option, Some, None, Result, Ok, Err, if◌then◌else◌}
+use Rattle.odb_base.specs.Path.{Path}
 use Rattle.odb_disk.specs.Ask.{answer_now, after_ask, change_of_ask}
 use Rattle.odb_tree.specs.Tree.{tree_of}
 use Rattle.odb_disk.specs.MemDisk.{Volume}
@@ -87,10 +88,10 @@ pub record Settles (old new : World) (number : ℕ) (handle : Option Handle) (ou
 abbrev pub HasOneMore : World → World → Type 0
 HasOneMore old new = (outcome : Outcome) × (new.outcomes ≡ old.outcomes ++ outcome ∷ [])
 
--- what a turn did whose work asked so
-abbrev pub did_now : Volume → Option DiskAsk → Did
-did_now disk None = done.Nothing
-did_now disk (Some ask) = did_of ask (answer_now disk ask)
+-- what a turn did whose work asked so, of a stream that was opened with a path if it is on one
+abbrev pub did_now : (opened : Option Path) → Volume → Option DiskAsk → Did
+did_now opened disk None = done.Nothing
+did_now opened disk (Some ask) = did_of opened ask (answer_now disk ask)
 
 -- the change of a turn whose work asked so: none where the call failed
 abbrev pub change_now : Volume → Option DiskAsk → Option Change

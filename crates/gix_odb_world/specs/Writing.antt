@@ -1,7 +1,7 @@
 -- A write on a handle: what it is to write, and what it asked of the disk and changed since it began.
 use Rattle.std.specs.Prelude.{◌≡◌, ◌⊎◌, ℕ, ◌+◌, ◌<◌, ◌≤◌, Bool, true, List, take, slice_get, Option, Some, None}
 use Rattle.odb_base.specs.Path.{Path}
-use Rattle.odb_disk.specs.Ask.{op_of, answer_now, fails_now}
+use Rattle.odb_disk.specs.Ask.{op_of, answer_now}
 use Rattle.odb_disk.specs.MemDisk.{Volume}
 use Rattle.odb_tree.specs.Tree.Way.{SameOnWay}
 use Rattle.odb_disk.specs.declared.ask.DiskAnswer.{DiskAnswer}
@@ -21,10 +21,9 @@ use Rattle.gix_odb_loose.specs.WriteRuns.RefusedAsks.{IsOnWay}
 use Rattle.gix_odb_loose.specs.WriteStreams.{OtherLength}
 use Rattle.gix_odb_loose.specs.declared.write.Error as loose_write
 use Rattle.gix_odb_loose.specs.declared.write_order.WriteHead.{WriteHead}
-use Rattle.gix_odb_world.specs.Recorded.{path_recorded}
 use Rattle.gix_odb.specs.CallOrder.{hash_to_write}
 use Rattle.gix_odb_world.specs.Event.{OfDisk, Event}
-use Rattle.gix_odb_world.specs.Run.{Fails, IsTurnOf, disk_after, tree_at}
+use Rattle.gix_odb_world.specs.Run.{Fails, IsTurnOf, TellsCall, disk_after, tree_at}
 use Rattle.gix_odb.specs.declared.call.Call.{Call}
 use Rattle.gix_odb.specs.declared.call.Call.TheVariants.{Write}
 use Rattle.gix_odb_world.specs.declared.record.Did.{Did}
@@ -61,7 +60,7 @@ pub record AskedAt (first : Volume) (events : List Event) (handle place : ℕ) (
   pub event : Event
   pub there : slice_get events place ≡ Some event
   pub turn : IsTurnOf handle event.step
-  pub did : event.entry.did ≡ Disk (op_of ask) (path_recorded ask) (fails_now (disk_after first (take place events)) ask)
+  pub did : TellsCall (disk_after first (take place events)) ask event.entry.did
   pub asked : event.asked ≡ OfDisk ask answer
   pub given : answer ≡ answer_now (disk_after first (take place events)) ask
 

@@ -1,5 +1,6 @@
 //! The record of a step, and a whole run.
-ghost use Rattle.std.specs.Prelude.{◌≡◌, IfOk};
+ghost use Rattle.std.specs.Prelude.{◌≡◌, IfOk, [], unwrap_or};
+ghost use Rattle.std.specs.Option.{option_map};
 ghost use Rattle.gix_odb_world.specs.Recorded.{path_recorded};
 ghost use Rattle.gix_odb_world.specs.Run.{did_of};
 
@@ -21,23 +22,41 @@ pub enum Did {
 }
 
 impl Did {
-    /// What a turn did that made a call of the disk.
-    pub(crate) fn of(alloc: Global, ask: &DiskAsk, answer: &DiskAnswer) -> Result<Did, NoMemory>
-        ensures did { IfOk result (λ did. did ≡ did_of ask.now answer.now) }
+    /// What a turn did that made a call of the disk, of a stream that was opened with a path if it is on one.
+    pub(crate) fn of(
+        alloc: Global,
+        opened: Option<&PathText>,
+        ask: &DiskAsk,
+        answer: &DiskAnswer,
+    ) -> Result<Did, NoMemory>
+        ensures did { IfOk result (λ did. did ≡ did_of (option_map (λ path. path.now) opened.entry) ask.now answer.now) }
     {
         Ok(Did::Disk {
             op: ask.op(),
-            path: path_recorded(alloc, ask)?,
+            path: path_recorded(alloc, opened, ask)?,
             failed: matches!(answer, DiskAnswer::Refused(DiskError::Failed)),
         })
     }
 }
 
-/// The path that the record of a call has. A call on an open stream names none, and no handle makes one.
-fn path_recorded(alloc: Global, ask: &DiskAsk) -> Result<PathText, NoMemory>
-    ensures path { IfOk result (λ path. path ≡ path_recorded ask.now) }
+/// The path that the record of a call has: the one that the call names, or that with which its stream was opened.
+fn path_recorded(
+    alloc: Global,
+    opened: Option<&PathText>,
+    ask: &DiskAsk,
+) -> Result<PathText, NoMemory>
+    ensures path { IfOk result (λ path. path ≡ path_recorded (option_map (λ path. path.now) opened.entry) ask.now) }
 {
     match ask.path() {
+        Some(path) => path.try_clone(alloc),
+        None => path_or_root(alloc, opened),
+    }
+}
+
+fn path_or_root(alloc: Global, path: Option<&PathText>) -> Result<PathText, NoMemory>
+    ensures path { IfOk result (λ copy. copy ≡ unwrap_or (option_map (λ kept. kept.now) path.entry) []) }
+{
+    match path {
         Some(path) => path.try_clone(alloc),
         None => Ok(PathText::root(alloc)),
     }

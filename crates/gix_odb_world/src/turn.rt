@@ -1,6 +1,8 @@
 //! A turn of a handle: the one call of the disk that its work names, and what the turn comes to.
 ghost use Rattle.std.specs.Prelude.{if◌then◌else◌, ◌≡◌, IfOk, OnOk, None, Some};
+ghost use Rattle.std.specs.Option.{option_map};
 ghost use Rattle.odb_disk.specs.Ask.{answer_now};
+ghost use Rattle.gix_odb_world.specs.Recorded.{opened_in};
 ghost use Rattle.gix_odb_world.specs.Run.{has_failed};
 ghost use Rattle.gix_odb_world.specs.Status.{after_reply};
 ghost use Rattle.gix_odb_world.specs.Headline.{outcome_of};
@@ -14,7 +16,7 @@ use crate::step::Outcome;
 use crate::work::Work;
 use gix_odb::{CallError, HandleState, Reply};
 use odb_base::NoMemory;
-use odb_disk::{Change, DiskAnswer, DiskAsk, DiskError, MemDisk};
+use odb_disk::{Change, DiskAnswer, DiskAsk, DiskError, MemDisk, PathText};
 use std::alloc::Global;
 
 /// Carries out the one call of the disk that a piece of work names: what it did, the change that it made, and the work
@@ -25,7 +27,7 @@ pub fn carried_out(
     state: &HandleState,
     work: Work,
 ) -> Result<(Did, Option<Change>, Work), NoMemory>
-    ensures did { IfOk result (λ done. done.0 ≡ did_now disk.old (ask_on state.now work)) }
+    ensures did { IfOk result (λ done. done.0 ≡ did_now (opened_in work) disk.old (ask_on state.now work)) }
     ensures change { IfOk result (λ done. done.1 ≡ change_now disk.old (ask_on state.now work)) }
     ensures work { IfOk result (λ done. done.2 ≡ work_now disk.old state.now work (ask_on state.now work)) }
     ensures left { OnOk result (disk.new ≡ disk_now disk.old (ask_on state.now work)) }
@@ -48,12 +50,12 @@ fn asked(
     work: Work,
     ask: &DiskAsk,
 ) -> Result<(Did, Option<Change>, Work), NoMemory>
-    ensures did { IfOk result (λ done. done.0 ≡ did_now disk.old (Some ask.now)) }
+    ensures did { IfOk result (λ done. done.0 ≡ did_now (opened_in work) disk.old (Some ask.now)) }
     ensures change { IfOk result (λ done. done.1 ≡ change_now disk.old (Some ask.now)) }
     ensures work { IfOk result (λ done. done.2 ≡ work_now disk.old state.now work (Some ask.now)) }
     ensures left { OnOk result (disk.new ≡ disk_now disk.old (Some ask.now)) }
 {
-    match called(alloc, disk, ask) {
+    match called(alloc, disk, work.opened(), ask) {
         Ok((did, change, answer)) => fed(alloc, state, work, did, change, answer),
         Err(error) => {
             drop(work);
@@ -83,27 +85,33 @@ fn fed(
 fn called(
     alloc: Global,
     disk: &mut MemDisk,
+    opened: Option<&PathText>,
     ask: &DiskAsk,
 ) -> Result<(Did, Option<Change>, DiskAnswer), NoMemory>
-    ensures did { IfOk result (λ called. called.0 ≡ did_now disk.old (Some ask.now)) }
+    ensures did { IfOk result (λ called. called.0 ≡ did_now (option_map (λ path. path.now) opened.entry) disk.old (Some ask.now)) }
     ensures change { IfOk result (λ called. called.1 ≡ change_now disk.old (Some ask.now)) }
     ensures answer { IfOk result (λ called. called.2 ≡ answer_now disk.old ask.now) }
     ensures left { OnOk result (disk.new ≡ disk_now disk.old (Some ask.now)) }
 {
     let change = disk.change_of(alloc, ask)?;
-    let (did, answer) = answered(alloc, disk, ask)?;
+    let (did, answer) = answered(alloc, disk, opened, ask)?;
     let change = change_unless_failed(change, &answer);
     Ok((did, change, answer))
 }
 
 /// Makes a call of the disk: what it did, and the answer.
-fn answered(alloc: Global, disk: &mut MemDisk, ask: &DiskAsk) -> Result<(Did, DiskAnswer), NoMemory>
-    ensures did { IfOk result (λ answered. answered.0 ≡ did_now disk.old (Some ask.now)) }
+fn answered(
+    alloc: Global,
+    disk: &mut MemDisk,
+    opened: Option<&PathText>,
+    ask: &DiskAsk,
+) -> Result<(Did, DiskAnswer), NoMemory>
+    ensures did { IfOk result (λ answered. answered.0 ≡ did_now (option_map (λ path. path.now) opened.entry) disk.old (Some ask.now)) }
     ensures answer { IfOk result (λ answered. answered.1 ≡ answer_now disk.old ask.now) }
     ensures left { OnOk result (disk.new ≡ disk_now disk.old (Some ask.now)) }
 {
     let answer = disk.carry_out(alloc, ask)?;
-    let did = Did::of(alloc, ask, &answer)?;
+    let did = Did::of(alloc, opened, ask, &answer)?;
     Ok((did, answer))
 }
 

@@ -1,10 +1,12 @@
 //! What a handle is at work on.
 ghost use Rattle.std.specs.Prelude.{◌≡◌, IfOk};
+ghost use Rattle.std.specs.Option.{option_map};
+ghost use Rattle.gix_odb_world.specs.Recorded.{opened_in};
 ghost use Rattle.gix_odb_world.specs.WorkOrder.{ask_on, fed_on, result_in};
 
 use gix_odb::{CallState, HandleState, OpenState, Reply};
 use odb_base::NoMemory;
-use odb_disk::{DiskAnswer, DiskAsk};
+use odb_disk::{DiskAnswer, DiskAsk, PathText};
 use std::alloc::Global;
 
 /// What a handle is at work on.
@@ -22,6 +24,17 @@ impl Work {
         match self {
             Work::Opening(state) => state.disk_ask(alloc, handle),
             Work::Calling(state) => state.disk_ask(alloc),
+        }
+    }
+
+    /// The path with which the stream was opened that its call of the disk is on, where it is on one: no work of these makes
+    /// such a call.
+    pub fn opened(&self) -> Option<&PathText>
+        ensures opened { option_map (λ path. path.now) result ≡ opened_in self.now }
+    {
+        match self {
+            Work::Opening(_) => None,
+            Work::Calling(_) => None,
         }
     }
 

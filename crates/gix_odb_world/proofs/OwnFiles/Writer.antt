@@ -30,7 +30,7 @@ use Rattle.gix_odb_world.specs.Event.{Event, ToDisk, to_disk}
 use Rattle.gix_odb_world.specs.Machines.{write_in}
 use Rattle.gix_odb_world.specs.Status.{IsAtWrite, Running, Working, status_of}
 use Rattle.gix_odb_world.specs.Headline.{outcome_of}
-use Rattle.gix_odb_world.specs.Run.{IsTurnOf, change_by, disk_after, tree_at}
+use Rattle.gix_odb_world.specs.Run.{IsTurnOf, TellsCall, change_by, disk_after, tree_at}
 use Rattle.gix_odb_world.specs.Running.{Knows, Runs}
 use Rattle.gix_odb_world.specs.Running.Write.{IsWriting, write_at, job_to_write}
 use Rattle.gix_odb_world.specs.Undisturbed.{HasMade}
@@ -79,7 +79,7 @@ module _ (run : LawfulRun) where
           event = a.event;
           there = there.1;
           turn = a.turn;
-          did = a.did ∙ ap (λ es. Disk (op_of (asks.NewFile path)) path (next_fails (disk_after first es))) fronts;
+          did = subst (λ es. TellsCall (disk_after first es) (asks.NewFile path) a.event.entry.did) fronts a.did;
           asked = a.asked;
           given = a.given ∙ ap (λ es. answer_now (disk_after first es) (asks.NewFile path)) fronts;
         },
@@ -124,7 +124,7 @@ module _ (run : LawfulRun) where
       by_number None is made_it = absurd made_it
       by_number (Some n) is made_it =
           let both : Disk (op_of (asks.NewFile path)) path (next_fails (disk_after first (take made events)))
-          ≡ Disk (op_of (asks.NewFile (temp_path writes.write.objects n))) (temp_path writes.write.objects n) made_it.0 = sym hm.makes.did ∙ made_it.1 in
+          ≡ Disk (op_of (asks.NewFile (temp_path writes.write.objects n))) (temp_path writes.write.objects n) made_it.0 = sym hm.makes.did.1 ∙ made_it.1 in
           (n, is, cc both ∙ ap (λ o. temp_path o n) writes.into)
 
   -- ---- what a turn of a write changes

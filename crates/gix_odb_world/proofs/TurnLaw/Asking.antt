@@ -1,6 +1,7 @@
 -- What a turn does that asks so: what its record says, what it changes, and what the code of it does.
 use Rattle.std.proofs.Common.{◌≡◌, ℕ, List, Option, Some, None, Ok, Err, Result, refl, ap}
 use Rattle.std.specs.Prelude.{if◌then◌else◌}
+use Rattle.odb_base.specs.Path.{Path}
 use Rattle.odb_tree.specs.Tree.{IsTree, tree_of}
 use Rattle.odb_disk.specs.MemDisk.{Volume}
 use Rattle.odb_disk.specs.Ask.{answer_now, change_of_ask, op_of}
@@ -39,23 +40,23 @@ told_nothing disk (Some (ToDisk ask)) is = absurd (cc is)
 told_nothing disk (Some (ToCore event)) is = absurd (cc is)
 
 -- the record says that a call of the disk failed exactly where its number is listed
-pub did_told : (disk : Volume) (ask : Option Ask) → did_of_asked (told_now disk ask) ≡ did_asked disk ask
-did_told disk None = refl
-did_told disk (Some (ToDisk ask)) = ap (Disk (op_of ask) (path_recorded ask)) (has_failed-now disk ask)
-did_told disk (Some (ToCore event)) = refl
+pub did_told : (opened : Option Path) (disk : Volume) (ask : Option Ask) → did_of_asked opened (told_now disk ask) ≡ did_asked opened disk ask
+did_told opened disk None = refl
+did_told opened disk (Some (ToDisk ask)) = ap (Disk (op_of ask) (path_recorded opened ask)) (has_failed-now disk ask)
+did_told opened disk (Some (ToCore event)) = refl
 
 pub fails_listed : (disk : Volume) (ask : Option Ask) → FailsAsListed disk (told_now disk ask)
 fails_listed disk None = tt
 fails_listed disk (Some (ToDisk ask)) = has_failed-now disk ask
 fails_listed disk (Some (ToCore event)) = tt
 
-pub turn_asking : (first : Volume) (events : List Event) (e : Event) (handle : ℕ) (ask : Option Ask) → IsTurnOf handle e.step
-    → e.entry.did ≡ did_asked (disk_after first events) ask → e.asked ≡ told_now (disk_after first events) ask
+pub turn_asking : (first : Volume) (events : List Event) (e : Event) (handle : ℕ) (opened : Option Path) (ask : Option Ask) → IsTurnOf handle e.step
+    → e.entry.did ≡ did_asked opened (disk_after first events) ask → e.asked ≡ told_now (disk_after first events) ask
     → e.entry.change ≡ change_asked (disk_after first events) ask → IsTree (tree_of (disk_after first events).state)
     → IsTurnAsking first events e handle ask
-turn_asking first events e handle None turn did asked change tree = record { turn = turn; did = did; asked = asked; change = change; tree = tree }
-turn_asking first events e handle (Some (ToDisk ask)) turn did asked change tree = record { turn = turn; did = did; asked = asked; change = change; tree = tree }
-turn_asking first events e handle (Some (ToCore event)) turn did asked change tree = record { turn = turn; did = did; asked = asked; change = change; tree = tree }
+turn_asking first events e handle opened None turn did asked change tree = record { turn = turn; did = did; asked = asked; change = change; tree = tree }
+turn_asking first events e handle opened (Some (ToDisk ask)) turn did asked change tree = record { turn = turn; did = (opened, did); asked = asked; change = change; tree = tree }
+turn_asking first events e handle opened (Some (ToCore event)) turn did asked change tree = record { turn = turn; did = did; asked = asked; change = change; tree = tree }
 
 module _ (first : Volume) (events : List Event) (handle : ℕ) (running : Running) (task : Task) where
   pub order_of : (ask : Option Ask) → TakesTurn first events handle running task ask
@@ -77,9 +78,9 @@ answer_on disk None = None
 answer_on disk (Some ask) = Some (answer_now disk ask)
 
 module _ (disk : Volume) where
-  pub did_now-told : (ask : Option DiskAsk) → did_now disk ask ≡ did_of_asked (told_now disk (to_disk ask))
-  did_now-told None = refl
-  did_now-told (Some ask) = refl
+  pub did_now-told : (opened : Option Path) (ask : Option DiskAsk) → did_now opened disk ask ≡ did_of_asked opened (told_now disk (to_disk ask))
+  did_now-told opened None = refl
+  did_now-told opened (Some ask) = refl
 
   pub answer_on-told : (ask : Option DiskAsk) → from_disk (answer_on disk ask) ≡ answered (told_now disk (to_disk ask))
   answer_on-told None = refl

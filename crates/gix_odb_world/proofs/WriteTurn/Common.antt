@@ -3,7 +3,7 @@ use Rattle.std.proofs.Common.{Contains, ◌≡◌, ℕ, ◌+◌, ◌≤◌, List
 use Rattle.std.proofs.lemmas.List.{length_push}
 use Rattle.std.proofs.Math.Seq.{take-length}
 use Rattle.odb_base.specs.Path.{Path}
-use Rattle.odb_disk.specs.Ask.{answer_now, fails_now, op_of}
+use Rattle.odb_disk.specs.Ask.{answer_now}
 use Rattle.odb_disk.specs.MemDisk.{Volume}
 use Rattle.odb_tree.specs.Tree.{IsTree, Tree, tree_of}
 use Rattle.odb_tree.specs.Tree.Change.{changed}
@@ -28,10 +28,8 @@ use Rattle.gix_odb_loose.specs.declared.write_order.Refusal.{Refusal}
 use Rattle.gix_odb_loose.specs.declared.write_order.Refusal.TheVariants as refusals
 use Rattle.gix_odb_loose.specs.declared.write_order.WriteHead.{WriteHead}
 use Rattle.gix_odb_loose.specs.declared.write_order.WriteStage.{WriteStage}
-use Rattle.gix_odb_world.specs.Recorded.{path_recorded}
-use Rattle.gix_odb_world.specs.declared.record.Did.TheVariants.{Disk}
 use Rattle.gix_odb_world.specs.Event.{OfDisk, Event}
-use Rattle.gix_odb_world.specs.Run.{IsTurnOf, change_by, disk_after, disk_after_asked, tree_at}
+use Rattle.gix_odb_world.specs.Run.{IsTurnOf, TellsCall, change_by, disk_after, disk_after_asked, tree_at}
 use Rattle.gix_odb_world.specs.Running.Write.{HoldsFile, StandsAt}
 use Rattle.gix_odb_world.specs.Writing.{AskedAt, AskedSince, IsNewFile, IsRename, TurnsMadeOnly, ToWrite}
 use Rattle.gix_odb_world.proofs.HistoryLemmas.{tree_at-now}
@@ -53,7 +51,7 @@ made_before_removal head Named Counted number refusals.NoMemory past at stopped 
 -- the last event is a turn of the handle that made this call of the disk
 pub record IsTurnWith (first : Volume) (events : List Event) (e : Event) (handle : ℕ) (ask : DiskAsk) : Type 0 where
   pub turn : IsTurnOf handle e.step
-  pub did : e.entry.did ≡ Disk (op_of ask) (path_recorded ask) (fails_now (disk_after first events) ask)
+  pub did : TellsCall (disk_after first events) ask e.entry.did
   pub asked : e.asked ≡ OfDisk ask (answer_now (disk_after first events) ask)
   pub change : e.entry.change ≡ change_by (disk_after first events) ask
   pub tree : IsTree (tree_of (disk_after first events).state)

@@ -73,7 +73,7 @@ module _ (t : TurnOfWrite) where
           let c = new_file_change (tree_of disk.state) path m.change m.is in
           let change_is : e.entry.change ≡ Some (PutFile c.0 0 []) = is.change ∙ (m.made ∙ ap Some c.2) in (
             λ renames. subst IsRename change_is renames,
-            each_turn_push events e handle begun _ (λ place x later there turn makes. absurd (s.made place x later there turn makes)) (λ turn makes. (next_fails disk, is.did)),
+            each_turn_push events e handle begun _ (λ place x later there turn makes. absurd (s.made place x later there turn makes)) (λ turn makes. (next_fails disk, is.did.1)),
             new_holds t (call answers.Done given) path refl refl m,
             tt,
           )
