@@ -174,8 +174,10 @@ module _ (run : LawfulRun) where
     | Turned t ↦
         let disk = disk_after first (take made events) in
         let before = tree_at first events made in
-        let both : Disk (op_of t.works.ask) (path_recorded (opened_in t.running.work) t.works.ask) (fails_now disk t.works.ask) ≡ Disk ops.NewFile path (next_fails disk) = sym t.works.asked ∙ a.did.1 in
-        let ask = new_file_ask (opened_in t.running.work) t.works.ask path (cc both) (cc both) in
+        let opened = opened_in t.running.work in
+        let both : Disk (op_of t.works.ask) (path_recorded opened t.works.ask) (fails_now disk t.works.ask) ≡ Disk ops.NewFile path (next_fails disk) =
+        sym t.works.asked ∙ a.did.1 in
+        let ask = new_file_ask opened t.works.ask path (cc both) (cc both) in
         let m = done_made disk (asks.NewFile path) (change_of_new_file before path) (told_new_file before path) a.given in
         let makes : a.event.entry.change ≡ Some m.change = t.works.changed ∙ (ap (change_by disk) ask ∙ m.made) in
         let n = own_new before (is_tree_at run made) path m.change m.is in

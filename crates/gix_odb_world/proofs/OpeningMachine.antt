@@ -1,6 +1,6 @@
 -- An opening keeps the laws of a machine.
 pub mod Look
-use Rattle.std.proofs.Common.{◌≡◌, ℕ, ◌+◌, ◌≤◌, true, false, cond, List, [], ◌∷◌, ◌++◌, length, Option, Some, None, refl, sym, ◌∙◌, ap, subst, arith, Ok, Err, Result}
+use Rattle.std.proofs.Common.{◌≡◌, ℕ, ◌+◌, ◌≤◌, Bool, true, false, cond, List, [], ◌∷◌, ◌++◌, length, Option, Some, None, refl, sym, ◌∙◌, ap, subst, arith, Ok, Err, Result}
 use Rattle.std.proofs.lemmas.List.{length_push}
 use Rattle.odb_tree.specs.Tree.{tree_of}
 use Rattle.odb_tree.specs.declared.disk_error.DiskError.TheVariants as disk_errors
@@ -110,7 +110,10 @@ module _ (first : Volume) (events : List Event) (handle : ℕ) (running : Runnin
     abbrev Promised : ℕ → DiskAnswer → Type 0
     Promised now answer = OpeningPromise (tree_at first whole) (FailedSince whole handle running.begun) running.store running.begun now (opening_reply running.store.slots answer)
 
-    look_failed : fails_now (disk_after first events) (asks.Look objects true) ≡ true → FailedSince whole handle running.begun
+    abbrev fails : Bool
+    fails = fails_now (disk_after first events) (asks.Look objects true)
+
+    look_failed : fails ≡ true → FailedSince whole handle running.begun
     look_failed =
         subst (λ a. fails_now (disk_after first events) a ≡ true → FailedSince whole handle running.begun) (sym same_ask)
         (failed_now first events e handle running since ask turn)
@@ -118,10 +121,10 @@ module _ (first : Volume) (events : List Event) (handle : ℕ) (running : Runnin
     look_promised : Promised (length events + 1) (answer_now (disk_after first events) ask)
     look_promised =
         subst (λ a. Promised (length events + 1) (answer_now (disk_after first events) a)) same_ask
-        (subst (λ tree. Promised (length events + 1) (cond (fails_now (disk_after first events) (asks.Look objects true)) (answers.Refused disk_errors.Failed) (answer_of tree (asks.Look objects true))))
+        (subst (λ tree. Promised (length events + 1) (cond fails (answers.Refused disk_errors.Failed) (answer_of tree (asks.Look objects true))))
         (shown_now first events e handle running since ask turn opening_quiet)
         (look_keeps (tree_at first whole) (FailedSince whole handle running.begun) running.store running.begun (length events + 1) (omega (arith, since))
-        (fails_now (disk_after first events) (asks.Look objects true)) look_failed))
+        fails look_failed))
 
     abbrev Comes : OpenState → Type 0
     Comes s = MachineComes first events e handle running opening (openings.result_of (openings.fed running.store.slots s (answer_now (disk_after first events) ask)))
