@@ -1,19 +1,20 @@
 -- What events make of the registered handles.
 use Rattle.std.proofs.Common.{◌≡◌, ℕ, ◌+◌, Bool, true, false, cond, not, ◌==◌, nat_lt, List, length, set, Option, Some, None, Ok, Err, OnErr, refl, ap, ◌∙◌, ◌-◌}
 use Rattle.gix_odb_core.specs.Handles.{Handles, is_any_stable}
-use Rattle.gix_odb_core.specs.Publish.{free_places, list_after, new_rows, slot_at, slots_after, taken}
+use Rattle.gix_odb_slots.specs.Publish.{free_places, list_after, new_rows, slot_at, slots_after, taken}
 use Rattle.gix_odb_core.specs.Replay.{Answer}
-use Rattle.gix_odb_core.specs.Slots.{Slot}
+use Rattle.gix_odb_slots.specs.Slots.{Slot}
 use Rattle.gix_odb_core.specs.Steps.{Publishing, Outdated, TooFew, Overflows, Unchanged, Published, after, is_confirmed, last_state, publishing, settled_as}
-use Rattle.gix_odb_core.specs.Steps.{shape_published, shape_stored, slot_with_index, slot_with_pack, takes_over, with_list, with_room, would_overflow}
+use Rattle.gix_odb_core.specs.Steps.{shape_published, shape_stored, takes_over, with_list, with_room, would_overflow}
+use Rattle.gix_odb_slots.specs.Files.{slot_with_index, slot_with_pack}
 use Rattle.gix_odb_core.specs.Turn.{handles_after}
 use Rattle.gix_odb_core.specs.declared.event.Event.{Event}
 use Rattle.gix_odb_core.specs.declared.event.Event.TheVariants as event
 use Rattle.gix_odb_core.specs.declared.event.Refusal.TheVariants as refusals
-use Rattle.gix_odb_core.specs.declared.listing.Listing.{Listing}
-use Rattle.gix_odb_core.specs.declared.listing.ListingRow.{ListingRow}
+use Rattle.gix_odb_slots.specs.declared.listing.Listing.{Listing}
+use Rattle.gix_odb_slots.specs.declared.listing.ListingRow.{ListingRow}
 use Rattle.gix_odb_core.specs.declared.shape.Shape.{Shape}
-use Rattle.gix_odb_core.specs.declared.slot.Filled.{Filled}
+use Rattle.gix_odb_slots.specs.declared.slot.Filled.{Filled}
 
 stored : (shape : Shape) (slot : ℕ) (filled : Option Filled) → (shape_stored shape slot filled).handles ≡ shape.handles
 stored shape slot None = refl

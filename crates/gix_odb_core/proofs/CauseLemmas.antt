@@ -3,10 +3,11 @@ use Rattle.std.proofs.Common.{◌≡◌, ℕ, ◌+◌, ◌-◌, inl, inr, Bool, 
 use Rattle.std.proofs.lemmas.Bool.{eqb-true, ltb-true}
 use Rattle.gix_odb_core.proofs.PublishingRule.{free_count, new_count, publishing_rule}
 use Rattle.gix_odb_core.specs.Causes.{HasTooFewSlots, StandsAtLast}
-use Rattle.gix_odb_core.specs.Publish.{slot_at}
+use Rattle.gix_odb_slots.specs.Publish.{slot_at}
 use Rattle.gix_odb_core.specs.Replay.{Answer, answer_of, publish_answer, put_answer}
 use Rattle.gix_odb_core.specs.Steps.{Publishing, Outdated, TooFew, Overflows, Unchanged, Published, after, last_generation, last_state}
-use Rattle.gix_odb_core.specs.Steps.{publishing, shape_published, shape_stored, slot_with_index, slot_with_pack, would_overflow}
+use Rattle.gix_odb_core.specs.Steps.{publishing, shape_published, shape_stored, would_overflow}
+use Rattle.gix_odb_slots.specs.Files.{slot_with_index, slot_with_pack}
 use Rattle.gix_odb_core.specs.Views.{view_of}
 use Rattle.gix_odb_core.specs.declared.event.Effect.TheVariants as effects
 use Rattle.gix_odb_core.specs.declared.event.Event.{Event}
@@ -14,9 +15,9 @@ use Rattle.gix_odb_core.specs.declared.event.Event.TheVariants as event
 use Rattle.gix_odb_core.specs.declared.event.Refusal.{Refusal}
 use Rattle.gix_odb_core.specs.declared.event.Refusal.TheVariants as refusals
 use Rattle.gix_odb_core.specs.declared.journal.Entry.{Entry}
-use Rattle.gix_odb_core.specs.declared.listing.Listing.{Listing}
+use Rattle.gix_odb_slots.specs.declared.listing.Listing.{Listing}
 use Rattle.gix_odb_core.specs.declared.shape.Shape.{Shape}
-use Rattle.gix_odb_core.specs.declared.slot.Filled.{Filled}
+use Rattle.gix_odb_slots.specs.declared.slot.Filled.{Filled}
 
 -- ---- a refused event leaves the shape
 

@@ -7,25 +7,26 @@ use Rattle.std.proofs.lemmas.List.{get_or_default, get_or_past, length-map, leng
 use Rattle.std.proofs.lemmas.List.Elements.{All-contains, All-set}
 use Rattle.std.proofs.lemmas.List.Quantifiers.{position-Some}
 use Rattle.std.proofs.lemmas.Map.Steps.{length-le_from_distinct_below}
-use Rattle.gix_odb_core.proofs.PublishLaws.{IsDistinct-list_after}
+use Rattle.gix_odb_slots.proofs.PublishLaws.{IsDistinct-list_after}
 use Rattle.gix_odb_core.proofs.PublishingRule.{listed_slots, publishing_rule}
-use Rattle.gix_odb_core.proofs.SettledLemmas.{settled_cases}
-use Rattle.gix_odb_core.proofs.SlotsAfterLemmas.{after_cases, length-slots_after, slot_at-get_or, taken_listed}
-use Rattle.gix_odb_core.specs.Counts.{HasFewPacks, HasFewRows, IsCountable, IsFewPacks}
+use Rattle.gix_odb_slots.proofs.SettledLemmas.{settled_cases}
+use Rattle.gix_odb_slots.proofs.SlotsAfterLemmas.{after_cases, length-slots_after, slot_at-get_or, taken_listed}
+use Rattle.gix_odb_slots.specs.Tally.{HasFewPacks, IsFewPacks}
+use Rattle.gix_odb_core.specs.Countable.{HasFewRows, IsCountable}
 use Rattle.gix_odb_core.specs.Handles.{is_any_stable}
-use Rattle.gix_odb_core.specs.OnDiskFile.{put_back, trashed, with_state}
-use Rattle.gix_odb_core.specs.Publish.{list_after, settled, slot_at, slots_after}
+use Rattle.gix_odb_slots.specs.OnDiskFile.{put_back, trashed, with_state}
+use Rattle.gix_odb_slots.specs.Publish.{list_after, settled, slot_at, slots_after}
 use Rattle.gix_odb_core.specs.Replay.{CanHappen}
-use Rattle.gix_odb_core.specs.Slots.{HasDifferentPaths, Slot, holds, new_filled}
-use Rattle.gix_odb_core.specs.Steps.{Publishing, after, index_with, last_state, passed_at, publishing, shape_published, shape_stored}
-use Rattle.gix_odb_core.specs.Steps.{slot_passed, slot_with_index, slot_with_pack, stored_at, takes, with_index}
+use Rattle.gix_odb_slots.specs.Slots.{HasDifferentPaths, Slot, holds, new_filled}
+use Rattle.gix_odb_core.specs.Steps.{Publishing, after, last_state, publishing, shape_published, shape_stored}
+use Rattle.gix_odb_slots.specs.Files.{index_with, passed_at, slot_passed, slot_with_index, slot_with_pack, stored_at, takes, with_index}
 use Rattle.gix_odb_core.specs.declared.event.Event.{Event}
 use Rattle.gix_odb_core.specs.declared.event.Event.TheVariants as event
-use Rattle.gix_odb_core.specs.declared.listing.Listing.{Listing}
-use Rattle.gix_odb_core.specs.declared.listing.ListingRow.{ListingRow}
+use Rattle.gix_odb_slots.specs.declared.listing.Listing.{Listing}
+use Rattle.gix_odb_slots.specs.declared.listing.ListingRow.{ListingRow}
 use Rattle.gix_odb_core.specs.declared.shape.Shape.{Shape}
-use Rattle.gix_odb_core.specs.declared.slot.Filled.{Filled}
-use Rattle.gix_odb_core.specs.declared.slot.IndexFile.{IndexFile}
+use Rattle.gix_odb_slots.specs.declared.slot.Filled.{Filled}
+use Rattle.gix_odb_slots.specs.declared.slot.IndexFile.{IndexFile}
 use Rattle.odb_base.specs.Path.{Path}
 use Rattle.gix_pack_files.specs.FileBytes.{FileBytes}
 

@@ -1,8 +1,4 @@
--- Laws of publishing, and of what journals replay to, that other crates may cite; and the lemmas of this crate.
-pub mod PublishLaws
-pub mod ApartLaws
-pub mod KeptFilesLaws
-pub mod DisposableLaws
+-- Laws of what journals replay to, that other crates may cite; and the lemmas of this crate.
 pub mod ShapeLaws
 pub mod StableLaws
 pub mod NumberLaws
@@ -22,26 +18,11 @@ mod AnswerLemmas
 mod StepLemmas
 mod FileStepLemmas
 mod SlotTurnLemmas
-mod PackIdLemmas
-mod PackPathLemmas
-mod PublishLemmas
-mod DistinctLemmas
-mod FilterMapLemmas
-mod PositionLemmas
-mod TakenLemmas
-mod SlotLemmas
-mod SettledLemmas
-mod SlotsAfterLemmas
-mod ApartLemmas
-mod SameIndexLemmas
-mod KeptFilesLemmas
-mod LoopLemmas
 mod ReplayLemmas
 mod TurnLemmas
-mod CountsLemmas
-mod SmallLemmas
 mod PublishingRule
 mod CountableLemmas
+mod MetricsLemmas
 mod StateLemmas
 mod RoomLemmas
 mod CoreLemmas

@@ -3,23 +3,23 @@ use Rattle.std.proofs.Common.{◌≡◌, ℕ, ◌&&◌, nat_eq, List, [], ◌∷
 use Rattle.std.specs.List.{AllZip}
 use Rattle.std.proofs.lemmas.List.Elements.{Contains-append_left, Contains-push}
 use Rattle.odb_base.specs.Path.{Path}
-use Rattle.gix_odb_core.specs.OnDiskFile.{loaded}
+use Rattle.gix_odb_slots.specs.OnDiskFile.{loaded}
 use Rattle.gix_odb_core.specs.Origins.{ArePacksTold, IsIndexTold, IsMultiOf, IsOfRow, IsTold, Lists, PassesOver, PutsIndex, PutsPack, Tells}
 use Rattle.gix_odb_core.specs.Possible.{IsOpened}
-use Rattle.gix_odb_core.specs.Publish.{slot_at}
+use Rattle.gix_odb_slots.specs.Publish.{slot_at}
 use Rattle.gix_odb_core.specs.Replay.{after_entry, replay}
-use Rattle.gix_odb_core.specs.Slots.{PackFile, Slot, is_index_of, new_filled, new_index, new_pack, new_packs, same_path}
+use Rattle.gix_odb_slots.specs.Slots.{PackFile, Slot, is_index_of, new_filled, new_index, new_pack, new_packs, same_path}
 use Rattle.gix_odb_core.specs.declared.event.Event.{Event}
 use Rattle.gix_odb_core.specs.declared.event.Refusal.TheVariants as refusals
 use Rattle.gix_odb_core.specs.declared.journal.Entry.{Entry}
-use Rattle.gix_odb_core.specs.declared.listing.ListingRow.{ListingRow}
-use Rattle.gix_odb_core.specs.declared.on_disk_file.OnDiskFile.{OnDiskFile}
+use Rattle.gix_odb_slots.specs.declared.listing.ListingRow.{ListingRow}
+use Rattle.gix_odb_slots.specs.declared.on_disk_file.OnDiskFile.{OnDiskFile}
 use Rattle.gix_odb_core.specs.declared.shape.Shape.{Shape}
-use Rattle.gix_odb_core.specs.declared.slot.Filled.{Filled}
-use Rattle.gix_odb_core.specs.declared.slot.IndexFile.{IndexFile}
-use Rattle.gix_odb_core.specs.declared.slot.IndexFile.TheVariants.{Single, Multi}
+use Rattle.gix_odb_slots.specs.declared.slot.Filled.{Filled}
+use Rattle.gix_odb_slots.specs.declared.slot.IndexFile.{IndexFile}
+use Rattle.gix_odb_slots.specs.declared.slot.IndexFile.TheVariants.{Single, Multi}
 use Rattle.gix_odb_core.proofs.ShapeLaws.{opened_slots_are_empty}
-use Rattle.gix_odb_core.proofs.SlotLemmas.{holds-new}
+use Rattle.gix_odb_slots.proofs.SlotLemmas.{holds-new}
 use Rattle.gix_odb_core.proofs.SlotTurnLemmas.{CameFrom, entry_cases, filled_came_from}
 use Rattle.gix_odb_core.proofs.FileStepLemmas.{FileStep, FilledStep, IndexStep}
 

@@ -5,14 +5,14 @@ use Rattle.std.specs.List.{list_any, zip}
 use Rattle.std.proofs.lemmas.Bool.{le-ltb}
 use Rattle.std.proofs.lemmas.List.{take_all, take_more}
 use Rattle.std.proofs.lemmas.List.Elements.{All-push}
-use Rattle.gix_odb_core.proofs.SlotsAfterLemmas.{length-slots_after}
+use Rattle.gix_odb_slots.proofs.SlotsAfterLemmas.{length-slots_after}
 use Rattle.gix_odb_core.specs.Handles.{is_any_stable}
-use Rattle.gix_odb_core.specs.Publish.{free_places, list_after, new_rows, settled, slot_at, slots_after, with_taken}
-use Rattle.gix_odb_core.specs.Counts.{IsFewPacks}
-use Rattle.gix_odb_core.specs.Slots.{Slot, new_filled}
+use Rattle.gix_odb_slots.specs.Publish.{free_places, list_after, new_rows, settled, slot_at, slots_after, with_taken}
+use Rattle.gix_odb_slots.specs.Tally.{IsFewPacks}
+use Rattle.gix_odb_slots.specs.Slots.{Slot, new_filled}
 use Rattle.gix_odb_core.specs.Steps.{Outdated, TooFew, publishing, last_generation, last_state, settled_as, takes_over, with_room, would_overflow}
-use Rattle.gix_odb_core.specs.declared.listing.Listing.{Listing}
-use Rattle.gix_odb_core.specs.declared.listing.ListingRow.{ListingRow}
+use Rattle.gix_odb_slots.specs.declared.listing.Listing.{Listing}
+use Rattle.gix_odb_slots.specs.declared.listing.ListingRow.{ListingRow}
 use Rattle.gix_odb_core.specs.declared.shape.Shape.{Shape}
 
 -- ---- counters that can rise

@@ -4,29 +4,30 @@ use Rattle.std.proofs.Common.{get_or, replicate, set, Option, Some, None, is_som
 use Rattle.std.specs.List.{AllPass, filter_map}
 use Rattle.std.proofs.lemmas.List.Elements.{All-from_recursion, All-nil, recursion_from_All}
 use Rattle.gix_odb_core.specs.Handles.{is_any_stable}
-use Rattle.gix_odb_core.specs.OnDiskFile.{is_loaded, loaded}
+use Rattle.gix_odb_slots.specs.OnDiskFile.{is_loaded, loaded}
 use Rattle.gix_odb_core.specs.Possible.{IsOpened, IsPossible}
-use Rattle.gix_odb_core.specs.Publish.{slot_at}
+use Rattle.gix_odb_slots.specs.Publish.{slot_at}
 use Rattle.gix_odb_core.specs.Replay.{CanHappen, after_entry, replay}
-use Rattle.gix_odb_core.specs.Slots.{HasDifferentPaths, IsApart, Slot, new_filled, new_index, same_index, same_path}
-use Rattle.gix_odb_core.specs.Steps.{IsShape, after, is_read, opening_shape, shape_published, slot_passed, slot_with_index, slot_with_pack}
+use Rattle.gix_odb_slots.specs.Slots.{HasDifferentPaths, IsApart, Slot, new_filled, new_index, same_index, same_path}
+use Rattle.gix_odb_core.specs.Steps.{IsShape, after, is_read, opening_shape, shape_published}
+use Rattle.gix_odb_slots.specs.Files.{slot_passed, slot_with_index, slot_with_pack}
 use Rattle.gix_odb_core.specs.declared.event.Event.{Event}
 use Rattle.gix_odb_core.specs.declared.event.Event.TheVariants as event
 use Rattle.gix_odb_core.specs.declared.journal.Entry.{Entry}
-use Rattle.gix_odb_core.specs.declared.listing.Listing.{Listing}
-use Rattle.gix_odb_core.specs.declared.listing.ListingRow.{ListingRow}
-use Rattle.gix_odb_core.specs.declared.on_disk_file.FileState.{FileState}
-use Rattle.gix_odb_core.specs.declared.on_disk_file.FileState.TheVariants.{Unloaded, Loaded, Garbage, Missing}
+use Rattle.gix_odb_slots.specs.declared.listing.Listing.{Listing}
+use Rattle.gix_odb_slots.specs.declared.listing.ListingRow.{ListingRow}
+use Rattle.gix_odb_slots.specs.declared.on_disk_file.FileState.{FileState}
+use Rattle.gix_odb_slots.specs.declared.on_disk_file.FileState.TheVariants.{Unloaded, Loaded, Garbage, Missing}
 use Rattle.gix_odb_core.specs.declared.shape.Shape.{Shape}
-use Rattle.gix_odb_core.specs.declared.slot.Filled.{Filled}
-use Rattle.gix_odb_core.specs.declared.slot.IndexFile.{IndexFile}
-use Rattle.gix_odb_core.specs.declared.slot.IndexFile.TheVariants.{Single, Multi}
-use Rattle.gix_odb_core.proofs.ApartLaws.{publish_keeps_slots_apart}
-use Rattle.gix_odb_core.proofs.ApartLemmas.{apart_at, apart_from, each_at, each_from}
-use Rattle.gix_odb_core.proofs.PublishLaws.{listed_slots_are_filled}
-use Rattle.gix_odb_core.proofs.SameIndexLemmas.{same_filled, same_filled_flip}
+use Rattle.gix_odb_slots.specs.declared.slot.Filled.{Filled}
+use Rattle.gix_odb_slots.specs.declared.slot.IndexFile.{IndexFile}
+use Rattle.gix_odb_slots.specs.declared.slot.IndexFile.TheVariants.{Single, Multi}
+use Rattle.gix_odb_slots.proofs.ApartLaws.{publish_keeps_slots_apart}
+use Rattle.gix_odb_slots.proofs.ApartLemmas.{apart_at, apart_from, each_at, each_from}
+use Rattle.gix_odb_slots.proofs.PublishLaws.{listed_slots_are_filled}
+use Rattle.gix_odb_slots.proofs.SameIndexLemmas.{same_filled, same_filled_flip}
 use Rattle.gix_odb_core.proofs.SlotTurnLemmas.{CameFrom, SlotTurn, came_from, confirmed_list_is_the_same, entry_gives, publish_gives, publish_turns, set_turn, slots_by, stored_gives}
-use Rattle.gix_odb_core.proofs.SlotsAfterLemmas.{slot_at-get_or}
+use Rattle.gix_odb_slots.proofs.SlotsAfterLemmas.{slot_at-get_or}
 use Rattle.gix_odb_core.proofs.FileStepLemmas.{FilledStep, IndexStep, SlotStep, slot-passed, slot-same, slot-with_index, slot-with_pack}
 
 -- ---- what a step keeps of a slot

@@ -1,26 +1,26 @@
 -- Laws of what a view shows: each shown index is of a row that the journal published, and its bytes and those of its packs were put by entries.
 use Rattle.std.proofs.Common.{◌≡◌, ℕ, true, List, Option, Some, None, option_map, refl, subst}
 use Rattle.gix_pack_files.specs.FileBytes.{FileBytes}
-use Rattle.gix_odb_core.specs.Kept.{IsShown}
-use Rattle.gix_odb_core.specs.OnDiskFile.{loaded}
+use Rattle.gix_odb_core.specs.Views.{IsShown, view_of}
+use Rattle.gix_odb_slots.specs.OnDiskFile.{loaded}
 use Rattle.gix_odb_core.specs.Origins.{IsIndexTold, IsLoadedTold, IsMultiOf, IsShownTold, IsTold}
 use Rattle.gix_odb_core.specs.Possible.{IsOpened}
-use Rattle.gix_odb_core.specs.Publish.{slot_at}
+use Rattle.gix_odb_slots.specs.Publish.{slot_at}
 use Rattle.gix_odb_core.specs.Replay.{replay}
-use Rattle.gix_odb_core.specs.Slots.{index_path, is_index_of}
-use Rattle.gix_odb_core.specs.Views.{loaded_index, shown_slot, view_of}
+use Rattle.gix_odb_slots.specs.Slots.{index_path, is_index_of}
+use Rattle.gix_odb_slots.specs.Shown.{loaded_index, shown_slot}
 use Rattle.gix_odb_core.specs.declared.journal.Entry.{Entry}
-use Rattle.gix_odb_core.specs.declared.listing.ListingRow.{ListingRow}
+use Rattle.gix_odb_slots.specs.declared.listing.ListingRow.{ListingRow}
 use Rattle.gix_odb_core.specs.declared.shape.Shape.{Shape}
-use Rattle.gix_odb_core.specs.declared.slot.Filled.{Filled}
-use Rattle.gix_odb_core.specs.declared.slot.IndexFile.{IndexFile}
-use Rattle.gix_odb_core.specs.declared.slot.IndexFile.TheVariants.{Single, Multi}
-use Rattle.gix_odb_core.specs.declared.view.LoadedIndex.{LoadedIndex}
-use Rattle.gix_odb_core.specs.declared.view.LoadedIndex.TheVariants as shown
-use Rattle.gix_odb_core.specs.declared.view.SnapshotIndex.{SnapshotIndex}
+use Rattle.gix_odb_slots.specs.declared.slot.Filled.{Filled}
+use Rattle.gix_odb_slots.specs.declared.slot.IndexFile.{IndexFile}
+use Rattle.gix_odb_slots.specs.declared.slot.IndexFile.TheVariants.{Single, Multi}
+use Rattle.gix_odb_slots.specs.declared.loaded.LoadedIndex.{LoadedIndex}
+use Rattle.gix_odb_slots.specs.declared.loaded.LoadedIndex.TheVariants as shown
+use Rattle.gix_odb_slots.specs.declared.loaded.SnapshotIndex.{SnapshotIndex}
 use Rattle.gix_odb_core.proofs.OriginLaws.{journal_tells_each_slot}
 use Rattle.gix_odb_core.proofs.ShownLemmas.{shown_from}
-use Rattle.gix_odb_core.proofs.SlotLemmas.{holds_path}
+use Rattle.gix_odb_slots.proofs.SlotLemmas.{holds_path}
 
 module _ (entries : List Entry) (place : ℕ) (row : ListingRow) where
   loaded_told : (index : IndexFile) (time : ℕ) (l : LoadedIndex) → is_index_of row row.multi index time ≡ true → IsMultiOf row index → IsIndexTold entries place index → loaded_index index ≡ Some l

@@ -2,13 +2,13 @@
 use Rattle.std.proofs.Common.{Contains, ◌≡◌, ℕ, zero, suc, ◌+◌, Bool, true, false, cond, nat_eq, List, [], ◌∷◌, Option, Some, None, inl, inr, refl, sym, ap, subst, ◌∙◌, arith, eqb-true}
 use Rattle.std.specs.List.{cons_option, enumerate_from, filter_map}
 use Rattle.std.proofs.lemmas.Map.Views.{Contains-from_any}
-use Rattle.gix_odb_core.specs.Kept.{IsShown}
-use Rattle.gix_odb_core.specs.Publish.{slot_at}
-use Rattle.gix_odb_core.specs.Slots.{Slot}
-use Rattle.gix_odb_core.specs.Views.{is_listed, kept_at, shown_slot, view_of}
+use Rattle.gix_odb_core.specs.Views.{IsShown, view_of}
+use Rattle.gix_odb_slots.specs.Publish.{slot_at}
+use Rattle.gix_odb_slots.specs.Slots.{Slot}
+use Rattle.gix_odb_slots.specs.Shown.{is_listed, kept_at, shown_slot}
 use Rattle.gix_odb_core.specs.declared.shape.Shape.{Shape}
-use Rattle.gix_odb_core.specs.declared.slot.Filled.{Filled}
-use Rattle.gix_odb_core.specs.declared.view.SnapshotIndex.{SnapshotIndex}
+use Rattle.gix_odb_slots.specs.declared.slot.Filled.{Filled}
+use Rattle.gix_odb_slots.specs.declared.loaded.SnapshotIndex.{SnapshotIndex}
 
 -- ---- elements
 

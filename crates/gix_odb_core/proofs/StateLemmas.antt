@@ -6,7 +6,7 @@ use Rattle.gix_odb_core.proofs.CountableLemmas.{countable-after}
 use Rattle.gix_odb_core.proofs.ReplayLemmas.{newest-push, passed_in-push, refreshes_in-push}
 use Rattle.gix_odb_core.proofs.StepLemmas.{numbered-after}
 use Rattle.gix_odb_core.proofs.TurnLemmas.{after-turn, answer-turn, settled-handles, view_behind-turn}
-use Rattle.gix_odb_core.specs.Counts.{HasFewRows, IsCountable}
+use Rattle.gix_odb_core.specs.Countable.{HasFewRows, IsCountable}
 use Rattle.gix_odb_core.specs.Replay.{Answer, CanHappen, answer_of, is_refresh, number_behind, passed_by, passed_in, refreshes_in}
 use Rattle.gix_odb_core.specs.Shelf.{settled_by}
 use Rattle.gix_odb_core.specs.State.{IsKept, IsNextState, IsPlan, IsSameState, entered, entries_in, entry_of, newest, noted, removed, settled_with, view_behind}

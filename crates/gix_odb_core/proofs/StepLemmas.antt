@@ -3,11 +3,12 @@ use Rattle.std.proofs.Common.{◌≡◌, ℕ, ◌+◌, ◌≤◌, Bool, true, fa
 use Rattle.std.specs.Option.{IfSome}
 use Rattle.std.proofs.lemmas.List.{length-set}
 use Rattle.gix_odb_core.proofs.PublishingRule.{publishing_rule}
-use Rattle.gix_odb_core.proofs.SlotsAfterLemmas.{length-slots_after}
+use Rattle.gix_odb_slots.proofs.SlotsAfterLemmas.{length-slots_after}
 use Rattle.gix_odb_core.proofs.TurnLemmas.{after-turn}
 use Rattle.gix_odb_core.specs.Handles.{is_any_stable}
-use Rattle.gix_odb_core.specs.Publish.{slot_at}
-use Rattle.gix_odb_core.specs.Steps.{Publishing, after, last_state, shape_published, shape_stored, slot_passed, slot_with_index, slot_with_pack}
+use Rattle.gix_odb_slots.specs.Publish.{slot_at}
+use Rattle.gix_odb_core.specs.Steps.{Publishing, after, last_state, shape_published, shape_stored}
+use Rattle.gix_odb_slots.specs.Files.{slot_passed, slot_with_index, slot_with_pack}
 use Rattle.gix_odb_core.specs.declared.event.Event.{Event}
 use Rattle.gix_odb_core.specs.declared.event.Event.TheVariants as event
 use Rattle.gix_odb_core.specs.Shelf.{settled_by}
@@ -15,7 +16,7 @@ use Rattle.gix_odb_core.specs.Turn.{turn_of}
 use Rattle.gix_odb_core.specs.declared.journal.Entry.{Entry}
 use Rattle.gix_odb_core.specs.declared.shape.Shape.{Shape}
 use Rattle.gix_odb_core.specs.declared.shape.Shelf.{Shelf}
-use Rattle.gix_odb_core.specs.declared.slot.Filled.{Filled}
+use Rattle.gix_odb_slots.specs.declared.slot.Filled.{Filled}
 
 -- ---- the number of slots
 

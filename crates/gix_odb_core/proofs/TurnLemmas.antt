@@ -1,11 +1,12 @@
 -- What an event comes to is what it makes of a shape, and what it answers.
 use Rattle.std.proofs.Common.{◌≡◌, ℕ, ◌+◌, Bool, true, false, cond, ◌==◌, List, Option, Some, None, Ok, Err, refl, ◌∙◌, set}
 use Rattle.gix_odb_core.proofs.PublishingRule.{publishing_rule}
-use Rattle.gix_odb_core.specs.Publish.{slot_at}
+use Rattle.gix_odb_slots.specs.Publish.{slot_at}
 use Rattle.gix_odb_core.specs.Replay.{Answer, answer_of, publish_answer, put_answer}
 use Rattle.gix_odb_core.specs.Shelf.{settled_by, shelf_of}
 use Rattle.gix_odb_core.specs.State.{view_behind}
-use Rattle.gix_odb_core.specs.Steps.{Publishing, Outdated, TooFew, Overflows, Unchanged, Published, after, last_state, publishing, shape_published, shape_stored, slot_with_index, slot_with_pack}
+use Rattle.gix_odb_core.specs.Steps.{Publishing, Outdated, TooFew, Overflows, Unchanged, Published, after, last_state, publishing, shape_published, shape_stored}
+use Rattle.gix_odb_slots.specs.Files.{slot_with_index, slot_with_pack}
 use Rattle.gix_odb_core.specs.Turn.{answer_with, changes_to, handles_after, publish_turn, put_turn, quiet, turn_of}
 use Rattle.gix_odb_core.specs.Views.{view_of}
 use Rattle.gix_odb_core.specs.declared.event.Effect.TheVariants as effects
@@ -13,10 +14,10 @@ use Rattle.gix_odb_core.specs.declared.event.Event.{Event}
 use Rattle.gix_odb_core.specs.declared.event.Event.TheVariants as event
 use Rattle.gix_odb_core.specs.declared.event.Refusal.TheVariants as refusals
 use Rattle.gix_odb_core.specs.declared.journal.Entry.{Entry}
-use Rattle.gix_odb_core.specs.declared.listing.Listing.{Listing}
+use Rattle.gix_odb_slots.specs.declared.listing.Listing.{Listing}
 use Rattle.gix_odb_core.specs.declared.shape.Shape.{Shape}
 use Rattle.gix_odb_core.specs.declared.shape.Shelf.{Shelf}
-use Rattle.gix_odb_core.specs.declared.slot.Filled.{Filled}
+use Rattle.gix_odb_slots.specs.declared.slot.Filled.{Filled}
 use Rattle.gix_odb_core.specs.declared.turn.Told.TheVariants as told
 use Rattle.gix_odb_core.specs.declared.turn.Turn.{Turn}
 

@@ -1,11 +1,11 @@
 -- Why a core refuses an event.
 use Rattle.std.specs.Prelude.{◌≡◌, ℕ, ◌+◌, ◌<◌, ◌⊎◌, length}
 use Rattle.gix_odb_core.specs.Handles.{is_any_stable}
-use Rattle.gix_odb_core.specs.Publish.{free_places, new_rows}
+use Rattle.gix_odb_slots.specs.Publish.{free_places, new_rows}
 use Rattle.gix_odb_core.specs.Steps.{last_generation, last_state}
 use Rattle.gix_odb_core.specs.declared.event.Event.{Event}
 use Rattle.gix_odb_core.specs.declared.event.Event.TheVariants as event
-use Rattle.gix_odb_core.specs.declared.listing.Listing.{Listing}
+use Rattle.gix_odb_slots.specs.declared.listing.Listing.{Listing}
 use Rattle.gix_odb_core.specs.declared.shape.Shape.{Shape}
 
 -- the generation or the state number stands at its greatest value

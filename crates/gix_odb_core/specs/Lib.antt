@@ -1,8 +1,12 @@
-pub mod PackId
-pub mod OnDiskFile
-pub mod PackPath
-pub mod Slots
-pub mod Publish
+pub use Rattle.gix_odb_slots.specs.PackId
+pub use Rattle.gix_odb_slots.specs.OnDiskFile
+pub use Rattle.gix_odb_slots.specs.PackPath
+pub use Rattle.gix_odb_slots.specs.Slots
+pub use Rattle.gix_odb_slots.specs.Publish
+pub use Rattle.gix_odb_slots.specs.Files
+pub use Rattle.gix_odb_slots.specs.Shown
+pub use Rattle.gix_odb_slots.specs.Counts
+pub use Rattle.gix_odb_slots.specs.Kept
 pub mod Handles
 pub mod Views
 pub mod Metrics
@@ -10,7 +14,7 @@ pub mod Journal
 pub mod Steps
 pub mod Replay
 pub mod Shelf
-pub mod Counts
+pub mod Countable
 pub mod Turn
 pub mod State
 pub mod History
@@ -18,7 +22,6 @@ pub mod Core
 pub mod Causes
 pub mod Possible
 pub mod Origins
-pub mod Kept
 pub mod Numbers
 pub mod Listed
 pub mod Misses

@@ -1,13 +1,13 @@
 -- The rows of a listing in a shape and in a view, for laws of what a listing comes to.
 use Rattle.std.specs.Prelude.{◌≡◌, ◌⊎◌, ℕ, ◌<◌, true, List, get_or, length, Ok}
 use Rattle.std.specs.List.{Contains}
-use Rattle.gix_odb_core.specs.Publish.{slot_at}
+use Rattle.gix_odb_slots.specs.Publish.{slot_at}
 use Rattle.gix_odb_core.specs.Replay.{Answer}
-use Rattle.gix_odb_core.specs.Slots.{holds}
+use Rattle.gix_odb_slots.specs.Slots.{holds}
 use Rattle.gix_odb_core.specs.declared.event.Effect.TheVariants as effects
-use Rattle.gix_odb_core.specs.declared.listing.ListingRow.{ListingRow}
+use Rattle.gix_odb_slots.specs.declared.listing.ListingRow.{ListingRow}
 use Rattle.gix_odb_core.specs.declared.shape.Shape.{Shape}
-use Rattle.gix_odb_core.specs.declared.view.SnapshotIndex.{SnapshotIndex}
+use Rattle.gix_odb_slots.specs.declared.loaded.SnapshotIndex.{SnapshotIndex}
 use Rattle.gix_odb_core.specs.declared.view.View.{View}
 
 -- an answer says that a listing was published, or that it confirmed the list

@@ -3,22 +3,22 @@ use Rattle.std.specs.Prelude.{◌≡◌, ℕ, true, List, map, Some, None, Err}
 use Rattle.std.specs.List.{AllByRecursion, Contains}
 use Rattle.odb_base.specs.Path.{Path}
 use Rattle.gix_pack_files.specs.FileBytes.{FileBytes}
-use Rattle.gix_odb_core.specs.OnDiskFile.{loaded}
-use Rattle.gix_odb_core.specs.Slots.{PackFile, holds, new_packs}
+use Rattle.gix_odb_slots.specs.OnDiskFile.{loaded}
+use Rattle.gix_odb_slots.specs.Slots.{PackFile, holds, new_packs}
 use Rattle.gix_odb_core.specs.declared.event.Event.{Event}
 use Rattle.gix_odb_core.specs.declared.event.Event.TheVariants as event
 use Rattle.gix_odb_core.specs.declared.event.PassWhy.{PassWhy}
 use Rattle.gix_odb_core.specs.declared.event.Refusal.TheVariants as refusals
 use Rattle.gix_odb_core.specs.declared.journal.Entry.{Entry}
-use Rattle.gix_odb_core.specs.declared.listing.Listing.{Listing}
-use Rattle.gix_odb_core.specs.declared.listing.ListingRow.{ListingRow}
-use Rattle.gix_odb_core.specs.declared.pack_id.PackId.{PackId}
-use Rattle.gix_odb_core.specs.declared.slot.Filled.{Filled}
-use Rattle.gix_odb_core.specs.declared.slot.IndexFile.{IndexFile}
-use Rattle.gix_odb_core.specs.declared.slot.IndexFile.TheVariants.{Single, Multi}
-use Rattle.gix_odb_core.specs.declared.view.LoadedIndex.{LoadedIndex}
-use Rattle.gix_odb_core.specs.declared.view.LoadedIndex.TheVariants as shown
-use Rattle.gix_odb_core.specs.declared.view.SnapshotIndex.{SnapshotIndex}
+use Rattle.gix_odb_slots.specs.declared.listing.Listing.{Listing}
+use Rattle.gix_odb_slots.specs.declared.listing.ListingRow.{ListingRow}
+use Rattle.gix_odb_slots.specs.declared.pack_id.PackId.{PackId}
+use Rattle.gix_odb_slots.specs.declared.slot.Filled.{Filled}
+use Rattle.gix_odb_slots.specs.declared.slot.IndexFile.{IndexFile}
+use Rattle.gix_odb_slots.specs.declared.slot.IndexFile.TheVariants.{Single, Multi}
+use Rattle.gix_odb_slots.specs.declared.loaded.LoadedIndex.{LoadedIndex}
+use Rattle.gix_odb_slots.specs.declared.loaded.LoadedIndex.TheVariants as shown
+use Rattle.gix_odb_slots.specs.declared.loaded.SnapshotIndex.{SnapshotIndex}
 
 -- an event carries the bytes of an index at a path, for a slot
 abbrev pub PutsIndex : Event → ℕ → Path → FileBytes → Type 0

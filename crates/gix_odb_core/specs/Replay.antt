@@ -2,10 +2,12 @@
 use Rattle.std.specs.Prelude.{◌≡◌, ℕ, ◌+◌, ◌⊎◌, Bool, true, false, ◌==◌, List, [], ◌∷◌, length, map, min, take, slice_get, ◌++◌, filter, count_by, Option, Some, None, Result, Ok, Err, if◌then◌else◌}
 use Rattle.std.specs.List.{filter_map, last_or}
 use Rattle.gix_odb_core.specs.Handles.{IsRegistered, registered}
-use Rattle.gix_odb_core.specs.Metrics.{listed_in, listed_of, metrics_of}
-use Rattle.gix_odb_core.specs.Publish.{slot_at}
-use Rattle.gix_odb_core.specs.Slots.{HasDifferentPaths}
-use Rattle.gix_odb_core.specs.Steps.{Publishing, Outdated, TooFew, Overflows, Unchanged, Published, after, last_state, publishing, slot_with_index, slot_with_pack}
+use Rattle.gix_odb_slots.specs.Counts.{listed_in, listed_of}
+use Rattle.gix_odb_core.specs.Metrics.{metrics_of}
+use Rattle.gix_odb_slots.specs.Publish.{slot_at}
+use Rattle.gix_odb_slots.specs.Slots.{HasDifferentPaths}
+use Rattle.gix_odb_core.specs.Steps.{Publishing, Outdated, TooFew, Overflows, Unchanged, Published, after, last_state, publishing}
+use Rattle.gix_odb_slots.specs.Files.{slot_with_index, slot_with_pack}
 use Rattle.gix_odb_core.specs.Views.{view_of}
 use Rattle.gix_odb_core.specs.declared.event.Effect.{Effect}
 use Rattle.gix_odb_core.specs.declared.event.Effect.TheVariants as effects
@@ -17,7 +19,7 @@ use Rattle.gix_odb_core.specs.declared.journal.Entry.{Entry}
 use Rattle.gix_odb_core.specs.declared.metrics.Passed.{Passed}
 use Rattle.gix_odb_core.specs.declared.metrics.Report.{Report}
 use Rattle.gix_odb_core.specs.declared.shape.Shape.{Shape}
-use Rattle.gix_odb_core.specs.declared.slot.Filled.{Filled}
+use Rattle.gix_odb_slots.specs.declared.slot.Filled.{Filled}
 use Rattle.gix_odb_core.specs.declared.view.View.{View}
 
 abbrev pub Answer : Type 0

@@ -1,7 +1,7 @@
 -- The present state of a core beside its journal, and what each part of an event's work does to it. Of these words a public clause cites `newest` alone.
 use Rattle.std.specs.Prelude.{◌≡◌, ℕ, ◌+◌, ◌≤◌, ◌++◌, List, [], ◌∷◌, length, min, Option, Some, None, vec_capacity, if◌then◌else◌}
 use Rattle.std.specs.Option.{option_to_list}
-use Rattle.gix_odb_core.specs.Counts.{IsCountable}
+use Rattle.gix_odb_core.specs.Countable.{IsCountable}
 use Rattle.gix_odb_core.specs.Handles.{without_seat}
 use Rattle.gix_odb_core.specs.Replay.{Answer, answer_of, is_refresh, number_behind, passed_by, passed_in, refreshes_in}
 use Rattle.gix_odb_core.specs.Shelf.{settled_by, shown_of}

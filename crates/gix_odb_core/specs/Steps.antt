@@ -1,20 +1,19 @@
 -- What an event makes of a shape, and what it answers.
-pub mod Files
 use Rattle.std.specs.Prelude.{ℕ, ◌+◌, ◌-◌, Bool, true, false, ◌&&◌, ◌||◌, ◌==◌, not, List, [], length, replicate, ◌≤◌, Option, Some, None, is_some, nat_lt, slice_set, if◌then◌else◌}
 use Rattle.std.specs.List.{AllPass, filter_map, list_any}
 use Rattle.gix_odb_core.specs.Handles.{is_any_stable, with_seat, without_seat}
-use Rattle.gix_odb_core.specs.OnDiskFile.{is_loaded}
-use Rattle.gix_odb_core.specs.Publish.{free_places, list_after, new_rows, same_list, slot_at, slots_after, taken}
-use Rattle.gix_odb_core.specs.Slots.{IsApart, Slot}
+use Rattle.gix_odb_slots.specs.Files.{slot_passed, slot_with_index, slot_with_pack}
+use Rattle.gix_odb_slots.specs.OnDiskFile.{is_loaded}
+use Rattle.gix_odb_slots.specs.Publish.{free_places, list_after, new_rows, same_list, slot_at, slots_after, taken}
+use Rattle.gix_odb_slots.specs.Slots.{IsApart, Slot}
 use Rattle.gix_odb_core.specs.declared.event.Event.{Event}
 use Rattle.gix_odb_core.specs.declared.event.Event.TheVariants as event
-use Rattle.gix_odb_core.specs.declared.listing.Listing.{Listing}
-use Rattle.gix_odb_core.specs.declared.listing.ListingRow.{ListingRow}
+use Rattle.gix_odb_slots.specs.declared.listing.Listing.{Listing}
+use Rattle.gix_odb_slots.specs.declared.listing.ListingRow.{ListingRow}
 use Rattle.gix_odb_core.specs.declared.shape.Shape.{Shape}
-use Rattle.gix_odb_core.specs.declared.slot.Filled.{Filled}
-use Rattle.gix_odb_core.specs.declared.slot.IndexFile.{IndexFile}
-use Rattle.gix_odb_core.specs.declared.slot.IndexFile.TheVariants.{Single, Multi}
-pub use Rattle.gix_odb_core.specs.Steps.Files.{index_passed, index_with, passed_at, slot_passed, slot_with_index, slot_with_pack, stored_at, takes, with_index}
+use Rattle.gix_odb_slots.specs.declared.slot.Filled.{Filled}
+use Rattle.gix_odb_slots.specs.declared.slot.IndexFile.{IndexFile}
+use Rattle.gix_odb_slots.specs.declared.slot.IndexFile.TheVariants.{Single, Multi}
 
 -- the shape of a core that was just made: all slots are empty, and nothing was read
 abbrev pub opening_shape : ℕ → ℕ → ℕ → ℕ → Shape

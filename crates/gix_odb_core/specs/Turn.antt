@@ -1,10 +1,11 @@
 -- What an event comes to, apart from the handles and before the view that it hands over. No public clause cites this.
 use Rattle.std.specs.Prelude.{ℕ, ◌+◌, ◌==◌, true, false, List, length, Option, Some, None, Ok, Err, slice_set, if◌then◌else◌}
 use Rattle.gix_odb_core.specs.Handles.{Handles, with_seat, without_seat}
-use Rattle.gix_odb_core.specs.Publish.{slot_at}
+use Rattle.gix_odb_slots.specs.Publish.{slot_at}
 use Rattle.gix_odb_core.specs.Replay.{Answer, report_of}
 use Rattle.gix_odb_core.specs.Shelf.{shelf_of}
-use Rattle.gix_odb_core.specs.Steps.{Publishing, Outdated, TooFew, Overflows, Unchanged, Published, last_state, publishing, slot_passed, slot_with_index, slot_with_pack}
+use Rattle.gix_odb_core.specs.Steps.{Publishing, Outdated, TooFew, Overflows, Unchanged, Published, last_state, publishing}
+use Rattle.gix_odb_slots.specs.Files.{slot_passed, slot_with_index, slot_with_pack}
 use Rattle.gix_odb_core.specs.declared.event.Effect.TheVariants as effects
 use Rattle.gix_odb_core.specs.declared.event.Event.{Event}
 use Rattle.gix_odb_core.specs.declared.event.Event.TheVariants as event
@@ -12,7 +13,7 @@ use Rattle.gix_odb_core.specs.declared.event.Refusal.TheVariants as refusals
 use Rattle.gix_odb_core.specs.declared.journal.Entry.{Entry}
 use Rattle.gix_odb_core.specs.declared.shape.Shape.{Shape}
 use Rattle.gix_odb_core.specs.declared.shape.Shelf.{Shelf}
-use Rattle.gix_odb_core.specs.declared.slot.Filled.{Filled}
+use Rattle.gix_odb_slots.specs.declared.slot.Filled.{Filled}
 use Rattle.gix_odb_core.specs.declared.turn.Told.{Told}
 use Rattle.gix_odb_core.specs.declared.turn.Told.TheVariants as told
 use Rattle.gix_odb_core.specs.declared.turn.Turn.{Turn}

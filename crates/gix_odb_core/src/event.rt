@@ -2,10 +2,9 @@
 ghost use Rattle.std.specs.Prelude.{◌≡◌};
 ghost use Rattle.gix_odb_core.specs.declared.event.Refusal.TheVariants.{NoMemory as out_of_memory};
 
-use crate::listing::Listing;
 use crate::metrics::Report;
 use crate::view::View;
-use crate::{PackId, Shared};
+use gix_odb_slots::{Listing, PackId, Shared};
 use gix_pack::{data, index};
 use odb_base::{NoMemory, PathText};
 use thiserror::Error;

@@ -1,8 +1,13 @@
 //! What is counted of a core, and what it reports.
 ghost use Rattle.std.specs.Prelude.{◌≡◌, IfOk};
+ghost use Rattle.gix_odb_core.specs.Countable.{IsCountable};
+ghost use Rattle.gix_odb_core.specs.Metrics.{metrics_of};
 
 use crate::Shared;
 use crate::event::PassWhy;
+use crate::shape::Shape;
+use gix_odb_slots::ListedList;
+use gix_odb_slots::counts::{count_unused, disposable_tally, listed_tally};
 use odb_base::{NoMemory, PathText, Sequence};
 
 /// Counts over a core.
@@ -29,21 +34,6 @@ pub struct Metrics {
     /// How many folders there are.
     pub loose_dbs: usize,
 }
-
-/// A listed slot.
-#[derive(Drop)]
-pub struct Listed {
-    pub path: Shared<PathText>,
-    /// Whether it is a multi-pack index.
-    pub multi: bool,
-    /// Whether the index is loaded.
-    pub loaded: bool,
-    /// Whether one of its files is garbage or missing.
-    pub disposable: bool,
-}
-
-/// Listed slots, in the order of the list. A report that is handed over and its entry in the journal share them.
-pub type ListedList = Shared<Sequence<Listed>>;
 
 /// A file that was passed over.
 #[derive(Drop)]
@@ -75,5 +65,29 @@ impl Report {
             listed,
             passed_over,
         })
+    }
+}
+
+impl Shape {
+    /// The counts over a shape, where so many listings were published or confirmed the list.
+    pub(crate) fn metrics(&self, refreshes: usize) -> Metrics
+        requires countable { IsCountable self.now }
+        ensures metrics { result ≡ metrics_of self.now refreshes }
+    {
+        let slots = self.slots.as_slice();
+        let listed = listed_tally(slots, self.list.as_slice());
+        let disposable = disposable_tally(slots);
+        Metrics {
+            num_handles: self.handles.len(),
+            num_refreshes: refreshes,
+            open_reachable_indices: listed.open_indices,
+            known_reachable_indices: listed.indices,
+            open_reachable_packs: listed.open_packs,
+            known_packs: listed.packs,
+            unused_slots: count_unused(slots),
+            unreachable_indices: disposable.indices,
+            unreachable_packs: disposable.open_packs,
+            loose_dbs: self.folders,
+        }
     }
 }

@@ -1,20 +1,18 @@
 //! What a listing that is published comes to.
-ghost use Rattle.std.specs.Prelude.{◌≡◌, ◌≤◌, ◌<◌, true, false, All, IfOk, is_some, length, map, take, if◌then◌else◌};
-ghost use Rattle.std.specs.List.{list_any, zip};
+ghost use Rattle.std.specs.Prelude.{◌≡◌, ◌≤◌, ◌<◌, true, false, All, IfOk, length, if◌then◌else◌};
+ghost use Rattle.gix_odb_slots.specs.Publish.{free_places, new_rows, same_list};
+ghost use Rattle.gix_odb_slots.specs.Slots.{new_filled};
+ghost use Rattle.gix_odb_slots.specs.Tally.{IsFewPacks};
 ghost use Rattle.gix_odb_core.specs.Handles.{is_any_stable as any_stable};
-ghost use Rattle.gix_odb_core.specs.Publish.{free_places, new_rows, same_list, settled as settled_slot, slot_at, with_taken};
-ghost use Rattle.gix_odb_core.specs.Counts.{IsFewPacks};
 ghost use Rattle.gix_odb_core.specs.Shelf.{shelf_of};
-ghost use Rattle.gix_odb_core.specs.Slots.{new_filled};
 ghost use Rattle.gix_odb_core.specs.Steps.{is_confirmed, publishing, settled_as, with_list, with_room, would_overflow};
 ghost use Rattle.gix_odb_core.specs.Turn.{publish_turn};
 
 use crate::event::Refusal;
-use crate::listing::{Listing, ListingRow};
-use crate::publish::{all_settled, count_new, free_places, list_after, take};
 use crate::shape::{Shape, Shelf};
-use crate::slot::{Slot, SlotList};
 use crate::turn::{Told, Turn};
+use gix_odb_slots::publish::{count_new, free_places, list_after, slots_after, takes_over};
+use gix_odb_slots::{Listing, ListingRow, SlotList};
 use odb_base::{NoMemory, Sequence};
 use std::alloc::Global;
 
@@ -39,57 +37,11 @@ fn most_packs(rows: &[ListingRow]) -> u32
     most
 }
 
-/// Whether a slot holds something.
-fn is_filled(slots: &[Slot], place: usize) -> bool
-    ensures filled { result ≡ is_some (slot_at slots.now place) }
-{
-    match slots.get(place) {
-        Some(slot) => slot.is_some(),
-        None => false,
-    }
-}
-
-/// Whether one of these slots holds something.
-fn is_any_filled(slots: &[Slot], places: &[usize]) -> bool
-    ensures filled { result ≡ list_any (λ place. is_some (slot_at slots.now place)) places.now }
-{
-    for place in places {
-        if is_filled(slots, *place) {
-            return true;
-        }
-    }
-    false
-}
-
-/// Whether one of so many free slots, the first of them, holds something.
-fn takes_over(slots: &[Slot], free: &[usize], news: usize) -> bool
-    requires room { news ≤ length free.now }
-    ensures over { result ≡ list_any (λ place. is_some (slot_at slots.now place)) (take news free.now) }
-{
-    is_any_filled(slots, &free[..news])
-}
-
 /// By how much the generation rises.
 fn risen(renewed: bool) -> u32
     ensures risen { result ≡ (if renewed then 1 else 0) }
 {
     if renewed { 1 } else { 0 }
-}
-
-/// The slots after a listing that there is room for.
-fn slots_after(
-    alloc: Global,
-    stable: bool,
-    rows: &[ListingRow],
-    slots: &[Slot],
-    free: &[usize],
-) -> Result<SlotList, NoMemory>
-    requires within { All (λ place. place < length slots.now) free.now }
-    ensures slots { IfOk result (λ after. after ≡ with_taken (zip free.now (new_rows slots.now rows.now)) (map (settled_slot stable rows.now) slots.now)) }
-{
-    let mut after = all_settled(alloc, stable, rows, slots)?;
-    take(alloc, &mut after, free, rows, slots)?;
-    Ok(Sequence::from_vec(after))
 }
 
 impl Shape {

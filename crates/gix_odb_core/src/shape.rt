@@ -1,13 +1,14 @@
 //! The shape of a core: its slots, its list, its counters and its handles.
-ghost use Rattle.std.specs.Prelude.{◌≡◌, ◌≤◌, [], false, IfOk, length, replicate, slice_set};
+ghost use Rattle.std.specs.Prelude.{◌≡◌, ◌≤◌, [], false, IfOk, length, replicate};
 ghost use Rattle.gix_odb_core.specs.Shelf.{settled_by, shelf_of, shown_of, with_shelf, without_handles};
-ghost use Rattle.gix_odb_core.specs.Views.{shown_indices, shown_kept, shown_todo};
+ghost use Rattle.gix_odb_slots.specs.Shown.{shown_indices, shown_kept, shown_todo};
 
 use crate::Shared;
 use crate::handles::HandleTable;
-use crate::shown::{shown_indices, shown_kept, shown_todo};
-use crate::slot::{Slot, SlotList};
-use crate::view::{SlotIndexMarker, Snapshot, TodoList, View};
+use crate::view::{SlotIndexMarker, Snapshot, View};
+use gix_odb_slots::shown::{shown_indices, shown_kept, shown_todo};
+use gix_odb_slots::slots::empty_slots;
+use gix_odb_slots::{Slot, SlotList, TodoList};
 use odb_base::{NoMemory, Sequence};
 use std::alloc::Global;
 
@@ -40,17 +41,6 @@ pub(crate) struct Shelf {
     pub list_no: u64,
     pub generation: u32,
     pub state_id: u64,
-}
-
-/// So many empty slots.
-fn empty_slots(alloc: Global, count: u16) -> Result<SlotList, NoMemory>
-    ensures slots { IfOk result (λ slots. slots ≡ replicate count None) }
-{
-    let mut slots = SlotList::new(alloc);
-    for _place in 0..count {
-        slots.push(None)?;
-    }
-    Ok(slots)
 }
 
 impl Shelf {
@@ -135,43 +125,6 @@ fn copied(alloc: Global, list: &[u16]) -> Result<Sequence<u16>, NoMemory>
 {
     let items = list.to_vec(alloc)?;
     Ok(Sequence::from_vec(items))
-}
-
-/// A copy of a slot, which shares what it holds.
-fn copied_slot(slot: &Slot) -> Result<Slot, NoMemory>
-    ensures copy { IfOk result (λ copy. copy ≡ slot.now) }
-{
-    match slot {
-        None => Ok(None),
-        Some(filled) => Ok(Some(filled.try_clone()?)),
-    }
-}
-
-/// A copy of slots, which shares what they hold.
-fn copied_slots(alloc: Global, slots: &[Slot]) -> Result<Vec<Slot>, NoMemory>
-    ensures copy { IfOk result (λ copies. copies.items ≡ slots.now) }
-{
-    let mut copies = Vec::new(alloc);
-    for slot in slots {
-        copies.push(copied_slot(slot)?)?;
-    }
-    Ok(copies)
-}
-
-/// Slots with another one at a place. Beyond the slots there is none.
-pub(crate) fn slots_with(
-    alloc: Global,
-    slots: &[Slot],
-    place: usize,
-    slot: Slot,
-) -> Result<SlotList, NoMemory>
-    ensures slots { IfOk result (λ changed. changed ≡ slice_set slots.now place slot) }
-{
-    let mut copies = copied_slots(alloc, slots)?;
-    if place < copies.len() {
-        copies[place] = slot;
-    }
-    Ok(Sequence::from_vec(copies))
 }
 
 /// What slots and a list show, handed over with an entry.

@@ -1,6 +1,6 @@
 //! The present state of a core, beside its journal.
 ghost use Rattle.std.specs.Prelude.{◌≡◌, ◌+◌, ◌<◌, ◌≤◌, ◌++◌, ◌∷◌, [], IfOk, IfSome, OnOk, OnErr, length, vec_capacity, vec_len, if◌then◌else◌};
-ghost use Rattle.gix_odb_core.specs.Counts.{HasFewRows};
+ghost use Rattle.gix_odb_core.specs.Countable.{HasFewRows};
 ghost use Rattle.gix_odb_core.specs.Handles.{IsRegistered};
 ghost use Rattle.gix_odb_core.specs.Replay.{CanHappen, IsNeverRefused, is_refresh, number_behind, report_of};
 ghost use Rattle.gix_odb_core.specs.Steps.{opening_shape};
@@ -8,13 +8,13 @@ ghost use Rattle.gix_odb_core.specs.State.{IsKept, IsNextState, IsPlan, IsRoomFo
 ghost use Rattle.gix_odb_core.specs.Turn.{answer_with, turn_of};
 
 use crate::Shared;
-use crate::counts::listed;
 use crate::event::{Effect, Event, PassWhy, Refusal};
 use crate::journal::{Entry, Journal};
 use crate::metrics::{Passed, PassedList, Report};
 use crate::shape::{Shape, Shelf};
 use crate::turn::{Told, Turn, answer};
 use crate::view::View;
+use gix_odb_slots::report::listed;
 use odb_base::{NoMemory, PathText, Sequence};
 use std::alloc::Global;
 

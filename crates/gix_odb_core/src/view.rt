@@ -3,9 +3,8 @@ ghost use Rattle.std.specs.Prelude.{◌≡◌, IfOk};
 ghost use Rattle.gix_odb_core.specs.Views.{view_at};
 
 use crate::Shared;
-use crate::slot::PackFileList;
-use gix_pack::{index, multi_index};
-use odb_base::{NoMemory, PathText, Sequence};
+use gix_odb_slots::{LoadedList, TodoList};
+use odb_base::NoMemory;
 
 /// Which state of a core a snapshot shows.
 #[derive(Clone, Copy, Debug, Default, PartialEq, Eq)]
@@ -15,35 +14,6 @@ pub struct SlotIndexMarker {
     /// How many lists were published and files stored.
     pub state_id: u64,
 }
-
-/// An index that is loaded.
-#[derive(Drop)]
-pub enum LoadedIndex {
-    Single(Shared<index::File>),
-    Multi(Shared<multi_index::File>),
-}
-
-/// A loaded index with its packs.
-#[derive(Drop)]
-pub struct SnapshotIndex {
-    pub slot: u16,
-    pub path: Shared<PathText>,
-    pub index: LoadedIndex,
-    pub packs: Shared<PackFileList>,
-}
-
-/// Loaded indices, in the order in which they are asked.
-pub type LoadedList = Sequence<SnapshotIndex>;
-
-/// An index that is listed and not loaded.
-#[derive(Drop)]
-pub struct Todo {
-    pub slot: u16,
-    pub path: Shared<PathText>,
-}
-
-/// Indices that are listed and not loaded, in the order of the list.
-pub type TodoList = Sequence<Todo>;
 
 /// The loaded files at one moment.
 #[derive(Drop)]

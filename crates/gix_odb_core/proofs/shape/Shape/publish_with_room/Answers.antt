@@ -1,8 +1,8 @@
 use Rattle.std.proofs.Common.{◌≡◌, List, length, map, ap, ◌∙◌, arith}
 use Rattle.std.specs.List.{zip}
 use Rattle.gix_odb_core.proofs.RoomLemmas.{length-after, with_room-from}
-use Rattle.gix_odb_core.specs.Publish.{list_after, new_rows, settled, with_taken}
-use Rattle.gix_odb_core.specs.Slots.{Slot}
+use Rattle.gix_odb_slots.specs.Publish.{list_after, new_rows, settled, with_taken}
+use Rattle.gix_odb_slots.specs.Slots.{Slot}
 use Rattle.gix_odb_core.specs.Turn.{publish_turn}
 use Rattle.gix_odb_core.proofs.shape.Shape.publish_with_room.Goals as goal
 

@@ -1,6 +1,0 @@
-use Rattle.std.proofs.Common.{◌≡◌, map, take}
-use Rattle.gix_odb_core.specs.Publish.{settled}
-use Rattle.gix_odb_core.proofs.publish.all_settled.Given as goal
-
-abbrev pub invariant-loop-slot : goal.invariant-loop-slot
-invariant-loop-slot l = l.after.items ≡ map (settled l.stable l.rows) (take l.slot-index l.slots)

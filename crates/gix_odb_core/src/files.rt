@@ -1,0 +1,96 @@
+//! Files that were read, or passed over: what they come to.
+ghost use Rattle.std.specs.Prelude.{◌≡◌, ◌<◌, ◌+◌, IfOk, Some, slice_set};
+ghost use Rattle.gix_odb_slots.specs.Files.{slot_passed, slot_with_index, slot_with_pack};
+ghost use Rattle.gix_odb_slots.specs.Publish.{slot_at};
+ghost use Rattle.gix_odb_core.specs.Shelf.{shelf_of};
+ghost use Rattle.gix_odb_core.specs.Steps.{last_state};
+ghost use Rattle.gix_odb_core.specs.Turn.{changes_to, put_turn};
+ghost use Rattle.gix_odb_core.specs.declared.turn.Told.TheVariants as told;
+
+use crate::Shared;
+use crate::event::Refusal;
+use crate::shape::{Shape, Shelf};
+use crate::turn::{Told, Turn};
+use gix_odb_slots::Filled;
+use gix_odb_slots::pass::slot_passed;
+use gix_odb_slots::put::{slot_with_index, slot_with_pack};
+use gix_odb_slots::slots::slots_with;
+use gix_pack::{data, index};
+use odb_base::{NoMemory, PathText};
+use std::alloc::Global;
+
+impl Shape {
+    /// The slots, the list and the counters once a slot holds this.
+    fn shelf_with(&self, alloc: Global, place: usize, filled: Filled) -> Result<Shelf, NoMemory>
+        requires small { self.now.state_id < last_state }
+        ensures shelf { IfOk result (λ shelf. shelf ≡ record (shelf_of self.now) { slots = slice_set self.now.slots place (Some filled); state_id = self.now.state_id + 1 }) }
+    {
+        let slot = Some(Shared::new(alloc, filled)?);
+        let slots = slots_with(alloc, self.slots.as_slice(), place, slot)?;
+        let mut shelf = self.with_slots(alloc, slots)?;
+        shelf.state_id += 1;
+        Ok(shelf)
+    }
+
+    /// What a put comes to that gives a slot this to hold, if it is stored.
+    fn put(&self, alloc: Global, place: usize, filled: Option<Filled>) -> Result<Turn, NoMemory>
+        ensures turn { IfOk result (λ turn. turn ≡ put_turn self.now place filled) }
+    {
+        let Some(filled) = filled else {
+            return Ok(Turn::quiet(Told::Put { stored: false }));
+        };
+        if self.state_id == u64::MAX {
+            return Ok(Turn::quiet(Told::Refused(Refusal::GenerationOverflow)));
+        }
+        Ok(Turn {
+            shelf: Some(self.shelf_with(alloc, place, filled)?),
+            told: Told::Put { stored: true },
+        })
+    }
+
+    /// What it comes to that an index was read for a slot.
+    pub(crate) fn put_index(
+        &self,
+        alloc: Global,
+        place: usize,
+        path: &PathText,
+        read: &Shared<index::File>,
+    ) -> Result<Turn, NoMemory>
+        ensures turn { IfOk result (λ turn. turn ≡ put_turn self.now place (slot_with_index path.now read.now (slot_at self.now.slots place))) }
+    {
+        let filled = slot_with_index(path, read, self.slots.as_slice(), place)?;
+        self.put(alloc, place, filled)
+    }
+
+    /// What it comes to that a pack was read for a slot.
+    pub(crate) fn put_pack(
+        &self,
+        alloc: Global,
+        place: usize,
+        path: &PathText,
+        read: &Shared<data::File>,
+    ) -> Result<Turn, NoMemory>
+        ensures turn { IfOk result (λ turn. turn ≡ put_turn self.now place (slot_with_pack path.now read.now (slot_at self.now.slots place))) }
+    {
+        let filled = slot_with_pack(alloc, path, read, self.slots.as_slice(), place)?;
+        self.put(alloc, place, filled)
+    }
+
+    /// What it comes to that a file of a slot was passed over.
+    pub(crate) fn pass_over(
+        &self,
+        alloc: Global,
+        place: usize,
+        path: &PathText,
+    ) -> Result<Turn, NoMemory>
+        ensures turn { IfOk result (λ turn. turn ≡ changes_to (record (shelf_of self.now) { slots = slice_set self.now.slots place (slot_passed path.now (slot_at self.now.slots place)) }) told.Seen) }
+    {
+        let slots = self.slots.as_slice();
+        let slot = slot_passed(alloc, path, slots, place)?;
+        let slots = slots_with(alloc, slots, place, slot)?;
+        Ok(Turn {
+            shelf: Some(self.with_slots(alloc, slots)?),
+            told: Told::Seen,
+        })
+    }
+}

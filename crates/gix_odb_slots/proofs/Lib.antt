@@ -1,0 +1,21 @@
+-- Laws of publishing a listing, and lemmas on slots, that other crates may cite; and the lemmas of this crate.
+pub mod PublishLaws
+pub mod ApartLaws
+pub mod KeptFilesLaws
+pub mod DisposableLaws
+pub mod SlotLemmas
+pub mod SettledLemmas
+pub mod TakenLemmas
+pub mod SlotsAfterLemmas
+pub mod SameIndexLemmas
+pub mod ApartLemmas
+pub mod DistinctLemmas
+mod KeptFilesLemmas
+mod PublishLemmas
+mod PositionLemmas
+mod FilterMapLemmas
+mod LoopLemmas
+mod PackIdLemmas
+mod PackPathLemmas
+mod CountsLemmas
+mod SmallLemmas

@@ -1,0 +1,10 @@
+pub mod PackId
+pub mod OnDiskFile
+pub mod PackPath
+pub mod Slots
+pub mod Publish
+pub mod Files
+pub mod Shown
+pub mod Counts
+pub mod Tally
+pub mod Kept

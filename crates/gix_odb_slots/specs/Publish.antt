@@ -1,0 +1,71 @@
+-- What publishing a listing does to the slots and the list.
+use Rattle.std.specs.Prelude.{ℕ, ◌+◌, ◌-◌, Bool, true, ◌&&◌, not, List, [], ◌∷◌, ◌++◌, length, map, filter, Some, None, max, nat_eq, slice_get, slice_set, unwrap_or, if◌then◌else◌}
+use Rattle.std.specs.List.{list_any, filter_map, position, range_with_len, zip}
+use lib.Pointwise.{pointwise}
+use Rattle.gix_odb_slots.specs.Slots.{Slot, holds, new_filled, filled_put_back, filled_trashed}
+use Rattle.gix_odb_slots.specs.declared.listing.ListingRow.{ListingRow}
+
+-- ---- rows and slots
+
+-- whether a row is new: no slot holds it. The others are kept
+abbrev pub is_new : List Slot → ListingRow → Bool
+is_new slots row = not (list_any (holds row) slots)
+
+abbrev pub new_rows : List Slot → List ListingRow → List ListingRow
+new_rows slots rows = filter (is_new slots) rows
+
+-- whether a row keeps what a slot holds
+abbrev pub is_kept : List ListingRow → Slot → Bool
+is_kept rows slot = list_any (λ row. holds row slot) rows
+
+-- whether a slot is free: it is empty, or no handle is stable and no row keeps it
+abbrev pub is_free : Bool → List ListingRow → Slot → Bool
+is_free stable rows None = true
+is_free stable rows (Some filled) = not stable && not (is_kept rows (Some filled))
+
+-- what stands at a place; beyond the slots nothing does
+abbrev pub slot_at : List Slot → ℕ → Slot
+slot_at slots place = unwrap_or (slice_get slots place) None
+
+-- ---- which slot a new row takes
+
+-- the place after the greatest of a list, and 0 where it is empty
+abbrev pub place_after : List ℕ → ℕ
+place_after [] = 0
+place_after (place ∷ places) = max (place + 1) (place_after places)
+
+-- the places of so many slots, upwards from one of them, and round
+abbrev pub ring_from : ℕ → ℕ → List ℕ
+ring_from start count = range_with_len start (count - start) ++ range_with_len 0 (count - (count - start))
+
+-- the free slots, in the order in which they are taken
+abbrev pub free_places : Bool → List ListingRow → List Slot → List ℕ → List ℕ
+free_places stable rows slots list =
+    filter (λ place. is_free stable rows (slot_at slots place)) (ring_from (place_after list) (length slots))
+
+-- the k-th new row takes the k-th free slot
+abbrev pub taken : Bool → List ListingRow → List Slot → List ℕ → List (ℕ × ListingRow)
+taken stable rows slots list = zip (free_places stable rows slots list) (new_rows slots rows)
+
+-- ---- the slots and the list afterwards
+
+-- what is kept is put back; what isn't is trashed while a handle is stable, and else let go
+abbrev pub settled : Bool → List ListingRow → Slot → Slot
+settled stable rows None = None
+settled stable rows (Some filled) =
+    if is_kept rows (Some filled) then Some (filled_put_back filled) else (if stable then Some (filled_trashed filled) else None)
+
+-- each taken slot holds its row
+abbrev pub with_taken : List (ℕ × ListingRow) → List Slot → List Slot
+with_taken [] slots = slots
+with_taken (pair ∷ pairs) slots = with_taken pairs (slice_set slots pair.0 (Some (new_filled pair.1)))
+
+abbrev pub slots_after : Bool → List ListingRow → List Slot → List ℕ → List Slot
+slots_after stable rows slots list = with_taken (taken stable rows slots list) (map (settled stable rows) slots)
+
+-- the new list: for each row, the slot that holds it then
+abbrev pub list_after : List ListingRow → List Slot → List ℕ
+list_after rows slots = filter_map (λ row. position (holds row) slots) rows
+
+abbrev pub same_list : List ℕ → List ℕ → Bool
+same_list = pointwise nat_eq

@@ -1,0 +1,119 @@
+-- Slots: what each holds, and of which row of a listing it is.
+use Rattle.std.specs.Prelude.{◌≡◌, ℕ, Bool, false, ◌&&◌, ◌||◌, ◌==◌, List, [], ◌∷◌, map, Option, Some, None}
+use Rattle.std.specs.List.{AllZip, IsDistinct, filter_map, list_any}
+use lib.Pointwise.{pointwise}
+use Rattle.odb_base.specs.Path.{Path, same_name}
+use Rattle.gix_multi_index.specs.MultiIndex.{told}
+use Rattle.gix_pack_files.specs.FileBytes.{FileBytes}
+use Rattle.gix_odb_slots.specs.OnDiskFile.{file_at, is_disposable, loaded, put_back, trashed, with_state}
+use Rattle.gix_odb_slots.specs.PackPath.{folder_of, name_of, pack_in}
+use Rattle.gix_odb_slots.specs.declared.listing.ListingRow.{ListingRow}
+use Rattle.gix_odb_slots.specs.declared.on_disk_file.FileState.TheVariants.{Unloaded, Loaded}
+use Rattle.gix_odb_slots.specs.declared.on_disk_file.OnDiskFile.{OnDiskFile}
+use Rattle.gix_odb_slots.specs.declared.slot.Filled.{Filled}
+use Rattle.gix_odb_slots.specs.declared.slot.IndexFile.{IndexFile}
+use Rattle.gix_odb_slots.specs.declared.slot.IndexFile.TheVariants.{Single, Multi}
+
+-- a slot: nothing, or an index with its packs
+abbrev pub Slot : Type 0
+Slot = Option Filled
+
+-- a pack of a slot; contracts see a pack as its bytes and hash
+abbrev pub PackFile : Type 0
+PackFile = OnDiskFile FileBytes
+
+-- ---- of which row a slot is
+
+abbrev pub index_path : IndexFile → Path
+index_path (Single file) = file.path
+index_path (Multi file) = file.path
+
+abbrev pub same_path : Path → Path → Bool
+same_path = pointwise same_name
+
+-- no two rows have one path
+abbrev pub HasDifferentPaths : List ListingRow → Type 0
+HasDifferentPaths rows = IsDistinct same_path (map (λ row. row.path) rows)
+
+-- whether an index is a row's: it has its path and is of its kind, single or multi, and a multi-index has its time
+abbrev pub is_index_of : ListingRow → Option (List ℕ) → IndexFile → ℕ → Bool
+is_index_of row None (Single file) time = same_path file.path row.path
+is_index_of row (Some multi) (Multi file) time = same_path file.path row.path && time == row.time
+is_index_of row None (Multi file) time = false
+is_index_of row (Some multi) (Single file) time = false
+
+abbrev pub holds : ListingRow → Slot → Bool
+holds row None = false
+holds row (Some filled) = is_index_of row row.multi filled.index filled.time
+
+-- ---- what a slot holds that a new row takes
+
+-- a single index is still to be read, a multi-index was read by the listing
+abbrev pub new_index : Path → Option (List ℕ) → IndexFile
+new_index path None = Single (file_at path Unloaded)
+new_index path (Some multi) = Multi (file_at path (Loaded multi))
+
+abbrev pub new_pack : Path → List ℕ → PackFile
+new_pack folder name = file_at (pack_in folder name) Unloaded
+
+-- one pack beside a single index, and one for each name of a multi-index
+abbrev pub new_packs : Path → Option (List ℕ) → List PackFile
+new_packs path None = new_pack (folder_of path) (name_of path) ∷ []
+new_packs path (Some multi) = map (new_pack (folder_of path)) (told multi).names
+
+abbrev pub new_filled : ListingRow → Filled
+new_filled row = record { index = new_index row.path row.multi; time = row.time; packs = new_packs row.path row.multi }
+
+-- ---- what becomes of a slot that no new row takes
+
+abbrev pub index_put_back : IndexFile → IndexFile
+index_put_back (Single file) = Single (with_state put_back file)
+index_put_back (Multi file) = Multi (with_state put_back file)
+
+abbrev pub index_trashed : IndexFile → IndexFile
+index_trashed (Single file) = Single (with_state trashed file)
+index_trashed (Multi file) = Multi (with_state trashed file)
+
+abbrev pub filled_put_back : Filled → Filled
+filled_put_back filled = record { index = index_put_back filled.index; time = filled.time; packs = map (with_state put_back) filled.packs }
+
+abbrev pub filled_trashed : Filled → Filled
+filled_trashed filled = record { index = index_trashed filled.index; time = filled.time; packs = map (with_state trashed) filled.packs }
+
+-- ---- slots that differ
+
+-- whether two indices are one: the same path as the same kind, and of multi-indices the same time
+abbrev pub same_index : IndexFile → ℕ → IndexFile → ℕ → Bool
+same_index (Single one) time (Single other) later = same_path one.path other.path
+same_index (Multi one) time (Multi other) later = same_path one.path other.path && time == later
+same_index one time other later = false
+
+-- no two slots hold the same single index, or the same multi-index of one time
+abbrev pub IsApart : List Slot → Type 0
+IsApart slots = IsDistinct (λ one other. same_index one.index one.time other.index other.time) (filter_map (λ slot. slot) slots)
+
+-- ---- what is kept of a slot, and what no listing wants of it
+
+-- a file of the same path, of which the same bytes were read. It may have become garbage, or no longer be
+pub record KeepsFile {A : Type 0} (before after : OnDiskFile A) : Type 0 where
+  pub path : after.path ≡ before.path
+  pub bytes : loaded after.state ≡ loaded before.state
+
+abbrev pub KeepsIndex : IndexFile → IndexFile → Type 0
+KeepsIndex (Single before) (Single after) = KeepsFile before after
+KeepsIndex (Multi before) (Multi after) = KeepsFile before after
+KeepsIndex before after = ⊥
+
+-- the same index of the same time with the same packs, and what was read of them
+pub record KeepsFiles (before after : Filled) : Type 0 where
+  pub index : KeepsIndex before.index after.index
+  pub time : after.time ≡ before.time
+  pub packs : AllZip KeepsFile before.packs after.packs
+
+abbrev pub is_index_disposable : IndexFile → Bool
+is_index_disposable (Single file) = is_disposable file.state
+is_index_disposable (Multi file) = is_disposable file.state
+
+-- whether one of the files is garbage or missing
+abbrev pub has_disposable : Filled → Bool
+has_disposable filled = is_index_disposable filled.index || list_any (λ pack. is_disposable pack.state) filled.packs

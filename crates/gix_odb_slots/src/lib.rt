@@ -1,0 +1,33 @@
+//! The slots of a store's core: what each holds, what listings and files make of them, and what is shown and counted of them.
+//!
+//! A slot holds an index or a multi-pack index, and a file for each of its packs. Nothing here knows of handles, events or
+//! counters: `gix_odb_core` does. Read `slot` first, then `publish`, `put` and `shown`.
+//! ```rust
+//! let free = free_places(alloc, false, rows, slots, list)?;
+//! let after = slots_after(alloc, false, rows, slots, &free)?;
+//! let list = list_after(alloc, rows, after.as_slice())?;
+//! ```
+#![tactic(auto)]
+
+pub mod counts;
+mod listing;
+mod loaded;
+mod on_disk_file;
+mod pack_id;
+mod pack_path;
+pub mod pass;
+pub mod publish;
+pub mod put;
+pub mod report;
+mod shared;
+pub mod shown;
+mod slot;
+pub mod slots;
+
+pub use listing::{Listing, ListingRow, ListingRowList};
+pub use loaded::{LoadedIndex, LoadedList, SnapshotIndex, Todo, TodoList};
+pub use on_disk_file::{FileState, OnDiskFile};
+pub use pack_id::{IndexId, PackId};
+pub use report::{Listed, ListedList};
+pub use shared::Shared;
+pub use slot::{Filled, IndexFile, PackFile, PackFileList, Slot, SlotList};

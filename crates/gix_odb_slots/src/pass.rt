@@ -1,0 +1,79 @@
+//! Files that were passed over: they are missing where none was loaded.
+ghost use Rattle.std.specs.Prelude.{◌≡◌, IfOk, map};
+ghost use Rattle.gix_odb_slots.specs.OnDiskFile.{file_path, file_state, file_at, passed};
+ghost use Rattle.gix_odb_slots.specs.Publish.{slot_at};
+ghost use Rattle.gix_odb_slots.specs.Files.{index_passed, passed_at, slot_passed};
+
+use crate::on_disk_file::FileState;
+use crate::slot::{Filled, IndexFile, PackFile, PackFileList, Slot};
+use crate::{OnDiskFile, Shared};
+use odb_base::{NoMemory, PathText};
+use std::alloc::Global;
+
+/// A copy of a file, which is missing where it has this path and isn't loaded.
+fn passed_at<F: Drop>(
+    path: &PathText,
+    file: &OnDiskFile<Shared<F>>,
+) -> Result<OnDiskFile<Shared<F>>, NoMemory>
+    ensures file { IfOk result (λ copy. copy ≡ passed_at path.now file.now) }
+{
+    if *file.path() == *path && !file.is_loaded() {
+        return Ok(OnDiskFile::new(file.shared_path()?, FileState::Missing));
+    }
+    file.try_clone()
+}
+
+/// A copy of an index, which is missing where it has this path and isn't loaded.
+fn index_passed(path: &PathText, index: &IndexFile) -> Result<IndexFile, NoMemory>
+    ensures index { IfOk result (λ copy. copy ≡ index_passed path.now index.now) }
+{
+    match index {
+        IndexFile::Single(file) => Ok(IndexFile::Single(passed_at(path, file)?)),
+        IndexFile::Multi(file) => Ok(IndexFile::Multi(passed_at(path, file)?)),
+    }
+}
+
+/// Copies of packs, each missing where it has this path and isn't loaded.
+fn packs_passed(
+    alloc: Global,
+    path: &PathText,
+    packs: &[PackFile],
+) -> Result<PackFileList, NoMemory>
+    ensures packs { IfOk result (λ copies. copies ≡ map (passed_at path.now) packs.now) }
+{
+    let mut copies = PackFileList::new(alloc);
+    for pack in packs {
+        copies.push(passed_at(path, pack)?)?;
+    }
+    Ok(copies)
+}
+
+fn filled_passed(alloc: Global, path: &PathText, filled: &Filled) -> Result<Filled, NoMemory>
+    ensures filled { IfOk result (λ copy. copy ≡ record filled.now { index = index_passed path.now filled.now.index; packs = map (passed_at path.now) filled.now.packs }) }
+{
+    let packs = packs_passed(alloc, path, filled.packs.value().as_slice())?;
+    let index = index_passed(path, &filled.index)?;
+    Ok(Filled {
+        index,
+        time: filled.time,
+        packs: Shared::new(alloc, packs)?,
+    })
+}
+
+/// What becomes of the slot at a place, once the file of a path was passed over. Beyond the slots there is nothing.
+pub fn slot_passed(
+    alloc: Global,
+    path: &PathText,
+    slots: &[Slot],
+    place: usize,
+) -> Result<Slot, NoMemory>
+    ensures slot { IfOk result (λ slot. slot ≡ slot_passed path.now (slot_at slots.now place)) }
+{
+    match slots.get(place) {
+        Some(Some(filled)) => {
+            let passed = filled_passed(alloc, path, filled.value())?;
+            Ok(Some(Shared::new(alloc, passed)?))
+        }
+        _ => Ok(None),
+    }
+}
