@@ -1,9 +1,9 @@
 -- The state of a core that was just made.
-use Rattle.std.proofs.Common.{◌≡◌, ℕ, zero, suc, ◌≤◌, false, List, [], length, replicate, None, sym, ap, subst, ◌∙◌, arith}
+use Rattle.std.proofs.Common.{◌≡◌, ℕ, ◌≤◌, false, All, List, [], length, replicate, None, sym, ap, subst, ◌∙◌, arith}
 use Rattle.std.proofs.lemmas.List.{length-replicate}
+use Rattle.std.proofs.lemmas.List.Elements.{All-replicate}
 use Rattle.gix_odb_slots.specs.Tally.{HasFewPacks}
 use Rattle.gix_odb_core.specs.Countable.{IsCountable}
-use Rattle.gix_odb_slots.specs.Publish.{slot_at}
 use Rattle.gix_odb_core.specs.Replay.{passed_in, refreshes_in}
 use Rattle.gix_odb_core.specs.Shelf.{shown_of, without_handles}
 use Rattle.gix_odb_slots.specs.Slots.{Slot}
@@ -15,10 +15,8 @@ use Rattle.gix_odb_core.specs.declared.shape.Shape.{Shape}
 use Rattle.gix_odb_core.specs.declared.shape.Shelf.{Shelf}
 use Rattle.gix_odb_core.specs.declared.state.State.{State}
 
-few-empty : (n place : ℕ) → HasFewPacks (slot_at (replicate n None) place)
-few-empty zero place = tt
-few-empty (suc n) zero = tt
-few-empty (suc n) (suc place) = few-empty n place
+few-empty : (n : ℕ) → All HasFewPacks (replicate n None)
+few-empty n = All-replicate HasFewPacks n None tt
 
 opening_countable : (slots folders generation state : ℕ) → slots ≤ 32767 → IsCountable (opening_shape slots folders generation state)
 opening_countable slots folders generation state few =

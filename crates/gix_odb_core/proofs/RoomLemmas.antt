@@ -1,15 +1,12 @@
 -- A listing that there is room for, and the counters that rise with it.
-use Rattle.std.proofs.Common.{◌≡◌, ◌≢◌, ℕ, ◌+◌, ◌-◌, ◌<◌, ◌≤◌, ◌^◌, Bool, true, false, cond, not, ◌==◌, ◌||◌, ◌&&◌, nat_lt, All}
-use Rattle.std.proofs.Common.{List, [], ◌∷◌, length, get_or, map, take, refl, sym, ap, subst, ◌∙◌, is_some, arith, eq-eqb}
+use Rattle.std.proofs.Common.{◌≡◌, ◌≢◌, ℕ, ◌+◌, ◌-◌, ◌<◌, ◌≤◌, ◌^◌, Bool, true, false, cond, not, ◌==◌, ◌||◌, ◌&&◌, nat_lt}
+use Rattle.std.proofs.Common.{List, [], ◌∷◌, length, map, take, refl, sym, ap, ◌∙◌, is_some, arith, eq-eqb}
 use Rattle.std.specs.List.{list_any, zip}
 use Rattle.std.proofs.lemmas.Bool.{le-ltb}
-use Rattle.std.proofs.lemmas.List.{take_all, take_more}
-use Rattle.std.proofs.lemmas.List.Elements.{All-push}
 use Rattle.gix_odb_slots.proofs.SlotsAfterLemmas.{length-slots_after}
 use Rattle.gix_odb_core.specs.Handles.{is_any_stable}
 use Rattle.gix_odb_slots.specs.Publish.{free_places, list_after, new_rows, settled, slot_at, slots_after, with_taken}
-use Rattle.gix_odb_slots.specs.Tally.{IsFewPacks}
-use Rattle.gix_odb_slots.specs.Slots.{Slot, new_filled}
+use Rattle.gix_odb_slots.specs.Slots.{Slot}
 use Rattle.gix_odb_core.specs.Steps.{Outdated, TooFew, publishing, last_generation, last_state, settled_as, takes_over, with_room, would_overflow}
 use Rattle.gix_odb_slots.specs.declared.listing.Listing.{Listing}
 use Rattle.gix_odb_slots.specs.declared.listing.ListingRow.{ListingRow}
@@ -82,15 +79,3 @@ publishing-roomy shape listing base room =
     let news = length (new_rows shape.slots listing.rows) in
     ap (λ (b : Bool). cond b (TooFew (news - free)) (with_room shape listing.rows)) (sym (le-ltb free news room))
     ∙ ap (λ (b : Bool). cond (not b) Outdated (cond (nat_lt free news) (TooFew (news - free)) (with_room shape listing.rows))) (sym (eq-eqb listing.base shape.list_no base))
-
--- ---- a row more has few packs
-
-pub few_rows-step : (rows : List ListingRow) (i : ℕ) (row : ListingRow) (n : ℕ) → i < length rows → row ≡ get_or rows i row → n ≡ length (new_filled row).packs → n < 4294967296
-    → All (λ r. IsFewPacks (new_filled r)) (take i rows) → All (λ r. IsFewPacks (new_filled r)) (take (i + 1) rows)
-few_rows-step rows i row n within is count small so_far =
-    let one : IsFewPacks (new_filled row) = omega (arith, count, small) in
-    subst (All (λ (r : ListingRow). IsFewPacks (new_filled r))) (sym (take_more rows i row within))
-    (All-push (λ (r : ListingRow). IsFewPacks (new_filled r)) (take i rows) (get_or rows i row) so_far (subst (λ (r : ListingRow). IsFewPacks (new_filled r)) is one))
-
-pub few_rows-end : (rows : List ListingRow) (i : ℕ) → length rows ≤ i → All (λ r. IsFewPacks (new_filled r)) (take i rows) → All (λ r. IsFewPacks (new_filled r)) rows
-few_rows-end rows i past so_far = subst (All (λ (r : ListingRow). IsFewPacks (new_filled r))) (take_all i rows past) so_far

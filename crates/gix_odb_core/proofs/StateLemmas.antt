@@ -6,7 +6,7 @@ use Rattle.gix_odb_core.proofs.CountableLemmas.{countable-after}
 use Rattle.gix_odb_core.proofs.ReplayLemmas.{newest-push, passed_in-push, refreshes_in-push}
 use Rattle.gix_odb_core.proofs.StepLemmas.{numbered-after}
 use Rattle.gix_odb_core.proofs.TurnLemmas.{after-turn, answer-turn, settled-handles, view_behind-turn}
-use Rattle.gix_odb_core.specs.Countable.{HasFewRows, IsCountable}
+use Rattle.gix_odb_core.specs.Countable.{IsCountable, LeavesFewPacks}
 use Rattle.gix_odb_core.specs.Replay.{Answer, CanHappen, answer_of, is_refresh, number_behind, passed_by, passed_in, refreshes_in}
 use Rattle.gix_odb_core.specs.Shelf.{settled_by}
 use Rattle.gix_odb_core.specs.State.{IsKept, IsNextState, IsPlan, IsSameState, entered, entries_in, entry_of, newest, noted, removed, settled_with, view_behind}
@@ -24,8 +24,8 @@ use Rattle.gix_odb_core.specs.declared.state.State.{State}
 use Rattle.gix_odb_core.specs.declared.view.View.{View}
 
 -- what holds of a state whose parts are those of the state before and an event
-module _ (old now : State) (seat : ℕ) (happens : Event) (given : Answer) (kept : IsKept old) (can : CanHappen old.shape seat happens) (few : HasFewRows happens)
-    (shape : now.shape ≡ after old.shape seat happens)
+module _ (old now : State) (seat : ℕ) (happens : Event) (given : Answer) (kept : IsKept old) (can : CanHappen old.shape seat happens)
+    (leaves : LeavesFewPacks happens (turn_of (entries_in old) old.shape happens).shelf) (shape : now.shape ≡ after old.shape seat happens)
     (view : now.view ≡ view_of (after old.shape seat happens) (number_behind (entries_in old)))
     (passed : now.passed ≡ old.passed ++ option_to_list (passed_by happens))
     (refreshes : now.refreshes ≡ old.refreshes + cond (is_refresh given) 1 0)
@@ -42,12 +42,12 @@ module _ (old now : State) (seat : ℕ) (happens : Event) (given : Answer) (kept
           counted = refreshes ∙ ap (λ (n : ℕ). n + cond (is_refresh given) 1 0) kept.counted
               ∙ sym (refreshes_in-push (entries_in old) (entry_of (entries_in old) seat happens given)) ∙ ap refreshes_in (sym entries);
           numbered = subst (λ (s : Shape). s.list_no ≤ s.state_id) (sym shape) (numbered-after old.shape seat happens kept.numbered);
-          countable = subst IsCountable (sym shape) (countable-after old.shape seat happens can few kept.countable);
+          countable = subst IsCountable (sym shape) (countable-after (entries_in old) old.shape seat happens can leaves kept.countable);
           room = omega (arith, room, ap (length {A = Entry}) entries, length-append (entries_in old) (entry_of (entries_in old) seat happens given ∷ []));
         }
 
 -- an event that isn't a removal: prepared, and then settled
-module _ (old ready now : State) (seat : ℕ) (happens : Event) (plan : Plan) (kept : IsKept old) (can : CanHappen old.shape seat happens) (few : HasFewRows happens)
+module _ (old ready now : State) (seat : ℕ) (happens : Event) (plan : Plan) (kept : IsKept old) (can : CanHappen old.shape seat happens) (leaves : LeavesFewPacks happens plan.shelf)
     (plans : IsPlan old.view (turn_of (entries_in old) old.shape happens) (number_behind (entries_in old)) plan)
     (prepared : ready ≡ entered (noted old seat happens) ready.journal)
     (same : entries_in ready ≡ entries_in old)
@@ -80,7 +80,7 @@ module _ (old ready now : State) (seat : ℕ) (happens : Event) (plan : Plan) (k
           answer = plans.given ∙ answered;
           entries = entries;
           kept =
-              kept-after old now seat happens plan.given kept can few settled-shape (ap State.view settled ∙ plans.view ∙ behind)
+              kept-after old now seat happens plan.given kept can (subst (LeavesFewPacks happens) plans.shelf leaves) settled-shape (ap State.view settled ∙ plans.view ∙ behind)
               (ap State.passed settled ∙ ap State.passed prepared)
               (ap State.refreshes settled ∙ ap (λ (s : State). s.refreshes + cond (is_refresh plan.kept) 1 0) prepared ∙ ap (λ (a : Answer). old.refreshes + cond (is_refresh a) 1 0) alike)
               entries

@@ -1,13 +1,15 @@
 -- What an event comes to is what it makes of a shape, and what it answers.
-use Rattle.std.proofs.Common.{◌≡◌, ℕ, ◌+◌, Bool, true, false, cond, ◌==◌, List, Option, Some, None, Ok, Err, refl, ◌∙◌, set}
+use Rattle.std.proofs.Common.{◌≡◌, ℕ, ◌+◌, Bool, true, false, cond, ◌==◌, List, Option, Some, None, Ok, Err, refl, sym, ap, ◌∙◌, set}
+use Rattle.odb_base.specs.Path.{Path}
+use Rattle.gix_odb_slots.proofs.PassLemmas.{slots-same}
 use Rattle.gix_odb_core.proofs.PublishingRule.{publishing_rule}
 use Rattle.gix_odb_slots.specs.Publish.{slot_at}
 use Rattle.gix_odb_core.specs.Replay.{Answer, answer_of, publish_answer, put_answer}
 use Rattle.gix_odb_core.specs.Shelf.{settled_by, shelf_of}
 use Rattle.gix_odb_core.specs.State.{view_behind}
 use Rattle.gix_odb_core.specs.Steps.{Publishing, Outdated, TooFew, Overflows, Unchanged, Published, after, last_state, publishing, shape_published, shape_stored}
-use Rattle.gix_odb_slots.specs.Files.{slot_with_index, slot_with_pack}
-use Rattle.gix_odb_core.specs.Turn.{answer_with, changes_to, handles_after, publish_turn, put_turn, quiet, turn_of}
+use Rattle.gix_odb_slots.specs.Files.{slot_passed, slot_turns_missing, slot_with_index, slot_with_pack}
+use Rattle.gix_odb_core.specs.Turn.{answer_with, changes_to, handles_after, pass_turn, publish_turn, put_turn, quiet, turn_of}
 use Rattle.gix_odb_core.specs.Views.{view_of}
 use Rattle.gix_odb_core.specs.declared.event.Effect.TheVariants as effects
 use Rattle.gix_odb_core.specs.declared.event.Event.{Event}
@@ -20,6 +22,8 @@ use Rattle.gix_odb_core.specs.declared.shape.Shelf.{Shelf}
 use Rattle.gix_odb_slots.specs.declared.slot.Filled.{Filled}
 use Rattle.gix_odb_core.specs.declared.turn.Told.TheVariants as told
 use Rattle.gix_odb_core.specs.declared.turn.Turn.{Turn}
+use Rattle.gix_odb_slots.specs.Slots.{Slot}
+use Rattle.gix_odb_core.specs.declared.view.View.{View}
 
 -- ---- a file that is stored
 
@@ -40,6 +44,28 @@ put_turn-answer shape now slot number (Some filled) = by (shape.state_id == last
     by : (b : Bool) → ◌≡◌ {A = Answer} (cond b (Err refusals.GenerationOverflow) (Ok (effects.Put (view_of now number) true)))
         (answer_with (Turn.told (cond b (quiet (told.Refused refusals.GenerationOverflow))
         (changes_to (record (shelf_of shape) { slots = set shape.slots slot (Some filled); state_id = shape.state_id + 1 }) (told.Put true)))) (view_of now number))
+    by true = refl
+    by false = refl
+
+-- ---- a file that is passed over
+
+pass_turn-after : (shape : Shape) (slot : ℕ) (path : Path)
+    → ◌≡◌ {A = Shape} (settled_by shape (pass_turn shape slot path).shelf) (record shape { slots = set shape.slots slot (slot_passed path (slot_at shape.slots slot)) })
+pass_turn-after shape slot path = by (slot_turns_missing path (slot_at shape.slots slot)) refl
+  where
+    now : List Slot
+    now = set shape.slots slot (slot_passed path (slot_at shape.slots slot))
+
+    by : (b : Bool) → slot_turns_missing path (slot_at shape.slots slot) ≡ b
+        → ◌≡◌ {A = Shape} (settled_by shape (Turn.shelf (cond b (changes_to (record (shelf_of shape) { slots = now }) told.Seen) (quiet told.Seen)))) (record shape { slots = now })
+    by true is = refl
+    by false is = ap (λ (slots : List Slot). record shape { slots = slots }) (sym (slots-same path shape.slots slot is))
+
+pass_turn-answer : (shape : Shape) (slot : ℕ) (path : Path) (view : View) → ◌≡◌ {A = Answer} (Ok (effects.Seen view)) (answer_with (pass_turn shape slot path).told view)
+pass_turn-answer shape slot path view = by (slot_turns_missing path (slot_at shape.slots slot))
+  where
+    by : (b : Bool) → ◌≡◌ {A = Answer} (Ok (effects.Seen view))
+        (answer_with (Turn.told (cond b (changes_to (record (shelf_of shape) { slots = set shape.slots slot (slot_passed path (slot_at shape.slots slot)) }) told.Seen) (quiet told.Seen))) view)
     by true = refl
     by false = refl
 
@@ -84,7 +110,7 @@ after-turn entries shape seat event.Look = refl
 after-turn entries shape seat event.Report = refl
 after-turn entries shape seat (event.PutIndex slot path file) = put_keeps shape slot (slot_with_index path file (slot_at shape.slots slot))
 after-turn entries shape seat (event.PutPack pack path file) = put_keeps shape pack.index (slot_with_pack path file (slot_at shape.slots pack.index))
-after-turn entries shape seat (event.PassOver slot path why) = refl
+after-turn entries shape seat (event.PassOver slot path why) = kept-settled shape (pass_turn shape slot path).shelf ∙ pass_turn-after shape slot path
 after-turn entries shape seat (event.Publish listing) = kept-settled shape (publish_turn shape (publishing shape listing)).shelf ∙ publish_turn-after shape listing
 
 pub answer-turn : (entries : List Entry) (shape : Shape) (number seat : ℕ) (happens : Event)
@@ -98,7 +124,7 @@ answer-turn entries shape number seat (event.PutIndex slot path file) =
     put_turn-answer shape (after shape seat (event.PutIndex slot path file)) slot number (slot_with_index path file (slot_at shape.slots slot))
 answer-turn entries shape number seat (event.PutPack pack path file) =
     put_turn-answer shape (after shape seat (event.PutPack pack path file)) pack.index number (slot_with_pack path file (slot_at shape.slots pack.index))
-answer-turn entries shape number seat (event.PassOver slot path why) = refl
+answer-turn entries shape number seat (event.PassOver slot path why) = pass_turn-answer shape slot path (view_of (after shape seat (event.PassOver slot path why)) number)
 answer-turn entries shape number seat (event.Publish listing) = publish_turn-answer shape number (publishing shape listing)
 
 -- what is shown behind a turn is what the shape shows then

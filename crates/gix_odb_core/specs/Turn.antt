@@ -1,11 +1,12 @@
 -- What an event comes to, apart from the handles and before the view that it hands over. No public clause cites this.
 use Rattle.std.specs.Prelude.{ℕ, ◌+◌, ◌==◌, true, false, List, length, Option, Some, None, Ok, Err, slice_set, if◌then◌else◌}
+use Rattle.odb_base.specs.Path.{Path}
 use Rattle.gix_odb_core.specs.Handles.{Handles, with_seat, without_seat}
 use Rattle.gix_odb_slots.specs.Publish.{slot_at}
 use Rattle.gix_odb_core.specs.Replay.{Answer, report_of}
 use Rattle.gix_odb_core.specs.Shelf.{shelf_of}
 use Rattle.gix_odb_core.specs.Steps.{Publishing, Outdated, TooFew, Overflows, Unchanged, Published, last_state, publishing}
-use Rattle.gix_odb_slots.specs.Files.{slot_passed, slot_with_index, slot_with_pack}
+use Rattle.gix_odb_slots.specs.Files.{slot_passed, slot_turns_missing, slot_with_index, slot_with_pack}
 use Rattle.gix_odb_core.specs.declared.event.Effect.TheVariants as effects
 use Rattle.gix_odb_core.specs.declared.event.Event.{Event}
 use Rattle.gix_odb_core.specs.declared.event.Event.TheVariants as event
@@ -51,6 +52,13 @@ put_turn shape slot (Some filled) =
     if shape.state_id == last_state then quiet (told.Refused refusals.GenerationOverflow)
     else changes_to (record (shelf_of shape) { slots = slice_set shape.slots slot (Some filled); state_id = shape.state_id + 1 }) (told.Put true)
 
+-- a file that is passed over changes the slots where it turns missing, and else nothing
+abbrev pub pass_turn : Shape → (slot : ℕ) → Path → Turn
+pass_turn shape slot path =
+    if slot_turns_missing path (slot_at shape.slots slot)
+    then changes_to (record (shelf_of shape) { slots = slice_set shape.slots slot (slot_passed path (slot_at shape.slots slot)) }) told.Seen
+    else quiet told.Seen
+
 abbrev pub publish_turn : Shape → Publishing → Turn
 publish_turn shape Outdated = quiet (told.Outdated shape.list_no)
 publish_turn shape (TooFew needed) = quiet (told.Refused (refusals.InsufficientSlots (length shape.slots) needed))
@@ -66,6 +74,5 @@ turn_of entries shape event.Look = quiet told.Seen
 turn_of entries shape event.Report = quiet (told.Reported (report_of shape entries))
 turn_of entries shape (event.PutIndex slot path file) = put_turn shape slot (slot_with_index path file (slot_at shape.slots slot))
 turn_of entries shape (event.PutPack pack path file) = put_turn shape pack.index (slot_with_pack path file (slot_at shape.slots pack.index))
-turn_of entries shape (event.PassOver slot path why) =
-    changes_to (record (shelf_of shape) { slots = slice_set shape.slots slot (slot_passed path (slot_at shape.slots slot)) }) told.Seen
+turn_of entries shape (event.PassOver slot path why) = pass_turn shape slot path
 turn_of entries shape (event.Publish listing) = publish_turn shape (publishing shape listing)

@@ -1,18 +1,17 @@
 //! Files that were read, or passed over: what they come to.
 ghost use Rattle.std.specs.Prelude.{◌≡◌, ◌<◌, ◌+◌, IfOk, Some, slice_set};
-ghost use Rattle.gix_odb_slots.specs.Files.{slot_passed, slot_with_index, slot_with_pack};
+ghost use Rattle.gix_odb_slots.specs.Files.{slot_with_index, slot_with_pack};
 ghost use Rattle.gix_odb_slots.specs.Publish.{slot_at};
 ghost use Rattle.gix_odb_core.specs.Shelf.{shelf_of};
 ghost use Rattle.gix_odb_core.specs.Steps.{last_state};
-ghost use Rattle.gix_odb_core.specs.Turn.{changes_to, put_turn};
-ghost use Rattle.gix_odb_core.specs.declared.turn.Told.TheVariants as told;
+ghost use Rattle.gix_odb_core.specs.Turn.{pass_turn, put_turn};
 
 use crate::Shared;
 use crate::event::Refusal;
 use crate::shape::{Shape, Shelf};
 use crate::turn::{Told, Turn};
 use gix_odb_slots::Filled;
-use gix_odb_slots::pass::slot_passed;
+use gix_odb_slots::pass::{slot_passed, slot_turns_missing};
 use gix_odb_slots::put::{slot_with_index, slot_with_pack};
 use gix_odb_slots::slots::slots_with;
 use gix_pack::{data, index};
@@ -76,16 +75,19 @@ impl Shape {
         self.put(alloc, place, filled)
     }
 
-    /// What it comes to that a file of a slot was passed over.
+    /// What it comes to that a file of a slot was passed over. Where none turns missing, nothing is copied.
     pub(crate) fn pass_over(
         &self,
         alloc: Global,
         place: usize,
         path: &PathText,
     ) -> Result<Turn, NoMemory>
-        ensures turn { IfOk result (λ turn. turn ≡ changes_to (record (shelf_of self.now) { slots = slice_set self.now.slots place (slot_passed path.now (slot_at self.now.slots place)) }) told.Seen) }
+        ensures turn { IfOk result (λ turn. turn ≡ pass_turn self.now place path.now) }
     {
         let slots = self.slots.as_slice();
+        if !slot_turns_missing(path, slots, place) {
+            return Ok(Turn::quiet(Told::Seen));
+        }
         let slot = slot_passed(alloc, path, slots, place)?;
         let slots = slots_with(alloc, slots, place, slot)?;
         Ok(Turn {

@@ -1,8 +1,8 @@
 //! What a listing that is published comes to.
 ghost use Rattle.std.specs.Prelude.{◌≡◌, ◌≤◌, ◌<◌, true, false, All, IfOk, length, if◌then◌else◌};
 ghost use Rattle.gix_odb_slots.specs.Publish.{free_places, new_rows, same_list};
-ghost use Rattle.gix_odb_slots.specs.Slots.{new_filled};
-ghost use Rattle.gix_odb_slots.specs.Tally.{IsFewPacks};
+ghost use Rattle.std.specs.Option.{IfSome};
+ghost use Rattle.gix_odb_slots.specs.Tally.{HasFewPacks};
 ghost use Rattle.gix_odb_core.specs.Handles.{is_any_stable as any_stable};
 ghost use Rattle.gix_odb_core.specs.Shelf.{shelf_of};
 ghost use Rattle.gix_odb_core.specs.Steps.{is_confirmed, publishing, settled_as, with_list, with_room, would_overflow};
@@ -15,27 +15,6 @@ use gix_odb_slots::publish::{count_new, free_places, list_after, slots_after, ta
 use gix_odb_slots::{Listing, ListingRow, SlotList};
 use odb_base::{NoMemory, Sequence};
 use std::alloc::Global;
-
-/// How many packs a slot has that a row takes: one, or as many as its multi-pack index names.
-fn count_packs(row: &ListingRow) -> u32
-    ensures packs { result ≡ length (new_filled row.now).packs }
-{
-    match &row.multi {
-        None => 1,
-        Some(file) => file.value().num_indices(),
-    }
-}
-
-/// The most packs of a row. It is a number of 32 bits, on which the counts over a core rest.
-fn most_packs(rows: &[ListingRow]) -> u32
-    ensures few { All (λ row. IsFewPacks (new_filled row)) rows.now }
-{
-    let mut most = 0;
-    for row in rows {
-        most = count_packs(row).max(most);
-    }
-    most
-}
 
 /// By how much the generation rises.
 fn risen(renewed: bool) -> u32
@@ -102,6 +81,7 @@ impl Shape {
     ) -> Turn
         requires numbered { self.now.list_no ≤ self.now.state_id }
         ensures turn { result ≡ publish_turn self.now (settled_as self.now rows.now slots list renewed) }
+        ensures leaves { IfSome result.shelf (λ shelf. shelf.slots ≡ slots) }
     {
         let confirmed = self.is_confirmed(rows, &list);
         if self.would_overflow(confirmed, renewed) {
@@ -136,7 +116,9 @@ impl Shape {
         requires within { All (λ place. place < length self.now.slots) free.now }
         requires news { length (new_rows self.now.slots rows.now) ≡ news }
         requires room { news ≤ length free.now }
+        requires packs { All HasFewPacks self.now.slots }
         ensures turn { IfOk result (λ turn. turn ≡ publish_turn self.now (with_room self.now rows.now)) }
+        ensures few_packs { IfOk result (λ turn. IfSome turn.shelf (λ shelf. All HasFewPacks shelf.slots)) }
     {
         let slots = self.slots.as_slice();
         let renewed = takes_over(slots, free, news);
@@ -149,11 +131,10 @@ impl Shape {
     pub(crate) fn publish(&self, alloc: Global, listing: &Listing) -> Result<Turn, NoMemory>
         requires few { length self.now.slots ≤ 32767 }
         requires numbered { self.now.list_no ≤ self.now.state_id }
+        requires packs { All HasFewPacks self.now.slots }
         ensures turn { IfOk result (λ turn. turn ≡ publish_turn self.now (publishing self.now listing.now)) }
-        ensures few_packs { All (λ row. IsFewPacks (new_filled row)) listing.now.rows }
+        ensures few_packs { IfOk result (λ turn. IfSome turn.shelf (λ shelf. All HasFewPacks shelf.slots)) }
     {
-        // That a number of 32 bits tells how many packs a row has is known once it is read.
-        let _most = most_packs(listing.rows.as_slice());
         if listing.base != self.list_no {
             return Ok(Turn::quiet(Told::Outdated {
                 list_no: self.list_no,

@@ -1,6 +1,6 @@
 //! The present state of a core, beside its journal.
 ghost use Rattle.std.specs.Prelude.{◌≡◌, ◌+◌, ◌<◌, ◌≤◌, ◌++◌, ◌∷◌, [], IfOk, IfSome, OnOk, OnErr, length, vec_capacity, vec_len, if◌then◌else◌};
-ghost use Rattle.gix_odb_core.specs.Countable.{HasFewRows};
+ghost use Rattle.gix_odb_core.specs.Countable.{LeavesFewPacks};
 ghost use Rattle.gix_odb_core.specs.Handles.{IsRegistered};
 ghost use Rattle.gix_odb_core.specs.Replay.{CanHappen, IsNeverRefused, is_refresh, number_behind, report_of};
 ghost use Rattle.gix_odb_core.specs.Steps.{opening_shape};
@@ -14,7 +14,7 @@ use crate::metrics::{Passed, PassedList, Report};
 use crate::shape::{Shape, Shelf};
 use crate::turn::{Told, Turn, answer};
 use crate::view::View;
-use gix_odb_slots::report::listed;
+use gix_odb_slots::report::report_listed;
 use odb_base::{NoMemory, PathText, Sequence};
 use std::alloc::Global;
 
@@ -198,7 +198,7 @@ impl State {
         requires kept { IsKept self.now }
         ensures report { IfOk result (λ report. report ≡ report_of self.now.shape self.now.journal.entries.items) }
     {
-        let listed = listed(
+        let listed = report_listed(
             alloc,
             self.shape.slots.as_slice(),
             self.shape.list.as_slice(),
@@ -215,7 +215,7 @@ impl State {
     fn turn(&self, alloc: Global, event: &Event) -> Result<Turn, NoMemory>
         requires kept { IsKept self.now }
         ensures turn { IfOk result (λ turn. turn ≡ turn_of self.now.journal.entries.items self.now.shape event.now) }
-        ensures few_packs { IfOk result (λ _. HasFewRows event.now) }
+        ensures few_packs { IfOk result (λ turn. LeavesFewPacks event.now turn.shelf) }
     {
         match event {
             Event::Register { .. } | Event::Upgrade | Event::Look => Ok(Turn::quiet(Told::Seen)),
@@ -277,7 +277,7 @@ impl State {
     fn plan(&self, alloc: Global, event: &Event) -> Result<Plan, NoMemory>
         requires kept { IsKept self.now }
         ensures plan { IfOk result (λ plan. IsPlan self.now.view (turn_of self.now.journal.entries.items self.now.shape event.now) (number_behind self.now.journal.entries.items) plan) }
-        ensures few_packs { OnOk result (HasFewRows event.now) }
+        ensures few_packs { IfOk result (λ plan. LeavesFewPacks event.now plan.shelf) }
     {
         let turn = self.turn(alloc, event)?;
         planned(alloc, &self.view, turn, self.next_number())
@@ -313,7 +313,7 @@ impl State {
         requires stays { ¬ (event.now ≡ Event.Remove) }
         requires can_happen { CanHappen self.old.shape seat event.now }
         ensures plan { IfOk result (λ plan. IsPlan self.old.view (turn_of self.old.journal.entries.items self.old.shape event.now) (number_behind self.old.journal.entries.items) plan) }
-        ensures few_packs { OnOk result (HasFewRows event.now) }
+        ensures few_packs { IfOk result (λ plan. LeavesFewPacks event.now plan.shelf) }
         ensures noted { OnOk result (self.new ≡ entered (noted self.old seat event.now) self.new.journal) }
         ensures kept { OnErr result (self.new ≡ entered self.old self.new.journal) }
         ensures entries { self.new.journal.entries.items ≡ self.old.journal.entries.items }

@@ -10,11 +10,14 @@ pub mod SlotsAfterLemmas
 pub mod SameIndexLemmas
 pub mod ApartLemmas
 pub mod DistinctLemmas
+pub mod FewPacksLemmas
+pub mod PassLemmas
 mod KeptFilesLemmas
 mod PublishLemmas
 mod PositionLemmas
 mod FilterMapLemmas
 mod LoopLemmas
+mod MarkLemmas
 mod PackIdLemmas
 mod PackPathLemmas
 mod CountsLemmas

@@ -118,3 +118,8 @@ take_one-first row (place ∷ left) after new filled some wanted is =
     ap (λ (f : Filled). set after place (Some f)) is
     ∙ ap (λ (l : List (ℕ × ListingRow)). with_taken l (set after place (Some (new_filled row)))) (sym (nothing left))
     ∙ ap (λ (b : Bool). with_taken (zip (place ∷ left) (cond b (row ∷ []) [])) after) (sym wanted)
+
+-- a row that isn't new takes none
+pub take_one-old : (row : ListingRow) (left : List ℕ) (after : List Slot) (new : Bool) → new ≡ false → after ≡ with_taken (zip left (cond new (row ∷ []) [])) after
+take_one-old row left after new old =
+    ap (λ (l : List (ℕ × ListingRow)). with_taken l after) (sym (nothing left)) ∙ ap (λ (b : Bool). with_taken (zip left (cond b (row ∷ []) [])) after) (sym old)

@@ -1,6 +1,7 @@
 -- The counts over few slots with few packs each are numbers of 64 bits.
-use Rattle.std.proofs.Common.{◌≡◌, ℕ, zero, suc, ◌+◌, ◌*◌, ◌≤◌, Bool, true, false, cond, List, [], ◌∷◌, length, Some, None, arith}
+use Rattle.std.proofs.Common.{◌≡◌, ℕ, zero, suc, ◌+◌, ◌*◌, ◌≤◌, Bool, true, false, cond, All, List, [], ◌∷◌, length, Some, None, arith}
 use Rattle.std.proofs.lemmas.List.Sums.{count_by-le-length}
+use Rattle.gix_odb_slots.proofs.FewPacksLemmas.{each_few}
 use Rattle.gix_odb_slots.specs.Tally.{HasFewPacks, IsSmall, no_tally, with_disposable, with_filled, with_places, with_slot}
 use Rattle.gix_odb_slots.specs.Counts.{disposable_slot, is_index_loaded}
 use Rattle.gix_odb_slots.specs.OnDiskFile.{is_loaded}
@@ -74,8 +75,8 @@ over_small n tally few over = record {
   open_packs = omega (arith, over.open_packs);
 }
 
-pub listed_small : (slots : List Slot) (list : List ℕ) → ((place : ℕ) → HasFewPacks (slot_at slots place)) → length list ≤ 32767 → IsSmall (with_places slots no_tally list)
-listed_small slots list packs short = over_small (0 + length list) (with_places slots no_tally list) (omega (arith, short)) (over-places slots 0 no_tally list packs none)
+pub listed_small : (slots : List Slot) (list : List ℕ) → All HasFewPacks slots → length list ≤ 32767 → IsSmall (with_places slots no_tally list)
+listed_small slots list packs short = over_small (0 + length list) (with_places slots no_tally list) (omega (arith, short)) (over-places slots 0 no_tally list (each_few slots packs) none)
 
-pub disposable_small : (slots : List Slot) → ((place : ℕ) → HasFewPacks (slot_at slots place)) → length slots ≤ 32767 → IsSmall (with_disposable no_tally slots)
-disposable_small slots packs few = over_small (0 + length slots) (with_disposable no_tally slots) (omega (arith, few)) (over-disposable 0 no_tally slots packs none)
+pub disposable_small : (slots : List Slot) → All HasFewPacks slots → length slots ≤ 32767 → IsSmall (with_disposable no_tally slots)
+disposable_small slots packs few = over_small (0 + length slots) (with_disposable no_tally slots) (omega (arith, few)) (over-disposable 0 no_tally slots (each_few slots packs) none)

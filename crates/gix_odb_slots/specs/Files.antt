@@ -1,9 +1,9 @@
 -- What becomes of the files of a slot that were read, or passed over.
-use Rattle.std.specs.Prelude.{Bool, ◌&&◌, not, map, Option, Some, None, if◌then◌else◌}
+use Rattle.std.specs.Prelude.{Bool, false, ◌&&◌, ◌||◌, not, map, Option, Some, None, if◌then◌else◌}
 use Rattle.std.specs.List.{list_any}
 use Rattle.odb_base.specs.Path.{Path}
 use Rattle.gix_pack_files.specs.FileBytes.{FileBytes}
-use Rattle.gix_odb_slots.specs.OnDiskFile.{file_at, is_loaded, passed, stored, with_state}
+use Rattle.gix_odb_slots.specs.OnDiskFile.{file_at, is_loaded, is_unloaded, passed, stored, with_state}
 use Rattle.gix_odb_slots.specs.Slots.{Slot, same_path}
 use Rattle.gix_odb_slots.specs.declared.on_disk_file.FileState.TheVariants.{Loaded}
 use Rattle.gix_odb_slots.specs.declared.on_disk_file.OnDiskFile.{OnDiskFile}
@@ -39,6 +39,19 @@ slot_with_pack path bytes None = None
 slot_with_pack path bytes (Some filled) = if list_any (takes path) filled.packs then Some (record filled { packs = map (stored_at path bytes) filled.packs }) else None
 
 -- ---- files that were passed over
+
+-- whether a file turns missing once this path is passed over: it stands there, and is still to be read
+abbrev pub turns_missing : {A : Type 0} → Path → OnDiskFile A → Bool
+turns_missing path file = same_path file.path path && is_unloaded file.state
+
+abbrev pub index_turns_missing : Path → IndexFile → Bool
+index_turns_missing path (Single file) = turns_missing path file
+index_turns_missing path (Multi file) = turns_missing path file
+
+-- whether one of the files of a slot does
+abbrev pub slot_turns_missing : Path → Slot → Bool
+slot_turns_missing path None = false
+slot_turns_missing path (Some filled) = index_turns_missing path filled.index || list_any (turns_missing path) filled.packs
 
 -- an unloaded file at this path is missing
 abbrev pub passed_at : {A : Type 0} → Path → OnDiskFile A → OnDiskFile A

@@ -35,6 +35,13 @@ module _ {A : Type 0} where
   is_disposable (Garbage file) = true
   is_disposable Missing = true
 
+  -- it is still to be read, and could be as far as is known
+  abbrev pub is_unloaded : FileState A → Bool
+  is_unloaded Unloaded = true
+  is_unloaded (Loaded file) = false
+  is_unloaded (Garbage file) = false
+  is_unloaded Missing = false
+
   -- a listing has the file again
   abbrev pub put_back : FileState A → FileState A
   put_back Unloaded = Unloaded

@@ -1,5 +1,5 @@
 -- What is shown of slots: the loaded files of the listed ones, those of the others, and what is still to be loaded.
-use Rattle.std.specs.Prelude.{ℕ, Bool, List, Option, Some, None, option_map, if◌then◌else◌, nat_eq}
+use Rattle.std.specs.Prelude.{ℕ, Bool, false, List, get_or, Option, Some, None, option_map, if◌then◌else◌, nat_eq}
 use Rattle.std.specs.List.{filter_map, list_any, enumerate_from}
 use Rattle.gix_odb_slots.specs.OnDiskFile.{loaded}
 use Rattle.gix_odb_slots.specs.Publish.{slot_at}
@@ -46,6 +46,13 @@ kept_at list at = if is_listed list at.0 then None else shown_slot at.0 at.1
 -- those of the filled slots that aren't listed, in the order of the slots
 abbrev pub shown_kept : List Slot → List ℕ → List SnapshotIndex
 shown_kept slots list = filter_map (kept_at list) (enumerate_from 0 slots)
+
+-- the same by marks of the listed places. No public clause cites these two
+abbrev pub unmarked_at : List Bool → ℕ × Slot → Option SnapshotIndex
+unmarked_at marks at = if get_or marks at.0 false then None else shown_slot at.0 at.1
+
+abbrev pub kept_unmarked : List Bool → List Slot → List SnapshotIndex
+kept_unmarked marks slots = filter_map (unmarked_at marks) (enumerate_from 0 slots)
 
 -- what is still to be loaded of the listed slots, in the order of the list
 abbrev pub shown_todo : List Slot → List ℕ → List Todo

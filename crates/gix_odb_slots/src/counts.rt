@@ -1,5 +1,5 @@
 //! Counts over slots.
-ghost use Rattle.std.specs.Prelude.{◌≡◌, ◌≤◌, ℕ, is_none, length, count_by};
+ghost use Rattle.std.specs.Prelude.{◌≡◌, ◌≤◌, All, is_none, length, count_by};
 ghost use Rattle.std.specs.List.{list_any};
 ghost use Rattle.gix_odb_slots.specs.Counts.{disposable_in, disposable_slot, is_index_loaded, is_multi, listed_in, loaded_packs};
 ghost use Rattle.gix_odb_slots.specs.OnDiskFile.{is_disposable};
@@ -138,7 +138,7 @@ const NO_TALLY: Tally = Tally {
 
 /// Counts over the listed slots. A slot that is listed twice counts twice.
 pub fn listed_tally(slots: &[Slot], list: &[u16]) -> Tally
-    requires packs { (place : ℕ) → HasFewPacks (slot_at slots.now place) }
+    requires packs { All HasFewPacks slots.now }
     requires short { length list.now ≤ 32767 }
     ensures tally { result ≡ tally_of (listed_in slots.now list.now) }
 {
@@ -151,7 +151,7 @@ pub fn listed_tally(slots: &[Slot], list: &[u16]) -> Tally
 
 /// Counts over the filled slots with a file that is garbage, or was missing.
 pub fn disposable_tally(slots: &[Slot]) -> Tally
-    requires packs { (place : ℕ) → HasFewPacks (slot_at slots.now place) }
+    requires packs { All HasFewPacks slots.now }
     requires few { length slots.now ≤ 32767 }
     ensures tally { result ≡ tally_of (disposable_in slots.now) }
 {

@@ -1,7 +1,7 @@
 //! A file of a slot: its path, and whether it is loaded.
 ghost use Rattle.std.specs.Prelude.{◌≡◌, IfOk};
 ghost use Rattle.std.specs.Option.{option_copied};
-ghost use Rattle.gix_odb_slots.specs.OnDiskFile.{file_at, file_path, file_state, is_disposable, is_loaded, loaded, put_back, trashed, with_state};
+ghost use Rattle.gix_odb_slots.specs.OnDiskFile.{file_at, file_path, file_state, is_disposable, is_loaded, is_unloaded, loaded, put_back, trashed, with_state};
 
 use crate::Shared;
 use odb_base::{NoMemory, PathText};
@@ -53,6 +53,13 @@ impl<T> OnDiskFile<T> {
         ensures loaded { result ≡ is_loaded (file_state self.now) }
     {
         matches!(&self.state, FileState::Loaded(_) | FileState::Garbage(_))
+    }
+
+    /// Whether it is still to be read, and wasn't missing.
+    pub fn is_unloaded(&self) -> bool
+        ensures unloaded { result ≡ is_unloaded (file_state self.now) }
+    {
+        matches!(&self.state, FileState::Unloaded)
     }
 
     /// What was read, where it is at hand.

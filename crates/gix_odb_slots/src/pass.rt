@@ -1,14 +1,51 @@
 //! Files that were passed over: they are missing where none was loaded.
 ghost use Rattle.std.specs.Prelude.{◌≡◌, IfOk, map};
+ghost use Rattle.std.specs.List.{list_any};
 ghost use Rattle.gix_odb_slots.specs.OnDiskFile.{file_path, file_state, file_at, passed};
 ghost use Rattle.gix_odb_slots.specs.Publish.{slot_at};
-ghost use Rattle.gix_odb_slots.specs.Files.{index_passed, passed_at, slot_passed};
+ghost use Rattle.gix_odb_slots.specs.Files.{index_passed, index_turns_missing, passed_at, slot_passed, slot_turns_missing, turns_missing};
 
 use crate::on_disk_file::FileState;
 use crate::slot::{Filled, IndexFile, PackFile, PackFileList, Slot};
 use crate::{OnDiskFile, Shared};
 use odb_base::{NoMemory, PathText};
 use std::alloc::Global;
+
+/// Whether a file turns missing once a path is passed over: it stands there, and is still to be read.
+fn turns_missing<F>(path: &PathText, file: &OnDiskFile<Shared<F>>) -> bool
+    ensures missing { result ≡ turns_missing path.now file.now }
+{
+    *file.path() == *path && file.is_unloaded()
+}
+
+fn index_turns_missing(path: &PathText, index: &IndexFile) -> bool
+    ensures missing { result ≡ index_turns_missing path.now index.now }
+{
+    match index {
+        IndexFile::Single(file) => turns_missing(path, file),
+        IndexFile::Multi(file) => turns_missing(path, file),
+    }
+}
+
+fn is_any_turning_missing(path: &PathText, packs: &[PackFile]) -> bool
+    ensures missing { result ≡ list_any (turns_missing path.now) packs.now }
+{
+    packs.iter().any(|pack| turns_missing(path, pack))
+}
+
+/// Whether a file of the slot at a place turns missing once a path is passed over. Where none does, the slots stay as they are.
+pub fn slot_turns_missing(path: &PathText, slots: &[Slot], place: usize) -> bool
+    ensures missing { result ≡ slot_turns_missing path.now (slot_at slots.now place) }
+{
+    match slots.get(place) {
+        Some(Some(filled)) => {
+            let filled = filled.value();
+            index_turns_missing(path, &filled.index)
+                || is_any_turning_missing(path, filled.packs.value().as_slice())
+        }
+        _ => false,
+    }
+}
 
 /// A copy of a file, which is missing where it has this path and isn't loaded.
 fn passed_at<F: Drop>(

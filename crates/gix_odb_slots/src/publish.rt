@@ -3,6 +3,7 @@ ghost use Rattle.std.specs.Prelude.{◌≡◌, ◌≤◌, ◌<◌, ◌-◌, ◌+
 ghost use Rattle.std.specs.Option.{ForSome, option_to_list};
 ghost use Rattle.std.specs.List.{list_any, position, range_with_len, zip};
 ghost use Rattle.gix_odb_slots.specs.Slots.{holds};
+ghost use Rattle.gix_odb_slots.specs.Tally.{HasFewPacks};
 ghost use Rattle.gix_odb_slots.specs.Publish.{free_places, is_free, is_kept, is_new, list_after, new_rows, place_after, settled, slot_at, slots_after, taken, with_taken};
 
 use crate::Shared;
@@ -174,9 +175,11 @@ fn take_one<'a>(
     new: bool,
 ) -> Result<&'a [usize], NoMemory>
     requires within { All (λ place. place < length after.old.items) left.now }
+    requires packs { All HasFewPacks after.old.items }
     ensures taken { OnOk result (after.new.items ≡ with_taken (zip left.now (if new then row.now ∷ [] else [])) after.old.items) }
     ensures left { IfOk result (λ more. more.now ≡ drop (if new then 1 else 0) left.now) }
     ensures len { OnOk result (length after.new.items ≡ length after.old.items) }
+    ensures packs { OnOk result (All HasFewPacks after.new.items) }
 {
     if !new {
         return Ok(left);
@@ -197,7 +200,9 @@ fn take(
     slots: &[Slot],
 ) -> Result<(), NoMemory>
     requires within { All (λ place. place < length after.old.items) free.now }
+    requires packs { All HasFewPacks after.old.items }
     ensures taken { OnOk result (after.new.items ≡ with_taken (zip free.now (new_rows slots.now rows.now)) after.old.items) }
+    ensures packs { OnOk result (All HasFewPacks after.new.items) }
 {
     let mut left = free;
     for row in rows {
@@ -280,6 +285,8 @@ pub fn slots_after(
     free: &[usize],
 ) -> Result<SlotList, NoMemory>
     requires within { All (λ place. place < length slots.now) free.now }
+    requires packs { All HasFewPacks slots.now }
+    ensures packs { IfOk result (All HasFewPacks) }
     ensures slots { IfOk result (λ after. after ≡ with_taken (zip free.now (new_rows slots.now rows.now)) (map (settled stable rows.now) slots.now)) }
 {
     let mut after = all_settled(alloc, stable, rows, slots)?;

@@ -65,7 +65,7 @@ fn listed_places(
 }
 
 /// What a report says of the listed slots, in the order of the list, as it is shared.
-pub fn listed(alloc: Global, slots: &[Slot], places: &[u16]) -> Result<ListedList, NoMemory>
+pub fn report_listed(alloc: Global, slots: &[Slot], places: &[u16]) -> Result<ListedList, NoMemory>
     ensures listed { IfOk result (λ list. list ≡ map listed_of (listed_in slots.now places.now)) }
 {
     let list = listed_places(alloc, slots, places)?;

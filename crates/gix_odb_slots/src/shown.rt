@@ -1,8 +1,8 @@
 //! The lists that a view shows of slots.
-ghost use Rattle.std.specs.Prelude.{◌≡◌, ◌≤◌, ◌<◌, ◌++◌, Some, IfOk, OnOk, length};
+ghost use Rattle.std.specs.Prelude.{◌≡◌, ◌≤◌, ◌<◌, ◌++◌, ◌||◌, ℕ, false, None, Some, IfOk, OnOk, get_or, length, nat_eq, if◌then◌else◌};
 ghost use Rattle.std.specs.Option.{option_to_list};
 ghost use Rattle.gix_odb_slots.specs.Publish.{slot_at};
-ghost use Rattle.gix_odb_slots.specs.Shown.{is_listed, kept_at, loaded_index, shown_indices, shown_kept, shown_slot, shown_todo, unloaded_slot};
+ghost use Rattle.gix_odb_slots.specs.Shown.{is_listed, kept_unmarked, loaded_index, shown_indices, shown_kept, shown_slot, shown_todo, unloaded_slot};
 
 use crate::loaded::{LoadedIndex, LoadedList, SnapshotIndex, Todo, TodoList};
 use crate::slot::{Filled, IndexFile, Slot};
@@ -105,28 +105,51 @@ fn unloaded_at(slots: &[Slot], place: u16) -> Result<Option<Todo>, NoMemory>
     }
 }
 
-/// Whether a place is listed.
-fn is_listed(list: &[u16], place: u16) -> bool
-    ensures listed { result ≡ is_listed list.now place }
+/// Marks a place, if there is one.
+fn mark(marks: &mut [bool], place: u16)
+    ensures len { length marks.new ≡ length marks.old }
+    ensures marked { (k : ℕ) → k < length marks.old → get_or marks.new k false ≡ (get_or marks.old k false || nat_eq k place) }
 {
-    for other in list {
-        if place == *other {
-            return true;
-        }
+    let place = place as usize;
+    if place < marks.len() {
+        marks[place] = true;
     }
-    false
+}
+
+/// Of so many places, which are listed.
+fn listed_marks(alloc: Global, list: &[u16], count: usize) -> Result<Vec<bool>, NoMemory>
+    ensures len { IfOk result (λ marks. length marks.items ≡ count) }
+    ensures listed { IfOk result (λ marks. (k : ℕ) → k < count → get_or marks.items k false ≡ is_listed list.now k) }
+{
+    let mut marks = vec![in alloc; false; count]?;
+    for place in list {
+        mark(&mut marks, *place);
+    }
+    Ok(marks)
 }
 
 /// What a snapshot has of a slot that isn't listed.
-fn kept_at(list: &[u16], place: usize, slot: &Slot) -> Result<Option<SnapshotIndex>, NoMemory>
+fn kept_at(listed: bool, place: usize, slot: &Slot) -> Result<Option<SnapshotIndex>, NoMemory>
     requires small { place < 32767 }
-    ensures kept { IfOk result (λ kept. kept ≡ kept_at list.now (place, slot.now)) }
+    ensures kept { IfOk result (λ kept. kept ≡ (if listed then None else shown_slot place slot.now)) }
 {
-    let place = place as u16;
-    if is_listed(list, place) {
+    if listed {
         return Ok(None);
     }
-    shown_slot(place, slot)
+    shown_slot(place as u16, slot)
+}
+
+/// The loaded files of the slots that aren't marked, in the order of the slots.
+fn kept_unmarked(alloc: Global, slots: &[Slot], marks: &[bool]) -> Result<LoadedList, NoMemory>
+    requires few { length slots.now ≤ 32767 }
+    requires marks { length marks.now ≡ length slots.now }
+    ensures kept { IfOk result (λ items. items ≡ kept_unmarked marks.now slots.now) }
+{
+    let mut items = LoadedList::new(alloc);
+    for (place, slot) in slots.iter().enumerate() {
+        put(&mut items, kept_at(marks[place], place, slot)?)?;
+    }
+    Ok(items)
 }
 
 /// The loaded files of the listed slots, in the order of the list.
@@ -145,11 +168,8 @@ pub fn shown_kept(alloc: Global, slots: &[Slot], list: &[u16]) -> Result<LoadedL
     requires few { length slots.now ≤ 32767 }
     ensures kept { IfOk result (λ items. items ≡ shown_kept slots.now list.now) }
 {
-    let mut items = LoadedList::new(alloc);
-    for (place, slot) in slots.iter().enumerate() {
-        put(&mut items, kept_at(list, place, slot)?)?;
-    }
-    Ok(items)
+    let marks = listed_marks(alloc, list, slots.len())?;
+    kept_unmarked(alloc, slots, &marks)
 }
 
 /// What is still to be loaded of the listed slots, in the order of the list.

@@ -1,8 +1,9 @@
 //! Slots: the index that each holds, with its packs.
-ghost use Rattle.std.specs.Prelude.{◌≡◌, IfOk, map, [], ◌∷◌};
+ghost use Rattle.std.specs.Prelude.{◌≡◌, ◌≤◌, IfOk, length, map, [], ◌∷◌};
 ghost use Rattle.gix_multi_index.specs.MultiIndex.{told};
 ghost use Rattle.gix_odb_slots.specs.OnDiskFile.{put_back, trashed, with_state};
-ghost use Rattle.gix_odb_slots.specs.Slots.{filled_put_back, filled_trashed, holds, index_path, index_put_back, index_trashed, new_filled, new_index, new_pack, new_packs};
+ghost use Rattle.gix_odb_slots.specs.Slots.{filled_put_back, filled_trashed, index_path, index_put_back, index_trashed, new_filled, new_index, new_pack, new_packs};
+ghost use Rattle.gix_odb_slots.specs.Tally.{IsFewPacks};
 
 use crate::listing::ListingRow;
 use crate::on_disk_file::FileState;
@@ -97,6 +98,7 @@ impl Filled {
     /// What a slot holds that a new row takes.
     pub(crate) fn new(alloc: Global, row: &ListingRow) -> Result<Filled, NoMemory>
         ensures filled { IfOk result (λ filled. filled ≡ new_filled row.now) }
+        ensures few { IfOk result IsFewPacks }
     {
         let packs = new_packs(alloc, &row.path, &row.multi)?;
         Ok(Filled {
@@ -164,6 +166,7 @@ fn new_packs(
     multi: &Option<Shared<multi_index::File>>,
 ) -> Result<PackFileList, NoMemory>
     ensures packs { IfOk result (λ packs. packs ≡ new_packs path.now multi.now) }
+    ensures few { IfOk result (λ packs. length packs ≤ 4294967296) }
 {
     let folder = folder_of(alloc, path)?;
     match multi {
@@ -186,12 +189,14 @@ fn named_packs(
     file: &multi_index::File,
 ) -> Result<PackFileList, NoMemory>
     ensures packs { IfOk result (λ packs. packs ≡ map (new_pack folder.now) (told file.now).names) }
+    ensures few { IfOk result (λ packs. length packs ≤ 4294967296) }
 {
-    let mut packs = PackFileList::new(alloc);
+    // The header tells the number of packs by 32 bits: so there are no more.
+    let mut packs = Vec::with_capacity(alloc, file.num_indices() as usize)?;
     for name in file.index_names() {
         packs.push(new_pack(alloc, folder, name.as_str())?)?;
     }
-    Ok(packs)
+    Ok(Sequence::from_vec(packs))
 }
 
 fn packs_put_back(alloc: Global, packs: &PackFileList) -> Result<PackFileList, NoMemory>

@@ -7,7 +7,8 @@ loop-row-preserved c = record {
       c.take_one.new.after.items _ c.is_new.result
       c.loop-row-test.true c.row-item.is c.is_new.ensures.new c.in_ok-left.ensures.taken c.in_ok-left.ensures.left c.loop-row.invariant.taken;
   within = within-rest _ _ c.loop-row.left.now c.in_ok-left.left.now c.is_new.result c.in_ok-left.ensures.len c.in_ok-left.ensures.left c.loop-row.invariant.within;
+  packs = c.in_ok-left.ensures.packs;
 }
 
-pub returns : goal.returns
-returns c = record { taken = take-end c.args.slots.now c.args.rows.now c.loop-row.row-index c.loop-row.left.now c.loop-row.after.items _ c.loop-row-test.false c.loop-row.invariant.taken }
+pub returns-clause-taken : goal.returns-clause-taken
+returns-clause-taken c = take-end c.args.slots.now c.args.rows.now c.loop-row.row-index c.loop-row.left.now c.loop-row.after.items _ c.loop-row-test.false c.loop-row.invariant.taken

@@ -1,19 +1,11 @@
-use Rattle.std.proofs.Common.{◌∙◌, ap, arith}
-use Rattle.std.specs.List.{enumerate_from, filter_map}
-use Rattle.std.proofs.lemmas.List.{take_all}
-use Rattle.std.proofs.lemmas.List.FromFn.{length-enumerate_from}
-use Rattle.gix_odb_slots.proofs.LoopLemmas.{filter_map-numbered}
-use Rattle.gix_odb_slots.specs.Shown.{kept_at}
+use Rattle.std.proofs.Common.{◌∙◌, Bool, List, ap}
+use Rattle.std.proofs.lemmas.Result.{IfOk-weaker}
+use Rattle.gix_odb_slots.proofs.MarkLemmas.{shown_kept-unmarked}
+use Rattle.gix_odb_slots.specs.Shown.{kept_unmarked}
 use Rattle.gix_odb_slots.proofs.shown.shown_kept.Goals as goal
-
-pub loop-place-preserved : goal.loop-place-preserved
-loop-place-preserved c =
-    filter_map-numbered (kept_at c.args.list.now) c.args.slots.now c.loop-place.place c.index-slots-place.result c.in_ok-kept_at.field-0 c.loop-place.items c.put.new.list
-    c.loop-place-test.true c.index-slots-place.is c.in_ok-kept_at.ensures.kept c.loop-place.invariant c.in_ok-put.ensures.put
 
 pub returns : goal.returns
 returns c =
-    record {
-      kept = c.loop-place.invariant ∙ ap (filter_map (kept_at c.args.list.now))
-          (take_all c.loop-place.place (enumerate_from 0 c.args.slots.now) (omega (arith, length-enumerate_from 0 c.args.slots.now)));
-    }
+    let marked = ap (λ (marks : List Bool). kept_unmarked marks c.args.slots.now) c.deref.ensures.value in
+    let unmarked = shown_kept-unmarked c.args.slots.now c.args.list.now c.in_ok-marks.marks.items c.in_ok-marks.ensures.listed in
+    record { kept = IfOk-weaker c.kept_unmarked.result _ _ (λ items is. is ∙ marked ∙ unmarked) c.kept_unmarked.ensures.kept }

@@ -3,4 +3,4 @@ use Rattle.gix_odb_slots.specs.Slots.{new_pack}
 use Rattle.gix_odb_slots.proofs.slot.named_packs.Given as goal
 
 abbrev pub invariant-loop-name : goal.invariant-loop-name
-invariant-loop-name l = l.packs ≡ map (new_pack l.folder) (take l.name-index l.name-items)
+invariant-loop-name l = l.packs.items ≡ map (new_pack l.folder) (take l.name-index l.name-items)

@@ -1,8 +1,7 @@
-use Rattle.std.proofs.Common.{◌≤◌, ◌∙◌, ℕ, List, ap, length, subst, sym}
+use Rattle.std.proofs.Common.{◌≤◌, ◌∙◌, ℕ, All, List, ap, length, subst, sym}
 use Rattle.std.specs.List.{count_by}
 use Rattle.std.specs.Option.{is_none}
 use Rattle.gix_odb_slots.specs.Counts.{disposable_in, listed_in}
-use Rattle.gix_odb_slots.specs.Publish.{slot_at}
 use Rattle.gix_odb_slots.specs.Slots.{Slot}
 use Rattle.gix_odb_slots.specs.Tally.{HasFewPacks, tally_of}
 use Rattle.gix_odb_core.proofs.MetricsLemmas.{metrics_from}
@@ -10,13 +9,13 @@ use Rattle.gix_odb_core.proofs.shape.Shape.metrics.Goals as goal
 
 pub listed_tally-listed-requires : goal.listed_tally-listed-requires
 listed_tally-listed-requires c = record {
-  packs = subst (λ (s : List Slot). (place : ℕ) → HasFewPacks (slot_at s place)) (sym c.as_slice-slots.ensures.value) c.requires.countable.packs;
+  packs = subst (All HasFewPacks) (sym c.as_slice-slots.ensures.value) c.requires.countable.packs;
   short = subst (λ (l : List ℕ). length l ≤ 32767) (sym c.as_slice.ensures.value) c.requires.countable.short;
 }
 
 pub disposable_tally-disposable-requires : goal.disposable_tally-disposable-requires
 disposable_tally-disposable-requires c = record {
-  packs = subst (λ (s : List Slot). (place : ℕ) → HasFewPacks (slot_at s place)) (sym c.as_slice-slots.ensures.value) c.requires.countable.packs;
+  packs = subst (All HasFewPacks) (sym c.as_slice-slots.ensures.value) c.requires.countable.packs;
   few = subst (λ (s : List Slot). length s ≤ 32767) (sym c.as_slice-slots.ensures.value) c.requires.countable.few;
 }
 

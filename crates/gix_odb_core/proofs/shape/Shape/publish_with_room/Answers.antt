@@ -1,8 +1,10 @@
-use Rattle.std.proofs.Common.{◌≡◌, List, length, map, ap, ◌∙◌, arith}
+use Rattle.std.proofs.Common.{◌≡◌, All, List, length, map, ap, sym, subst, ◌∙◌, arith}
+use Rattle.std.proofs.lemmas.Option.{IfSome_then}
 use Rattle.std.specs.List.{zip}
 use Rattle.gix_odb_core.proofs.RoomLemmas.{length-after, with_room-from}
 use Rattle.gix_odb_slots.specs.Publish.{list_after, new_rows, settled, with_taken}
 use Rattle.gix_odb_slots.specs.Slots.{Slot}
+use Rattle.gix_odb_slots.specs.Tally.{HasFewPacks}
 use Rattle.gix_odb_core.specs.Turn.{publish_turn}
 use Rattle.gix_odb_core.proofs.shape.Shape.publish_with_room.Goals as goal
 
@@ -22,6 +24,7 @@ returns c =
     let list : c.in_ok-list.list ≡ list_after c.args.rows.now c.in_ok-after.after = c.in_ok-list.ensures.list ∙ ap (list_after c.args.rows.now) c.as_slice.ensures.value in
     let renewed = rw slots at c.takes_over-renewed.ensures.over in
     record {
+      few_packs = IfSome_then c.settled_as.result.shelf c.settled_as.ensures.leaves (λ shelf is. subst (All HasFewPacks) (sym is) c.in_ok-after.ensures.packs);
       turn =
           c.settled_as.ensures.turn
           ∙ ap (publish_turn c.args.self.now)
