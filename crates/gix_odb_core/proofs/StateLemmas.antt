@@ -19,7 +19,7 @@ use Rattle.gix_odb_core.specs.declared.event.Event.TheVariants as event
 use Rattle.gix_odb_core.specs.declared.journal.Entry.{Entry}
 use Rattle.gix_odb_core.specs.declared.shape.Shape.{Shape}
 use Rattle.gix_odb_core.specs.declared.shape.Shelf.{Shelf}
-use Rattle.gix_odb_core.specs.declared.state.Plan.{Plan}
+use Rattle.gix_odb_core.specs.declared.plan.Plan.{Plan}
 use Rattle.gix_odb_core.specs.declared.state.State.{State}
 use Rattle.gix_odb_core.specs.declared.view.View.{View}
 
@@ -127,21 +127,3 @@ module _ (old now : State) (seat : ℕ) (kept : IsKept old) (can : CanHappen old
 
         nothing_more : {A : Type 0} (l : List A) → l ≡ l ++ []
         nothing_more l = sym (append-nil l)
-
--- want of memory
-pub same-state : (old now : State) → IsKept old → now ≡ entered old now.journal → entries_in now ≡ entries_in old
-    → vec_capacity old.journal.entries ≤ vec_capacity now.journal.entries → IsSameState old now
-same-state old now kept same entries grows =
-    let shape : now.shape ≡ old.shape = ap State.shape same in
-    record {
-      shape = shape;
-      entries = entries;
-      kept = record {
-        shown = ap State.view same ∙ kept.shown ∙ ap (λ (s : Shape). view_of s (newest (entries_in old))) (sym shape) ∙ ap (λ (l : List Entry). view_of now.shape (newest l)) (sym entries);
-        passed = ap State.passed same ∙ kept.passed ∙ ap passed_in (sym entries);
-        counted = ap State.refreshes same ∙ kept.counted ∙ ap refreshes_in (sym entries);
-        numbered = subst (λ (s : Shape). s.list_no ≤ s.state_id) (sym shape) kept.numbered;
-        countable = subst IsCountable (sym shape) kept.countable;
-        room = omega (arith, kept.room, grows, ap (length {A = Entry}) entries, ap (λ (s : Shape). length s.handles) shape);
-      };
-    }

@@ -13,7 +13,7 @@ use Rattle.gix_odb_core.specs.declared.event.Event.TheVariants as event
 use Rattle.gix_odb_core.specs.declared.journal.Entry.{Entry}
 use Rattle.gix_odb_core.specs.declared.journal.Journal.{Journal}
 use Rattle.gix_odb_core.specs.declared.shape.Shelf.{Shelf}
-use Rattle.gix_odb_core.specs.declared.state.Plan.{Plan}
+use Rattle.gix_odb_core.specs.declared.plan.Plan.{Plan}
 use Rattle.gix_odb_core.specs.declared.state.State.{State}
 use Rattle.gix_odb_core.specs.declared.turn.Turn.{Turn}
 use Rattle.gix_odb_core.specs.declared.view.View.{View}

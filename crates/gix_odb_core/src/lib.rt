@@ -17,6 +17,7 @@ mod files;
 mod handles;
 mod journal;
 mod metrics;
+mod plan;
 mod publishing;
 mod shape;
 mod state;

@@ -1,18 +1,19 @@
 //! The present state of a core, beside its journal.
-ghost use Rattle.std.specs.Prelude.{◌≡◌, ◌+◌, ◌<◌, ◌≤◌, ◌++◌, ◌∷◌, [], IfOk, IfSome, OnOk, OnErr, length, vec_capacity, vec_len, if◌then◌else◌};
+ghost use Rattle.std.specs.Prelude.{◌≡◌, ◌+◌, ◌<◌, ◌≤◌, ◌++◌, ◌∷◌, [], IfOk, OnOk, OnErr, length, vec_capacity, vec_len, if◌then◌else◌};
 ghost use Rattle.gix_odb_core.specs.Countable.{LeavesFewPacks};
 ghost use Rattle.gix_odb_core.specs.Handles.{IsRegistered};
 ghost use Rattle.gix_odb_core.specs.Replay.{CanHappen, IsNeverRefused, is_refresh, number_behind, report_of};
 ghost use Rattle.gix_odb_core.specs.Steps.{opening_shape};
-ghost use Rattle.gix_odb_core.specs.State.{IsKept, IsNextState, IsPlan, IsRoomFor, IsSameState, entered, entries_for, entries_in, entry_of, noted, removed, settled_with, view_behind};
-ghost use Rattle.gix_odb_core.specs.Turn.{answer_with, turn_of};
+ghost use Rattle.gix_odb_core.specs.State.{IsKept, IsNextState, IsPlan, IsRoomFor, IsSameState, entered, entries_for, entries_in, entry_of, noted, removed, settled_with};
+ghost use Rattle.gix_odb_core.specs.Turn.{turn_of};
 
 use crate::Shared;
 use crate::event::{Effect, Event, PassWhy, Refusal};
 use crate::journal::{Entry, Journal};
 use crate::metrics::{Passed, PassedList, Report};
+use crate::plan::{Plan, planned};
 use crate::shape::{Shape, Shelf};
-use crate::turn::{Told, Turn, answer};
+use crate::turn::{Told, Turn};
 use crate::view::View;
 use gix_odb_slots::report::report_listed;
 use odb_base::{NoMemory, PathText, Sequence};
@@ -29,95 +30,6 @@ pub struct State {
     /// How many listings were published or confirmed the list.
     pub(crate) refreshes: usize,
     pub(crate) journal: Journal,
-}
-
-/// What an event will leave and answer: once there is memory for all of it, nothing refuses it any more.
-#[derive(Drop)]
-struct Plan {
-    shelf: Option<Shelf>,
-    view: View,
-    /// The answer as the journal keeps it.
-    kept: Result<Effect, Refusal>,
-    /// The answer as it is given.
-    given: Result<Effect, Refusal>,
-}
-
-/// What is shown once an event left this.
-fn view_behind(
-    alloc: Global,
-    view: &View,
-    shelf: &Option<Shelf>,
-    entry: u64,
-) -> Result<View, NoMemory>
-    requires few { IfSome shelf.now (λ shelf. length shelf.slots ≤ 32767) }
-    ensures view { IfOk result (λ behind. behind ≡ view_behind view.now shelf.now entry) }
-{
-    match shelf {
-        None => view.at(entry),
-        Some(shelf) => shelf.view(alloc, entry),
-    }
-}
-
-/// Two copies of an answer.
-#[derive(Drop)]
-struct Answers {
-    /// The answer as the journal keeps it.
-    kept: Result<Effect, Refusal>,
-    /// The answer as it is given.
-    given: Result<Effect, Refusal>,
-}
-
-/// An answer twice, each with a copy of the view where it hands one over.
-fn answer_twice(told: &Told, view: &View) -> Result<Answers, NoMemory>
-    ensures kept { IfOk result (λ answers. answers.kept ≡ answer_with told.now view.now) }
-    ensures given { IfOk result (λ answers. answers.given ≡ answer_with told.now view.now) }
-{
-    let kept = answer(told, view)?;
-    match answer(told, view) {
-        Ok(given) => Ok(Answers { kept, given }),
-        Err(lack) => {
-            drop(kept);
-            Err(lack)
-        }
-    }
-}
-
-/// The plan that leaves this, and is shown and answered so.
-fn plan_of(shelf: Option<Shelf>, view: View, answers: Answers) -> Plan
-    ensures plan { result ≡ record { shelf = shelf; view = view; kept = answers.kept; given = answers.given } }
-{
-    let Answers { kept, given } = answers;
-    Plan {
-        shelf,
-        view,
-        kept,
-        given,
-    }
-}
-
-/// The plan of what an event leaves and tells, whose entry has this number.
-fn planned_with(
-    alloc: Global,
-    view: &View,
-    shelf: Option<Shelf>,
-    told: &Told,
-    entry: u64,
-) -> Result<Plan, NoMemory>
-    requires few { IfSome shelf (λ shelf. length shelf.slots ≤ 32767) }
-    ensures plan { IfOk result (λ plan. IsPlan view.now (record { shelf = shelf; told = told.now }) entry plan) }
-{
-    let view = view_behind(alloc, view, &shelf, entry)?;
-    let answers = answer_twice(told, &view)?;
-    Ok(plan_of(shelf, view, answers))
-}
-
-/// The plan of a turn, whose entry has this number.
-fn planned(alloc: Global, view: &View, turn: Turn, entry: u64) -> Result<Plan, NoMemory>
-    requires few { IfSome turn.shelf (λ shelf. length shelf.slots ≤ 32767) }
-    ensures plan { IfOk result (λ plan. IsPlan view.now turn entry plan) }
-{
-    let Turn { shelf, told } = turn;
-    planned_with(alloc, view, shelf, &told, entry)
 }
 
 /// A copy of a file that was passed over, which shares its path.
@@ -375,6 +287,19 @@ impl State {
         });
         Ok(Effect::Removed)
     }
+
+    /// Takes an event in that is no removal.
+    fn take_in(&mut self, alloc: Global, seat: u32, event: Event) -> Result<Effect, Refusal>
+        requires kept { IsKept self.old }
+        requires stays { ¬ (event ≡ Event.Remove) }
+        requires can_happen { CanHappen self.old.shape seat event }
+        ensures memory { result ≡ Err Refusal.NoMemory → IsSameState self.old self.new }
+        ensures next { ¬ (result ≡ Err Refusal.NoMemory) → IsNextState self.old seat event result self.new }
+    {
+        let plan = self.prepare(alloc, seat, &event)?;
+        self.settle(seat, event, plan)
+    }
+
     /// Takes an event in: its answer, what it leaves, and its entry.
     pub(crate) fn apply(
         &mut self,
@@ -391,7 +316,6 @@ impl State {
         if let Event::Remove = event {
             return self.remove(seat);
         }
-        let plan = self.prepare(alloc, seat, &event)?;
-        self.settle(seat, event, plan)
+        self.take_in(alloc, seat, event)
     }
 }

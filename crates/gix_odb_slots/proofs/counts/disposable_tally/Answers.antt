@@ -12,6 +12,5 @@ with_disposable-tally-requires c =
 
 pub returns : goal.returns
 returns c =
-    record {
-      tally = ap (with_disposable c.loop-slot.tally) (sym (drop_all c.loop-slot.slot-index c.args.slots.now c.loop-slot-test.false)) ∙ c.loop-slot.invariant ∙ disposable_tally-counts c.args.slots.now;
-    }
+    let whole = ap (with_disposable c.loop-slot.tally) (sym (drop_all c.loop-slot.slot-index c.args.slots.now c.loop-slot-test.false)) ∙ c.loop-slot.invariant in
+    record { tally = whole ∙ disposable_tally-counts c.args.slots.now }

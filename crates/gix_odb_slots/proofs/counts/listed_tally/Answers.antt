@@ -12,6 +12,5 @@ with_place-tally-requires c =
 
 pub returns : goal.returns
 returns c =
-    record {
-      tally = ap (with_places c.args.slots.now c.loop-place.tally) (sym (drop_all c.loop-place.place-index c.args.list.now c.loop-place-test.false)) ∙ c.loop-place.invariant ∙ listed_tally-counts c.args.slots.now c.args.list.now;
-    }
+    let whole = ap (with_places c.args.slots.now c.loop-place.tally) (sym (drop_all c.loop-place.place-index c.args.list.now c.loop-place-test.false)) ∙ c.loop-place.invariant in
+    record { tally = whole ∙ listed_tally-counts c.args.slots.now c.args.list.now }

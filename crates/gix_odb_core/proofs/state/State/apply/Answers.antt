@@ -1,12 +1,10 @@
-use Rattle.std.proofs.Common.{length, sym, ap, subst, ◌∙◌, arith}
+use Rattle.std.proofs.Common.{sym, subst}
 use Rattle.gix_odb_core.proofs.CoreLemmas.{never_refused-other}
-use Rattle.gix_odb_core.proofs.StateLemmas.{removed-next, settled-next}
-use Rattle.gix_odb_core.proofs.TurnLemmas.{no_memory-answer}
-use Rattle.gix_odb_core.specs.Replay.{Answer, CanHappen, number_behind}
-use Rattle.gix_odb_core.specs.State.{IsNextState, entries_in}
+use Rattle.gix_odb_core.proofs.StateLemmas.{removed-next}
+use Rattle.gix_odb_core.specs.Replay.{Answer, CanHappen}
+use Rattle.gix_odb_core.specs.State.{IsNextState}
 use Rattle.gix_odb_core.specs.declared.event.Event.{Event}
 use Rattle.gix_odb_core.specs.declared.event.Event.TheVariants as event
-use Rattle.gix_odb_core.specs.declared.journal.Entry.{Entry}
 use Rattle.gix_odb_core.proofs.state.State.apply.Goals as goal
 
 pub returns-in-Remove-clause-next : goal.returns-in-Remove-clause-next
@@ -16,16 +14,5 @@ returns-in-Remove-clause-next c = λ some.
     subst (λ (e : Event). IsNextState c.args.self.now c.args.seat e c.remove.result c.remove.new.self) (sym c.in-Remove.is)
     (subst (λ (a : Answer). IsNextState c.args.self.now c.args.seat event.Remove a c.remove.new.self) (sym c.remove.ensures.answer) next)
 
-pub returns : goal.returns
-returns c =
-    let plan = c.in_ok-plan.ensures in
-    let next =
-    settled-next c.args.self.now c.prepare.new.self c.settle.new.self c.args.seat c.args.event c.in_ok-plan.plan c.requires.kept c.requires.can_happen plan.few_packs plan.plan plan.noted plan.entries
-    c.settle.ensures.settled c.settle.ensures.entries (omega (arith, plan.room, plan.handles, c.settle.ensures.capacity, ap (length {A = Entry}) plan.entries)) in
-    record {
-      memory = λ lacks.
-          absurd (no_memory-answer (entries_in c.args.self.now) c.args.self.now.shape (number_behind (entries_in c.args.self.now)) c.args.seat c.args.event
-          (sym next.answer ∙ sym c.settle.ensures.answer ∙ lacks));
-      next = λ some. subst (λ (a : Answer). IsNextState c.args.self.now c.args.seat c.args.event a c.settle.new.self) (sym c.settle.ensures.answer) next;
-      never_refused = never_refused-other c.args.event c.settle.result c.in_default.not-Remove;
-    }
+pub returns-clause-never_refused : goal.returns-clause-never_refused
+returns-clause-never_refused c = never_refused-other c.args.event c.take_in.result c.in_default.not-Remove

@@ -1,0 +1,100 @@
+//! What an event will leave and answer, before anything changes.
+ghost use Rattle.std.specs.Prelude.{◌≡◌, ◌≤◌, IfOk, IfSome, length};
+ghost use Rattle.gix_odb_core.specs.State.{IsPlan, view_behind};
+ghost use Rattle.gix_odb_core.specs.Turn.{answer_with};
+
+use crate::event::{Effect, Refusal};
+use crate::shape::Shelf;
+use crate::turn::{Told, Turn, answer};
+use crate::view::View;
+use odb_base::NoMemory;
+use std::alloc::Global;
+
+/// What an event will leave and answer: once there is memory for all of it, nothing refuses it any more.
+#[derive(Drop)]
+pub(crate) struct Plan {
+    pub shelf: Option<Shelf>,
+    pub view: View,
+    /// The answer as the journal keeps it.
+    pub kept: Result<Effect, Refusal>,
+    /// The answer as it is given.
+    pub given: Result<Effect, Refusal>,
+}
+
+/// What is shown once an event left this.
+fn view_behind(
+    alloc: Global,
+    view: &View,
+    shelf: &Option<Shelf>,
+    entry: u64,
+) -> Result<View, NoMemory>
+    requires few { IfSome shelf.now (λ shelf. length shelf.slots ≤ 32767) }
+    ensures view { IfOk result (λ behind. behind ≡ view_behind view.now shelf.now entry) }
+{
+    match shelf {
+        None => view.at(entry),
+        Some(shelf) => shelf.view(alloc, entry),
+    }
+}
+
+/// Two copies of an answer.
+#[derive(Drop)]
+struct Answers {
+    /// The answer as the journal keeps it.
+    kept: Result<Effect, Refusal>,
+    /// The answer as it is given.
+    given: Result<Effect, Refusal>,
+}
+
+/// An answer twice, each with a copy of the view where it hands one over.
+fn answer_twice(told: &Told, view: &View) -> Result<Answers, NoMemory>
+    ensures kept { IfOk result (λ answers. answers.kept ≡ answer_with told.now view.now) }
+    ensures given { IfOk result (λ answers. answers.given ≡ answer_with told.now view.now) }
+{
+    let kept = answer(told, view)?;
+    match answer(told, view) {
+        Ok(given) => Ok(Answers { kept, given }),
+        Err(lack) => {
+            drop(kept);
+            Err(lack)
+        }
+    }
+}
+
+/// The plan that leaves this, and is shown and answered so.
+fn plan_of(shelf: Option<Shelf>, view: View, answers: Answers) -> Plan
+    ensures plan { result ≡ record { shelf = shelf; view = view; kept = answers.kept; given = answers.given } }
+{
+    let Answers { kept, given } = answers;
+    Plan {
+        shelf,
+        view,
+        kept,
+        given,
+    }
+}
+
+/// The plan of what an event leaves and tells, whose entry has this number.
+fn planned_with(
+    alloc: Global,
+    view: &View,
+    shelf: Option<Shelf>,
+    told: &Told,
+    entry: u64,
+) -> Result<Plan, NoMemory>
+    requires few { IfSome shelf (λ shelf. length shelf.slots ≤ 32767) }
+    ensures plan { IfOk result (λ plan. IsPlan view.now (record { shelf = shelf; told = told.now }) entry plan) }
+{
+    let view = view_behind(alloc, view, &shelf, entry)?;
+    let answers = answer_twice(told, &view)?;
+    Ok(plan_of(shelf, view, answers))
+}
+
+/// The plan of a turn, whose entry has this number.
+pub(crate) fn planned(alloc: Global, view: &View, turn: Turn, entry: u64) -> Result<Plan, NoMemory>
+    requires few { IfSome turn.shelf (λ shelf. length shelf.slots ≤ 32767) }
+    ensures plan { IfOk result (λ plan. IsPlan view.now turn entry plan) }
+{
+    let Turn { shelf, told } = turn;
+    planned_with(alloc, view, shelf, &told, entry)
+}
