@@ -15,6 +15,7 @@ mod OpenedLemmas
 pub mod HandleLemmas
 mod ShownLemmas
 mod AnswerLemmas
+mod EffectLemmas
 mod StepLemmas
 mod FileStepLemmas
 mod SlotTurnLemmas

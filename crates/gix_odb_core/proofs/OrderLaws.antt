@@ -1,9 +1,9 @@
 -- Laws of the order of a journal: entries that have no effect can be left out.
-use Rattle.std.proofs.Common.{◌≡◌, ℕ, zero, suc, ◌+◌, Bool, true, false, not, ◌||◌, cond, ◌==◌, List, [], ◌∷◌, ◌++◌, take}
-use Rattle.std.proofs.Common.{slice_get, filter, set, Option, Some, None, Ok, Err, ◌⊎◌, inl, inr, refl, sym, ap, subst, ◌∙◌, append_assoc, append-nil}
+use Rattle.std.proofs.Common.{◌≡◌, ℕ, ◌+◌, Bool, true, false, not, ◌||◌, cond, ◌==◌, List, [], ◌∷◌, ◌++◌, filter, set}
+use Rattle.std.proofs.Common.{Option, Some, None, Ok, Err, ◌⊎◌, inl, inr, refl, sym, ap, subst, ◌∙◌}
 use Rattle.gix_odb_slots.specs.Publish.{slot_at}
 use Rattle.gix_odb_core.specs.Quiet.{has_no_effect, is_idle, only_asks}
-use Rattle.gix_odb_core.specs.Replay.{Answer, IsLegal, IsNext, after_answer, after_entry, answer_of, number_behind, publish_answer, put_answer, replay}
+use Rattle.gix_odb_core.specs.Replay.{Answer, AreNext, IsLegal, IsNext, after_answer, after_entry, answer_of, number_behind, publish_answer, put_answer, replay}
 use Rattle.gix_odb_core.specs.Steps.{Publishing, Outdated, TooFew, Overflows, Unchanged, Published, after, last_state, publishing, shape_published, shape_stored}
 use Rattle.gix_odb_slots.specs.Files.{slot_with_index, slot_with_pack}
 use Rattle.gix_odb_core.specs.Views.{view_of}
@@ -14,7 +14,7 @@ use Rattle.gix_odb_core.specs.declared.event.Refusal.TheVariants as refusals
 use Rattle.gix_odb_core.specs.declared.journal.Entry.{Entry}
 use Rattle.gix_odb_core.specs.declared.shape.Shape.{Shape}
 use Rattle.gix_odb_slots.specs.declared.slot.Filled.{Filled}
-use Rattle.gix_odb_core.proofs.ReplayLemmas.{replay-push}
+use Rattle.gix_odb_core.proofs.ReplayLemmas.{next_first, next_rest, replay-push}
 use Rattle.gix_odb_core.proofs.SlotTurnLemmas.{entry_gives}
 
 -- ---- one event
@@ -80,24 +80,18 @@ entry_without_effect_can_be_left_out opening past entry later next quiet =
     ∙ sym (replay_of_joined_journals past later opening)
 
 -- entries behind others, each of which is next
-left_out : (opening : Shape) (later past : List Entry) → ((i : ℕ) (entry : Entry) → slice_get later i ≡ Some entry → IsNext opening (past ++ take i later) entry)
+left_out : (opening : Shape) (later past : List Entry) → AreNext opening past later
     → replay (replay opening past) later ≡ replay (replay opening past) (filter (λ entry. not (has_no_effect entry)) later)
 left_out opening [] past next = refl
 left_out opening (entry ∷ later) past next =
     by (has_no_effect entry) refl
-    (subst (λ (s : Shape). replay s later ≡ replay s (filter (λ e. not (has_no_effect e)) later)) (replay-push opening past entry) (left_out opening later (past ++ entry ∷ []) rest))
+    (subst (λ (s : Shape). replay s later ≡ replay s (filter (λ e. not (has_no_effect e)) later)) (replay-push opening past entry) (left_out opening later (past ++ entry ∷ []) (next_rest opening past entry later next)))
   where
-    this : IsNext opening past entry
-    this = subst (λ (l : List Entry). IsNext opening l entry) (append-nil past) (next zero entry refl)
-
-    rest : (i : ℕ) (one : Entry) → slice_get later i ≡ Some one → IsNext opening ((past ++ entry ∷ []) ++ take i later) one
-    rest i one is = subst (λ (l : List Entry). IsNext opening l one) (sym (append_assoc past (entry ∷ []) (take i later))) (next (suc i) one is)
-
     by : (b : Bool) → has_no_effect entry ≡ b
         → replay (after_entry (replay opening past) entry) later ≡ replay (after_entry (replay opening past) entry) (filter (λ e. not (has_no_effect e)) later)
         → replay (after_entry (replay opening past) entry) later
         ≡ replay (replay opening past) (cond (not b) (entry ∷ filter (λ e. not (has_no_effect e)) later) (filter (λ e. not (has_no_effect e)) later))
-    by true quiet same = same ∙ ap (λ (s : Shape). replay s (filter (λ e. not (has_no_effect e)) later)) (entry_without_effect_changes_nothing opening past entry this quiet)
+    by true quiet same = same ∙ ap (λ (s : Shape). replay s (filter (λ e. not (has_no_effect e)) later)) (entry_without_effect_changes_nothing opening past entry (next_first opening past entry later next) quiet)
     by false quiet same = same
 
 -- a legal journal replays to the same shape without its entries that have no effect

@@ -1,5 +1,6 @@
--- One entry more at the end of a journal.
-use Rattle.std.proofs.Common.{◌≡◌, ◌+◌, ◌<◌, ◌≤◌, inl, inr, List, [], ◌∷◌, ◌++◌, length, get_or, take, Option, Some, None, Ok, Err, refl, sym, ap, subst, ◌∙◌, arith, length-append, cond, min}
+-- One entry more at the end of a journal, and entries that stand behind others.
+use Rattle.std.proofs.Common.{◌≡◌, zero, suc, ◌+◌, ◌<◌, ◌≤◌, inl, inr, List, [], ◌∷◌, ◌++◌, length, get_or, take, Option, Some, None, Ok, Err}
+use Rattle.std.proofs.Common.{refl, sym, ap, subst, ◌∙◌, arith, append_assoc, append-nil, length-append, cond, min}
 use Rattle.std.specs.List.{cons_option, slice_get}
 use Rattle.std.specs.Option.{option_to_list}
 use Rattle.std.proofs.lemmas.Bool.{cases_lt}
@@ -9,7 +10,7 @@ use Rattle.std.proofs.Math.ListN.{get_or-append}
 use Rattle.std.proofs.lemmas.List.Elements.{filter_map-append}
 use Rattle.std.proofs.lemmas.List.Sums.{sum_by_push}
 use Rattle.std.proofs.lemmas.Option.{get_or_from_slice_get, slice_get-get_or, slice_get_within}
-use Rattle.gix_odb_core.specs.Replay.{Answer, IsLegal, IsNext, after_answer, after_entry, is_refresh, number_behind, passed_by, passed_in, refreshes_in, replay}
+use Rattle.gix_odb_core.specs.Replay.{Answer, AreNext, IsLegal, IsNext, after_answer, after_entry, is_refresh, number_behind, passed_by, passed_in, refreshes_in, replay}
 use Rattle.gix_odb_core.specs.State.{newest}
 use Rattle.gix_odb_core.specs.Steps.{after}
 use Rattle.gix_odb_core.specs.declared.event.Refusal.TheVariants as refusals
@@ -58,3 +59,28 @@ after_answer-changes shape entry (Ok effect) some = refl
 after_answer-changes shape entry (Err refusals.NoMemory) some = absurd (some refl)
 after_answer-changes shape entry (Err refusals.GenerationOverflow) some = refl
 after_answer-changes shape entry (Err (refusals.InsufficientSlots current needed)) some = refl
+
+-- ---- entries that stand behind others
+
+pub next_first : (opening : Shape) (past : List Entry) (entry : Entry) (later : List Entry) → AreNext opening past (entry ∷ later) → IsNext opening past entry
+next_first opening past entry later next = subst (λ (l : List Entry). IsNext opening l entry) (append-nil past) (next zero entry refl)
+
+pub next_rest : (opening : Shape) (past : List Entry) (entry : Entry) (later : List Entry) → AreNext opening past (entry ∷ later) → AreNext opening (past ++ entry ∷ []) later
+next_rest opening past entry later next i one is =
+    subst (λ (l : List Entry). IsNext opening l one) (sym (append_assoc past (entry ∷ []) (take i later))) (next (suc i) one is)
+
+-- the first ones
+pub next_front : (opening : Shape) (past front later : List Entry) → AreNext opening past (front ++ later) → AreNext opening past front
+next_front opening past front later next i one is =
+    let within : i < length front = slice_get_within front i one is in
+    let longer : i < length (front ++ later) = omega (arith, length-append front later) in
+    let there : slice_get (front ++ later) i ≡ Some one =
+    slice_get-get_or (front ++ later) i one longer ∙ ap Some (get_or-append front later one i within ∙ get_or_from_slice_get front i one one is) in
+    subst (λ (l : List Entry). IsNext opening (past ++ l) one) (take-append-le i front later (omega arith)) (next i one there)
+
+-- those behind the first ones
+pub next_behind : (opening : Shape) (front past later : List Entry) → AreNext opening past (front ++ later) → AreNext opening (past ++ front) later
+next_behind opening [] past later next = subst (λ (l : List Entry). AreNext opening l later) (sym (append-nil past)) next
+next_behind opening (entry ∷ front) past later next =
+    subst (λ (l : List Entry). AreNext opening l later) (append_assoc past (entry ∷ []) front)
+    (next_behind opening front (past ++ entry ∷ []) later (next_rest opening past entry (front ++ later) next))

@@ -1,4 +1,4 @@
--- Laws of what a view shows: each shown index is of a row that the journal published, and its bytes and those of its packs were put by entries.
+-- Laws of what a view shows: each shown index is of a row that the journal published, and its bytes and those of its packs were stored by entries.
 use Rattle.std.proofs.Common.{◌≡◌, ℕ, true, List, Option, Some, None, option_map, refl, subst}
 use Rattle.gix_pack_files.specs.FileBytes.{FileBytes}
 use Rattle.gix_odb_core.specs.Views.{IsShown, view_of}
@@ -6,7 +6,7 @@ use Rattle.gix_odb_slots.specs.OnDiskFile.{loaded}
 use Rattle.gix_odb_core.specs.Origins.{IsIndexTold, IsLoadedTold, IsMultiOf, IsShownTold, IsTold}
 use Rattle.gix_odb_core.specs.Possible.{IsOpened}
 use Rattle.gix_odb_slots.specs.Publish.{slot_at}
-use Rattle.gix_odb_core.specs.Replay.{replay}
+use Rattle.gix_odb_core.specs.Replay.{IsLegal, replay}
 use Rattle.gix_odb_slots.specs.Slots.{index_path, is_index_of}
 use Rattle.gix_odb_slots.specs.Shown.{loaded_index, shown_slot}
 use Rattle.gix_odb_core.specs.declared.journal.Entry.{Entry}
@@ -60,10 +60,10 @@ told_shows entries place filled shows told is = by (loaded_index filled.index) r
           packs = told.packs;
         })
 
--- each index that a view shows is of a row that the journal published; what is shown of it, and of its packs, was put by the journal's entries
-pub journal_tells_what_is_shown : (opening : Shape) → IsOpened opening → (entries : List Entry) (number : ℕ) (shows : SnapshotIndex) → IsShown (view_of (replay opening entries) number) shows
-    → IsShownTold entries shows
-journal_tells_what_is_shown opening opened entries number shows is = by (shown_from (replay opening entries) number shows is)
+-- each index that a view shows is of a row that an entry of the legal journal published; what is shown of it, and of its packs, was stored by entries
+pub journal_tells_what_is_shown : (opening : Shape) → IsOpened opening → (entries : List Entry) → IsLegal opening entries → (number : ℕ) (shows : SnapshotIndex)
+    → IsShown (view_of (replay opening entries) number) shows → IsShownTold entries shows
+journal_tells_what_is_shown opening opened entries legal number shows is = by (shown_from (replay opening entries) number shows is)
   where
     by : (place : ℕ) × (filled : Filled) × (slot_at (replay opening entries).slots place ≡ Some filled) × (shown_slot place (Some filled) ≡ Some shows) → IsShownTold entries shows
-    by (place, filled, at, gives) = told_shows entries place filled shows (journal_tells_each_slot opening opened entries place filled at) gives
+    by (place, filled, at, gives) = told_shows entries place filled shows (journal_tells_each_slot opening opened entries legal place filled at) gives

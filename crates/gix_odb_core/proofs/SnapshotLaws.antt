@@ -10,7 +10,7 @@ use Rattle.gix_odb_core.specs.Views.{IsShown, view_of}
 use Rattle.gix_odb_slots.specs.Kept.{ShowsAgain}
 use Rattle.gix_odb_core.specs.Possible.{IsNeverRemoved, IsPossible}
 use Rattle.gix_odb_slots.specs.Publish.{slot_at}
-use Rattle.gix_odb_core.specs.Replay.{IsLegal, IsNext, answer_of, number_behind, publish_answer, put_answer, replay, snapshot_of, view_in}
+use Rattle.gix_odb_core.specs.Replay.{AreNext, IsLegal, IsNext, answer_of, number_behind, publish_answer, put_answer, replay, snapshot_of, view_in}
 use Rattle.gix_odb_core.specs.Snapshots.{IsHandedLast, handed_to}
 use Rattle.gix_odb_core.specs.State.{newest}
 use Rattle.gix_odb_core.specs.Steps.{Publishing, Outdated, TooFew, Overflows, Unchanged, Published, after, last_state, publishing, shape_published}
@@ -26,7 +26,7 @@ use Rattle.gix_odb_slots.specs.declared.loaded.SnapshotIndex.{SnapshotIndex}
 use Rattle.gix_odb_core.specs.declared.view.View.{View}
 use Rattle.gix_odb_core.proofs.NumberLaws.{entries_lower_no_number}
 use Rattle.gix_odb_core.proofs.OrderLaws.{replay_of_joined_journals}
-use Rattle.gix_odb_core.proofs.ReplayLemmas.{after_answer-changes, newest-push, replay-push}
+use Rattle.gix_odb_core.proofs.ReplayLemmas.{after_answer-changes, newest-push, next_first, next_rest, replay-push}
 use Rattle.gix_odb_core.proofs.StableLaws.{stable_handle_keeps_what_is_shown}
 
 -- ---- the view that an entry hands over
@@ -200,10 +200,6 @@ snapshot_has_the_number_of_its_entry opening seat entries view legal is =
     next : IsNext opening is.past is.entry
     next = subst (λ (l : List Entry). IsNext opening l is.entry) (ap (take (length is.past)) is.splits ∙ take-append_seam is.past (is.entry ∷ is.later)) (legal (length is.past) is.entry there)
 
--- each of these entries is next behind those before it
-abbrev pub AreNext : Shape → List Entry → List Entry → Type 0
-AreNext opening past later = (i : ℕ) (entry : Entry) → slice_get later i ≡ Some entry → IsNext opening (past ++ take i later) entry
-
 rises_on : (opening : Shape) (seat : ℕ) (later past : List Entry) (view last : View) → AreNext opening past later → snapshot_of seat past ≡ Some view → view.snapshot.entry ≤ newest past
     → snapshot_of seat (past ++ later) ≡ Some last → view.snapshot.entry ≤ last.snapshot.entry
 rises_on opening seat [] past view last next is below at =
@@ -212,13 +208,10 @@ rises_on opening seat [] past view last next is below at =
     let equal : view.snapshot.entry ≡ last.snapshot.entry = ap (λ (v : View). v.snapshot.entry) it in
     omega arith
 rises_on opening seat (entry ∷ later) past view last next is below at =
-    by (entry_hands seat entry) (λ v. rises_on opening seat later (past ++ entry ∷ []) v last rest)
+    by (entry_hands seat entry) (λ v. rises_on opening seat later (past ++ entry ∷ []) v last (next_rest opening past entry later next))
   where
     this : IsNext opening past entry
-    this = subst (λ (l : List Entry). IsNext opening l entry) (append-nil past) (next 0 entry refl)
-
-    rest : AreNext opening (past ++ entry ∷ []) later
-    rest i one is = subst (λ (l : List Entry). IsNext opening l one) (sym (append_assoc past (entry ∷ []) (take i later))) (next (suc i) one is)
+    this = next_first opening past entry later next
 
     end : snapshot_of seat ((past ++ entry ∷ []) ++ later) ≡ Some last
     end = ap (snapshot_of seat) (append_assoc past (entry ∷ []) later) ∙ at

@@ -1,14 +1,15 @@
 -- Which event brought what a slot's file holds, and which passed it over, for laws of what journals replay to.
-use Rattle.std.specs.Prelude.{◌≡◌, ℕ, true, List, map, Some, None, Err}
+use Rattle.std.specs.Prelude.{◌≡◌, ℕ, Bool, true, false, List, map, Some, None, Ok}
 use Rattle.std.specs.List.{AllByRecursion, Contains}
 use Rattle.odb_base.specs.Path.{Path}
 use Rattle.gix_pack_files.specs.FileBytes.{FileBytes}
 use Rattle.gix_odb_slots.specs.OnDiskFile.{loaded}
+use Rattle.gix_odb_core.specs.Replay.{Answer, is_refresh}
 use Rattle.gix_odb_slots.specs.Slots.{PackFile, holds, new_packs}
+use Rattle.gix_odb_core.specs.declared.event.Effect.TheVariants as effects
 use Rattle.gix_odb_core.specs.declared.event.Event.{Event}
 use Rattle.gix_odb_core.specs.declared.event.Event.TheVariants as event
 use Rattle.gix_odb_core.specs.declared.event.PassWhy.{PassWhy}
-use Rattle.gix_odb_core.specs.declared.event.Refusal.TheVariants as refusals
 use Rattle.gix_odb_core.specs.declared.journal.Entry.{Entry}
 use Rattle.gix_odb_slots.specs.declared.listing.Listing.{Listing}
 use Rattle.gix_odb_slots.specs.declared.listing.ListingRow.{ListingRow}
@@ -36,9 +37,22 @@ PassesOver happens place path = (why : PassWhy) × (happens ≡ event.PassOver p
 abbrev pub Lists : Event → ListingRow → Type 0
 Lists happens row = (listing : Listing) × (happens ≡ event.Publish listing) × Contains listing.rows row
 
--- an entry tells of such an event, which wasn't refused for want of memory
-abbrev pub Tells : List Entry → (Event → Type 0) → Type 0
-Tells entries P = (entry : Entry) × Contains entries entry × (entry.answer ≡ Err refusals.NoMemory → ⊥) × P entry.event
+-- whether an answer says that a file was stored
+abbrev pub is_stored : Answer → Bool
+is_stored (Ok (effects.Put view stored)) = stored
+is_stored answer = false
+
+-- an entry tells of such an event, with such an answer
+abbrev pub Tells : List Entry → (Answer → Bool) → (Event → Type 0) → Type 0
+Tells entries is_so P = (entry : Entry) × Contains entries entry × (is_so entry.answer ≡ true) × P entry.event
+
+-- an entry published a listing with this row, or confirmed the list by it
+abbrev pub TellsListing : List Entry → ListingRow → Type 0
+TellsListing entries row = Tells entries is_refresh (λ happens. Lists happens row)
+
+-- an entry stored the file of such an event
+abbrev pub TellsPut : List Entry → (Event → Type 0) → Type 0
+TellsPut entries P = Tells entries is_stored P
 
 -- what was read of a multi-index is what its row had
 abbrev pub IsMultiOf : ListingRow → IndexFile → Type 0
@@ -51,32 +65,32 @@ pub record IsOfRow (row : ListingRow) (filled : Filled) : Type 0 where
   pub multi : IsMultiOf row filled.index
   pub packs : map (λ pack. pack.path) filled.packs ≡ map (λ pack. pack.path) (new_packs row.path row.multi)
 
--- what was read of a single index was put by an entry
+-- what was read of a single index was stored by an entry
 abbrev pub IsIndexTold : List Entry → ℕ → IndexFile → Type 0
-IsIndexTold entries place (Single file) = (bytes : FileBytes) → loaded file.state ≡ Some bytes → Tells entries (λ happens. PutsIndex happens place file.path bytes)
+IsIndexTold entries place (Single file) = (bytes : FileBytes) → loaded file.state ≡ Some bytes → TellsPut entries (λ happens. PutsIndex happens place file.path bytes)
 IsIndexTold entries place (Multi file) = Unit {0}
 
--- what was read of packs was put by entries
+-- what was read of packs was stored by entries
 abbrev pub ArePacksTold : List Entry → ℕ → List PackFile → Type 0
-ArePacksTold entries place packs = AllByRecursion (λ pack. (bytes : FileBytes) → loaded pack.state ≡ Some bytes → Tells entries (λ happens. PutsPack happens place pack.path bytes)) packs
+ArePacksTold entries place packs = AllByRecursion (λ pack. (bytes : FileBytes) → loaded pack.state ≡ Some bytes → TellsPut entries (λ happens. PutsPack happens place pack.path bytes)) packs
 
--- each slot is of a row that was published, and what was read of its single index and of its packs was put
+-- each slot is of a row that was published, and what was read of its single index and of its packs was stored
 pub record IsTold (entries : List Entry) (place : ℕ) (filled : Filled) : Type 0 where
   pub row : ListingRow
-  pub listed : Tells entries (λ happens. Lists happens row)
+  pub listed : TellsListing entries row
   pub of_row : IsOfRow row filled
   pub index : IsIndexTold entries place filled.index
   pub packs : ArePacksTold entries place filled.packs
 
--- what a view shows of an index was put by an entry, or is what its row had
+-- what a view shows of an index was stored by an entry, or is what its row had
 abbrev pub IsLoadedTold : List Entry → ℕ → Path → ListingRow → LoadedIndex → Type 0
-IsLoadedTold entries slot path row (shown.Single bytes) = (row.multi ≡ None) × Tells entries (λ happens. PutsIndex happens slot path bytes)
+IsLoadedTold entries slot path row (shown.Single bytes) = (row.multi ≡ None) × TellsPut entries (λ happens. PutsIndex happens slot path bytes)
 IsLoadedTold entries slot path row (shown.Multi bytes) = row.multi ≡ Some bytes
 
--- a shown index is of a row that was published, and what is shown of it and of its packs was put by entries
+-- a shown index is of a row that was published, and what is shown of it and of its packs was stored by entries
 pub record IsShownTold (entries : List Entry) (shows : SnapshotIndex) : Type 0 where
   pub row : ListingRow
-  pub listed : Tells entries (λ happens. Lists happens row)
+  pub listed : TellsListing entries row
   pub path : shows.path ≡ row.path
   pub index : IsLoadedTold entries shows.slot shows.path row shows.index
   pub pack_paths : map (λ pack. pack.path) shows.packs ≡ map (λ pack. pack.path) (new_packs row.path row.multi)

@@ -101,6 +101,10 @@ pub record IsNext (opening : Shape) (past : List Entry) (entry : Entry) : Type 0
 abbrev pub IsLegal : Shape → List Entry → Type 0
 IsLegal opening entries = (i : ℕ) (entry : Entry) → slice_get entries i ≡ Some entry → IsNext opening (take i entries) entry
 
+-- each of these entries stands behind the past and those before it
+abbrev pub AreNext : Shape → (past later : List Entry) → Type 0
+AreNext opening past later = (i : ℕ) (entry : Entry) → slice_get later i ≡ Some entry → IsNext opening (past ++ take i later) entry
+
 -- one entry more, with this event and answer
 abbrev pub Appends : Shape → (past now : List Entry) → (seat : ℕ) → Event → Answer → Type 0
 Appends opening past now seat event answer = (entry : Entry) × (now ≡ past ++ entry ∷ []) × IsNext opening past entry × (entry.seat ≡ seat) × (entry.event ≡ event) × (entry.answer ≡ answer)
