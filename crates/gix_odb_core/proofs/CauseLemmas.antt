@@ -5,7 +5,8 @@ use Rattle.gix_odb_core.proofs.PublishingRule.{free_count, new_count, publishing
 use Rattle.gix_odb_core.specs.Causes.{HasTooFewSlots, StandsAtLast}
 use Rattle.gix_odb_slots.specs.Publish.{slot_at}
 use Rattle.gix_odb_core.specs.Replay.{Answer, answer_of, publish_answer, put_answer}
-use Rattle.gix_odb_core.specs.Steps.{Outdated, Overflows, Published, Publishing, TooFew, Unchanged, after, last_generation, last_state, publishing, shape_published, shape_stored, would_overflow}
+use Rattle.gix_odb_core.specs.Steps.{Publishing, Outdated, TooFew, Overflows, Unchanged, Published, after, last_generation, last_state}
+use Rattle.gix_odb_core.specs.Steps.{publishing, shape_published, shape_stored, would_overflow}
 use Rattle.gix_odb_slots.specs.Files.{slot_with_index, slot_with_pack}
 use Rattle.gix_odb_core.specs.Views.{view_of}
 use Rattle.gix_odb_core.specs.declared.event.Effect.TheVariants as effects

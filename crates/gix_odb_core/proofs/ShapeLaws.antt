@@ -1,7 +1,7 @@
 -- Laws of shapes: what holds of the shape that a core is made with, and stays so after every event that can happen.
 use Rattle.std.proofs.Common.{◌≡◌, ℕ, ◌+◌, ◌<◌, ◌≤◌, true, false, ◌&&◌, nat_eq, zero, suc, List, [], ◌∷◌, ◌++◌}
 use Rattle.std.proofs.Common.{get_or, replicate, set, Option, Some, None, is_some, inl, inr, refl, sym, ap, subst, ◌∙◌, arith}
-use Rattle.std.specs.List.{AllPass, filter_map}
+use Rattle.std.specs.List.{AllPass, IsDistinct, filter_map}
 use Rattle.std.proofs.lemmas.List.Elements.{All-from_recursion, All-nil, recursion_from_All}
 use Rattle.gix_odb_core.specs.Handles.{is_any_stable}
 use Rattle.gix_odb_slots.specs.OnDiskFile.{is_loaded, loaded}
@@ -24,7 +24,7 @@ use Rattle.gix_odb_slots.specs.declared.slot.IndexFile.{IndexFile}
 use Rattle.gix_odb_slots.specs.declared.slot.IndexFile.TheVariants.{Single, Multi}
 use Rattle.gix_odb_slots.proofs.ApartLaws.{publish_keeps_slots_apart}
 use Rattle.gix_odb_slots.proofs.ApartLemmas.{apart_at, apart_from, each_at, each_from}
-use Rattle.gix_odb_slots.proofs.PublishLaws.{listed_slots_are_filled}
+use Rattle.gix_odb_slots.proofs.PublishLaws.{IsDistinct-list_after, listed_slots_are_filled}
 use Rattle.gix_odb_slots.proofs.SameIndexLemmas.{same_filled, same_filled_flip}
 use Rattle.gix_odb_core.proofs.SlotTurnLemmas.{CameFrom, SlotTurn, came_from, confirmed_list_is_the_same, entry_gives, publish_gives, publish_turns, set_turn, slots_by, stored_gives}
 use Rattle.gix_odb_slots.proofs.SlotsAfterLemmas.{slot_at-get_or}
@@ -112,6 +112,7 @@ shape-steps happens shape now state is steps order =
     record {
       apart = apart-steps happens shape.slots now steps is.apart;
       listed = listed-steps happens shape.slots now steps shape.list is.listed;
+      distinct = is.distinct;
       multis = multis-steps happens shape.slots now steps is.multis;
       numbered = let below = is.numbered in omega arith;
     }
@@ -151,12 +152,14 @@ module _ (shape : Shape) (listing : Listing) (is : IsShape shape) where
         listed =
             subst (λ list. AllPass (λ place. is_some (slot_at (slots_by shape listing.rows) place)) list) (confirmed_list_is_the_same shape listing.rows confirmed)
             (listed_slots_are_filled listing.rows (slots_by shape listing.rows));
+        distinct = is.distinct;
         multis = multis-publish;
         numbered = is.numbered;
       })
       (λ room confirmed. record {
         apart = publish_keeps_slots_apart (is_any_stable shape.handles) listing.rows shape.slots shape.list differ is.apart;
         listed = listed_slots_are_filled listing.rows (slots_by shape listing.rows);
+        distinct = IsDistinct-list_after listing.rows (slots_by shape listing.rows) differ;
         multis = multis-publish;
         numbered = let below = is.numbered in omega arith;
       })
@@ -176,10 +179,12 @@ opened_slots_are_empty opening opened place = ap (λ (s : Shape). slot_at s.slot
 
 -- what holds of every shape holds of the one that a core is made with
 pub opening_shape_is_a_shape : (slots folders generation state : ℕ) → IsShape (opening_shape slots folders generation state)
+unfolding IsDistinct
 opening_shape_is_a_shape slots folders generation state =
     record {
       apart = apart_from same_filled (replicate slots None) (λ i j one other order is its. let no = sym (opening_slots_are_empty slots i) ∙ is in absurd cc);
       listed = All-nil (λ (place : ℕ). is_some (slot_at (replicate slots None) place) ≡ true);
+      distinct = tt;
       multis = All-from_recursion (λ (f : Filled). is_read f.index ≡ true) (filter_map (λ slot. slot) (replicate slots None))
           (each_from (λ f. is_read f.index ≡ true) (replicate slots None) (λ place filled is. let no = sym (opening_slots_are_empty slots place) ∙ is in absurd cc));
       numbered = omega arith;
@@ -187,9 +192,9 @@ opening_shape_is_a_shape slots folders generation state =
 
 -- and is kept by each event that can happen
 pub event_keeps_a_shape : (shape : Shape) (seat : ℕ) (happens : Event) → CanHappen shape seat happens → IsShape shape → IsShape (after shape seat happens)
-event_keeps_a_shape shape seat (event.Register stable) can is = record { apart = is.apart; listed = is.listed; multis = is.multis; numbered = is.numbered }
-event_keeps_a_shape shape seat event.Upgrade can is = record { apart = is.apart; listed = is.listed; multis = is.multis; numbered = is.numbered }
-event_keeps_a_shape shape seat event.Remove can is = record { apart = is.apart; listed = is.listed; multis = is.multis; numbered = is.numbered }
+event_keeps_a_shape shape seat (event.Register stable) can is = record { apart = is.apart; listed = is.listed; distinct = is.distinct; multis = is.multis; numbered = is.numbered }
+event_keeps_a_shape shape seat event.Upgrade can is = record { apart = is.apart; listed = is.listed; distinct = is.distinct; multis = is.multis; numbered = is.numbered }
+event_keeps_a_shape shape seat event.Remove can is = record { apart = is.apart; listed = is.listed; distinct = is.distinct; multis = is.multis; numbered = is.numbered }
 event_keeps_a_shape shape seat event.Look can is = is
 event_keeps_a_shape shape seat event.Report can is = is
 event_keeps_a_shape shape seat (event.PutIndex slot path file) can is =

@@ -1,6 +1,7 @@
 -- What an event makes of a shape, and what it answers.
-use Rattle.std.specs.Prelude.{ℕ, ◌+◌, ◌-◌, Bool, true, false, ◌&&◌, ◌||◌, ◌==◌, not, List, [], length, replicate, ◌≤◌, Option, Some, None, is_some, nat_lt, slice_set, if◌then◌else◌}
-use Rattle.std.specs.List.{AllPass, filter_map, list_any}
+pub mod Files
+use Rattle.std.specs.Prelude.{ℕ, ◌+◌, ◌-◌, Bool, true, false, ◌&&◌, ◌||◌, ◌==◌, not, List, [], length, replicate, ◌≤◌, Option, Some, None, is_some, nat_eq, nat_lt, slice_set, if◌then◌else◌}
+use Rattle.std.specs.List.{AllPass, IsDistinct, filter_map, list_any}
 use Rattle.gix_odb_core.specs.Handles.{is_any_stable, with_seat, without_seat}
 use Rattle.gix_odb_slots.specs.Files.{slot_passed, slot_with_index, slot_with_pack}
 use Rattle.gix_odb_slots.specs.OnDiskFile.{is_loaded}
@@ -116,7 +117,8 @@ is_read (Multi file) = is_loaded file.state
 pub record IsShape (shape : Shape) : Type 0 where
   -- no two slots hold the same single index, or the same multi-index of one time
   pub apart : IsApart shape.slots
-  -- the list is one of filled slots
+  -- the list is one of filled slots, and has none twice
   pub listed : AllPass (λ place. is_some (slot_at shape.slots place)) shape.list
+  pub distinct : IsDistinct nat_eq shape.list
   pub multis : AllPass (λ filled. is_read filled.index) (filter_map (λ slot. slot) shape.slots)
   pub numbered : shape.list_no ≤ shape.state_id
