@@ -1,12 +1,13 @@
 -- The journal of a core is legal, and replays to its shape, after every event.
-use Rattle.std.proofs.Common.{◌≡◌, ℕ, ◌⊎◌, inl, inr, List, Ok, Err, refl, sym, ap, subst, ◌∙◌}
+use Rattle.std.proofs.Common.{◌≡◌, ℕ, ◌⊎◌, inl, inr, true, not, List, Ok, Err, refl, sym, ap, subst, ◌∙◌}
+use Rattle.std.proofs.lemmas.List.Elements.{All-push}
 use Rattle.std.specs.Result.{OnErr}
 use Rattle.gix_odb_core.proofs.CauseLemmas.{overflow-cause, refused-leaves, too_few-cause}
 use Rattle.gix_odb_core.proofs.ReplayLemmas.{IsLegal-push, after_answer-changes, replay-push}
 use Rattle.gix_odb_core.proofs.ShapeLaws.{possible_journal_grows}
 use Rattle.gix_odb_core.specs.Causes.{HasTooFewSlots, StandsAtLast}
 use Rattle.gix_odb_core.specs.Core.{IsCore, shape_of}
-use Rattle.gix_odb_core.specs.Possible.{IsPossible}
+use Rattle.gix_odb_core.specs.Possible.{IsComplete, IsPossible, lacks_memory}
 use Rattle.gix_odb_core.specs.Replay.{Answer, Appends, CanHappen, IsLegal, IsNeverRefused, IsNext, answer_of, number_behind, replay}
 use Rattle.gix_odb_core.specs.State.{IsNextState, IsSameState, entries_in, entry_of}
 use Rattle.gix_odb_core.specs.Steps.{after}
@@ -25,6 +26,12 @@ cases_memory (Ok effect) = inr (λ h. cc)
 cases_memory (Err refusals.NoMemory) = inl refl
 cases_memory (Err refusals.GenerationOverflow) = inr (λ h. cc)
 cases_memory (Err (refusals.InsufficientSlots current needed)) = inr (λ h. cc)
+
+has_memory : (answer : Answer) → ¬ (answer ≡ Err refusals.NoMemory) → not (lacks_memory answer) ≡ true
+has_memory (Ok effect) some = refl
+has_memory (Err refusals.NoMemory) some = absurd (some refl)
+has_memory (Err refusals.GenerationOverflow) some = refl
+has_memory (Err (refusals.InsufficientSlots current needed)) some = refl
 
 pub never_refused-other : (happens : Event) (answer : Answer) → ¬ (happens ≡ event.Remove) → IsNeverRefused happens answer
 never_refused-other (event.Register stable) answer other = tt
@@ -45,6 +52,7 @@ module _ (opening : Opening) (old now : State) (core : IsCore (record { opening 
         replayed = same.shape ∙ core.replayed ∙ ap (replay (shape_of opening)) (sym same.entries);
         legal = subst (λ (l : List Entry). IsLegal (shape_of opening) l) (sym same.entries) core.legal;
         possible = subst (λ (l : List Entry). IsPossible (shape_of opening) l) (sym same.entries) core.possible;
+        complete = subst IsComplete (sym same.entries) core.complete;
       }
 
   module _ (seat : ℕ) (happens : Event) (answer : Answer) (next : IsNextState old seat happens answer now) (some : ¬ (answer ≡ Err refusals.NoMemory)) where
@@ -71,6 +79,8 @@ module _ (opening : Opening) (old now : State) (core : IsCore (record { opening 
               (IsLegal-push (shape_of opening) (entries_in old) (entry_of (entries_in old) seat happens answer) core.legal stands);
           possible = subst (λ (l : List Entry). IsPossible (shape_of opening) l) (sym next.entries)
               (possible_journal_grows (entries_in old) (shape_of opening) (entry_of (entries_in old) seat happens answer) core.possible can);
+          complete = subst IsComplete (sym next.entries)
+              (All-push (λ (e : Entry). not (lacks_memory e.answer) ≡ true) (entries_in old) (entry_of (entries_in old) seat happens answer) core.complete (has_memory answer some));
         }
 
     pub appends : Appends (shape_of opening) (entries_in old) (entries_in now) seat happens answer

@@ -44,7 +44,7 @@ impl Core {
     ghost use Rattle.gix_odb_core.specs.History.{opened, present};
     ghost use Rattle.gix_odb_core.specs.Journal.{entries_of};
     ghost use Rattle.gix_odb_core.specs.Metrics.{metrics_of};
-    ghost use Rattle.gix_odb_core.specs.Possible.{IsOpened, IsPossible};
+    ghost use Rattle.gix_odb_core.specs.Possible.{IsComplete, IsOpened, IsPossible};
     ghost use Rattle.gix_odb_core.specs.Replay.{Appends, CanHappen, IsLegal, IsNeverRefused, answer_of, number_behind, refreshes_in};
     ghost use Rattle.gix_odb_core.specs.State.{newest};
     ghost use Rattle.gix_odb_core.specs.Steps.{IsShape, after};
@@ -110,12 +110,13 @@ impl Core {
         &self.state.view
     }
 
-    /// What happened to it. It is legal, and each event could happen when it came.
+    /// What happened to it. It is legal, each event could happen when it came, and none was refused for want of memory.
     pub fn journal(&self) -> &Journal
         ensures entries { entries_of result.now ≡ self.now.entries }
         ensures legal { IsLegal self.now.opening self.now.entries }
         ensures opened { IsOpened self.now.opening }
         ensures possible { IsPossible self.now.opening self.now.entries }
+        ensures complete { IsComplete self.now.entries }
     {
         &self.state.journal
     }
