@@ -6,6 +6,7 @@ pub mod OriginLaws
 pub mod PutLaws
 pub mod ListingLaws
 pub mod ShownLaws
+pub mod TodoLaws
 pub mod OrderLaws
 pub mod MissingLaws
 pub mod GarbageLaws

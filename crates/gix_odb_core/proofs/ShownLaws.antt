@@ -1,5 +1,5 @@
 -- Laws of what a view shows: each shown index is of a row that the journal published, and its bytes and those of its packs were stored by entries.
-use Rattle.std.proofs.Common.{◌≡◌, ℕ, true, List, Option, Some, None, option_map, refl, subst}
+use Rattle.std.proofs.Common.{◌≡◌, ℕ, ◌<◌, true, List, length, Option, Some, None, option_map, refl, subst, arith}
 use Rattle.gix_pack_files.specs.FileBytes.{FileBytes}
 use Rattle.gix_odb_core.specs.Views.{IsShown, view_of}
 use Rattle.gix_odb_slots.specs.OnDiskFile.{loaded}
@@ -18,9 +18,11 @@ use Rattle.gix_odb_slots.specs.declared.slot.IndexFile.TheVariants.{Single, Mult
 use Rattle.gix_odb_slots.specs.declared.loaded.LoadedIndex.{LoadedIndex}
 use Rattle.gix_odb_slots.specs.declared.loaded.LoadedIndex.TheVariants as shown
 use Rattle.gix_odb_slots.specs.declared.loaded.SnapshotIndex.{SnapshotIndex}
+use Rattle.gix_odb_core.proofs.NumberLaws.{entries_lower_no_number}
 use Rattle.gix_odb_core.proofs.OriginLaws.{journal_tells_each_slot}
-use Rattle.gix_odb_core.proofs.ShownLemmas.{shown_from}
+use Rattle.gix_odb_core.proofs.ShownLemmas.{shown_from, shown_of_slot}
 use Rattle.gix_odb_slots.proofs.SlotLemmas.{holds_path}
+use Rattle.gix_odb_slots.proofs.SlotsAfterLemmas.{filled_within}
 
 module _ (entries : List Entry) (place : ℕ) (row : ListingRow) where
   loaded_told : (index : IndexFile) (time : ℕ) (l : LoadedIndex) → is_index_of row row.multi index time ≡ true → IsMultiOf row index → IsIndexTold entries place index → loaded_index index ≡ Some l
@@ -67,3 +69,15 @@ journal_tells_what_is_shown opening opened entries legal number shows is = by (s
   where
     by : (place : ℕ) × (filled : Filled) × (slot_at (replay opening entries).slots place ≡ Some filled) × (shown_slot place (Some filled) ≡ Some shows) → IsShownTold entries shows
     by (place, filled, at, gives) = told_shows entries place filled shows (journal_tells_each_slot opening opened entries legal place filled at) gives
+
+-- its slot is one of those that the core was made with
+pub shown_slot_is_within : (opening : Shape) (entries : List Entry) (number : ℕ) (shows : SnapshotIndex) → IsShown (view_of (replay opening entries) number) shows
+    → shows.slot < length opening.slots
+shown_slot_is_within opening entries number shows is = by (shown_from (replay opening entries) number shows is)
+  where
+    by : (place : ℕ) × (filled : Filled) × (slot_at (replay opening entries).slots place ≡ Some filled) × (shown_slot place (Some filled) ≡ Some shows) → shows.slot < length opening.slots
+    by (place, filled, at, gives) =
+        let here = (shown_of_slot place filled shows gives).0 in
+        let within = filled_within (replay opening entries).slots place filled at in
+        let many = (entries_lower_no_number entries opening).slots in
+        omega arith

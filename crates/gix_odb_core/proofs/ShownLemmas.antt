@@ -1,13 +1,15 @@
 -- What a view shows is what its slots hold, listed or not, and back.
-use Rattle.std.proofs.Common.{Contains, ◌≡◌, ℕ, zero, suc, ◌+◌, Bool, true, false, cond, nat_eq, List, [], ◌∷◌, Option, Some, None, inl, inr, refl, sym, ap, subst, ◌∙◌, arith, eqb-true}
+use Rattle.std.proofs.Common.{Contains, ◌≡◌, ℕ, zero, suc, ◌+◌, Bool, true, false, cond, nat_eq, List, [], ◌∷◌, Option, Some, None, option_map}
+use Rattle.std.proofs.Common.{inl, inr, refl, sym, ap, subst, ◌∙◌, arith, eqb-true}
 use Rattle.std.specs.List.{cons_option, enumerate_from, filter_map}
 use Rattle.std.proofs.lemmas.Map.Views.{Contains-from_any}
 use Rattle.gix_odb_core.specs.Views.{IsShown, view_of}
 use Rattle.gix_odb_slots.specs.Publish.{slot_at}
-use Rattle.gix_odb_slots.specs.Slots.{Slot}
-use Rattle.gix_odb_slots.specs.Shown.{is_listed, kept_at, shown_slot}
+use Rattle.gix_odb_slots.specs.Slots.{Slot, index_path}
+use Rattle.gix_odb_slots.specs.Shown.{is_listed, kept_at, loaded_index, shown_slot}
 use Rattle.gix_odb_core.specs.declared.shape.Shape.{Shape}
 use Rattle.gix_odb_slots.specs.declared.slot.Filled.{Filled}
+use Rattle.gix_odb_slots.specs.declared.loaded.LoadedIndex.{LoadedIndex}
 use Rattle.gix_odb_slots.specs.declared.loaded.SnapshotIndex.{SnapshotIndex}
 
 -- ---- elements
@@ -59,6 +61,19 @@ has_place n (slot ∷ slots) (suc k) filled is =
     let same : ◌≡◌ {A = ℕ} (n + 1 + k) (n + suc k) = omega arith in
     contains_more (n, slot) (enumerate_from (n + 1) slots) (n + suc k, Some filled)
     (subst (λ (p : ℕ). Contains (enumerate_from (n + 1) slots) (p, Some filled)) same (has_place (n + 1) slots k filled is))
+
+-- ---- one slot
+
+-- what a slot shows has the number of the slot, and its index was read
+pub shown_of_slot : (place : ℕ) (filled : Filled) (shows : SnapshotIndex) → shown_slot place (Some filled) ≡ Some shows → (shows.slot ≡ place) × (loaded_index filled.index ≡ Some shows.index)
+shown_of_slot place filled shows is = by (loaded_index filled.index) refl is
+  where
+    shown_as : LoadedIndex → SnapshotIndex
+    shown_as l = record { slot = place; path = index_path filled.index; index = l; packs = filled.packs }
+
+    by : (o : Option LoadedIndex) → loaded_index filled.index ≡ o → option_map shown_as o ≡ Some shows → (shows.slot ≡ place) × (loaded_index filled.index ≡ Some shows.index)
+    by None read maps = absurd cc
+    by (Some l) read maps = let same : shown_as l ≡ shows = cc in (sym (ap (λ (s : SnapshotIndex). s.slot) same), read ∙ ap (λ (s : SnapshotIndex). Some s.index) same)
 
 -- ---- views
 

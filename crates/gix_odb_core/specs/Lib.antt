@@ -22,6 +22,7 @@ pub mod Core
 pub mod Causes
 pub mod Possible
 pub mod Origins
+pub mod Todos
 pub mod Numbers
 pub mod Listed
 pub mod Misses

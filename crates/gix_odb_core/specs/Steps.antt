@@ -1,5 +1,4 @@
 -- What an event makes of a shape, and what it answers.
-pub mod Files
 use Rattle.std.specs.Prelude.{ℕ, ◌+◌, ◌-◌, Bool, true, false, ◌&&◌, ◌||◌, ◌==◌, not, List, [], length, replicate, ◌≤◌, Option, Some, None, is_some, nat_eq, nat_lt, slice_set, if◌then◌else◌}
 use Rattle.std.specs.List.{AllPass, IsDistinct, filter_map, list_any}
 use Rattle.gix_odb_core.specs.Handles.{is_any_stable, with_seat, without_seat}
