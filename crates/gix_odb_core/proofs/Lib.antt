@@ -11,6 +11,7 @@ pub mod OrderLaws
 pub mod MissingLaws
 pub mod GarbageLaws
 pub mod SnapshotLaws
+pub mod StableSnapshotLaws
 pub mod HandleLaws
 mod OpenedLemmas
 pub mod HandleLemmas

@@ -86,7 +86,7 @@ last_or-append : {X : Type 0} (o : Option X) (xs ys : List X) → last_or o (xs 
 last_or-append o [] ys = refl
 last_or-append o (x ∷ xs) ys = last_or-append (Some x) xs ys
 
-handed-append : (seat : ℕ) (past later : List Entry) → handed_to seat (past ++ later) ≡ handed_to seat past ++ handed_to seat later
+pub handed-append : (seat : ℕ) (past later : List Entry) → handed_to seat (past ++ later) ≡ handed_to seat past ++ handed_to seat later
 handed-append seat past later =
     ap (filter_map (λ (e : Entry). view_in e.answer)) (filter-append (λ (e : Entry). e.seat == seat) past later)
     ∙ filter_map-append (λ (e : Entry). view_in e.answer) (filter (λ (e : Entry). e.seat == seat) past) (filter (λ (e : Entry). e.seat == seat) later)

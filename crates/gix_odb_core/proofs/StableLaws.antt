@@ -139,7 +139,7 @@ stable_handle_keeps_each_slot (entry ∷ entries) shape seat stable possible sta
 -- ---- a view
 
 -- a slot that keeps what was read shows the same index
-shows_again : (place : ℕ) (before now : Filled) (index : SnapshotIndex) → KeepsReadFiles before now → shown_slot place (Some before) ≡ Some index
+pub shows_again : (place : ℕ) (before now : Filled) (index : SnapshotIndex) → KeepsReadFiles before now → shown_slot place (Some before) ≡ Some index
     → (again : SnapshotIndex) × (shown_slot place (Some now) ≡ Some again) × ShowsAgain index again
 shows_again place before now index keeps shows = by (loaded_index before.index) refl shows
   where
