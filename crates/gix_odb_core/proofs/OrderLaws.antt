@@ -1,6 +1,8 @@
--- Laws of the order of a journal: entries that have no effect can be left out.
-use Rattle.std.proofs.Common.{◌≡◌, ℕ, ◌+◌, Bool, true, false, not, ◌||◌, cond, ◌==◌, List, [], ◌∷◌, ◌++◌, filter, set}
+-- Laws of the order of a journal: entries that have no effect can be left out, and each has the answer of its event.
+use Rattle.std.proofs.Common.{◌≡◌, ℕ, ◌+◌, Bool, true, false, not, ◌||◌, cond, ◌==◌, List, [], ◌∷◌, ◌++◌, take, slice_get, filter, set}
 use Rattle.std.proofs.Common.{Option, Some, None, Ok, Err, ◌⊎◌, inl, inr, refl, sym, ap, subst, ◌∙◌}
+use Rattle.std.proofs.lemmas.Option.{get_or_from_slice_get, slice_get_within}
+use Rattle.gix_odb_core.specs.Possible.{IsComplete, lacks_memory}
 use Rattle.gix_odb_slots.specs.Publish.{slot_at}
 use Rattle.gix_odb_core.specs.Quiet.{has_no_effect, is_idle, only_asks}
 use Rattle.gix_odb_core.specs.Replay.{Answer, AreNext, IsLegal, IsNext, after_answer, after_entry, answer_of, number_behind, publish_answer, put_answer, replay}
@@ -85,16 +87,38 @@ left_out : (opening : Shape) (later past : List Entry) → AreNext opening past 
 left_out opening [] past next = refl
 left_out opening (entry ∷ later) past next =
     by (has_no_effect entry) refl
-    (subst (λ (s : Shape). replay s later ≡ replay s (filter (λ e. not (has_no_effect e)) later)) (replay-push opening past entry) (left_out opening later (past ++ entry ∷ []) (next_rest opening past entry later next)))
+    (subst (λ (s : Shape). replay s later ≡ replay s (filter (λ e. not (has_no_effect e)) later)) (replay-push opening past entry)
+    (left_out opening later (past ++ entry ∷ []) (next_rest opening past entry later next)))
   where
     by : (b : Bool) → has_no_effect entry ≡ b
         → replay (after_entry (replay opening past) entry) later ≡ replay (after_entry (replay opening past) entry) (filter (λ e. not (has_no_effect e)) later)
         → replay (after_entry (replay opening past) entry) later
         ≡ replay (replay opening past) (cond (not b) (entry ∷ filter (λ e. not (has_no_effect e)) later) (filter (λ e. not (has_no_effect e)) later))
-    by true quiet same = same ∙ ap (λ (s : Shape). replay s (filter (λ e. not (has_no_effect e)) later)) (entry_without_effect_changes_nothing opening past entry (next_first opening past entry later next) quiet)
+    by true quiet same = same
+        ∙ ap (λ (s : Shape). replay s (filter (λ e. not (has_no_effect e)) later))
+        (entry_without_effect_changes_nothing opening past entry (next_first opening past entry later next) quiet)
     by false quiet same = same
 
 -- a legal journal replays to the same shape without its entries that have no effect
 pub journal_replays_without_idle_entries : (opening : Shape) (entries : List Entry) → IsLegal opening entries
     → replay opening entries ≡ replay opening (filter (λ entry. not (has_no_effect entry)) entries)
 journal_replays_without_idle_entries opening entries legal = left_out opening entries [] legal
+
+-- ---- journals of cores
+
+-- each entry of a legal journal, where none lacked memory, has the answer that its event gives behind those before it
+pub complete_journal_has_each_answer : (opening : Shape) (entries : List Entry) → IsLegal opening entries → IsComplete entries
+    → (i : ℕ) (entry : Entry) → slice_get entries i ≡ Some entry
+    → entry.answer ≡ answer_of (take i entries) (replay opening (take i entries)) (number_behind (take i entries)) entry.seat entry.event
+complete_journal_has_each_answer opening entries legal complete i entry is = by (legal i entry is).answered
+  where
+    past : List Entry
+    past = take i entries
+
+    some : not (lacks_memory entry.answer) ≡ true
+    some = subst (λ (e : Entry). not (lacks_memory e.answer) ≡ true) (get_or_from_slice_get entries i entry entry is) (complete i entry (slice_get_within entries i entry is))
+
+    by : (entry.answer ≡ Err refusals.NoMemory) ⊎ (entry.answer ≡ answer_of past (replay opening past) (number_behind past) entry.seat entry.event)
+        → entry.answer ≡ answer_of past (replay opening past) (number_behind past) entry.seat entry.event
+    by (inl lacks) = let wrong : false ≡ true = ap (λ a. not (lacks_memory a)) (sym lacks) ∙ some in absurd cc
+    by (inr answered) = answered

@@ -180,8 +180,8 @@ entry_tells_each_slot opening past entry next told = subst (IsShapeTold (past ++
     present : Shape
     present = replay opening past
 
-    same : IsShapeTold (past ++ entry ∷ []) present
-    same place filled is = told_more past entry place filled (told place filled is)
+    unchanged : IsShapeTold (past ++ entry ∷ []) present
+    unchanged place filled is = told_more past entry place filled (told place filled is)
 
     from : Succeeds entry.event entry.answer → (place : ℕ) (filled : Filled) → CameFrom present entry.event place filled → IsTold (past ++ entry ∷ []) place filled
     from succeeds place filled (inl taken) =
@@ -190,9 +190,9 @@ entry_tells_each_slot opening past entry next told = subst (IsShapeTold (past ++
     from succeeds place filled (inr (old, was, step)) = told-step past entry place succeeds old filled step (told place old was)
 
     by : (b : Bool) → has_no_effect entry ≡ b → IsShapeTold (past ++ entry ∷ []) (after_entry present entry)
-    by true quiet = subst (IsShapeTold (past ++ entry ∷ [])) (sym (entry_without_effect_changes_nothing opening past entry next quiet)) same
+    by true quiet = subst (IsShapeTold (past ++ entry ∷ [])) (sym (entry_without_effect_changes_nothing opening past entry next quiet)) unchanged
     by false busy =
-        entry_gives (IsShapeTold (past ++ entry ∷ [])) present entry same
+        entry_gives (IsShapeTold (past ++ entry ∷ [])) present entry unchanged
         (λ place filled is. from (succeeds-entry opening past entry next busy) place filled (filled_came_from present entry.seat entry.event place filled is))
 
 pub entries_tell_each_slot : (opening : Shape) (later past : List Entry) → AreNext opening past later → IsShapeTold past (replay opening past)
