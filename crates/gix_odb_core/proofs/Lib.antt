@@ -7,6 +7,7 @@ pub mod PutLaws
 pub mod ListingLaws
 pub mod ShownLaws
 pub mod TodoLaws
+pub mod OnceLaws
 pub mod OrderLaws
 pub mod MissingLaws
 pub mod GarbageLaws

@@ -15,7 +15,7 @@ pub mod PassLemmas
 mod KeptFilesLemmas
 mod PublishLemmas
 mod PositionLemmas
-mod FilterMapLemmas
+pub mod FilterMapLemmas
 mod LoopLemmas
 mod MarkLemmas
 mod PackIdLemmas
