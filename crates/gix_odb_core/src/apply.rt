@@ -41,6 +41,7 @@ impl Model for Core {
 impl Core {
     ghost use Rattle.std.specs.Prelude.{◌≡◌, ℕ, ◌≤◌, ◌⊎◌, IfOk, OnErr, length};
     ghost use Rattle.gix_odb_core.specs.Causes.{HasTooFewSlots, StandsAtLast};
+    ghost use Rattle.gix_odb_core.specs.Handles.{registered};
     ghost use Rattle.gix_odb_core.specs.History.{opened, present};
     ghost use Rattle.gix_odb_core.specs.Journal.{entries_of};
     ghost use Rattle.gix_odb_core.specs.Metrics.{metrics_of};
@@ -119,6 +120,13 @@ impl Core {
         ensures complete { IsComplete self.now.entries }
     {
         &self.state.journal
+    }
+
+    /// Whether the handle of a seat is stable, where one is registered.
+    pub fn handle(&self, seat: u32) -> Option<bool>
+        ensures handle { result ≡ registered (present self.now).handles seat }
+    {
+        self.state.shape.handles.get(seat)
     }
 
     /// The counts over it.
