@@ -1,2 +1,1 @@
-mod HandleLemmas
 mod ApartLemmas

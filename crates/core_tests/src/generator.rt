@@ -1,11 +1,10 @@
 //! Made-up events in words, from a seed.
-use crate::model::{Model, Place};
+use crate::events::put_time;
+use crate::model::Model;
+use crate::shelf::Place;
 use crate::text::Text;
-use std::alloc::Global;
-use std::test::Fail;
 
 /// How events are made up: how often of 16 times a new handle is stable, a handle that isn't stable is upgraded, and a handle is removed.
-#[derive(Clone, Copy)]
 pub struct Ways {
     pub stable: u64,
     pub upgraded: u64,
@@ -17,7 +16,7 @@ pub struct Ways {
 /// Numbers that follow from a seed.
 #[derive(Drop)]
 pub struct Numbers {
-    state: u64,
+    pub state: u64,
 }
 
 const PATHS: &[&str] = &[
@@ -35,11 +34,17 @@ const PACKS: &[&str] = &[
 
 const REASONS: &[&str] = &["absent", "failed", "kind", "link", "bad"];
 
-impl Numbers {
-    pub fn new(seed: u64) -> Numbers {
-        Numbers { state: seed }
+/// The word at a place, round and round.
+fn word_at(words: &[&'static str], place: u64) -> &'static str {
+    let count = words.len() as u64;
+    if count == 0 {
+        return "";
     }
+    let place = (place % count) as usize;
+    words.get(place).copied().unwrap_or("")
+}
 
+impl Numbers {
     /// A number below another one, and 0 below 0.
     fn below(&mut self, end: u64) -> u64 {
         self.state = self
@@ -58,51 +63,40 @@ impl Numbers {
     }
 
     fn word(&mut self, words: &[&'static str]) -> &'static str {
-        let at = self.below(words.len() as u64);
-        words.get(at as usize).copied().unwrap_or("/a.idx")
-    }
-
-    /// One of the words, each of which stands once: a place and a stride through them.
-    fn stride(&mut self) -> (u64, u64) {
-        let start = self.below(9);
-        (start, if self.happens(8) { 1 } else { 2 })
+        word_at(words, self.below(1 << 16))
     }
 }
 
-fn path_at(place: u64) -> &'static str {
-    PATHS.get((place % 9) as usize).copied().unwrap_or("/a.idx")
-}
-
-/// The next event in words.
-pub fn made_up(
-    alloc: Global,
-    numbers: &mut Numbers,
-    ways: Ways,
-    model: &Model,
-) -> Result<String, Fail> {
-    let mut text = Text::new(alloc);
+/// Puts the next event in words.
+pub fn put_made_up(text: &mut Text, numbers: &mut Numbers, ways: &Ways, model: &Model) {
     let seat = numbers.below(4);
     match model.handle(seat as usize) {
-        None => put_register(&mut text, numbers, ways, seat),
-        Some(stable) => put_event(&mut text, numbers, ways, model, (seat, stable)),
+        None => put_register(text, numbers, ways, seat),
+        Some(stable) => put_event(text, numbers, ways, model, (seat, stable)),
     }
-    text.done()
 }
 
-fn put_register(text: &mut Text, numbers: &mut Numbers, ways: Ways, seat: u64) {
+fn put_register(text: &mut Text, numbers: &mut Numbers, ways: &Ways, seat: u64) {
     text.marked("register ", seat);
     if numbers.happens(ways.stable) {
         text.put(" stable");
     }
 }
 
-fn put_event(text: &mut Text, numbers: &mut Numbers, ways: Ways, model: &Model, seat: (u64, bool)) {
+/// A report comes now and then, since it has all files that were passed over.
+fn put_event(
+    text: &mut Text,
+    numbers: &mut Numbers,
+    ways: &Ways,
+    model: &Model,
+    seat: (u64, bool),
+) {
     let (seat, stable) = seat;
     match numbers.below(16) {
         0 if numbers.happens(ways.removed) => text.marked("remove ", seat),
         1 if !stable && numbers.happens(ways.upgraded) => text.marked("upgrade ", seat),
-        0..3 => text.marked("look ", seat),
-        3 => put_report(text, numbers, seat),
+        3 if numbers.happens(4) => text.marked("report ", seat),
+        0..4 => text.marked("look ", seat),
         4..7 => put_index(text, numbers, model, seat),
         7..10 => put_pack(text, numbers, model, seat),
         10 | 11 => put_pass(text, numbers, model, seat),
@@ -110,21 +104,9 @@ fn put_event(text: &mut Text, numbers: &mut Numbers, ways: Ways, model: &Model, 
     }
 }
 
-/// A report now and then, since it has all files that were passed over.
-fn put_report(text: &mut Text, numbers: &mut Numbers, seat: u64) {
-    text.marked(
-        if numbers.happens(4) {
-            "report "
-        } else {
-            "look "
-        },
-        seat,
-    );
-}
-
 /// A slot, or the number behind the last.
 fn any_slot(numbers: &mut Numbers, model: &Model) -> usize {
-    numbers.below((model.slots.len() as u64).saturating_add(1)) as usize
+    numbers.below((model.shelf.count as u64).saturating_add(1)) as usize
 }
 
 /// Mostly a slot with a file that waits to be read, where there is one behind some slot.
@@ -133,8 +115,8 @@ fn slot_of(numbers: &mut Numbers, model: &Model, index: bool) -> usize {
     if numbers.happens(5) {
         return start;
     }
-    for slot in start..model.slots.len() {
-        if is_waiting(model.at(slot), index) {
+    for slot in start..model.shelf.count {
+        if is_waiting(model.shelf.at(slot), index) {
             return slot;
         }
     }
@@ -145,27 +127,31 @@ fn slot_of(numbers: &mut Numbers, model: &Model, index: bool) -> usize {
 fn is_waiting(place: Place, index: bool) -> bool {
     match place {
         None => false,
-        Some(held) if index => !held.index.is_read(),
-        Some(held) => held.read_packs() < held.packs(),
+        Some(held) if index => held.index.count().is_none(),
+        Some(held) => held.count_read_packs() < held.count_packs(),
     }
 }
 
 /// The path of the index in a slot mostly, and another one now and then.
 fn index_path(numbers: &mut Numbers, place: Place) -> &'static str {
     match place {
-        Some(held) if !numbers.happens(3) => held.index.path,
+        Some(held) if !numbers.happens(3) => held.row.path,
         _ => numbers.word(PATHS),
     }
 }
 
+/// The path of a pack in a slot mostly, and another one now and then.
 fn pack_path(numbers: &mut Numbers, place: Place) -> &'static str {
-    let Some(held) = place else {
-        return numbers.word(PACKS);
-    };
-    match held.second {
-        Some(second) if numbers.happens(8) => second.path,
-        _ if numbers.happens(3) => numbers.word(PACKS),
-        _ => held.first.path,
+    match place {
+        Some(held) if !numbers.happens(3) => {
+            let [first, second] = held.packs;
+            if second.path.is_empty() || numbers.happens(8) {
+                first.path
+            } else {
+                second.path
+            }
+        }
+        _ => numbers.word(PACKS),
     }
 }
 
@@ -174,7 +160,7 @@ fn put_index(text: &mut Text, numbers: &mut Numbers, model: &Model, seat: u64) {
     text.marked("index ", seat);
     text.marked(" ", slot as u64);
     text.put(" ");
-    text.put(index_path(numbers, model.at(slot)));
+    text.put(index_path(numbers, model.shelf.at(slot)));
     text.marked(" ", numbers.below(4));
 }
 
@@ -186,7 +172,7 @@ fn put_pack(text: &mut Text, numbers: &mut Numbers, model: &Model, seat: u64) {
         text.marked(".", numbers.below(2));
     }
     text.put(" ");
-    text.put(pack_path(numbers, model.at(slot)));
+    text.put(pack_path(numbers, model.shelf.at(slot)));
     text.marked(" ", numbers.below(4));
 }
 
@@ -196,55 +182,55 @@ fn put_pass(text: &mut Text, numbers: &mut Numbers, model: &Model, seat: u64) {
     text.marked(" ", slot as u64);
     text.put(" ");
     text.put(if numbers.happens(8) {
-        pack_path(numbers, model.at(slot))
+        pack_path(numbers, model.shelf.at(slot))
     } else {
-        index_path(numbers, model.at(slot))
+        index_path(numbers, model.shelf.at(slot))
     });
     text.put(" ");
     text.put(numbers.word(REASONS));
 }
 
 /// A listing: mostly a new one on the newest list, now and then the same again, or one that began before.
-fn put_publish(text: &mut Text, numbers: &mut Numbers, ways: Ways, model: &Model, seat: u64) {
+fn put_publish(text: &mut Text, numbers: &mut Numbers, ways: &Ways, model: &Model, seat: u64) {
     text.marked("publish ", seat);
-    if numbers.happens(2) {
-        text.marked(" ", numbers.below(3));
-    } else {
-        text.marked(" ", model.list_no);
-    }
+    let before = numbers.below(3);
+    text.marked(
+        " ",
+        if numbers.happens(2) {
+            before
+        } else {
+            model.list_no
+        },
+    );
     if numbers.happens(4) {
         put_same_rows(text, model);
     } else {
-        put_rows(text, numbers, ways);
-    }
-}
-
-/// The rows of the newest list.
-fn put_same_rows(text: &mut Text, model: &Model) {
-    for slot in model.list.as_slice() {
-        if let Some(held) = model.at(*slot) {
-            put_row(text, held.index.path, held.multi, held.time);
-        }
+        put_rows(text, numbers, ways.rows);
     }
 }
 
 fn put_row(text: &mut Text, path: &str, multi: bool, time: u64) {
     text.put(" ");
     text.put(path);
-    if multi {
-        text.marked("@", time);
-    } else if time != 0 {
-        text.marked("+", time);
+    put_time(text, multi, time);
+}
+
+/// The rows of the newest list.
+fn put_same_rows(text: &mut Text, model: &Model) {
+    for slot in model.shelf.list.iter().flatten() {
+        if let Some(held) = model.shelf.at(*slot) {
+            put_row(text, held.row.path, held.row.multi, held.row.time);
+        }
     }
 }
 
-/// Rows of different paths.
-fn put_rows(text: &mut Text, numbers: &mut Numbers, ways: Ways) {
-    let (start, stride) = numbers.stride();
-    let count = numbers.below(ways.rows);
-    for at in 0..count {
-        let path = path_at(start.wrapping_add(at.wrapping_mul(stride)));
-        put_made_row(text, numbers, path);
+/// Rows of different paths: a stretch of them, or each second one.
+fn put_rows(text: &mut Text, numbers: &mut Numbers, end: u64) {
+    let start = numbers.below(9);
+    let stride = if numbers.happens(8) { 1 } else { 2 };
+    for at in 0..numbers.below(end) {
+        let place = start.wrapping_add(at.wrapping_mul(stride));
+        put_made_row(text, numbers, word_at(PATHS, place));
     }
 }
 
@@ -252,6 +238,5 @@ fn put_rows(text: &mut Text, numbers: &mut Numbers, ways: Ways) {
 fn put_made_row(text: &mut Text, numbers: &mut Numbers, path: &str) {
     let times = if path.ends_with(".idx") { 2 } else { 13 };
     let multi = numbers.happens(times);
-    let time = numbers.below(4);
-    put_row(text, path, multi, time);
+    put_row(text, path, multi, numbers.below(4));
 }

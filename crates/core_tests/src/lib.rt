@@ -14,25 +14,25 @@ mod files;
 #[cfg(test)]
 mod generator;
 #[cfg(test)]
+mod happening;
+#[cfg(test)]
 mod made_up;
 #[cfg(test)]
 mod model;
 #[cfg(test)]
-mod model_rows;
+mod model_files;
 #[cfg(test)]
 mod model_shown;
 #[cfg(test)]
 mod pack_ids;
-#[cfg(test)]
-mod plan;
-#[cfg(test)]
-mod played;
 #[cfg(test)]
 mod refusals;
 #[cfg(test)]
 mod reports;
 #[cfg(test)]
 mod rows;
+#[cfg(test)]
+mod shelf;
 #[cfg(test)]
 mod shown;
 #[cfg(test)]

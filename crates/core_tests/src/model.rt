@@ -1,95 +1,48 @@
-//! A second model of a core, as plain as can be: a list of slots, a list of their numbers, and some counts. It plays
+//! A second model of a core, as plain as can be: ten slots at most, a list of their numbers, and some counts. It plays
 //! events in words, and tells what is to come of them. It shares nothing with the core.
-use crate::model_rows::{Held, Row, rows_of, words_of};
-use crate::plan::Plan;
+use crate::model_files::Turn;
+use crate::shelf::{Listed, Shelf};
+use crate::text::Text;
 use crate::words::cut;
-use std::alloc::{AllocError, Global};
-use std::test::Fail;
-
-/// What a slot holds, if anything.
-pub type Place = Option<Held>;
-
-/// What is to come of an event.
-#[derive(Clone, Copy)]
-pub enum Told {
-    Seen,
-    Reported,
-    Removed,
-    Stored,
-    Left,
-    Published,
-    Unchanged,
-    Outdated,
-    /// So many slots are missing.
-    TooFew(usize),
-    Overflow,
-}
+use std::alloc::Global;
 
 /// The second model.
 #[derive(Drop)]
 pub struct Model {
-    pub slots: Vec<Place>,
-    pub list: Vec<usize>,
+    pub shelf: Shelf,
     pub read: bool,
     pub list_no: u64,
     pub generation: u32,
     pub state: u64,
     /// The handles of the seats, each with whether it is stable.
     pub handles: [Option<bool>; 8],
-    pub folders: usize,
+    pub folders: u64,
     pub refreshes: u64,
     pub entries: u64,
-    /// The paths and reasons of files that were passed over.
-    pub passed: Vec<(&'static str, &'static str)>,
+    /// The files that were passed over, behind a bracket.
+    pub passed: Text,
 }
 
-/// A file that was read or passed over: its slot, its path, and how many objects it has, or why it was passed over.
-#[derive(Clone, Copy)]
-struct Read<'a> {
-    slot: usize,
-    path: &'a str,
-    word: &'a str,
-}
-
-/// `SLOT PATH WORD`, where `SLOT.PLACE` is the slot alone.
-fn read_of(text: &str) -> Result<Read<'_>, Fail> {
-    let (slot, rest) = cut(text);
-    let (path, word) = cut(rest);
-    let (slot, _) = slot.split_once('.').unwrap_or((slot, ""));
-    let slot = slot.parse::<usize>()?;
-    Ok(Read { slot, path, word })
-}
-
-/// So many empty slots.
-fn empty(alloc: Global, count: u16) -> Result<Vec<Place>, AllocError> {
-    let mut slots = Vec::new(alloc);
-    for _ in 0..count {
-        slots.push(None)?;
-    }
-    Ok(slots)
-}
+/// With what a core is made: its slots and folders, its generation and its state number.
+pub type Opening = (u16, usize, u32, u64);
 
 impl Model {
-    pub fn new(
-        alloc: Global,
-        slots: u16,
-        folders: usize,
-        generation: u32,
-        state: u64,
-    ) -> Result<Model, AllocError> {
-        Ok(Model {
-            slots: empty(alloc, slots)?,
-            list: Vec::new(alloc),
+    pub fn new(alloc: Global, opening: Opening) -> Model {
+        let (slots, folders, generation, state) = opening;
+        let mut passed = Text::new(alloc);
+        passed.put(" [");
+        Model {
+            shelf: Shelf::new(usize::from(slots)),
             read: false,
             list_no: 0,
             generation,
             state,
             handles: [None; 8],
-            folders,
+            folders: folders as u64,
             refreshes: 0,
             entries: 0,
-            passed: Vec::new(alloc),
-        })
+            passed,
+        }
     }
 
     /// Whether a handle is stable, where it is registered.
@@ -97,141 +50,124 @@ impl Model {
         self.handles.get(seat).copied().unwrap_or(None)
     }
 
-    fn set_handle(&mut self, seat: usize, stable: Option<bool>) {
+    /// Plays an event, and puts what is to come of it behind a text.
+    pub fn play(&mut self, line: &str, text: &mut Text) {
+        let (verb, rest) = cut(line);
+        let (seat, rest) = cut(rest);
+        self.entries = self.entries.saturating_add(1);
+        match verb {
+            "register" => self.register(text, seat, rest == "stable"),
+            "upgrade" => self.register(text, seat, true),
+            "remove" => self.remove(text, seat),
+            "look" => self.put_view(text, "seen #"),
+            "report" => self.put_reported(text),
+            "pass" => self.pass(text, rest),
+            "publish" => self.publish(text, rest),
+            _ => self.put(text, rest, verb == "index"),
+        }
+    }
+
+    fn set_handle(&mut self, seat: &str, stable: Option<bool>) {
+        let seat = seat.parse::<usize>().unwrap_or(8);
         if let Some(handle) = self.handles.get_mut(seat) {
             *handle = stable;
         }
     }
 
-    fn is_any_stable(&self) -> bool {
-        self.handles.contains(&Some(true))
-    }
-
-    /// Plays an event, and tells what is to come of it.
-    pub fn play(&mut self, alloc: Global, line: &str) -> Result<Told, Fail> {
-        let (verb, rest) = cut(line);
-        let (seat, rest) = cut(rest);
-        let seat = seat.parse::<usize>()?;
-        self.entries = self.entries.saturating_add(1);
-        match verb {
-            "register" => Ok(self.register(seat, rest == "stable")),
-            "upgrade" => Ok(self.register(seat, true)),
-            "remove" => Ok(self.remove(seat)),
-            "look" => Ok(Told::Seen),
-            "report" => Ok(Told::Reported),
-            "index" => self.put(rest, true),
-            "pack" => self.put(rest, false),
-            "pass" => self.pass(rest),
-            _ => self.publish(alloc, rest),
-        }
-    }
-
-    fn register(&mut self, seat: usize, stable: bool) -> Told {
+    fn register(&mut self, text: &mut Text, seat: &str, stable: bool) {
         self.set_handle(seat, Some(stable));
-        Told::Seen
+        self.put_view(text, "seen #");
     }
 
-    fn remove(&mut self, seat: usize) -> Told {
+    fn remove(&mut self, text: &mut Text, seat: &str) {
         self.set_handle(seat, None);
-        Told::Removed
+        text.put("removed");
     }
 
-    pub fn at(&self, slot: usize) -> Place {
-        self.slots.get(slot).copied().unwrap_or(None)
-    }
-
-    fn set(&mut self, slot: usize, held: Held) {
-        if let Some(place) = self.slots.get_mut(slot) {
-            *place = Some(held);
+    /// Whether the index, or else a pack, of this path waits to be read.
+    fn waits(&self, slot: usize, path: &str, index: bool) -> bool {
+        match self.shelf.at(slot) {
+            Some(held) => held.waits(path) && index != path.ends_with(".pack"),
+            None => false,
         }
     }
 
     /// `SLOT PATH COUNT`, for an index or for a pack.
-    fn put(&mut self, text: &str, index: bool) -> Result<Told, Fail> {
-        let read = read_of(text)?;
-        let count = read.word.parse::<u64>()?;
-        let Some(held) = self.at(read.slot) else {
-            return Ok(Told::Left);
-        };
-        match held.with_file(read.path, count, index) {
-            None => Ok(Told::Left),
-            Some(held) => Ok(self.store(read.slot, held)),
+    fn put(&mut self, text: &mut Text, words: &str, index: bool) {
+        let (slot, path, count) = file_of(words);
+        if !self.waits(slot, path, index) {
+            self.put_view(text, "left #");
+        } else if self.state == u64::MAX {
+            text.put("overflow");
+        } else {
+            self.state = self.state.saturating_add(1);
+            let count = count.parse::<u64>().unwrap_or(0);
+            self.shelf.turn(slot, Turn::Read(path, count));
+            self.put_view(text, "stored #");
         }
-    }
-
-    fn store(&mut self, slot: usize, held: Held) -> Told {
-        if self.state == u64::MAX {
-            return Told::Overflow;
-        }
-        self.state = self.state.saturating_add(1);
-        self.set(slot, held);
-        Told::Stored
     }
 
     /// `SLOT PATH WHY`.
-    fn pass(&mut self, text: &str) -> Result<Told, Fail> {
-        let read = read_of(text)?;
-        self.passed.push(words_of(read.path, read.word))?;
-        if let Some(held) = self.at(read.slot) {
-            self.set(read.slot, held.passed(read.path));
-        }
-        Ok(Told::Seen)
+    fn pass(&mut self, text: &mut Text, words: &str) {
+        let (slot, path, why) = file_of(words);
+        self.passed.comma();
+        self.passed.put(path);
+        self.passed.put(" ");
+        self.passed.put(why);
+        self.shelf.turn(slot, Turn::Missed(path));
+        self.put_view(text, "seen #");
     }
 
     /// `BASE ROW ROW ..`.
-    fn publish(&mut self, alloc: Global, text: &str) -> Result<Told, Fail> {
-        let (base, rest) = cut(text);
-        if base.parse::<u64>()? != self.list_no {
-            return Ok(Told::Outdated);
+    fn publish(&mut self, text: &mut Text, words: &str) {
+        let (base, rows) = cut(words);
+        if base.parse::<u64>().ok() == Some(self.list_no) {
+            let stable = self.handles.contains(&Some(true));
+            let listed = self.shelf.listed(rows, stable);
+            self.settle(text, listed);
+        } else {
+            text.marked("outdated ", self.list_no);
         }
-        let rows = rows_of(alloc, rest)?;
-        self.publish_rows(alloc, rows.as_slice())
     }
 
-    fn publish_rows(&mut self, alloc: Global, rows: &[Row]) -> Result<Told, Fail> {
-        let stable = self.is_any_stable();
-        let plan = Plan::new(stable, rows, self.slots.as_slice(), self.list.as_slice());
-        let needed = plan.count_new().saturating_sub(plan.count_free());
-        if needed > 0 {
-            return Ok(Told::TooFew(needed));
+    /// Takes what a listing comes to, if there are slots enough, and no counter stands at its end that has to rise.
+    fn settle(&mut self, text: &mut Text, listed: Listed) {
+        let same = self.read && !listed.is_new && listed.shelf.list == self.shelf.list;
+        if listed.missing > 0 {
+            text.marked("insufficient ", self.shelf.count as u64);
+            text.marked(" ", listed.missing);
+        } else if self.would_overflow(same, listed.takes_over) {
+            text.put("overflow");
+        } else {
+            self.shelf = listed.shelf;
+            self.refreshes = self.refreshes.saturating_add(1);
+            self.rise(text, same, listed.takes_over);
         }
-        let (any_new, any_taken_over) = (plan.count_new() > 0, plan.is_any_taken_over());
-        let slots = plan.slots_after(alloc)?;
-        let list = plan.list_in(alloc, slots.as_slice())?;
-        let unchanged = self.read && !any_new && list.as_slice() == self.list.as_slice();
-        Ok(self.take(slots, list, unchanged, any_taken_over))
     }
 
-    /// Takes what a listing makes of the slots and the list, unless a counter cannot rise that has to.
-    fn take(
-        &mut self,
-        slots: Vec<Place>,
-        list: Vec<usize>,
-        unchanged: bool,
-        taken_over: bool,
-    ) -> Told {
-        if !unchanged && self.state == u64::MAX {
-            return Told::Overflow;
-        }
-        if taken_over && self.generation == u32::MAX {
-            return Told::Overflow;
-        }
-        self.slots = slots;
-        self.refreshes = self.refreshes.saturating_add(1);
-        if unchanged {
-            return Told::Unchanged;
-        }
-        self.list = list;
-        self.rise(taken_over);
-        Told::Published
+    fn would_overflow(&self, same: bool, takes_over: bool) -> bool {
+        (!same && self.state == u64::MAX) || (takes_over && self.generation == u32::MAX)
     }
 
-    fn rise(&mut self, taken_over: bool) {
+    fn rise(&mut self, text: &mut Text, same: bool, takes_over: bool) {
+        if same {
+            self.put_view(text, "unchanged #");
+            return;
+        }
         self.read = true;
         self.list_no = self.list_no.saturating_add(1);
         self.state = self.state.saturating_add(1);
-        if taken_over {
+        if takes_over {
             self.generation = self.generation.saturating_add(1);
         }
+        self.put_view(text, "published #");
     }
+}
+
+/// The slot, the path and the word behind them, of `SLOT PATH WORD` or `SLOT.PLACE PATH WORD`.
+fn file_of(words: &str) -> (usize, &str, &str) {
+    let (slot, rest) = cut(words);
+    let (path, word) = cut(rest);
+    let (slot, _) = slot.split_once('.').unwrap_or((slot, ""));
+    (slot.parse::<usize>().unwrap_or(10), path, word)
 }

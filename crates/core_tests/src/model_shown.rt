@@ -1,39 +1,63 @@
-//! What is to come of events by the second model, as text.
-use crate::model::{Model, Place, Told};
-use crate::model_rows::{File, Held, State};
+//! What the second model shows, as text.
+use crate::model::Model;
+use crate::model_files::{File, Held, State};
+use crate::shelf::Place;
 use crate::text::Text;
-use std::alloc::Global;
-use std::test::Fail;
 
-/// Counts over slots.
+/// A sum over slots.
 #[derive(Clone, Copy)]
-struct Counts {
+struct Sum {
     slots: u64,
     read: u64,
     packs: u64,
     read_packs: u64,
 }
 
-const NOTHING: Counts = Counts {
+/// What is counted.
+#[derive(Clone, Copy)]
+struct Counts {
+    listed: Sum,
+    waste: Sum,
+    empty: u64,
+}
+
+const ZERO: Sum = Sum {
     slots: 0,
     read: 0,
     packs: 0,
     read_packs: 0,
 };
 
+impl Sum {
+    fn add(&mut self, held: Held) {
+        self.slots = self.slots.saturating_add(1);
+        if held.index.count().is_some() {
+            self.read = self.read.saturating_add(1);
+        }
+        self.packs = self.packs.saturating_add(held.count_packs());
+        self.read_packs = self.read_packs.saturating_add(held.count_read_packs());
+    }
+}
+
 impl Counts {
-    fn with(self, held: Held) -> Counts {
-        let read = if held.index.is_read() { 1 } else { 0 };
-        Counts {
-            slots: self.slots.saturating_add(1),
-            read: self.read.saturating_add(read),
-            packs: self.packs.saturating_add(held.packs()),
-            read_packs: self.read_packs.saturating_add(held.read_packs()),
+    fn add(&mut self, place: Place, listed: bool) {
+        let Some(held) = place else {
+            self.empty = self.empty.saturating_add(1);
+            return;
+        };
+        if listed {
+            self.listed.add(held);
+        }
+        if held.is_waste() {
+            self.waste.add(held);
         }
     }
 }
 
-fn put_file(text: &mut Text, file: File) {
+fn put_pack(text: &mut Text, file: File) {
+    if file.path.is_empty() {
+        return;
+    }
     text.put(" ");
     text.put(file.path);
     match file.state {
@@ -44,200 +68,124 @@ fn put_file(text: &mut Text, file: File) {
     }
 }
 
-fn put_index(text: &mut Text, at: usize, held: Held) {
-    text.comma();
-    text.number(at as u64);
-    text.put(":");
-    text.put(held.index.path);
-}
-
-/// Puts an index that was read behind a text, with its packs.
-fn put_if_read(text: &mut Text, at: usize, place: Place) {
-    if let Some(held) = place {
-        if let Some(count) = held.index.state.count() {
-            put_index(text, at, held);
-            text.marked(if held.multi { "*" } else { "=" }, count);
-            put_packs(text, held);
-        }
+/// Puts how many objects an index has, and its packs, where it was read.
+fn put_loaded(text: &mut Text, held: Held) {
+    if let Some(count) = held.index.count() {
+        text.marked(if held.row.multi { "*" } else { "=" }, count);
+        let [first, second] = held.packs;
+        put_pack(text, first);
+        put_pack(text, second);
     }
 }
 
-fn put_packs(text: &mut Text, held: Held) {
-    put_file(text, held.first);
-    if let Some(file) = held.second {
-        put_file(text, file);
-    }
-}
-
-fn put_if_unread(text: &mut Text, at: usize, place: Place) {
-    if let Some(held) = place {
-        if !held.index.is_read() {
-            put_index(text, at, held);
-        }
+/// Puts the index of a slot, if it was read, or else if it wasn't.
+fn put_index(text: &mut Text, slot: usize, place: Place, read: bool) {
+    let Some(held) = place else {
+        return;
+    };
+    if held.index.count().is_some() == read {
+        text.comma();
+        text.marked("", slot as u64);
+        text.put(":");
+        text.put(held.row.path);
+        put_loaded(text, held);
     }
 }
 
 fn put_marks(text: &mut Text, place: Place) {
     if let Some(held) = place {
         text.comma();
-        text.put(held.index.path);
-        text.put(if held.multi { "*" } else { "" });
-        text.put(if held.index.is_read() { "=" } else { "" });
-        text.put(if held.is_any_waste() { "!" } else { "" });
+        text.put(held.row.path);
+        text.put(if held.row.multi { "*" } else { "" });
+        text.put(if held.index.count().is_some() {
+            "="
+        } else {
+            ""
+        });
+        text.put(if held.is_waste() { "!" } else { "" });
     }
 }
 
 impl Model {
-    fn put_view(&self, text: &mut Text, word: &str) {
-        self.put_numbers(text, word);
-        text.put(" [");
-        self.put_listed_indices(text);
-        text.put("] [");
-        self.put_other_indices(text);
-        text.put("] [");
-        self.put_todo(text);
-        text.put("]");
-    }
-
-    fn put_numbers(&self, text: &mut Text, word: &str) {
+    pub fn put_view(&self, text: &mut Text, word: &str) {
         text.marked(word, self.entries);
         text.marked(" ", self.list_no);
         text.marked(" ", u64::from(self.generation));
         text.marked(".", self.state);
-        text.put(if self.read { "" } else { " unread" });
+        text.put(if self.read { " [" } else { " unread [" });
+        self.put_listed(text, true);
+        text.put("] [");
+        self.put_kept(text);
+        text.put("] [");
+        self.put_listed(text, false);
+        text.put("]");
     }
 
-    fn put_listed_indices(&self, text: &mut Text) {
-        for at in self.list.as_slice() {
-            put_if_read(text, *at, self.at(*at));
+    /// Puts the listed indices that were read, or else those that weren't.
+    fn put_listed(&self, text: &mut Text, read: bool) {
+        for slot in self.shelf.list.iter().flatten() {
+            put_index(text, *slot, self.shelf.at(*slot), read);
         }
     }
 
-    fn put_other_indices(&self, text: &mut Text) {
-        for (at, place) in self.slots.as_slice().iter().enumerate() {
-            if !self.list.contains(&at) {
-                put_if_read(text, at, *place);
+    /// Puts the other indices that were read.
+    fn put_kept(&self, text: &mut Text) {
+        for slot in 0..self.shelf.count {
+            if !self.shelf.is_listed(slot) {
+                put_index(text, slot, self.shelf.at(slot), true);
             }
         }
     }
 
-    fn put_todo(&self, text: &mut Text) {
-        for at in self.list.as_slice() {
-            put_if_unread(text, *at, self.at(*at));
-        }
-    }
-
-    fn listed_counts(&self) -> Counts {
-        let mut counts = NOTHING;
-        for at in self.list.as_slice() {
-            if let Some(held) = self.at(*at) {
-                counts = counts.with(held);
-            }
+    fn counts(&self) -> Counts {
+        let mut counts = Counts {
+            listed: ZERO,
+            waste: ZERO,
+            empty: 0,
+        };
+        for slot in 0..self.shelf.count {
+            counts.add(self.shelf.at(slot), self.shelf.is_listed(slot));
         }
         counts
-    }
-
-    fn waste_counts(&self) -> Counts {
-        let mut counts = NOTHING;
-        for held in self.slots.as_slice().iter().flatten() {
-            if held.is_any_waste() {
-                counts = counts.with(*held);
-            }
-        }
-        counts
-    }
-
-    fn count_empty(&self) -> u64 {
-        let mut count = 0u64;
-        for place in self.slots.as_slice() {
-            if place.is_none() {
-                count = count.saturating_add(1);
-            }
-        }
-        count
     }
 
     fn count_handles(&self) -> u64 {
         let mut count = 0u64;
-        for handle in self.handles.as_slice() {
-            if handle.is_some() {
-                count = count.saturating_add(1);
-            }
+        for _handle in self.handles.iter().flatten() {
+            count = count.saturating_add(1);
         }
         count
     }
 
     fn put_counts(&self, text: &mut Text) {
-        let (listed, waste) = (self.listed_counts(), self.waste_counts());
+        let counts = self.counts();
         text.marked(" ", self.count_handles());
         text.marked(" ", self.refreshes);
-        text.marked(" ", listed.read);
-        text.marked(" ", listed.slots);
-        text.marked(" ", listed.read_packs);
-        text.marked(" ", listed.packs);
-        text.marked(" ", self.count_empty());
-        text.marked(" ", waste.slots);
-        text.marked(" ", waste.read_packs);
-        text.marked(" ", self.folders as u64);
+        text.marked(" ", counts.listed.read);
+        text.marked(" ", counts.listed.slots);
+        text.marked(" ", counts.listed.read_packs);
+        text.marked(" ", counts.listed.packs);
+        text.marked(" ", counts.empty);
+        text.marked(" ", counts.waste.slots);
+        text.marked(" ", counts.waste.read_packs);
+        text.marked(" ", self.folders);
     }
 
-    fn put_listed(&self, text: &mut Text) {
-        for at in self.list.as_slice() {
-            put_marks(text, self.at(*at));
-        }
-    }
-
-    fn put_passed(&self, text: &mut Text) {
-        for (path, why) in self.passed.as_slice() {
-            text.comma();
-            text.put(path);
-            text.put(" ");
-            text.put(why);
-        }
-    }
-
-    fn put_reported(&self, text: &mut Text) {
+    pub fn put_reported(&self, text: &mut Text) {
         self.put_view(text, "reported #");
         self.put_counts(text);
         text.put(" [");
-        self.put_listed(text);
-        text.put("] [");
-        self.put_passed(text);
+        for slot in self.shelf.list.iter().flatten() {
+            put_marks(text, self.shelf.at(*slot));
+        }
+        text.put("]");
+        text.put(self.passed.as_str());
         text.put("]");
     }
 
-    fn put_too_few(&self, text: &mut Text, needed: usize) {
-        text.marked("insufficient ", self.slots.len() as u64);
-        text.marked(" ", needed as u64);
-    }
-
-    fn put_told(&self, text: &mut Text, told: Told) {
-        match told {
-            Told::Seen => self.put_view(text, "seen #"),
-            Told::Reported => self.put_reported(text),
-            Told::Removed => text.put("removed"),
-            Told::Stored => self.put_view(text, "stored #"),
-            Told::Left => self.put_view(text, "left #"),
-            Told::Published => self.put_view(text, "published #"),
-            Told::Unchanged => self.put_view(text, "unchanged #"),
-            Told::Outdated => text.marked("outdated ", self.list_no),
-            Told::TooFew(needed) => self.put_too_few(text, needed),
-            Told::Overflow => text.put("overflow"),
-        }
-    }
-
-    /// What is to come of an event that was played, as text.
-    pub fn told_shown(&self, alloc: Global, told: Told) -> Result<String, Fail> {
-        let mut text = Text::new(alloc);
-        self.put_told(&mut text, told);
-        text.done()
-    }
-
-    /// What the core shows, and the counts over it.
-    pub fn present_shown(&self, alloc: Global) -> Result<String, Fail> {
-        let mut text = Text::new(alloc);
-        self.put_view(&mut text, "#");
-        self.put_counts(&mut text);
-        text.done()
+    /// Puts what the core shows, and the counts over it.
+    pub fn put_present(&self, text: &mut Text) {
+        self.put_view(text, "#");
+        self.put_counts(text);
     }
 }

@@ -1,4 +1,6 @@
 //! Worked rows on a core.
+use crate::model::Opening;
+use crate::reports::REPORTS;
 use crate::table::check;
 use std::test::Fail;
 
@@ -23,13 +25,6 @@ const ONE_SLOT_AND_A_STABLE_HANDLE: &[&str] = &[
     "remove 0 | removed",
     "publish 0 1 /b.idx | published #8 2 1.2 [] [] [0:/b.idx]",
 ];
-
-// A listing that isn't compared with the newest list, a stable handle that keeps nothing, or slots that are counted wrongly.
-#[test]
-fn one_slot(rt: HostRuntime) -> Result<(), Fail> {
-    check(rt.alloc(), (1, 1, 0, 0), ONE_SLOT)?;
-    check(rt.alloc(), (1, 1, 0, 0), ONE_SLOT_AND_A_STABLE_HANDLE)
-}
 
 // The generation rises where a slot is taken over, and not where an empty one is taken.
 const GREATEST_GENERATION: &[&str] = &[
@@ -59,13 +54,6 @@ const GREATEST_STATE: &[&str] = &[
     "now | #10 1 0.18446744073709551615 [] [] [0:/a.idx, 1:/b.idx] 0 2 0 2 0 2 0 0 0 1",
 ];
 
-// A counter that wraps, or that refuses what wouldn't raise it; a refusal that changes the list.
-#[test]
-fn greatest_counters(rt: HostRuntime) -> Result<(), Fail> {
-    check(rt.alloc(), (1, 1, u32::MAX, 0), GREATEST_GENERATION)?;
-    check(rt.alloc(), (2, 1, 0, u64::MAX - 1), GREATEST_STATE)
-}
-
 const GARBAGE: &[&str] = &[
     "register 0 stable | seen #1 0 0.0 unread [] [] []",
     "publish 0 0 /a.idx | published #2 1 0.1 [] [] [0:/a.idx]",
@@ -93,13 +81,6 @@ const UNREAD_AND_NOT_LISTED: &[&str] = &[
     "index 0 0 /a.idx 1 | stored #6 2 0.4 [] [0:/a.idx=1 /a.pack=3] []",
     "publish 0 2 /b.idx /a.idx | published #7 3 0.5 [0:/a.idx=1 /a.pack=3] [] [1:/b.idx]",
 ];
-
-// Garbage that is dropped under a stable handle, read again, or kept when the last stable handle is gone.
-#[test]
-fn garbage(rt: HostRuntime) -> Result<(), Fail> {
-    check(rt.alloc(), (3, 1, 0, 0), GARBAGE)?;
-    check(rt.alloc(), (2, 1, 0, 0), UNREAD_AND_NOT_LISTED)
-}
 
 const MISSING: &[&str] = &[
     "publish 0 0 /a.idx | published #1 1 0.1 [] [] [0:/a.idx]",
@@ -131,13 +112,6 @@ const PUTS: &[&str] = &[
     "index 0 1 /b.idx 3 | stored #14 2 1.6 [1:/b.idx=3 /b.pack=2] [] [0:/c.idx]",
 ];
 
-// A missing file that isn't tried again, a loaded one that is replaced or goes missing, or a file that is put where another path is.
-#[test]
-fn files_of_slots(rt: HostRuntime) -> Result<(), Fail> {
-    check(rt.alloc(), (1, 1, 0, 0), MISSING)?;
-    check(rt.alloc(), (2, 1, 0, 0), PUTS)
-}
-
 const MULTI_INDICES: &[&str] = &[
     "publish 0 0 /m@1 | published #1 1 0.1 [0:/m*2 /a.pack- /b.pack-] [] []",
     "pack 0 0.1 /b.pack 3 | stored #2 1 0.2 [0:/m*2 /a.pack- /b.pack=3] [] []",
@@ -159,13 +133,6 @@ const FOLDERS: &[&str] = &[
     "pack 0 0.0 /p/a.pack 1 | stored #4 1 0.3 [0:/p/m*2 /p/a.pack=1 /p/b.pack-, 1:/m*1 /b.pack-, 2:/p/a.idx=1 /p/a.pack-] [] []",
     "pass 0 0 /p/b.pack absent | seen #5 1 0.3 [0:/p/m*2 /p/a.pack=1 /p/b.pack!, 1:/m*1 /b.pack-, 2:/p/a.idx=1 /p/a.pack-] [] []",
 ];
-
-// A multi-pack index of another time that is kept, or of the other kind; packs beside another folder's index.
-#[test]
-fn multi_indices(rt: HostRuntime) -> Result<(), Fail> {
-    check(rt.alloc(), (3, 1, 0, 0), MULTI_INDICES)?;
-    check(rt.alloc(), (3, 2, 0, 0), FOLDERS)
-}
 
 const AFTER_THE_GREATEST_AND_ROUND: &[&str] = &[
     "publish 0 0 /a.idx /b.idx | published #1 1 0.1 [] [] [0:/a.idx, 1:/b.idx]",
@@ -189,13 +156,6 @@ const UNCHANGED: &[&str] = &[
     "publish 0 3 /b.idx /a.idx | unchanged #6 3 0.3 [] [] [1:/b.idx, 0:/a.idx]",
     "publish 0 3 /a.idx@1 /b.idx | published #7 4 1.4 [0:/a.idx*2 /a.pack- /b.pack-] [] [1:/b.idx]",
 ];
-
-// Free slots that are sought from the first, a generation that rises for each slot, or a number that rises where nothing changed.
-#[test]
-fn lists(rt: HostRuntime) -> Result<(), Fail> {
-    check(rt.alloc(), (4, 1, 0, 0), AFTER_THE_GREATEST_AND_ROUND)?;
-    check(rt.alloc(), (2, 1, 0, 0), UNCHANGED)
-}
 
 const NO_SLOTS: &[&str] = &[
     "publish 0 0 /a.idx | insufficient 0 1",
@@ -231,9 +191,37 @@ const JOURNAL: &[&str] = &[
     "now | #10 1 0.2 [0:/a.idx=2 /a.pack!] [] [] 1 1 1 1 0 1 0 1 0 1",
 ];
 
-// An event that was refused and has no entry, entries that are counted from 0, or an entry with the answer of another.
+/// The tables, each with what its core is made with, and above them the mistakes that they would show.
+const TABLES: &[(Opening, &[&str])] = &[
+    // A listing that isn't compared with the newest list, a stable handle that keeps nothing, or slots that are counted wrongly.
+    ((1, 1, 0, 0), ONE_SLOT),
+    ((1, 1, 0, 0), ONE_SLOT_AND_A_STABLE_HANDLE),
+    // A counter that wraps, or that refuses what wouldn't raise it; a refusal that changes the list.
+    ((1, 1, u32::MAX, 0), GREATEST_GENERATION),
+    ((2, 1, 0, u64::MAX - 1), GREATEST_STATE),
+    // Garbage that is dropped under a stable handle, read again, or kept when the last stable handle is gone.
+    ((3, 1, 0, 0), GARBAGE),
+    ((2, 1, 0, 0), UNREAD_AND_NOT_LISTED),
+    // A missing file that isn't tried again, a loaded one that is replaced or goes missing, or a file that is put where another path is.
+    ((1, 1, 0, 0), MISSING),
+    ((2, 1, 0, 0), PUTS),
+    // A multi-pack index of another time that is kept, or of the other kind; packs beside another folder's index.
+    ((3, 1, 0, 0), MULTI_INDICES),
+    ((3, 2, 0, 0), FOLDERS),
+    // Free slots that are sought from the first, a generation that rises for each slot, or a number that rises where nothing changed.
+    ((4, 1, 0, 0), AFTER_THE_GREATEST_AND_ROUND),
+    ((2, 1, 0, 0), UNCHANGED),
+    // An event that was refused and has no entry, entries that are counted from 0, or an entry with the answer of another.
+    ((0, 0, 0, 0), NO_SLOTS),
+    ((1, 1, 0, 0), JOURNAL),
+    // A count that is its neighbour's, of another kind of slot, or without what is garbage.
+    ((10, 9, 0, 0), REPORTS),
+];
+
 #[test]
-fn journals(rt: HostRuntime) -> Result<(), Fail> {
-    check(rt.alloc(), (0, 0, 0, 0), NO_SLOTS)?;
-    check(rt.alloc(), (1, 1, 0, 0), JOURNAL)
+fn tables(rt: HostRuntime) -> Result<(), Fail> {
+    for (opening, rows) in TABLES {
+        check(rt.alloc(), *opening, rows)?;
+    }
+    Ok(())
 }

@@ -11,17 +11,9 @@ use gix_odb_core::{
     SnapshotIndex, Todo, View,
 };
 use gix_pack::data;
-use std::alloc::Global;
-use std::test::Fail;
 
-/// An answer as text.
-pub fn answer_shown(alloc: Global, answer: &Result<Effect, Refusal>) -> Result<String, Fail> {
-    let mut text = Text::new(alloc);
-    put_answer(&mut text, answer);
-    text.done()
-}
-
-fn put_answer(text: &mut Text, answer: &Result<Effect, Refusal>) {
+/// Puts an answer behind a text.
+pub fn put_answer(text: &mut Text, answer: &Result<Effect, Refusal>) {
     match answer {
         Ok(effect) => put_effect(text, effect),
         Err(refusal) => put_refusal(text, *refusal),
@@ -78,7 +70,7 @@ fn put_numbers(text: &mut Text, word: &str, view: &View) {
 fn put_indices(text: &mut Text, indices: &[SnapshotIndex]) {
     for index in indices {
         text.comma();
-        text.number(u64::from(index.slot));
+        text.marked("", u64::from(index.slot));
         text.path(":", index.path.value());
         put_loaded(text, &index.index);
         put_packs(text, index.packs.value().as_slice());
@@ -112,7 +104,7 @@ fn put_state(text: &mut Text, pack: &OnDiskFile<Shared<data::File>>) {
 fn put_todo(text: &mut Text, todo: &[Todo]) {
     for todo in todo {
         text.comma();
-        text.number(u64::from(todo.slot));
+        text.marked("", u64::from(todo.slot));
         text.path(":", todo.path.value());
     }
 }
@@ -130,7 +122,7 @@ fn put_reported(text: &mut Text, view: &View, report: &Report) {
 }
 
 /// Puts counts behind a text, in the order of the fields.
-fn put_metrics(text: &mut Text, metrics: &Metrics) {
+pub fn put_metrics(text: &mut Text, metrics: &Metrics) {
     text.marked(" ", metrics.num_handles as u64);
     text.marked(" ", metrics.num_refreshes as u64);
     text.marked(" ", metrics.open_reachable_indices as u64);
@@ -164,33 +156,22 @@ fn put_passed(text: &mut Text, passed: &[Passed]) {
 
 /// An entry of a journal: its number, its event and its answer.
 fn put_entry(text: &mut Text, entry: &Entry) {
-    text.number(entry.number);
+    text.marked("", entry.number);
     put_event(text, entry.seat, &entry.event);
     text.put(": ");
     put_answer(text, &entry.answer);
 }
 
-/// The entry of a journal at a place, counted from 0.
-pub fn entry_shown(alloc: Global, core: &Core, place: usize) -> Result<String, Fail> {
-    let mut text = Text::new(alloc);
+/// Puts the entry of a journal at a place, counted from 0.
+pub fn put_entry_at(text: &mut Text, core: &Core, place: usize) {
     match core.journal().get(place) {
-        Some(entry) => put_entry(&mut text, entry),
+        Some(entry) => put_entry(text, entry),
         None => text.put("none"),
     }
-    text.done()
 }
 
-/// What a core shows now, and the counts over it.
-pub fn present_shown(alloc: Global, core: &Core) -> Result<String, Fail> {
-    let mut text = Text::new(alloc);
-    put_view(&mut text, "#", core.look());
-    put_metrics(&mut text, &core.metrics());
-    text.done()
-}
-
-/// Counts as text.
-pub fn metrics_shown(alloc: Global, metrics: &Metrics) -> Result<String, Fail> {
-    let mut text = Text::new(alloc);
-    put_metrics(&mut text, metrics);
-    text.done()
+/// Puts what a core shows now, and the counts over it.
+pub fn put_present(text: &mut Text, core: &Core) {
+    put_view(text, "#", core.look());
+    put_metrics(text, &core.metrics());
 }

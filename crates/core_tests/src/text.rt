@@ -1,9 +1,8 @@
 //! Texts that are put together.
 use odb_base::PathText;
 use std::alloc::Global;
-use std::test::Fail;
 
-/// A text to which parts are added. Want of memory is noted, and told at the end.
+/// A text to which parts are added. Want of memory is noted, and then the text is none that is wanted.
 #[derive(Drop)]
 pub struct Text {
     text: String,
@@ -18,44 +17,39 @@ impl Text {
         }
     }
 
+    pub fn as_str(&self) -> &str {
+        self.text.as_str()
+    }
+
+    /// Whether it is another text, as a whole.
+    pub fn is(&self, want: &str) -> bool {
+        !self.is_cut && self.text.as_str() == want
+    }
+
     pub fn put(&mut self, part: &str) {
         if self.text.push_str(part).is_err() {
             self.is_cut = true;
         }
     }
 
-    pub fn number(&mut self, number: u64) {
-        if write!(self.text, "{number}").is_err() {
-            self.is_cut = true;
-        }
-    }
-
-    /// A mark and a number.
+    /// Adds a mark and a number.
     pub fn marked(&mut self, mark: &str, number: u64) {
-        self.put(mark);
-        self.number(number);
-    }
-
-    /// A mark and a path.
-    pub fn path(&mut self, mark: &str, path: &PathText) {
-        self.put(mark);
-        if write!(self.text, "{path}").is_err() {
+        if write!(self.text, "{mark}{number}").is_err() {
             self.is_cut = true;
         }
     }
 
-    /// A comma, unless a bracket was just opened.
+    /// Adds a mark and a path.
+    pub fn path(&mut self, mark: &str, path: &PathText) {
+        if write!(self.text, "{mark}{path}").is_err() {
+            self.is_cut = true;
+        }
+    }
+
+    /// Adds a comma, unless a bracket was just opened.
     pub fn comma(&mut self) {
         if !self.text.ends_with("[") {
             self.put(", ");
         }
-    }
-
-    /// The whole text.
-    pub fn done(self) -> Result<String, Fail> {
-        if self.is_cut {
-            return Err(Fail::new("out of memory"));
-        }
-        Ok(self.text)
     }
 }
