@@ -143,7 +143,7 @@ class Comparison:
             show(found.stderr.split(b"\n"), errors.split(b"\n"))
 
 
-SYSTEM = {b"Absent": b"No such file or directory", b"WrongKind": b"Not a directory", b"LinkLoop": b"Too many levels of symbolic links", b"Failed": b"refused by the system"}
+SYSTEM = {b"Absent": b"No such file or directory", b"WrongKind": b"Not a directory", b"LinkLoop": b"Too many levels of symbolic links", b"Failed": b"refused by the system, or an entry that can't be listed"}
 
 
 def told(line):

@@ -93,10 +93,12 @@ ROWS
 
 [ "$("$program" "$folder/t" --help -- --version)" = "$("$program" --help)" ] || fail "--help behind a folder is something else"
 
-# Shows an error that stands without words: no name is that long.
+# Shows an error that stands without words: no name is that long. And an entry that is passed over without an error.
 name=$(printf '%0300d' 0)
+mkdir odd && mkfifo odd/pipe && touch odd/file
 check <<ROWS
-2|@/$name||list_walk: IO error for operation on @/$name: Failed (refused by the system) 
+2|@/$name||list_walk: IO error for operation on @/$name: Failed (refused by the system, or an entry that can't be listed) 
+2|@/odd|@/odd @/odd/file |list_walk: Failed (refused by the system, or an entry that can't be listed) 
 ROWS
 
 # Shows an item that is lost without an order.

@@ -63,7 +63,7 @@ system_words (Some refusals.WrongKind) = codes " (Not a directory)"
 system_words (Some refusals.LinkLoop) = codes " (Too many levels of symbolic links)"
 system_words (Some refusals.Exists) = codes " (File exists)"
 system_words (Some refusals.NotEmpty) = codes " (Directory not empty)"
-system_words (Some refusals.Failed) = codes " (refused by the system)"
+system_words (Some refusals.Failed) = codes " (refused by the system, or an entry that can't be listed)"
 system_words (Some refusals.NoMemory) = codes " (Cannot allocate memory)"
 
 -- What is written of it on standard error: the text of an error behind the program's name, and the system's words. Nothing

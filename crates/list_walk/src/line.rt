@@ -181,7 +181,7 @@ fn system_words(error: Option<DiskError>) -> &'static str
         Some(DiskError::Exists) => " (File exists)",
         Some(DiskError::NotEmpty) => " (Directory not empty)",
         Some(DiskError::NoMemory) => " (Cannot allocate memory)",
-        Some(DiskError::Failed) => " (refused by the system)",
+        Some(DiskError::Failed) => " (refused by the system, or an entry that can't be listed)",
         None => "",
     }
 }
