@@ -30,7 +30,10 @@ check() {
 
 mkdir -p t/b/c t/a
 ln -s .. t/b/l
-no_words='list_walk: no such words: list_walk --help tells which there are '
+help=': list_walk --help tells which there are '
+no_option='list_walk: no such option: '
+no_number='list_walk: no number behind --max-'
+no_folder='list_walk: no folder is named: list_walk --help tells how '
 no_way='list_walk: `..` behind a name isn'"'"'t followed: a link may stand in its place '
 
 # Shows an option that is taken for another, a word that is passed over, and an error that leaves the status at 0.
@@ -43,18 +46,21 @@ check <<ROWS
 0|@/t --max-depth 9 --max-depth 0 --same-file-system|@/t |
 2|@/x||list_walk: IO error for operation on @/x: Absent (No such file or directory) 
 1||words not understood |list_walk: no words: list_walk --help tells which there are 
-1|@/t --frob|words not understood |$no_words
-1|@/t --max-open|words not understood |$no_words
-1|@/t --max-open x|words not understood |$no_words
-1|--sort|words not understood |$no_words
-1|-h|words not understood |$no_words
+1|@/t --frob|words not understood |${no_option}--frob$help
+1|@/t --max-open|words not understood |${no_number}open 
+1|@/t --max-open x|words not understood |${no_number}open: x 
+1|@/t --min-depth -1 --frob|words not understood |list_walk: no number behind --min-depth: -1 
+1|--sort|words not understood |$no_folder
+1|-h|words not understood |${no_option}-h$help
+2|help||list_walk: IO error for operation on @/help: Absent (No such file or directory) list_walk: \`help\` is taken for a folder: list_walk --help tells which words there are 
+2|help @/t/a|@/t/a |list_walk: IO error for operation on @/help: Absent (No such file or directory) 
 0|@/t --max-depth --version --help|list_walk 0.1.0 |
 2|@/t/a -- --version|@/t/a |list_walk: IO error for operation on @/--version: Absent (No such file or directory) 
 ROWS
 
 # Options before, between and behind folders, numbers behind \`=\`, folders behind \`--\`, and entries that end by NUL.
 # Shows an option that counts only for what follows it, a folder that is taken for an option, and a walk that ends the others.
-mkdir ./--sort
+mkdir ./--sort help
 check <<ROWS
 0|--sort --max-depth=1 @/t|@/t @/t/a @/t/b |
 0|--max-depth=1 --max-depth 0 @/t|@/t |
@@ -62,11 +68,12 @@ check <<ROWS
 0|@/t/b --sort @/t/a --max-depth=0|@/t/b @/t/a |
 2|@/t/a @/x @/t/b/c|@/t/a @/t/b/c |list_walk: IO error for operation on @/x: Absent (No such file or directory) 
 0|@/t/a -- --sort|@/t/a @/--sort |
-1|@/t --max-depth=|words not understood |$no_words
-1|@/t --max-depth=x|words not understood |$no_words
-1|@/t --sort=1|words not understood |$no_words
-1|@/t -|words not understood |$no_words
-1|--|words not understood |$no_words
+0|help|@/help |
+1|@/t --max-depth=|words not understood |${no_number}depth: --max-depth= 
+1|@/t --max-depth=x|words not understood |${no_number}depth: --max-depth=x 
+1|@/t --sort=1|words not understood |${no_option}--sort=1$help
+1|@/t -|words not understood |${no_option}-$help
+1|--|words not understood |$no_folder
 0|@/t/a @/t/b/c -0|@/t/a0@/t/b/c0|
 ROWS
 
@@ -92,6 +99,11 @@ ROWS
 [ "$("$program" --version)" = 'list_walk 0.1.0' ] || fail "another version"
 
 [ "$("$program" "$folder/t" --help -- --version)" = "$("$program" --help)" ] || fail "--help behind a folder is something else"
+
+# Shows an empty word, or one that is no text, that is taken for a folder.
+for word in '' $'\xff'; do
+    [ "$("$program" "$word" 2>&1 >/dev/null)" = 'list_walk: no folder: (nothing, or no text)' ] || fail "an empty word tells something else"
+done
 
 # Shows an error that stands without words: no name is that long. And an entry that is passed over without an error.
 name=$(printf '%0300d' 0)

@@ -86,7 +86,8 @@ ends_visit : (v : Visit) (result : Result Status LineError) → EndsWritten (lis
 ends_visit v (Ok statuses.Done) wrote = whole_listed v statuses.Done wrote
 ends_visit v (Ok statuses.SomeErrors) wrote = whole_listed v statuses.SomeErrors wrote
 ends_visit v (Ok statuses.NoMemory) wrote = front_cut v wrote
-ends_visit v (Ok (statuses.NotUnderstood why)) wrote = absurd wrote
+ends_visit v (Ok statuses.HelpSought) wrote = absurd wrote
+ends_visit v (Ok (statuses.NotUnderstood told)) wrote = absurd wrote
 ends_visit v (Ok statuses.WriteFault) wrote = absurd wrote
 ends_visit v (Ok statuses.ErrorFault) wrote = absurd wrote
 ends_visit v (Err error) wrote = front_cut v wrote

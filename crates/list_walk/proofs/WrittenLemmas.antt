@@ -174,7 +174,8 @@ pub ends_whole : (o : Listing) (status : Status) → IsWhole o status → EndsWr
 ends_whole o statuses.Done w = w
 ends_whole o statuses.SomeErrors w = w
 ends_whole o statuses.NoMemory w = absurd (elim (listing (list_any is_error w.items) statuses.NoMemory w.status_is) [ inl is ↦ cc is | inr is ↦ cc is ])
-ends_whole o (statuses.NotUnderstood why) w = absurd (elim (listing (list_any is_error w.items) (statuses.NotUnderstood why) w.status_is) [ inl is ↦ cc is | inr is ↦ cc is ])
+ends_whole o statuses.HelpSought w = absurd (elim (listing (list_any is_error w.items) statuses.HelpSought w.status_is) [ inl is ↦ cc is | inr is ↦ cc is ])
+ends_whole o (statuses.NotUnderstood told) w = absurd (elim (listing (list_any is_error w.items) (statuses.NotUnderstood told) w.status_is) [ inl is ↦ cc is | inr is ↦ cc is ])
 ends_whole o statuses.WriteFault w = absurd (elim (listing (list_any is_error w.items) statuses.WriteFault w.status_is) [ inl is ↦ cc is | inr is ↦ cc is ])
 ends_whole o statuses.ErrorFault w = absurd (elim (listing (list_any is_error w.items) statuses.ErrorFault w.status_is) [ inl is ↦ cc is | inr is ↦ cc is ])
 

@@ -1,10 +1,10 @@
 -- What the words of the command line ask for: a text about the program, or walks.
-use Rattle.std.specs.Prelude.{ℕ, List, [], ◌∷◌, codes, Option, Some, None, Result, Ok, Err, if◌then◌else◌}
+use Rattle.std.specs.Prelude.{ℕ, Bool, false, List, [], ◌∷◌, codes, Option, Some, None, Result, Ok, Err, if◌then◌else◌}
 use Rattle.odb_base.specs.Path.{Path, same_name}
+use Rattle.list_walk.specs.Told.{told_of}
 use Rattle.list_walk.specs.Words.{asked_of}
 use Rattle.list_walk.specs.declared.command.Command.{Command}
 use Rattle.list_walk.specs.declared.command.Command.TheVariants.{Walk, Help, Version, NotUnderstood}
-use Rattle.list_walk.specs.declared.misread.Misread.{Misread}
 use Rattle.list_walk.specs.declared.misread.Misread.TheVariants.{NoWords}
 use Rattle.list_walk.specs.declared.words.Asked.{Asked}
 
@@ -25,18 +25,24 @@ unfoldable pub about : List (List ℕ) → Option Command
 about [] = None
 about (word ∷ words) = by_first (decided word) (about words)
 
-abbrev pub command_with : Result Asked Misread → Command
-command_with (Err why) = NotUnderstood why
+abbrev pub command_with : Result Asked (List ℕ) → Command
+command_with (Err told) = NotUnderstood told
 command_with (Ok asked) = Walk asked
 
 -- words that don't ask about the program
 abbrev pub walk_of_words : Option Path → List (List ℕ) → Command
-walk_of_words home [] = NotUnderstood NoWords
+walk_of_words home [] = NotUnderstood (told_of NoWords [])
 walk_of_words home (word ∷ words) = command_with (asked_of home (word ∷ words))
 
 abbrev pub command_or : Option Command → Command → Command
 command_or (Some command) walk = command
 command_or None walk = walk
+
+-- whether `help` is the only word
+abbrev pub seeks_help : List (List ℕ) → Bool
+seeks_help [] = false
+seeks_help (word ∷ []) = same_name word (codes "help")
+seeks_help (word ∷ other ∷ words) = false
 
 -- what the words of the command line ask for
 abbrev pub command_of : Option Path → List (List ℕ) → Command

@@ -4,7 +4,7 @@ use Rattle.std.specs.List.{slice_split, starts_with}
 use Rattle.odb_base.specs.Path.{Name, Path, is_name, parent_of, same_name}
 use Rattle.list_walk.specs.declared.folder.Way.{Way}
 use Rattle.list_walk.specs.declared.misread.Misread.{Misread}
-use Rattle.list_walk.specs.declared.misread.Misread.TheVariants.{NoSuchWords, UpBehindName}
+use Rattle.list_walk.specs.declared.misread.Misread.TheVariants.{NoFolder, UpBehindName}
 
 -- where a name begins: at the root, or where the program was started, where that is known
 abbrev pub is_absolute : List ℕ → Bool
@@ -23,7 +23,7 @@ abbrev pub above : Way → Result Way Misread
 above way = if way.is_front then Ok (or_same way (parent_of way.path)) else Err UpBehindName
 
 abbrev pub along : Way → Name → Result Way Misread
-along way name = if is_name name then Ok (record { path = way.path ++ name ∷ []; is_front = false }) else Err NoSuchWords
+along way name = if is_name name then Ok (record { path = way.path ++ name ∷ []; is_front = false }) else Err NoFolder
 
 -- where one part of a name leads: an empty one and `.` nowhere, `..` up
 abbrev pub with_part : Way → Name → Result Way Misread
@@ -50,10 +50,10 @@ abbrev pub led_from : Path → List ℕ → Result Path Misread
 led_from start name = path_at (led (record { path = start; is_front = true }) (slice_split (λ b. b == 47) name))
 
 abbrev pub folder_from : Option Path → List ℕ → Result Path Misread
-folder_from None name = Err NoSuchWords
+folder_from None name = Err NoFolder
 folder_from (Some start) name = led_from start name
 
 -- the path of a folder by its name, which isn't empty
 unfoldable pub folder_of : Option Path → List ℕ → Result Path Misread
-folder_of home [] = Err NoSuchWords
+folder_of home [] = Err NoFolder
 folder_of home (first ∷ rest) = folder_from (start_of home (first ∷ rest)) (first ∷ rest)

@@ -1,5 +1,6 @@
 pub mod Status
 pub mod Folder
+pub mod Told
 pub mod Words
 pub mod Command
 pub mod Asked

@@ -134,7 +134,8 @@ abbrev pub EndsWritten : Listing → Result Status LineError → Type 0
 EndsWritten o (Ok statuses.Done) = IsWhole o statuses.Done
 EndsWritten o (Ok statuses.SomeErrors) = IsWhole o statuses.SomeErrors
 EndsWritten o (Ok statuses.NoMemory) = IsFront o
-EndsWritten o (Ok (statuses.NotUnderstood why)) = ⊥
+EndsWritten o (Ok statuses.HelpSought) = ⊥
+EndsWritten o (Ok (statuses.NotUnderstood told)) = ⊥
 EndsWritten o (Ok statuses.WriteFault) = ⊥
 EndsWritten o (Ok statuses.ErrorFault) = ⊥
 EndsWritten o (Err error) = IsFront o

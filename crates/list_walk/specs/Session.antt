@@ -1,5 +1,5 @@
 -- What the program promises of each status, by its words, its disk and its two sinks.
-use Rattle.std.specs.Prelude.{◌≡◌, ◌⊎◌, ℕ, List, [], Option, Result, Ok, Err}
+use Rattle.std.specs.Prelude.{◌≡◌, ◌⊎◌, ℕ, Bool, true, false, List, [], Option, Result, Ok, Err, if◌then◌else◌}
 use Rattle.odb_base.specs.Faults.{Rose}
 use Rattle.odb_disk.specs.Streams.{Streams}
 use Rattle.odb_program.specs.Session.{Output, Wrote, WroteFront}
@@ -15,10 +15,11 @@ use Rattle.list_walk.specs.declared.words.Asked.{Asked}
 use Rattle.list_walk.specs.declared.status.Status.{Status}
 use Rattle.list_walk.specs.declared.status.Status.TheVariants as statuses
 
--- What was there before and after a session: what the words ask, the disk, where it tells, its streams and its counts of
+-- What was there before and after a session: what the words ask, whether `help` is the only one, the disk, where it tells, its streams and its counts of
 -- faults, what was written on standard output and on standard error, and the texts that the program writes about itself.
 pub record Session : Type 0 where
   pub command : Command
+  pub is_help : Bool
   pub state : Option State
   pub streams : Streams
   pub streams' : Streams
@@ -53,7 +54,7 @@ abbrev pub TextOf : Session → Command → List ℕ → Status → Type 0
 TextOf s (Walk asked) text status = ⊥
 TextOf s Help text status = (text ≡ s.help) × (status ≡ statuses.Done)
 TextOf s Version text status = (text ≡ s.version) × (status ≡ statuses.Done)
-TextOf s (NotUnderstood why) text status = (text ≡ s.refusal) × (status ≡ statuses.NotUnderstood why)
+TextOf s (NotUnderstood told) text status = (text ≡ s.refusal) × (status ≡ statuses.NotUnderstood told)
 
 -- such a text was written, and nothing on standard error
 pub record Texts (s : Session) (status : Status) : Type 0 where
@@ -73,8 +74,9 @@ pub record TextCut (s : Session) : Type 0 where
 -- What each status says. Want of memory is the one status without a cause.
 abbrev pub Ends : Session → Status → Type 0
 Ends s statuses.Done = AllListed s statuses.Done ⊎ Texts s statuses.Done
-Ends s statuses.SomeErrors = AllListed s statuses.SomeErrors
-Ends s (statuses.NotUnderstood why) = Texts s (statuses.NotUnderstood why)
+Ends s statuses.SomeErrors = (s.is_help ≡ false) × AllListed s statuses.SomeErrors
+Ends s statuses.HelpSought = (s.is_help ≡ true) × AllListed s statuses.SomeErrors
+Ends s (statuses.NotUnderstood told) = Texts s (statuses.NotUnderstood told)
 Ends s statuses.WriteFault = Rose s.output.faults s.output.faults' × (ListedCut s ⊎ TextCut s)
 Ends s statuses.ErrorFault = Rose s.errors.faults s.errors.faults' × ListedCut s
 Ends s statuses.NoMemory = (Wrote s.output [] × Wrote s.errors []) ⊎ ListedCut s
@@ -85,6 +87,11 @@ status_by (Ok status) = status
 status_by (Err errors.OutputFailed) = statuses.WriteFault
 status_by (Err errors.ErrorsFailed) = statuses.ErrorFault
 status_by (Err errors.NoMemory) = statuses.NoMemory
+
+-- the status with where help is, if `help` is the only word and errors came of it
+abbrev pub hinted : Status → Bool → Status
+hinted statuses.SomeErrors is_help = if is_help then statuses.HelpSought else statuses.SomeErrors
+hinted status is_help = status
 
 -- The disk's streams after a session: as they were. The walks had no more of their own than `max_open` at one time.
 abbrev pub StreamsBack : Command → Streams → Streams → Type 0

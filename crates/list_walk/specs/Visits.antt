@@ -109,7 +109,8 @@ EndsAll j (Err error) = VisitsCut j.choices j.state j.folders j.first j.last
 abbrev pub settled : Result Status LineError → Result Status LineError
 settled (Ok statuses.Done) = Ok statuses.Done
 settled (Ok statuses.SomeErrors) = Ok statuses.SomeErrors
-settled (Ok (statuses.NotUnderstood why)) = Err errors.NoMemory
+settled (Ok statuses.HelpSought) = Err errors.NoMemory
+settled (Ok (statuses.NotUnderstood told)) = Err errors.NoMemory
 settled (Ok statuses.WriteFault) = Err errors.NoMemory
 settled (Ok statuses.ErrorFault) = Err errors.NoMemory
 settled (Ok statuses.NoMemory) = Err errors.NoMemory

@@ -1,10 +1,10 @@
 //! What the words of the command line ask for.
 ghost use Rattle.std.specs.Prelude.{◌≡◌, IfOk, map, string_bytes};
-ghost use Rattle.list_walk.specs.Command.{about, command_of, command_with, decided, walk_of_words};
+ghost use Rattle.list_walk.specs.Command.{about, command_of, command_with, decided, seeks_help, walk_of_words};
 
-use crate::misread::Misread;
+use crate::misread::{Misread, told_of};
 use crate::words::{Asked, asked_of};
-use odb_base::NoMemory;
+use odb_base::{ByteList, NoMemory};
 use odb_disk::PathText;
 use std::alloc::Global;
 
@@ -14,7 +14,8 @@ pub enum Command {
     Walk(Asked),
     Help,
     Version,
-    NotUnderstood(Misread),
+    /// The words aren't understood. It has what is told of them.
+    NotUnderstood(ByteList),
 }
 
 /// What the words ask for. A relative folder lies below the one that the program was started in, where that is known.
@@ -68,16 +69,26 @@ fn walk_of_words(
     ensures command { IfOk result (λ command. command ≡ walk_of_words home.now (map (λ word. string_bytes word) words.now)) }
 {
     match words {
-        [] => Ok(Command::NotUnderstood(Misread::NoWords)),
+        [] => Ok(Command::NotUnderstood(told_of(alloc, Misread::NoWords, "")?)),
         [_, ..] => Ok(command_with(asked_of(alloc, home, words)?)),
     }
 }
 
-fn command_with(asked: Result<Asked, Misread>) -> Command
+fn command_with(asked: Result<Asked, ByteList>) -> Command
     ensures command { result ≡ command_with asked }
 {
     match asked {
         Ok(asked) => Command::Walk(asked),
-        Err(why) => Command::NotUnderstood(why),
+        Err(told) => Command::NotUnderstood(told),
+    }
+}
+
+/// Whether `help` is the only word.
+pub fn seeks_help(words: &[String]) -> bool
+    ensures only { result ≡ seeks_help (map (λ word. string_bytes word) words.now) }
+{
+    match words {
+        [word] => word.as_str() == "help",
+        _ => false,
     }
 }

@@ -29,11 +29,11 @@ pub fn folder_of(
     ensures folder { IfOk result (λ folder. folder ≡ folder_of home.now name.now) }
 {
     if name.is_empty() {
-        return Ok(Err(Misread::NoSuchWords));
+        return Ok(Err(Misread::NoFolder));
     }
     match start_of(alloc, home, name)? {
         Some(start) => led_from(alloc, start, name),
-        None => Ok(Err(Misread::NoSuchWords)),
+        None => Ok(Err(Misread::NoFolder)),
     }
 }
 
@@ -143,7 +143,7 @@ fn going_on(alloc: Global, way: Way, name: &str) -> Result<Result<Way, Misread>,
             path,
             is_front: false,
         })),
-        Err(BadPath::Malformed) => Ok(Err(Misread::NoSuchWords)),
+        Err(BadPath::Malformed) => Ok(Err(Misread::NoFolder)),
         Err(BadPath::NoMemory) => Err(NoMemory),
     }
 }

@@ -1,9 +1,9 @@
 //! The walk and its output.
 ghost use Rattle.std.specs.Prelude.{◌≡◌, ◌≤◌, ℕ, List, Some, map, string_bytes, take, true, IfOk, OnErr, IsErrOf};
 ghost use Rattle.list_walk.specs.Asked.{chosen_by, options_of, max_depth_by, max_open_by, min_depth_by};
-ghost use Rattle.list_walk.specs.Command.{command_of};
+ghost use Rattle.list_walk.specs.Command.{command_of, seeks_help};
 ghost use Rattle.list_walk.specs.Lines.{EndsWritten, Leaves, is_want};
-ghost use Rattle.list_walk.specs.Session.{Ends, StreamsBack, status_by};
+ghost use Rattle.list_walk.specs.Session.{Ends, StreamsBack, hinted, status_by};
 ghost use Rattle.list_walk.specs.Visits.{EndsAll, EndsVisit, settled, worse};
 ghost use Rattle.odb_base.specs.Faults.{Rose};
 ghost use Rattle.odb_disk.specs.Source.{Adds};
@@ -11,7 +11,7 @@ ghost use Rattle.odb_program.specs.Session.{output_of};
 ghost use Rattle.walkdir.specs.OwnStreams.{AreBack};
 ghost use Rattle.walkdir.specs.Progress.{begun, has_its_streams};
 
-use crate::command::{Command, command_of};
+use crate::command::{Command, command_of, seeks_help};
 use crate::line::{LineError, Lines};
 use crate::status::Status;
 use crate::words::{Asked, Choices};
@@ -64,6 +64,7 @@ pub fn run<K: Sink, E: Sink, D: Disk>(
 ) -> Status
     ensures ends { Ends (record {
       command = command_of home.now (map (λ word. string_bytes word) words.now);
+      is_help = seeks_help (map (λ word. string_bytes word) words.now);
       state = D.state disk.old;
       streams = D.streams disk.old;
       streams' = D.streams disk.new;
@@ -79,13 +80,32 @@ pub fn run<K: Sink, E: Sink, D: Disk>(
     ensures back { StreamsBack (command_of home.now (map (λ word. string_bytes word) words.now)) (D.streams disk.old) (D.streams disk.new) }
 {
     match command_of(alloc, home, words) {
-        Ok(Command::Walk(asked)) => status_by(listed(alloc, &asked, sink, errors, disk)),
+        Ok(Command::Walk(asked)) => {
+            let status = status_by(listed(alloc, &asked, sink, errors, disk));
+            hinted(status, words)
+        }
         Ok(Command::Help) => answer(sink, HELP.as_bytes(), Status::Done),
         Ok(Command::Version) => answer(sink, VERSION.as_bytes(), Status::Done),
-        Ok(Command::NotUnderstood(why)) => {
-            answer(sink, NOT_UNDERSTOOD.as_bytes(), Status::NotUnderstood(why))
+        Ok(Command::NotUnderstood(told)) => {
+            answer(sink, NOT_UNDERSTOOD.as_bytes(), Status::NotUnderstood(told))
         }
         Err(NoMemory) => Status::NoMemory,
+    }
+}
+
+/// The status, which tells where help is if errors came of the word `help` alone.
+fn hinted(status: Status, words: &[String]) -> Status
+    ensures status { result ≡ hinted status (seeks_help (map (λ word. string_bytes word) words.now)) }
+{
+    match status {
+        Status::SomeErrors => {
+            if seeks_help(words) {
+                Status::HelpSought
+            } else {
+                Status::SomeErrors
+            }
+        }
+        status => status,
     }
 }
 
@@ -180,6 +200,7 @@ fn settled(ended: Result<Status, LineError>) -> Result<Status, LineError>
     match ended {
         Ok(Status::Done) => Ok(Status::Done),
         Ok(Status::SomeErrors) => Ok(Status::SomeErrors),
+        Ok(Status::HelpSought) => Err(LineError::NoMemory),
         Ok(Status::NotUnderstood(_)) => Err(LineError::NoMemory),
         Ok(Status::WriteFault) => Err(LineError::NoMemory),
         Ok(Status::ErrorFault) => Err(LineError::NoMemory),

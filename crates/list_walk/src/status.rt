@@ -1,19 +1,18 @@
 //! How the program may end, and what it tells on standard error then.
-ghost use Rattle.std.specs.Prelude.{◌≡◌};
-ghost use Rattle.list_walk.specs.Status.{misread_note};
-
-use crate::misread::Misread;
+use odb_base::ByteList;
 use odb_program::SessionStatus;
 
 /// How the program ends.
-#[derive(Clone, Copy)]
+#[derive(Drop)]
 pub enum Status {
     /// 0: each item is an entry.
     Done,
-    /// 1: the words aren't understood.
-    NotUnderstood(Misread),
+    /// 1: the words aren't understood. It has what is told of them.
+    NotUnderstood(ByteList),
     /// 2: an item is an error.
     SomeErrors,
+    /// 2: the same, and `help` is the only word.
+    HelpSought,
     /// 4: the sink of entries failed.
     WriteFault,
     /// 4: the sink of errors failed.
@@ -36,7 +35,7 @@ impl SessionStatus for Status {
         match self {
             Status::Done => 0,
             Status::NotUnderstood(_) => 1,
-            Status::SomeErrors => 2,
+            Status::SomeErrors | Status::HelpSought => 2,
             Status::WriteFault | Status::ErrorFault => 4,
             Status::NoMemory => 5,
         }
@@ -49,22 +48,13 @@ impl SessionStatus for Status {
     fn note(&self) -> &[u8] {
         match self {
             Status::Done | Status::SomeErrors => b"",
-            Status::NotUnderstood(why) => misread_note(*why),
+            Status::NotUnderstood(told) => told.as_slice(),
+            Status::HelpSought => {
+                b"`help` is taken for a folder: list_walk --help tells which words there are"
+            }
             Status::WriteFault => b"standard output can't be written",
             Status::ErrorFault => b"standard error can't be written",
             Status::NoMemory => b"out of memory",
         }
-    }
-}
-
-/// What is told of words that aren't understood.
-fn misread_note(why: Misread) -> &'static [u8]
-    ensures note { result.now ≡ misread_note why }
-{
-    match why {
-        Misread::NoWords => b"no words: list_walk --help tells which there are",
-        Misread::UpBehindName =>
-            b"`..` behind a name isn't followed: a link may stand in its place",
-        Misread::NoSuchWords => b"no such words: list_walk --help tells which there are",
     }
 }

@@ -1,14 +1,14 @@
 //! Folders and options among the words of the command line.
 ghost use Rattle.std.specs.Prelude.{◌≡◌, ◌==◌, IfOk, Some, Ok, map, string_bytes};
 ghost use Rattle.std.specs.List.{before_first, after_first};
-ghost use Rattle.list_walk.specs.Words.{asked_by_next, asked_of, asked_with, count_of, counted, flagged, is_option, no_choices, no_words, or_no_such};
+ghost use Rattle.list_walk.specs.Words.{asked_by_next, asked_of, asked_with, count_of, counted, flagged, is_option, no_choices, no_words, or_told};
 ghost use Rattle.list_walk.specs.Words.{with_any, with_count, with_folder, with_number, with_option, with_value, with_word, words_of};
 ghost use Rattle.list_walk.specs.Folder.{folder_of};
 ghost use Rattle.odb_base.specs.Decimal.{number_of};
 
 use crate::folder::folder_of;
-use crate::misread::Misread;
-use odb_base::{NoMemory, Sequence, parse_decimal};
+use crate::misread::{Misread, told_of};
+use odb_base::{ByteList, NoMemory, Sequence, parse_decimal};
 use odb_disk::PathText;
 use std::alloc::Global;
 
@@ -67,17 +67,30 @@ pub enum Count {
     MaxDepth,
 }
 
-/// What is to be listed, where each word is understood and one of them is a folder.
+/// What is to be listed, where each word is understood and one of them is a folder; else what is told of it.
 pub fn asked_of(
     alloc: Global,
     home: &Option<PathText>,
     words: &[String],
-) -> Result<Result<Asked, Misread>, NoMemory>
+) -> Result<Result<Asked, ByteList>, NoMemory>
     ensures asked { IfOk result (λ asked. asked ≡ asked_of home.now (map (λ word. string_bytes word) words.now)) }
 {
     match words_of(alloc, home, words)? {
-        Ok(words) => Ok(asked_with(words)),
-        Err(why) => Ok(Err(why)),
+        Ok(words) => or_told(alloc, asked_with(words)),
+        Err(told) => Ok(Err(told)),
+    }
+}
+
+/// What is to be listed, or what is told of all words together.
+fn or_told(
+    alloc: Global,
+    asked: Result<Asked, Misread>,
+) -> Result<Result<Asked, ByteList>, NoMemory>
+    ensures asked { IfOk result (λ told. told ≡ or_told asked) }
+{
+    match asked {
+        Ok(asked) => Ok(Ok(asked)),
+        Err(why) => Ok(Err(told_of(alloc, why, "")?)),
     }
 }
 
@@ -91,7 +104,7 @@ fn asked_with(words: Words) -> Result<Asked, Misread>
         next,
     } = words;
     match folders.as_slice() {
-        [] => Err(Misread::NoSuchWords),
+        [] => Err(Misread::NoFolderNamed),
         [_, ..] => asked_by_next(next, folders, choices),
     }
 }
@@ -107,17 +120,17 @@ fn asked_by_next(
     match next {
         Next::Any => Ok(Asked { folders, choices }),
         Next::Folder => Ok(Asked { folders, choices }),
-        Next::Number(_) => Err(Misread::NoSuchWords),
+        Next::Number(count) => Err(Misread::NoNumber(count)),
     }
 }
 
-/// All words one after the other, where each is understood.
+/// All words one after the other, where each is understood; else what is told of the first that isn't.
 #[tactic(auto, unfolding(crate::specs::Words::words_of))]
 fn words_of(
     alloc: Global,
     home: &Option<PathText>,
     words: &[String],
-) -> Result<Result<Words, Misread>, NoMemory>
+) -> Result<Result<Words, ByteList>, NoMemory>
     ensures read { IfOk result (λ read. read ≡ words_of home.now no_words (map (λ word. string_bytes word) words.now)) }
 {
     let mut read = no_words(alloc);
@@ -125,7 +138,7 @@ fn words_of(
     while let [word, more @ ..] = rest {
         match with_word(alloc, home, read, word.as_str())? {
             Ok(next) => read = next,
-            Err(why) => return Ok(Err(why)),
+            Err(why) => return Ok(Err(told_of(alloc, why, word.as_str())?)),
         }
         rest = more;
     }
@@ -171,7 +184,7 @@ fn with_word(
 {
     match words.next {
         Next::Any => with_any(alloc, home, words, word),
-        Next::Number(count) => Ok(or_no_such(with_number(words, count, word))),
+        Next::Number(count) => Ok(with_number(words, count, word)),
         Next::Folder => with_folder(alloc, home, words, word),
     }
 }
@@ -186,19 +199,9 @@ fn with_any(
     ensures words { IfOk result (λ more. more ≡ with_any home.now words word.now) }
 {
     if is_option(word) {
-        Ok(or_no_such(with_option(words, word)))
+        Ok(with_option(words, word))
     } else {
         with_folder(alloc, home, words, word)
-    }
-}
-
-/// The words, or that there are no such words.
-fn or_no_such(words: Option<Words>) -> Result<Words, Misread>
-    ensures words { result ≡ or_no_such words }
-{
-    match words {
-        Some(words) => Ok(words),
-        None => Err(Misread::NoSuchWords),
     }
 }
 
@@ -233,14 +236,14 @@ fn one_more(mut words: Words, folder: PathText) -> Result<Result<Words, Misread>
 
 /// The words with an option: one that stands alone, one whose number is the next word, one whose number stands behind
 /// `=`, or `--`.
-fn with_option(words: Words, option: &str) -> Option<Words>
+fn with_option(words: Words, option: &str) -> Result<Words, Misread>
     ensures words { result ≡ with_option words option.now }
 {
     if option == "--" {
-        return Some(expecting(words, Next::Folder));
+        return Ok(expecting(words, Next::Folder));
     }
     match flagged(words.choices, option) {
-        Some(choices) => Some(choosing(words, choices)),
+        Some(choices) => Ok(choosing(words, choices)),
         None => with_count(words, option),
     }
 }
@@ -276,23 +279,23 @@ fn flagged(mut choices: Choices, option: &str) -> Option<Choices>
 }
 
 /// The words with an option that has a number.
-fn with_count(words: Words, option: &str) -> Option<Words>
+fn with_count(words: Words, option: &str) -> Result<Words, Misread>
     ensures words { result ≡ with_count words option.now (count_of option.now) }
 {
     match count_of(option) {
-        Some(count) => Some(expecting(words, Next::Number(count))),
+        Some(count) => Ok(expecting(words, Next::Number(count))),
         None => with_value(words, option),
     }
 }
 
 /// The words with an option whose number stands behind `=`.
-fn with_value(words: Words, option: &str) -> Option<Words>
+fn with_value(words: Words, option: &str) -> Result<Words, Misread>
     ensures words { result ≡ with_value words (before_first (λ b. b == 61) option.now) (after_first (λ b. b == 61) option.now) }
 {
     let (name, number) = at_equals(option);
     match count_of(name) {
         Some(count) => with_number(words, count, number),
-        None => None,
+        None => Err(Misread::NoSuchOption),
     }
 }
 
@@ -321,15 +324,15 @@ fn count_of(name: &str) -> Option<Count>
 }
 
 /// The words with the number of an option.
-fn with_number(words: Words, count: Count, number: &str) -> Option<Words>
+fn with_number(words: Words, count: Count, number: &str) -> Result<Words, Misread>
     ensures words { result ≡ with_number words count (number_of number.now) }
 {
     match parse_decimal(number) {
         Some(number) => {
             let choices = counted(words.choices, count, number as usize);
-            Some(expecting(choosing(words, choices), Next::Any))
+            Ok(expecting(choosing(words, choices), Next::Any))
         }
-        None => None,
+        None => Err(Misread::NoNumber(count)),
     }
 }
 

@@ -6,8 +6,8 @@ use Rattle.list_walk.proofs.run.run.Goals as goal
 
 pub returns-in-Ok-Walk-clause-ends : goal.returns-in-Ok-Walk-clause-ends
 returns-in-Ok-Walk-clause-ends g c =
-    ends_asked _ c.in-Ok-Walk.asked c.listed.result _ (sym c.in-Ok-Walk.ensures.command
-    ∙ c.in-Ok-Walk.field-0-is) c.status_by.ensures.status c.listed.ensures.ends c.listed.ensures.cause c.listed.ensures.cause_errors
+    ends_asked _ c.in-Ok-Walk.asked c.listed.result _ _ (sym c.in-Ok-Walk.ensures.command
+    ∙ c.in-Ok-Walk.field-0-is) c.status_by-status.ensures.status c.hinted.ensures.status c.listed.ensures.ends c.listed.ensures.cause c.listed.ensures.cause_errors
 
 pub returns-in-Ok-Help-clause-ends : goal.returns-in-Ok-Help-clause-ends
 returns-in-Ok-Help-clause-ends g c =
