@@ -23,7 +23,8 @@ world reads a script from standard input and writes one line for each of its
 step lines. Fields are split by one space; empty lines and lines that begin
 with `#` say nothing. See docs/SCRIPT.md for the whole language.
 
-  fail N                     the disk's call number N fails; before all others
+  fail N                     the disk's call number N fails; before all other
+                             setup lines
   mkdir PATH                 a directory is there at the start
   put PATH TIME CONTENT      a file is there at the start
   link PATH TARGET           a link is there at the start
@@ -53,6 +54,9 @@ CONTENT is DATA, @loose:OBJ, @pack:OBJ,OBJ.., @idx:OBJ,OBJ.. or
 @midx:STEM=OBJ,OBJ..;STEM=OBJ.., and OBJ is KIND:DATA. KIND is commit, tree, blob
 or tag; DATA is hex, or `-` for nothing. HEX has 40 lower-case digits. Numbers
 are decimal.
+
+Known, and not built yet (status 8): ids, clone, upgrade, never, prefix, locate,
+entry; the options changes=, midx= and hash= of open; HEX of 64 digits.
 
 status  0 done   1 words not understood   2 a line was refused   3 read fault
         4 write fault   5 out of memory   8 a line has a word not built yet

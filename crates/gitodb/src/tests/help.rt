@@ -1,6 +1,8 @@
 //! The text of `--help`, beside the words that scripts are read by.
 use crate::run::HELP;
-use odb_script::{ChangeWord, Choice, Question, Word, change_word_of, choice_of, word_of};
+use odb_script::{
+    ChangeWord, Choice, Question, Word, change_word_of, choice_of, is_unbuilt_option, word_of,
+};
 use std::alloc::Global;
 use std::test::Fail;
 
@@ -193,6 +195,27 @@ const OPTIONS: [&str; 4] = [
 fn names_each_option(rt: HostRuntime) -> Result<(), Fail> {
     for option in OPTIONS {
         check(is_named(rt.alloc(), option)?, option)?;
+    }
+    Ok(())
+}
+
+/// Each word that is known and isn't built.
+const UNBUILT_WORDS: [&str; 7] = [
+    "ids", "clone", "upgrade", "never", "prefix", "locate", "entry",
+];
+
+/// Each option that is known and isn't built.
+const UNBUILT_OPTIONS: [&str; 3] = ["changes=", "midx=", "hash="];
+
+// A word or an option that isn't built, and is left out.
+#[test]
+fn names_what_is_not_built(_rt: HostRuntime) -> Result<(), Fail> {
+    for word in UNBUILT_WORDS {
+        let is_unbuilt = word_of(word) == Some(Word::NotBuilt);
+        check(is_unbuilt && HELP.contains(word), word)?;
+    }
+    for option in UNBUILT_OPTIONS {
+        check(is_unbuilt_option(option) && HELP.contains(option), option)?;
     }
     Ok(())
 }
