@@ -24,25 +24,30 @@ ends_errors : (s : Session) (is_help : Bool) → s.is_help ≡ is_help → AllLi
 ends_errors s true is all = (is, all)
 ends_errors s false is all = (is, all)
 
-ends_ok : (s : Session) (asked : Asked) (status : Status) → s.command ≡ Walk asked → Visits asked.choices s.state (first_of s) asked.folders (last_of s) status → Ends s (hinted status s.is_help)
+ends_ok : (s : Session) (asked : Asked) (status : Status) → s.command ≡ Walk asked
+    → Visits asked.choices s.state (first_of s) asked.folders (last_of s) status → Ends s (hinted status s.is_help)
 ends_ok s asked status asks visits =
     elim (kind asked.choices s.state (first_of s) asked.folders (last_of s) status visits) [
       | inl is ↦
           subst (λ x. Ends s (hinted x s.is_help)) (sym is)
           (ends_errors s s.is_help refl (record { asked = asked; asks = asks; visits = subst (Visits asked.choices s.state (first_of s) asked.folders (last_of s)) is visits }))
-      | inr is ↦ subst (λ x. Ends s (hinted x s.is_help)) (sym is) (inl (record { asked = asked; asks = asks; visits = subst (Visits asked.choices s.state (first_of s) asked.folders (last_of s)) is visits }))
+      | inr is ↦
+          subst (λ x. Ends s (hinted x s.is_help)) (sym is)
+          (inl (record { asked = asked; asks = asks; visits = subst (Visits asked.choices s.state (first_of s) asked.folders (last_of s)) is visits }))
     ]
 
 pub ends_walks : (s : Session) (asked : Asked) (result : Result Status LineError) → s.command ≡ Walk asked
     → EndsAll (record { choices = asked.choices; state = s.state; folders = asked.folders; first = first_of s; last = last_of s }) result
-    → (IsErrOf result errors.OutputFailed → Rose s.output.faults s.output.faults') → (IsErrOf result errors.ErrorsFailed → Rose s.errors.faults s.errors.faults') → Ends s (hinted (status_by result) s.is_help)
+    → (IsErrOf result errors.OutputFailed → Rose s.output.faults s.output.faults') → (IsErrOf result errors.ErrorsFailed → Rose s.errors.faults s.errors.faults')
+    → Ends s (hinted (status_by result) s.is_help)
 ends_walks s asked (Ok status) asks visits output told = ends_ok s asked status asks visits
 ends_walks s asked (Err errors.OutputFailed) asks visits output told = (output refl, inl (record { asked = asked; asks = asks; visits = visits }))
 ends_walks s asked (Err errors.ErrorsFailed) asks visits output told = (told refl, record { asked = asked; asks = asks; visits = visits })
 ends_walks s asked (Err errors.NoMemory) asks visits output told = inr (record { asked = asked; asks = asks; visits = visits })
 
 -- the same, where the words ask it in other terms
-pub ends_asked : (s : Session) (asked : Asked) (result : Result Status LineError) (by status : Status) → s.command ≡ Walk asked → by ≡ status_by result → status ≡ hinted by s.is_help
+pub ends_asked : (s : Session) (asked : Asked) (result : Result Status LineError) (by status : Status) → s.command ≡ Walk asked
+    → by ≡ status_by result → status ≡ hinted by s.is_help
     → EndsAll (record { choices = asked.choices; state = s.state; folders = asked.folders; first = first_of s; last = last_of s }) result
     → (IsErrOf result errors.OutputFailed → Rose s.output.faults s.output.faults') → (IsErrOf result errors.ErrorsFailed → Rose s.errors.faults s.errors.faults') → Ends s status
 ends_asked s asked result by status asks is hint visits output told =

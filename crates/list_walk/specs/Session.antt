@@ -15,8 +15,9 @@ use Rattle.list_walk.specs.declared.words.Asked.{Asked}
 use Rattle.list_walk.specs.declared.status.Status.{Status}
 use Rattle.list_walk.specs.declared.status.Status.TheVariants as statuses
 
--- What was there before and after a session: what the words ask, whether `help` is the only one, the disk, where it tells, its streams and its counts of
--- faults, what was written on standard output and on standard error, and the texts that the program writes about itself.
+-- What was there before and after a session: what the words ask, and whether `help` is the only one; the disk, where it
+-- tells, its streams and its counts of faults; what was written on standard output and on standard error; and the texts
+-- that the program writes about itself.
 pub record Session : Type 0 where
   pub command : Command
   pub is_help : Bool
