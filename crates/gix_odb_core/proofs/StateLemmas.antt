@@ -9,7 +9,7 @@ use Rattle.gix_odb_core.proofs.TurnLemmas.{after-turn, answer-turn, settled-hand
 use Rattle.gix_odb_core.specs.Countable.{IsCountable, LeavesFewPacks}
 use Rattle.gix_odb_core.specs.Replay.{Answer, CanHappen, answer_of, is_refresh, number_behind, passed_by, passed_in, refreshes_in}
 use Rattle.gix_odb_core.specs.Shelf.{settled_by}
-use Rattle.gix_odb_core.specs.State.{IsKept, IsNextState, IsPlan, IsSameState, entered, entries_in, entry_of, newest, noted, removed, settled_with, view_behind}
+use Rattle.gix_odb_core.specs.State.{IsKept, IsNextState, IsPlan, entered, entries_in, entry_of, newest, noted, removed, settled_with, view_behind}
 use Rattle.gix_odb_core.specs.Steps.{after}
 use Rattle.gix_odb_core.specs.Turn.{answer_with, handles_after, turn_of}
 use Rattle.gix_odb_core.specs.Views.{view_at, view_of}

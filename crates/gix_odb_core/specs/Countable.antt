@@ -6,6 +6,7 @@ use Rattle.gix_odb_core.specs.declared.event.Event.{Event}
 use Rattle.gix_odb_core.specs.declared.event.Event.TheVariants as event
 use Rattle.gix_odb_core.specs.declared.shape.Shape.{Shape}
 use Rattle.gix_odb_core.specs.declared.shape.Shelf.{Shelf}
+use Rattle.gix_odb_slots.specs.PackId.{most_slots}
 
 -- the slots that a listing leaves, where it changes something, have few packs each
 abbrev pub LeavesFewPacks : Event → Option Shelf → Type 0
@@ -15,5 +16,5 @@ LeavesFewPacks other shelf = Unit {0}
 -- the counts over a shape are small, since its slots have few packs each, and its list is short
 pub record IsCountable (shape : Shape) : Type 0 where
   pub packs : All HasFewPacks shape.slots
-  pub few : length shape.slots ≤ 32767
-  pub short : length shape.list ≤ 32767
+  pub few : length shape.slots ≤ most_slots
+  pub short : length shape.list ≤ most_slots

@@ -50,10 +50,11 @@ impl Core {
     ghost use Rattle.gix_odb_core.specs.State.{newest};
     ghost use Rattle.gix_odb_core.specs.Steps.{IsShape, after};
     ghost use Rattle.gix_odb_core.specs.Views.{view_of};
+    ghost use Rattle.gix_odb_slots.specs.PackId.{most_slots};
 
     /// A core with so many empty slots, of a store with so many folders.
     pub fn new(alloc: Global, slots: u16, folders: usize) -> Result<Core, NoMemory>
-        requires few { slots ≤ 32767 }
+        requires few { slots ≤ most_slots }
         ensures opened { IfOk result (λ core. core ≡ opened slots folders 0 0) }
     {
         Core::at_counts(alloc, slots, folders, 0, 0)
@@ -67,7 +68,7 @@ impl Core {
         generation: u32,
         state: u64,
     ) -> Result<Core, NoMemory>
-        requires few { slots ≤ 32767 }
+        requires few { slots ≤ most_slots }
         ensures opened { IfOk result (λ core. core ≡ opened slots folders generation state) }
     {
         let opening = Opening {
@@ -106,7 +107,7 @@ impl Core {
     pub fn look(&self) -> &View
         ensures view { result.now ≡ view_of (present self.now) (newest self.now.entries) }
         ensures shape { IsShape (present self.now) }
-        ensures few { length (present self.now).slots ≤ 32767 }
+        ensures few { length (present self.now).slots ≤ most_slots }
     {
         &self.state.view
     }

@@ -2,6 +2,7 @@
 ghost use Rattle.std.specs.Prelude.{◌≡◌, ◌≤◌, IfOk, IfSome, length};
 ghost use Rattle.gix_odb_core.specs.State.{IsPlan, view_behind};
 ghost use Rattle.gix_odb_core.specs.Turn.{answer_with};
+ghost use Rattle.gix_odb_slots.specs.PackId.{most_slots};
 
 use crate::event::{Effect, Refusal};
 use crate::shape::Shelf;
@@ -28,7 +29,7 @@ fn view_behind(
     shelf: &Option<Shelf>,
     entry: u64,
 ) -> Result<View, NoMemory>
-    requires few { IfSome shelf.now (λ shelf. length shelf.slots ≤ 32767) }
+    requires few { IfSome shelf.now (λ shelf. length shelf.slots ≤ most_slots) }
     ensures view { IfOk result (λ behind. behind ≡ view_behind view.now shelf.now entry) }
 {
     match shelf {
@@ -82,7 +83,7 @@ fn planned_with(
     told: &Told,
     entry: u64,
 ) -> Result<Plan, NoMemory>
-    requires few { IfSome shelf (λ shelf. length shelf.slots ≤ 32767) }
+    requires few { IfSome shelf (λ shelf. length shelf.slots ≤ most_slots) }
     ensures plan { IfOk result (λ plan. IsPlan view.now (record { shelf = shelf; told = told.now }) entry plan) }
 {
     let view = view_behind(alloc, view, &shelf, entry)?;
@@ -92,7 +93,7 @@ fn planned_with(
 
 /// The plan of a turn, whose entry has this number.
 pub(crate) fn planned(alloc: Global, view: &View, turn: Turn, entry: u64) -> Result<Plan, NoMemory>
-    requires few { IfSome turn.shelf (λ shelf. length shelf.slots ≤ 32767) }
+    requires few { IfSome turn.shelf (λ shelf. length shelf.slots ≤ most_slots) }
     ensures plan { IfOk result (λ plan. IsPlan view.now turn entry plan) }
 {
     let Turn { shelf, told } = turn;

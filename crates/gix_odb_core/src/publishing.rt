@@ -7,6 +7,7 @@ ghost use Rattle.gix_odb_core.specs.Handles.{is_any_stable as any_stable};
 ghost use Rattle.gix_odb_core.specs.Shelf.{shelf_of};
 ghost use Rattle.gix_odb_core.specs.Steps.{is_confirmed, publishing, settled_as, with_list, with_room, would_overflow};
 ghost use Rattle.gix_odb_core.specs.Turn.{publish_turn};
+ghost use Rattle.gix_odb_slots.specs.PackId.{most_slots};
 
 use crate::event::Refusal;
 use crate::shape::{Shape, Shelf};
@@ -109,7 +110,7 @@ impl Shape {
         free: &[usize],
         news: usize,
     ) -> Result<Turn, NoMemory>
-        requires few { length self.now.slots ≤ 32767 }
+        requires few { length self.now.slots ≤ most_slots }
         requires numbered { self.now.list_no ≤ self.now.state_id }
         requires stable { stable ≡ any_stable self.now.handles }
         requires free { free.now ≡ free_places stable rows.now self.now.slots self.now.list }
@@ -129,7 +130,7 @@ impl Shape {
 
     /// What a listing comes to.
     pub(crate) fn publish(&self, alloc: Global, listing: &Listing) -> Result<Turn, NoMemory>
-        requires few { length self.now.slots ≤ 32767 }
+        requires few { length self.now.slots ≤ most_slots }
         requires numbered { self.now.list_no ≤ self.now.state_id }
         requires packs { All HasFewPacks self.now.slots }
         ensures turn { IfOk result (λ turn. turn ≡ publish_turn self.now (publishing self.now listing.now)) }

@@ -2,6 +2,7 @@
 ghost use Rattle.std.specs.Prelude.{◌≡◌, ◌≤◌, [], false, IfOk, length, replicate};
 ghost use Rattle.gix_odb_core.specs.Shelf.{settled_by, shelf_of, shown_of, with_shelf, without_handles};
 ghost use Rattle.gix_odb_slots.specs.Shown.{shown_indices, shown_kept, shown_todo};
+ghost use Rattle.gix_odb_slots.specs.PackId.{most_slots};
 
 use crate::Shared;
 use crate::handles::HandleTable;
@@ -135,7 +136,7 @@ fn snapshot(
     marker: SlotIndexMarker,
     entry: u64,
 ) -> Result<Snapshot, NoMemory>
-    requires few { length slots.now ≤ 32767 }
+    requires few { length slots.now ≤ most_slots }
     ensures snapshot { IfOk result (λ snapshot. snapshot ≡ record { indices = shown_indices slots.now list.now; kept = shown_kept slots.now list.now; marker = marker; entry = entry }) }
 {
     let indices = Shared::new(alloc, shown_indices(alloc, slots, list)?)?;
@@ -157,7 +158,7 @@ fn todo(alloc: Global, slots: &[Slot], list: &[u16]) -> Result<Shared<TodoList>,
 impl Shelf {
     /// What a handle sees of it, handed over with an entry.
     pub(crate) fn view(&self, alloc: Global, entry: u64) -> Result<View, NoMemory>
-        requires few { length self.now.slots ≤ 32767 }
+        requires few { length self.now.slots ≤ most_slots }
         ensures view { IfOk result (λ view. view ≡ shown_of self.now entry) }
     {
         let slots = self.slots.as_slice();

@@ -6,6 +6,7 @@ ghost use Rattle.gix_odb_core.specs.Replay.{CanHappen, IsNeverRefused, is_refres
 ghost use Rattle.gix_odb_core.specs.Steps.{opening_shape};
 ghost use Rattle.gix_odb_core.specs.State.{IsKept, IsNextState, IsPlan, IsRoomFor, IsSameState, entered, entries_for, entries_in, entry_of, noted, removed, settled_with};
 ghost use Rattle.gix_odb_core.specs.Turn.{turn_of};
+ghost use Rattle.gix_odb_slots.specs.PackId.{most_slots};
 
 use crate::Shared;
 use crate::event::{Effect, Event, PassWhy, Refusal};
@@ -87,7 +88,7 @@ impl State {
         generation: u32,
         state_id: u64,
     ) -> Result<State, NoMemory>
-        requires few { slots ≤ 32767 }
+        requires few { slots ≤ most_slots }
         ensures shape { IfOk result (λ state. state.shape ≡ opening_shape slots folders generation state_id) }
         ensures entries { IfOk result (λ state. state.journal.entries.items ≡ []) }
         ensures kept { IfOk result IsKept }

@@ -6,6 +6,7 @@ ghost use Rattle.gix_odb_slots.specs.OnDiskFile.{is_disposable};
 ghost use Rattle.gix_odb_slots.specs.Publish.{slot_at};
 ghost use Rattle.gix_odb_slots.specs.Slots.{has_disposable, is_index_disposable};
 ghost use Rattle.gix_odb_slots.specs.Tally.{HasFewPacks, IsSmall, tally_of, with_filled, with_slot};
+ghost use Rattle.gix_odb_slots.specs.PackId.{most_slots};
 
 use crate::slot::{Filled, IndexFile, PackFile, Slot};
 
@@ -139,7 +140,7 @@ const NO_TALLY: Tally = Tally {
 /// Counts over the listed slots. A slot that is listed twice counts twice.
 pub fn listed_tally(slots: &[Slot], list: &[u16]) -> Tally
     requires packs { All HasFewPacks slots.now }
-    requires short { length list.now ≤ 32767 }
+    requires short { length list.now ≤ most_slots }
     ensures tally { result ≡ tally_of (listed_in slots.now list.now) }
 {
     let mut tally = NO_TALLY;
@@ -152,7 +153,7 @@ pub fn listed_tally(slots: &[Slot], list: &[u16]) -> Tally
 /// Counts over the filled slots with a file that is garbage, or was missing.
 pub fn disposable_tally(slots: &[Slot]) -> Tally
     requires packs { All HasFewPacks slots.now }
-    requires few { length slots.now ≤ 32767 }
+    requires few { length slots.now ≤ most_slots }
     ensures tally { result ≡ tally_of (disposable_in slots.now) }
 {
     let mut tally = NO_TALLY;

@@ -5,6 +5,7 @@ ghost use Rattle.std.specs.List.{list_any, position, range_with_len, zip};
 ghost use Rattle.gix_odb_slots.specs.Slots.{holds};
 ghost use Rattle.gix_odb_slots.specs.Tally.{HasFewPacks};
 ghost use Rattle.gix_odb_slots.specs.Publish.{free_places, is_free, is_kept, is_new, list_after, new_rows, place_after, settled, slot_at, slots_after, taken, with_taken};
+ghost use Rattle.gix_odb_slots.specs.PackId.{most_slots};
 
 use crate::Shared;
 use crate::listing::ListingRow;
@@ -221,7 +222,7 @@ fn place_of(row: &ListingRow, slots: &[Slot]) -> Option<usize>
 
 /// Adds the number of a slot, where there is one.
 fn put_place(list: &mut Sequence<u16>, place: Option<usize>) -> Result<(), NoMemory>
-    requires few { ForSome place (λ place. place < 32767) }
+    requires few { ForSome place (λ place. place < most_slots) }
     ensures put { OnOk result (list.new ≡ list.old ++ option_to_list place) }
 {
     if let Some(place) = place {
@@ -236,7 +237,7 @@ pub fn list_after(
     rows: &[ListingRow],
     slots: &[Slot],
 ) -> Result<Sequence<u16>, NoMemory>
-    requires few { length slots.now ≤ 32767 }
+    requires few { length slots.now ≤ most_slots }
     ensures list { IfOk result (λ list. list ≡ list_after rows.now slots.now) }
 {
     let mut list = Sequence::new(alloc);

@@ -3,6 +3,7 @@ ghost use Rattle.std.specs.Prelude.{◌≡◌, ◌≤◌, ◌<◌, ◌++◌, ◌
 ghost use Rattle.std.specs.Option.{option_to_list};
 ghost use Rattle.gix_odb_slots.specs.Publish.{slot_at};
 ghost use Rattle.gix_odb_slots.specs.Shown.{is_listed, kept_unmarked, loaded_index, shown_indices, shown_kept, shown_slot, shown_todo, unloaded_slot};
+ghost use Rattle.gix_odb_slots.specs.PackId.{most_slots};
 
 use crate::loaded::{LoadedIndex, LoadedList, SnapshotIndex, Todo, TodoList};
 use crate::slot::{Filled, IndexFile, Slot};
@@ -130,7 +131,7 @@ fn listed_marks(alloc: Global, list: &[u16], count: usize) -> Result<Vec<bool>, 
 
 /// What a snapshot has of a slot that isn't listed.
 fn kept_at(listed: bool, place: usize, slot: &Slot) -> Result<Option<SnapshotIndex>, NoMemory>
-    requires small { place < 32767 }
+    requires small { place < most_slots }
     ensures kept { IfOk result (λ kept. kept ≡ (if listed then None else shown_slot place slot.now)) }
 {
     if listed {
@@ -141,7 +142,7 @@ fn kept_at(listed: bool, place: usize, slot: &Slot) -> Result<Option<SnapshotInd
 
 /// The loaded files of the slots that aren't marked, in the order of the slots.
 fn kept_unmarked(alloc: Global, slots: &[Slot], marks: &[bool]) -> Result<LoadedList, NoMemory>
-    requires few { length slots.now ≤ 32767 }
+    requires few { length slots.now ≤ most_slots }
     requires marks { length marks.now ≡ length slots.now }
     ensures kept { IfOk result (λ items. items ≡ kept_unmarked marks.now slots.now) }
 {
@@ -165,7 +166,7 @@ pub fn shown_indices(alloc: Global, slots: &[Slot], list: &[u16]) -> Result<Load
 
 /// The loaded files of the filled slots that aren't listed, in the order of the slots.
 pub fn shown_kept(alloc: Global, slots: &[Slot], list: &[u16]) -> Result<LoadedList, NoMemory>
-    requires few { length slots.now ≤ 32767 }
+    requires few { length slots.now ≤ most_slots }
     ensures kept { IfOk result (λ items. items ≡ shown_kept slots.now list.now) }
 {
     let marks = listed_marks(alloc, list, slots.len())?;
