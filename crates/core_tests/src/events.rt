@@ -51,16 +51,11 @@ fn put_pack(alloc: Global, text: &str) -> Result<Event, Fail> {
 
 /// `SLOT`, or `SLOT.PLACE`.
 fn pack_id_of(word: &str) -> Result<PackId, Fail> {
-    match word.split_once('.') {
-        None => Ok(PackId {
-            index: word.parse::<usize>()?,
-            multipack_index: None,
-        }),
-        Some((slot, place)) => Ok(PackId {
-            index: slot.parse::<usize>()?,
-            multipack_index: Some(place.parse::<u32>()?),
-        }),
-    }
+    let (slot, place) = word.split_once('.').unwrap_or((word, ""));
+    Ok(PackId {
+        index: slot.parse::<usize>()?,
+        multipack_index: place.parse::<u32>().ok(),
+    })
 }
 
 fn pass_over(alloc: Global, text: &str) -> Result<Event, Fail> {
@@ -102,11 +97,16 @@ fn publish(alloc: Global, text: &str) -> Result<Event, Fail> {
 fn rows_of(alloc: Global, text: &str) -> Result<ListingRowList, Fail> {
     let mut rows = ListingRowList::new(alloc);
     for word in text.split(' ') {
-        if !word.is_empty() {
-            rows.push(row_of(alloc, word)?)?;
-        }
+        push_row(alloc, &mut rows, word)?;
     }
     Ok(rows)
+}
+
+fn push_row(alloc: Global, rows: &mut ListingRowList, word: &str) -> Result<(), Fail> {
+    if word.is_empty() {
+        return Ok(());
+    }
+    Ok(rows.push(row_of(alloc, word)?)?)
 }
 
 fn row_of(alloc: Global, word: &str) -> Result<ListingRow, Fail> {
@@ -134,39 +134,40 @@ fn multi_at(
     }
 }
 
+fn verb_of(event: &Event) -> &'static str {
+    match event {
+        Event::Register { .. } => " register ",
+        Event::Upgrade => " upgrade ",
+        Event::Remove => " remove ",
+        Event::Look => " look ",
+        Event::Report => " report ",
+        Event::PutIndex { .. } => " index ",
+        Event::PutPack { .. } => " pack ",
+        Event::PassOver { .. } => " pass ",
+        Event::Publish(_) => " publish ",
+    }
+}
+
 /// Puts the words of a seat's event behind a text, each with a blank before it.
 pub fn put_event(text: &mut Text, seat: u32, event: &Event) {
-    let seat = u64::from(seat);
+    text.marked(verb_of(event), u64::from(seat));
     match event {
-        Event::Register { stable } => {
-            text.marked(" register ", seat);
-            text.put(if *stable { " stable" } else { "" });
-        }
-        Event::Upgrade => text.marked(" upgrade ", seat),
-        Event::Remove => text.marked(" remove ", seat),
-        Event::Look => text.marked(" look ", seat),
-        Event::Report => text.marked(" report ", seat),
+        Event::Register { stable } => text.put(if *stable { " stable" } else { "" }),
         Event::PutIndex { slot, path, file } => {
-            text.marked(" index ", seat);
             text.marked(" ", u64::from(*slot));
             put_file(text, path, file.value().num_objects());
         }
         Event::PutPack { pack, path, file } => {
-            text.marked(" pack ", seat);
             put_pack_id(text, *pack);
             put_file(text, path, file.value().num_objects());
         }
         Event::PassOver { slot, path, why } => {
-            text.marked(" pass ", seat);
             text.marked(" ", u64::from(*slot));
             text.path(" ", path);
-            text.put(" ");
-            text.put(word_of_why(*why));
+            text.word(" ", word_of_why(*why));
         }
-        Event::Publish(listing) => {
-            text.marked(" publish ", seat);
-            put_listing(text, listing);
-        }
+        Event::Publish(listing) => put_listing(text, listing),
+        _ => {}
     }
 }
 

@@ -1,40 +1,66 @@
 //! The states of a file, turned both ways.
+use crate::text::Text;
+use crate::words::{compare, halves};
 use gix_odb_core::{FileState, OnDiskFile, Shared};
 use odb_base::PathText;
 use std::alloc::Global;
 use std::test::Fail;
 
-/// What the questions on a file answer: whether it is loaded, what was read, and whether it is disposable.
-fn told(file: &OnDiskFile<u8>) -> (bool, Option<u8>, bool) {
-    (
-        file.is_loaded(),
-        file.loaded().copied(),
-        file.is_disposable(),
-    )
+/// States of a file in which 7 was read if something was, and what it answers as it is, once it is trashed, and once it is put back then.
+const ROWS: &[&str] = &[
+    "unloaded | unloaded, unloaded, unloaded",
+    "loaded | loaded 7, loaded 7 disposable, loaded 7",
+    "garbage | loaded 7 disposable, loaded 7 disposable, loaded 7",
+    "missing | unloaded disposable, unloaded disposable, unloaded",
+];
+
+fn state_of(word: &str) -> FileState<u8> {
+    match word {
+        "loaded" => FileState::Loaded(7),
+        "garbage" => FileState::Garbage(7),
+        "missing" => FileState::Missing,
+        _ => FileState::Unloaded,
+    }
 }
 
-/// What a file in a state answers as it is, once it is trashed, and once it is put back then.
-fn turns_of(alloc: Global, state: FileState<u8>) -> Result<[(bool, Option<u8>, bool); 3], Fail> {
-    let path = Shared::new(alloc, PathText::parse(alloc, "/o/pack/pack-a.idx")?)?;
-    let mut file = OnDiskFile::new(path, state);
-    let first = told(&file);
+/// Puts what the questions on a file answer behind a mark: whether it is loaded, what was read, and whether it is disposable.
+fn put_answers(text: &mut Text, mark: &str, file: &OnDiskFile<u8>) {
+    let loaded = if file.is_loaded() {
+        "loaded"
+    } else {
+        "unloaded"
+    };
+    text.word(mark, loaded);
+    if let Some(read) = file.loaded() {
+        text.marked(" ", u64::from(*read));
+    }
+    if file.is_disposable() {
+        text.put(" disposable");
+    }
+}
+
+fn put_turns(text: &mut Text, file: &mut OnDiskFile<u8>) {
+    put_answers(text, "", file);
     file.trash();
-    let trashed = told(&file);
+    put_answers(text, ", ", file);
     file.put_back();
-    Ok([first, trashed, told(&file)])
+    put_answers(text, ", ", file);
+}
+
+fn check(alloc: Global, row: &str) -> Result<(), Fail> {
+    let (state, want) = halves(row);
+    let path = Shared::new(alloc, PathText::parse(alloc, "/o/pack/pack-a.idx")?)?;
+    let mut file = OnDiskFile::new(path, state_of(state));
+    let mut text = Text::new(alloc);
+    put_turns(&mut text, &mut file);
+    compare(state, &text, want)
 }
 
 // A file that is trashed twice, or put back as something else.
 #[test]
 fn states_of_files(rt: HostRuntime) -> Result<(), Fail> {
-    let unloaded = (false, None, false);
-    let loaded = (true, Some(7), false);
-    let garbage = (true, Some(7), true);
-    let missing = (false, None, true);
-    let alloc = rt.alloc();
-    assert!(rt; turns_of(alloc, FileState::Unloaded)? == [unloaded, unloaded, unloaded]);
-    assert!(rt; turns_of(alloc, FileState::Loaded(7))? == [loaded, garbage, loaded]);
-    assert!(rt; turns_of(alloc, FileState::Garbage(7))? == [garbage, garbage, loaded]);
-    assert!(rt; turns_of(alloc, FileState::Missing)? == [missing, missing, unloaded]);
+    for row in ROWS {
+        check(rt.alloc(), row)?;
+    }
     Ok(())
 }

@@ -15,12 +15,16 @@ fn blob(alloc: Global, text: &str) -> Result<Object, NoMemory> {
     })
 }
 
+fn push_blob(alloc: Global, objects: &mut Vec<Object>, text: &str) -> Result<(), Fail> {
+    Ok(objects.push(blob(alloc, text)?)?)
+}
+
 /// So many objects, in words.
 fn blobs(alloc: Global, count: &str) -> Result<Vec<Object>, Fail> {
     let count = count.parse::<usize>()?;
     let mut objects = Vec::new(alloc);
     for text in TEXTS.iter().take(count) {
-        objects.push(blob(alloc, text)?)?;
+        push_blob(alloc, &mut objects, text)?;
     }
     Ok(objects)
 }
@@ -55,15 +59,17 @@ pub fn pack_file(alloc: Global, count: &str) -> Result<Shared<data::File>, Fail>
     pack_of(alloc, objects.as_slice())
 }
 
-/// A pack with its name as its object.
-fn named(alloc: Global, name: &str) -> Result<NamedPack, NoMemory> {
-    let name_of_pack = PathName::new(alloc, name)?;
+/// The objects of a pack, of which its name is the only one.
+fn objects_of(alloc: Global, name: &str) -> Result<Sequence<Object>, NoMemory> {
     let mut objects = Sequence::new(alloc);
     objects.push(blob(alloc, name)?)?;
-    Ok(NamedPack {
-        name: name_of_pack,
-        objects,
-    })
+    Ok(objects)
+}
+
+fn push_named(alloc: Global, packs: &mut Vec<NamedPack>, name: &str) -> Result<(), Fail> {
+    let objects = objects_of(alloc, name)?;
+    let name = PathName::new(alloc, name)?;
+    Ok(packs.push(NamedPack { name, objects })?)
 }
 
 fn multi_of(alloc: Global, packs: &[NamedPack]) -> Result<Shared<multi_index::File>, Fail> {
@@ -84,7 +90,7 @@ pub fn multi_file(alloc: Global, time: u64) -> Result<Shared<multi_index::File>,
     };
     let mut packs = Vec::new(alloc);
     for name in names {
-        packs.push(named(alloc, name)?)?;
+        push_named(alloc, &mut packs, name)?;
     }
     multi_of(alloc, packs.as_slice())
 }

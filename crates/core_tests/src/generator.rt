@@ -159,8 +159,7 @@ fn put_index(text: &mut Text, numbers: &mut Numbers, model: &Model, seat: u64) {
     let slot = slot_of(numbers, model, true);
     text.marked("index ", seat);
     text.marked(" ", slot as u64);
-    text.put(" ");
-    text.put(index_path(numbers, model.shelf.at(slot)));
+    text.word(" ", index_path(numbers, model.shelf.at(slot)));
     text.marked(" ", numbers.below(4));
 }
 
@@ -171,23 +170,24 @@ fn put_pack(text: &mut Text, numbers: &mut Numbers, model: &Model, seat: u64) {
     if numbers.happens(6) {
         text.marked(".", numbers.below(2));
     }
-    text.put(" ");
-    text.put(pack_path(numbers, model.shelf.at(slot)));
+    text.word(" ", pack_path(numbers, model.shelf.at(slot)));
     text.marked(" ", numbers.below(4));
+}
+
+fn file_path(numbers: &mut Numbers, place: Place) -> &'static str {
+    if numbers.happens(8) {
+        pack_path(numbers, place)
+    } else {
+        index_path(numbers, place)
+    }
 }
 
 fn put_pass(text: &mut Text, numbers: &mut Numbers, model: &Model, seat: u64) {
     let slot = any_slot(numbers, model);
     text.marked("pass ", seat);
     text.marked(" ", slot as u64);
-    text.put(" ");
-    text.put(if numbers.happens(8) {
-        pack_path(numbers, model.shelf.at(slot))
-    } else {
-        index_path(numbers, model.shelf.at(slot))
-    });
-    text.put(" ");
-    text.put(numbers.word(REASONS));
+    text.word(" ", file_path(numbers, model.shelf.at(slot)));
+    text.word(" ", numbers.word(REASONS));
 }
 
 /// A listing: mostly a new one on the newest list, now and then the same again, or one that began before.
@@ -210,8 +210,7 @@ fn put_publish(text: &mut Text, numbers: &mut Numbers, ways: &Ways, model: &Mode
 }
 
 fn put_row(text: &mut Text, path: &str, multi: bool, time: u64) {
-    text.put(" ");
-    text.put(path);
+    text.word(" ", path);
     put_time(text, multi, time);
 }
 

@@ -25,20 +25,14 @@ fn can_happen(core: &Core, seat: u32, event: &Event) -> bool
     }
 }
 
-/// Puts what an event answers behind a text.
-fn put_happening(
-    alloc: Global,
-    core: &mut Core,
-    seat: u32,
-    event: Event,
-    text: &mut Text,
-) -> Result<(), Fail> {
-    if !can_happen(core, seat, &event) {
-        return Err(Fail::new("an event that can't happen"));
+/// Puts what an event answers behind a text, if it can happen.
+fn put_happening(alloc: Global, core: &mut Core, seat: u32, event: Event, text: &mut Text) {
+    if can_happen(core, seat, &event) {
+        let answer = core.apply(alloc, seat, event);
+        put_answer(text, &answer);
+    } else {
+        text.put("it can't happen");
     }
-    let answer = core.apply(alloc, seat, event);
-    put_answer(text, &answer);
-    Ok(())
 }
 
 /// Puts what an event in words answers behind a text.
@@ -47,5 +41,6 @@ pub fn happen(alloc: Global, core: &mut Core, line: &str, text: &mut Text) -> Re
     let (seat, rest) = cut(rest);
     let seat = seat.parse::<u32>()?;
     let event = event_of(alloc, verb, rest)?;
-    put_happening(alloc, core, seat, event, text)
+    put_happening(alloc, core, seat, event, text);
+    Ok(())
 }

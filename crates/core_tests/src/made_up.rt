@@ -10,50 +10,37 @@ use std::test::Fail;
 
 const EVENTS: usize = 2_000;
 
-/// The first words of answers.
-const WORDS: [&str; 10] = [
-    "seen",
-    "reported",
-    "removed",
-    "stored",
-    "left",
-    "published",
-    "unchanged",
-    "outdated",
-    "insufficient",
-    "overflow",
-];
-
-/// How often each first word came.
-type Tally = [u64; 10];
+/// First words of answers, each with how often it has to come still.
+type Wanted = [(&'static str, u64); 10];
 
 /// Counts an answer.
-fn note(tally: &mut Tally, answer: &str) {
+fn note(wanted: &mut Wanted, answer: &str) {
     let (first, _) = cut(answer);
-    for (count, word) in tally.iter_mut().zip(WORDS) {
-        if word == first {
-            *count = count.saturating_add(1);
+    for (word, left) in wanted.iter_mut() {
+        if *word == first {
+            *left = left.saturating_sub(1);
         }
     }
 }
 
-/// Fails where a word came less often than it has to.
-fn check_tally(tally: &Tally, least: &Tally) -> Result<(), Fail> {
-    for (at, word) in WORDS.iter().enumerate() {
-        let (count, wanted) = (tally.get(at), least.get(at));
-        if count < wanted {
+/// Fails where a word didn't come as often as it has to.
+fn check_all_came(wanted: &Wanted) -> Result<(), Fail> {
+    for (word, left) in wanted {
+        if *left > 0 {
             return Err(Fail::new(*word));
         }
     }
     Ok(())
 }
 
-/// Made-up events, of which each answer comes at least so often.
+/// Made-up events, and what has to come of them.
 struct Run {
     opening: Opening,
     seed: u64,
     ways: Ways,
-    least: Tally,
+    /// How far the generation and the state number come at least.
+    counters: (u32, u64),
+    wanted: Wanted,
 }
 
 /// Plays an event on the second model, and then on the core. It compares the answer, the newest entry of the journal, what the core shows and its counts.
@@ -61,12 +48,12 @@ fn step(
     alloc: Global,
     core: &mut Core,
     model: &mut Model,
-    tally: &mut Tally,
+    wanted: &mut Wanted,
     line: &str,
 ) -> Result<(), Fail> {
     let mut want = Text::new(alloc);
     model.play(line, &mut want);
-    note(tally, want.as_str());
+    note(wanted, want.as_str());
     check_core(alloc, core, line, want.as_str())?;
     check_newest(alloc, core, model.entries, line, want.as_str())?;
     check_present(alloc, core, model)
@@ -81,10 +68,8 @@ fn check_newest(
 ) -> Result<(), Fail> {
     let mut want = Text::new(alloc);
     want.marked("", number);
-    want.put(" ");
-    want.put(line);
-    want.put(": ");
-    want.put(answer);
+    want.word(" ", line);
+    want.word(": ", answer);
     check_core(alloc, core, "newest", want.as_str())
 }
 
@@ -99,35 +84,51 @@ fn play_next(
     alloc: Global,
     core: &mut Core,
     model: &mut Model,
-    tally: &mut Tally,
+    wanted: &mut Wanted,
     numbers: &mut Numbers,
     ways: &Ways,
 ) -> Result<(), Fail> {
     let mut line = Text::new(alloc);
     put_made_up(&mut line, numbers, ways, model);
-    step(alloc, core, model, tally, line.as_str())
+    step(alloc, core, model, wanted, line.as_str())
 }
 
-fn play(alloc: Global, core: &mut Core, model: &mut Model, run: &Run) -> Result<(), Fail> {
-    let mut tally = [0; 10];
+/// Fails where a counter doesn't come as far as it has to.
+fn check_counters(model: &Model, counters: (u32, u64)) -> Result<(), Fail> {
+    let (generation, state) = counters;
+    if model.generation >= generation && model.state >= state {
+        return Ok(());
+    }
+    Err(Fail::new("the counters"))
+}
+
+fn play(alloc: Global, core: &mut Core, run: &Run) -> Result<(), Fail> {
+    let mut model = Model::new(alloc, run.opening);
+    let mut wanted = run.wanted;
     let mut numbers = Numbers { state: run.seed };
     for _ in 0..EVENTS {
-        play_next(alloc, core, model, &mut tally, &mut numbers, &run.ways)?;
+        play_next(
+            alloc,
+            core,
+            &mut model,
+            &mut wanted,
+            &mut numbers,
+            &run.ways,
+        )?;
     }
-    check_tally(&tally, &run.least)
+    check_counters(&model, run.counters)?;
+    check_all_came(&wanted)
 }
 
-/// Plays made-up events, and gives the counters at the end.
-fn check(alloc: Global, run: &Run) -> Result<(u32, u64), Fail> {
+fn check(alloc: Global, run: &Run) -> Result<(), Fail> {
     let mut core = core_of(alloc, run.opening)?;
-    let mut model = Model::new(alloc, run.opening);
-    play(alloc, &mut core, &mut model, run)?;
-    Ok((model.generation, model.state))
+    play(alloc, &mut core, run)
 }
 
 // Few slots, so that listings often find too few; handles come and go.
 const FEW_SLOTS: Run = Run {
     opening: (3, 1, 0, 0),
+    counters: (0, 0),
     seed: 1,
     ways: Ways {
         stable: 1,
@@ -135,12 +136,24 @@ const FEW_SLOTS: Run = Run {
         removed: 15,
         rows: 6,
     },
-    least: [100, 10, 10, 50, 50, 50, 20, 20, 50, 0],
+    wanted: [
+        ("seen", 100),
+        ("reported", 10),
+        ("removed", 10),
+        ("stored", 50),
+        ("left", 50),
+        ("published", 50),
+        ("unchanged", 20),
+        ("outdated", 20),
+        ("insufficient", 50),
+        ("overflow", 0),
+    ],
 };
 
 // Handles are mostly stable, so that slots keep what no listing has any more, until all of them are gone.
 const STABLE_HANDLES: Run = Run {
     opening: (9, 4, 0, 0),
+    counters: (0, 0),
     seed: 2,
     ways: Ways {
         stable: 4,
@@ -148,12 +161,24 @@ const STABLE_HANDLES: Run = Run {
         removed: 15,
         rows: 5,
     },
-    least: [100, 10, 10, 50, 50, 50, 20, 20, 20, 0],
+    wanted: [
+        ("seen", 100),
+        ("reported", 10),
+        ("removed", 10),
+        ("stored", 50),
+        ("left", 50),
+        ("published", 50),
+        ("unchanged", 20),
+        ("outdated", 20),
+        ("insufficient", 20),
+        ("overflow", 0),
+    ],
 };
 
 // The state number, and then the generation, come to their greatest values.
 const COUNTERS_AT_THEIR_ENDS: Run = Run {
     opening: (5, 2, u32::MAX - 15, u64::MAX - 250),
+    counters: (u32::MAX, u64::MAX),
     seed: 3,
     ways: Ways {
         stable: 1,
@@ -161,14 +186,24 @@ const COUNTERS_AT_THEIR_ENDS: Run = Run {
         removed: 14,
         rows: 5,
     },
-    least: [100, 10, 10, 50, 50, 50, 20, 20, 20, 30],
+    wanted: [
+        ("seen", 100),
+        ("reported", 10),
+        ("removed", 10),
+        ("stored", 50),
+        ("left", 50),
+        ("published", 50),
+        ("unchanged", 20),
+        ("outdated", 20),
+        ("insufficient", 20),
+        ("overflow", 30),
+    ],
 };
 
 #[test]
 fn made_up_events(rt: HostRuntime) -> Result<(), Fail> {
-    check(rt.alloc(), &FEW_SLOTS)?;
-    check(rt.alloc(), &STABLE_HANDLES)?;
-    let counters = check(rt.alloc(), &COUNTERS_AT_THEIR_ENDS)?;
-    assert!(rt; counters == (u32::MAX, u64::MAX));
+    for run in [&FEW_SLOTS, &STABLE_HANDLES, &COUNTERS_AT_THEIR_ENDS] {
+        check(rt.alloc(), run)?;
+    }
     Ok(())
 }

@@ -112,8 +112,7 @@ impl Model {
         let (slot, path, why) = file_of(words);
         self.passed.comma();
         self.passed.put(path);
-        self.passed.put(" ");
-        self.passed.put(why);
+        self.passed.word(" ", why);
         self.shelf.turn(slot, Turn::Missed(path));
         self.put_view(text, "seen #");
     }

@@ -58,8 +58,7 @@ fn put_pack(text: &mut Text, file: File) {
     if file.path.is_empty() {
         return;
     }
-    text.put(" ");
-    text.put(file.path);
+    text.word(" ", file.path);
     match file.state {
         State::Unread => text.put("-"),
         State::Here(count) => text.marked("=", count),
@@ -86,31 +85,33 @@ fn put_index(text: &mut Text, slot: usize, place: Place, read: bool) {
     if held.index.count().is_some() == read {
         text.comma();
         text.marked("", slot as u64);
-        text.put(":");
-        text.put(held.row.path);
+        text.word(":", held.row.path);
         put_loaded(text, held);
     }
+}
+
+fn put_state(text: &mut Text, held: Held) {
+    let read = if held.index.count().is_some() {
+        "="
+    } else {
+        ""
+    };
+    let waste = if held.is_waste() { "!" } else { "" };
+    text.word(read, waste);
 }
 
 fn put_marks(text: &mut Text, place: Place) {
     if let Some(held) = place {
         text.comma();
-        text.put(held.row.path);
-        text.put(if held.row.multi { "*" } else { "" });
-        text.put(if held.index.count().is_some() {
-            "="
-        } else {
-            ""
-        });
-        text.put(if held.is_waste() { "!" } else { "" });
+        text.word(held.row.path, if held.row.multi { "*" } else { "" });
+        put_state(text, held);
     }
 }
 
 impl Model {
     pub fn put_view(&self, text: &mut Text, word: &str) {
         text.marked(word, self.entries);
-        text.marked(" ", self.list_no);
-        text.marked(" ", u64::from(self.generation));
+        text.numbers(&[self.list_no, u64::from(self.generation)]);
         text.marked(".", self.state);
         text.put(if self.read { " [" } else { " unread [" });
         self.put_listed(text, true);
@@ -159,27 +160,32 @@ impl Model {
 
     fn put_counts(&self, text: &mut Text) {
         let counts = self.counts();
-        text.marked(" ", self.count_handles());
-        text.marked(" ", self.refreshes);
-        text.marked(" ", counts.listed.read);
-        text.marked(" ", counts.listed.slots);
-        text.marked(" ", counts.listed.read_packs);
-        text.marked(" ", counts.listed.packs);
-        text.marked(" ", counts.empty);
-        text.marked(" ", counts.waste.slots);
-        text.marked(" ", counts.waste.read_packs);
-        text.marked(" ", self.folders);
+        text.numbers(&[
+            self.count_handles(),
+            self.refreshes,
+            counts.listed.read,
+            counts.listed.slots,
+            counts.listed.read_packs,
+            counts.listed.packs,
+            counts.empty,
+            counts.waste.slots,
+            counts.waste.read_packs,
+            self.folders,
+        ]);
+    }
+
+    fn put_all_marks(&self, text: &mut Text) {
+        for slot in self.shelf.list.iter().flatten() {
+            put_marks(text, self.shelf.at(*slot));
+        }
     }
 
     pub fn put_reported(&self, text: &mut Text) {
         self.put_view(text, "reported #");
         self.put_counts(text);
         text.put(" [");
-        for slot in self.shelf.list.iter().flatten() {
-            put_marks(text, self.shelf.at(*slot));
-        }
-        text.put("]");
-        text.put(self.passed.as_str());
+        self.put_all_marks(text);
+        text.word("]", self.passed.as_str());
         text.put("]");
     }
 

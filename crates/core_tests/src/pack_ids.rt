@@ -1,6 +1,5 @@
 //! Numbers of packs at their edges.
 use gix_odb_core::PackId;
-use std::test::Fail;
 
 /// Slots, places in a multi-pack index, and the numbers that stand for them.
 const PACKS: [(usize, Option<u32>, u32); 7] = [
@@ -28,23 +27,24 @@ fn number_of(index: usize, place: Option<u32>) -> Option<u32> {
     }
 }
 
+/// Whether a number stands for this slot and place.
+fn gives(id: u32, index: usize, place: Option<u32>) -> bool {
+    let pack = PackId::from_intrinsic_pack_id(id);
+    pack.index == index && pack.multipack_index == place
+}
+
 // A number that takes the place for the slot, or loses its bit.
 #[test]
-fn numbers_of_packs(rt: HostRuntime) -> Result<(), Fail> {
+fn numbers_of_packs(rt: HostRuntime) {
     for (index, place, id) in PACKS {
-        assert!(rt; number_of(index, place) == Some(id));
-        let pack = PackId::from_intrinsic_pack_id(id);
-        assert!(rt; pack.index == index && pack.multipack_index == place);
+        assert!(rt; number_of(index, place) == Some(id) && gives(id, index, place));
     }
-    Ok(())
 }
 
 // A number above 16 bits without the bit is a slot as a whole.
 #[test]
-fn number_without_the_bit(rt: HostRuntime) -> Result<(), Fail> {
-    let pack = PackId::from_intrinsic_pack_id(65_536);
-    assert!(rt; pack.index == 65_536 && pack.multipack_index == None);
-    let last = PackId::from_intrinsic_pack_id(4_294_934_527);
-    assert!(rt; last.index == 4_294_934_527 && last.multipack_index == None);
-    Ok(())
+fn number_without_the_bit(rt: HostRuntime) {
+    for id in [65_536, 4_294_934_527] {
+        assert!(rt; gives(id, id as usize, None));
+    }
 }

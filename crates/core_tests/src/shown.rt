@@ -123,16 +123,18 @@ fn put_reported(text: &mut Text, view: &View, report: &Report) {
 
 /// Puts counts behind a text, in the order of the fields.
 pub fn put_metrics(text: &mut Text, metrics: &Metrics) {
-    text.marked(" ", metrics.num_handles as u64);
-    text.marked(" ", metrics.num_refreshes as u64);
-    text.marked(" ", metrics.open_reachable_indices as u64);
-    text.marked(" ", metrics.known_reachable_indices as u64);
-    text.marked(" ", metrics.open_reachable_packs as u64);
-    text.marked(" ", metrics.known_packs as u64);
-    text.marked(" ", metrics.unused_slots as u64);
-    text.marked(" ", metrics.unreachable_indices as u64);
-    text.marked(" ", metrics.unreachable_packs as u64);
-    text.marked(" ", metrics.loose_dbs as u64);
+    text.numbers(&[
+        metrics.num_handles as u64,
+        metrics.num_refreshes as u64,
+        metrics.open_reachable_indices as u64,
+        metrics.known_reachable_indices as u64,
+        metrics.open_reachable_packs as u64,
+        metrics.known_packs as u64,
+        metrics.unused_slots as u64,
+        metrics.unreachable_indices as u64,
+        metrics.unreachable_packs as u64,
+        metrics.loose_dbs as u64,
+    ]);
 }
 
 fn put_listed(text: &mut Text, listed: &[Listed]) {

@@ -19,8 +19,8 @@ fn put_told(alloc: Global, core: &mut Core, line: &str, text: &mut Text) -> Resu
         "now" => put_present(text, core),
         "entries" => text.marked("", count as u64),
         "newest" => put_entry_at(text, core, count.saturating_sub(1)),
-        "entry" => put_entry_at(text, core, rest.parse::<usize>()?),
-        _ => happen(alloc, core, line, text)?,
+        "entry" => put_entry_at(text, core, rest.parse::<usize>().unwrap_or(0)),
+        _ => return happen(alloc, core, line, text),
     }
     Ok(())
 }
@@ -46,16 +46,16 @@ fn check_model(alloc: Global, model: &mut Model, line: &str, want: &str) -> Resu
     compare("the second model", &told, want)
 }
 
-fn check_rows(
-    alloc: Global,
-    core: &mut Core,
-    model: &mut Model,
-    rows: &[&str],
-) -> Result<(), Fail> {
+fn check_row(alloc: Global, core: &mut Core, model: &mut Model, row: &str) -> Result<(), Fail> {
+    let (line, want) = halves(row);
+    check_core(alloc, core, line, want)?;
+    check_model(alloc, model, line, want)
+}
+
+fn check_rows(alloc: Global, core: &mut Core, opening: Opening, rows: &[&str]) -> Result<(), Fail> {
+    let mut model = Model::new(alloc, opening);
     for row in rows {
-        let (line, want) = halves(row);
-        check_core(alloc, core, line, want)?;
-        check_model(alloc, model, line, want)?;
+        check_row(alloc, core, &mut model, row)?;
     }
     Ok(())
 }
@@ -71,6 +71,5 @@ pub fn core_of(alloc: Global, opening: Opening) -> Result<Core, Fail> {
 /// Plays the rows of a table, each `EVENT | ANSWER`, on a core and on the second model.
 pub fn check(alloc: Global, opening: Opening, rows: &[&str]) -> Result<(), Fail> {
     let mut core = core_of(alloc, opening)?;
-    let mut model = Model::new(alloc, opening);
-    check_rows(alloc, &mut core, &mut model, rows)
+    check_rows(alloc, &mut core, opening, rows)
 }

@@ -32,6 +32,19 @@ impl Text {
         }
     }
 
+    /// Adds a mark and a word.
+    pub fn word(&mut self, mark: &str, word: &str) {
+        self.put(mark);
+        self.put(word);
+    }
+
+    /// Adds numbers, each with a blank before it.
+    pub fn numbers(&mut self, numbers: &[u64]) {
+        for number in numbers {
+            self.marked(" ", *number);
+        }
+    }
+
     /// Adds a mark and a number.
     pub fn marked(&mut self, mark: &str, number: u64) {
         if write!(self.text, "{mark}{number}").is_err() {
