@@ -1,5 +1,7 @@
 //! What happens to a core, and what it answers.
-ghost use Rattle.std.specs.Prelude.{◌≡◌};
+ghost use Rattle.std.specs.Prelude.{◌≡◌, Ok};
+ghost use Rattle.std.specs.Option.{option_copied};
+ghost use Rattle.gix_odb_core.specs.Replay.{view_in};
 ghost use Rattle.gix_odb_core.specs.declared.event.Refusal.TheVariants.{NoMemory as out_of_memory};
 
 use crate::metrics::Report;
@@ -78,6 +80,19 @@ pub enum Effect {
     Unchanged(View),
     /// Another list was published since the listing began.
     Outdated { list_no: u64 },
+}
+
+impl Effect {
+    /// The view that it hands over.
+    pub fn view(&self) -> Option<&View>
+        ensures view { option_copied result ≡ view_in (Ok self.now) }
+    {
+        match self {
+            Effect::Seen(view) | Effect::Published(view) | Effect::Unchanged(view) => Some(view),
+            Effect::Reported { view, .. } | Effect::Put { view, .. } => Some(view),
+            Effect::Removed | Effect::Outdated { .. } => None,
+        }
+    }
 }
 
 /// Why an event was refused.

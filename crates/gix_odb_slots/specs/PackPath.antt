@@ -20,3 +20,7 @@ folder_of path = unwrap_or (parent_of path) []
 
 abbrev pub name_of : Path → Name
 name_of path = unwrap_or (last_name path) []
+
+-- where the pack of an index stands
+abbrev pub pack_path : Path → Path
+pack_path path = pack_in (folder_of path) (name_of path)

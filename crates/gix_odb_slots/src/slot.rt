@@ -7,7 +7,7 @@ ghost use Rattle.gix_odb_slots.specs.Tally.{IsFewPacks};
 
 use crate::listing::ListingRow;
 use crate::on_disk_file::FileState;
-use crate::pack_path::{folder_of, name_of, pack_in};
+use crate::pack_place::{folder_of, name_of, pack_in};
 use crate::{OnDiskFile, Shared};
 use gix_pack::{data, index, multi_index};
 use odb_base::{NoMemory, PathText, Sequence};
@@ -173,6 +173,13 @@ fn new_packs(
         None => only_pack(alloc, &folder, name_of(path)),
         Some(file) => named_packs(alloc, &folder, file.value()),
     }
+}
+
+/// The packs of an index that was not listed: the one beside it, which is still to be read.
+pub fn packs_beside(alloc: Global, path: &PathText) -> Result<Shared<PackFileList>, NoMemory>
+    ensures packs { IfOk result (λ packs. packs ≡ new_packs path.now None) }
+{
+    Ok(Shared::new(alloc, new_packs(alloc, path, &None)?)?)
 }
 
 fn only_pack(alloc: Global, folder: &PathText, name: &str) -> Result<PackFileList, NoMemory>

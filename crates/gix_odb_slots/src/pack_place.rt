@@ -1,6 +1,6 @@
 //! Where the pack of an index stands: beside it, by the name of the index with another ending.
 ghost use Rattle.std.specs.Prelude.{◌≡◌, IfOk};
-ghost use Rattle.gix_odb_slots.specs.PackPath.{folder_of, name_of, pack_in, pack_name, stem_of};
+ghost use Rattle.gix_odb_slots.specs.PackPath.{folder_of, name_of, pack_in, pack_name, pack_path, stem_of};
 
 use odb_base::{BadPath, NoMemory, PathText};
 use std::alloc::Global;
@@ -43,4 +43,11 @@ pub(crate) fn pack_in(alloc: Global, folder: &PathText, name: &str) -> Result<Pa
         Err(BadPath::Malformed) => folder.try_clone(alloc),
         Err(BadPath::NoMemory) => Err(NoMemory),
     }
+}
+
+/// Where the pack of an index stands: beside it, by its name with another ending.
+pub fn pack_path(alloc: Global, path: &PathText) -> Result<PathText, NoMemory>
+    ensures pack { IfOk result (λ pack. pack ≡ pack_path path.now) }
+{
+    pack_in(alloc, &folder_of(alloc, path)?, name_of(path))
 }
