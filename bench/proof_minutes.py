@@ -67,7 +67,8 @@ def is_prover(words):
 
 
 def kind_of(words, folder):
-    if "/rt-edit" in folder:
+    # Edits are tried in folders of their own; the check that they begin with keeps its work in one.
+    if any("/rt-edit" in word for word in [folder, *words]):
         return "edits"
     return "tests" if "--test" in words else "proof"
 
