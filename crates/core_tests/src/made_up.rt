@@ -10,23 +10,43 @@ use std::test::Fail;
 
 const EVENTS: usize = 2_000;
 
-/// First words of answers, each with how often it has to come still.
-type Wanted = [(&'static str, u64); 10];
+/// The first words of answers.
+const WORDS: [&str; 10] = [
+    "seen",
+    "reported",
+    "removed",
+    "stored",
+    "left",
+    "published",
+    "unchanged",
+    "outdated",
+    "insufficient",
+    "overflow",
+];
+
+/// How often each first word has to come still.
+type Wanted = [u64; 10];
+
+fn lower(wanted: &mut Wanted, place: usize) {
+    if let Some(left) = wanted.get_mut(place) {
+        *left = left.saturating_sub(1);
+    }
+}
 
 /// Counts an answer.
 fn note(wanted: &mut Wanted, answer: &str) {
     let (first, _) = cut(answer);
-    for (word, left) in wanted.iter_mut() {
+    for (place, word) in WORDS.iter().enumerate() {
         if *word == first {
-            *left = left.saturating_sub(1);
+            lower(wanted, place);
         }
     }
 }
 
 /// Fails where a word didn't come as often as it has to.
 fn check_all_came(wanted: &Wanted) -> Result<(), Fail> {
-    for (word, left) in wanted {
-        if *left > 0 {
+    for (place, word) in WORDS.iter().enumerate() {
+        if wanted.get(place) != Some(&0) {
             return Err(Fail::new(*word));
         }
     }
@@ -125,84 +145,51 @@ fn check(alloc: Global, run: &Run) -> Result<(), Fail> {
     play(alloc, &mut core, run)
 }
 
-// Few slots, so that listings often find too few; handles come and go.
-const FEW_SLOTS: Run = Run {
-    opening: (3, 1, 0, 0),
-    counters: (0, 0),
-    seed: 1,
-    ways: Ways {
-        stable: 1,
-        upgraded: 2,
-        removed: 15,
-        rows: 6,
+const RUNS: &[Run] = &[
+    // Few slots, so that listings often find too few; handles come and go.
+    Run {
+        opening: (3, 1, 0, 0),
+        counters: (0, 0),
+        seed: 1,
+        ways: Ways {
+            stable: 1,
+            upgraded: 2,
+            removed: 15,
+            rows: 6,
+        },
+        wanted: [100, 10, 10, 50, 50, 50, 20, 20, 50, 0],
     },
-    wanted: [
-        ("seen", 100),
-        ("reported", 10),
-        ("removed", 10),
-        ("stored", 50),
-        ("left", 50),
-        ("published", 50),
-        ("unchanged", 20),
-        ("outdated", 20),
-        ("insufficient", 50),
-        ("overflow", 0),
-    ],
-};
-
-// Handles are mostly stable, so that slots keep what no listing has any more, until all of them are gone.
-const STABLE_HANDLES: Run = Run {
-    opening: (9, 4, 0, 0),
-    counters: (0, 0),
-    seed: 2,
-    ways: Ways {
-        stable: 4,
-        upgraded: 6,
-        removed: 15,
-        rows: 5,
+    // Handles are mostly stable, so that slots keep what no listing has any more, until all of them are gone.
+    Run {
+        opening: (9, 4, 0, 0),
+        counters: (0, 0),
+        seed: 2,
+        ways: Ways {
+            stable: 4,
+            upgraded: 6,
+            removed: 15,
+            rows: 5,
+        },
+        wanted: [100, 10, 10, 50, 50, 50, 20, 20, 20, 0],
     },
-    wanted: [
-        ("seen", 100),
-        ("reported", 10),
-        ("removed", 10),
-        ("stored", 50),
-        ("left", 50),
-        ("published", 50),
-        ("unchanged", 20),
-        ("outdated", 20),
-        ("insufficient", 20),
-        ("overflow", 0),
-    ],
-};
-
-// The state number, and then the generation, come to their greatest values.
-const COUNTERS_AT_THEIR_ENDS: Run = Run {
-    opening: (5, 2, u32::MAX - 15, u64::MAX - 250),
-    counters: (u32::MAX, u64::MAX),
-    seed: 3,
-    ways: Ways {
-        stable: 1,
-        upgraded: 1,
-        removed: 14,
-        rows: 5,
+    // The state number, and then the generation, come to their greatest values.
+    Run {
+        opening: (5, 2, u32::MAX - 15, u64::MAX - 250),
+        counters: (u32::MAX, u64::MAX),
+        seed: 3,
+        ways: Ways {
+            stable: 1,
+            upgraded: 1,
+            removed: 14,
+            rows: 5,
+        },
+        wanted: [100, 10, 10, 50, 50, 50, 20, 20, 20, 30],
     },
-    wanted: [
-        ("seen", 100),
-        ("reported", 10),
-        ("removed", 10),
-        ("stored", 50),
-        ("left", 50),
-        ("published", 50),
-        ("unchanged", 20),
-        ("outdated", 20),
-        ("insufficient", 20),
-        ("overflow", 30),
-    ],
-};
+];
 
 #[test]
 fn made_up_events(rt: HostRuntime) -> Result<(), Fail> {
-    for run in [&FEW_SLOTS, &STABLE_HANDLES, &COUNTERS_AT_THEIR_ENDS] {
+    for run in RUNS {
         check(rt.alloc(), run)?;
     }
     Ok(())

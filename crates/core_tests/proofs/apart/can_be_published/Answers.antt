@@ -1,5 +1,5 @@
 use Rattle.core_tests.proofs.ApartLemmas.{HasDifferentPaths-from}
-use Rattle.std.proofs.Common.{◌≡◌, sym, ◌∙◌}
+use Rattle.std.proofs.Common.{sym, ◌∙◌}
 use Rattle.core_tests.proofs.apart.can_be_published.Goals as goal
 
 -- rows that are apart one by one have different paths
