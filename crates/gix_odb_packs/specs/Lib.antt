@@ -1,0 +1,8 @@
+pub mod PackFolder
+pub mod ListOrder
+pub mod LongestFirst
+pub mod Goal
+pub mod Spot
+pub mod Rest
+pub mod Search
+pub mod TryOrder

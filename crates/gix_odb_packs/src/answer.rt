@@ -1,0 +1,19 @@
+//! What a machine asks for, and what it is answered.
+use gix_odb_core::{Effect, Event, Refusal};
+use odb_disk::{DiskAnswer, DiskAsk};
+
+/// What a machine asks for.
+#[derive(Drop)]
+pub enum PartAsk {
+    /// A call of the disk.
+    Disk(DiskAsk),
+    /// An event of the store's core.
+    Core(Event),
+}
+
+/// What a machine is answered.
+#[derive(Drop)]
+pub enum Answer {
+    Disk(DiskAnswer),
+    Core(Result<Effect, Refusal>),
+}

@@ -1,0 +1,34 @@
+//! How packs are found among the files of a store: the folders are listed, and the indices of a list are tried.
+//!
+//! Both are machines: `Lister` names one call of the disk at a time, `Trier` one call of the disk or one event of the
+//! store's core; each takes the answer and goes on, or ends. A call on a handle drives them in the order that it has for
+//! them. `specs/{ListOrder,TryOrder}.antt` say in which order they work, `specs/Goal.antt` what an index and a pack give.
+//! ```rust
+//! let mut lister = Lister::start(alloc, &objects)?;
+//! let rows = loop {
+//!     let answer = lister.ask(alloc)?.carry_out(alloc, &mut disk);
+//!     match lister.feed(alloc, &folders, answer)? {
+//!         ListStep::More(more) => lister = more,
+//!         end => break end,
+//!     }
+//! };
+//! ```
+#![tactic(auto)]
+
+mod answer;
+mod folders;
+mod goal;
+mod lister;
+pub mod longest_first;
+mod rest;
+mod search;
+mod spot;
+mod trier;
+
+pub use answer::{Answer, PartAsk};
+pub use folders::pack_folder;
+pub use goal::{Error, Found, Goal, Wanted};
+pub use lister::{EntryList, ListHead, ListStage, ListStep, Lister};
+pub use rest::Rest;
+pub use search::{AbsentFile, AbsentList, Notes, WantedPack};
+pub use trier::{Ahead, IndexPlace, Stage, Tried, Trier};

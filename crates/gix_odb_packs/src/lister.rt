@@ -1,0 +1,308 @@
+//! The folders of packs are listed, one after another.
+ghost use Rattle.std.specs.Prelude.{◌≡◌, [], IfOk, OnOk, slice_get, true};
+ghost use Rattle.gix_odb_packs.specs.ListOrder.{ask_of, at_paths, behind_folder, by_index, by_pack, closed, opened, read, started, with_row};
+ghost use Rattle.gix_odb_packs.specs.ListOrder as order;
+
+use crate::folders::{PathList, index_paths, pack_folder};
+use crate::rest::Rest;
+use gix_odb_core::{ListingRow, ListingRowList, Shared};
+use odb_base::{NoMemory, PathText, Sequence};
+use odb_disk::{DirId, DiskAnswer, DiskAsk, DiskError, Entry, Kind};
+use std::alloc::Global;
+
+/// A listing of the folders of packs on its way.
+///
+/// `ask` names the next call of the disk, `feed` takes its answer.
+#[derive(Drop)]
+pub struct Lister {
+    head: ListHead,
+    stage: ListStage,
+}
+
+/// How far a listing has come.
+#[derive(Drop)]
+pub struct ListHead {
+    /// The folder of packs that is listed.
+    folder: PathText,
+    /// The place of the folder that comes next, among those beside the objects directory.
+    next: usize,
+    /// The rows that were found.
+    rows: ListingRowList,
+}
+
+/// The entries of a stream, in its order.
+pub type EntryList = Sequence<Entry>;
+
+/// Where a listing stands in its folder.
+#[derive(Drop)]
+pub enum ListStage {
+    /// The folder is to be opened.
+    Opening,
+    /// Its stream is read.
+    Reading {
+        dir: DirId,
+        entries: EntryList,
+    },
+    /// The stream was read to its end, and is to be closed.
+    Closing {
+        dir: DirId,
+        entries: EntryList,
+    },
+    /// A call failed, and the stream is to be closed.
+    Breaking {
+        dir: DirId,
+    },
+    /// An index is to be looked at; the others are left.
+    Index {
+        path: PathText,
+        left: Rest<PathText>,
+    },
+    /// The pack of an index is to be looked at.
+    Pack {
+        row: ListingRow,
+        left: Rest<PathText>,
+    },
+}
+
+/// What a listing comes to.
+#[derive(Drop)]
+pub enum ListStep {
+    /// It goes on.
+    More(Lister),
+    /// All folders were listed, and have these rows: in the order of the folders, and of their streams.
+    Rows(ListingRowList),
+    /// A call failed, or what was to be a folder is none.
+    Broken,
+}
+
+impl Lister {
+    /// A new listing, which begins with the objects directory.
+    pub fn start(alloc: Global, objects: &PathText) -> Result<Lister, NoMemory>
+        ensures begun { IfOk result (λ lister. lister ≡ started objects.now) }
+    {
+        Ok(Lister {
+            head: ListHead {
+                folder: pack_folder(alloc, objects)?,
+                next: 0,
+                rows: ListingRowList::new(alloc),
+            },
+            stage: ListStage::Opening,
+        })
+    }
+
+    /// The folder of packs that is listed: the calls on its stream have no path of their own.
+    pub fn folder(&self) -> &PathText
+        ensures folder { result.now ≡ self.now.head.folder }
+    {
+        &self.head.folder
+    }
+
+    /// The call of the disk that comes next.
+    pub fn ask(&self, alloc: Global) -> Result<DiskAsk, NoMemory>
+        ensures asked { IfOk result (λ ask. ask ≡ ask_of self.now) }
+    {
+        match &self.stage {
+            ListStage::Opening => open_of(alloc, &self.head.folder),
+            ListStage::Reading { dir, .. } => Ok(DiskAsk::NextEntry { dir: *dir }),
+            ListStage::Closing { dir, .. } => Ok(DiskAsk::CloseDir { dir: *dir }),
+            ListStage::Breaking { dir } => Ok(DiskAsk::CloseDir { dir: *dir }),
+            ListStage::Index { path, .. } => look_of(alloc, path, false),
+            ListStage::Pack { row, .. } => pack_look(alloc, row),
+        }
+    }
+
+    /// What it comes to behind the answer to what it asked for, where these are the folders beside the objects directory.
+    pub fn feed(
+        self,
+        alloc: Global,
+        folders: &[PathText],
+        answer: DiskAnswer,
+    ) -> Result<ListStep, NoMemory>
+        ensures fed { IfOk result (λ listed. listed ≡ order.fed folders.now self answer) }
+    {
+        if let DiskAnswer::Refused(DiskError::NoMemory) = answer {
+            return Err(NoMemory);
+        }
+        let Lister { head, stage } = self;
+        match stage {
+            ListStage::Opening => opened(alloc, folders, head, answer),
+            ListStage::Reading { dir, entries } => read(head, dir, entries, answer),
+            ListStage::Closing { entries, .. } => closed(alloc, folders, head, entries),
+            ListStage::Breaking { .. } => Ok(ListStep::Broken),
+            ListStage::Index { path, left } => by_index(alloc, folders, head, path, left, answer),
+            ListStage::Pack { row, left } => by_pack(alloc, folders, head, row, left, answer),
+        }
+    }
+}
+
+fn open_of(alloc: Global, folder: &PathText) -> Result<DiskAsk, NoMemory>
+    ensures asks { IfOk result (λ ask. ask ≡ order.open_of folder.now) }
+{
+    let path = folder.try_clone(alloc)?;
+    Ok(DiskAsk::OpenDir { path })
+}
+
+fn look_of(alloc: Global, path: &PathText, follow: bool) -> Result<DiskAsk, NoMemory>
+    ensures asks { IfOk result (λ ask. ask ≡ order.look_of path.now follow) }
+{
+    let path = path.try_clone(alloc)?;
+    Ok(DiskAsk::Look { path, follow })
+}
+
+/// The look at the pack of an index, links followed.
+fn pack_look(alloc: Global, row: &ListingRow) -> Result<DiskAsk, NoMemory>
+    ensures asks { IfOk result (λ ask. ask ≡ order.look_of (order.pack_of row.now) true) }
+{
+    let path = gix_odb_slots::pack_path(alloc, &row.path)?;
+    Ok(DiskAsk::Look { path, follow: true })
+}
+
+fn more(head: ListHead, stage: ListStage) -> ListStep
+    ensures more { result ≡ order.more head stage }
+{
+    ListStep::More(Lister { head, stage })
+}
+
+/// The next folder is listed, or the listing has its rows.
+fn behind_folder(alloc: Global, folders: &[PathText], head: ListHead) -> Result<ListStep, NoMemory>
+    ensures behind { IfOk result (λ listed. listed ≡ behind_folder head (slice_get folders.now head.next)) }
+{
+    let ListHead { next, rows, .. } = head;
+    let Some(folder) = folders.get(next) else {
+        return Ok(ListStep::Rows(rows));
+    };
+    let folder = pack_folder(alloc, folder)?;
+    let next = next + 1;
+    Ok(more(ListHead { folder, next, rows }, ListStage::Opening))
+}
+
+/// The stream of a folder is read from its beginning.
+fn reading(alloc: Global, head: ListHead, dir: DirId) -> ListStep
+    ensures reading { result ≡ order.more head (ListStage.Reading dir []) }
+{
+    let entries = EntryList::new(alloc);
+    more(head, ListStage::Reading { dir, entries })
+}
+
+/// What it comes to that a folder was to be opened. One that isn't there has no packs.
+fn opened(
+    alloc: Global,
+    folders: &[PathText],
+    head: ListHead,
+    answer: DiskAnswer,
+) -> Result<ListStep, NoMemory>
+    ensures opened { IfOk result (λ listed. listed ≡ opened folders.now head answer) }
+{
+    match &answer {
+        DiskAnswer::Dir(dir) => Ok(reading(alloc, head, *dir)),
+        DiskAnswer::Refused(DiskError::Absent) => behind_folder(alloc, folders, head),
+        _ => Ok(ListStep::Broken),
+    }
+}
+
+/// What it comes to that a stream was read.
+fn read(
+    head: ListHead,
+    dir: DirId,
+    mut entries: EntryList,
+    answer: DiskAnswer,
+) -> Result<ListStep, NoMemory>
+    ensures read { IfOk result (λ listed. listed ≡ read head dir entries answer) }
+{
+    match answer {
+        DiskAnswer::Entry(entry) => {
+            entries.push(entry)?;
+            Ok(more(head, ListStage::Reading { dir, entries }))
+        }
+        DiskAnswer::End => Ok(more(head, ListStage::Closing { dir, entries })),
+        _ => Ok(more(head, ListStage::Breaking { dir })),
+    }
+}
+
+/// What it comes to that a stream was closed: the indices among its entries are looked at.
+fn closed(
+    alloc: Global,
+    folders: &[PathText],
+    head: ListHead,
+    entries: EntryList,
+) -> Result<ListStep, NoMemory>
+    ensures closed { IfOk result (λ listed. listed ≡ closed folders.now head entries) }
+{
+    let paths = index_paths(alloc, &head.folder, entries.as_slice())?;
+    let left = Rest::all(Shared::new(alloc, paths)?);
+    at_paths(alloc, folders, head, left)
+}
+
+/// The next index of the folder is looked at, if there is one.
+fn at_paths(
+    alloc: Global,
+    folders: &[PathText],
+    head: ListHead,
+    mut left: Rest<PathText>,
+) -> Result<ListStep, NoMemory>
+    ensures at { IfOk result (λ listed. listed ≡ at_paths folders.now head left) }
+{
+    let Some(path) = left.first() else {
+        return behind_folder(alloc, folders, head);
+    };
+    let path = path.try_clone(alloc)?;
+    left.advance();
+    Ok(more(head, ListStage::Index { path, left }))
+}
+
+/// What it comes to that an index was looked at: its pack is looked at, where it is a file itself.
+fn by_index(
+    alloc: Global,
+    folders: &[PathText],
+    head: ListHead,
+    path: PathText,
+    left: Rest<PathText>,
+    answer: DiskAnswer,
+) -> Result<ListStep, NoMemory>
+    ensures by { IfOk result (λ listed. listed ≡ by_index folders.now head path left answer) }
+{
+    match answer {
+        DiskAnswer::Meta(meta) if meta.kind == Kind::File => {
+            let row = ListingRow {
+                path,
+                time: meta.time,
+                len: meta.len,
+                multi: None,
+            };
+            Ok(more(head, ListStage::Pack { row, left }))
+        }
+        DiskAnswer::Refused(DiskError::Failed) => Ok(ListStep::Broken),
+        _ => at_paths(alloc, folders, head, left),
+    }
+}
+
+impl ListHead {
+    /// One row more. Want of memory leaves the rows.
+    fn put(&mut self, row: ListingRow) -> Result<(), NoMemory>
+        ensures put { OnOk result (self.new ≡ with_row self.old row) }
+    {
+        self.rows.push(row)?;
+        Ok(())
+    }
+}
+
+/// What it comes to that the pack of an index was looked at: where it leads to a file, the index has its row.
+fn by_pack(
+    alloc: Global,
+    folders: &[PathText],
+    mut head: ListHead,
+    row: ListingRow,
+    left: Rest<PathText>,
+    answer: DiskAnswer,
+) -> Result<ListStep, NoMemory>
+    ensures by { IfOk result (λ listed. listed ≡ by_pack folders.now head row left answer) }
+{
+    match answer {
+        DiskAnswer::Meta(meta) if meta.kind == Kind::File => {
+            head.put(row)?;
+            at_paths(alloc, folders, head, left)
+        }
+        DiskAnswer::Refused(DiskError::Failed) => Ok(ListStep::Broken),
+        _ => at_paths(alloc, folders, head, left),
+    }
+}

@@ -1,0 +1,55 @@
+//! Where an index says that an object stands.
+ghost use Rattle.std.specs.Prelude.{◌≡◌};
+ghost use Rattle.gix_odb_packs.specs.Spot.{in_multi, in_single, spot_in};
+
+use gix_hash::ObjectId;
+use gix_odb_core::LoadedIndex;
+use gix_pack::{index, multi_index};
+
+/// Where an index says that an object stands: the place of its pack among the packs of the index, and the offset there.
+#[derive(Clone, Copy, Debug)]
+pub(crate) struct Spot {
+    pub place: u32,
+    pub offset: u64,
+}
+
+fn in_single(index: &index::File, id: &ObjectId) -> Option<Spot>
+    ensures spot { result ≡ in_single index.now id.now }
+{
+    match index.lookup(id) {
+        None => None,
+        Some(row) => {
+            prove!(row < index.num_objects());
+            Some(Spot {
+                place: 0,
+                offset: index.pack_offset_at_index(row),
+            })
+        }
+    }
+}
+
+fn in_multi(index: &multi_index::File, id: &ObjectId) -> Option<Spot>
+    ensures spot { result ≡ in_multi index.now id.now }
+{
+    match index.lookup(id) {
+        None => None,
+        Some(row) => {
+            prove!(row < index.num_objects());
+            let (pack, offset) = index.pack_id_and_pack_offset_at_index(row);
+            Some(Spot {
+                place: pack,
+                offset,
+            })
+        }
+    }
+}
+
+/// Where an index says that the object of an id stands, if it has the id.
+pub(crate) fn spot_in(index: &LoadedIndex, id: &ObjectId) -> Option<Spot>
+    ensures spot { result ≡ spot_in index.now id.now }
+{
+    match index {
+        LoadedIndex::Single(file) => in_single(file.value(), id),
+        LoadedIndex::Multi(file) => in_multi(file.value(), id),
+    }
+}
