@@ -12,6 +12,7 @@ use Rattle.gix_odb_slots.proofs.FewPacksLemmas.{each_few, few-index, few-pack, f
 use Rattle.gix_odb_slots.proofs.PublishLaws.{IsDistinct-list_after}
 use Rattle.gix_odb_slots.proofs.SlotsAfterLemmas.{length-slots_after}
 use Rattle.gix_odb_core.proofs.PublishingRule.{listed_slots, publishing_rule}
+use Rattle.gix_odb_core.proofs.RoomLemmas.{slots-stand}
 use Rattle.gix_odb_slots.specs.Files.{slot_passed, slot_with_index, slot_with_pack}
 use Rattle.gix_odb_slots.specs.Publish.{list_after, slot_at}
 use Rattle.gix_odb_slots.specs.Slots.{HasDifferentPaths, Slot, holds}
@@ -23,11 +24,14 @@ use Rattle.gix_odb_core.specs.Countable.{IsCountable, LeavesFewPacks}
 use Rattle.gix_odb_core.specs.Handles.{is_any_stable}
 use Rattle.gix_odb_core.specs.Replay.{CanHappen}
 use Rattle.gix_odb_core.specs.Steps.{Publishing, after, last_state, publishing, shape_published, shape_stored}
-use Rattle.gix_odb_core.specs.Turn.{publish_turn, turn_of}
+use Rattle.gix_odb_core.specs.Shelf.{shelf_of}
+use Rattle.gix_odb_core.specs.Turn.{changes_to, publish_turn, quiet, stands, turn_of}
 use Rattle.gix_odb_core.specs.declared.event.Event.{Event}
 use Rattle.gix_odb_core.specs.declared.event.Event.TheVariants as event
 use Rattle.gix_odb_core.specs.declared.journal.Entry.{Entry}
 use Rattle.gix_odb_core.specs.declared.shape.Shape.{Shape}
+use Rattle.gix_odb_core.specs.declared.turn.Told.TheVariants as told
+use Rattle.gix_odb_core.specs.declared.turn.Turn.{Turn}
 
 -- ---- a listing
 
@@ -65,14 +69,22 @@ countable-stored shape slot (Some filled) few countable = by (shape.state_id == 
     by false = countable-set shape (shape.state_id + 1) slot (Some filled) few countable
 
 countable-published : (shape : Shape) (listing : Listing) → HasDifferentPaths listing.rows
-    → IfSome (publish_turn shape (publishing shape listing)).shelf (λ shelf. All HasFewPacks shelf.slots) → IsCountable shape → IsCountable (shape_published shape (publishing shape listing))
+    → IfSome (publish_turn shape listing.rows (publishing shape listing)).shelf (λ shelf. All HasFewPacks shelf.slots) → IsCountable shape → IsCountable (shape_published shape (publishing shape listing))
 countable-published shape listing differ leaves countable =
-    publishing_rule (λ (p : Publishing). IfSome (publish_turn shape p).shelf (λ shelf. All HasFewPacks shelf.slots) → IsCountable (shape_published shape p)) shape listing
-    (λ none. countable) (λ base short none. countable) (λ confirmed renewed over none. countable) (λ packs. record { packs = packs; few = few_slots; short = countable.short })
+    publishing_rule (λ (p : Publishing). IfSome (publish_turn shape listing.rows p).shelf (λ shelf. All HasFewPacks shelf.slots) → IsCountable (shape_published shape p)) shape listing
+    (λ none. countable) (λ base short none. countable) (λ confirmed renewed over none. countable) (λ leaves. record { packs = packs_kept (stands shape listing.rows) refl leaves; few = few_slots; short = countable.short })
     (λ renewed packs. record { packs = packs; few = few_slots; short = omega (arith, few_slots, length-list_after-le (listed_slots shape listing.rows) listing.rows differ) }) leaves
   where
     few_slots : length (listed_slots shape listing.rows) ≤ 32767
     few_slots = omega (arith, countable.few, length-slots_after (is_any_stable shape.handles) listing.rows shape.slots shape.list)
+
+    now : Shape
+    now = record shape { slots = listed_slots shape listing.rows }
+
+    packs_kept : (b : Bool) → stands shape listing.rows ≡ b
+        → IfSome (Turn.shelf (cond b (quiet told.Unchanged) (changes_to (shelf_of now) told.Unchanged))) (λ shelf. All HasFewPacks shelf.slots) → All HasFewPacks (listed_slots shape listing.rows)
+    packs_kept true stays leaves = subst (All HasFewPacks) (sym (slots-stand shape listing.rows stays)) countable.packs
+    packs_kept false changes leaves = leaves
 
 -- the handles don't matter
 countable_with : (shape now : Shape) → now.slots ≡ shape.slots → now.list ≡ shape.list → IsCountable shape → IsCountable now

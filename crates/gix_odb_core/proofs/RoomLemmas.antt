@@ -2,15 +2,19 @@
 use Rattle.std.proofs.Common.{◌≡◌, ◌≢◌, ℕ, ◌+◌, ◌-◌, ◌<◌, ◌≤◌, ◌^◌, Bool, true, false, cond, not, ◌==◌, ◌||◌, ◌&&◌, nat_lt}
 use Rattle.std.proofs.Common.{List, [], ◌∷◌, length, map, take, refl, sym, ap, ◌∙◌, is_some, arith, eq-eqb}
 use Rattle.std.specs.List.{list_any, zip}
-use Rattle.std.proofs.lemmas.Bool.{le-ltb}
+use Rattle.std.proofs.lemmas.Bool.{and_parts, eqb-true, le-ltb}
 use Rattle.gix_odb_slots.proofs.SlotsAfterLemmas.{length-slots_after}
+use Rattle.gix_odb_slots.proofs.StandsLemmas.{slots_after-same, taken-none}
 use Rattle.gix_odb_core.specs.Handles.{is_any_stable}
-use Rattle.gix_odb_slots.specs.Publish.{free_places, list_after, new_rows, settled, slot_at, slots_after, with_taken}
+use Rattle.gix_odb_slots.specs.Publish.{free_places, is_unsettled, list_after, new_rows, settled, slot_at, slots_after, taken, with_taken}
 use Rattle.gix_odb_slots.specs.Slots.{Slot}
-use Rattle.gix_odb_core.specs.Steps.{Outdated, TooFew, publishing, last_generation, last_state, settled_as, takes_over, with_room, would_overflow}
+use Rattle.gix_odb_core.specs.Shelf.{shelf_of}
+use Rattle.gix_odb_core.specs.Steps.{Outdated, Overflows, Published, TooFew, Unchanged, is_confirmed, publishing, last_generation, last_state, settled_as, takes_over, with_list, with_room, would_overflow}
 use Rattle.gix_odb_slots.specs.declared.listing.Listing.{Listing}
 use Rattle.gix_odb_slots.specs.declared.listing.ListingRow.{ListingRow}
+use Rattle.gix_odb_core.specs.Turn.{changes_to, publish_turn, quiet, stands}
 use Rattle.gix_odb_core.specs.declared.shape.Shape.{Shape}
+use Rattle.gix_odb_core.specs.declared.turn.Told.TheVariants as told
 
 -- ---- counters that can rise
 
@@ -79,3 +83,35 @@ publishing-roomy shape listing base room =
     let news = length (new_rows shape.slots listing.rows) in
     ap (λ (b : Bool). cond b (TooFew (news - free)) (with_room shape listing.rows)) (sym (le-ltb free news room))
     ∙ ap (λ (b : Bool). cond (not b) Outdated (cond (nat_lt free news) (TooFew (news - free)) (with_room shape listing.rows))) (sym (eq-eqb listing.base shape.list_no base))
+
+-- ---- a listing that leaves the slots and the list as they are
+
+first : (a b : Bool) → (not a && b) ≡ true → (a ≡ false) × (b ≡ true)
+first true b h = absurd cc
+first false b h = (refl, h)
+
+module _ (shape : Shape) (rows : List ListingRow) where
+  module _ (stays : stands shape rows ≡ true) where
+    settled_is : list_any (is_unsettled rows) shape.slots ≡ false
+    settled_is = (first (list_any (is_unsettled rows) shape.slots) (is_confirmed shape rows (list_after rows shape.slots)) stays).0
+
+    confirmed_is : is_confirmed shape rows (list_after rows shape.slots) ≡ true
+    confirmed_is = (first (list_any (is_unsettled rows) shape.slots) (is_confirmed shape rows (list_after rows shape.slots)) stays).1
+
+    none_new : length (new_rows shape.slots rows) ≡ 0
+    none_new = eqb-true (length (new_rows shape.slots rows)) 0 (and_parts _ _ confirmed_is).1
+
+    -- the slots are the same
+    pub slots-stand : slots_after (is_any_stable shape.handles) rows shape.slots shape.list ≡ shape.slots
+    slots-stand = slots_after-same (is_any_stable shape.handles) rows shape.slots shape.list none_new settled_is
+
+    -- so the listing is confirmed, and nothing changes
+    pub turn-stands : publish_turn shape rows (with_room shape rows) ≡ quiet told.Unchanged
+    turn-stands =
+        ap (λ (slots : List Slot). publish_turn shape rows (settled_as shape rows slots (list_after rows slots)
+        (takes_over shape.slots (taken (is_any_stable shape.handles) rows shape.slots shape.list)))) slots-stand
+        ∙ ap (λ (pairs : List (ℕ × ListingRow)). publish_turn shape rows (settled_as shape rows shape.slots (list_after rows shape.slots) (takes_over shape.slots pairs)))
+        (taken-none (is_any_stable shape.handles) rows shape.slots shape.list none_new)
+        ∙ ap (λ (b : Bool). publish_turn shape rows (cond (would_overflow shape b false) Overflows (cond b (Unchanged (record shape { slots = shape.slots }))
+        (Published (with_list shape shape.slots (list_after rows shape.slots) false))))) confirmed_is
+        ∙ ap (λ (b : Bool). cond b (quiet told.Unchanged) (changes_to (shelf_of shape) told.Unchanged)) stays

@@ -2,14 +2,15 @@
 use Rattle.std.proofs.Common.{◌≡◌, ℕ, ◌+◌, Bool, true, false, cond, ◌==◌, List, Option, Some, None, Ok, Err, refl, sym, ap, ◌∙◌, set}
 use Rattle.odb_base.specs.Path.{Path}
 use Rattle.gix_odb_slots.proofs.PassLemmas.{slots-same}
-use Rattle.gix_odb_core.proofs.PublishingRule.{publishing_rule}
+use Rattle.gix_odb_core.proofs.PublishingRule.{listed_slots, publishing_rule}
+use Rattle.gix_odb_core.proofs.RoomLemmas.{slots-stand}
 use Rattle.gix_odb_slots.specs.Publish.{slot_at}
 use Rattle.gix_odb_core.specs.Replay.{Answer, answer_of, publish_answer, put_answer}
 use Rattle.gix_odb_core.specs.Shelf.{settled_by, shelf_of}
 use Rattle.gix_odb_core.specs.State.{view_behind}
 use Rattle.gix_odb_core.specs.Steps.{Publishing, Outdated, TooFew, Overflows, Unchanged, Published, after, last_state, publishing, shape_published, shape_stored}
 use Rattle.gix_odb_slots.specs.Files.{slot_passed, slot_turns_missing, slot_with_index, slot_with_pack}
-use Rattle.gix_odb_core.specs.Turn.{answer_with, changes_to, handles_after, pass_turn, publish_turn, put_turn, quiet, turn_of}
+use Rattle.gix_odb_core.specs.Turn.{answer_with, changes_to, handles_after, pass_turn, publish_turn, put_turn, quiet, stands, turn_of}
 use Rattle.gix_odb_core.specs.Views.{view_of}
 use Rattle.gix_odb_core.specs.declared.event.Effect.TheVariants as effects
 use Rattle.gix_odb_core.specs.declared.event.Event.{Event}
@@ -17,6 +18,7 @@ use Rattle.gix_odb_core.specs.declared.event.Event.TheVariants as event
 use Rattle.gix_odb_core.specs.declared.event.Refusal.TheVariants as refusals
 use Rattle.gix_odb_core.specs.declared.journal.Entry.{Entry}
 use Rattle.gix_odb_slots.specs.declared.listing.Listing.{Listing}
+use Rattle.gix_odb_slots.specs.declared.listing.ListingRow.{ListingRow}
 use Rattle.gix_odb_core.specs.declared.shape.Shape.{Shape}
 use Rattle.gix_odb_core.specs.declared.shape.Shelf.{Shelf}
 use Rattle.gix_odb_slots.specs.declared.slot.Filled.{Filled}
@@ -71,18 +73,30 @@ pass_turn-answer shape slot path view = by (slot_turns_missing path (slot_at sha
 
 -- ---- a listing that is published
 
-pub publish_turn-after : (shape : Shape) (listing : Listing) → settled_by shape (publish_turn shape (publishing shape listing)).shelf ≡ shape_published shape (publishing shape listing)
+pub publish_turn-after : (shape : Shape) (listing : Listing) → settled_by shape (publish_turn shape listing.rows (publishing shape listing)).shelf ≡ shape_published shape (publishing shape listing)
 publish_turn-after shape listing =
-    publishing_rule (λ (p : Publishing). settled_by shape (publish_turn shape p).shelf ≡ shape_published shape p) shape listing refl (λ base short. refl)
-    (λ confirmed renewed over. refl) refl (λ renewed. refl)
+    publishing_rule (λ (p : Publishing). settled_by shape (publish_turn shape listing.rows p).shelf ≡ shape_published shape p) shape listing refl (λ base short. refl)
+    (λ confirmed renewed over. refl) (by (stands shape listing.rows) refl) (λ renewed. refl)
+  where
+    now : Shape
+    now = record shape { slots = listed_slots shape listing.rows }
 
-pub publish_turn-answer : (shape : Shape) (number : ℕ) (publishing : Publishing) → publish_answer shape number publishing ≡ answer_with (publish_turn shape publishing).told
+    by : (b : Bool) → stands shape listing.rows ≡ b → settled_by shape (Turn.shelf (cond b (quiet told.Unchanged) (changes_to (shelf_of now) told.Unchanged))) ≡ now
+    by true stays = ap (λ (slots : List Slot). record shape { slots = slots }) (sym (slots-stand shape listing.rows stays))
+    by false changes = refl
+
+pub publish_turn-answer : (shape : Shape) (rows : List ListingRow) (number : ℕ) (publishing : Publishing) → publish_answer shape number publishing ≡ answer_with (publish_turn shape rows publishing).told
     (view_of (shape_published shape publishing) number)
-publish_turn-answer shape number Outdated = refl
-publish_turn-answer shape number (TooFew needed) = refl
-publish_turn-answer shape number Overflows = refl
-publish_turn-answer shape number (Unchanged now) = refl
-publish_turn-answer shape number (Published now) = refl
+publish_turn-answer shape rows number Outdated = refl
+publish_turn-answer shape rows number (TooFew needed) = refl
+publish_turn-answer shape rows number Overflows = refl
+publish_turn-answer shape rows number (Unchanged now) = by (stands shape rows)
+  where
+    by : (b : Bool) → ◌≡◌ {A = Answer} (Ok (effects.Unchanged (view_of now number)))
+        (answer_with (Turn.told (cond b (quiet told.Unchanged) (changes_to (shelf_of now) told.Unchanged))) (view_of now number))
+    by true = refl
+    by false = refl
+publish_turn-answer shape rows number (Published now) = refl
 
 -- ---- the whole
 
@@ -111,7 +125,7 @@ after-turn entries shape seat event.Report = refl
 after-turn entries shape seat (event.PutIndex slot path file) = put_keeps shape slot (slot_with_index path file (slot_at shape.slots slot))
 after-turn entries shape seat (event.PutPack pack path file) = put_keeps shape pack.index (slot_with_pack path file (slot_at shape.slots pack.index))
 after-turn entries shape seat (event.PassOver slot path why) = kept-settled shape (pass_turn shape slot path).shelf ∙ pass_turn-after shape slot path
-after-turn entries shape seat (event.Publish listing) = kept-settled shape (publish_turn shape (publishing shape listing)).shelf ∙ publish_turn-after shape listing
+after-turn entries shape seat (event.Publish listing) = kept-settled shape (publish_turn shape listing.rows (publishing shape listing)).shelf ∙ publish_turn-after shape listing
 
 pub answer-turn : (entries : List Entry) (shape : Shape) (number seat : ℕ) (happens : Event)
     → answer_of entries shape number seat happens ≡ answer_with (turn_of entries shape happens).told (view_of (after shape seat happens) number)
@@ -125,7 +139,7 @@ answer-turn entries shape number seat (event.PutIndex slot path file) =
 answer-turn entries shape number seat (event.PutPack pack path file) =
     put_turn-answer shape (after shape seat (event.PutPack pack path file)) pack.index number (slot_with_pack path file (slot_at shape.slots pack.index))
 answer-turn entries shape number seat (event.PassOver slot path why) = pass_turn-answer shape slot path (view_of (after shape seat (event.PassOver slot path why)) number)
-answer-turn entries shape number seat (event.Publish listing) = publish_turn-answer shape number (publishing shape listing)
+answer-turn entries shape number seat (event.Publish listing) = publish_turn-answer shape listing.rows number (publishing shape listing)
 
 -- what is shown behind a turn is what the shape shows then
 pub view_behind-turn : (shape : Shape) (shelf : Option Shelf) (entry number : ℕ) → view_behind (view_of shape entry) shelf number ≡ view_of (settled_by shape shelf) number

@@ -1,17 +1,19 @@
 -- What an event comes to, apart from the handles and before the view that it hands over. No public clause cites this.
-use Rattle.std.specs.Prelude.{ℕ, ◌+◌, ◌==◌, true, false, List, length, Option, Some, None, Ok, Err, slice_set, if◌then◌else◌}
+use Rattle.std.specs.Prelude.{ℕ, ◌+◌, Bool, ◌&&◌, ◌==◌, true, false, not, List, length, Option, Some, None, Ok, Err, slice_set, if◌then◌else◌}
+use Rattle.std.specs.List.{list_any}
 use Rattle.odb_base.specs.Path.{Path}
 use Rattle.gix_odb_core.specs.Handles.{Handles, with_seat, without_seat}
-use Rattle.gix_odb_slots.specs.Publish.{slot_at}
+use Rattle.gix_odb_slots.specs.Publish.{is_unsettled, list_after, slot_at}
 use Rattle.gix_odb_core.specs.Replay.{Answer, report_of}
 use Rattle.gix_odb_core.specs.Shelf.{shelf_of}
-use Rattle.gix_odb_core.specs.Steps.{Publishing, Outdated, TooFew, Overflows, Unchanged, Published, last_state, publishing}
+use Rattle.gix_odb_core.specs.Steps.{Publishing, Outdated, TooFew, Overflows, Unchanged, Published, is_confirmed, last_state, publishing}
 use Rattle.gix_odb_slots.specs.Files.{slot_passed, slot_turns_missing, slot_with_index, slot_with_pack}
 use Rattle.gix_odb_core.specs.declared.event.Effect.TheVariants as effects
 use Rattle.gix_odb_core.specs.declared.event.Event.{Event}
 use Rattle.gix_odb_core.specs.declared.event.Event.TheVariants as event
 use Rattle.gix_odb_core.specs.declared.event.Refusal.TheVariants as refusals
 use Rattle.gix_odb_core.specs.declared.journal.Entry.{Entry}
+use Rattle.gix_odb_slots.specs.declared.listing.ListingRow.{ListingRow}
 use Rattle.gix_odb_core.specs.declared.shape.Shape.{Shape}
 use Rattle.gix_odb_core.specs.declared.shape.Shelf.{Shelf}
 use Rattle.gix_odb_slots.specs.declared.slot.Filled.{Filled}
@@ -59,12 +61,16 @@ pass_turn shape slot path =
     then changes_to (record (shelf_of shape) { slots = slice_set shape.slots slot (slot_passed path (slot_at shape.slots slot)) }) told.Seen
     else quiet told.Seen
 
-abbrev pub publish_turn : Shape → Publishing → Turn
-publish_turn shape Outdated = quiet (told.Outdated shape.list_no)
-publish_turn shape (TooFew needed) = quiet (told.Refused (refusals.InsufficientSlots (length shape.slots) needed))
-publish_turn shape Overflows = quiet (told.Refused refusals.GenerationOverflow)
-publish_turn shape (Unchanged now) = changes_to (shelf_of now) told.Unchanged
-publish_turn shape (Published now) = changes_to (shelf_of now) told.Published
+-- whether a listing leaves the slots and the list as they are: it finds no work at a slot, and confirms the list
+abbrev pub stands : Shape → List ListingRow → Bool
+stands shape rows = not (list_any (is_unsettled rows) shape.slots) && is_confirmed shape rows (list_after rows shape.slots)
+
+abbrev pub publish_turn : Shape → List ListingRow → Publishing → Turn
+publish_turn shape rows Outdated = quiet (told.Outdated shape.list_no)
+publish_turn shape rows (TooFew needed) = quiet (told.Refused (refusals.InsufficientSlots (length shape.slots) needed))
+publish_turn shape rows Overflows = quiet (told.Refused refusals.GenerationOverflow)
+publish_turn shape rows (Unchanged now) = if stands shape rows then quiet told.Unchanged else changes_to (shelf_of now) told.Unchanged
+publish_turn shape rows (Published now) = changes_to (shelf_of now) told.Published
 
 abbrev pub turn_of : List Entry → Shape → Event → Turn
 turn_of entries shape (event.Register stable) = quiet told.Seen
@@ -75,4 +81,4 @@ turn_of entries shape event.Report = quiet (told.Reported (report_of shape entri
 turn_of entries shape (event.PutIndex slot path file) = put_turn shape slot (slot_with_index path file (slot_at shape.slots slot))
 turn_of entries shape (event.PutPack pack path file) = put_turn shape pack.index (slot_with_pack path file (slot_at shape.slots pack.index))
 turn_of entries shape (event.PassOver slot path why) = pass_turn shape slot path
-turn_of entries shape (event.Publish listing) = publish_turn shape (publishing shape listing)
+turn_of entries shape (event.Publish listing) = publish_turn shape listing.rows (publishing shape listing)

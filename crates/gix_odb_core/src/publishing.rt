@@ -1,18 +1,20 @@
 //! What a listing that is published comes to.
-ghost use Rattle.std.specs.Prelude.{◌≡◌, ◌≤◌, ◌<◌, true, false, All, IfOk, length, if◌then◌else◌};
+ghost use Rattle.std.specs.Prelude.{◌≡◌, ◌≤◌, ◌<◌, ◌&&◌, ◌==◌, true, false, All, IfOk, length, if◌then◌else◌};
 ghost use Rattle.gix_odb_slots.specs.Publish.{free_places, new_rows, same_list};
 ghost use Rattle.std.specs.Option.{IfSome};
 ghost use Rattle.gix_odb_slots.specs.Tally.{HasFewPacks};
 ghost use Rattle.gix_odb_core.specs.Handles.{is_any_stable as any_stable};
 ghost use Rattle.gix_odb_core.specs.Shelf.{shelf_of};
-ghost use Rattle.gix_odb_core.specs.Steps.{is_confirmed, publishing, settled_as, with_list, with_room, would_overflow};
-ghost use Rattle.gix_odb_core.specs.Turn.{publish_turn};
+ghost use Rattle.gix_odb_core.specs.Steps.{publishing, settled_as, with_list, with_room, would_overflow};
+ghost use Rattle.gix_odb_core.specs.Turn.{publish_turn, stands};
 ghost use Rattle.gix_odb_slots.specs.PackId.{most_slots};
 
 use crate::event::Refusal;
 use crate::shape::{Shape, Shelf};
 use crate::turn::{Told, Turn};
-use gix_odb_slots::publish::{count_new, free_places, list_after, slots_after, takes_over};
+use gix_odb_slots::publish::{
+    count_new, free_places, is_any_unsettled, list_after, slots_after, takes_over,
+};
 use gix_odb_slots::{Listing, ListingRow, SlotList};
 use odb_base::{NoMemory, Sequence};
 use std::alloc::Global;
@@ -25,11 +27,25 @@ fn risen(renewed: bool) -> u32
 }
 
 impl Shape {
-    /// Whether the list is as it was, and no slot was newly taken.
-    fn is_confirmed(&self, rows: &[ListingRow], list: &Sequence<u16>) -> bool
-        ensures confirmed { result ≡ is_confirmed self.now rows.now list.now }
+    /// Whether a list is the one that it has, where so many rows are new.
+    fn is_confirmed(&self, list: &Sequence<u16>, news: usize) -> bool
+        ensures confirmed { result ≡ (self.now.read && same_list list.now self.now.list && news == 0) }
     {
-        self.read && *list == self.list && count_new(rows, self.slots.as_slice()) == 0
+        self.read && *list == self.list && news == 0
+    }
+
+    /// Whether a listing leaves the slots and the list as they are.
+    fn stands(&self, alloc: Global, rows: &[ListingRow], news: usize) -> Result<bool, NoMemory>
+        requires few { length self.now.slots ≤ most_slots }
+        requires news { length (new_rows self.now.slots rows.now) ≡ news }
+        ensures stands { IfOk result (λ same. same ≡ stands self.now rows.now) }
+    {
+        let slots = self.slots.as_slice();
+        if news > 0 || is_any_unsettled(rows, slots) {
+            return Ok(false);
+        }
+        let list = list_after(alloc, rows, slots)?;
+        Ok(self.is_confirmed(&list, news))
     }
 
     /// Whether a counter that would have to rise stands at its greatest value.
@@ -78,13 +94,16 @@ impl Shape {
         rows: &[ListingRow],
         slots: SlotList,
         list: Sequence<u16>,
+        news: usize,
         renewed: bool,
     ) -> Turn
         requires numbered { self.now.list_no ≤ self.now.state_id }
-        ensures turn { result ≡ publish_turn self.now (settled_as self.now rows.now slots list renewed) }
+        requires changes { stands self.now rows.now ≡ false }
+        requires news { length (new_rows self.now.slots rows.now) ≡ news }
+        ensures turn { result ≡ publish_turn self.now rows.now (settled_as self.now rows.now slots list renewed) }
         ensures leaves { IfSome result.shelf (λ shelf. shelf.slots ≡ slots) }
     {
-        let confirmed = self.is_confirmed(rows, &list);
+        let confirmed = self.is_confirmed(&list, news);
         if self.would_overflow(confirmed, renewed) {
             return Turn::quiet(Told::Refused(Refusal::GenerationOverflow));
         }
@@ -118,14 +137,17 @@ impl Shape {
         requires news { length (new_rows self.now.slots rows.now) ≡ news }
         requires room { news ≤ length free.now }
         requires packs { All HasFewPacks self.now.slots }
-        ensures turn { IfOk result (λ turn. turn ≡ publish_turn self.now (with_room self.now rows.now)) }
+        ensures turn { IfOk result (λ turn. turn ≡ publish_turn self.now rows.now (with_room self.now rows.now)) }
         ensures few_packs { IfOk result (λ turn. IfSome turn.shelf (λ shelf. All HasFewPacks shelf.slots)) }
     {
+        if self.stands(alloc, rows, news)? {
+            return Ok(Turn::quiet(Told::Unchanged));
+        }
         let slots = self.slots.as_slice();
         let renewed = takes_over(slots, free, news);
         let after = slots_after(alloc, stable, rows, slots, free)?;
         let list = list_after(alloc, rows, after.as_slice())?;
-        Ok(self.settled_as(rows, after, list, renewed))
+        Ok(self.settled_as(rows, after, list, news, renewed))
     }
 
     /// What a listing comes to.
@@ -133,7 +155,7 @@ impl Shape {
         requires few { length self.now.slots ≤ most_slots }
         requires numbered { self.now.list_no ≤ self.now.state_id }
         requires packs { All HasFewPacks self.now.slots }
-        ensures turn { IfOk result (λ turn. turn ≡ publish_turn self.now (publishing self.now listing.now)) }
+        ensures turn { IfOk result (λ turn. turn ≡ publish_turn self.now listing.now.rows (publishing self.now listing.now)) }
         ensures few_packs { IfOk result (λ turn. IfSome turn.shelf (λ shelf. All HasFewPacks shelf.slots)) }
     {
         if listing.base != self.list_no {

@@ -12,6 +12,7 @@ pub mod ApartLemmas
 pub mod DistinctLemmas
 pub mod FewPacksLemmas
 pub mod PassLemmas
+pub mod StandsLemmas
 mod KeptFilesLemmas
 mod PublishLemmas
 mod PositionLemmas

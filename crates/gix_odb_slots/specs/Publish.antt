@@ -1,8 +1,8 @@
 -- What publishing a listing does to the slots and the list.
-use Rattle.std.specs.Prelude.{ℕ, ◌+◌, ◌-◌, Bool, true, ◌&&◌, not, List, [], ◌∷◌, ◌++◌, length, map, filter, Some, None, max, nat_eq, slice_get, slice_set, unwrap_or, if◌then◌else◌}
+use Rattle.std.specs.Prelude.{ℕ, ◌+◌, ◌-◌, Bool, true, false, ◌&&◌, ◌||◌, not, List, [], ◌∷◌, ◌++◌, length, map, filter, Some, None, max, nat_eq, slice_get, slice_set, unwrap_or, if◌then◌else◌}
 use Rattle.std.specs.List.{list_any, filter_map, position, range_with_len, zip}
 use lib.Pointwise.{pointwise}
-use Rattle.gix_odb_slots.specs.Slots.{Slot, holds, new_filled, filled_put_back, filled_trashed}
+use Rattle.gix_odb_slots.specs.Slots.{Slot, has_disposable, holds, new_filled, filled_put_back, filled_trashed}
 use Rattle.gix_odb_slots.specs.declared.listing.ListingRow.{ListingRow}
 
 -- ---- rows and slots
@@ -17,6 +17,11 @@ new_rows slots rows = filter (is_new slots) rows
 -- whether a row keeps what a slot holds
 abbrev pub is_kept : List ListingRow → Slot → Bool
 is_kept rows slot = list_any (λ row. holds row slot) rows
+
+-- whether a listing finds work at a slot: no row keeps what it holds, or one of its files is garbage or missing
+abbrev pub is_unsettled : List ListingRow → Slot → Bool
+is_unsettled rows None = false
+is_unsettled rows (Some filled) = not (is_kept rows (Some filled)) || has_disposable filled
 
 -- whether a slot is free: it is empty, or no handle is stable and no row keeps it
 abbrev pub is_free : Bool → List ListingRow → Slot → Bool

@@ -4,7 +4,7 @@ ghost use Rattle.std.specs.Option.{ForSome, option_to_list};
 ghost use Rattle.std.specs.List.{list_any, position, range_with_len, zip};
 ghost use Rattle.gix_odb_slots.specs.Slots.{holds};
 ghost use Rattle.gix_odb_slots.specs.Tally.{HasFewPacks};
-ghost use Rattle.gix_odb_slots.specs.Publish.{free_places, is_free, is_kept, is_new, list_after, new_rows, place_after, settled, slot_at, slots_after, taken, with_taken};
+ghost use Rattle.gix_odb_slots.specs.Publish.{free_places, is_free, is_kept, is_new, is_unsettled, list_after, new_rows, place_after, settled, slot_at, slots_after, taken, with_taken};
 ghost use Rattle.gix_odb_slots.specs.PackId.{most_slots};
 
 use crate::Shared;
@@ -55,6 +55,23 @@ fn is_kept(rows: &[ListingRow], slot: &Slot) -> bool
         }
     }
     false
+}
+
+/// Whether a listing finds work at a slot: no row keeps what it holds, or one of its files is garbage or missing.
+fn is_unsettled(rows: &[ListingRow], slot: &Slot) -> bool
+    ensures unsettled { result ≡ is_unsettled rows.now slot.now }
+{
+    match slot {
+        None => false,
+        Some(filled) => !is_kept(rows, slot) || filled.value().has_disposable(),
+    }
+}
+
+/// Whether a listing finds work at one of the slots. Where it does not and no row is new, the slots stay as they are.
+pub fn is_any_unsettled(rows: &[ListingRow], slots: &[Slot]) -> bool
+    ensures unsettled { result ≡ list_any (is_unsettled rows.now) slots.now }
+{
+    slots.iter().any(|slot| is_unsettled(rows, slot))
 }
 
 /// Whether a slot is free: it is empty, or no handle is stable and no row keeps it.

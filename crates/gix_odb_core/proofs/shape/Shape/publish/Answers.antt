@@ -14,4 +14,4 @@ returns-clause-turn c =
     let free = rw (stable, rows, slots, list) at c.in_ok-free.ensures.free in
     let roomy = publishing-roomy c.args.self.now c.args.listing.now c.if-listing-self.false
     (omega (arith, count, ap (length {A = ℕ}) free, c.if-len-news.false, c.len.ensures, c.deref.ensures.len, ap (length {A = ℕ}) c.deref.ensures.value)) in
-    subst (λ (p : Publishing). IfOk c.publish_with_room.result (λ turn. turn ≡ publish_turn c.args.self.now p)) (ap (with_room c.args.self.now) rows ∙ roomy) c.publish_with_room.ensures.turn
+    subst (λ (p : Publishing). IfOk c.publish_with_room.result (λ turn. turn ≡ publish_turn c.args.self.now c.args.listing.now.rows p)) roomy (rw rows at c.publish_with_room.ensures.turn)

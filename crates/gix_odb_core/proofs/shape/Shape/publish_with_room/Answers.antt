@@ -1,7 +1,7 @@
 use Rattle.std.proofs.Common.{◌≡◌, All, List, length, map, ap, sym, subst, ◌∙◌, arith}
 use Rattle.std.proofs.lemmas.Option.{IfSome_then}
 use Rattle.std.specs.List.{zip}
-use Rattle.gix_odb_core.proofs.RoomLemmas.{length-after, with_room-from}
+use Rattle.gix_odb_core.proofs.RoomLemmas.{length-after, turn-stands, with_room-from}
 use Rattle.gix_odb_slots.specs.Publish.{list_after, new_rows, settled, with_taken}
 use Rattle.gix_odb_slots.specs.Slots.{Slot}
 use Rattle.gix_odb_slots.specs.Tally.{HasFewPacks}
@@ -27,7 +27,10 @@ returns c =
       few_packs = IfSome_then c.settled_as.result.shelf c.settled_as.ensures.leaves (λ shelf is. subst (All HasFewPacks) (sym is) c.in_ok-after.ensures.packs);
       turn =
           c.settled_as.ensures.turn
-          ∙ ap (publish_turn c.args.self.now)
+          ∙ ap (publish_turn c.args.self.now c.args.rows.now)
           (with_room-from c.args.self.now c.args.rows.now c.args.stable c.args.free.now c.in_ok-after.after
           c.requires.stable c.requires.free after c.args.news c.in_ok-list.list c.takes_over-renewed.result c.requires.news renewed list);
     }
+
+pub returns-then-branch-clause-turn : goal.returns-then-branch-clause-turn
+returns-then-branch-clause-turn c = c.quiet.ensures.turn ∙ sym (turn-stands c.args.self.now c.args.rows.now (sym c.in_ok-stands.ensures.stands ∙ c.if-branch.true))
