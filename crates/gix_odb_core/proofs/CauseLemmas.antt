@@ -1,12 +1,14 @@
 -- Why an event is refused, and that it then leaves the shape.
-use Rattle.std.proofs.Common.{◌≡◌, ℕ, ◌+◌, ◌-◌, inl, inr, Bool, true, false, cond, ◌==◌, ◌||◌, ◌&&◌, not, nat_lt, List, length, Option, Some, None, Ok, Err, refl, sym, set, arith}
+use Rattle.std.proofs.Common.{◌≡◌, ℕ, ◌+◌, ◌-◌, Bool, true, false, cond, ◌==◌, not, nat_lt, List, length, Option, Some, None, Ok, Err, refl, sym, set, arith}
 use Rattle.std.proofs.lemmas.Bool.{eqb-true, ltb-true}
-use Rattle.gix_odb_core.proofs.PublishingRule.{free_count, new_count, publishing_rule}
-use Rattle.gix_odb_core.specs.Causes.{HasTooFewSlots, StandsAtLast}
-use Rattle.gix_odb_slots.specs.Publish.{slot_at}
+use Rattle.gix_odb_core.proofs.PublishingRule.{free_count, listed_places, listed_slots, new_count, publishing_rule}
+use Rattle.gix_odb_core.specs.Causes.{HasTooFewSlots, ListingOverflows, PutOverflows, StandsAtLast, rows_overflow}
+use Rattle.gix_odb_slots.specs.Publish.{slot_at, taken}
 use Rattle.gix_odb_core.specs.Replay.{Answer, answer_of, publish_answer, put_answer}
-use Rattle.gix_odb_core.specs.Steps.{Publishing, Outdated, TooFew, Overflows, Unchanged, Published, after, last_generation, last_state}
-use Rattle.gix_odb_core.specs.Steps.{publishing, shape_published, shape_stored, would_overflow}
+use Rattle.gix_odb_core.specs.Steps.{Publishing, Outdated, TooFew, Overflows, Unchanged, Published, after, is_confirmed, last_state}
+use Rattle.gix_odb_core.specs.Steps.{publishing, shape_published, shape_stored, takes_over, with_list, with_room}
+use Rattle.gix_odb_core.specs.Handles.{is_any_stable}
+use Rattle.gix_odb_slots.specs.Slots.{Slot}
 use Rattle.gix_odb_slots.specs.Files.{slot_with_index, slot_with_pack}
 use Rattle.gix_odb_core.specs.Views.{view_of}
 use Rattle.gix_odb_core.specs.declared.event.Effect.TheVariants as effects
@@ -53,28 +55,44 @@ refused-leaves entries shape number seat (event.Publish listing) refusal h = ref
 
 -- ---- a counter that stands at its greatest value
 
-at_last : (shape : Shape) (confirmed renewed : Bool) → would_overflow shape confirmed renewed ≡ true → StandsAtLast shape
-at_last shape confirmed renewed over = by (not confirmed) (shape.state_id == last_state) renewed (shape.generation == last_generation) refl refl over
-  where
-    by : (a b c d : Bool) → (shape.state_id == last_state) ≡ b → (shape.generation == last_generation) ≡ d → ((a && b) || (c && d)) ≡ true → StandsAtLast shape
-    by true true c d state generation over = inl (eqb-true shape.state_id last_state state)
-    by true false true true state generation over = inr (eqb-true shape.generation last_generation generation)
-    by true false true false state generation over = absurd cc
-    by true false false d state generation over = absurd cc
-    by false b true true state generation over = inr (eqb-true shape.generation last_generation generation)
-    by false b true false state generation over = absurd cc
-    by false b false d state generation over = absurd cc
-
-overflows-put : (shape now : Shape) (number : ℕ) (filled : Option Filled) → put_answer shape now number filled ≡ Err refusals.GenerationOverflow → StandsAtLast shape
+overflows-put : (shape now : Shape) (number : ℕ) (filled : Option Filled) → put_answer shape now number filled ≡ Err refusals.GenerationOverflow → PutOverflows shape filled
 overflows-put shape now number None h = absurd cc
 overflows-put shape now number (Some filled) h = by (shape.state_id == last_state) refl h
   where
     by : (b : Bool) → (shape.state_id == last_state) ≡ b → ◌≡◌ {A = Answer} (cond b (Err refusals.GenerationOverflow) (Ok (effects.Put (view_of now number) true)))
-        (Err refusals.GenerationOverflow) → StandsAtLast shape
-    by true is h = inl (eqb-true shape.state_id last_state is)
+        (Err refusals.GenerationOverflow) → PutOverflows shape (Some filled)
+    by true is h = record { stores = refl; last = eqb-true shape.state_id last_state is }
     by false is h = absurd cc
 
-pub overflow-cause : (entries : List Entry) (shape : Shape) (number seat : ℕ) (happens : Event) → answer_of entries shape number seat happens ≡ Err refusals.GenerationOverflow → StandsAtLast shape
+module _ (shape : Shape) (number : ℕ) (listing : Listing) where
+  abbrev Overflowing : Publishing → Type 0
+  Overflowing p = publish_answer shape number p ≡ Err refusals.GenerationOverflow → ListingOverflows shape listing
+
+  abbrev slots_now : List Slot
+  slots_now = listed_slots shape listing.rows
+
+  abbrev list_now : List ℕ
+  list_now = listed_places shape listing.rows
+
+  abbrev renews : Bool
+  renews = takes_over shape.slots (taken (is_any_stable shape.handles) listing.rows shape.slots shape.list)
+
+  overflows-publish : Overflowing (publishing shape listing)
+  overflows-publish = by (listing.base == shape.list_no) (nat_lt (free_count shape listing.rows) (new_count shape listing.rows)) refl
+    where
+      counts : (base : (listing.base == shape.list_no) ≡ true) (over confirmed : Bool) → rows_overflow shape listing.rows ≡ over
+          → Overflowing (cond over Overflows (cond confirmed (Unchanged (record shape { slots = slots_now })) (Published (with_list shape slots_now list_now renews))))
+      counts base true confirmed is h = record { base = eqb-true listing.base shape.list_no base; overflows = is }
+      counts base false true is h = absurd cc
+      counts base false false is h = absurd cc
+
+      by : (same short : Bool) → (listing.base == shape.list_no) ≡ same
+          → Overflowing (cond (not same) Outdated (cond short (TooFew (new_count shape listing.rows - free_count shape listing.rows)) (with_room shape listing.rows)))
+      by false short base h = absurd cc
+      by true true base h = absurd cc
+      by true false base h = counts base (rows_overflow shape listing.rows) (is_confirmed shape listing.rows list_now) refl h
+
+pub overflow-cause : (entries : List Entry) (shape : Shape) (number seat : ℕ) (happens : Event) → answer_of entries shape number seat happens ≡ Err refusals.GenerationOverflow → StandsAtLast shape happens
 overflow-cause entries shape number seat (event.Register stable) h = absurd cc
 overflow-cause entries shape number seat event.Upgrade h = absurd cc
 overflow-cause entries shape number seat event.Remove h = absurd cc
@@ -85,9 +103,7 @@ overflow-cause entries shape number seat (event.PutIndex slot path file) h = ove
 overflow-cause entries shape number seat (event.PutPack pack path file) h = overflows-put shape (after shape seat (event.PutPack pack path file)) number
     (slot_with_pack path file (slot_at shape.slots pack.index)) h
 overflow-cause entries shape number seat (event.PassOver slot path why) h = absurd cc
-overflow-cause entries shape number seat (event.Publish listing) h =
-    publishing_rule (λ (p : Publishing). publish_answer shape number p ≡ Err refusals.GenerationOverflow → StandsAtLast shape) shape listing
-    (λ h. absurd cc) (λ base short h. absurd cc) (λ confirmed renewed over h. at_last shape confirmed renewed over) (λ h. absurd cc) (λ renewed h. absurd cc) h
+overflow-cause entries shape number seat (event.Publish listing) h = overflows-publish shape number listing h
 
 -- ---- too few slots
 

@@ -142,7 +142,7 @@ module _ (opening : Opening) (old now : State) (core : IsCore (record { opening 
       (sym (answered opening old now core seat happens answer (next some) some) ∙ h)
 
   pub at_last-after : (answer : Answer) → (¬ (answer ≡ Err refusals.NoMemory) → IsNextState old seat happens answer now) → answer ≡ Err refusals.GenerationOverflow
-      → StandsAtLast (replay (shape_of opening) (entries_in old))
+      → StandsAtLast (replay (shape_of opening) (entries_in old)) happens
   at_last-after answer next h =
       let some : ¬ (answer ≡ Err refusals.NoMemory) = λ lacks. cc in
       overflow-cause (entries_in old) (replay (shape_of opening) (entries_in old)) (number_behind (entries_in old)) seat happens

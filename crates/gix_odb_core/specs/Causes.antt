@@ -1,16 +1,40 @@
 -- Why a core refuses an event.
-use Rattle.std.specs.Prelude.{◌≡◌, ℕ, ◌+◌, ◌<◌, ◌⊎◌, length}
+use Rattle.std.specs.Prelude.{◌≡◌, ℕ, ◌+◌, ◌<◌, Bool, true, List, length, Option, is_some}
 use Rattle.gix_odb_core.specs.Handles.{is_any_stable}
-use Rattle.gix_odb_slots.specs.Publish.{free_places, new_rows}
-use Rattle.gix_odb_core.specs.Steps.{last_generation, last_state}
+use Rattle.gix_odb_slots.specs.Files.{slot_with_index, slot_with_pack}
+use Rattle.gix_odb_slots.specs.Publish.{free_places, list_after, new_rows, slot_at, slots_after, taken}
+use Rattle.gix_odb_core.specs.Steps.{is_confirmed, last_state, takes_over, would_overflow}
 use Rattle.gix_odb_core.specs.declared.event.Event.{Event}
 use Rattle.gix_odb_core.specs.declared.event.Event.TheVariants as event
 use Rattle.gix_odb_slots.specs.declared.listing.Listing.{Listing}
+use Rattle.gix_odb_slots.specs.declared.listing.ListingRow.{ListingRow}
 use Rattle.gix_odb_core.specs.declared.shape.Shape.{Shape}
+use Rattle.gix_odb_slots.specs.declared.slot.Filled.{Filled}
 
--- the generation or the state number stands at its greatest value
-abbrev pub StandsAtLast : Shape → Type 0
-StandsAtLast shape = (shape.state_id ≡ last_state) ⊎ (shape.generation ≡ last_generation)
+-- a file would be stored, and the state number stands at its greatest value
+pub record PutOverflows (shape : Shape) (filled : Option Filled) : Type 0 where
+  pub stores : is_some filled ≡ true
+  pub last : shape.state_id ≡ last_state
+
+-- whether a counter that a listing would raise stands at its greatest value: the state number rises unless the list is confirmed, and the
+-- generation where a slot is taken over
+abbrev pub rows_overflow : Shape → List ListingRow → Bool
+rows_overflow shape rows =
+    let stable = is_any_stable shape.handles in
+    let list = list_after rows (slots_after stable rows shape.slots shape.list) in
+    would_overflow shape (is_confirmed shape rows list) (takes_over shape.slots (taken stable rows shape.slots shape.list))
+
+-- a listing of the newest list would raise such a counter
+pub record ListingOverflows (shape : Shape) (listing : Listing) : Type 0 where
+  pub base : listing.base ≡ shape.list_no
+  pub overflows : rows_overflow shape listing.rows ≡ true
+
+-- a counter that the event would raise stands at its greatest value. Only files that are read and listings raise one
+abbrev pub StandsAtLast : Shape → Event → Type 0
+StandsAtLast shape (event.PutIndex slot path file) = PutOverflows shape (slot_with_index path file (slot_at shape.slots slot))
+StandsAtLast shape (event.PutPack pack path file) = PutOverflows shape (slot_with_pack path file (slot_at shape.slots pack.index))
+StandsAtLast shape (event.Publish listing) = ListingOverflows shape listing
+StandsAtLast shape other = ⊥
 
 -- a listing of the newest list has so many more new rows than slots are free
 pub record IsShortBy (shape : Shape) (listing : Listing) (slots missing : ℕ) : Type 0 where

@@ -98,7 +98,7 @@ impl Core {
 
         // Why it is refused.
         ensures too_few { (current needed : ℕ) → result ≡ Err (Refusal.InsufficientSlots current needed) → HasTooFewSlots (present self.old) event current needed }
-        ensures at_last { result ≡ Err Refusal.GenerationOverflow → StandsAtLast (present self.old) }
+        ensures at_last { result ≡ Err Refusal.GenerationOverflow → StandsAtLast (present self.old) event }
     {
         self.state.apply(alloc, seat, event)
     }

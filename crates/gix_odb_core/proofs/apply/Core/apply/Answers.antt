@@ -32,5 +32,5 @@ returns-clause-too_few c = λ current needed h.
 
 pub returns-clause-at_last : goal.returns-clause-at_last
 returns-clause-at_last c = λ h.
-    subst (λ (v : History). StandsAtLast (present v)) c.self.view_is
+    subst (λ (v : History). StandsAtLast (present v) c.args.event) c.self.view_is
     (at_last-after c.self.inside.opening c.self.inside.state c.apply.new.self c.self.invariant c.args.seat c.args.event c.apply.result c.apply.ensures.next h)
