@@ -60,10 +60,14 @@ fn check_rows(alloc: Global, core: &mut Core, opening: Opening, rows: &[&str]) -
     Ok(())
 }
 
+/// A core with counts that begin here: the one that `new` makes, where they begin at 0.
 pub fn core_of(alloc: Global, opening: Opening) -> Result<Core, Fail> {
     let (slots, folders, generation, state) = opening;
     if slots > 32_767 {
         return Err(Fail::new("too many slots"));
+    }
+    if generation == 0 && state == 0 {
+        return Ok(Core::new(alloc, slots, folders)?);
     }
     Ok(Core::at_counts(alloc, slots, folders, generation, state)?)
 }
