@@ -29,6 +29,7 @@ pub use event::{Effect, Event, PassWhy, Refusal};
 pub use gix_odb_slots::{
     FileState, IndexId, Listed, ListedList, Listing, ListingRow, ListingRowList, LoadedIndex,
     LoadedList, OnDiskFile, PackFile, PackFileList, PackId, Shared, SnapshotIndex, Todo, TodoList,
+    pack_path, packs_beside,
 };
 pub use journal::{Entry, Journal};
 pub use metrics::{Metrics, Passed, PassedList, Report};

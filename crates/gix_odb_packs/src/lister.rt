@@ -5,7 +5,7 @@ ghost use Rattle.gix_odb_packs.specs.ListOrder as order;
 
 use crate::folders::{PathList, index_paths, pack_folder};
 use crate::rest::Rest;
-use gix_odb_core::{ListingRow, ListingRowList, Shared};
+use gix_odb_core::{ListingRow, ListingRowList, Shared, pack_path};
 use odb_base::{NoMemory, PathText, Sequence};
 use odb_disk::{DirId, DiskAnswer, DiskAsk, DiskError, Entry, Kind};
 use std::alloc::Global;
@@ -153,7 +153,7 @@ fn look_of(alloc: Global, path: &PathText, follow: bool) -> Result<DiskAsk, NoMe
 fn pack_look(alloc: Global, row: &ListingRow) -> Result<DiskAsk, NoMemory>
     ensures asks { IfOk result (λ ask. ask ≡ order.look_of (order.pack_of row.now) true) }
 {
-    let path = gix_odb_slots::pack_path(alloc, &row.path)?;
+    let path = pack_path(alloc, &row.path)?;
     Ok(DiskAsk::Look { path, follow: true })
 }
 

@@ -7,7 +7,7 @@ ghost use Rattle.gix_odb_packs.specs.TryOrder.{by_given, index_stored, is_at, ow
 use super::{Ahead, IndexPlace, Tried, at_search, seek};
 use crate::goal::{Error, Found, Goal};
 use crate::search::{Notes, Sought, WantedPack};
-use gix_odb_core::{Effect, LoadedIndex, PackFile, Shared, SnapshotIndex};
+use gix_odb_core::{Effect, LoadedIndex, PackFile, Shared, SnapshotIndex, packs_beside};
 use gix_pack::{data, index};
 use odb_base::NoMemory;
 use std::alloc::Global;
@@ -51,7 +51,7 @@ fn own_index(
     ensures own { IfOk result (λ index. index ≡ own_index place file) }
 {
     let IndexPlace { slot, path } = place;
-    let packs = gix_odb_slots::packs_beside(alloc, &path)?;
+    let packs = packs_beside(alloc, &path)?;
     Ok(SnapshotIndex {
         slot,
         path: Shared::new(alloc, path)?,
