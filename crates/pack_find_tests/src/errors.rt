@@ -1,0 +1,27 @@
+//! The texts of errors.
+use crate::text::Text;
+use crate::words::compare;
+use gix_odb_packs::Error;
+use std::test::Fail;
+
+const TEXTS: [(Error, &str); 5] = [
+    (Error::LoadPack, "the pack could not be read"),
+    (Error::Pack, "there is no entry where the index says"),
+    (Error::EntryType { code: 5 }, "5 is no type of an entry"),
+    (Error::DeltaEntry, "the entry is a delta"),
+    (
+        Error::OutOfMemory { size: 6 },
+        "an object of 6 bytes is above the limit",
+    ),
+];
+
+// The text of another error, or without its number.
+#[test]
+fn texts_of_errors(rt: HostRuntime) -> Result<(), Fail> {
+    for (error, want) in TEXTS {
+        let mut found = Text::new(rt.alloc());
+        found.error(error);
+        compare(want, &found, want)?;
+    }
+    Ok(())
+}

@@ -1,0 +1,30 @@
+//! What no clause of `gix_odb_packs` says: that packs are found, by which calls and events, and what ends the way there.
+//!
+//! Each test is a table of rows in words, played on a disk in memory and on a core. A row changes the disk, or asks a
+//! question, and has behind a bar what is to come of it; `table` says which words there are.
+#![tactic(auto)]
+
+#[cfg(test)]
+mod disks;
+#[cfg(test)]
+mod errors;
+#[cfg(test)]
+mod files;
+#[cfg(test)]
+mod happening;
+#[cfg(test)]
+mod listed_rows;
+#[cfg(test)]
+mod listing;
+#[cfg(test)]
+mod shown;
+#[cfg(test)]
+mod table;
+#[cfg(test)]
+mod text;
+#[cfg(test)]
+mod tried_rows;
+#[cfg(test)]
+mod trying;
+#[cfg(test)]
+mod words;

@@ -1,0 +1,128 @@
+//! A disk is listed, and its rows are published.
+use crate::happening::happen;
+use crate::shown::{put_ask, put_refusal, put_rows, put_todo};
+use crate::text::Text;
+use gix_odb_core::{Core, Effect, Event, Listing, ListingRowList, Refusal};
+use gix_odb_packs::longest_first::longest_first;
+use gix_odb_packs::{ListStep, Lister};
+use odb_base::{NoMemory, PathText};
+use odb_disk::MemDisk;
+use std::alloc::Global;
+use std::test::Fail;
+
+fn push_path(alloc: Global, paths: &mut Vec<PathText>, word: &str) -> Result<(), Fail> {
+    Ok(paths.push(PathText::parse(alloc, word)?)?)
+}
+
+fn paths_of(alloc: Global, words: &str) -> Result<Vec<PathText>, Fail> {
+    let mut paths = Vec::new(alloc);
+    for word in words.split(' ') {
+        push_path(alloc, &mut paths, word)?;
+    }
+    Ok(paths)
+}
+
+/// Makes the next call of a listing, and puts it behind a text.
+fn step(
+    alloc: Global,
+    disk: &mut MemDisk,
+    folders: &[PathText],
+    lister: Lister,
+    text: &mut Text,
+) -> Result<ListStep, NoMemory> {
+    let ask = lister.ask(alloc)?;
+    put_ask(text, &ask);
+    let answer = ask.carry_out(alloc, disk);
+    lister.feed(alloc, folders, answer)
+}
+
+/// The rows of a listing, unless it is broken.
+fn rows_of(
+    alloc: Global,
+    disk: &mut MemDisk,
+    folders: &[PathText],
+    mut lister: Lister,
+    text: &mut Text,
+) -> Result<Option<ListingRowList>, Fail> {
+    for _ in 0..100 {
+        match step(alloc, disk, folders, lister, text)? {
+            ListStep::More(more) => lister = more,
+            ListStep::Rows(rows) => return Ok(Some(rows)),
+            ListStep::Broken => return Ok(None),
+        }
+    }
+    Err(Fail::new("a listing without end"))
+}
+
+/// The rows of a listing of folders in words, the objects directory first. Its calls are put behind a text.
+fn listed(
+    alloc: Global,
+    disk: &mut MemDisk,
+    words: &str,
+    text: &mut Text,
+) -> Result<Option<ListingRowList>, Fail> {
+    let paths = paths_of(alloc, words)?;
+    let Some((objects, folders)) = paths.as_slice().split_first() else {
+        return Err(Fail::new("no folder"));
+    };
+    let lister = Lister::start(alloc, objects)?;
+    rows_of(alloc, disk, folders, lister, text)
+}
+
+/// Puts the calls and the rows of a listing behind a text.
+pub fn put_list(
+    alloc: Global,
+    disk: &mut MemDisk,
+    words: &str,
+    text: &mut Text,
+) -> Result<(), Fail> {
+    match listed(alloc, disk, words, text)? {
+        Some(rows) => put_rows(text, rows.as_slice()),
+        None => text.next("broken"),
+    }
+    Ok(())
+}
+
+/// The rows of a listing in the order in which they are tried.
+fn ordered(alloc: Global, disk: &mut MemDisk, words: &str) -> Result<ListingRowList, Fail> {
+    let mut calls = Text::new(alloc);
+    match listed(alloc, disk, words, &mut calls)? {
+        Some(rows) => Ok(longest_first(rows)?),
+        None => Err(Fail::new("a broken listing")),
+    }
+}
+
+/// Puts the rows of a listing behind a text, in the order in which they are tried.
+pub fn put_order(
+    alloc: Global,
+    disk: &mut MemDisk,
+    words: &str,
+    text: &mut Text,
+) -> Result<(), Fail> {
+    let rows = ordered(alloc, disk, words)?;
+    put_rows(text, rows.as_slice());
+    Ok(())
+}
+
+fn put_published(text: &mut Text, answer: &Result<Effect, Refusal>) {
+    match answer {
+        Ok(Effect::Published(view)) => put_todo(text, view.todo.value().as_slice()),
+        Ok(_) => text.next("another answer"),
+        Err(refusal) => put_refusal(text, *refusal),
+    }
+}
+
+/// Publishes the rows of a listing, and puts what is to be loaded behind a text.
+pub fn publish(
+    alloc: Global,
+    disk: &mut MemDisk,
+    core: &mut Core,
+    words: &str,
+    text: &mut Text,
+) -> Result<(), Fail> {
+    let rows = ordered(alloc, disk, words)?;
+    let base = core.look().list_no;
+    let answer = happen(alloc, core, Event::Publish(Listing { base, rows }));
+    put_published(text, &answer);
+    Ok(())
+}

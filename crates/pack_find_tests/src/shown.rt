@@ -1,0 +1,141 @@
+//! Calls, events and ends as words.
+use crate::text::Text;
+use gix_odb_core::{Event, ListingRow, PassWhy, Refusal, Todo};
+use gix_odb_packs::{Error, Found, Notes, Tried};
+use odb_base::PathText;
+use odb_disk::DiskAsk;
+use std::str;
+
+fn put_named(text: &mut Text, word: &str, path: &PathText) {
+    text.next(word);
+    text.path(" ", path);
+}
+
+/// Puts a call of the disk behind a text. A look with `!` follows links.
+pub fn put_ask(text: &mut Text, ask: &DiskAsk) {
+    match ask {
+        DiskAsk::OpenDir { path } => put_named(text, "open", path),
+        DiskAsk::NextEntry { .. } => text.next("next"),
+        DiskAsk::CloseDir { .. } => text.next("close"),
+        DiskAsk::Look { path, follow } => {
+            put_named(text, if *follow { "look!" } else { "look" }, path);
+        }
+        DiskAsk::Read { path } => put_named(text, "read", path),
+        _ => text.next("another call"),
+    }
+}
+
+fn word_of_why(why: PassWhy) -> &'static str {
+    match why {
+        PassWhy::Absent => "absent",
+        PassWhy::Failed => "failed",
+        PassWhy::WrongKind => "kind",
+        PassWhy::LinkLoop => "link",
+        PassWhy::Bad => "bad",
+    }
+}
+
+fn put_pass(text: &mut Text, slot: u16, why: PassWhy) {
+    text.next("pass-over");
+    text.marked(" ", u64::from(slot));
+    text.put(" ");
+    text.put(word_of_why(why));
+}
+
+fn put_slot(text: &mut Text, word: &str, slot: u64) {
+    text.next(word);
+    text.marked(" ", slot);
+}
+
+/// Puts an event of the core behind a text, with its slot.
+pub fn put_event(text: &mut Text, event: &Event) {
+    match event {
+        Event::PutIndex { slot, .. } => put_slot(text, "put-index", u64::from(*slot)),
+        Event::PutPack { pack, .. } => put_slot(text, "put-pack", pack.index as u64),
+        Event::PassOver { slot, why, .. } => put_pass(text, *slot, *why),
+        _ => text.next("another event"),
+    }
+}
+
+/// Puts the rows of a listing behind a text, each with its length.
+pub fn put_rows(text: &mut Text, rows: &[ListingRow]) {
+    text.next("rows");
+    for row in rows {
+        text.path(" ", &row.path);
+        text.marked(" ", row.len);
+    }
+}
+
+/// Puts indices that are still to be loaded behind a text, each with its slot.
+pub fn put_todo(text: &mut Text, todo: &[Todo]) {
+    text.next("todo");
+    for todo in todo {
+        text.marked(" ", u64::from(todo.slot));
+        text.path(":", todo.path.value());
+    }
+}
+
+/// Puts a refusal of the core behind a text.
+pub fn put_refusal(text: &mut Text, refusal: Refusal) {
+    text.next(match refusal {
+        Refusal::InsufficientSlots { .. } => "insufficient-slots",
+        Refusal::GenerationOverflow => "generation-overflow",
+        Refusal::NoMemory => "no memory",
+    });
+}
+
+fn put_kind(text: &mut Text, word: &str, kind: gix_object::Kind, size: u64) {
+    text.next(word);
+    text.put(if kind == gix_object::Kind::Blob {
+        " blob"
+    } else {
+        " another kind"
+    });
+    text.marked(" ", size);
+}
+
+fn put_found(text: &mut Text, found: &Found) {
+    match found {
+        Found::Object { kind, bytes } => {
+            put_kind(text, "found", *kind, bytes.len() as u64);
+            text.put(" ");
+            text.put(str::from_utf8(bytes.as_slice()).unwrap_or("no text"));
+        }
+        Found::Header { kind, size } => put_kind(text, "header", *kind, *size),
+        Found::Presence => text.next("present"),
+    }
+}
+
+// Whether the read of an index failed, and the packs that were absent, each with its slot.
+fn put_missed(text: &mut Text, notes: &Notes) {
+    text.next(if notes.failed {
+        "missed failed"
+    } else {
+        "missed"
+    });
+    for file in notes.absent.as_slice() {
+        text.marked(" ", u64::from(file.slot));
+        text.path(":", &file.path);
+    }
+}
+
+fn put_error(text: &mut Text, error: Error) {
+    match error {
+        Error::LoadPack => text.next("load-pack"),
+        Error::Pack => text.next("pack"),
+        Error::EntryType { code } => put_slot(text, "entry-type", u64::from(code)),
+        Error::DeltaEntry => text.next("delta-entry"),
+        Error::OutOfMemory { size } => put_slot(text, "out-of-memory", size),
+    }
+}
+
+/// Puts what trying came to behind a text.
+pub fn put_end(text: &mut Text, tried: &Tried) {
+    match tried {
+        Tried::More(_) => text.next("no end"),
+        Tried::Hit(found) => put_found(text, found),
+        Tried::Missed(notes) => put_missed(text, notes),
+        Tried::Bad(error) => put_error(text, *error),
+        Tried::Broken(refusal) => put_refusal(text, *refusal),
+    }
+}

@@ -1,0 +1,96 @@
+//! A disk in memory and a core, on which the rows of a table are played.
+//!
+//! `list FOLDER ..` lists folders, the objects directory first, and tells the calls and the rows; `order FOLDER ..` tells
+//! the rows in the order in which they are tried; `publish FOLDER ..` publishes them, and tells what is to be loaded.
+//! `find WORD`, `header WORD` and `has WORD` seek the blob of a word, `find WORD LIMIT` within a limit, and tell the calls,
+//! the events and the end. Any other row is a change of the disk.
+use crate::disks::change;
+use crate::happening::happen;
+use crate::listing::{publish, put_list, put_order};
+use crate::text::Text;
+use crate::trying::put_tried;
+use crate::words::{compare, cut, halves};
+use gix_odb_core::{Core, Event, Refusal};
+use odb_disk::MemDisk;
+use std::alloc::Global;
+use std::test::Fail;
+
+fn put_told(
+    alloc: Global,
+    disk: &mut MemDisk,
+    core: &mut Core,
+    line: &str,
+    text: &mut Text,
+) -> Result<(), Fail> {
+    let (verb, rest) = cut(line);
+    match verb {
+        "list" => put_list(alloc, disk, rest, text),
+        "order" => put_order(alloc, disk, rest, text),
+        "publish" => publish(alloc, disk, core, rest, text),
+        "find" | "header" | "has" => put_tried(alloc, disk, core, verb, rest, text),
+        _ => change(alloc, disk, verb, rest),
+    }
+}
+
+fn check_row(alloc: Global, disk: &mut MemDisk, core: &mut Core, row: &str) -> Result<(), Fail> {
+    let (line, want) = halves(row);
+    let mut found = Text::new(alloc);
+    put_told(alloc, disk, core, line, &mut found)?;
+    compare(line, &found, want)
+}
+
+fn check_rows(
+    alloc: Global,
+    disk: &mut MemDisk,
+    core: &mut Core,
+    rows: &[&str],
+) -> Result<(), Fail> {
+    for row in rows {
+        check_row(alloc, disk, core, row)?;
+    }
+    Ok(())
+}
+
+fn register(alloc: Global, core: &mut Core) -> Result<(), Refusal> {
+    happen(alloc, core, Event::Register { stable: false })?;
+    Ok(())
+}
+
+/// A core of four slots with a handle, whose state number begins here.
+fn core_at(alloc: Global, state: u64) -> Result<Core, Fail> {
+    let mut core = Core::at_counts(alloc, 4, 2, 0, state)?;
+    register(alloc, &mut core)?;
+    Ok(core)
+}
+
+/// The calls of the disk that fail, by their numbers, and the number at which the state of the core begins.
+pub type Opening = (&'static [u64], u64);
+
+fn check_both(
+    alloc: Global,
+    disk: &mut MemDisk,
+    core: &mut Core,
+    made: &[&str],
+    rows: &[&str],
+) -> Result<(), Fail> {
+    check_rows(alloc, disk, core, made)?;
+    check_rows(alloc, disk, core, rows)
+}
+
+fn check_on(
+    alloc: Global,
+    disk: &mut MemDisk,
+    state: u64,
+    made: &[&str],
+    rows: &[&str],
+) -> Result<(), Fail> {
+    let mut core = core_at(alloc, state)?;
+    check_both(alloc, disk, &mut core, made, rows)
+}
+
+/// Plays the rows of a table, each `WORDS | WHAT COMES OF IT`, on a disk that other rows make.
+pub fn check(alloc: Global, opening: Opening, made: &[&str], rows: &[&str]) -> Result<(), Fail> {
+    let (faults, state) = opening;
+    let mut disk = MemDisk::with_faults(alloc, faults)?;
+    check_on(alloc, &mut disk, state, made, rows)
+}

@@ -1,0 +1,115 @@
+//! An object is sought in the packs that a core lists.
+use crate::files::id_of;
+use crate::happening::happen;
+use crate::shown::{put_ask, put_end, put_event};
+use crate::text::Text;
+use crate::words::cut;
+use gix_odb_core::{Core, Effect, Event, View};
+use gix_odb_packs::{Answer, Goal, Notes, PartAsk, Rest, Tried, Trier, Wanted};
+use odb_base::NoMemory;
+use odb_disk::MemDisk;
+use std::alloc::Global;
+use std::test::Fail;
+
+fn wanted_of(verb: &str) -> Wanted {
+    match verb {
+        "find" => Wanted::Object,
+        "header" => Wanted::Header,
+        _ => Wanted::Presence,
+    }
+}
+
+// A word, and a limit where there is one.
+fn goal_of(alloc: Global, verb: &str, words: &str) -> Result<Goal, Fail> {
+    let (word, limit) = cut(words);
+    Ok(Goal {
+        id: id_of(alloc, word)?,
+        wanted: wanted_of(verb),
+        limit: limit.parse::<u64>().ok(),
+    })
+}
+
+/// The answer to what is asked for, which is put behind a text.
+fn answered(
+    alloc: Global,
+    disk: &mut MemDisk,
+    core: &mut Core,
+    ask: PartAsk,
+    text: &mut Text,
+) -> Answer {
+    match ask {
+        PartAsk::Disk(ask) => {
+            put_ask(text, &ask);
+            Answer::Disk(ask.carry_out(alloc, disk))
+        }
+        PartAsk::Core(event) => {
+            put_event(text, &event);
+            Answer::Core(happen(alloc, core, event))
+        }
+    }
+}
+
+fn step(
+    alloc: Global,
+    disk: &mut MemDisk,
+    core: &mut Core,
+    trier: Trier,
+    text: &mut Text,
+) -> Result<Tried, NoMemory> {
+    let ask = trier.ask(alloc)?;
+    let answer = answered(alloc, disk, core, ask, text);
+    trier.feed(alloc, answer)
+}
+
+/// Goes on to the end.
+fn finish(
+    alloc: Global,
+    disk: &mut MemDisk,
+    core: &mut Core,
+    mut tried: Tried,
+    text: &mut Text,
+) -> Result<Tried, NoMemory> {
+    for _ in 0..100 {
+        match tried {
+            Tried::More(trier) => tried = step(alloc, disk, core, trier, text)?,
+            end => return Ok(end),
+        }
+    }
+    Ok(tried)
+}
+
+fn begun_with(alloc: Global, view: &View, goal: Goal) -> Result<Tried, NoMemory> {
+    let indices = view.snapshot.indices.try_clone()?;
+    let todo = view.todo.try_clone()?;
+    let notes = Notes::new(alloc);
+    Trier::start(alloc, goal, Rest::all(indices), Rest::all(todo), notes)
+}
+
+fn begun_behind(alloc: Global, effect: &Effect, goal: Goal) -> Result<Tried, Fail> {
+    match effect.view() {
+        Some(view) => Ok(begun_with(alloc, view, goal)?),
+        None => Err(Fail::new("no view")),
+    }
+}
+
+/// Begins with what the core shows.
+fn begun(alloc: Global, core: &mut Core, goal: Goal) -> Result<Tried, Fail> {
+    let effect = happen(alloc, core, Event::Look)?;
+    begun_behind(alloc, &effect, goal)
+}
+
+/// Puts the calls, the events and the end of a search behind a text.
+pub fn put_tried(
+    alloc: Global,
+    disk: &mut MemDisk,
+    core: &mut Core,
+    verb: &str,
+    words: &str,
+    text: &mut Text,
+) -> Result<(), Fail> {
+    let goal = goal_of(alloc, verb, words)?;
+    let tried = begun(alloc, core, goal)?;
+    let end = finish(alloc, disk, core, tried, text)?;
+    put_end(text, &end);
+    Ok(())
+}
