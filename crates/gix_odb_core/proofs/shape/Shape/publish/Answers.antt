@@ -1,6 +1,6 @@
-use Rattle.std.proofs.Common.{◌≡◌, ℕ, IfOk, length, ap, subst, ◌∙◌, arith}
+use Rattle.std.proofs.Common.{◌≡◌, ℕ, IfOk, length, ap, subst, arith}
 use Rattle.gix_odb_core.proofs.RoomLemmas.{publishing-roomy}
-use Rattle.gix_odb_core.specs.Steps.{Publishing, with_room}
+use Rattle.gix_odb_core.specs.Steps.{Publishing}
 use Rattle.gix_odb_core.specs.Turn.{publish_turn}
 use Rattle.gix_odb_core.proofs.shape.Shape.publish.Goals as goal
 
