@@ -92,7 +92,8 @@ module _ (shape : Shape) (number : ℕ) (listing : Listing) where
       by true true base h = absurd cc
       by true false base h = counts base (rows_overflow shape listing.rows) (is_confirmed shape listing.rows list_now) refl h
 
-pub overflow-cause : (entries : List Entry) (shape : Shape) (number seat : ℕ) (happens : Event) → answer_of entries shape number seat happens ≡ Err refusals.GenerationOverflow → StandsAtLast shape happens
+pub overflow-cause : (entries : List Entry) (shape : Shape) (number seat : ℕ) (happens : Event)
+    → answer_of entries shape number seat happens ≡ Err refusals.GenerationOverflow → StandsAtLast shape happens
 overflow-cause entries shape number seat (event.Register stable) h = absurd cc
 overflow-cause entries shape number seat event.Upgrade h = absurd cc
 overflow-cause entries shape number seat event.Remove h = absurd cc

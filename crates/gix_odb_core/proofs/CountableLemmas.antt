@@ -69,10 +69,12 @@ countable-stored shape slot (Some filled) few countable = by (shape.state_id == 
     by false = countable-set shape (shape.state_id + 1) slot (Some filled) few countable
 
 countable-published : (shape : Shape) (listing : Listing) → HasDifferentPaths listing.rows
-    → IfSome (publish_turn shape listing.rows (publishing shape listing)).shelf (λ shelf. All HasFewPacks shelf.slots) → IsCountable shape → IsCountable (shape_published shape (publishing shape listing))
+    → IfSome (publish_turn shape listing.rows (publishing shape listing)).shelf (λ shelf. All HasFewPacks shelf.slots)
+    → IsCountable shape → IsCountable (shape_published shape (publishing shape listing))
 countable-published shape listing differ leaves countable =
     publishing_rule (λ (p : Publishing). IfSome (publish_turn shape listing.rows p).shelf (λ shelf. All HasFewPacks shelf.slots) → IsCountable (shape_published shape p)) shape listing
-    (λ none. countable) (λ base short none. countable) (λ confirmed renewed over none. countable) (λ leaves. record { packs = packs_kept (stands shape listing.rows) refl leaves; few = few_slots; short = countable.short })
+    (λ none. countable) (λ base short none. countable) (λ confirmed renewed over none. countable)
+    (λ leaves. record { packs = packs_kept (stands shape listing.rows) refl leaves; few = few_slots; short = countable.short })
     (λ renewed packs. record { packs = packs; few = few_slots; short = omega (arith, few_slots, length-list_after-le (listed_slots shape listing.rows) listing.rows differ) }) leaves
   where
     few_slots : length (listed_slots shape listing.rows) ≤ 32767

@@ -85,7 +85,8 @@ publish_turn-after shape listing =
     by true stays = ap (λ (slots : List Slot). record shape { slots = slots }) (sym (slots-stand shape listing.rows stays))
     by false changes = refl
 
-pub publish_turn-answer : (shape : Shape) (rows : List ListingRow) (number : ℕ) (publishing : Publishing) → publish_answer shape number publishing ≡ answer_with (publish_turn shape rows publishing).told
+pub publish_turn-answer : (shape : Shape) (rows : List ListingRow) (number : ℕ) (publishing : Publishing)
+    → publish_answer shape number publishing ≡ answer_with (publish_turn shape rows publishing).told
     (view_of (shape_published shape publishing) number)
 publish_turn-answer shape rows number Outdated = refl
 publish_turn-answer shape rows number (TooFew needed) = refl
