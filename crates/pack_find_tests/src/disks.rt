@@ -31,8 +31,12 @@ fn change_of(alloc: Global, verb: &str, rest: &str) -> Result<Change, Fail> {
     }
 }
 
+fn made(alloc: Global, disk: &mut MemDisk, change: &Change) -> Result<(), Fail> {
+    Ok(disk.change(alloc, change)?)
+}
+
 /// Changes a disk as another program does, which is no call of it.
 pub fn change(alloc: Global, disk: &mut MemDisk, verb: &str, rest: &str) -> Result<(), Fail> {
     let change = change_of(alloc, verb, rest)?;
-    Ok(disk.change(alloc, &change)?)
+    made(alloc, disk, &change)
 }

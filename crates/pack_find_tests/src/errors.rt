@@ -4,7 +4,7 @@ use crate::words::compare;
 use gix_odb_packs::Error;
 use std::test::Fail;
 
-const TEXTS: [(Error, &str); 5] = [
+const TEXTS: &[(Error, &str)] = &[
     (Error::LoadPack, "the pack could not be read"),
     (Error::Pack, "there is no entry where the index says"),
     (Error::EntryType { code: 5 }, "5 is no type of an entry"),
@@ -20,7 +20,7 @@ const TEXTS: [(Error, &str); 5] = [
 fn texts_of_errors(rt: HostRuntime) -> Result<(), Fail> {
     for (error, want) in TEXTS {
         let mut found = Text::new(rt.alloc());
-        found.error(error);
+        found.error(*error);
         compare(want, &found, want)?;
     }
     Ok(())

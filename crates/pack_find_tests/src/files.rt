@@ -6,9 +6,6 @@ use odb_base::{ByteList, NoMemory};
 use std::alloc::Global;
 use std::test::Fail;
 
-// By `git hash-object` of `hello` and a line feed.
-const HELLO: &[u8] = b"ce013625030ba8dba906f756967f9e9ca394464a";
-
 fn bytes_of(alloc: Global, word: &str) -> Result<ByteList, NoMemory> {
     let mut bytes = ByteList::from_slice(alloc, word.as_bytes())?;
     bytes.push(b'\n')?;
@@ -34,14 +31,18 @@ fn blobs(alloc: Global, words: &str) -> Result<Vec<Object>, NoMemory> {
     Ok(objects)
 }
 
-/// The id of the blob of a word.
-pub fn id_of(alloc: Global, word: &str) -> Result<ObjectId, Fail> {
-    if word == "hello" {
-        return Ok(ObjectId::from_hex(HELLO)?);
-    }
+fn hash_of(alloc: Global, word: &str) -> Result<ObjectId, NoMemory> {
     let bytes = bytes_of(alloc, word)?;
     let kind = gix_object::Kind::Blob;
-    Ok(compute_hash(alloc, Kind::Sha1, kind, bytes.as_slice())?)
+    compute_hash(alloc, Kind::Sha1, kind, bytes.as_slice())
+}
+
+/// The id that a word is, or else that of the blob of the word.
+pub fn id_of(alloc: Global, word: &str) -> Result<ObjectId, NoMemory> {
+    match ObjectId::from_hex(word.as_bytes()) {
+        Ok(id) => Ok(id),
+        Err(_) => hash_of(alloc, word),
+    }
 }
 
 fn written(alloc: Global, verb: &str, objects: &[Object]) -> Result<ByteList, Fail> {
@@ -67,16 +68,21 @@ fn pack_by_hand(alloc: Global, entry: &[u8]) -> Result<ByteList, NoMemory> {
     Ok(bytes)
 }
 
+fn by_hand(alloc: Global, verb: &str, words: &str) -> Result<ByteList, NoMemory> {
+    match verb {
+        "zeros" => ByteList::from_slice(alloc, &[0; 1200]),
+        "delta" => pack_by_hand(alloc, b"\x6a\x05"),
+        "type-5" => pack_by_hand(alloc, b"\x5a\x05"),
+        "bare" => pack_by_hand(alloc, b""),
+        _ => ByteList::from_slice(alloc, words.as_bytes()),
+    }
+}
+
 /// What a file has: `index WORD ..` and `pack WORD ..`, `zeros`, which are more bytes than an index of three objects has,
 /// packs whose entry is a `delta`, has `type-5` or is missing (`bare`), and `text WORD ..`.
 pub fn contents_of(alloc: Global, verb: &str, words: &str) -> Result<ByteList, Fail> {
-    match verb {
-        "index" | "pack" => encoded(alloc, verb, words),
-        "zeros" => Ok(ByteList::from_slice(alloc, &[0; 1200])?),
-        "delta" => Ok(pack_by_hand(alloc, b"\x6a\x05")?),
-        "type-5" => Ok(pack_by_hand(alloc, b"\x5a\x05")?),
-        "bare" => Ok(pack_by_hand(alloc, b"")?),
-        "text" => Ok(ByteList::from_slice(alloc, words.as_bytes())?),
-        _ => Err(Fail::new("no such row")),
+    if verb == "index" || verb == "pack" {
+        return encoded(alloc, verb, words);
     }
+    Ok(by_hand(alloc, verb, words)?)
 }

@@ -6,7 +6,7 @@ use gix_odb_core::{Core, Effect, Event, Listing, ListingRowList, Refusal};
 use gix_odb_packs::longest_first::longest_first;
 use gix_odb_packs::{ListStep, Lister};
 use odb_base::{NoMemory, PathText};
-use odb_disk::MemDisk;
+use odb_disk::{DiskAnswer, MemDisk};
 use std::alloc::Global;
 use std::test::Fail;
 
@@ -22,7 +22,18 @@ fn paths_of(alloc: Global, words: &str) -> Result<Vec<PathText>, Fail> {
     Ok(paths)
 }
 
-/// Makes the next call of a listing, and puts it behind a text.
+/// The answer to the next call of a listing, which is put behind a text.
+fn answered(
+    alloc: Global,
+    disk: &mut MemDisk,
+    lister: &Lister,
+    text: &mut Text,
+) -> Result<DiskAnswer, NoMemory> {
+    let ask = lister.ask(alloc)?;
+    put_ask(text, &ask);
+    Ok(ask.carry_out(alloc, disk))
+}
+
 fn step(
     alloc: Global,
     disk: &mut MemDisk,
@@ -30,9 +41,7 @@ fn step(
     lister: Lister,
     text: &mut Text,
 ) -> Result<ListStep, NoMemory> {
-    let ask = lister.ask(alloc)?;
-    put_ask(text, &ask);
-    let answer = ask.carry_out(alloc, disk);
+    let answer = answered(alloc, disk, &lister, text)?;
     lister.feed(alloc, folders, answer)
 }
 
@@ -43,7 +52,7 @@ fn rows_of(
     folders: &[PathText],
     mut lister: Lister,
     text: &mut Text,
-) -> Result<Option<ListingRowList>, Fail> {
+) -> Result<Option<ListingRowList>, NoMemory> {
     for _ in 0..100 {
         match step(alloc, disk, folders, lister, text)? {
             ListStep::More(more) => lister = more,
@@ -51,7 +60,8 @@ fn rows_of(
             ListStep::Broken => return Ok(None),
         }
     }
-    Err(Fail::new("a listing without end"))
+    text.next("no end");
+    Ok(None)
 }
 
 /// The rows of a listing of folders in words, the objects directory first. Its calls are put behind a text.
@@ -66,7 +76,7 @@ fn listed(
         return Err(Fail::new("no folder"));
     };
     let lister = Lister::start(alloc, objects)?;
-    rows_of(alloc, disk, folders, lister, text)
+    Ok(rows_of(alloc, disk, folders, lister, text)?)
 }
 
 /// Puts the calls and the rows of a listing behind a text.
@@ -112,6 +122,12 @@ fn put_published(text: &mut Text, answer: &Result<Effect, Refusal>) {
     }
 }
 
+fn publish_rows(alloc: Global, core: &mut Core, rows: ListingRowList, text: &mut Text) {
+    let base = core.look().list_no;
+    let answer = happen(alloc, core, Event::Publish(Listing { base, rows }));
+    put_published(text, &answer);
+}
+
 /// Publishes the rows of a listing, and puts what is to be loaded behind a text.
 pub fn publish(
     alloc: Global,
@@ -121,8 +137,6 @@ pub fn publish(
     text: &mut Text,
 ) -> Result<(), Fail> {
     let rows = ordered(alloc, disk, words)?;
-    let base = core.look().list_no;
-    let answer = happen(alloc, core, Event::Publish(Listing { base, rows }));
-    put_published(text, &answer);
+    publish_rows(alloc, core, rows, text);
     Ok(())
 }

@@ -2,7 +2,7 @@
 //!
 //! `list FOLDER ..` lists folders, the objects directory first, and tells the calls and the rows; `order FOLDER ..` tells
 //! the rows in the order in which they are tried; `publish FOLDER ..` publishes them, and tells what is to be loaded.
-//! `find WORD`, `header WORD` and `has WORD` seek the blob of a word, `find WORD LIMIT` within a limit, and tell the calls,
+//! `find WORD`, `header WORD` and `has WORD` seek an id, or the blob of a word, `find WORD LIMIT` within a limit, and tell the calls,
 //! the events and the end. Any other row is a change of the disk.
 use crate::disks::change;
 use crate::happening::happen;
@@ -10,7 +10,7 @@ use crate::listing::{publish, put_list, put_order};
 use crate::text::Text;
 use crate::trying::put_tried;
 use crate::words::{compare, cut, halves};
-use gix_odb_core::{Core, Event, Refusal};
+use gix_odb_core::{Core, Event};
 use odb_disk::MemDisk;
 use std::alloc::Global;
 use std::test::Fail;
@@ -27,7 +27,7 @@ fn put_told(
         "list" => put_list(alloc, disk, rest, text),
         "order" => put_order(alloc, disk, rest, text),
         "publish" => publish(alloc, disk, core, rest, text),
-        "find" | "header" | "has" => put_tried(alloc, disk, core, verb, rest, text),
+        "find" | "header" | "has" => Ok(put_tried(alloc, disk, core, verb, rest, text)?),
         _ => change(alloc, disk, verb, rest),
     }
 }
@@ -51,16 +51,13 @@ fn check_rows(
     Ok(())
 }
 
-fn register(alloc: Global, core: &mut Core) -> Result<(), Refusal> {
-    happen(alloc, core, Event::Register { stable: false })?;
-    Ok(())
+fn is_taken(alloc: Global, core: &mut Core, event: Event) -> bool {
+    happen(alloc, core, event).is_ok()
 }
 
-/// A core of four slots with a handle, whose state number begins here.
-fn core_at(alloc: Global, state: u64) -> Result<Core, Fail> {
-    let mut core = Core::at_counts(alloc, 4, 2, 0, state)?;
-    register(alloc, &mut core)?;
-    Ok(core)
+/// Whether a handle is registered, and has a view.
+fn register(alloc: Global, core: &mut Core) -> bool {
+    is_taken(alloc, core, Event::Register { stable: false }) && is_taken(alloc, core, Event::Look)
 }
 
 /// The calls of the disk that fail, by their numbers, and the number at which the state of the core begins.
@@ -73,6 +70,9 @@ fn check_both(
     made: &[&str],
     rows: &[&str],
 ) -> Result<(), Fail> {
+    if !register(alloc, core) {
+        return Err(Fail::new("no handle"));
+    }
     check_rows(alloc, disk, core, made)?;
     check_rows(alloc, disk, core, rows)
 }
@@ -84,7 +84,7 @@ fn check_on(
     made: &[&str],
     rows: &[&str],
 ) -> Result<(), Fail> {
-    let mut core = core_at(alloc, state)?;
+    let mut core = Core::at_counts(alloc, 4, 2, 0, state)?;
     check_both(alloc, disk, &mut core, made, rows)
 }
 

@@ -21,11 +21,13 @@ const AT_ONCE: &[&str] = &[
     "find world | missed",
 ];
 
+// The id is that of `git hash-object`.
 const BY_AND_BY: &[&str] = &[
     "publish /o | todo 0:/o/pack/a.idx",
     "has hello | read /o/pack/a.idx; put-index 0; present",
     "has hello | present",
     "has world | missed",
+    "has ce013625030ba8dba906f756967f9e9ca394464a | present",
     "header hello | read /o/pack/a.pack; put-pack 0; header blob 6",
     "header hello | header blob 6",
     "find hello | found blob 6 hello\n",

@@ -4,12 +4,11 @@ use crate::happening::happen;
 use crate::shown::{put_ask, put_end, put_event};
 use crate::text::Text;
 use crate::words::cut;
-use gix_odb_core::{Core, Effect, Event, View};
+use gix_odb_core::{Core, View};
 use gix_odb_packs::{Answer, Goal, Notes, PartAsk, Rest, Tried, Trier, Wanted};
 use odb_base::NoMemory;
 use odb_disk::MemDisk;
 use std::alloc::Global;
-use std::test::Fail;
 
 fn wanted_of(verb: &str) -> Wanted {
     match verb {
@@ -20,7 +19,7 @@ fn wanted_of(verb: &str) -> Wanted {
 }
 
 // A word, and a limit where there is one.
-fn goal_of(alloc: Global, verb: &str, words: &str) -> Result<Goal, Fail> {
+fn goal_of(alloc: Global, verb: &str, words: &str) -> Result<Goal, NoMemory> {
     let (word, limit) = cut(words);
     Ok(Goal {
         id: id_of(alloc, word)?,
@@ -29,8 +28,7 @@ fn goal_of(alloc: Global, verb: &str, words: &str) -> Result<Goal, Fail> {
     })
 }
 
-/// The answer to what is asked for, which is put behind a text.
-fn answered(
+fn carried_out(
     alloc: Global,
     disk: &mut MemDisk,
     core: &mut Core,
@@ -49,6 +47,18 @@ fn answered(
     }
 }
 
+/// The answer to the next call or event of a search, which is put behind a text.
+fn answered(
+    alloc: Global,
+    disk: &mut MemDisk,
+    core: &mut Core,
+    trier: &Trier,
+    text: &mut Text,
+) -> Result<Answer, NoMemory> {
+    let ask = trier.ask(alloc)?;
+    Ok(carried_out(alloc, disk, core, ask, text))
+}
+
 fn step(
     alloc: Global,
     disk: &mut MemDisk,
@@ -56,8 +66,7 @@ fn step(
     trier: Trier,
     text: &mut Text,
 ) -> Result<Tried, NoMemory> {
-    let ask = trier.ask(alloc)?;
-    let answer = answered(alloc, disk, core, ask, text);
+    let answer = answered(alloc, disk, core, &trier, text)?;
     trier.feed(alloc, answer)
 }
 
@@ -78,24 +87,12 @@ fn finish(
     Ok(tried)
 }
 
-fn begun_with(alloc: Global, view: &View, goal: Goal) -> Result<Tried, NoMemory> {
+/// Begins with what a core shows.
+fn begun(alloc: Global, view: &View, goal: Goal) -> Result<Tried, NoMemory> {
     let indices = view.snapshot.indices.try_clone()?;
     let todo = view.todo.try_clone()?;
     let notes = Notes::new(alloc);
     Trier::start(alloc, goal, Rest::all(indices), Rest::all(todo), notes)
-}
-
-fn begun_behind(alloc: Global, effect: &Effect, goal: Goal) -> Result<Tried, Fail> {
-    match effect.view() {
-        Some(view) => Ok(begun_with(alloc, view, goal)?),
-        None => Err(Fail::new("no view")),
-    }
-}
-
-/// Begins with what the core shows.
-fn begun(alloc: Global, core: &mut Core, goal: Goal) -> Result<Tried, Fail> {
-    let effect = happen(alloc, core, Event::Look)?;
-    begun_behind(alloc, &effect, goal)
 }
 
 /// Puts the calls, the events and the end of a search behind a text.
@@ -106,9 +103,9 @@ pub fn put_tried(
     verb: &str,
     words: &str,
     text: &mut Text,
-) -> Result<(), Fail> {
+) -> Result<(), NoMemory> {
     let goal = goal_of(alloc, verb, words)?;
-    let tried = begun(alloc, core, goal)?;
+    let tried = begun(alloc, core.look(), goal)?;
     let end = finish(alloc, disk, core, tried, text)?;
     put_end(text, &end);
     Ok(())
