@@ -123,6 +123,18 @@ impl Core {
         &self.state.journal
     }
 
+    /// The same by itself, when the core is no longer of use.
+    pub fn into_journal(self) -> Journal
+        ensures entries { entries_of result ≡ self.entries }
+        ensures legal { IsLegal self.opening self.entries }
+        ensures opened { IsOpened self.opening }
+        ensures possible { IsPossible self.opening self.entries }
+        ensures complete { IsComplete self.entries }
+    {
+        let Core { opening: _, state } = self;
+        state.into_journal()
+    }
+
     /// Whether the handle of a seat is stable, where one is registered.
     pub fn handle(&self, seat: u32) -> Option<bool>
         ensures handle { result ≡ registered (present self.now).handles seat }

@@ -80,6 +80,20 @@ fn refreshes_in(answer: &Result<Effect, Refusal>) -> usize
 }
 
 impl State {
+    /// Its journal alone.
+    pub(crate) fn into_journal(self) -> Journal
+        ensures journal { result ≡ self.journal }
+    {
+        let State {
+            shape: _,
+            view: _,
+            passed: _,
+            refreshes: _,
+            journal,
+        } = self;
+        journal
+    }
+
     /// The state of a core that was just made, with an empty journal.
     pub(crate) fn opening(
         alloc: Global,
