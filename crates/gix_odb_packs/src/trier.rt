@@ -166,7 +166,7 @@ impl Trier {
         }
     }
 
-    /// What it comes to behind the answer to what it asked for. An answer to something else changes nothing.
+    /// What it comes to behind the answer to what it asked for. An answer of the other kind, of the disk or of the core, leaves the stage.
     pub fn feed(self, alloc: Global, answer: Answer) -> Result<Tried, NoMemory>
         ensures fed { IfOk result (λ tried. tried ≡ order.fed self answer) }
     {
