@@ -17,9 +17,11 @@ use Rattle.gix_odb.specs.declared.call.CallError.TheVariants as call_errors
 use Rattle.gix_odb.specs.declared.init.Error as opening
 use Rattle.gix_odb.specs.declared.init.Error.TheVariants as opening_errors
 use Rattle.gix_odb.specs.declared.find.Header.{Header}
-use Rattle.gix_odb.specs.declared.find.Header.TheVariants.{Loose}
+use Rattle.gix_odb.specs.declared.find.Header.TheVariants.{Loose, Packed}
 use Rattle.gix_odb.specs.declared.find.Error as finding
 use Rattle.gix_odb.specs.declared.find.Error.TheVariants as find_errors
+use Rattle.gix_odb.specs.declared.load_index.Error as load_index
+use Rattle.gix_odb.specs.declared.load_index.Error.TheVariants as load_index_errors
 use Rattle.gix_odb.specs.declared.write.Error as writing
 use Rattle.gix_odb.specs.declared.write.Error.TheVariants as write_errors
 use Rattle.gix_odb_loose.specs.declared.write.Error as loose_write
@@ -58,8 +60,22 @@ loose_text (loose_errors.Io action path) = codes "io " ++ text_of path
 loose_text (loose_errors.OutOfMemory size) = codes "out-of-memory " ++ decimal size
 loose_text loose_errors.NoMemory = codes "no-memory"
 
+abbrev pub load_index_text : load_index.Error → List ℕ
+load_index_text load_index_errors.Io = codes "io"
+load_index_text (load_index_errors.InsufficientSlots current needed) = (codes "insufficient-slots " ++ decimal current) ++ (codes " " ++ decimal needed)
+load_index_text load_index_errors.GenerationOverflow = codes "generation-overflow"
+load_index_text (load_index_errors.Unsettled begun own now) =
+    (codes "unsettled " ++ decimal begun) ++ (codes " " ++ decimal own) ++ (codes " " ++ decimal now)
+load_index_text load_index_errors.NoMemory = codes "no-memory"
+
 abbrev pub find_text : finding.Error → List ℕ
 find_text (find_errors.Loose error) = codes "loose " ++ loose_text error
+find_text find_errors.Pack = codes "pack"
+find_text (find_errors.LoadIndex error) = codes "load-index " ++ load_index_text error
+find_text find_errors.LoadPack = codes "load-pack"
+find_text (find_errors.EntryType code) = codes "entry-type " ++ decimal code
+find_text find_errors.DeltaEntry = codes "delta-entry"
+find_text (find_errors.OutOfMemory size) = codes "out-of-memory " ++ decimal size
 find_text find_errors.NoMemory = codes "no-memory"
 
 abbrev pub loose_write_text : loose_write.Error → List ℕ
@@ -80,6 +96,7 @@ error_text (call_errors.Write error) = codes "write " ++ write_text error
 
 abbrev pub header_text : Header → List ℕ
 header_text (Loose kind size) = kind_word kind ++ codes " " ++ decimal size ++ codes " loose"
+header_text (Packed kind size) = kind_word kind ++ codes " " ++ decimal size ++ codes " packed"
 
 abbrev pub yes_or_no : Bool → List ℕ
 yes_or_no true = codes "yes"

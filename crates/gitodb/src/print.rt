@@ -1,9 +1,12 @@
 //! The lines that are written for outcomes.
-ghost use Rattle.std.specs.Prelude.{◌≡◌, ◌++◌, OnOk};
-ghost use Rattle.gitodb.specs.Print.{printed, reply_text, error_text, opening_text, find_text, loose_text, sizes_text, write_text, loose_write_text, header_text, yes_or_no, why_text, data_text};
+ghost use Rattle.std.specs.Prelude.{◌≡◌, ◌++◌, codes, OnOk};
+ghost use Rattle.std.specs.Fmt.{decimal};
+ghost use Rattle.gix_object.specs.Kind.{kind_word};
+ghost use Rattle.gitodb.specs.Print.{printed, reply_text, error_text, opening_text, find_text, load_index_text, loose_text, sizes_text, write_text, loose_write_text, header_text, yes_or_no, why_text, data_text};
 
 use gix_hash::ObjectId;
 use gix_object::Kind;
+use gix_odb::load_index;
 use gix_odb_loose as loose;
 use gix_odb_world::{CallError, Outcome, Reply, Why, find, init, write};
 use odb_base::NoMemory;
@@ -89,10 +92,24 @@ fn print_refusal(alloc: Global, out: &mut Vec<u8>, error: &CallError) -> Result<
 fn print_header(alloc: Global, out: &mut Vec<u8>, header: find::Header) -> Result<(), NoMemory>
     ensures ok { OnOk result (out.new.items ≡ out.old.items ++ header_text header) }
 {
-    let find::Header::Loose { kind, size } = header;
+    match header {
+        find::Header::Loose { kind, size } => print_standing(alloc, out, kind, size, b" loose"),
+        find::Header::Packed { kind, size } => print_standing(alloc, out, kind, size, b" packed"),
+    }
+}
+
+fn print_standing(
+    alloc: Global,
+    out: &mut Vec<u8>,
+    kind: Kind,
+    size: u64,
+    place: &[u8],
+) -> Result<(), NoMemory>
+    ensures ok { OnOk result (out.new.items ≡ out.old.items ++ (kind_word kind ++ codes " " ++ decimal size ++ place.now)) }
+{
     text(out, kind.as_bytes())?;
     labelled(alloc, out, b" ", size)?;
-    text(out, b" loose")
+    text(out, place)
 }
 
 fn yes_or_no(is_yes: bool) -> &'static [u8]
@@ -109,11 +126,7 @@ fn print_error(alloc: Global, out: &mut Vec<u8>, error: &CallError) -> Result<()
             text(out, b"open ")?;
             print_opening_error(alloc, out, error)
         }
-        CallError::Find(find::Error::Loose(error)) => {
-            text(out, b"loose ")?;
-            print_loose_error(alloc, out, error)
-        }
-        CallError::Find(find::Error::NoMemory) => text(out, b"no-memory"),
+        CallError::Find(error) => print_find_error(alloc, out, error),
         CallError::Write(error) => {
             text(out, b"write ")?;
             print_write_error(alloc, out, error)
@@ -133,6 +146,50 @@ fn print_opening_error(
         init::Error::TooManySlots { asked } => labelled(alloc, out, b"too-many-slots ", *asked),
         init::Error::Io => text(out, b"io"),
         init::Error::NoMemory => text(out, b"no-memory"),
+    }
+}
+
+fn print_find_error(alloc: Global, out: &mut Vec<u8>, error: &find::Error) -> Result<(), NoMemory>
+    ensures ok { OnOk result (out.new.items ≡ out.old.items ++ find_text error.now) }
+{
+    match error {
+        find::Error::Loose(error) => {
+            text(out, b"loose ")?;
+            print_loose_error(alloc, out, error)
+        }
+        find::Error::LoadIndex(error) => {
+            text(out, b"load-index ")?;
+            print_load_index_error(alloc, out, error)
+        }
+        find::Error::Pack => text(out, b"pack"),
+        find::Error::LoadPack => text(out, b"load-pack"),
+        find::Error::EntryType { code } => labelled(alloc, out, b"entry-type ", u64::from(*code)),
+        find::Error::DeltaEntry => text(out, b"delta-entry"),
+        find::Error::OutOfMemory { size } => labelled(alloc, out, b"out-of-memory ", *size),
+        find::Error::NoMemory => text(out, b"no-memory"),
+    }
+}
+
+fn print_load_index_error(
+    alloc: Global,
+    out: &mut Vec<u8>,
+    error: &load_index::Error,
+) -> Result<(), NoMemory>
+    ensures ok { OnOk result (out.new.items ≡ out.old.items ++ load_index_text error.now) }
+{
+    match error {
+        load_index::Error::Io => text(out, b"io"),
+        load_index::Error::InsufficientSlots { current, needed } => {
+            labelled(alloc, out, b"insufficient-slots ", *current as u64)?;
+            labelled(alloc, out, b" ", *needed as u64)
+        }
+        load_index::Error::GenerationOverflow => text(out, b"generation-overflow"),
+        load_index::Error::Unsettled { begun, own, now } => {
+            labelled(alloc, out, b"unsettled ", *begun)?;
+            labelled(alloc, out, b" ", *own)?;
+            labelled(alloc, out, b" ", *now)
+        }
+        load_index::Error::NoMemory => text(out, b"no-memory"),
     }
 }
 

@@ -1,6 +1,7 @@
 //! What a header tells, and why a find, a look for a header or a test of presence was refused.
 ghost use Rattle.std.specs.Prelude.{◌≡◌, IfOk};
 
+use crate::load_index;
 use gix_object::Kind;
 use odb_base::NoMemory;
 use std::alloc::Global;
@@ -11,6 +12,8 @@ use thiserror::Error;
 pub enum Header {
     /// In a loose file. The size is in bytes.
     Loose { kind: Kind, size: u64 },
+    /// In a pack. The size is in bytes.
+    Packed { kind: Kind, size: u64 },
 }
 
 /// Why a find, a look for a header or a test of presence was refused.
@@ -19,6 +22,24 @@ pub enum Error {
     /// By the loose objects of a folder.
     #[error("{0}")]
     Loose(gix_odb_loose::find::Error),
+    /// No entry stands in the pack where the index says.
+    #[error("there is no entry where the index says")]
+    Pack,
+    /// The indices of the store could not be brought up to date.
+    #[error("{0}")]
+    LoadIndex(load_index::Error),
+    /// A pack could not be read, or its bytes are none.
+    #[error("a pack could not be read")]
+    LoadPack,
+    /// The entry has a type that is no kind.
+    #[error("{code} is no type of an entry")]
+    EntryType { code: u8 },
+    /// The entry is a delta.
+    #[error("the entry is a delta")]
+    DeltaEntry,
+    /// The size of the object in a pack is above the limit.
+    #[error("an object of {size} bytes is above the limit")]
+    OutOfMemory { size: u64 },
     #[error("out of memory")]
     NoMemory,
 }
@@ -30,6 +51,12 @@ impl Error {
     {
         match self {
             Error::Loose(error) => Ok(Error::Loose(error.try_clone(alloc)?)),
+            Error::Pack => Ok(Error::Pack),
+            Error::LoadIndex(error) => Ok(Error::LoadIndex(*error)),
+            Error::LoadPack => Ok(Error::LoadPack),
+            Error::EntryType { code } => Ok(Error::EntryType { code: *code }),
+            Error::DeltaEntry => Ok(Error::DeltaEntry),
+            Error::OutOfMemory { size } => Ok(Error::OutOfMemory { size: *size }),
             Error::NoMemory => Ok(Error::NoMemory),
         }
     }

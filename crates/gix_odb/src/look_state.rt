@@ -119,7 +119,7 @@ impl LookState {
 
 impl Head {
     // The call of a folder that is asked for the object.
-    fn asked(
+    pub(crate) fn asked(
         self,
         alloc: Global,
         folder: &PathText,
@@ -228,7 +228,7 @@ fn job_of(query: Query, id: ObjectId) -> LooseJob
 }
 
 // What a query makes of the reply to its job.
-fn verdict_on(query: Query, reply: LooseReply) -> Verdict
+pub(crate) fn verdict_on(query: Query, reply: LooseReply) -> Verdict
     ensures verdict { result ≡ looks.verdict_on query reply }
 {
     match (query, reply) {

@@ -45,7 +45,8 @@ pub record LooseCause (trees : ℕ → Tree) (Failed : Type 0) (store : Store) (
   pub among : Contains (folder_list store.parts) folder
   pub cause : Cause (job_of call id) (loose_path folder id) store.parts.limit (GaveSometime trees begun now (loose_path folder id)) Failed ⊥ error
 
--- What each error of a call says, where `Failed` says that a call of the disk failed in it.
+-- What each error of a call says, where `Failed` says that a call of the disk failed in it. Calls that ask loose folders alone end
+-- with no other.
 abbrev pub FindCause : (ℕ → Tree) → Type 0 → Store → ℕ → ℕ → Query → ObjectId → finding.Error → Type 0
 FindCause trees Failed store begun now call id (find_errors.Loose error) = LooseCause trees Failed store begun now call id error
-FindCause trees Failed store begun now call id find_errors.NoMemory = ⊥
+FindCause trees Failed store begun now call id error = ⊥

@@ -1,0 +1,48 @@
+//! Why the indices of a store could not be brought up to date.
+ghost use Rattle.std.specs.Prelude.{◌≡◌};
+ghost use Rattle.gix_odb.specs.LoadIndex.{of_refusal};
+
+use gix_odb_core::Refusal;
+use thiserror::Error;
+
+/// Why the indices of a store could not be brought up to date.
+#[derive(Clone, Copy, Debug, Error)]
+pub enum Error {
+    /// A call of the disk failed; or the folder of packs, or a part of its way, is of the wrong kind or a link loop.
+    #[error("the folders of packs could not be listed")]
+    Io,
+    /// A listing has more new indices than slots are free.
+    #[error("{current} slots are too few: {needed} more are needed")]
+    InsufficientSlots {
+        current: usize,
+        needed: usize,
+    },
+    /// A number of the store's core cannot rise any more.
+    #[error("the generation or the state number cannot rise any more")]
+    GenerationOverflow,
+    /// Others published more lists during the call than it may meet.
+    #[error("the list of packs went from {begun} to {now} during the call, and {own} of these lists were its own")]
+    Unsettled {
+        /// The number of the list when the call began.
+        begun: u64,
+        /// How many lists the call published itself.
+        own: u64,
+        /// The number of the list now.
+        now: u64,
+    },
+    #[error("out of memory")]
+    NoMemory,
+}
+
+/// The error of a call whose event was refused.
+pub(crate) fn of_refusal(refusal: Refusal) -> Error
+    ensures error { result ≡ of_refusal refusal }
+{
+    match refusal {
+        Refusal::InsufficientSlots { current, needed } => {
+            Error::InsufficientSlots { current, needed }
+        }
+        Refusal::GenerationOverflow => Error::GenerationOverflow,
+        Refusal::NoMemory => Error::NoMemory,
+    }
+}

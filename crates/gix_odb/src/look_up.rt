@@ -1,0 +1,222 @@
+//! The order of work of a look-up: the handle's snapshot, the loose folders, the list of the store's core, and listings of
+//! the folders of packs.
+ghost use Rattle.std.specs.Prelude.{◌≡◌, IfOk, [], None, Some};
+ghost use Rattle.std.specs.Option.{option_copied};
+ghost use Rattle.gix_odb.specs.LookUpOrder.{ground_of};
+ghost use Rattle.gix_odb_loose.specs.LooseOrder.{disk_ask_of};
+ghost use Rattle.gix_odb.specs.LookUpOrder as order;
+
+mod answered;
+mod parts;
+
+use crate::call::Reply;
+use crate::handle_state::StoreParts;
+use crate::query::Query;
+use gix_hash::ObjectId;
+use gix_odb_core::{Event, Listing, View};
+use gix_odb_loose::LooseCall;
+use gix_odb_packs::{Answer, Lister, Notes, PartAsk, Trier};
+use odb_base::NoMemory;
+use std::alloc::Global;
+
+/// The store that a look-up is made in: its parts, and how many lists of others the look-up may meet.
+#[derive(Clone, Copy)]
+pub struct Ground<'a> {
+    pub parts: &'a StoreParts,
+    pub max_changes: u32,
+}
+
+/// A look-up on a handle on its way.
+///
+/// `ask` names the next call of the disk or the next event of the store's core, `feed` takes its answer, and so on until
+/// the look-up has its reply.
+#[derive(Drop)]
+pub struct LookUp {
+    head: LookHead,
+    stage: LookStage,
+}
+
+/// What a look-up is for, and how many lists it met.
+#[derive(Clone, Copy)]
+pub struct LookHead {
+    pub query: Query,
+    /// The id that is sought.
+    pub id: ObjectId,
+    /// The number of the list in the first view that the core handed over.
+    pub begun: Option<u64>,
+    /// How many lists the look-up published itself.
+    pub own: u64,
+}
+
+/// Which list is tried.
+#[derive(Clone, Copy)]
+pub enum Part {
+    /// That of the handle's snapshot.
+    Snapshot,
+    /// That of the core, of a number; whether the loose folders are still to be tried before the folders are listed.
+    List { list_no: u64, loose: bool },
+    /// The one that the look-up's own listing published or confirmed, of a number.
+    Published { list_no: u64 },
+}
+
+/// What a look at the core is for.
+#[derive(Clone, Copy)]
+pub enum Purpose {
+    /// The list of the core is to be tried; whether the loose folders are, too.
+    First { loose: bool },
+    /// Whether a list that was tried is still the newest.
+    Check { list_no: u64 },
+    /// The folders are to be listed again.
+    Again,
+}
+
+/// How far a look-up has come among the loose folders.
+#[derive(Drop)]
+pub struct LooseRound {
+    /// The place of the folder that comes next, among those beside the objects directory.
+    pub next: usize,
+    pub notes: Notes,
+    /// The list that was tried before them.
+    pub part: Part,
+}
+
+/// Where a look-up stands.
+#[derive(Drop)]
+pub enum LookStage {
+    /// The indices of a list are tried.
+    Trying {
+        trier: Trier,
+        part: Part,
+    },
+    /// The loose objects of a folder are asked.
+    Loose {
+        round: LooseRound,
+        call: LooseCall,
+    },
+    /// The core is to be looked at.
+    Looking {
+        purpose: Purpose,
+        notes: Notes,
+    },
+    /// The folders of packs are listed, on the ground of a list of a number.
+    Listing {
+        lister: Lister,
+        base: u64,
+        notes: Notes,
+    },
+    /// The listing is to be published.
+    Publishing {
+        listing: Listing,
+        notes: Notes,
+    },
+    Done(Reply),
+}
+
+impl LookHead {
+    /// The first view that a look-up is handed tells where it began.
+    fn seen(self, answer: &Answer) -> LookHead
+        ensures seen { result ≡ order.seen self answer.now }
+    {
+        match (self.begun, view_in(answer)) {
+            (None, Some(view)) => LookHead {
+                begun: Some(view.list_no),
+                ..self
+            },
+            _ => self,
+        }
+    }
+}
+
+/// The view that an answer hands over.
+fn view_in(answer: &Answer) -> Option<&View>
+    ensures view { option_copied result ≡ order.view_of answer.now }
+{
+    match answer {
+        Answer::Core(Ok(effect)) => effect.view(),
+        _ => None,
+    }
+}
+
+/// The call of the disk that a folder's call asks for.
+fn loose_ask(alloc: Global, call: &LooseCall) -> Result<Option<PartAsk>, NoMemory>
+    ensures asked { IfOk result (λ ask. ask ≡ order.loose_ask (disk_ask_of call.now)) }
+{
+    match call.disk_ask(alloc)? {
+        None => Ok(None),
+        Some(ask) => Ok(Some(PartAsk::Disk(ask))),
+    }
+}
+
+impl LookUp {
+    /// A new look-up of an id, from a handle's snapshot. It asks nothing yet; where the snapshot has all that it takes, it is done.
+    pub fn start(
+        alloc: Global,
+        ground: &Ground<'_>,
+        snapshot: &View,
+        query: Query,
+        id: ObjectId,
+    ) -> Result<LookUp, NoMemory>
+        ensures begun { IfOk result (λ look. look ≡ order.started (ground_of ground.now) snapshot.now query id) }
+    {
+        let head = LookHead {
+            query,
+            id,
+            begun: None,
+            own: 0,
+        };
+        let notes = Notes::new(alloc);
+        let stage = if snapshot.read {
+            parts::try_snapshot(alloc, ground, head, snapshot, notes)?
+        } else {
+            let purpose = Purpose::First { loose: true };
+            LookStage::Looking { purpose, notes }
+        };
+        Ok(LookUp { head, stage })
+    }
+
+    /// What comes next: a call of the disk, or an event of the store's core; there is none where the look-up is done.
+    pub fn ask(&self, alloc: Global) -> Result<Option<PartAsk>, NoMemory>
+        ensures asked { IfOk result (λ ask. ask ≡ order.ask_of self.now) }
+    {
+        match &self.stage {
+            LookStage::Trying { trier, .. } => Ok(Some(trier.ask(alloc)?)),
+            LookStage::Loose { call, .. } => loose_ask(alloc, call),
+            LookStage::Looking { .. } => Ok(Some(PartAsk::Core(Event::Look))),
+            LookStage::Listing { lister, .. } => Ok(Some(PartAsk::Disk(lister.ask(alloc)?))),
+            LookStage::Publishing { listing, .. } => {
+                let listing = listing.try_clone(alloc)?;
+                Ok(Some(PartAsk::Core(Event::Publish(listing))))
+            }
+            LookStage::Done(_) => Ok(None),
+        }
+    }
+
+    /// The look-up after the answer to what it asked for, on the handle that it was started on. An answer to something else changes nothing.
+    pub fn feed(
+        self,
+        alloc: Global,
+        ground: &Ground<'_>,
+        answer: Answer,
+    ) -> Result<LookUp, NoMemory>
+        ensures fed { IfOk result (λ look. look ≡ order.fed (ground_of ground.now) self answer) }
+    {
+        let LookUp { head, stage } = self;
+        let head = head.seen(&answer);
+        match answer {
+            Answer::Disk(answer) => answered::by_disk(alloc, ground, head, stage, answer),
+            Answer::Core(Ok(effect)) => answered::by_effect(alloc, ground, head, stage, effect),
+            Answer::Core(Err(refusal)) => answered::by_refusal(alloc, ground, head, stage, refusal),
+        }
+    }
+
+    /// The reply of a look-up that is done, or the look-up that goes on.
+    pub fn into_reply(self) -> Result<Reply, LookUp>
+        ensures replied { result ≡ order.result_of self }
+    {
+        let LookUp { head, stage } = self;
+        match stage {
+            LookStage::Done(reply) => Ok(reply),
+            stage => Err(LookUp { head, stage }),
+        }
+    }
+}

@@ -1,0 +1,274 @@
+//! What comes behind an answer to a look-up.
+ghost use Rattle.std.specs.Prelude.{◌≡◌, IfOk, Some, Ok, Err};
+ghost use Rattle.std.specs.Option.{option_copied};
+ghost use Rattle.gix_odb.specs.LookUpOrder.{ground_of};
+ghost use Rattle.gix_odb.specs.LookUpOrder as order;
+ghost use Rattle.gix_odb_packs.specs.declared.answer.Answer.TheVariants as told;
+
+use super::parts::{
+    by_tried, by_verdict, ended, is_unsettled, listing_from, load_refused, try_view, unsettled,
+};
+use super::{Ground, LookHead, LookStage, LookUp, LooseRound, Part, Purpose};
+use crate::load_index::{self, of_refusal};
+use crate::look_state::verdict_on;
+use gix_odb_core::{Effect, Listing, Refusal, View};
+use gix_odb_loose::LooseCall;
+use gix_odb_packs::longest_first::longest_first;
+use gix_odb_packs::{Answer, ListStep, Lister, Notes, Trier};
+use odb_base::NoMemory;
+use odb_disk::DiskAnswer;
+use std::alloc::Global;
+
+fn at(head: LookHead, stage: LookStage) -> LookUp
+    ensures at { result ≡ order.at head stage }
+{
+    LookUp { head, stage }
+}
+
+/// What comes behind an answer of the disk.
+pub(super) fn by_disk(
+    alloc: Global,
+    ground: &Ground<'_>,
+    head: LookHead,
+    stage: LookStage,
+    answer: DiskAnswer,
+) -> Result<LookUp, NoMemory>
+    ensures fed { IfOk result (λ look. look ≡ order.fed_at (ground_of ground.now) head stage (told.Disk answer)) }
+{
+    let stage = match stage {
+        LookStage::Trying { trier, part } => {
+            by_trier(alloc, ground, head, trier, part, Answer::Disk(answer))?
+        }
+        LookStage::Loose { round, call } => by_call(alloc, ground, head, round, call, answer)?,
+        LookStage::Listing {
+            lister,
+            base,
+            notes,
+        } => by_lister(alloc, ground, lister, base, notes, answer)?,
+        stage => stage,
+    };
+    Ok(at(head, stage))
+}
+
+/// What comes behind an event that wasn't refused.
+pub(super) fn by_effect(
+    alloc: Global,
+    ground: &Ground<'_>,
+    head: LookHead,
+    stage: LookStage,
+    effect: Effect,
+) -> Result<LookUp, NoMemory>
+    ensures fed { IfOk result (λ look. look ≡ order.fed_at (ground_of ground.now) head stage (told.Core (Ok effect))) }
+{
+    match stage {
+        LookStage::Trying { trier, part } => {
+            let answer = Answer::Core(Ok(effect));
+            Ok(at(head, by_trier(alloc, ground, head, trier, part, answer)?))
+        }
+        LookStage::Looking { purpose, notes } => {
+            Ok(at(head, by_look(alloc, ground, head, purpose, notes, &effect)?))
+        }
+        LookStage::Publishing { listing, notes } => {
+            by_published(alloc, ground, head, listing, notes, &effect)
+        }
+        stage => Ok(at(head, stage)),
+    }
+}
+
+/// What comes behind an event that was refused.
+pub(super) fn by_refusal(
+    alloc: Global,
+    ground: &Ground<'_>,
+    head: LookHead,
+    stage: LookStage,
+    refusal: Refusal,
+) -> Result<LookUp, NoMemory>
+    ensures fed { IfOk result (λ look. look ≡ order.fed_at (ground_of ground.now) head stage (told.Core (Err refusal))) }
+{
+    match stage {
+        LookStage::Trying { trier, part } => {
+            let answer = Answer::Core(Err(refusal));
+            Ok(at(head, by_trier(alloc, ground, head, trier, part, answer)?))
+        }
+        LookStage::Looking { .. } | LookStage::Publishing { .. } => {
+            Ok(at(head, LookStage::Done(load_refused(of_refusal(refusal)))))
+        }
+        stage => Ok(at(head, stage)),
+    }
+}
+
+fn by_trier(
+    alloc: Global,
+    ground: &Ground<'_>,
+    head: LookHead,
+    trier: Trier,
+    part: Part,
+    answer: Answer,
+) -> Result<LookStage, NoMemory>
+    ensures by { IfOk result (λ stage. stage ≡ order.by_tried (ground_of ground.now) head part (order.trier_fed trier answer)) }
+{
+    let tried = trier.feed(alloc, answer)?;
+    by_tried(alloc, ground, head, part, tried)
+}
+
+/// What comes behind a step of a folder's call.
+fn by_call(
+    alloc: Global,
+    ground: &Ground<'_>,
+    head: LookHead,
+    round: LooseRound,
+    call: LooseCall,
+    answer: DiskAnswer,
+) -> Result<LookStage, NoMemory>
+    ensures by { IfOk result (λ stage. stage ≡ order.by_call (ground_of ground.now) head round (order.loose_fed call answer)) }
+{
+    match call.feed(alloc, answer)?.into_reply() {
+        Ok(reply) => by_verdict(alloc, ground, head, round, verdict_on(head.query, reply)),
+        Err(call) => Ok(LookStage::Loose { round, call }),
+    }
+}
+
+/// What comes behind a step of a listing.
+fn by_lister(
+    alloc: Global,
+    ground: &Ground<'_>,
+    lister: Lister,
+    base: u64,
+    notes: Notes,
+    answer: DiskAnswer,
+) -> Result<LookStage, NoMemory>
+    ensures by { IfOk result (λ stage. stage ≡ order.by_listed base notes (order.lister_fed (ground_of ground.now) lister answer)) }
+{
+    match lister.feed(alloc, ground.parts.folders.as_slice(), answer)? {
+        ListStep::More(lister) => Ok(LookStage::Listing {
+            lister,
+            base,
+            notes,
+        }),
+        ListStep::Rows(rows) => {
+            let rows = longest_first(rows)?;
+            let listing = Listing { base, rows };
+            Ok(LookStage::Publishing { listing, notes })
+        }
+        ListStep::Broken => Ok(LookStage::Done(load_refused(load_index::Error::Io))),
+    }
+}
+
+/// What comes behind a look at the core.
+fn by_look(
+    alloc: Global,
+    ground: &Ground<'_>,
+    head: LookHead,
+    purpose: Purpose,
+    notes: Notes,
+    effect: &Effect,
+) -> Result<LookStage, NoMemory>
+    ensures by { IfOk result (λ stage. stage ≡ order.by_look (ground_of ground.now) head purpose notes (order.view_shown effect.now)) }
+{
+    let Some(view) = effect.view() else {
+        return Ok(LookStage::Looking { purpose, notes });
+    };
+    match purpose {
+        Purpose::First { loose } => by_first(alloc, ground, head, loose, view, notes),
+        Purpose::Check { list_no } => by_check(alloc, ground, head, list_no, view, notes),
+        Purpose::Again => listing_from(alloc, ground, view.list_no, notes),
+    }
+}
+
+fn by_first(
+    alloc: Global,
+    ground: &Ground<'_>,
+    head: LookHead,
+    loose: bool,
+    view: &View,
+    notes: Notes,
+) -> Result<LookStage, NoMemory>
+    ensures by { IfOk result (λ stage. stage ≡ order.by_first (ground_of ground.now) head loose view.now notes) }
+{
+    let list_no = view.list_no;
+    if view.read {
+        let part = Part::List { list_no, loose };
+        try_view(alloc, ground, head, part, view, notes)
+    } else {
+        listing_from(alloc, ground, list_no, notes)
+    }
+}
+
+fn by_check(
+    alloc: Global,
+    ground: &Ground<'_>,
+    head: LookHead,
+    list_no: u64,
+    view: &View,
+    notes: Notes,
+) -> Result<LookStage, NoMemory>
+    ensures by { IfOk result (λ stage. stage ≡ order.by_check (ground_of ground.now) head list_no view.now notes) }
+{
+    let now = view.list_no;
+    if now == list_no {
+        Ok(ended(head.query, &notes))
+    } else if is_unsettled(ground, head, now) {
+        Ok(unsettled(head, now))
+    } else {
+        listing_from(alloc, ground, now, notes)
+    }
+}
+
+impl LookHead {
+    /// One list more is the look-up's own.
+    fn with_own(self) -> LookHead
+        ensures own { result ≡ order.with_own self }
+    {
+        LookHead {
+            own: self.own.saturating_add(1),
+            ..self
+        }
+    }
+}
+
+/// What comes behind a listing that was handed to the core.
+fn by_published(
+    alloc: Global,
+    ground: &Ground<'_>,
+    head: LookHead,
+    listing: Listing,
+    notes: Notes,
+    effect: &Effect,
+) -> Result<LookUp, NoMemory>
+    ensures by { IfOk result (λ look. look ≡ order.by_published (ground_of ground.now) head listing notes effect.now) }
+{
+    match effect {
+        Effect::Published(view) => try_published(alloc, ground, head.with_own(), view, notes),
+        Effect::Unchanged(view) => try_published(alloc, ground, head, view, notes),
+        Effect::Outdated { list_no } => Ok(at(head, outdated(ground, head, *list_no, notes))),
+        _ => Ok(at(head, LookStage::Publishing { listing, notes })),
+    }
+}
+
+fn try_published(
+    alloc: Global,
+    ground: &Ground<'_>,
+    head: LookHead,
+    view: &View,
+    notes: Notes,
+) -> Result<LookUp, NoMemory>
+    ensures tries { IfOk result (λ look. look ≡ order.at head (order.try_view (ground_of ground.now) head (Part.Published view.now.list_no) view.now view.now.todo notes)) }
+{
+    let part = Part::Published {
+        list_no: view.list_no,
+    };
+    Ok(at(head, try_view(alloc, ground, head, part, view, notes)?))
+}
+
+/// Another list was published since the listing began.
+fn outdated(ground: &Ground<'_>, head: LookHead, now: u64, notes: Notes) -> LookStage
+    ensures counted { result ≡ order.counted (ground_of ground.now) head now (LookStage.Looking Purpose.Again notes) }
+{
+    if is_unsettled(ground, head, now) {
+        return unsettled(head, now);
+    }
+    LookStage::Looking {
+        purpose: Purpose::Again,
+        notes,
+    }
+}
