@@ -39,40 +39,40 @@ use Rattle.gix_odb.specs.declared.look_up.Purpose.{Purpose}
 use Rattle.gix_odb.specs.declared.look_up.Purpose.TheVariants as purposes
 use Rattle.gix_odb_packs.specs.declared.trier.Trier.{Trier}
 pub use Rattle.gix_odb.specs.LookUpOrder.Replies.{load_refused, find_error, reply_found, not_found, ended}
-pub use Rattle.gix_odb.specs.LookUpOrder.Parts.{Ground, ground_of, wanted_by, goal_of, loose_from, listing_from, after_list, after_loose, by_tried, try_view}
+pub use Rattle.gix_odb.specs.LookUpOrder.Parts.{Setting, setting_of, wanted_by, goal_of, loose_from, listing_from, after_list, after_loose, by_tried, try_view}
 pub use Rattle.gix_odb.specs.LookUpOrder.Parts.{without_notes, new_head, started, at_folder, by_verdict, by_reply, by_call, is_unsettled, unsettled, counted}
 
 -- ---- the core's answers
 
 -- the first look at the core: its list is tried where it has one, else the folders of packs are listed
-abbrev pub by_first : Ground → LookHead → (loose : Bool) → View → Notes → LookStage
-by_first ground head loose view notes =
-    if view.read then try_view ground head (parts.List view.list_no loose) view view.todo notes else listing_from ground view.list_no notes
+abbrev pub by_first : Setting → LookHead → (loose : Bool) → View → Notes → LookStage
+by_first setting head loose view notes =
+    if view.read then try_view setting head (parts.List view.list_no loose) view view.todo notes else listing_from setting view.list_no notes
 
 -- the list that was tried is the newest, and the look-up ends; or it is counted, and the folders are listed again
-abbrev pub by_check : Ground → LookHead → (list_no : ℕ) → View → Notes → LookStage
-by_check ground head list_no view notes =
-    if view.list_no == list_no then ended head.query notes else counted ground head view.list_no (listing_from ground view.list_no notes)
+abbrev pub by_check : Setting → LookHead → (list_no : ℕ) → View → Notes → LookStage
+by_check setting head list_no view notes =
+    if view.list_no == list_no then ended head.query notes else counted setting head view.list_no (listing_from setting view.list_no notes)
 
-abbrev pub by_look : Ground → LookHead → Purpose → Notes → Option View → LookStage
-by_look ground head purpose notes None = stages.Looking purpose notes
-by_look ground head (purposes.First loose) notes (Some view) = by_first ground head loose view notes
-by_look ground head (purposes.Check list_no) notes (Some view) = by_check ground head list_no view notes
-by_look ground head purposes.Again notes (Some view) = listing_from ground view.list_no notes
+abbrev pub by_look : Setting → LookHead → Purpose → Notes → Option View → LookStage
+by_look setting head purpose notes None = stages.Looking purpose notes
+by_look setting head (purposes.First loose) notes (Some view) = by_first setting head loose view notes
+by_look setting head (purposes.Check list_no) notes (Some view) = by_check setting head list_no view notes
+by_look setting head purposes.Again notes (Some view) = listing_from setting view.list_no notes
 
 -- one list more is the call's own
 abbrev pub with_own : LookHead → LookHead
 with_own head = record head { own = min (head.own + 1) last_state }
 
--- what a publish comes to: the list is tried; or another one was published since the listing began, which is counted
-abbrev pub by_published : Ground → LookHead → Listing → Notes → Effect → LookUp
-by_published ground head listing notes (effects.Published view) = record {
+-- what a publish comes to: the list is tried; or another one was published since the look before the listing, which is counted
+abbrev pub by_published : Setting → LookHead → Listing → Notes → Effect → LookUp
+by_published setting head listing notes (effects.Published view) = record {
   head = with_own head;
-  stage = try_view ground (with_own head) (parts.Published view.list_no) view view.todo notes;
+  stage = try_view setting (with_own head) (parts.Published view.list_no) view view.todo notes;
 }
-by_published ground head listing notes (effects.Unchanged view) = record { head = head; stage = try_view ground head (parts.Published view.list_no) view view.todo notes }
-by_published ground head listing notes (effects.Outdated list_no) = record { head = head; stage = counted ground head list_no (stages.Looking purposes.Again notes) }
-by_published ground head listing notes effect = record { head = head; stage = stages.Publishing listing notes }
+by_published setting head listing notes (effects.Unchanged view) = record { head = head; stage = try_view setting head (parts.Published view.list_no) view view.todo notes }
+by_published setting head listing notes (effects.Outdated list_no) = record { head = head; stage = counted setting head list_no (stages.Looking purposes.Again notes) }
+by_published setting head listing notes effect = record { head = head; stage = stages.Publishing listing notes }
 
 abbrev pub by_listed : (base : ℕ) → Notes → ListStep → LookStage
 by_listed base notes (listed.More lister) = stages.Listing lister base notes
@@ -84,8 +84,8 @@ by_listed base notes listed.Broken = stages.Done (load_refused load_errors.Io)
 abbrev pub trier_fed : Trier → Answer → Tried
 trier_fed = tries.fed
 
-abbrev pub lister_fed : Ground → Lister → DiskAnswer → ListStep
-lister_fed ground lister answer = lists.fed ground.folders lister answer
+abbrev pub lister_fed : Setting → Lister → DiskAnswer → ListStep
+lister_fed setting lister answer = lists.fed setting.folders lister answer
 
 abbrev pub loose_fed : LooseCall → DiskAnswer → LooseCall
 loose_fed = loose_order.fed
@@ -126,19 +126,19 @@ seen head answer = record head { begun = first_of head.begun (view_of answer) }
 abbrev pub at : LookHead → LookStage → LookUp
 at head stage = record { head = head; stage = stage }
 
--- an answer to something else than what was asked for changes nothing
-abbrev pub fed_at : Ground → LookHead → LookStage → Answer → LookUp
-fed_at ground head (stages.Trying trier part) answer = at head (by_tried ground head part (trier_fed trier answer))
-fed_at ground head (stages.Loose round call) (told.Disk answer) = at head (by_call ground head round (loose_fed call answer))
-fed_at ground head (stages.Listing lister base notes) (told.Disk answer) = at head (by_listed base notes (lister_fed ground lister answer))
-fed_at ground head (stages.Looking purpose notes) (told.Core (Ok effect)) = at head (by_look ground head purpose notes (view_shown effect))
-fed_at ground head (stages.Looking purpose notes) (told.Core (Err refusal)) = at head (stages.Done (load_refused (of_refusal refusal)))
-fed_at ground head (stages.Publishing listing notes) (told.Core (Ok effect)) = by_published ground head listing notes effect
-fed_at ground head (stages.Publishing listing notes) (told.Core (Err refusal)) = at head (stages.Done (load_refused (of_refusal refusal)))
-fed_at ground head stage answer = at head stage
+-- an answer of the other kind, of the disk or of the core, leaves the stage
+abbrev pub fed_at : Setting → LookHead → LookStage → Answer → LookUp
+fed_at setting head (stages.Trying trier part) answer = at head (by_tried setting head part (trier_fed trier answer))
+fed_at setting head (stages.Loose round call) (told.Disk answer) = at head (by_call setting head round (loose_fed call answer))
+fed_at setting head (stages.Listing lister base notes) (told.Disk answer) = at head (by_listed base notes (lister_fed setting lister answer))
+fed_at setting head (stages.Looking purpose notes) (told.Core (Ok effect)) = at head (by_look setting head purpose notes (view_shown effect))
+fed_at setting head (stages.Looking purpose notes) (told.Core (Err refusal)) = at head (stages.Done (load_refused (of_refusal refusal)))
+fed_at setting head (stages.Publishing listing notes) (told.Core (Ok effect)) = by_published setting head listing notes effect
+fed_at setting head (stages.Publishing listing notes) (told.Core (Err refusal)) = at head (stages.Done (load_refused (of_refusal refusal)))
+fed_at setting head stage answer = at head stage
 
-abbrev pub fed : Ground → LookUp → Answer → LookUp
-fed ground look answer = fed_at ground (seen look.head answer) look.stage answer
+abbrev pub fed : Setting → LookUp → Answer → LookUp
+fed setting look answer = fed_at setting (seen look.head answer) look.stage answer
 
 abbrev pub result_at : LookHead → LookStage → Result Reply LookUp
 result_at head (stages.Done reply) = Ok reply

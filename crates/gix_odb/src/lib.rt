@@ -28,6 +28,6 @@ pub use call_state::CallState;
 pub use handle_state::{HandleState, StoreParts};
 pub use init::{IdPairs, Options, PathList, Slots, copy_of_pairs, copy_of_paths};
 pub use look_state::LookState;
-pub use look_up::{Ground, LookHead, LookStage, LookUp, LooseRound, Part, Purpose};
+pub use look_up::{LookHead, LookStage, LookUp, LooseRound, Part, Purpose, Setting};
 pub use open_state::OpenState;
 pub use query::Query;

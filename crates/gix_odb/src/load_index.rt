@@ -9,7 +9,7 @@ use thiserror::Error;
 #[derive(Clone, Copy, Debug, Error)]
 pub enum Error {
     /// A call of the disk failed; or the folder of packs, or a part of its way, is of the wrong kind or a link loop.
-    #[error("the folders of packs could not be listed")]
+    #[error("a call of the disk failed, or a folder of packs is none")]
     Io,
     /// A listing has more new indices than slots are free.
     #[error("{current} slots are too few: {needed} more are needed")]
@@ -23,7 +23,7 @@ pub enum Error {
     /// Others published more lists during the call than it may meet.
     #[error("the list of packs went from {begun} to {now} during the call, and {own} of these lists were its own")]
     Unsettled {
-        /// The number of the list when the call began.
+        /// The number of the list at the call's first event.
         begun: u64,
         /// How many lists the call published itself.
         own: u64,

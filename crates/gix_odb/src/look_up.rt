@@ -2,7 +2,7 @@
 //! the folders of packs.
 ghost use Rattle.std.specs.Prelude.{◌≡◌, IfOk, [], None, Some};
 ghost use Rattle.std.specs.Option.{option_copied};
-ghost use Rattle.gix_odb.specs.LookUpOrder.{ground_of};
+ghost use Rattle.gix_odb.specs.LookUpOrder.{setting_of};
 ghost use Rattle.gix_odb_loose.specs.LooseOrder.{disk_ask_of};
 ghost use Rattle.gix_odb.specs.LookUpOrder as order;
 
@@ -13,7 +13,7 @@ use crate::call::Reply;
 use crate::handle_state::StoreParts;
 use crate::query::Query;
 use gix_hash::ObjectId;
-use gix_odb_core::{Event, Listing, View};
+use gix_odb_core::{Event, Listing, Refusal, View};
 use gix_odb_loose::LooseCall;
 use gix_odb_packs::{Answer, Lister, Notes, PartAsk, Trier};
 use odb_base::NoMemory;
@@ -21,7 +21,7 @@ use std::alloc::Global;
 
 /// The store that a look-up is made in: its parts, and how many lists of others the look-up may meet.
 #[derive(Clone, Copy)]
-pub struct Ground<'a> {
+pub struct Setting<'a> {
     pub parts: &'a StoreParts,
     pub max_changes: u32,
 }
@@ -98,7 +98,7 @@ pub enum LookStage {
         purpose: Purpose,
         notes: Notes,
     },
-    /// The folders of packs are listed, on the ground of a list of a number.
+    /// The folders of packs are listed, behind a list of a number.
     Listing {
         lister: Lister,
         base: u64,
@@ -151,12 +151,12 @@ impl LookUp {
     /// A new look-up of an id, from a handle's snapshot. It asks nothing yet; where the snapshot has all that it takes, it is done.
     pub fn start(
         alloc: Global,
-        ground: &Ground<'_>,
+        setting: &Setting<'_>,
         snapshot: &View,
         query: Query,
         id: ObjectId,
     ) -> Result<LookUp, NoMemory>
-        ensures begun { IfOk result (λ look. look ≡ order.started (ground_of ground.now) snapshot.now query id) }
+        ensures begun { IfOk result (λ look. look ≡ order.started (setting_of setting.now) snapshot.now query id) }
     {
         let head = LookHead {
             query,
@@ -166,7 +166,7 @@ impl LookUp {
         };
         let notes = Notes::new(alloc);
         let stage = if snapshot.read {
-            parts::try_snapshot(alloc, ground, head, snapshot, notes)?
+            parts::try_snapshot(alloc, setting, head, snapshot, notes)?
         } else {
             let purpose = Purpose::First { loose: true };
             LookStage::Looking { purpose, notes }
@@ -191,21 +191,24 @@ impl LookUp {
         }
     }
 
-    /// The look-up after the answer to what it asked for, on the handle that it was started on. An answer to something else changes nothing.
+    /// The look-up after the answer to what it asked for, on the handle that it was started on. An answer of the other kind, of the disk or of the core, leaves the stage.
     pub fn feed(
         self,
         alloc: Global,
-        ground: &Ground<'_>,
+        setting: &Setting<'_>,
         answer: Answer,
     ) -> Result<LookUp, NoMemory>
-        ensures fed { IfOk result (λ look. look ≡ order.fed (ground_of ground.now) self answer) }
+        ensures fed { IfOk result (λ look. look ≡ order.fed (setting_of setting.now) self answer) }
     {
         let LookUp { head, stage } = self;
         let head = head.seen(&answer);
         match answer {
-            Answer::Disk(answer) => answered::by_disk(alloc, ground, head, stage, answer),
-            Answer::Core(Ok(effect)) => answered::by_effect(alloc, ground, head, stage, effect),
-            Answer::Core(Err(refusal)) => answered::by_refusal(alloc, ground, head, stage, refusal),
+            Answer::Disk(answer) => answered::by_disk(alloc, setting, head, stage, answer),
+            Answer::Core(Ok(effect)) => answered::by_effect(alloc, setting, head, stage, effect),
+            Answer::Core(Err(Refusal::NoMemory)) => Err(NoMemory),
+            Answer::Core(Err(refusal)) => answered::by_refusal(
+                alloc, setting, head, stage, refusal,
+            ),
         }
     }
 

@@ -22,7 +22,7 @@ use Rattle.gix_odb.specs.declared.call.Reply.TheVariants as replies
 use Rattle.gix_odb.specs.declared.load_index.Error.TheVariants as load_errors
 use Rattle.gix_odb.specs.declared.look_state.Verdict.{Verdict}
 use Rattle.gix_odb.specs.declared.look_state.Verdict.TheVariants as verdicts
-use Rattle.gix_odb.specs.declared.look_up.Ground as declared
+use Rattle.gix_odb.specs.declared.look_up.Setting as declared
 use Rattle.gix_odb.specs.declared.look_up.LookHead.{LookHead}
 use Rattle.gix_odb.specs.declared.look_up.LookStage.{LookStage}
 use Rattle.gix_odb.specs.declared.look_up.LookStage.TheVariants as stages
@@ -37,18 +37,18 @@ use Rattle.gix_odb.specs.LookUpOrder.Replies.{load_refused, find_error, reply_fo
 
 -- what a look-up is told of the store that it is made in: the objects directory, the other folders, the limit on found objects, and how
 -- many lists of others it may meet
-pub record Ground : Type 0 where
+pub record Setting : Type 0 where
   pub objects : Path
   pub folders : List Path
   pub limit : Option ℕ
   pub most : ℕ
 
-abbrev pub ground_of : declared.Ground → Ground
-ground_of ground = record {
-  objects = ground.parts.now.objects;
-  folders = ground.parts.now.folders;
-  limit = ground.parts.now.alloc_limit_bytes;
-  most = ground.max_changes;
+abbrev pub setting_of : declared.Setting → Setting
+setting_of setting = record {
+  objects = setting.parts.now.objects;
+  folders = setting.parts.now.folders;
+  limit = setting.parts.now.alloc_limit_bytes;
+  most = setting.max_changes;
 }
 
 abbrev pub wanted_by : Query → Wanted
@@ -56,42 +56,42 @@ wanted_by (Find id) = wanted.Object
 wanted_by (Header id) = wanted.Header
 wanted_by (Test id) = wanted.Presence
 
-abbrev pub goal_of : Ground → LookHead → Goal
-goal_of ground head = record { id = head.id; wanted = wanted_by head.query; limit = ground.limit }
+abbrev pub goal_of : Setting → LookHead → Goal
+goal_of setting head = record { id = head.id; wanted = wanted_by head.query; limit = setting.limit }
 
 -- the loose objects of the first folder are asked
-abbrev pub loose_from : Ground → LookHead → Part → Notes → LookStage
-loose_from ground head part notes =
-    stages.Loose (record { next = 0; notes = notes; part = part }) (asking ground.limit head.query head.id ground.objects)
+abbrev pub loose_from : Setting → LookHead → Part → Notes → LookStage
+loose_from setting head part notes =
+    stages.Loose (record { next = 0; notes = notes; part = part }) (asking setting.limit head.query head.id setting.objects)
 
 -- a listing begins; which packs were absent before it is forgotten
-abbrev pub listing_from : Ground → (base : ℕ) → Notes → LookStage
-listing_from ground base notes = stages.Listing (lists.started ground.objects) base (record notes { absent = [] })
+abbrev pub listing_from : Setting → (base : ℕ) → Notes → LookStage
+listing_from setting base notes = stages.Listing (lists.started setting.objects) base (record notes { absent = [] })
 
--- behind the indices of a list come the loose folders, unless they were tried before; then the folders of packs are listed
-abbrev pub after_list : Ground → LookHead → Part → Notes → LookStage
-after_list ground head parts.Snapshot notes = loose_from ground head parts.Snapshot notes
-after_list ground head (parts.List list_no true) notes = loose_from ground head (parts.List list_no true) notes
-after_list ground head (parts.List list_no false) notes = listing_from ground list_no notes
-after_list ground head (parts.Published list_no) notes = loose_from ground head (parts.Published list_no) notes
+-- behind the indices of a list come the loose folders, but not behind the core's list where the snapshot was tried before it; then the folders of packs are listed
+abbrev pub after_list : Setting → LookHead → Part → Notes → LookStage
+after_list setting head parts.Snapshot notes = loose_from setting head parts.Snapshot notes
+after_list setting head (parts.List list_no true) notes = loose_from setting head (parts.List list_no true) notes
+after_list setting head (parts.List list_no false) notes = listing_from setting list_no notes
+after_list setting head (parts.Published list_no) notes = loose_from setting head (parts.Published list_no) notes
 
 -- behind the loose folders: the core's list, a listing, or a look at whether the list that was tried is still the newest
-abbrev pub after_loose : Ground → Part → Notes → LookStage
-after_loose ground parts.Snapshot notes = stages.Looking (purposes.First false) notes
-after_loose ground (parts.List list_no loose) notes = listing_from ground list_no notes
-after_loose ground (parts.Published list_no) notes = stages.Looking (purposes.Check list_no) notes
+abbrev pub after_loose : Setting → Part → Notes → LookStage
+after_loose setting parts.Snapshot notes = stages.Looking (purposes.First false) notes
+after_loose setting (parts.List list_no loose) notes = listing_from setting list_no notes
+after_loose setting (parts.Published list_no) notes = stages.Looking (purposes.Check list_no) notes
 
-abbrev pub by_tried : Ground → LookHead → Part → Tried → LookStage
-by_tried ground head part (tried.More trier) = stages.Trying trier part
-by_tried ground head part (tried.Hit found) = stages.Done (reply_found found)
-by_tried ground head part (tried.Missed notes) = after_list ground head part notes
-by_tried ground head part (tried.Bad error) = stages.Done (replies.Refused (call_errors.Find (find_error error)))
-by_tried ground head part (tried.Broken refusal) = stages.Done (load_refused (of_refusal refusal))
+abbrev pub by_tried : Setting → LookHead → Part → Tried → LookStage
+by_tried setting head part (tried.More trier) = stages.Trying trier part
+by_tried setting head part (tried.Hit found) = stages.Done (reply_found found)
+by_tried setting head part (tried.Missed notes) = after_list setting head part notes
+by_tried setting head part (tried.Bad error) = stages.Done (replies.Refused (call_errors.Find (find_error error)))
+by_tried setting head part (tried.Broken refusal) = stages.Done (load_refused (of_refusal refusal))
 
 -- the list that a view shows is tried
-abbrev pub try_view : Ground → LookHead → Part → View → List Todo → Notes → LookStage
-try_view ground head part view todo notes =
-    by_tried ground head part (seek (goal_of ground head) (record { indices = view.snapshot.indices; todo = todo; notes = notes }))
+abbrev pub try_view : Setting → LookHead → Part → View → List Todo → Notes → LookStage
+try_view setting head part view todo notes =
+    by_tried setting head part (seek (goal_of setting head) (record { indices = view.snapshot.indices; todo = todo; notes = notes }))
 
 abbrev pub without_notes : Notes
 without_notes = record { failed = false; absent = [] }
@@ -100,40 +100,40 @@ abbrev pub new_head : Query → ObjectId → LookHead
 new_head query id = record { query = query; id = id; begun = None; own = 0 }
 
 -- a snapshot that is of a list that was read is tried first, without the indices that it doesn't have loaded
-abbrev pub started : Ground → View → Query → ObjectId → LookUp
-started ground view query id = record {
+abbrev pub started : Setting → View → Query → ObjectId → LookUp
+started setting view query id = record {
   head = new_head query id;
-  stage = if view.read then try_view ground (new_head query id) parts.Snapshot view [] without_notes else stages.Looking (purposes.First true) without_notes;
+  stage = if view.read then try_view setting (new_head query id) parts.Snapshot view [] without_notes else stages.Looking (purposes.First true) without_notes;
 }
 
 -- ---- the loose folders
 
-abbrev pub at_folder : Ground → LookHead → LooseRound → Option Path → LookStage
-at_folder ground head round None = after_loose ground round.part round.notes
-at_folder ground head round (Some folder) =
-    stages.Loose (record round { next = round.next + 1 }) (asking ground.limit head.query head.id folder)
+abbrev pub at_folder : Setting → LookHead → LooseRound → Option Path → LookStage
+at_folder setting head round None = after_loose setting round.part round.notes
+at_folder setting head round (Some folder) =
+    stages.Loose (record round { next = round.next + 1 }) (asking setting.limit head.query head.id folder)
 
-abbrev pub by_verdict : Ground → LookHead → LooseRound → Verdict → LookStage
-by_verdict ground head round (verdicts.Ends reply) = stages.Done reply
-by_verdict ground head round verdicts.Misses = at_folder ground head round (slice_get ground.folders round.next)
-by_verdict ground head round (verdicts.Notes error) =
-    at_folder ground head (record round { notes = record round.notes { failed = true } }) (slice_get ground.folders round.next)
+abbrev pub by_verdict : Setting → LookHead → LooseRound → Verdict → LookStage
+by_verdict setting head round (verdicts.Ends reply) = stages.Done reply
+by_verdict setting head round verdicts.Misses = at_folder setting head round (slice_get setting.folders round.next)
+by_verdict setting head round (verdicts.Notes error) =
+    at_folder setting head (record round { notes = record round.notes { failed = true } }) (slice_get setting.folders round.next)
 
-abbrev pub by_reply : Ground → LookHead → LooseRound → LooseCall → Option LooseReply → LookStage
-by_reply ground head round call None = stages.Loose round call
-by_reply ground head round call (Some reply) = by_verdict ground head round (verdict_on head.query reply)
+abbrev pub by_reply : Setting → LookHead → LooseRound → LooseCall → Option LooseReply → LookStage
+by_reply setting head round call None = stages.Loose round call
+by_reply setting head round call (Some reply) = by_verdict setting head round (verdict_on head.query reply)
 
-abbrev pub by_call : Ground → LookHead → LooseRound → LooseCall → LookStage
-by_call ground head round call = by_reply ground head round call (reply_of call)
+abbrev pub by_call : Setting → LookHead → LooseRound → LooseCall → LookStage
+by_call setting head round call = by_reply setting head round call (reply_of call)
 
 -- ---- counting
 
--- more lists were published by others since the call began than it may meet
-abbrev pub is_unsettled : Ground → LookHead → (now : ℕ) → Bool
-is_unsettled ground head now = nat_lt ground.most (now - unwrap_or head.begun now - head.own)
+-- more lists were published by others since the call's first event than it may meet
+abbrev pub is_unsettled : Setting → LookHead → (now : ℕ) → Bool
+is_unsettled setting head now = nat_lt setting.most (now - unwrap_or head.begun now - head.own)
 
 abbrev pub unsettled : LookHead → (now : ℕ) → LookStage
 unsettled head now = stages.Done (load_refused (load_errors.Unsettled (unwrap_or head.begun now) head.own now))
 
-abbrev pub counted : Ground → LookHead → (now : ℕ) → LookStage → LookStage
-counted ground head now next = if is_unsettled ground head now then unsettled head now else next
+abbrev pub counted : Setting → LookHead → (now : ℕ) → LookStage → LookStage
+counted setting head now next = if is_unsettled setting head now then unsettled head now else next

@@ -1,14 +1,14 @@
 //! What comes behind an answer to a look-up.
 ghost use Rattle.std.specs.Prelude.{◌≡◌, IfOk, Some, Ok, Err};
 ghost use Rattle.std.specs.Option.{option_copied};
-ghost use Rattle.gix_odb.specs.LookUpOrder.{ground_of};
+ghost use Rattle.gix_odb.specs.LookUpOrder.{setting_of};
 ghost use Rattle.gix_odb.specs.LookUpOrder as order;
 ghost use Rattle.gix_odb_packs.specs.declared.answer.Answer.TheVariants as told;
 
 use super::parts::{
     by_tried, by_verdict, ended, is_unsettled, listing_from, load_refused, try_view, unsettled,
 };
-use super::{Ground, LookHead, LookStage, LookUp, LooseRound, Part, Purpose};
+use super::{LookHead, LookStage, LookUp, LooseRound, Part, Purpose, Setting};
 use crate::load_index::{self, of_refusal};
 use crate::look_state::verdict_on;
 use gix_odb_core::{Effect, Listing, Refusal, View};
@@ -28,23 +28,23 @@ fn at(head: LookHead, stage: LookStage) -> LookUp
 /// What comes behind an answer of the disk.
 pub(super) fn by_disk(
     alloc: Global,
-    ground: &Ground<'_>,
+    setting: &Setting<'_>,
     head: LookHead,
     stage: LookStage,
     answer: DiskAnswer,
 ) -> Result<LookUp, NoMemory>
-    ensures fed { IfOk result (λ look. look ≡ order.fed_at (ground_of ground.now) head stage (told.Disk answer)) }
+    ensures fed { IfOk result (λ look. look ≡ order.fed_at (setting_of setting.now) head stage (told.Disk answer)) }
 {
     let stage = match stage {
         LookStage::Trying { trier, part } => {
-            by_trier(alloc, ground, head, trier, part, Answer::Disk(answer))?
+            by_trier(alloc, setting, head, trier, part, Answer::Disk(answer))?
         }
-        LookStage::Loose { round, call } => by_call(alloc, ground, head, round, call, answer)?,
+        LookStage::Loose { round, call } => by_call(alloc, setting, head, round, call, answer)?,
         LookStage::Listing {
             lister,
             base,
             notes,
-        } => by_lister(alloc, ground, lister, base, notes, answer)?,
+        } => by_lister(alloc, setting, lister, base, notes, answer)?,
         stage => stage,
     };
     Ok(at(head, stage))
@@ -53,23 +53,26 @@ pub(super) fn by_disk(
 /// What comes behind an event that wasn't refused.
 pub(super) fn by_effect(
     alloc: Global,
-    ground: &Ground<'_>,
+    setting: &Setting<'_>,
     head: LookHead,
     stage: LookStage,
     effect: Effect,
 ) -> Result<LookUp, NoMemory>
-    ensures fed { IfOk result (λ look. look ≡ order.fed_at (ground_of ground.now) head stage (told.Core (Ok effect))) }
+    ensures fed { IfOk result (λ look. look ≡ order.fed_at (setting_of setting.now) head stage (told.Core (Ok effect))) }
 {
     match stage {
         LookStage::Trying { trier, part } => {
             let answer = Answer::Core(Ok(effect));
-            Ok(at(head, by_trier(alloc, ground, head, trier, part, answer)?))
+            Ok(at(head, by_trier(alloc, setting, head, trier, part, answer)?))
         }
         LookStage::Looking { purpose, notes } => {
-            Ok(at(head, by_look(alloc, ground, head, purpose, notes, &effect)?))
+            Ok(at(
+                head,
+                by_look(alloc, setting, head, purpose, notes, &effect)?,
+            ))
         }
         LookStage::Publishing { listing, notes } => {
-            by_published(alloc, ground, head, listing, notes, &effect)
+            by_published(alloc, setting, head, listing, notes, &effect)
         }
         stage => Ok(at(head, stage)),
     }
@@ -78,17 +81,17 @@ pub(super) fn by_effect(
 /// What comes behind an event that was refused.
 pub(super) fn by_refusal(
     alloc: Global,
-    ground: &Ground<'_>,
+    setting: &Setting<'_>,
     head: LookHead,
     stage: LookStage,
     refusal: Refusal,
 ) -> Result<LookUp, NoMemory>
-    ensures fed { IfOk result (λ look. look ≡ order.fed_at (ground_of ground.now) head stage (told.Core (Err refusal))) }
+    ensures fed { IfOk result (λ look. look ≡ order.fed_at (setting_of setting.now) head stage (told.Core (Err refusal))) }
 {
     match stage {
         LookStage::Trying { trier, part } => {
             let answer = Answer::Core(Err(refusal));
-            Ok(at(head, by_trier(alloc, ground, head, trier, part, answer)?))
+            Ok(at(head, by_trier(alloc, setting, head, trier, part, answer)?))
         }
         LookStage::Looking { .. } | LookStage::Publishing { .. } => {
             Ok(at(head, LookStage::Done(load_refused(of_refusal(refusal)))))
@@ -99,31 +102,31 @@ pub(super) fn by_refusal(
 
 fn by_trier(
     alloc: Global,
-    ground: &Ground<'_>,
+    setting: &Setting<'_>,
     head: LookHead,
     trier: Trier,
     part: Part,
     answer: Answer,
 ) -> Result<LookStage, NoMemory>
-    ensures by { IfOk result (λ stage. stage ≡ order.by_tried (ground_of ground.now) head part (order.trier_fed trier answer)) }
+    ensures by { IfOk result (λ stage. stage ≡ order.by_tried (setting_of setting.now) head part (order.trier_fed trier answer)) }
 {
     let tried = trier.feed(alloc, answer)?;
-    by_tried(alloc, ground, head, part, tried)
+    by_tried(alloc, setting, head, part, tried)
 }
 
 /// What comes behind a step of a folder's call.
 fn by_call(
     alloc: Global,
-    ground: &Ground<'_>,
+    setting: &Setting<'_>,
     head: LookHead,
     round: LooseRound,
     call: LooseCall,
     answer: DiskAnswer,
 ) -> Result<LookStage, NoMemory>
-    ensures by { IfOk result (λ stage. stage ≡ order.by_call (ground_of ground.now) head round (order.loose_fed call answer)) }
+    ensures by { IfOk result (λ stage. stage ≡ order.by_call (setting_of setting.now) head round (order.loose_fed call answer)) }
 {
     match call.feed(alloc, answer)?.into_reply() {
-        Ok(reply) => by_verdict(alloc, ground, head, round, verdict_on(head.query, reply)),
+        Ok(reply) => by_verdict(alloc, setting, head, round, verdict_on(head.query, reply)),
         Err(call) => Ok(LookStage::Loose { round, call }),
     }
 }
@@ -131,15 +134,15 @@ fn by_call(
 /// What comes behind a step of a listing.
 fn by_lister(
     alloc: Global,
-    ground: &Ground<'_>,
+    setting: &Setting<'_>,
     lister: Lister,
     base: u64,
     notes: Notes,
     answer: DiskAnswer,
 ) -> Result<LookStage, NoMemory>
-    ensures by { IfOk result (λ stage. stage ≡ order.by_listed base notes (order.lister_fed (ground_of ground.now) lister answer)) }
+    ensures by { IfOk result (λ stage. stage ≡ order.by_listed base notes (order.lister_fed (setting_of setting.now) lister answer)) }
 {
-    match lister.feed(alloc, ground.parts.folders.as_slice(), answer)? {
+    match lister.feed(alloc, setting.parts.folders.as_slice(), answer)? {
         ListStep::More(lister) => Ok(LookStage::Listing {
             lister,
             base,
@@ -157,60 +160,60 @@ fn by_lister(
 /// What comes behind a look at the core.
 fn by_look(
     alloc: Global,
-    ground: &Ground<'_>,
+    setting: &Setting<'_>,
     head: LookHead,
     purpose: Purpose,
     notes: Notes,
     effect: &Effect,
 ) -> Result<LookStage, NoMemory>
-    ensures by { IfOk result (λ stage. stage ≡ order.by_look (ground_of ground.now) head purpose notes (order.view_shown effect.now)) }
+    ensures by { IfOk result (λ stage. stage ≡ order.by_look (setting_of setting.now) head purpose notes (order.view_shown effect.now)) }
 {
     let Some(view) = effect.view() else {
         return Ok(LookStage::Looking { purpose, notes });
     };
     match purpose {
-        Purpose::First { loose } => by_first(alloc, ground, head, loose, view, notes),
-        Purpose::Check { list_no } => by_check(alloc, ground, head, list_no, view, notes),
-        Purpose::Again => listing_from(alloc, ground, view.list_no, notes),
+        Purpose::First { loose } => by_first(alloc, setting, head, loose, view, notes),
+        Purpose::Check { list_no } => by_check(alloc, setting, head, list_no, view, notes),
+        Purpose::Again => listing_from(alloc, setting, view.list_no, notes),
     }
 }
 
 fn by_first(
     alloc: Global,
-    ground: &Ground<'_>,
+    setting: &Setting<'_>,
     head: LookHead,
     loose: bool,
     view: &View,
     notes: Notes,
 ) -> Result<LookStage, NoMemory>
-    ensures by { IfOk result (λ stage. stage ≡ order.by_first (ground_of ground.now) head loose view.now notes) }
+    ensures by { IfOk result (λ stage. stage ≡ order.by_first (setting_of setting.now) head loose view.now notes) }
 {
     let list_no = view.list_no;
     if view.read {
         let part = Part::List { list_no, loose };
-        try_view(alloc, ground, head, part, view, notes)
+        try_view(alloc, setting, head, part, view, notes)
     } else {
-        listing_from(alloc, ground, list_no, notes)
+        listing_from(alloc, setting, list_no, notes)
     }
 }
 
 fn by_check(
     alloc: Global,
-    ground: &Ground<'_>,
+    setting: &Setting<'_>,
     head: LookHead,
     list_no: u64,
     view: &View,
     notes: Notes,
 ) -> Result<LookStage, NoMemory>
-    ensures by { IfOk result (λ stage. stage ≡ order.by_check (ground_of ground.now) head list_no view.now notes) }
+    ensures by { IfOk result (λ stage. stage ≡ order.by_check (setting_of setting.now) head list_no view.now notes) }
 {
     let now = view.list_no;
     if now == list_no {
         Ok(ended(head.query, &notes))
-    } else if is_unsettled(ground, head, now) {
+    } else if is_unsettled(setting, head, now) {
         Ok(unsettled(head, now))
     } else {
-        listing_from(alloc, ground, now, notes)
+        listing_from(alloc, setting, now, notes)
     }
 }
 
@@ -229,42 +232,42 @@ impl LookHead {
 /// What comes behind a listing that was handed to the core.
 fn by_published(
     alloc: Global,
-    ground: &Ground<'_>,
+    setting: &Setting<'_>,
     head: LookHead,
     listing: Listing,
     notes: Notes,
     effect: &Effect,
 ) -> Result<LookUp, NoMemory>
-    ensures by { IfOk result (λ look. look ≡ order.by_published (ground_of ground.now) head listing notes effect.now) }
+    ensures by { IfOk result (λ look. look ≡ order.by_published (setting_of setting.now) head listing notes effect.now) }
 {
     match effect {
-        Effect::Published(view) => try_published(alloc, ground, head.with_own(), view, notes),
-        Effect::Unchanged(view) => try_published(alloc, ground, head, view, notes),
-        Effect::Outdated { list_no } => Ok(at(head, outdated(ground, head, *list_no, notes))),
+        Effect::Published(view) => try_published(alloc, setting, head.with_own(), view, notes),
+        Effect::Unchanged(view) => try_published(alloc, setting, head, view, notes),
+        Effect::Outdated { list_no } => Ok(at(head, outdated(setting, head, *list_no, notes))),
         _ => Ok(at(head, LookStage::Publishing { listing, notes })),
     }
 }
 
 fn try_published(
     alloc: Global,
-    ground: &Ground<'_>,
+    setting: &Setting<'_>,
     head: LookHead,
     view: &View,
     notes: Notes,
 ) -> Result<LookUp, NoMemory>
-    ensures tries { IfOk result (λ look. look ≡ order.at head (order.try_view (ground_of ground.now) head (Part.Published view.now.list_no) view.now view.now.todo notes)) }
+    ensures tries { IfOk result (λ look. look ≡ order.at head (order.try_view (setting_of setting.now) head (Part.Published view.now.list_no) view.now view.now.todo notes)) }
 {
     let part = Part::Published {
         list_no: view.list_no,
     };
-    Ok(at(head, try_view(alloc, ground, head, part, view, notes)?))
+    Ok(at(head, try_view(alloc, setting, head, part, view, notes)?))
 }
 
-/// Another list was published since the listing began.
-fn outdated(ground: &Ground<'_>, head: LookHead, now: u64, notes: Notes) -> LookStage
-    ensures counted { result ≡ order.counted (ground_of ground.now) head now (LookStage.Looking Purpose.Again notes) }
+/// Another list was published since the look before the listing.
+fn outdated(setting: &Setting<'_>, head: LookHead, now: u64, notes: Notes) -> LookStage
+    ensures counted { result ≡ order.counted (setting_of setting.now) head now (LookStage.Looking Purpose.Again notes) }
 {
-    if is_unsettled(ground, head, now) {
+    if is_unsettled(setting, head, now) {
         return unsettled(head, now);
     }
     LookStage::Looking {

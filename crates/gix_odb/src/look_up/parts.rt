@@ -1,10 +1,10 @@
 //! The parts of a look-up, and what comes behind each.
 ghost use Rattle.std.specs.Prelude.{◌≡◌, IfOk, [], slice_get, true};
-ghost use Rattle.gix_odb.specs.LookUpOrder.{ground_of};
+ghost use Rattle.gix_odb.specs.LookUpOrder.{setting_of};
 ghost use Rattle.gix_odb.specs.LookOrder.{asking};
 ghost use Rattle.gix_odb.specs.LookUpOrder as order;
 
-use super::{Ground, LookHead, LookStage, LooseRound, Part, Purpose};
+use super::{LookHead, LookStage, LooseRound, Part, Purpose, Setting};
 use crate::call::{CallError, Reply};
 use crate::find;
 use crate::load_index::{self, of_refusal};
@@ -74,13 +74,13 @@ fn wanted_by(query: Query) -> Wanted
 }
 
 impl LookHead {
-    fn goal(self, ground: &Ground<'_>) -> Goal
-        ensures goal { result ≡ order.goal_of (ground_of ground.now) self }
+    fn goal(self, setting: &Setting<'_>) -> Goal
+        ensures goal { result ≡ order.goal_of (setting_of setting.now) self }
     {
         Goal {
             id: self.id,
             wanted: wanted_by(self.query),
-            limit: ground.parts.alloc_limit_bytes,
+            limit: setting.parts.alloc_limit_bytes,
         }
     }
 }
@@ -88,14 +88,14 @@ impl LookHead {
 /// The loose objects of the first folder are asked.
 fn loose_from(
     alloc: Global,
-    ground: &Ground<'_>,
+    setting: &Setting<'_>,
     head: LookHead,
     part: Part,
     notes: Notes,
 ) -> Result<LookStage, NoMemory>
-    ensures from { IfOk result (λ stage. stage ≡ order.loose_from (ground_of ground.now) head part notes) }
+    ensures from { IfOk result (λ stage. stage ≡ order.loose_from (setting_of setting.now) head part notes) }
 {
-    let parts = ground.parts;
+    let parts = setting.parts;
     let call = head.loose(alloc, &parts.objects, parts.alloc_limit_bytes)?;
     let round = LooseRound {
         next: 0,
@@ -126,13 +126,13 @@ impl LookHead {
 /// The folders of packs are listed. Which packs were absent before is forgotten.
 pub(super) fn listing_from(
     alloc: Global,
-    ground: &Ground<'_>,
+    setting: &Setting<'_>,
     base: u64,
     notes: Notes,
 ) -> Result<LookStage, NoMemory>
-    ensures from { IfOk result (λ stage. stage ≡ order.listing_from (ground_of ground.now) base notes) }
+    ensures from { IfOk result (λ stage. stage ≡ order.listing_from (setting_of setting.now) base notes) }
 {
-    let lister = Lister::start(alloc, &ground.parts.objects)?;
+    let lister = Lister::start(alloc, &setting.parts.objects)?;
     let notes = notes.without_absent(alloc);
     Ok(LookStage::Listing {
         lister,
@@ -144,34 +144,34 @@ pub(super) fn listing_from(
 /// What comes behind the indices of a list.
 fn after_list(
     alloc: Global,
-    ground: &Ground<'_>,
+    setting: &Setting<'_>,
     head: LookHead,
     part: Part,
     notes: Notes,
 ) -> Result<LookStage, NoMemory>
-    ensures after { IfOk result (λ stage. stage ≡ order.after_list (ground_of ground.now) head part notes) }
+    ensures after { IfOk result (λ stage. stage ≡ order.after_list (setting_of setting.now) head part notes) }
 {
     match part {
         Part::List {
             list_no,
             loose: false,
-        } => listing_from(alloc, ground, list_no, notes),
-        part => loose_from(alloc, ground, head, part, notes),
+        } => listing_from(alloc, setting, list_no, notes),
+        part => loose_from(alloc, setting, head, part, notes),
     }
 }
 
 /// What comes behind the loose folders.
 fn after_loose(
     alloc: Global,
-    ground: &Ground<'_>,
+    setting: &Setting<'_>,
     part: Part,
     notes: Notes,
 ) -> Result<LookStage, NoMemory>
-    ensures after { IfOk result (λ stage. stage ≡ order.after_loose (ground_of ground.now) part notes) }
+    ensures after { IfOk result (λ stage. stage ≡ order.after_loose (setting_of setting.now) part notes) }
 {
     let purpose = match part {
         Part::Snapshot => Purpose::First { loose: false },
-        Part::List { list_no, .. } => return listing_from(alloc, ground, list_no, notes),
+        Part::List { list_no, .. } => return listing_from(alloc, setting, list_no, notes),
         Part::Published { list_no } => Purpose::Check { list_no },
     };
     Ok(LookStage::Looking { purpose, notes })
@@ -180,17 +180,17 @@ fn after_loose(
 /// What comes behind a step of trying.
 pub(super) fn by_tried(
     alloc: Global,
-    ground: &Ground<'_>,
+    setting: &Setting<'_>,
     head: LookHead,
     part: Part,
     tried: Tried,
 ) -> Result<LookStage, NoMemory>
-    ensures by { IfOk result (λ stage. stage ≡ order.by_tried (ground_of ground.now) head part tried) }
+    ensures by { IfOk result (λ stage. stage ≡ order.by_tried (setting_of setting.now) head part tried) }
 {
     match tried {
         Tried::More(trier) => Ok(LookStage::Trying { trier, part }),
         Tried::Hit(found) => Ok(LookStage::Done(reply_found(found))),
-        Tried::Missed(notes) => after_list(alloc, ground, head, part, notes),
+        Tried::Missed(notes) => after_list(alloc, setting, head, part, notes),
         Tried::Bad(error) => Ok(LookStage::Done(Reply::Refused(CallError::Find(find_error(
             error,
         ))))),
@@ -201,62 +201,62 @@ pub(super) fn by_tried(
 /// The list that a view shows is tried, the loaded indices first.
 pub(super) fn try_view(
     alloc: Global,
-    ground: &Ground<'_>,
+    setting: &Setting<'_>,
     head: LookHead,
     part: Part,
     view: &View,
     notes: Notes,
 ) -> Result<LookStage, NoMemory>
-    ensures tries { IfOk result (λ stage. stage ≡ order.try_view (ground_of ground.now) head part view.now view.now.todo notes) }
+    ensures tries { IfOk result (λ stage. stage ≡ order.try_view (setting_of setting.now) head part view.now view.now.todo notes) }
 {
     let todo = Rest::all(view.todo.try_clone()?);
-    try_lists(alloc, ground, head, part, view, todo, notes)
+    try_lists(alloc, setting, head, part, view, todo, notes)
 }
 
 /// The loaded indices of the handle's snapshot are tried.
 pub(super) fn try_snapshot(
     alloc: Global,
-    ground: &Ground<'_>,
+    setting: &Setting<'_>,
     head: LookHead,
     view: &View,
     notes: Notes,
 ) -> Result<LookStage, NoMemory>
-    ensures tries { IfOk result (λ stage. stage ≡ order.try_view (ground_of ground.now) head Part.Snapshot view.now [] notes) }
+    ensures tries { IfOk result (λ stage. stage ≡ order.try_view (setting_of setting.now) head Part.Snapshot view.now [] notes) }
 {
     let none = Rest::all(Shared::new(alloc, TodoList::new(alloc))?);
-    try_lists(alloc, ground, head, Part::Snapshot, view, none, notes)
+    try_lists(alloc, setting, head, Part::Snapshot, view, none, notes)
 }
 
 fn try_lists(
     alloc: Global,
-    ground: &Ground<'_>,
+    setting: &Setting<'_>,
     head: LookHead,
     part: Part,
     view: &View,
     todo: Rest<Todo>,
     notes: Notes,
 ) -> Result<LookStage, NoMemory>
-    ensures tries { IfOk result (λ stage. stage ≡ order.try_view (ground_of ground.now) head part view.now todo notes) }
+    ensures tries { IfOk result (λ stage. stage ≡ order.try_view (setting_of setting.now) head part view.now todo notes) }
 {
     let indices = Rest::all(view.snapshot.indices.try_clone()?);
-    let tried = Trier::start(alloc, head.goal(ground), indices, todo, notes)?;
-    by_tried(alloc, ground, head, part, tried)
+    let tried = Trier::start(alloc, head.goal(setting), indices, todo, notes)?;
+    by_tried(alloc, setting, head, part, tried)
 }
 
 /// The next folder is asked, or what comes behind the loose folders.
 fn at_folder(
     alloc: Global,
-    ground: &Ground<'_>,
+    setting: &Setting<'_>,
     head: LookHead,
     round: LooseRound,
 ) -> Result<LookStage, NoMemory>
-    ensures at { IfOk result (λ stage. stage ≡ order.at_folder (ground_of ground.now) head round (slice_get ((ground_of ground.now).folders) round.next)) }
+    ensures at { IfOk result (λ stage. stage ≡ order.at_folder (setting_of setting.now) head round (slice_get ((setting_of setting.now).folders) round.next)) }
 {
     let LooseRound { next, notes, part } = round;
-    let Some(folder) = ground.parts.folders.as_slice().get(next) else {
-        return after_loose(alloc, ground, part, notes);
+    let Some(folder) = setting.parts.folders.as_slice().get(next) else {
+        return after_loose(alloc, setting, part, notes);
     };
-    let call = head.loose(alloc, folder, ground.parts.alloc_limit_bytes)?;
+    let call = head.loose(alloc, folder, setting.parts.alloc_limit_bytes)?;
     let next = next + 1;
     let round = LooseRound { next, notes, part };
     Ok(LookStage::Loose { round, call })
@@ -276,26 +276,26 @@ impl LooseRound {
 /// What comes behind a folder's reply, by what it means.
 pub(super) fn by_verdict(
     alloc: Global,
-    ground: &Ground<'_>,
+    setting: &Setting<'_>,
     head: LookHead,
     round: LooseRound,
     verdict: Verdict,
 ) -> Result<LookStage, NoMemory>
-    ensures by { IfOk result (λ stage. stage ≡ order.by_verdict (ground_of ground.now) head round verdict) }
+    ensures by { IfOk result (λ stage. stage ≡ order.by_verdict (setting_of setting.now) head round verdict) }
 {
     match verdict {
         Verdict::Ends(reply) => Ok(LookStage::Done(reply)),
-        Verdict::Misses => at_folder(alloc, ground, head, round),
-        Verdict::Notes(_) => at_folder(alloc, ground, head, round.noting()),
+        Verdict::Misses => at_folder(alloc, setting, head, round),
+        Verdict::Notes(_) => at_folder(alloc, setting, head, round.noting()),
     }
 }
 
-/// Whether others published more lists since the look-up began than it may meet.
-pub(super) fn is_unsettled(ground: &Ground<'_>, head: LookHead, now: u64) -> bool
-    ensures unsettled { result ≡ order.is_unsettled (ground_of ground.now) head now }
+/// Whether others published more lists since the look-up's first event than it may meet.
+pub(super) fn is_unsettled(setting: &Setting<'_>, head: LookHead, now: u64) -> bool
+    ensures unsettled { result ≡ order.is_unsettled (setting_of setting.now) head now }
 {
     let begun = head.begun.unwrap_or(now);
-    now.saturating_sub(begun).saturating_sub(head.own) > u64::from(ground.max_changes)
+    now.saturating_sub(begun).saturating_sub(head.own) > u64::from(setting.max_changes)
 }
 
 /// The end of a look-up that met too many lists of others.
