@@ -6,24 +6,24 @@ use Rattle.hex.specs.Hex.{encode_lower}
 use Rattle.odb_base.specs.Path.{text_of}
 use Rattle.gix_hash.specs.ObjectId.{hex_of}
 use Rattle.gix_object.specs.Kind.{kind_word}
-use Rattle.gix_odb_world.specs.declared.step.Outcome.{Outcome}
-use Rattle.gix_odb_world.specs.declared.step.Outcome.TheVariants as comes
-use Rattle.gix_odb_world.specs.declared.step.Why.{Why}
-use Rattle.gix_odb_world.specs.declared.step.Why.TheVariants.{HandleTaken, BadOpen, NoHandle, NotRunning, Busy, ImpossibleChange}
-use Rattle.gix_odb.specs.declared.call.Reply.{Reply}
-use Rattle.gix_odb.specs.declared.call.Reply.TheVariants as replies
-use Rattle.gix_odb.specs.declared.call.CallError.{CallError}
-use Rattle.gix_odb.specs.declared.call.CallError.TheVariants as call_errors
-use Rattle.gix_odb.specs.declared.init.Error as opening
-use Rattle.gix_odb.specs.declared.init.Error.TheVariants as opening_errors
-use Rattle.gix_odb.specs.declared.find.Header.{Header}
-use Rattle.gix_odb.specs.declared.find.Header.TheVariants.{Loose, Packed}
-use Rattle.gix_odb.specs.declared.find.Error as finding
-use Rattle.gix_odb.specs.declared.find.Error.TheVariants as find_errors
-use Rattle.gix_odb.specs.declared.load_index.Error as load_index
-use Rattle.gix_odb.specs.declared.load_index.Error.TheVariants as load_index_errors
-use Rattle.gix_odb.specs.declared.write.Error as writing
-use Rattle.gix_odb.specs.declared.write.Error.TheVariants as write_errors
+use Rattle.gix_odb_calls.specs.declared.step.Outcome.{Outcome}
+use Rattle.gix_odb_calls.specs.declared.step.Outcome.TheVariants as comes
+use Rattle.gix_odb_calls.specs.declared.step.Why.{Why}
+use Rattle.gix_odb_calls.specs.declared.step.Why.TheVariants.{HandleTaken, BadOpen, NoHandle, NotRunning, Busy, ImpossibleChange}
+use Rattle.gix_odb_calls.specs.declared.call.Reply.{Reply}
+use Rattle.gix_odb_calls.specs.declared.call.Reply.TheVariants as replies
+use Rattle.gix_odb_calls.specs.declared.call.CallError.{CallError}
+use Rattle.gix_odb_calls.specs.declared.call.CallError.TheVariants as call_errors
+use Rattle.gix_odb_calls.specs.declared.init.Error as opening
+use Rattle.gix_odb_calls.specs.declared.init.Error.TheVariants as opening_errors
+use Rattle.gix_odb_calls.specs.declared.find.Header.{Header}
+use Rattle.gix_odb_calls.specs.declared.find.Header.TheVariants.{Loose, Packed}
+use Rattle.gix_odb_calls.specs.declared.find.Error as finding
+use Rattle.gix_odb_calls.specs.declared.find.Error.TheVariants as find_errors
+use Rattle.gix_odb_calls.specs.declared.load_index.Error as load_index
+use Rattle.gix_odb_calls.specs.declared.load_index.Error.TheVariants as load_index_errors
+use Rattle.gix_odb_calls.specs.declared.write.Error as writing
+use Rattle.gix_odb_calls.specs.declared.write.Error.TheVariants as write_errors
 use Rattle.gix_odb_loose.specs.declared.write.Error as loose_write
 use Rattle.gix_odb_loose.specs.declared.write.Error.TheVariants as loose_write_errors
 use Rattle.gix_odb_loose.specs.declared.find.Error as loose

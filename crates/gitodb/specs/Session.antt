@@ -5,7 +5,7 @@ use Rattle.odb_disk.specs.MemDisk.{Volume}
 use Rattle.odb_program.specs.Session.{FailedRead, FailedWrite, Finished, Input, Output, ReadToEnd, Wrote}
 use Rattle.gix_odb_world.specs.Headline.{Headline}
 use Rattle.gix_odb_world.specs.Play.{Plays, made_of}
-use Rattle.gix_odb_world.specs.declared.play.Line.{Line}
+use Rattle.gix_odb_calls.specs.declared.line.Line.{Line}
 use Rattle.gix_odb_world.specs.declared.play.Play.{Play}
 use Rattle.gitodb.specs.declared.command.Command.{Command}
 use Rattle.gitodb.specs.declared.command.Command.TheVariants.{World, Help, Version, NoWords, NotUnderstood}

@@ -6,7 +6,7 @@ ghost use Rattle.gitodb.specs.Print.{printed, reply_text, error_text, opening_te
 
 use gix_hash::ObjectId;
 use gix_object::Kind;
-use gix_odb::load_index;
+use gix_odb_calls::load_index;
 use gix_odb_loose as loose;
 use gix_odb_world::{CallError, Outcome, Reply, Why, find, init, write};
 use odb_base::NoMemory;

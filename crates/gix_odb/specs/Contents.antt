@@ -9,12 +9,11 @@ use Rattle.gix_hash.specs.declared.object_id.ObjectId.{ObjectId}
 use Rattle.gix_hash.specs.ObjectId.{id_cmp}
 use Rattle.gix_object.specs.declared.kind.Kind.{Kind}
 use Rattle.gix_odb_loose.specs.LooseFile as loose
-use Rattle.gix_odb_loose.specs.declared.call.LooseJob.{LooseJob}
-use Rattle.gix_odb_loose.specs.declared.call.LooseJob.TheVariants as jobs
-use Rattle.gix_odb.specs.declared.query.Query.{Query}
-use Rattle.gix_odb.specs.declared.query.Query.TheVariants.{Find, Header, Test}
-use Rattle.gix_odb.specs.declared.find.Header as headers
-use Rattle.gix_odb.specs.declared.find.Header.TheVariants.{Loose}
+use Rattle.gix_odb_calls.specs.Verdict.{job_of}
+use Rattle.gix_odb_calls.specs.declared.query.Query.{Query}
+use Rattle.gix_odb_calls.specs.declared.query.Query.TheVariants.{Find, Header, Test}
+use Rattle.gix_odb_calls.specs.declared.find.Header as headers
+use Rattle.gix_odb_calls.specs.declared.find.Header.TheVariants.{Loose}
 
 -- what a store is, for what it holds: its objects directory, its other folders, the ids that others replace, and
 -- the limit on found objects
@@ -64,12 +63,6 @@ sought store ignoring call = sought_with (replacement_in store) ignoring call
 -- a path of a tree shows a file with those bytes, links followed
 abbrev pub ShowsFile : Tree → Path → List ℕ → Type 0
 ShowsFile tree path bytes = (time : ℕ) × (read_of tree path ≡ Ok (bytes, time))
-
--- what a folder is to do for a call that seeks an id
-abbrev pub job_of : Query → ObjectId → LooseJob
-job_of (Find asked) id = jobs.Find id
-job_of (Header asked) id = jobs.Header id
-job_of (Test asked) id = jobs.Contains id
 
 -- What a loose file answers a call, as an answer of a store. A file holds answers of one form alone for a call, so what the last row
 -- makes of those of another form never counts.

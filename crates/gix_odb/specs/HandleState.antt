@@ -6,7 +6,7 @@ use Rattle.gix_hash.specs.declared.object_id.ObjectId.{ObjectId}
 use Rattle.gix_hash.specs.ObjectId.{id_cmp}
 use Rattle.gix_odb.specs.Contents.{replaced, sought_with}
 use Rattle.gix_odb.specs.declared.handle_state.HandleState.{HandleState}
-use Rattle.gix_odb.specs.declared.query.Query.{Query}
+use Rattle.gix_odb_calls.specs.declared.query.Query.{Query}
 
 -- the objects directory of a handle's store, the other folders, and the limit on found objects
 abbrev pub objects_of : HandleState → Path

@@ -5,7 +5,7 @@ use Rattle.odb_base.specs.Path.{Path}
 use Rattle.odb_tree.specs.Tree.{Tree}
 use Rattle.gix_hash.specs.declared.object_id.ObjectId.{ObjectId}
 use Rattle.gix_odb_loose.specs.LooseFile.{loose_path}
-use Rattle.gix_odb.specs.declared.query.Query.{Query}
+use Rattle.gix_odb_calls.specs.declared.query.Query.{Query}
 use Rattle.gix_odb.specs.Contents.{StoreData, folder_list, Contents, LooseFile, Answer, Holds, IsSound, ShowsFile}
 use Rattle.gix_odb.specs.Moments.{Sometime, Throughout}
 

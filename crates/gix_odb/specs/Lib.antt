@@ -3,7 +3,5 @@ pub mod Moments
 pub mod Held
 pub mod HandleState
 pub mod LookOrder
-pub mod LoadIndex
-pub mod LookUpOrder
 pub mod CallOrder
 pub mod OpenOrder

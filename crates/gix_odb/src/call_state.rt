@@ -5,13 +5,11 @@ ghost use Rattle.gix_odb.specs.CallOrder.{HasSize, ask_of, hash_to_write, result
 ghost use Rattle.gix_odb.specs.CallOrder as calls;
 ghost use Rattle.gix_odb.specs.HandleState.{folders_of, limit_of, objects_of, sought_by};
 
-use crate::call::{Call, CallError, Reply};
 use crate::handle_state::HandleState;
 use crate::look_state::LookState;
-use crate::query::Query;
-use crate::write;
 use gix_hash::ObjectId;
 use gix_object::Kind;
+use gix_odb_calls::{Call, CallError, Query, Reply, write};
 use gix_odb_loose::{LooseCall, LooseJob, LooseReply};
 use odb_base::{NoMemory, PathText};
 use odb_disk::{ByteList, DiskAnswer, DiskAsk};

@@ -1,28 +1,12 @@
-//! A handle on a store without its work; the parts of the store, which handles share.
+//! A handle on a store without its work.
 ghost use Rattle.std.specs.Prelude.{◌≡◌, IfOk, false};
 ghost use Rattle.gix_odb.specs.HandleState.{replaced_by, sought_by};
 
-use crate::init::PathList;
-use crate::query::Query;
 use gix_hash::ObjectId;
-use odb_base::{NoMemory, PathText};
+use gix_odb_calls::{Query, StoreParts};
+use odb_base::NoMemory;
 use std::alloc::Global;
-use std::collections::BTreeMap;
 use std::sync::Arc;
-
-/// The parts of a store, one value for all handles on it.
-#[derive(Drop)]
-pub struct StoreParts {
-    /// The objects directory, which is the first folder of the store.
-    pub objects: PathText,
-    /// The other folders, in the order in which they are asked.
-    pub folders: PathList,
-    /// What is sought in the place of an id.
-    pub replacements: BTreeMap<ObjectId, ObjectId>,
-    /// The most bytes of data that an object may have to be found, if there is a limit.
-    pub alloc_limit_bytes: Option<u64>,
-    pub slots: u16,
-}
 
 /// A handle without its work: its store, and its mode.
 #[derive(Drop)]

@@ -11,23 +11,16 @@
 //! ```
 #![tactic(auto)]
 
-mod call;
 mod call_state;
-pub mod find;
 mod handle_state;
-pub mod init;
-pub mod load_index;
 mod look_state;
-mod look_up;
 mod open_state;
-mod query;
-pub mod write;
 
-pub use call::{Call, CallError, Reply};
 pub use call_state::CallState;
-pub use handle_state::{HandleState, StoreParts};
-pub use init::{IdPairs, Options, PathList, Slots, copy_of_pairs, copy_of_paths};
+pub use gix_odb_calls::{
+    Call, CallError, IdPairs, Options, PathList, Query, Reply, Slots, StoreParts, copy_of_pairs,
+    copy_of_paths, find, init, load_index, write,
+};
+pub use handle_state::HandleState;
 pub use look_state::LookState;
-pub use look_up::{LookHead, LookStage, LookUp, LooseRound, Part, Purpose, Setting};
 pub use open_state::OpenState;
-pub use query::Query;

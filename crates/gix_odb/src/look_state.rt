@@ -2,17 +2,15 @@
 ghost use Rattle.std.specs.Prelude.{◌≡◌, slice_get, IfOk};
 ghost use Rattle.std.specs.Option.{option_copied};
 ghost use Rattle.gix_odb.specs.HandleState.{folders_of, limit_of, objects_of, sought_by};
-ghost use Rattle.gix_odb.specs.Contents.{job_of as job_asked};
-ghost use Rattle.gix_odb.specs.LookOrder.{asking, at_next, result_of, started, waiting_in};
+ghost use Rattle.gix_odb.specs.LookOrder.{at_next, result_of, started, waiting_in};
 ghost use Rattle.gix_odb.specs.LookOrder as looks;
 
-use crate::call::{CallError, Reply};
-use crate::find;
 use crate::handle_state::HandleState;
-use crate::query::Query;
 use gix_hash::ObjectId;
-use gix_odb_loose::{LooseCall, LooseJob, LooseReply};
-use odb_base::{NoMemory, PathText};
+use gix_odb_calls::verdict::{Verdict, folder_call, refused, verdict_on};
+use gix_odb_calls::{Query, Reply};
+use gix_odb_loose::LooseCall;
+use odb_base::NoMemory;
 use odb_disk::DiskAnswer;
 use std::alloc::Global;
 
@@ -51,16 +49,6 @@ pub struct Round {
     pub noted: Option<gix_odb_loose::find::Error>,
 }
 
-/// What the reply of one folder means for the query.
-pub enum Verdict {
-    /// The query ends.
-    Ends(Reply),
-    /// The object isn't in this folder, so the next one is asked.
-    Misses,
-    /// The folder can't tell. The error is noted, and the next folder is asked.
-    Notes(gix_odb_loose::find::Error),
-}
-
 impl LookState {
     /// A new query. It asks nothing of the disk yet.
     pub fn start(alloc: Global, handle: &HandleState, query: Query) -> Result<LookState, NoMemory>
@@ -69,7 +57,8 @@ impl LookState {
         let id = handle.sought(query);
         let head = Head { query, id };
         let parts = handle.parts();
-        let call = head.asked(alloc, &parts.objects, parts.alloc_limit_bytes)?;
+        let limit = parts.alloc_limit_bytes;
+        let call = folder_call(alloc, &parts.objects, limit, query, id)?;
         let round = Round {
             next: 0,
             noted: None,
@@ -118,22 +107,6 @@ impl LookState {
 }
 
 impl Head {
-    // The call of a folder that is asked for the object.
-    pub(crate) fn asked(
-        self,
-        alloc: Global,
-        folder: &PathText,
-        limit: Option<u64>,
-    ) -> Result<LooseCall, NoMemory>
-        ensures asking { IfOk result (λ call. call ≡ asking limit self.query self.id folder.now) }
-    {
-        let options = gix_odb_loose::Options {
-            alloc_limit_bytes: limit,
-        };
-        let store = gix_odb_loose::Store::at_opts(alloc, folder, self.id.kind(), options)?;
-        LooseCall::start(alloc, &store, job_of(self.query, self.id))
-    }
-
     // A stage after the answer to its call of the disk.
     fn next_stage(
         self,
@@ -193,7 +166,8 @@ impl Head {
         let Round { next, noted } = round;
         let folders = handle.parts().folders.as_slice();
         if next < folders.len() {
-            let call = self.asked(alloc, &folders[next], handle.parts().alloc_limit_bytes)?;
+            let limit = handle.parts().alloc_limit_bytes;
+            let call = folder_call(alloc, &folders[next], limit, self.query, self.id)?;
             let next = next + 1;
             let round = Round { next, noted };
             Ok(Stage::Loose { round, call })
@@ -215,55 +189,6 @@ impl Round {
         };
         Round { next, noted }
     }
-}
-
-fn job_of(query: Query, id: ObjectId) -> LooseJob
-    ensures job { result ≡ job_asked query id }
-{
-    match query {
-        Query::Find(_) => LooseJob::Find(id),
-        Query::Header(_) => LooseJob::Header(id),
-        Query::Test(_) => LooseJob::Contains(id),
-    }
-}
-
-// What a query makes of the reply to its job.
-pub(crate) fn verdict_on(query: Query, reply: LooseReply) -> Verdict
-    ensures verdict { result ≡ looks.verdict_on query reply }
-{
-    match (query, reply) {
-        (Query::Find(_), LooseReply::Found(Ok(Some((kind, bytes))))) => {
-            Verdict::Ends(Reply::Found { kind, bytes })
-        }
-        (Query::Find(_), LooseReply::Found(Err(error))) => Verdict::Ends(refused(error)),
-        (Query::Header(_), LooseReply::Header(Ok(Some((size, kind))))) => {
-            Verdict::Ends(Reply::Header(find::Header::Loose { kind, size }))
-        }
-        (Query::Header(_), LooseReply::Header(Err(error))) => Verdict::Ends(refused(error)),
-        (Query::Test(_), LooseReply::Contains(answer)) => verdict_on_test(answer),
-        // Nothing is at the path; or the reply is that to another job, which no folder gives.
-        _ => Verdict::Misses,
-    }
-}
-
-// A look that failed is noted, so that another folder may still say yes.
-fn verdict_on_test(answer: Result<bool, gix_odb_loose::find::Error>) -> Verdict
-    ensures verdict { result ≡ looks.verdict_on_test answer }
-{
-    match answer {
-        Ok(true) => Verdict::Ends(Reply::Tested(true)),
-        Ok(false) => Verdict::Misses,
-        Err(gix_odb_loose::find::Error::NoMemory) => {
-            Verdict::Ends(refused(gix_odb_loose::find::Error::NoMemory))
-        }
-        Err(error) => Verdict::Notes(error),
-    }
-}
-
-fn refused(error: gix_odb_loose::find::Error) -> Reply
-    ensures refused { result ≡ looks.refused error }
-{
-    Reply::Refused(CallError::Find(find::Error::Loose(error)))
 }
 
 // The reply where no folder answered.

@@ -4,9 +4,8 @@ ghost use Rattle.gix_odb.specs.HandleState.{objects_of};
 ghost use Rattle.gix_odb.specs.OpenOrder.{ask_of, opened, opening_reply, result_of};
 ghost use Rattle.gix_odb.specs.OpenOrder.{fed as fed_with};
 
-use crate::call::{CallError, Reply};
 use crate::handle_state::HandleState;
-use crate::init;
+use gix_odb_calls::{CallError, Reply, init};
 use odb_base::NoMemory;
 use odb_disk::{DiskAnswer, DiskAsk, DiskError, Kind};
 use std::alloc::Global;

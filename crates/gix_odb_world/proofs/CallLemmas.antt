@@ -13,16 +13,17 @@ use Rattle.gix_odb_loose.specs.LooseOrder as loose_order
 use Rattle.gix_odb_loose.specs.declared.call.LooseCall.{LooseCall}
 use Rattle.gix_odb_loose.specs.declared.call.LooseReply.{LooseReply}
 use Rattle.gix_odb_loose.specs.declared.find.Error as loose
-use Rattle.gix_odb.specs.declared.query.Query.{Query}
-use Rattle.gix_odb.specs.declared.query.Query.TheVariants.{Find, Header, Test}
-use Rattle.gix_odb.specs.declared.call.Reply.{Reply}
+use Rattle.gix_odb_calls.specs.declared.query.Query.{Query}
+use Rattle.gix_odb_calls.specs.declared.query.Query.TheVariants.{Find, Header, Test}
+use Rattle.gix_odb_calls.specs.declared.call.Reply.{Reply}
 use Rattle.gix_odb.specs.declared.look_state.LookState.{LookState}
 use Rattle.gix_odb.specs.declared.look_state.Head.{Head}
 use Rattle.gix_odb.specs.declared.look_state.Stage.{Stage}
 use Rattle.gix_odb.specs.declared.look_state.Stage.TheVariants as stages
-use Rattle.gix_odb.specs.declared.look_state.Verdict.{Verdict}
-use Rattle.gix_odb.specs.declared.look_state.Verdict.TheVariants as verdicts
-use Rattle.gix_odb.specs.LookOrder.{after_verdict, asking, at_next, by_reply, ended, first_of, next_stage, result_at, round_at, verdict_on}
+use Rattle.gix_odb_calls.specs.declared.verdict.Verdict.{Verdict}
+use Rattle.gix_odb_calls.specs.declared.verdict.Verdict.TheVariants as verdicts
+use Rattle.gix_odb.specs.LookOrder.{after_verdict, at_next, by_reply, ended, first_of, next_stage, result_at, round_at}
+use Rattle.gix_odb_calls.specs.Verdict.{asking, verdict_on}
 use Rattle.gix_odb_world.specs.Causes.{LooseCause}
 use Rattle.gix_odb.specs.Contents.{StoreData, folder_list}
 use Rattle.gix_odb.specs.Held.{InLooseFile, LiesAt, Place}

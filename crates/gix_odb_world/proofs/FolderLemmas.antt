@@ -25,13 +25,14 @@ use Rattle.gix_odb_loose.specs.declared.call.LooseReply.{LooseReply}
 use Rattle.gix_odb_loose.specs.declared.call.LooseReply.TheVariants as loose_replies
 use Rattle.gix_odb_loose.specs.declared.find.Error.{Error}
 use Rattle.gix_odb_loose.specs.declared.find.Error.TheVariants as errors
-use Rattle.gix_odb.specs.declared.query.Query.{Query}
-use Rattle.gix_odb.specs.declared.query.Query.TheVariants.{Find, Header, Test}
-use Rattle.gix_odb.specs.declared.look_state.Verdict.{Verdict}
-use Rattle.gix_odb.specs.declared.look_state.Verdict.TheVariants as verdicts
-use Rattle.gix_odb.specs.LookOrder.{asking, loose_store, verdict_on}
+use Rattle.gix_odb_calls.specs.declared.query.Query.{Query}
+use Rattle.gix_odb_calls.specs.declared.query.Query.TheVariants.{Find, Header, Test}
+use Rattle.gix_odb_calls.specs.declared.verdict.Verdict.{Verdict}
+use Rattle.gix_odb_calls.specs.declared.verdict.Verdict.TheVariants as verdicts
+use Rattle.gix_odb_calls.specs.Verdict.{asking, loose_store, verdict_on}
 use Rattle.gix_odb_world.specs.Causes.{GaveSometime, LooseCause}
-use Rattle.gix_odb.specs.Contents.{LooseFile, folder_list, job_of, of_loose}
+use Rattle.gix_odb.specs.Contents.{LooseFile, folder_list, of_loose}
+use Rattle.gix_odb_calls.specs.Verdict.{job_of}
 use Rattle.gix_odb_world.specs.Status.{Store}
 use Rattle.gix_odb.specs.Held.{Held}
 use Rattle.gix_odb_world.specs.Promise.{Keeps, claim_of}

@@ -16,15 +16,15 @@ use Rattle.gix_odb.specs.CallOrder.{looking_result}
 use Rattle.gix_odb.specs.Contents.{folder_list}
 use Rattle.gix_odb.specs.LookOrder.{ask_at}
 use Rattle.gix_odb.specs.LookOrder as looks
-use Rattle.gix_odb.specs.declared.call.Reply.{Reply}
+use Rattle.gix_odb_calls.specs.declared.call.Reply.{Reply}
 use Rattle.gix_odb.specs.declared.call_state.CallState.TheVariants.{Looking}
 use Rattle.gix_odb.specs.declared.handle_state.HandleState.{HandleState}
 use Rattle.gix_odb.specs.declared.look_state.Head.{Head}
 use Rattle.gix_odb.specs.declared.look_state.LookState.{LookState}
 use Rattle.gix_odb.specs.declared.look_state.Stage.{Stage}
 use Rattle.gix_odb.specs.declared.look_state.Stage.TheVariants as stages
-use Rattle.gix_odb.specs.declared.query.Query.{Query}
-use Rattle.gix_odb.specs.declared.query.Query.TheVariants.{Find, Header, Test}
+use Rattle.gix_odb_calls.specs.declared.query.Query.{Query}
+use Rattle.gix_odb_calls.specs.declared.query.Query.TheVariants.{Find, Header, Test}
 use Rattle.gix_odb_world.specs.declared.work.Work.TheVariants.{Calling}
 use Rattle.gix_odb_world.specs.Bound.{bound_of_call, bound_of_task, bytes_to_write, default_changes, laps_without_change, turns_each, turns_of_folder, turns_of_lap}
 use Rattle.gix_odb_world.specs.AtWork.{nothing_in_front, Modes}

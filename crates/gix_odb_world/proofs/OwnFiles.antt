@@ -13,7 +13,7 @@ use Rattle.odb_tree.specs.Tree.{Tree}
 use Rattle.odb_tree.specs.Tree.Write.{spot, vacant}
 use Rattle.odb_tree.specs.declared.change.Change.TheVariants.{PutFile}
 use Rattle.odb_tree.proofs.OwnWayLaws.{OwnSpot, own_not_vacant}
-use Rattle.gix_odb_world.specs.declared.step.Step.TheVariants as steps
+use Rattle.gix_odb_calls.specs.declared.step.Step.TheVariants as steps
 use Rattle.gix_odb_world.specs.Event.{Event}
 use Rattle.gix_odb_world.specs.Run.{IsTurnOf, tree_at}
 use Rattle.gix_odb_world.specs.Undisturbed.{HasMade, IsUndisturbed}

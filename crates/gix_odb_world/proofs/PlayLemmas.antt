@@ -3,12 +3,12 @@ use Rattle.std.proofs.Common.{◌≡◌, ◌≢◌, ℕ, ◌+◌, ◌-◌, ◌<�
 use Rattle.std.specs.List.{AllByRecursion}
 use Rattle.std.proofs.lemmas.List.{append-nil, append_assoc, get_or_push, length-append, length-map, map-append, take_more, length_push}
 use Rattle.odb_disk.specs.MemDisk.{Volume}
-use Rattle.gix_odb_world.specs.declared.step.Step.{Step}
-use Rattle.gix_odb_world.specs.declared.step.Step.TheVariants.{Turn}
-use Rattle.gix_odb_world.specs.declared.step.Outcome.{Outcome}
-use Rattle.gix_odb_world.specs.declared.step.Outcome.TheVariants.{Pending}
-use Rattle.gix_odb_world.specs.declared.play.Line.{Line}
-use Rattle.gix_odb_world.specs.declared.play.Line.TheVariants.{One, Finish}
+use Rattle.gix_odb_calls.specs.declared.step.Step.{Step}
+use Rattle.gix_odb_calls.specs.declared.step.Step.TheVariants.{Turn}
+use Rattle.gix_odb_calls.specs.declared.step.Outcome.{Outcome}
+use Rattle.gix_odb_calls.specs.declared.step.Outcome.TheVariants.{Pending}
+use Rattle.gix_odb_calls.specs.declared.line.Line.{Line}
+use Rattle.gix_odb_calls.specs.declared.line.Line.TheVariants.{One, Finish}
 use Rattle.gix_odb_world.specs.declared.world.World.{World}
 use Rattle.gix_odb_world.specs.Event.{Event}
 use Rattle.gix_odb_world.specs.Play.{Made, StandsFor, Plays, made_of}

@@ -9,10 +9,10 @@ use Rattle.gix_hash.specs.declared.object_id.ObjectId.{ObjectId}
 use Rattle.gix_odb_loose.proofs.CauseLaws.{Cause-wider}
 use Rattle.gix_odb_loose.specs.LooseFile.{Reading, LeadsToFile, loose_path}
 use Rattle.gix_odb_loose.specs.declared.find.Error as loose
-use Rattle.gix_odb.specs.declared.query.Query.{Query}
+use Rattle.gix_odb_calls.specs.declared.query.Query.{Query}
 use Rattle.gix_odb.specs.declared.look_state.LookState.{LookState}
 use Rattle.gix_odb.specs.declared.look_state.Stage.{Stage}
-use Rattle.gix_odb.specs.Contents.{job_of}
+use Rattle.gix_odb_calls.specs.Verdict.{job_of}
 use Rattle.gix_odb_world.specs.Causes.{Sometime, GaveSometime, LooseCause}
 use Rattle.gix_odb_world.specs.Event.{Event}
 use Rattle.gix_odb_world.specs.Status.{Running, Store}

@@ -14,11 +14,11 @@ use Rattle.odb_tree.proofs.TreeLemmas.Changed.{IsTree-changed, after_change-tree
 use Rattle.odb_tree.proofs.WriteLaws.{tree_of-written}
 use Rattle.odb_disk.proofs.AskedLaws.{IsTree-asked}
 use Rattle.gix_odb_world.specs.declared.record.Did.TheVariants.{Nothing}
-use Rattle.gix_odb_world.specs.declared.step.Outcome.{Outcome}
-use Rattle.gix_odb_world.specs.declared.step.Outcome.TheVariants as outcomes
-use Rattle.gix_odb_world.specs.declared.step.Step.{Step}
-use Rattle.gix_odb_world.specs.declared.step.Step.TheVariants as steps
-use Rattle.gix_odb_world.specs.declared.step.Why.{Why}
+use Rattle.gix_odb_calls.specs.declared.step.Outcome.{Outcome}
+use Rattle.gix_odb_calls.specs.declared.step.Outcome.TheVariants as outcomes
+use Rattle.gix_odb_calls.specs.declared.step.Step.{Step}
+use Rattle.gix_odb_calls.specs.declared.step.Step.TheVariants as steps
+use Rattle.gix_odb_calls.specs.declared.step.Why.{Why}
 use Rattle.gix_odb_world.specs.Event.{Asked, OfNothing, OfDisk, OfCore, Event}
 use Rattle.gix_odb_world.specs.Status.{Running, Status, Free, Resting, Working, status_of, status_after}
 use Rattle.gix_odb_world.specs.Headline.{IsTurn, Law, LeavesDisk, Suits, Turns}

@@ -5,7 +5,7 @@ use Rattle.odb_base.specs.Path.{Path}
 use Rattle.odb_tree.specs.Tree.{Tree}
 use Rattle.odb_tree.specs.Tree.Way.{SameOnWay}
 use Rattle.odb_tree.specs.Tree.Write.{file_spot}
-use Rattle.gix_odb_world.specs.declared.step.Step.TheVariants as steps
+use Rattle.gix_odb_calls.specs.declared.step.Step.TheVariants as steps
 use Rattle.gix_odb_world.specs.Event.{Event}
 use Rattle.gix_odb_world.specs.Run.{IsTurnOf, tree_at}
 use Rattle.gix_odb_world.specs.Undisturbed.{AreApart, CutsOff, HasMade, IsAloneAtRename, IsCutOff, IsKept, IsSpared, IsUndisturbed, StandsAlone, WritesStandAlone}

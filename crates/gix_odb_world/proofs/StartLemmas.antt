@@ -3,9 +3,9 @@ use Rattle.std.proofs.Common.{◌≡◌, ℕ, ◌+◌, List, [], ◌∷◌, ◌+
 use mathlib.Core.Path.{fun_ext}
 use Rattle.std.proofs.lemmas.List.{length_push}
 use Rattle.odb_disk.specs.MemDisk.{Volume}
-use Rattle.gix_odb_world.specs.declared.step.Step.TheVariants as steps
-use Rattle.gix_odb_world.specs.declared.step.Outcome.TheVariants as outcomes
-use Rattle.gix_odb.specs.declared.call.Call.{Call}
+use Rattle.gix_odb_calls.specs.declared.step.Step.TheVariants as steps
+use Rattle.gix_odb_calls.specs.declared.step.Outcome.TheVariants as outcomes
+use Rattle.gix_odb_calls.specs.declared.call.Call.{Call}
 use Rattle.gix_odb_world.specs.declared.record.Did.TheVariants.{Nothing}
 use Rattle.gix_odb_world.specs.declared.handle.Handle.{Handle}
 use Rattle.gix_odb.specs.declared.handle_state.HandleState.{HandleState}

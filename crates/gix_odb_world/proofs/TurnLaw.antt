@@ -8,9 +8,9 @@ use Rattle.odb_base.specs.Path.{Path}
 use Rattle.odb_tree.specs.Tree.{IsTree, tree_of}
 use Rattle.odb_tree.specs.declared.change.Change.{Change}
 use Rattle.odb_disk.specs.MemDisk.{Volume}
-use Rattle.gix_odb_world.specs.declared.step.Step.TheVariants as steps
-use Rattle.gix_odb_world.specs.declared.step.Outcome.TheVariants as outcomes
-use Rattle.gix_odb.specs.declared.call.Reply.{Reply}
+use Rattle.gix_odb_calls.specs.declared.step.Step.TheVariants as steps
+use Rattle.gix_odb_calls.specs.declared.step.Outcome.TheVariants as outcomes
+use Rattle.gix_odb_calls.specs.declared.call.Reply.{Reply}
 use Rattle.gix_odb.specs.declared.handle_state.HandleState.{HandleState}
 use Rattle.gix_odb_world.specs.declared.work.Work.{Work}
 use Rattle.gix_odb_world.specs.declared.world.World.{World}

@@ -14,7 +14,7 @@ use Rattle.gix_odb_loose.specs.declared.write_order.WriteAsk.TheVariants as want
 use Rattle.gix_odb_loose.specs.declared.write_order.WriteStage.{WriteStage}
 use Rattle.gix_odb_loose.specs.declared.write_order.WriteStage.TheVariants.{Making}
 use Rattle.gix_odb_loose.proofs.WriteDoneLaws.{IsAlong-left}
-use Rattle.gix_odb.specs.declared.call.Reply.{Reply}
+use Rattle.gix_odb_calls.specs.declared.call.Reply.{Reply}
 use Rattle.gix_odb.specs.declared.call_state.CallState.TheVariants.{Writing}
 use Rattle.gix_odb_world.specs.declared.work.Work.TheVariants.{Calling}
 use Rattle.gix_odb_world.specs.Bound.{bound_of_task, default_changes, laps_without_change, turns_beside_pieces, turns_of_lap}

@@ -9,8 +9,8 @@ use Rattle.gix_odb_loose.specs.LooseFile.{loose_path}
 use Rattle.gix_odb_loose.specs.WriteJobs.{piece_at, pieces_of}
 use Rattle.gix_odb_loose.specs.WriteOrder.{prefix_path, temp_names, temp_path}
 use Rattle.gix_odb_loose.specs.WritePieces.{piece_size}
-use Rattle.gix_odb.specs.declared.call.Call.TheVariants as calls
-use Rattle.gix_odb.specs.declared.query.Query.TheVariants.{Find, Header, Test}
+use Rattle.gix_odb_calls.specs.declared.call.Call.TheVariants as calls
+use Rattle.gix_odb_calls.specs.declared.query.Query.TheVariants.{Find, Header, Test}
 use Rattle.gix_odb.specs.Contents.{folder_list, sought}
 use Rattle.gix_odb_world.specs.AtWork.{nothing_in_front, Modes}
 use Rattle.gix_odb_world.specs.Event.{Ask, CoreEvent, Event, ToCore, ToDisk}

@@ -1,7 +1,7 @@
 -- What a handle is at: a task in a store, and the work that is left of it.
 use Rattle.std.specs.Prelude.{ℕ, Bool, true, false}
 use Rattle.gix_odb.specs.Contents.{StoreData}
-use Rattle.gix_odb.specs.declared.call.Call.{Call}
+use Rattle.gix_odb_calls.specs.declared.call.Call.{Call}
 use Rattle.gix_odb_world.specs.declared.work.Work.{Work}
 
 -- a store that was opened, or whose opening runs: the number of its open step, its slots, and its parts

@@ -2,12 +2,12 @@
 use Rattle.std.specs.Prelude.{◌≡◌, ◌↔◌, ℕ, ◌+◌, ◌≤◌, Bool, true, false, ◌==◌, List, count_by, drop, slice_get, Some}
 use Rattle.odb_base.specs.Path.{Path}
 use Rattle.gix_hash.specs.declared.object_id.ObjectId.{ObjectId}
-use Rattle.gix_odb.specs.declared.call.Call.{Call}
-use Rattle.gix_odb.specs.declared.init.Options.{Options}
-use Rattle.gix_odb.specs.declared.init.Slots.TheVariants.{Given}
-use Rattle.gix_odb_world.specs.declared.step.Step.{Step}
-use Rattle.gix_odb_world.specs.declared.step.Step.TheVariants as steps
-use Rattle.gix_odb_world.specs.declared.step.Outcome.TheVariants as outcomes
+use Rattle.gix_odb_calls.specs.declared.call.Call.{Call}
+use Rattle.gix_odb_calls.specs.declared.init.Options.{Options}
+use Rattle.gix_odb_calls.specs.declared.init.Slots.TheVariants.{Given}
+use Rattle.gix_odb_calls.specs.declared.step.Step.{Step}
+use Rattle.gix_odb_calls.specs.declared.step.Step.TheVariants as steps
+use Rattle.gix_odb_calls.specs.declared.step.Outcome.TheVariants as outcomes
 use Rattle.gix_odb_world.specs.Event.{Event}
 use Rattle.gix_odb_world.specs.Status.{MakeCall, OpenStore, Store, Task, Modes}
 

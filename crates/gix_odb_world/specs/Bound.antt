@@ -4,8 +4,8 @@ use Rattle.std.specs.List.{list_all, list_any}
 use Rattle.odb_base.specs.Path.{Path, Name}
 use Rattle.odb_tree.specs.Tree.{Tree}
 use Rattle.odb_tree.specs.Tree.Follow.{listed}
-use Rattle.gix_odb.specs.declared.call.Call.{Call}
-use Rattle.gix_odb.specs.declared.call.Call.TheVariants.{Write}
+use Rattle.gix_odb_calls.specs.declared.call.Call.{Call}
+use Rattle.gix_odb_calls.specs.declared.call.Call.TheVariants.{Write}
 use Rattle.gix_odb_loose.specs.WriteJobs.{pieces_of}
 use Rattle.gix_odb.specs.Contents.{StoreData, folder_list}
 use Rattle.gix_odb_world.specs.AtWork.{Store, Task, OpenStore, MakeCall}

@@ -9,13 +9,14 @@ use Rattle.gix_hash.specs.declared.object_id.ObjectId.{ObjectId}
 use Rattle.gix_odb_loose.specs.Causes.{Cause}
 use Rattle.gix_odb_loose.specs.LooseFile.{Reading, loose_path}
 use Rattle.gix_odb_loose.specs.declared.find.Error as loose
-use Rattle.gix_odb.specs.declared.query.Query.{Query}
-use Rattle.gix_odb.specs.declared.init.Error as opening
-use Rattle.gix_odb.specs.declared.init.Error.TheVariants as opening_errors
-use Rattle.gix_odb.specs.declared.find.Error as finding
-use Rattle.gix_odb.specs.declared.find.Error.TheVariants as find_errors
+use Rattle.gix_odb_calls.specs.declared.query.Query.{Query}
+use Rattle.gix_odb_calls.specs.declared.init.Error as opening
+use Rattle.gix_odb_calls.specs.declared.init.Error.TheVariants as opening_errors
+use Rattle.gix_odb_calls.specs.declared.find.Error as finding
+use Rattle.gix_odb_calls.specs.declared.find.Error.TheVariants as find_errors
 pub use Rattle.gix_odb.specs.Moments.{Sometime}
-use Rattle.gix_odb.specs.Contents.{folder_list, job_of}
+use Rattle.gix_odb.specs.Contents.{folder_list}
+use Rattle.gix_odb_calls.specs.Verdict.{job_of}
 use Rattle.gix_odb_world.specs.AtWork.{Store}
 use Rattle.gix_odb.specs.OpenOrder.{most_slots}
 

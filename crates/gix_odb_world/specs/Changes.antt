@@ -12,11 +12,11 @@ use Rattle.gix_hash.specs.declared.object_id.ObjectId.{ObjectId}
 use Rattle.gix_odb_loose.specs.LooseFile.{loose_path}
 use Rattle.gix_odb_loose.specs.WriteOrder.{prefix_path, temp_names, temp_path}
 use Rattle.gix_odb_loose.specs.WritePieces.{piece_size}
-use Rattle.gix_odb.specs.declared.call.Call.TheVariants.{Write}
-use Rattle.gix_odb_world.specs.declared.step.Step.{Step}
-use Rattle.gix_odb_world.specs.declared.step.Step.TheVariants as steps
-use Rattle.gix_odb_world.specs.declared.step.Outcome.{Outcome}
-use Rattle.gix_odb_world.specs.declared.step.Outcome.TheVariants as outcomes
+use Rattle.gix_odb_calls.specs.declared.call.Call.TheVariants.{Write}
+use Rattle.gix_odb_calls.specs.declared.step.Step.{Step}
+use Rattle.gix_odb_calls.specs.declared.step.Step.TheVariants as steps
+use Rattle.gix_odb_calls.specs.declared.step.Outcome.{Outcome}
+use Rattle.gix_odb_calls.specs.declared.step.Outcome.TheVariants as outcomes
 use Rattle.gix_odb_world.specs.Event.{Ask, Event, ToCore, ToDisk}
 use Rattle.gix_odb_world.specs.Status.{Store, MakeCall, Task}
 use Rattle.gix_odb_world.specs.Run.{disk_after}

@@ -7,9 +7,9 @@ use Rattle.gix_hash.specs.ObjectId.{id_cmp}
 use Rattle.gix_odb.specs.Contents.{replacement_in}
 use Rattle.gix_odb.specs.HandleState.{replacement_of}
 use Rattle.gix_odb_world.specs.Status.{Store, Modes}
-use Rattle.gix_odb.specs.OpenOrder.{given_slots}
+use Rattle.gix_odb_calls.specs.Slots.{given_slots}
 use Rattle.gix_odb.specs.declared.handle_state.HandleState.{HandleState}
-use Rattle.gix_odb.specs.declared.init.Options.{Options}
+use Rattle.gix_odb_calls.specs.declared.init.Options.{Options}
 
 -- the handle has what its open step was handed
 pub record IsOpened (objects : Path) (folders : List Path) (replacements : List (ObjectId × ObjectId)) (options : Options) (handle : HandleState) : Type 0 where

@@ -1,7 +1,7 @@
 -- Which machine each kind of work is of, and what it asks and comes to. A further machine has one line here. A status keeps the code's
 -- `Work`, and a function by its cases computes to a machine and its state; a sum of machines would need that function beside it.
 use Rattle.std.specs.Prelude.{Option, Result, refl}
-use Rattle.gix_odb.specs.declared.call.Reply.{Reply}
+use Rattle.gix_odb_calls.specs.declared.call.Reply.{Reply}
 use Rattle.gix_odb.specs.declared.call_state.CallState.TheVariants.{Looking, Writing}
 use Rattle.gix_odb_loose.specs.declared.call.LooseCall.{LooseCall}
 use Rattle.gix_odb_world.specs.declared.work.Work.{Work}

@@ -1,12 +1,12 @@
 -- Lines: a step, or all turns of a handle up to its reply.
 use Rattle.std.specs.Prelude.{◌≡◌, ◌≢◌, ℕ, ◌+◌, ◌-◌, List, [], ◌∷◌, ◌++◌, length}
 use Rattle.std.specs.List.{AllByRecursion}
-use Rattle.gix_odb_world.specs.declared.step.Step.{Step}
-use Rattle.gix_odb_world.specs.declared.step.Step.TheVariants as step_kinds
-use Rattle.gix_odb_world.specs.declared.step.Outcome.{Outcome}
-use Rattle.gix_odb_world.specs.declared.step.Outcome.TheVariants as comes
-use Rattle.gix_odb_world.specs.declared.play.Line.{Line}
-use Rattle.gix_odb_world.specs.declared.play.Line.TheVariants.{One, Finish}
+use Rattle.gix_odb_calls.specs.declared.step.Step.{Step}
+use Rattle.gix_odb_calls.specs.declared.step.Step.TheVariants as step_kinds
+use Rattle.gix_odb_calls.specs.declared.step.Outcome.{Outcome}
+use Rattle.gix_odb_calls.specs.declared.step.Outcome.TheVariants as comes
+use Rattle.gix_odb_calls.specs.declared.line.Line.{Line}
+use Rattle.gix_odb_calls.specs.declared.line.Line.TheVariants.{One, Finish}
 
 -- A step that was made, and what it came to.
 pub record Made : Type 0 where

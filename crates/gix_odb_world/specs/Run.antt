@@ -13,8 +13,8 @@ use Rattle.odb_tree.specs.declared.disk_error.DiskError.TheVariants as disk_erro
 use Rattle.gix_odb_world.specs.Recorded.{path_recorded}
 use Rattle.gix_odb_world.specs.declared.record.Did.{Did}
 use Rattle.gix_odb_world.specs.declared.record.Did.TheVariants.{Nothing, Disk}
-use Rattle.gix_odb_world.specs.declared.step.Step.{Step}
-use Rattle.gix_odb_world.specs.declared.step.Step.TheVariants as steps
+use Rattle.gix_odb_calls.specs.declared.step.Step.{Step}
+use Rattle.gix_odb_calls.specs.declared.step.Step.TheVariants as steps
 use Rattle.gix_odb_world.specs.Event.{Ask, Asked, OfNothing, OfDisk, OfCore, ToCore, ToDisk, Event, core_answer}
 
 abbrev pub disk_after_change : Volume → Option Change → Volume

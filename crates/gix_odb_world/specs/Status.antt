@@ -5,19 +5,19 @@ use Rattle.gix_hash.specs.declared.object_id.ObjectId.{ObjectId}
 use Rattle.gix_odb_loose.specs.declared.call.LooseCall.{LooseCall}
 use Rattle.gix_odb.specs.Contents.{sought}
 use Rattle.gix_odb.specs.CallOrder as calls
-use Rattle.gix_odb.specs.OpenOrder.{given_slots}
-use Rattle.gix_odb.specs.declared.call.Call.{Call}
-use Rattle.gix_odb.specs.declared.call.CallError.TheVariants as call_errors
-use Rattle.gix_odb.specs.declared.call.Reply.{Reply}
-use Rattle.gix_odb.specs.declared.call.Reply.TheVariants as replies
-use Rattle.gix_odb.specs.declared.init.Options.{Options}
+use Rattle.gix_odb_calls.specs.Slots.{given_slots}
+use Rattle.gix_odb_calls.specs.declared.call.Call.{Call}
+use Rattle.gix_odb_calls.specs.declared.call.CallError.TheVariants as call_errors
+use Rattle.gix_odb_calls.specs.declared.call.Reply.{Reply}
+use Rattle.gix_odb_calls.specs.declared.call.Reply.TheVariants as replies
+use Rattle.gix_odb_calls.specs.declared.init.Options.{Options}
 use Rattle.gix_odb.specs.declared.open_state.OpenState.TheVariants.{Looking}
 pub use Rattle.gix_odb_world.specs.AtWork.{Store, Task, OpenStore, MakeCall, Modes, Running, modes_at_opening, now_ignoring}
 use Rattle.gix_odb_world.specs.Machines.{fed_in, write_in}
-use Rattle.gix_odb_world.specs.declared.step.Step.{Step}
-use Rattle.gix_odb_world.specs.declared.step.Step.TheVariants as steps
-use Rattle.gix_odb_world.specs.declared.step.Outcome.{Outcome}
-use Rattle.gix_odb_world.specs.declared.step.Outcome.TheVariants as outcomes
+use Rattle.gix_odb_calls.specs.declared.step.Step.{Step}
+use Rattle.gix_odb_calls.specs.declared.step.Step.TheVariants as steps
+use Rattle.gix_odb_calls.specs.declared.step.Outcome.{Outcome}
+use Rattle.gix_odb_calls.specs.declared.step.Outcome.TheVariants as outcomes
 use Rattle.gix_odb_world.specs.declared.work.Work.{Work}
 use Rattle.gix_odb_world.specs.declared.work.Work.TheVariants.{Opening, Calling}
 use Rattle.gix_odb_world.specs.Event.{Asked, Event, answered}

@@ -6,11 +6,11 @@ use Rattle.odb_tree.specs.Tree.{tree_of}
 use Rattle.odb_disk.specs.MemDisk.{Volume}
 use Rattle.odb_disk.specs.declared.ask.DiskAsk.{DiskAsk}
 use Rattle.odb_tree.specs.declared.change.Change.{Change}
-use Rattle.gix_odb.specs.declared.call.Reply.{Reply}
-use Rattle.gix_odb_world.specs.declared.step.Step.{Step}
-use Rattle.gix_odb_world.specs.declared.step.Step.TheVariants as steps
-use Rattle.gix_odb_world.specs.declared.step.Outcome.{Outcome}
-use Rattle.gix_odb_world.specs.declared.step.Why.{Why}
+use Rattle.gix_odb_calls.specs.declared.call.Reply.{Reply}
+use Rattle.gix_odb_calls.specs.declared.step.Step.{Step}
+use Rattle.gix_odb_calls.specs.declared.step.Step.TheVariants as steps
+use Rattle.gix_odb_calls.specs.declared.step.Outcome.{Outcome}
+use Rattle.gix_odb_calls.specs.declared.step.Why.{Why}
 use Rattle.gix_odb_world.specs.declared.record.Did.{Did}
 use Rattle.gix_odb_world.specs.declared.record.Did.TheVariants as done
 use Rattle.gix_odb_world.specs.declared.handle.Handle.{Handle}

@@ -4,7 +4,7 @@ use Rattle.odb_disk.specs.declared.ask.DiskAsk.{DiskAsk}
 use Rattle.odb_disk.specs.declared.ask.DiskAnswer.{DiskAnswer}
 use Rattle.gix_odb.specs.CallOrder as calls
 use Rattle.gix_odb.specs.OpenOrder as openings
-use Rattle.gix_odb.specs.declared.call.Reply.{Reply}
+use Rattle.gix_odb_calls.specs.declared.call.Reply.{Reply}
 use Rattle.gix_odb.specs.declared.call_state.CallState.{CallState}
 use Rattle.gix_odb.specs.declared.handle_state.HandleState.{HandleState}
 use Rattle.gix_odb.specs.declared.open_state.OpenState.{OpenState}

@@ -24,8 +24,8 @@ use Rattle.gix_odb_loose.specs.declared.write_order.WriteHead.{WriteHead}
 use Rattle.gix_odb.specs.CallOrder.{hash_to_write}
 use Rattle.gix_odb_world.specs.Event.{OfDisk, Event}
 use Rattle.gix_odb_world.specs.Run.{Fails, IsTurnOf, TellsCall, disk_after, tree_at}
-use Rattle.gix_odb.specs.declared.call.Call.{Call}
-use Rattle.gix_odb.specs.declared.call.Call.TheVariants.{Write}
+use Rattle.gix_odb_calls.specs.declared.call.Call.{Call}
+use Rattle.gix_odb_calls.specs.declared.call.Call.TheVariants.{Write}
 use Rattle.gix_odb_world.specs.declared.record.Did.{Did}
 use Rattle.gix_odb_world.specs.declared.record.Did.TheVariants.{Disk}
 

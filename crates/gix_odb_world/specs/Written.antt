@@ -19,10 +19,10 @@ use Rattle.gix_odb_loose.specs.declared.write.Message.TheVariants as messages
 use Rattle.gix_odb_world.specs.Event.{Event}
 use Rattle.gix_odb_world.specs.Run.{tree_at}
 use Rattle.gix_odb_world.specs.Writing.{AskedAt, CauseOfWrite, ChangedNothing, LeftAlone, TurnsMadeOnly, NoTurnRenamed, ToWrite, name_to_write}
-use Rattle.gix_odb.specs.declared.call.CallError.TheVariants as call_errors
-use Rattle.gix_odb.specs.declared.call.Reply.{Reply}
-use Rattle.gix_odb.specs.declared.call.Reply.TheVariants as replies
-use Rattle.gix_odb.specs.declared.write.Error.TheVariants as write_errors
+use Rattle.gix_odb_calls.specs.declared.call.CallError.TheVariants as call_errors
+use Rattle.gix_odb_calls.specs.declared.call.Reply.{Reply}
+use Rattle.gix_odb_calls.specs.declared.call.Reply.TheVariants as replies
+use Rattle.gix_odb_calls.specs.declared.write.Error.TheVariants as write_errors
 
 -- A write that gave the object its name, in the last event. The temporary file was made at the place `made`.
 pub record HasWritten (first : Volume) (events : List Event) (handle begun : ℕ) (w : ToWrite) (id : ObjectId) : Type 0 where

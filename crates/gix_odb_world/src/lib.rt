@@ -16,14 +16,15 @@ mod handle;
 mod opening;
 mod play;
 mod record;
-mod step;
 mod turn;
 mod work;
 mod world;
 
 pub use bound::bound_of;
-pub use gix_odb::{Call, CallError, IdPairs, Options, PathList, Reply, Slots, find, init, write};
-pub use play::{Line, Play};
+pub use gix_odb_calls::{
+    Call, CallError, IdPairs, Line, Options, Outcome, PathList, Reply, Slots, Step, Why, find,
+    init, write,
+};
+pub use play::Play;
 pub use record::{Did, OutcomeList, Record, RecordList, Run};
-pub use step::{Outcome, Step, Why};
 pub use world::{World, is_valid};

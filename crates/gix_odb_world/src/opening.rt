@@ -8,7 +8,8 @@ ghost use Rattle.gix_odb_world.specs.Handle.{IsOpened};
 ghost use Rattle.gix_odb_world.specs.Valid.{are_distinct, is_openable};
 
 use gix_hash::ObjectId;
-use gix_odb::{HandleState, IdPairs, Options, PathList, StoreParts, copy_of_paths};
+use gix_odb::HandleState;
+use gix_odb_calls::{IdPairs, Options, PathList, StoreParts, copy_of_paths};
 use odb_base::{NoMemory, PathText};
 use std::alloc::Global;
 use std::collections::{BTreeMap, BTreeSet};

@@ -5,19 +5,11 @@ ghost use Rattle.gix_odb_world.specs.Play.{Plays, StandsFor, made_of};
 ghost use Rattle.gix_odb_world.specs.Played.{MakesOne, PlaysLine, PlaysTurns};
 
 use crate::record::Run;
-use crate::step::Step;
 use crate::world::World;
+use gix_odb_calls::{Line, Step};
 use odb_base::{NoMemory, Sequence};
 use odb_disk::MemDisk;
 use std::alloc::Global;
-
-/// A line of a script.
-#[derive(Drop)]
-pub enum Line {
-    One(Step),
-    /// All turns of a handle up to and including the first whose outcome isn't pending.
-    Finish { handle: u32 },
-}
 
 /// What lines came to: the run, the steps that were made, and for each line the place of its last step.
 #[derive(Drop)]

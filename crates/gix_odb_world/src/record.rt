@@ -4,7 +4,7 @@ ghost use Rattle.std.specs.Option.{option_map};
 ghost use Rattle.gix_odb_world.specs.Recorded.{path_recorded};
 ghost use Rattle.gix_odb_world.specs.Run.{did_of};
 
-use crate::step::Outcome;
+use gix_odb_calls::Outcome;
 use odb_base::{NoMemory, Sequence};
 use odb_disk::{Change, DiskAnswer, DiskAsk, DiskError, MemDisk, Op, PathText};
 use std::alloc::Global;

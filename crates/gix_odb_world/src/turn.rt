@@ -12,9 +12,9 @@ ghost use Rattle.gix_odb_world.specs.Table.{after_turn, change_now, did_now, dis
 
 use crate::handle::Handle;
 use crate::record::Did;
-use crate::step::Outcome;
 use crate::work::Work;
-use gix_odb::{CallError, HandleState, Reply};
+use gix_odb::HandleState;
+use gix_odb_calls::{CallError, Outcome, Reply};
 use odb_base::NoMemory;
 use odb_disk::{Change, DiskAnswer, DiskAsk, DiskError, MemDisk, PathText};
 use std::alloc::Global;

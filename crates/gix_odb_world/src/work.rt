@@ -4,7 +4,8 @@ ghost use Rattle.std.specs.Option.{option_map};
 ghost use Rattle.gix_odb_world.specs.Recorded.{opened_in};
 ghost use Rattle.gix_odb_world.specs.WorkOrder.{ask_on, fed_on, result_in};
 
-use gix_odb::{CallState, HandleState, OpenState, Reply};
+use gix_odb::{CallState, HandleState, OpenState};
+use gix_odb_calls::Reply;
 use odb_base::NoMemory;
 use odb_disk::{DiskAnswer, DiskAsk, PathText};
 use std::alloc::Global;

@@ -13,10 +13,10 @@ ghost use Rattle.gix_odb_world.specs.Table.{HasOneMore, Notes, SetsHandle, Settl
 use crate::handle::Handle;
 use crate::opening;
 use crate::record::{Did, OutcomeList, Record, RecordList, Run};
-use crate::step::{Outcome, Step, Why};
 use crate::turn::{carried_out, settled};
 use crate::work::Work;
-use gix_odb::{Call, CallState, HandleState, IdPairs, OpenState, Options, PathList};
+use gix_odb::{CallState, HandleState, OpenState};
+use gix_odb_calls::{Call, IdPairs, Options, Outcome, PathList, Step, Why};
 use odb_base::NoMemory;
 use odb_disk::{Change, Impossible, MemDisk, PathText};
 use std::alloc::Global;

@@ -13,9 +13,9 @@ use Rattle.gix_hash.specs.ObjectId.{IsId, hex_of, is_lower_text, is_lower_digit}
 use Rattle.gix_hash.specs.declared.object_id.ObjectId.{ObjectId}
 use Rattle.gix_hash.specs.declared.object_id.ObjectId.TheVariants as ids
 use Rattle.gix_hash.proofs.ObjectIdLemmas.{id_of-hex_of, is_lower_text-hex_of}
-use Rattle.gix_odb.specs.declared.call.Call.TheVariants as calls
-use Rattle.gix_odb_world.specs.declared.step.Step.TheVariants as steps
-use Rattle.gix_odb_world.specs.declared.play.Line.TheVariants.{One, Finish}
+use Rattle.gix_odb_calls.specs.declared.call.Call.TheVariants as calls
+use Rattle.gix_odb_calls.specs.declared.step.Step.TheVariants as steps
+use Rattle.gix_odb_calls.specs.declared.line.Line.TheVariants.{One, Finish}
 use Rattle.odb_script.specs.declared.item.Item.TheVariants as items
 use Rattle.odb_script.specs.declared.word.Question.{Question}
 use Rattle.odb_script.specs.declared.word.Question.TheVariants as questions

@@ -7,10 +7,10 @@ use Rattle.odb_base.specs.Path.{Path, path_of, same_name}
 use Rattle.gix_hash.specs.ObjectId.{id_of}
 use Rattle.gix_hash.specs.declared.object_id.ObjectId.{ObjectId}
 use Rattle.gix_hash.specs.declared.object_id.ObjectId.TheVariants as ids
-use Rattle.gix_odb.specs.declared.init.Options.{Options}
-use Rattle.gix_odb.specs.declared.init.Slots.TheVariants.{Given}
-use Rattle.gix_odb_world.specs.declared.step.Step.TheVariants as steps
-use Rattle.gix_odb_world.specs.declared.play.Line.TheVariants.{One}
+use Rattle.gix_odb_calls.specs.declared.init.Options.{Options}
+use Rattle.gix_odb_calls.specs.declared.init.Slots.TheVariants.{Given}
+use Rattle.gix_odb_calls.specs.declared.step.Step.TheVariants as steps
+use Rattle.gix_odb_calls.specs.declared.line.Line.TheVariants.{One}
 use Rattle.odb_script.specs.declared.choice.Choice.{Choice}
 use Rattle.odb_script.specs.declared.choice.Choice.TheVariants as choices
 use Rattle.odb_script.specs.declared.choice.Chosen.{Chosen}

@@ -4,7 +4,7 @@ use Rattle.std.specs.FinSet as set
 use Rattle.odb_tree.specs.Tree.Change.{is_possible}
 use Rattle.odb_disk.specs.MemDisk.{Volume, new_volume, after_outside_change}
 use Rattle.odb_tree.specs.declared.change.Change.{Change}
-use Rattle.gix_odb_world.specs.declared.play.Line.{Line}
+use Rattle.gix_odb_calls.specs.declared.line.Line.{Line}
 use Rattle.odb_script.specs.declared.item.Item.{Item}
 use Rattle.odb_script.specs.declared.item.Item.TheVariants as items
 use Rattle.odb_script.specs.declared.reader.Script.{Script}

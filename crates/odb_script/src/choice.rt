@@ -8,7 +8,7 @@ ghost use Rattle.odb_script.specs.Opening.{has_value, name_in, value_in, replace
 use crate::field::{id_of, path_of};
 use crate::split::at_colon;
 use gix_hash::ObjectId;
-use gix_odb_world::{IdPairs, PathList};
+use gix_odb_calls::{IdPairs, PathList};
 use odb_base::{NoMemory, parse_decimal};
 use odb_disk::PathText;
 use std::alloc::Global;

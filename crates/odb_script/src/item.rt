@@ -11,7 +11,7 @@ use crate::split::fields_of;
 use crate::word::{ChangeWord, Question, Word, change_word_of, word_of};
 use crate::write::{stream, write, writeas};
 use gix_hash::ObjectId;
-use gix_odb_world::{Call, Line, Step};
+use gix_odb_calls::{Call, Line, Step};
 use odb_base::{NoMemory, parse_decimal};
 use odb_disk::Change;
 use std::alloc::Global;

@@ -9,7 +9,7 @@ use crate::choice::{Chosen, chosen_by, id_pair, name_and_value};
 use crate::field::{handle_of, path_of};
 use crate::item::Item;
 use gix_hash::ObjectId;
-use gix_odb_world::{Line, Options, Slots, Step};
+use gix_odb_calls::{Line, Options, Slots, Step};
 use odb_base::NoMemory;
 use odb_disk::PathText;
 use std::alloc::Global;

@@ -8,7 +8,7 @@ ghost use Rattle.odb_script.specs.Split.{lines_in};
 
 use crate::item::{Item, item_of};
 use crate::split::first_part;
-use gix_odb_world::Line;
+use gix_odb_calls::Line;
 use odb_base::{NoMemory, Sequence};
 use odb_disk::{Change, Impossible, MemDisk};
 use std::alloc::Global;

@@ -7,7 +7,7 @@ use crate::item::{Item, step_item};
 use crate::word::Word;
 use gix_hash::ObjectId;
 use gix_object::Kind;
-use gix_odb_world::{Call, Step};
+use gix_odb_calls::{Call, Step};
 use odb_base::{ByteList, NoMemory, parse_decimal};
 use std::alloc::Global;
 

@@ -8,14 +8,15 @@ use Rattle.gix_hash.specs.declared.object_id.ObjectId.{ObjectId}
 use Rattle.gix_odb_loose.specs.LooseFile.{loose_path}
 use Rattle.gix_odb_loose.specs.LooseOrder.{disk_ask_of}
 use Rattle.gix_odb.specs.declared.look_state.LookState.{LookState}
-use Rattle.gix_odb.specs.declared.query.Query.{Query}
-use Rattle.gix_odb.specs.declared.query.Query.TheVariants.{Find, Header, Test}
+use Rattle.gix_odb_calls.specs.declared.query.Query.{Query}
+use Rattle.gix_odb_calls.specs.declared.query.Query.TheVariants.{Find, Header, Test}
 use Rattle.gix_odb_world.specs.Asks.{AsksInOrder}
 use Rattle.gix_odb.specs.Contents.{folder_list, sought}
 use Rattle.gix_odb_world.specs.AtWork.{nothing_in_front, Modes}
 use Rattle.gix_odb_world.specs.Event.{Event}
 use Rattle.gix_odb_world.specs.Status.{Store, MakeCall}
-use Rattle.gix_odb.specs.LookOrder.{ask_at, asking}
+use Rattle.gix_odb.specs.LookOrder.{ask_at}
+use Rattle.gix_odb_calls.specs.Verdict.{asking}
 use Rattle.gix_odb_world.specs.Run.{FailedSince, tree_at}
 use Rattle.gix_odb_world.specs.Running.Query.{Seeks, call_of}
 

@@ -18,8 +18,8 @@ use Rattle.odb_tree.proofs.TreeLemmas.Write.{replaceable_at}
 use Rattle.odb_tree.proofs.WayWriteLaws.{rename_file_spot, rename_spot}
 use Rattle.gix_hash.specs.declared.object_id.ObjectId.{ObjectId}
 use Rattle.gix_odb_loose.specs.WriteOrder.{temp_path}
-use Rattle.gix_odb.specs.declared.call.Reply.TheVariants as replies
-use Rattle.gix_odb_world.specs.declared.step.Outcome.TheVariants as outcomes
+use Rattle.gix_odb_calls.specs.declared.call.Reply.TheVariants as replies
+use Rattle.gix_odb_calls.specs.declared.step.Outcome.TheVariants as outcomes
 use Rattle.gix_odb_world.specs.Event.{Event}
 use Rattle.gix_odb_world.specs.Run.{disk_after, tree_at}
 use Rattle.gix_odb_world.specs.Status.{MakeCall}

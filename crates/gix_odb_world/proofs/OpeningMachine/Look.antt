@@ -10,8 +10,8 @@ use Rattle.odb_disk.specs.Ask.{answer_of, meta_answer}
 use Rattle.odb_disk.specs.declared.ask.DiskAnswer.TheVariants as answers
 use Rattle.odb_disk.specs.declared.ask.DiskAsk.TheVariants as asks
 use Rattle.gix_odb.specs.OpenOrder.{most_slots, opened, opening_refused, opening_reply}
-use Rattle.gix_odb.specs.declared.call.Reply.TheVariants as replies
-use Rattle.gix_odb.specs.declared.init.Error.TheVariants as opening_errors
+use Rattle.gix_odb_calls.specs.declared.call.Reply.TheVariants as replies
+use Rattle.gix_odb_calls.specs.declared.init.Error.TheVariants as opening_errors
 use Rattle.gix_odb_world.specs.Causes.{Sometime, ShowsDirectory}
 use Rattle.gix_odb_world.specs.Promise.{OpeningPromise}
 use Rattle.gix_odb_world.specs.Status.{Store}

@@ -23,9 +23,9 @@ use Rattle.gix_odb_loose.specs.declared.write_order.WriteStage.{WriteStage}
 use Rattle.gix_odb_loose.specs.declared.write_order.WriteStage.TheVariants as stages
 use Rattle.gix_odb_loose.proofs.WriteMadeLaws.{history_makes}
 use Rattle.gix_odb.specs.CallOrder.{result_of_write}
-use Rattle.gix_odb.specs.declared.call.Reply.TheVariants as replies
+use Rattle.gix_odb_calls.specs.declared.call.Reply.TheVariants as replies
 use Rattle.gix_odb_world.specs.declared.record.Did.TheVariants.{Disk}
-use Rattle.gix_odb_world.specs.declared.step.Outcome.TheVariants as outcomes
+use Rattle.gix_odb_calls.specs.declared.step.Outcome.TheVariants as outcomes
 use Rattle.gix_odb_world.specs.Event.{Event, ToDisk, to_disk}
 use Rattle.gix_odb_world.specs.Machines.{write_in}
 use Rattle.gix_odb_world.specs.Status.{IsAtWrite, Running, Working, status_of}

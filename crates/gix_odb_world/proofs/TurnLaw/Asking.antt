@@ -7,10 +7,10 @@ use Rattle.odb_disk.specs.MemDisk.{Volume}
 use Rattle.odb_disk.specs.Ask.{answer_now, change_of_ask, op_of}
 use Rattle.odb_disk.specs.declared.ask.DiskAsk.{DiskAsk}
 use Rattle.odb_disk.specs.declared.ask.DiskAnswer.{DiskAnswer}
-use Rattle.gix_odb.specs.declared.call.Reply.{Reply}
+use Rattle.gix_odb_calls.specs.declared.call.Reply.{Reply}
 use Rattle.gix_odb.specs.declared.handle_state.HandleState.{HandleState}
 use Rattle.gix_odb_world.specs.declared.record.Did.TheVariants.{Disk}
-use Rattle.gix_odb_world.specs.declared.step.Step.TheVariants as steps
+use Rattle.gix_odb_calls.specs.declared.step.Step.TheVariants as steps
 use Rattle.gix_odb_world.specs.declared.work.Work.{Work}
 use Rattle.gix_odb_world.specs.Asks.{AsksAsTask}
 use Rattle.gix_odb_world.specs.Changes.{ChangesAsAsked}

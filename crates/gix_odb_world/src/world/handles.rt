@@ -7,9 +7,9 @@ ghost use Rattle.gix_odb_world.specs.Table.{SetsHandle, phase_of_handle, with_ig
 
 use super::World;
 use crate::handle::Handle;
-use crate::step::Why;
 use crate::work::Work;
 use gix_odb::HandleState;
+use gix_odb_calls::Why;
 use odb_base::NoMemory;
 use std::mem::replace;
 

@@ -1,6 +1,6 @@
 use Rattle.std.proofs.Common.{Result, Ok, Err, ◌∙◌, subst}
 use Rattle.std.specs.Prelude.{OnOk}
-use Rattle.gix_odb_world.specs.declared.step.Step.{Step}
+use Rattle.gix_odb_calls.specs.declared.step.Step.{Step}
 use Rattle.gix_odb_world.specs.World.{Continues}
 use Rattle.gix_odb_world.proofs.PlayLemmas.{last_is, makes_one}
 use Rattle.gix_odb_world.proofs.play.make.Goals as goal

@@ -1,8 +1,8 @@
 use Rattle.std.proofs.Common.{None, Err, ap, refl}
 use Rattle.std.proofs.lemmas.Result.{on_ok_weaker}
-use Rattle.gix_odb_world.specs.declared.step.Step.TheVariants as steps
-use Rattle.gix_odb_world.specs.declared.step.Outcome.TheVariants.{Misuse}
-use Rattle.gix_odb_world.specs.declared.step.Why.TheVariants.{ImpossibleChange}
+use Rattle.gix_odb_calls.specs.declared.step.Step.TheVariants as steps
+use Rattle.gix_odb_calls.specs.declared.step.Outcome.TheVariants.{Misuse}
+use Rattle.gix_odb_calls.specs.declared.step.Why.TheVariants.{ImpossibleChange}
 use Rattle.gix_odb_world.specs.declared.record.Did.TheVariants.{Nothing}
 use Rattle.gix_odb_world.proofs.StepLemmas.{misused, changed, notes_kept}
 use Rattle.gix_odb_world.proofs.world.World.change.Goals as goal

@@ -2,7 +2,7 @@ use Rattle.std.proofs.Common.{sym}
 use Rattle.std.proofs.lemmas.Result.{on_ok_weaker}
 use Rattle.gix_odb_world.proofs.StepLemmas.{misused}
 use Rattle.gix_odb_world.proofs.HandleLemmas.{ignored}
-use Rattle.gix_odb_world.specs.declared.step.Step.TheVariants as steps
+use Rattle.gix_odb_calls.specs.declared.step.Step.TheVariants as steps
 use Rattle.gix_odb_world.proofs.world.World.ignore.Goals as goal
 
 pub returns-in-Some-clause-continues : goal.returns-in-Some-clause-continues

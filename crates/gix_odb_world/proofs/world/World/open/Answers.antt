@@ -1,7 +1,7 @@
 use Rattle.std.proofs.Common.{◌≡◌, false, true, sym}
 use Rattle.std.proofs.lemmas.Result.{on_ok_weaker}
-use Rattle.gix_odb_world.specs.declared.step.Step.TheVariants as steps
-use Rattle.gix_odb_world.specs.declared.step.Why.TheVariants.{BadOpen}
+use Rattle.gix_odb_calls.specs.declared.step.Step.TheVariants as steps
+use Rattle.gix_odb_calls.specs.declared.step.Why.TheVariants.{BadOpen}
 use Rattle.gix_odb_world.specs.Handle.{IsOpened}
 use Rattle.gix_odb_world.specs.Table.{phase_of_handle}
 use Rattle.gix_odb_world.specs.Valid.{is_openable}

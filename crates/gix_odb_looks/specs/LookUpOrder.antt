@@ -27,20 +27,20 @@ use Rattle.gix_odb_packs.specs.declared.lister.ListStep.TheVariants as listed
 use Rattle.gix_odb_packs.specs.declared.lister.Lister.{Lister}
 use Rattle.gix_odb_packs.specs.declared.search.Notes.{Notes}
 use Rattle.gix_odb_packs.specs.declared.trier.Tried.{Tried}
-use Rattle.gix_odb.specs.LoadIndex.{of_refusal}
-use Rattle.gix_odb.specs.declared.call.Reply.{Reply}
-use Rattle.gix_odb.specs.declared.load_index.Error.TheVariants as load_errors
-use Rattle.gix_odb.specs.declared.look_up.LookHead.{LookHead}
-use Rattle.gix_odb.specs.declared.look_up.LookStage.{LookStage}
-use Rattle.gix_odb.specs.declared.look_up.LookStage.TheVariants as stages
-use Rattle.gix_odb.specs.declared.look_up.LookUp.{LookUp}
-use Rattle.gix_odb.specs.declared.look_up.Part.TheVariants as parts
-use Rattle.gix_odb.specs.declared.look_up.Purpose.{Purpose}
-use Rattle.gix_odb.specs.declared.look_up.Purpose.TheVariants as purposes
+use Rattle.gix_odb_looks.specs.LoadIndex.{of_refusal}
+use Rattle.gix_odb_calls.specs.declared.call.Reply.{Reply}
+use Rattle.gix_odb_calls.specs.declared.load_index.Error.TheVariants as load_errors
+use Rattle.gix_odb_looks.specs.declared.look_up.LookHead.{LookHead}
+use Rattle.gix_odb_looks.specs.declared.look_up.LookStage.{LookStage}
+use Rattle.gix_odb_looks.specs.declared.look_up.LookStage.TheVariants as stages
+use Rattle.gix_odb_looks.specs.declared.look_up.LookUp.{LookUp}
+use Rattle.gix_odb_looks.specs.declared.look_up.Part.TheVariants as parts
+use Rattle.gix_odb_looks.specs.declared.look_up.Purpose.{Purpose}
+use Rattle.gix_odb_looks.specs.declared.look_up.Purpose.TheVariants as purposes
 use Rattle.gix_odb_packs.specs.declared.trier.Trier.{Trier}
-pub use Rattle.gix_odb.specs.LookUpOrder.Replies.{load_refused, find_error, reply_found, not_found, ended}
-pub use Rattle.gix_odb.specs.LookUpOrder.Parts.{Setting, setting_of, wanted_by, goal_of, loose_from, listing_from, after_list, after_loose, by_tried, try_view}
-pub use Rattle.gix_odb.specs.LookUpOrder.Parts.{without_notes, new_head, started, at_folder, by_verdict, by_reply, by_call, is_unsettled, unsettled, counted}
+pub use Rattle.gix_odb_looks.specs.LookUpOrder.Replies.{load_refused, find_error, reply_found, not_found, ended}
+pub use Rattle.gix_odb_looks.specs.LookUpOrder.Parts.{Setting, setting_of, wanted_by, goal_of, loose_from, listing_from, after_list, after_loose, by_tried, try_view}
+pub use Rattle.gix_odb_looks.specs.LookUpOrder.Parts.{without_notes, new_head, started, at_folder, by_verdict, by_reply, by_call, is_unsettled, unsettled, counted}
 
 -- ---- the core's answers
 

@@ -1,8 +1,4 @@
 //! Why the indices of a store could not be brought up to date.
-ghost use Rattle.std.specs.Prelude.{◌≡◌};
-ghost use Rattle.gix_odb.specs.LoadIndex.{of_refusal};
-
-use gix_odb_core::Refusal;
 use thiserror::Error;
 
 /// Why the indices of a store could not be brought up to date.
@@ -32,17 +28,4 @@ pub enum Error {
     },
     #[error("out of memory")]
     NoMemory,
-}
-
-/// The error of a call whose event was refused.
-pub(crate) fn of_refusal(refusal: Refusal) -> Error
-    ensures error { result ≡ of_refusal refusal }
-{
-    match refusal {
-        Refusal::InsufficientSlots { current, needed } => {
-            Error::InsufficientSlots { current, needed }
-        }
-        Refusal::GenerationOverflow => Error::GenerationOverflow,
-        Refusal::NoMemory => Error::NoMemory,
-    }
 }

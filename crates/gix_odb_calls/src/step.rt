@@ -1,7 +1,8 @@
 //! The steps of a world, and what each comes to.
 ghost use Rattle.std.specs.Prelude.{◌≡◌, IfOk};
 
-use gix_odb::{Call, IdPairs, Options, PathList, Reply, copy_of_pairs, copy_of_paths};
+use crate::call::{Call, Reply};
+use crate::init::{IdPairs, Options, PathList, copy_of_pairs, copy_of_paths};
 use odb_base::NoMemory;
 use odb_disk::{Change, PathText};
 use std::alloc::Global;

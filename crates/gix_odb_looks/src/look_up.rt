@@ -2,17 +2,15 @@
 //! the folders of packs.
 ghost use Rattle.std.specs.Prelude.{◌≡◌, IfOk, [], None, Some};
 ghost use Rattle.std.specs.Option.{option_copied};
-ghost use Rattle.gix_odb.specs.LookUpOrder.{setting_of};
+ghost use Rattle.gix_odb_looks.specs.LookUpOrder.{setting_of};
 ghost use Rattle.gix_odb_loose.specs.LooseOrder.{disk_ask_of};
-ghost use Rattle.gix_odb.specs.LookUpOrder as order;
+ghost use Rattle.gix_odb_looks.specs.LookUpOrder as order;
 
 mod answered;
 mod parts;
 
-use crate::call::Reply;
-use crate::handle_state::StoreParts;
-use crate::query::Query;
 use gix_hash::ObjectId;
+use gix_odb_calls::{Query, Reply, StoreParts};
 use gix_odb_core::{Event, Listing, Refusal, View};
 use gix_odb_loose::LooseCall;
 use gix_odb_packs::{Answer, Lister, Notes, PartAsk, Trier};

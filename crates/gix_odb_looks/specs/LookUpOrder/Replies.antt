@@ -5,18 +5,18 @@ use Rattle.gix_odb_packs.specs.declared.goal.Error.TheVariants as pack_errors
 use Rattle.gix_odb_packs.specs.declared.goal.Found.{Found}
 use Rattle.gix_odb_packs.specs.declared.goal.Found.TheVariants as found
 use Rattle.gix_odb_packs.specs.declared.search.Notes.{Notes}
-use Rattle.gix_odb.specs.declared.call.CallError.TheVariants as call_errors
-use Rattle.gix_odb.specs.declared.call.Reply.{Reply}
-use Rattle.gix_odb.specs.declared.call.Reply.TheVariants as replies
-use Rattle.gix_odb.specs.declared.find.Error as find
-use Rattle.gix_odb.specs.declared.find.Error.TheVariants as find_errors
-use Rattle.gix_odb.specs.declared.find.Header.TheVariants as headers
-use Rattle.gix_odb.specs.declared.load_index.Error as load_index
-use Rattle.gix_odb.specs.declared.load_index.Error.TheVariants as load_errors
-use Rattle.gix_odb.specs.declared.look_up.LookStage.{LookStage}
-use Rattle.gix_odb.specs.declared.look_up.LookStage.TheVariants as stages
-use Rattle.gix_odb.specs.declared.query.Query.{Query}
-use Rattle.gix_odb.specs.declared.query.Query.TheVariants.{Test}
+use Rattle.gix_odb_calls.specs.declared.call.CallError.TheVariants as call_errors
+use Rattle.gix_odb_calls.specs.declared.call.Reply.{Reply}
+use Rattle.gix_odb_calls.specs.declared.call.Reply.TheVariants as replies
+use Rattle.gix_odb_calls.specs.declared.find.Error as find
+use Rattle.gix_odb_calls.specs.declared.find.Error.TheVariants as find_errors
+use Rattle.gix_odb_calls.specs.declared.find.Header.TheVariants as headers
+use Rattle.gix_odb_calls.specs.declared.load_index.Error as load_index
+use Rattle.gix_odb_calls.specs.declared.load_index.Error.TheVariants as load_errors
+use Rattle.gix_odb_looks.specs.declared.look_up.LookStage.{LookStage}
+use Rattle.gix_odb_looks.specs.declared.look_up.LookStage.TheVariants as stages
+use Rattle.gix_odb_calls.specs.declared.query.Query.{Query}
+use Rattle.gix_odb_calls.specs.declared.query.Query.TheVariants.{Test}
 
 abbrev pub load_refused : load_index.Error → Reply
 load_refused error = replies.Refused (call_errors.Find (find_errors.LoadIndex error))

@@ -1,15 +1,13 @@
 //! The parts of a look-up, and what comes behind each.
 ghost use Rattle.std.specs.Prelude.{◌≡◌, IfOk, [], slice_get, true};
-ghost use Rattle.gix_odb.specs.LookUpOrder.{setting_of};
-ghost use Rattle.gix_odb.specs.LookOrder.{asking};
-ghost use Rattle.gix_odb.specs.LookUpOrder as order;
+ghost use Rattle.gix_odb_looks.specs.LookUpOrder.{setting_of};
+ghost use Rattle.gix_odb_calls.specs.Verdict.{asking};
+ghost use Rattle.gix_odb_looks.specs.LookUpOrder as order;
 
 use super::{LookHead, LookStage, LooseRound, Part, Purpose, Setting};
-use crate::call::{CallError, Reply};
-use crate::find;
-use crate::load_index::{self, of_refusal};
-use crate::look_state::{Head, Verdict};
-use crate::query::Query;
+use crate::load_index::of_refusal;
+use gix_odb_calls::verdict::{Verdict, folder_call};
+use gix_odb_calls::{CallError, Query, Reply, find, load_index};
 use gix_odb_core::{Shared, Todo, TodoList, View};
 use gix_odb_packs::{self as packs, Found, Goal, Lister, Notes, Rest, Tried, Trier, Wanted};
 use odb_base::{NoMemory, PathText};
@@ -115,11 +113,7 @@ impl LookHead {
     ) -> Result<gix_odb_loose::LooseCall, NoMemory>
         ensures asking { IfOk result (λ call. call ≡ asking limit self.query self.id folder.now) }
     {
-        let head = Head {
-            query: self.query,
-            id: self.id,
-        };
-        head.asked(alloc, folder, limit)
+        folder_call(alloc, folder, limit, self.query, self.id)
     }
 }
 

@@ -15,25 +15,25 @@ use Rattle.gix_odb_packs.specs.declared.goal.Wanted.TheVariants as wanted
 use Rattle.gix_odb_packs.specs.declared.search.Notes.{Notes}
 use Rattle.gix_odb_packs.specs.declared.trier.Tried.{Tried}
 use Rattle.gix_odb_packs.specs.declared.trier.Tried.TheVariants as tried
-use Rattle.gix_odb.specs.LoadIndex.{of_refusal}
-use Rattle.gix_odb.specs.LookOrder.{asking, verdict_on}
-use Rattle.gix_odb.specs.declared.call.CallError.TheVariants as call_errors
-use Rattle.gix_odb.specs.declared.call.Reply.TheVariants as replies
-use Rattle.gix_odb.specs.declared.load_index.Error.TheVariants as load_errors
-use Rattle.gix_odb.specs.declared.look_state.Verdict.{Verdict}
-use Rattle.gix_odb.specs.declared.look_state.Verdict.TheVariants as verdicts
-use Rattle.gix_odb.specs.declared.look_up.Setting as declared
-use Rattle.gix_odb.specs.declared.look_up.LookHead.{LookHead}
-use Rattle.gix_odb.specs.declared.look_up.LookStage.{LookStage}
-use Rattle.gix_odb.specs.declared.look_up.LookStage.TheVariants as stages
-use Rattle.gix_odb.specs.declared.look_up.LookUp.{LookUp}
-use Rattle.gix_odb.specs.declared.look_up.LooseRound.{LooseRound}
-use Rattle.gix_odb.specs.declared.look_up.Part.{Part}
-use Rattle.gix_odb.specs.declared.look_up.Part.TheVariants as parts
-use Rattle.gix_odb.specs.declared.look_up.Purpose.TheVariants as purposes
-use Rattle.gix_odb.specs.declared.query.Query.{Query}
-use Rattle.gix_odb.specs.declared.query.Query.TheVariants.{Find, Header, Test}
-use Rattle.gix_odb.specs.LookUpOrder.Replies.{load_refused, find_error, reply_found}
+use Rattle.gix_odb_looks.specs.LoadIndex.{of_refusal}
+use Rattle.gix_odb_calls.specs.Verdict.{asking, verdict_on}
+use Rattle.gix_odb_calls.specs.declared.call.CallError.TheVariants as call_errors
+use Rattle.gix_odb_calls.specs.declared.call.Reply.TheVariants as replies
+use Rattle.gix_odb_calls.specs.declared.load_index.Error.TheVariants as load_errors
+use Rattle.gix_odb_calls.specs.declared.verdict.Verdict.{Verdict}
+use Rattle.gix_odb_calls.specs.declared.verdict.Verdict.TheVariants as verdicts
+use Rattle.gix_odb_looks.specs.declared.look_up.Setting as declared
+use Rattle.gix_odb_looks.specs.declared.look_up.LookHead.{LookHead}
+use Rattle.gix_odb_looks.specs.declared.look_up.LookStage.{LookStage}
+use Rattle.gix_odb_looks.specs.declared.look_up.LookStage.TheVariants as stages
+use Rattle.gix_odb_looks.specs.declared.look_up.LookUp.{LookUp}
+use Rattle.gix_odb_looks.specs.declared.look_up.LooseRound.{LooseRound}
+use Rattle.gix_odb_looks.specs.declared.look_up.Part.{Part}
+use Rattle.gix_odb_looks.specs.declared.look_up.Part.TheVariants as parts
+use Rattle.gix_odb_looks.specs.declared.look_up.Purpose.TheVariants as purposes
+use Rattle.gix_odb_calls.specs.declared.query.Query.{Query}
+use Rattle.gix_odb_calls.specs.declared.query.Query.TheVariants.{Find, Header, Test}
+use Rattle.gix_odb_looks.specs.LookUpOrder.Replies.{load_refused, find_error, reply_found}
 
 -- what a look-up is told of the store that it is made in: the objects directory, the other folders, the limit on found objects, and how
 -- many lists of others it may meet

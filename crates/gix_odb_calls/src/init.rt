@@ -1,6 +1,6 @@
 //! Opening a store: the folders, the replaced ids and the options that an opening is handed, and why it was refused.
 ghost use Rattle.std.specs.Prelude.{◌≡◌, IfOk};
-ghost use Rattle.gix_odb.specs.OpenOrder.{given_slots};
+ghost use Rattle.gix_odb_calls.specs.Slots.{given_slots};
 
 use gix_hash::ObjectId;
 use odb_base::{NoMemory, PathText, Sequence};

@@ -1,5 +1,5 @@
 use Rattle.std.specs.Prelude.{◌≡◌, take}
-use Rattle.gix_odb.proofs.init.copy_of_pairs.Given as goal
+use Rattle.gix_odb_calls.proofs.init.copy_of_pairs.Given as goal
 
 -- the pairs so far are copied
 abbrev pub invariant-loop-pair : goal.invariant-loop-pair

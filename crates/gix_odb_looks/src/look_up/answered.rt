@@ -1,16 +1,17 @@
 //! What comes behind an answer to a look-up.
 ghost use Rattle.std.specs.Prelude.{◌≡◌, IfOk, Some, Ok, Err};
 ghost use Rattle.std.specs.Option.{option_copied};
-ghost use Rattle.gix_odb.specs.LookUpOrder.{setting_of};
-ghost use Rattle.gix_odb.specs.LookUpOrder as order;
+ghost use Rattle.gix_odb_looks.specs.LookUpOrder.{setting_of};
+ghost use Rattle.gix_odb_looks.specs.LookUpOrder as order;
 ghost use Rattle.gix_odb_packs.specs.declared.answer.Answer.TheVariants as told;
 
 use super::parts::{
     by_tried, by_verdict, ended, is_unsettled, listing_from, load_refused, try_view, unsettled,
 };
 use super::{LookHead, LookStage, LookUp, LooseRound, Part, Purpose, Setting};
-use crate::load_index::{self, of_refusal};
-use crate::look_state::verdict_on;
+use crate::load_index::of_refusal;
+use gix_odb_calls::load_index;
+use gix_odb_calls::verdict::verdict_on;
 use gix_odb_core::{Effect, Listing, Refusal, View};
 use gix_odb_loose::LooseCall;
 use gix_odb_packs::longest_first::longest_first;

@@ -1,0 +1,89 @@
+//! What a query asks of a folder of loose objects, and what the folder's reply means for it.
+ghost use Rattle.std.specs.Prelude.{◌≡◌, IfOk};
+ghost use Rattle.gix_odb_calls.specs.Verdict.{asking};
+ghost use Rattle.gix_odb_calls.specs.Verdict as queries;
+
+use crate::call::{CallError, Reply};
+use crate::find;
+use crate::query::Query;
+use gix_hash::ObjectId;
+use gix_odb_loose::{LooseCall, LooseJob, LooseReply};
+use odb_base::{NoMemory, PathText};
+use std::alloc::Global;
+
+/// What the reply of one folder means for the query.
+pub enum Verdict {
+    /// The query ends.
+    Ends(Reply),
+    /// The object isn't in this folder, so the next one is asked.
+    Misses,
+    /// The folder can't tell. The error is noted, and the next folder is asked.
+    Notes(gix_odb_loose::find::Error),
+}
+
+/// The call of a folder that is asked for the object that a query seeks.
+pub fn folder_call(
+    alloc: Global,
+    folder: &PathText,
+    limit: Option<u64>,
+    query: Query,
+    id: ObjectId,
+) -> Result<LooseCall, NoMemory>
+    ensures asking { IfOk result (λ call. call ≡ asking limit query id folder.now) }
+{
+    let options = gix_odb_loose::Options {
+        alloc_limit_bytes: limit,
+    };
+    let store = gix_odb_loose::Store::at_opts(alloc, folder, id.kind(), options)?;
+    LooseCall::start(alloc, &store, job_of(query, id))
+}
+
+fn job_of(query: Query, id: ObjectId) -> LooseJob
+    ensures job { result ≡ queries.job_of query id }
+{
+    match query {
+        Query::Find(_) => LooseJob::Find(id),
+        Query::Header(_) => LooseJob::Header(id),
+        Query::Test(_) => LooseJob::Contains(id),
+    }
+}
+
+/// What a query makes of the reply to its job.
+pub fn verdict_on(query: Query, reply: LooseReply) -> Verdict
+    ensures verdict { result ≡ queries.verdict_on query reply }
+{
+    match (query, reply) {
+        (Query::Find(_), LooseReply::Found(Ok(Some((kind, bytes))))) => {
+            Verdict::Ends(Reply::Found { kind, bytes })
+        }
+        (Query::Find(_), LooseReply::Found(Err(error))) => Verdict::Ends(refused(error)),
+        (Query::Header(_), LooseReply::Header(Ok(Some((size, kind))))) => {
+            Verdict::Ends(Reply::Header(find::Header::Loose { kind, size }))
+        }
+        (Query::Header(_), LooseReply::Header(Err(error))) => Verdict::Ends(refused(error)),
+        (Query::Test(_), LooseReply::Contains(answer)) => verdict_on_test(answer),
+        // Nothing is at the path; or the reply is that to another job, which no folder gives.
+        _ => Verdict::Misses,
+    }
+}
+
+// A look that failed is noted, so that another folder may still say yes.
+fn verdict_on_test(answer: Result<bool, gix_odb_loose::find::Error>) -> Verdict
+    ensures verdict { result ≡ queries.verdict_on_test answer }
+{
+    match answer {
+        Ok(true) => Verdict::Ends(Reply::Tested(true)),
+        Ok(false) => Verdict::Misses,
+        Err(gix_odb_loose::find::Error::NoMemory) => {
+            Verdict::Ends(refused(gix_odb_loose::find::Error::NoMemory))
+        }
+        Err(error) => Verdict::Notes(error),
+    }
+}
+
+/// The reply that tells the error of a folder as it is.
+pub fn refused(error: gix_odb_loose::find::Error) -> Reply
+    ensures refused { result ≡ queries.refused error }
+{
+    Reply::Refused(CallError::Find(find::Error::Loose(error)))
+}

@@ -1,0 +1,2 @@
+pub mod LoadIndex
+pub mod LookUpOrder

@@ -1,0 +1,19 @@
+//! Look-ups that find objects in the packs of a store too: the order of their work.
+//!
+//! A look-up is a machine: it names one call of the disk or one event of the store's core at a time, takes the answer,
+//! and comes to a reply. It tries the loaded indices of the handle's snapshot, the loose folders, the list of the core,
+//! and lists the folders of packs until the list that was tried is the newest: `specs/LookUpOrder.antt`. Calls that make
+//! one are not yet here.
+//! ```rust
+//! let mut look = LookUp::start(alloc, &setting, &snapshot, query, id)?;
+//! while let Some(ask) = look.ask(alloc)? {
+//!     let answer = ..;                       // of the disk, or of the core
+//!     look = look.feed(alloc, &setting, answer)?;
+//! }
+//! ```
+#![tactic(auto)]
+
+mod load_index;
+mod look_up;
+
+pub use look_up::{LookHead, LookStage, LookUp, LooseRound, Part, Purpose, Setting};

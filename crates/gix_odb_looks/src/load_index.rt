@@ -1,0 +1,19 @@
+//! What a look-up tells whose event was refused by the core of its store.
+ghost use Rattle.std.specs.Prelude.{◌≡◌};
+ghost use Rattle.gix_odb_looks.specs.LoadIndex.{of_refusal};
+
+use gix_odb_calls::load_index::Error;
+use gix_odb_core::Refusal;
+
+/// The error of a look-up whose event was refused.
+pub fn of_refusal(refusal: Refusal) -> Error
+    ensures error { result ≡ of_refusal refusal }
+{
+    match refusal {
+        Refusal::InsufficientSlots { current, needed } => {
+            Error::InsufficientSlots { current, needed }
+        }
+        Refusal::GenerationOverflow => Error::GenerationOverflow,
+        Refusal::NoMemory => Error::NoMemory,
+    }
+}
