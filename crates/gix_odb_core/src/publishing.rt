@@ -13,9 +13,9 @@ use crate::event::Refusal;
 use crate::shape::{Shape, Shelf};
 use crate::turn::{Told, Turn};
 use gix_odb_slots::publish::{
-    count_new, free_places, is_any_unsettled, list_after, slots_after, takes_over,
+    count_new, free_places, is_any_unsettled, list_after, list_as_is, slots_after, takes_over,
 };
-use gix_odb_slots::{Listing, ListingRow, SlotList};
+use gix_odb_slots::{Listing, ListingRow, Matched, SlotList};
 use odb_base::{NoMemory, Sequence};
 use std::alloc::Global;
 
@@ -35,16 +35,16 @@ impl Shape {
     }
 
     /// Whether a listing leaves the slots and the list as they are.
-    fn stands(&self, alloc: Global, rows: &[ListingRow], news: usize) -> Result<bool, NoMemory>
+    fn stands(&self, alloc: Global, matched: &Matched, news: usize) -> Result<bool, NoMemory>
         requires few { length self.now.slots ≤ most_slots }
-        requires news { length (new_rows self.now.slots rows.now) ≡ news }
-        ensures stands { IfOk result (λ same. same ≡ stands self.now rows.now) }
+        requires slots { matched.now.slots.now ≡ self.now.slots }
+        requires news { length (new_rows self.now.slots matched.now.rows.now) ≡ news }
+        ensures stands { IfOk result (λ same. same ≡ stands self.now matched.now.rows.now) }
     {
-        let slots = self.slots.as_slice();
-        if news > 0 || is_any_unsettled(rows, slots) {
+        if news > 0 || is_any_unsettled(matched) {
             return Ok(false);
         }
-        let list = list_after(alloc, rows, slots)?;
+        let list = list_as_is(alloc, matched)?;
         Ok(self.is_confirmed(&list, news))
     }
 
@@ -125,29 +125,29 @@ impl Shape {
         &self,
         alloc: Global,
         stable: bool,
-        rows: &[ListingRow],
+        matched: &Matched,
         free: &[usize],
         news: usize,
     ) -> Result<Turn, NoMemory>
         requires few { length self.now.slots ≤ most_slots }
         requires numbered { self.now.list_no ≤ self.now.state_id }
+        requires slots { matched.now.slots.now ≡ self.now.slots }
         requires stable { stable ≡ any_stable self.now.handles }
-        requires free { free.now ≡ free_places stable rows.now self.now.slots self.now.list }
+        requires free { free.now ≡ free_places stable matched.now.rows.now self.now.slots self.now.list }
         requires within { All (λ place. place < length self.now.slots) free.now }
-        requires news { length (new_rows self.now.slots rows.now) ≡ news }
+        requires news { length (new_rows self.now.slots matched.now.rows.now) ≡ news }
         requires room { news ≤ length free.now }
         requires packs { All HasFewPacks self.now.slots }
-        ensures turn { IfOk result (λ turn. turn ≡ publish_turn self.now rows.now (with_room self.now rows.now)) }
+        ensures turn { IfOk result (λ turn. turn ≡ publish_turn self.now matched.now.rows.now (with_room self.now matched.now.rows.now)) }
         ensures few_packs { IfOk result (λ turn. IfSome turn.shelf (λ shelf. All HasFewPacks shelf.slots)) }
     {
-        if self.stands(alloc, rows, news)? {
+        if self.stands(alloc, matched, news)? {
             return Ok(Turn::quiet(Told::Unchanged));
         }
-        let slots = self.slots.as_slice();
-        let renewed = takes_over(slots, free, news);
-        let after = slots_after(alloc, stable, rows, slots, free)?;
-        let list = list_after(alloc, rows, after.as_slice())?;
-        Ok(self.settled_as(rows, after, list, news, renewed))
+        let renewed = takes_over(matched.slots, free, news);
+        let after = slots_after(alloc, stable, matched, free)?;
+        let list = list_after(alloc, matched.rows, after.as_slice())?;
+        Ok(self.settled_as(matched.rows, after, list, news, renewed))
     }
 
     /// What a listing comes to.
@@ -163,18 +163,17 @@ impl Shape {
                 list_no: self.list_no,
             }));
         }
-        let rows = listing.rows.as_slice();
-        let slots = self.slots.as_slice();
         let stable = self.handles.is_any_stable();
-        let free = free_places(alloc, stable, rows, slots, self.list.as_slice())?;
-        let news = count_new(rows, slots);
+        let matched = Matched::new(alloc, listing.rows.as_slice(), self.slots.as_slice())?;
+        let free = free_places(alloc, stable, &matched, self.list.as_slice())?;
+        let news = count_new(&matched);
         if free.len() < news {
             let needed = news - free.len();
             return Ok(Turn::quiet(Told::Refused(Refusal::InsufficientSlots {
-                current: slots.len(),
+                current: self.slots.len(),
                 needed,
             })));
         }
-        self.publish_with_room(alloc, stable, rows, &free, news)
+        self.publish_with_room(alloc, stable, &matched, &free, news)
     }
 }

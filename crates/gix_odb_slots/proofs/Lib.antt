@@ -15,6 +15,8 @@ pub mod PassLemmas
 pub mod StandsLemmas
 mod KeptFilesLemmas
 mod PublishLemmas
+mod IndexKeysLemmas
+mod MatchedLemmas
 mod PositionLemmas
 pub mod FilterMapLemmas
 mod LoopLemmas

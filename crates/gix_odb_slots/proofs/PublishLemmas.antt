@@ -1,13 +1,12 @@
 -- The loops over rows and slots, a step at a time.
 use Rattle.std.proofs.Common.{◌≡◌, ℕ, zero, suc, ◌+◌, ◌-◌, ◌<◌, ◌≤◌, Bool, true, false, cond, List, [], ◌∷◌, ◌++◌, length, get_or}
-use Rattle.std.proofs.Common.{take, drop, set, Some, None, Option, All, position, refl, sym, ap, subst, ◌∙◌, append_assoc, arith}
+use Rattle.std.proofs.Common.{take, drop, set, Some, None, Option, All, refl, sym, ap, subst, ◌∙◌, append_assoc, arith}
 use Rattle.std.specs.List.{cons_option, filter, filter_map, range_with_len, zip}
 use Rattle.std.specs.Option.{option_to_list}
-use Rattle.std.proofs.lemmas.List.{drop_all, drop_more, get_or_default, take_more}
+use Rattle.std.proofs.lemmas.List.{drop_all, drop_more, take_more}
 use Rattle.std.proofs.lemmas.List.Elements.{All-append, All-cons, All-drop, All-nil, filter-append, filter_map-append}
-use Rattle.std.proofs.lemmas.Option.{unwrap_or-slice_get}
 use Rattle.gix_odb_slots.specs.Publish.{is_free, is_new, new_rows, slot_at, with_taken}
-use Rattle.gix_odb_slots.specs.Slots.{Slot, holds, new_filled}
+use Rattle.gix_odb_slots.specs.Slots.{Slot, new_filled}
 use Rattle.gix_odb_slots.specs.declared.listing.ListingRow.{ListingRow}
 use Rattle.gix_odb_slots.specs.declared.slot.Filled.{Filled}
 
@@ -44,18 +43,16 @@ nothing [] = refl
 nothing (place ∷ places) = refl
 
 -- a place more that is free or not
-pub free_places-step : (stable : Bool) (rows : List ListingRow) (slots : List Slot) (from place : ℕ) (begun old new : List ℕ) (slot : Slot) (free : Bool)
-    → from ≤ place → place < length slots → slot ≡ get_or slots place slot → free ≡ is_free stable rows slot
+pub free_places-step : (stable : Bool) (rows : List ListingRow) (slots : List Slot) (from place : ℕ) (begun old new : List ℕ) (free : Bool)
+    → from ≤ place → free ≡ is_free stable rows (slot_at slots place)
     → old ≡ begun ++ filter (λ k. is_free stable rows (slot_at slots k)) (range_with_len from (place - from))
     → new ≡ old ++ cond free (place ∷ []) []
     → new ≡ begun ++ filter (λ k. is_free stable rows (slot_at slots k)) (range_with_len from (place + 1 - from))
-free_places-step stable rows slots from place begun old new slot free order within is test so_far put =
-    let here : slot ≡ slot_at slots place = is ∙ get_or_default slots place slot None within ∙ sym (unwrap_or-slice_get slots place None) in
-    let same : free ≡ is_free stable rows (slot_at slots place) = test ∙ ap (is_free stable rows) here in
+free_places-step stable rows slots from place begun old new free order test so_far put =
     put
     ∙ ap (λ (l : List ℕ). l ++ cond free (place ∷ []) []) so_far
     ∙ append_assoc begun (filter (λ k. is_free stable rows (slot_at slots k)) (range_with_len from (place - from))) (cond free (place ∷ []) [])
-    ∙ ap (λ (b : Bool). begun ++ (filter (λ k. is_free stable rows (slot_at slots k)) (range_with_len from (place - from)) ++ cond b (place ∷ []) [])) same
+    ∙ ap (λ (b : Bool). begun ++ (filter (λ k. is_free stable rows (slot_at slots k)) (range_with_len from (place - from)) ++ cond b (place ∷ []) [])) test
     ∙ ap (λ (l : List ℕ). begun ++ l) (sym (filter-range_more (λ k. is_free stable rows (slot_at slots k)) from place order))
 
 pub within-step : (n place : ℕ) (old new : List ℕ) (free : Bool) → place < n → All (λ k. k < n) old → new ≡ old ++ cond free (place ∷ []) [] → All (λ k. k < n) new
@@ -64,17 +61,6 @@ within-step n place old new free below all put = subst (All (λ k. k < n)) (sym 
     one : (b : Bool) → All (λ k. k < n) (cond b (place ∷ []) [])
     one true = All-cons (λ k. k < n) place [] below (All-nil (λ k. k < n))
     one false = All-nil (λ k. k < n)
-
--- a row more, and the slot that holds it
-pub list_after-step : (slots : List Slot) (rows : List ListingRow) (i : ℕ) (row : ListingRow) (place : Option ℕ) (old new : List ℕ)
-    → i < length rows → row ≡ get_or rows i row → place ≡ position (holds row) slots
-    → old ≡ filter_map (λ r. position (holds r) slots) (take i rows) → new ≡ old ++ option_to_list place
-    → new ≡ filter_map (λ r. position (holds r) slots) (take (i + 1) rows)
-list_after-step slots rows i row place old new within is found so_far put =
-    put
-    ∙ ap (λ (l : List ℕ). l ++ option_to_list place) so_far
-    ∙ ap (λ (o : Option ℕ). filter_map (λ r. position (holds r) slots) (take i rows) ++ option_to_list o) (found ∙ ap (λ (r : ListingRow). position (holds r) slots) is)
-    ∙ sym (filter_map-take_more (λ r. position (holds r) slots) rows i row within)
 
 -- a row more that takes a place, if it is new and one is left
 with_taken-step : (slots : List Slot) (row : ListingRow) (rows : List ListingRow) (left : List ℕ) (after : List Slot) (new : Bool) → new ≡ is_new slots row

@@ -3,6 +3,7 @@ pub mod OnDiskFile
 pub mod PackPath
 pub mod Slots
 pub mod Publish
+pub mod IndexKeys
 pub mod Files
 pub mod Shown
 pub mod Counts

@@ -1,86 +1,52 @@
 //! What publishing a listing does to the slots and the list.
-ghost use Rattle.std.specs.Prelude.{◌≡◌, ◌≤◌, ◌<◌, ◌-◌, ◌++◌, ◌∷◌, [], IfOk, OnOk, All, Some, drop, is_some, length, map, filter, take, if◌then◌else◌};
+//!
+//! The rows are looked up among the slots once, and the slots among the rows (`Matched`). So a listing takes the time of
+//! its rows and the slots together, times the logarithm of these numbers.
+ghost use Rattle.std.specs.Prelude.{◌≡◌, ◌≤◌, ◌<◌, ◌-◌, ◌++◌, ◌∷◌, [], IfOk, OnOk, All, Some, drop, is_none, is_some, length, map, filter, take, if◌then◌else◌};
 ghost use Rattle.std.specs.Option.{ForSome, option_to_list};
-ghost use Rattle.std.specs.List.{list_any, position, range_with_len, zip};
-ghost use Rattle.gix_odb_slots.specs.Slots.{holds};
+ghost use Rattle.std.specs.List.{filter_map, list_any, range_with_len, zip};
 ghost use Rattle.gix_odb_slots.specs.Tally.{HasFewPacks};
-ghost use Rattle.gix_odb_slots.specs.Publish.{free_places, is_free, is_kept, is_new, is_unsettled, list_after, new_rows, place_after, settled, slot_at, slots_after, taken, with_taken};
+ghost use Rattle.gix_odb_slots.specs.Publish.{free_places, is_free, is_unsettled, list_after, new_rows, place_after, settled, slot_at, slots_after, taken, with_taken};
 ghost use Rattle.gix_odb_slots.specs.PackId.{most_slots};
 
-use crate::Shared;
+use crate::index_key::places_of_rows;
 use crate::listing::ListingRow;
-use crate::slot::{Filled, IndexFile, Slot, SlotList};
+use crate::slot::{Filled, Slot, SlotList};
+use crate::{Matched, Shared};
 use odb_base::{NoMemory, Sequence};
 use std::alloc::Global;
 
-/// Whether a slot holds a row: its path as the same kind of index, and of a multi-pack index its time.
-fn holds(row: &ListingRow, slot: &Slot) -> bool
-    ensures holds { result ≡ holds row.now slot.now }
+/// Whether a listing finds work at a slot: no row keeps what it holds, or one of its files is garbage or missing.
+fn is_unsettled(matched: &Matched, place: usize) -> bool
+    requires within { place < length matched.now.slots.now }
+    ensures unsettled { result ≡ is_unsettled matched.now.rows.now (slot_at matched.now.slots.now place) }
 {
-    match slot {
+    match matched.slot(place) {
         None => false,
-        Some(filled) => is_index_of(row, filled.value()),
+        Some(filled) => !matched.is_kept(place) || filled.value().has_disposable(),
     }
 }
 
-fn is_index_of(row: &ListingRow, filled: &Filled) -> bool
-    ensures of { result ≡ holds row.now (Some filled.now) }
+/// Whether a listing finds work at one of the slots. Where it does not and no row is new, the slots stay as they are.
+pub fn is_any_unsettled(matched: &Matched) -> bool
+    ensures unsettled { result ≡ list_any (is_unsettled matched.now.rows.now) matched.now.slots.now }
 {
-    match (&row.multi, &filled.index) {
-        (None, IndexFile::Single(file)) => *file.path() == row.path,
-        (Some(_), IndexFile::Multi(file)) => *file.path() == row.path && filled.time == row.time,
-        _ => false,
-    }
-}
-
-/// Whether a row is new: no slot holds it.
-fn is_new(slots: &[Slot], row: &ListingRow) -> bool
-    ensures new { result ≡ is_new slots.now row.now }
-{
-    for slot in slots {
-        if holds(row, slot) {
-            return false;
-        }
-    }
-    true
-}
-
-/// Whether a row keeps what a slot holds.
-fn is_kept(rows: &[ListingRow], slot: &Slot) -> bool
-    ensures kept { result ≡ is_kept rows.now slot.now }
-{
-    for row in rows {
-        if holds(row, slot) {
+    for place in 0..matched.slots.len() {
+        if is_unsettled(matched, place) {
             return true;
         }
     }
     false
 }
 
-/// Whether a listing finds work at a slot: no row keeps what it holds, or one of its files is garbage or missing.
-fn is_unsettled(rows: &[ListingRow], slot: &Slot) -> bool
-    ensures unsettled { result ≡ is_unsettled rows.now slot.now }
-{
-    match slot {
-        None => false,
-        Some(filled) => !is_kept(rows, slot) || filled.value().has_disposable(),
-    }
-}
-
-/// Whether a listing finds work at one of the slots. Where it does not and no row is new, the slots stay as they are.
-pub fn is_any_unsettled(rows: &[ListingRow], slots: &[Slot]) -> bool
-    ensures unsettled { result ≡ list_any (is_unsettled rows.now) slots.now }
-{
-    slots.iter().any(|slot| is_unsettled(rows, slot))
-}
-
 /// Whether a slot is free: it is empty, or no handle is stable and no row keeps it.
-fn is_free(stable: bool, rows: &[ListingRow], slot: &Slot) -> bool
-    ensures free { result ≡ is_free stable rows.now slot.now }
+fn is_free(stable: bool, matched: &Matched, place: usize) -> bool
+    requires within { place < length matched.now.slots.now }
+    ensures free { result ≡ is_free stable matched.now.rows.now (slot_at matched.now.slots.now place) }
 {
-    match slot {
+    match matched.slot(place) {
         None => true,
-        Some(_) => !stable && !is_kept(rows, slot),
+        Some(_) => !stable && !matched.is_kept(place),
     }
 }
 
@@ -109,20 +75,18 @@ fn put_if(places: &mut Vec<usize>, place: usize, wanted: bool) -> Result<(), NoM
 fn put_free(
     places: &mut Vec<usize>,
     stable: bool,
-    rows: &[ListingRow],
-    slots: &[Slot],
+    matched: &Matched,
     from: usize,
     to: usize,
 ) -> Result<(), NoMemory>
     requires ordered { from ≤ to }
-    requires within { to ≤ length slots.now }
-    requires places { All (λ place. place < length slots.now) places.old.items }
-    ensures put { OnOk result (places.new.items ≡ places.old.items ++ filter (λ place. is_free stable rows.now (slot_at slots.now place)) (range_with_len from (to - from))) }
-    ensures within { OnOk result (All (λ place. place < length slots.now) places.new.items) }
+    requires within { to ≤ length matched.now.slots.now }
+    requires places { All (λ place. place < length matched.now.slots.now) places.old.items }
+    ensures put { OnOk result (places.new.items ≡ places.old.items ++ filter (λ place. is_free stable matched.now.rows.now (slot_at matched.now.slots.now place)) (range_with_len from (to - from))) }
+    ensures within { OnOk result (All (λ place. place < length matched.now.slots.now) places.new.items) }
 {
     for place in from..to {
-        let free = is_free(stable, rows, &slots[place]);
-        put_if(places, place, free)?;
+        put_if(places, place, is_free(stable, matched, place))?;
     }
     Ok(())
 }
@@ -131,35 +95,43 @@ fn put_free(
 pub fn free_places(
     alloc: Global,
     stable: bool,
-    rows: &[ListingRow],
-    slots: &[Slot],
+    matched: &Matched,
     list: &[u16],
 ) -> Result<Vec<usize>, NoMemory>
-    ensures free { IfOk result (λ places. places.items ≡ free_places stable rows.now slots.now list.now) }
-    ensures within { IfOk result (λ places. All (λ place. place < length slots.now) places.items) }
+    ensures free { IfOk result (λ places. places.items ≡ free_places stable matched.now.rows.now matched.now.slots.now list.now) }
+    ensures within { IfOk result (λ places. All (λ place. place < length matched.now.slots.now) places.items) }
 {
-    let start = place_after(list).min(slots.len());
+    let count = matched.slots.len();
+    let start = place_after(list).min(count);
     let mut places = Vec::new(alloc);
-    put_free(&mut places, stable, rows, slots, start, slots.len())?;
-    put_free(&mut places, stable, rows, slots, 0, start)?;
+    put_free(&mut places, stable, matched, start, count)?;
+    put_free(&mut places, stable, matched, 0, start)?;
     Ok(places)
 }
 
-/// How many rows are new.
-pub fn count_new(rows: &[ListingRow], slots: &[Slot]) -> usize
-    ensures count { result ≡ length (new_rows slots.now rows.now) }
+/// How many of these have no place.
+fn count_without(places: &[Option<usize>]) -> usize
+    ensures count { result ≡ length (filter is_none places.now) }
 {
-    rows.iter().filter(|row| is_new(slots, row)).count()
+    places.iter().filter(|place| place.is_none()).count()
+}
+
+/// How many rows are new: no slot holds them.
+pub fn count_new(matched: &Matched) -> usize
+    ensures count { result ≡ length (new_rows matched.now.slots.now matched.now.rows.now) }
+{
+    count_without(matched.places())
 }
 
 /// What becomes of a slot that no new row takes.
-fn settled(alloc: Global, stable: bool, rows: &[ListingRow], slot: &Slot) -> Result<Slot, NoMemory>
-    ensures settled { IfOk result (λ slot_new. slot_new ≡ settled stable rows.now slot.now) }
+fn settled(alloc: Global, stable: bool, matched: &Matched, place: usize) -> Result<Slot, NoMemory>
+    requires within { place < length matched.now.slots.now }
+    ensures settled { IfOk result (λ slot. slot ≡ settled stable matched.now.rows.now (slot_at matched.now.slots.now place)) }
 {
-    let Some(filled) = slot else {
+    let Some(filled) = matched.slot(place) else {
         return Ok(None);
     };
-    if is_kept(rows, slot) {
+    if matched.is_kept(place) {
         Ok(Some(Shared::new(alloc, filled.value().put_back(alloc)?)?))
     } else if stable {
         Ok(Some(Shared::new(alloc, filled.value().trashed(alloc)?)?))
@@ -169,17 +141,12 @@ fn settled(alloc: Global, stable: bool, rows: &[ListingRow], slot: &Slot) -> Res
 }
 
 /// The slots, each settled.
-fn all_settled(
-    alloc: Global,
-    stable: bool,
-    rows: &[ListingRow],
-    slots: &[Slot],
-) -> Result<Vec<Slot>, NoMemory>
-    ensures settled { IfOk result (λ after. after.items ≡ map (settled stable rows.now) slots.now) }
+fn all_settled(alloc: Global, stable: bool, matched: &Matched) -> Result<Vec<Slot>, NoMemory>
+    ensures settled { IfOk result (λ after. after.items ≡ map (settled stable matched.now.rows.now) matched.now.slots.now) }
 {
     let mut after = Vec::new(alloc);
-    for slot in slots {
-        after.push(settled(alloc, stable, rows, slot)?)?;
+    for place in 0..matched.slots.len() {
+        after.push(settled(alloc, stable, matched, place)?)?;
     }
     Ok(after)
 }
@@ -214,27 +181,18 @@ fn take(
     alloc: Global,
     after: &mut Vec<Slot>,
     free: &[usize],
-    rows: &[ListingRow],
-    slots: &[Slot],
+    matched: &Matched,
 ) -> Result<(), NoMemory>
     requires within { All (λ place. place < length after.old.items) free.now }
     requires packs { All HasFewPacks after.old.items }
-    ensures taken { OnOk result (after.new.items ≡ with_taken (zip free.now (new_rows slots.now rows.now)) after.old.items) }
+    ensures taken { OnOk result (after.new.items ≡ with_taken (zip free.now (new_rows matched.now.slots.now matched.now.rows.now)) after.old.items) }
     ensures packs { OnOk result (All HasFewPacks after.new.items) }
 {
     let mut left = free;
-    for row in rows {
-        left = take_one(alloc, after, left, row, is_new(slots, row))?;
+    for (place, row) in matched.rows.iter().enumerate() {
+        left = take_one(alloc, after, left, row, matched.is_new(place))?;
     }
     Ok(())
-}
-
-/// The place of the slot that holds a row.
-fn place_of(row: &ListingRow, slots: &[Slot]) -> Option<usize>
-    ensures place { result ≡ position (holds row.now) slots.now }
-    ensures within { ForSome result (λ place. place < length slots.now) }
-{
-    slots.iter().position(|slot| holds(row, slot))
 }
 
 /// Adds the number of a slot, where there is one.
@@ -248,7 +206,27 @@ fn put_place(list: &mut Sequence<u16>, place: Option<usize>) -> Result<(), NoMem
     Ok(())
 }
 
-/// The new list: for each row, the slot that holds it.
+/// The numbers of these slots.
+fn listed(alloc: Global, places: &[Option<usize>]) -> Result<Sequence<u16>, NoMemory>
+    requires few { All (λ place. ForSome place (λ number. number < most_slots)) places.now }
+    ensures list { IfOk result (λ list. list ≡ filter_map (λ place. place) places.now) }
+{
+    let mut list = Sequence::new(alloc);
+    for place in places {
+        put_place(&mut list, *place)?;
+    }
+    Ok(list)
+}
+
+/// The new list, where the slots stay as they are: for each row, the slot that holds it.
+pub fn list_as_is(alloc: Global, matched: &Matched) -> Result<Sequence<u16>, NoMemory>
+    requires few { length matched.now.slots.now ≤ most_slots }
+    ensures list { IfOk result (λ list. list ≡ list_after matched.now.rows.now matched.now.slots.now) }
+{
+    listed(alloc, matched.places())
+}
+
+/// The new list, by the slots after the listing: for each row, the slot that holds it.
 pub fn list_after(
     alloc: Global,
     rows: &[ListingRow],
@@ -257,11 +235,8 @@ pub fn list_after(
     requires few { length slots.now ≤ most_slots }
     ensures list { IfOk result (λ list. list ≡ list_after rows.now slots.now) }
 {
-    let mut list = Sequence::new(alloc);
-    for row in rows {
-        put_place(&mut list, place_of(row, slots))?;
-    }
-    Ok(list)
+    let places = places_of_rows(alloc, rows, slots)?;
+    listed(alloc, &places)
 }
 
 /// Whether a slot holds something.
@@ -298,16 +273,15 @@ pub fn takes_over(slots: &[Slot], free: &[usize], news: usize) -> bool
 pub fn slots_after(
     alloc: Global,
     stable: bool,
-    rows: &[ListingRow],
-    slots: &[Slot],
+    matched: &Matched,
     free: &[usize],
 ) -> Result<SlotList, NoMemory>
-    requires within { All (λ place. place < length slots.now) free.now }
-    requires packs { All HasFewPacks slots.now }
+    requires within { All (λ place. place < length matched.now.slots.now) free.now }
+    requires packs { All HasFewPacks matched.now.slots.now }
     ensures packs { IfOk result (All HasFewPacks) }
-    ensures slots { IfOk result (λ after. after ≡ with_taken (zip free.now (new_rows slots.now rows.now)) (map (settled stable rows.now) slots.now)) }
+    ensures slots { IfOk result (λ after. after ≡ with_taken (zip free.now (new_rows matched.now.slots.now matched.now.rows.now)) (map (settled stable matched.now.rows.now) matched.now.slots.now)) }
 {
-    let mut after = all_settled(alloc, stable, rows, slots)?;
-    take(alloc, &mut after, free, rows, slots)?;
+    let mut after = all_settled(alloc, stable, matched)?;
+    take(alloc, &mut after, free, matched)?;
     Ok(Sequence::from_vec(after))
 }

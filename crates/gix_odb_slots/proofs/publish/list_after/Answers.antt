@@ -1,7 +1,16 @@
-use Rattle.gix_odb_slots.proofs.PublishLemmas.{list_after-step}
+use Rattle.std.proofs.Common.{◌≡◌, ℕ, ◌<◌, All, IfOk, List, Option, ap, subst, sym, ◌∙◌}
+use Rattle.std.specs.List.{filter_map}
+use Rattle.std.specs.Option.{ForSome}
+use Rattle.gix_odb_slots.specs.PackId.{most_slots}
+use Rattle.gix_odb_slots.proofs.MatchedLemmas.{list_after-places, places-within}
 use Rattle.gix_odb_slots.proofs.publish.list_after.Goals as goal
 
-pub loop-row-preserved : goal.loop-row-preserved
-loop-row-preserved c =
-    list_after-step c.args.slots.now c.args.rows.now c.loop-row.row-index c.row-item.result c.place_of.result c.loop-row.list c.put_place.new.list
-    c.loop-row-test.true c.row-item.is c.place_of.ensures.place c.loop-row.invariant c.in_ok-put_place.ensures.put
+pub listed-requires : goal.listed-requires
+listed-requires c = record {
+  few = subst (All (λ (place : Option ℕ). ForSome place (λ number. number < most_slots))) (sym (c.deref.ensures.value ∙ c.in_ok-places.ensures.places)) (places-within c.args.slots.now c.args.rows.now most_slots c.requires.few);
+}
+
+pub returns : goal.returns
+returns c = record {
+  list = subst (λ (places : List ℕ). IfOk c.listed.result (λ list. list ≡ places)) (ap (filter_map (λ (place : Option ℕ). place)) (c.deref.ensures.value ∙ c.in_ok-places.ensures.places) ∙ list_after-places c.args.slots.now c.args.rows.now) c.listed.ensures.list;
+}

@@ -5,6 +5,6 @@ use Rattle.gix_odb_slots.proofs.publish.put_free.Given as goal
 
 abbrev pub invariant-loop-place : goal.invariant-loop-place
 invariant-loop-place l = record {
-  put : l.places.items ≡ l.fn.places.items ++ filter (λ place. is_free l.stable l.rows (slot_at l.slots place)) (range_with_len l.from (l.place - l.from));
-  within : All (λ place. place < length l.slots) l.places.items;
+  put : l.places.items ≡ l.fn.places.items ++ filter (λ place. is_free l.stable l.matched.rows.now (slot_at l.matched.slots.now place)) (range_with_len l.from (l.place - l.from));
+  within : All (λ place. place < length l.matched.slots.now) l.places.items;
 }

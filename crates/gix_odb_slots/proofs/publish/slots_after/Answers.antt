@@ -5,4 +5,4 @@ use Rattle.gix_odb_slots.proofs.publish.slots_after.Goals as goal
 
 pub take-requires-clause-packs : goal.take-requires-clause-packs
 take-requires-clause-packs c =
-    subst (All HasFewPacks) (sym c.in_ok-after.ensures.settled) (few-all_settled c.args.stable c.args.rows.now c.args.slots.now c.requires.packs)
+    subst (All HasFewPacks) (sym c.in_ok-after.ensures.settled) (few-all_settled c.args.stable c.args.matched.now.rows.now c.args.matched.now.slots.now c.requires.packs)

@@ -1,4 +1,4 @@
-use Rattle.std.proofs.Common.{◌≡◌, ℕ, IfOk, length, ap, subst, arith}
+use Rattle.std.proofs.Common.{◌≡◌, ℕ, IfOk, length, ap, subst, arith, ◌∙◌}
 use Rattle.gix_odb_core.proofs.RoomLemmas.{publishing-roomy}
 use Rattle.gix_odb_core.specs.Steps.{Publishing}
 use Rattle.gix_odb_core.specs.Turn.{publish_turn}
@@ -6,9 +6,9 @@ use Rattle.gix_odb_core.proofs.shape.Shape.publish.Goals as goal
 
 pub returns-clause-turn : goal.returns-clause-turn
 returns-clause-turn c =
-    let rows = c.as_slice-rows.ensures.value in
-    let slots = c.as_slice-slots.ensures.value in
-    let list = c.as_slice.ensures.value in
+    let rows = c.in_ok-matched.ensures.rows ∙ c.as_slice.ensures.value in
+    let slots = c.in_ok-matched.ensures.slots ∙ c.as_slice-2.ensures.value in
+    let list = c.as_slice-3.ensures.value in
     let stable = c.is_any_stable-stable.ensures.stable in
     let count = rw (slots, rows) at c.count_new-news.ensures.count in
     let free = rw (stable, rows, slots, list) at c.in_ok-free.ensures.free in

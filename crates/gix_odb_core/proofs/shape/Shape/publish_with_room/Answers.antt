@@ -10,27 +10,27 @@ use Rattle.gix_odb_core.proofs.shape.Shape.publish_with_room.Goals as goal
 
 pub list_after-requires : goal.list_after-requires
 list_after-requires c =
-    let slots = c.as_slice-slots.ensures.value in
-    let after : c.in_ok-after.after ≡ with_taken (zip c.args.free.now (new_rows c.args.self.now.slots c.args.rows.now)) (map (settled c.args.stable c.args.rows.now) c.args.self.now.slots) =
-    c.in_ok-after.ensures.slots ∙ ap (λ (s : List Slot). with_taken (zip c.args.free.now (new_rows s c.args.rows.now)) (map (settled c.args.stable c.args.rows.now) s)) slots in
-    let long = length-after c.args.self.now c.args.rows.now c.args.stable c.args.free.now c.in_ok-after.after c.requires.stable c.requires.free after in
+    let rows = c.args.matched.now.rows.now in
+    let after : c.in_ok-after.after ≡ with_taken (zip c.args.free.now (new_rows c.args.self.now.slots rows)) (map (settled c.args.stable rows) c.args.self.now.slots) =
+    c.in_ok-after.ensures.slots ∙ ap (λ (s : List Slot). with_taken (zip c.args.free.now (new_rows s rows)) (map (settled c.args.stable rows) s)) c.requires.slots in
+    let long = length-after c.args.self.now rows c.args.stable c.args.free.now c.in_ok-after.after c.requires.stable c.requires.free after in
     record { few = omega (arith, c.requires.few, long, ap (length {A = Slot}) c.as_slice.ensures.value) }
 
 pub returns : goal.returns
 returns c =
-    let slots = c.as_slice-slots.ensures.value in
-    let after : c.in_ok-after.after ≡ with_taken (zip c.args.free.now (new_rows c.args.self.now.slots c.args.rows.now)) (map (settled c.args.stable c.args.rows.now) c.args.self.now.slots) =
-    c.in_ok-after.ensures.slots ∙ ap (λ (s : List Slot). with_taken (zip c.args.free.now (new_rows s c.args.rows.now)) (map (settled c.args.stable c.args.rows.now) s)) slots in
-    let list : c.in_ok-list.list ≡ list_after c.args.rows.now c.in_ok-after.after = c.in_ok-list.ensures.list ∙ ap (list_after c.args.rows.now) c.as_slice.ensures.value in
-    let renewed = rw slots at c.takes_over-renewed.ensures.over in
+    let rows = c.args.matched.now.rows.now in
+    let after : c.in_ok-after.after ≡ with_taken (zip c.args.free.now (new_rows c.args.self.now.slots rows)) (map (settled c.args.stable rows) c.args.self.now.slots) =
+    c.in_ok-after.ensures.slots ∙ ap (λ (s : List Slot). with_taken (zip c.args.free.now (new_rows s rows)) (map (settled c.args.stable rows) s)) c.requires.slots in
+    let list : c.in_ok-list.list ≡ list_after rows c.in_ok-after.after = c.in_ok-list.ensures.list ∙ ap (list_after rows) c.as_slice.ensures.value in
+    let renewed = rw c.requires.slots at c.takes_over-renewed.ensures.over in
     record {
       few_packs = IfSome_then c.settled_as.result.shelf c.settled_as.ensures.leaves (λ shelf is. subst (All HasFewPacks) (sym is) c.in_ok-after.ensures.packs);
       turn =
           c.settled_as.ensures.turn
-          ∙ ap (publish_turn c.args.self.now c.args.rows.now)
-          (with_room-from c.args.self.now c.args.rows.now c.args.stable c.args.free.now c.in_ok-after.after
-          c.requires.stable c.requires.free after c.args.news c.in_ok-list.list c.takes_over-renewed.result c.requires.news renewed list);
+          ∙ ap (publish_turn c.args.self.now rows)
+          (with_room-from c.args.self.now rows c.args.stable c.args.free.now c.in_ok-after.after c.requires.stable c.requires.free after c.args.news c.in_ok-list.list
+          c.takes_over-renewed.result c.requires.news renewed list);
     }
 
 pub returns-then-branch-clause-turn : goal.returns-then-branch-clause-turn
-returns-then-branch-clause-turn c = c.quiet.ensures.turn ∙ sym (turn-stands c.args.self.now c.args.rows.now (sym c.in_ok-stands.ensures.stands ∙ c.if-branch.true))
+returns-then-branch-clause-turn c = c.quiet.ensures.turn ∙ sym (turn-stands c.args.self.now c.args.matched.now.rows.now (sym c.in_ok-stands.ensures.stands ∙ c.if-branch.true))
