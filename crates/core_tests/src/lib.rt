@@ -18,6 +18,8 @@ mod happening;
 #[cfg(test)]
 mod made_up;
 #[cfg(test)]
+mod many_rows;
+#[cfg(test)]
 mod model;
 #[cfg(test)]
 mod model_files;

@@ -7,10 +7,12 @@ use Rattle.gix_odb_slots.proofs.publish.list_after.Goals as goal
 
 pub listed-requires : goal.listed-requires
 listed-requires c = record {
-  few = subst (All (λ (place : Option ℕ). ForSome place (λ number. number < most_slots))) (sym (c.deref.ensures.value ∙ c.in_ok-places.ensures.places)) (places-within c.args.slots.now c.args.rows.now most_slots c.requires.few);
+  few = subst (All (λ (place : Option ℕ). ForSome place (λ number. number < most_slots))) (sym (c.deref.ensures.value ∙ c.in_ok-places.ensures.places))
+      (places-within c.args.slots.now c.args.rows.now most_slots c.requires.few);
 }
 
 pub returns : goal.returns
 returns c = record {
-  list = subst (λ (places : List ℕ). IfOk c.listed.result (λ list. list ≡ places)) (ap (filter_map (λ (place : Option ℕ). place)) (c.deref.ensures.value ∙ c.in_ok-places.ensures.places) ∙ list_after-places c.args.slots.now c.args.rows.now) c.listed.ensures.list;
+  list = subst (λ (places : List ℕ). IfOk c.listed.result (λ list. list ≡ places))
+      (ap (filter_map (λ (place : Option ℕ). place)) (c.deref.ensures.value ∙ c.in_ok-places.ensures.places) ∙ list_after-places c.args.slots.now c.args.rows.now) c.listed.ensures.list;
 }
