@@ -1,2 +1,9 @@
 pub mod LoadIndex
 pub mod LookUpOrder
+pub mod Exchange
+pub mod Shown
+pub mod Found
+pub mod Caused
+pub mod Fair
+pub mod Laps
+pub mod True

@@ -1,3 +1,5 @@
+-- Laws of trying indices, that other crates may cite; and the lemmas of this crate.
+pub mod SeekLaws
 mod RestLemmas
 mod SpotLemmas
 mod SingleSpotLemmas
@@ -5,3 +7,8 @@ mod MultiSpotLemmas
 mod LongestFirstLemmas
 mod FirstsLemmas
 mod IndexPathsLemmas
+pub mod TrierLaws
+pub mod ReachLemmas
+pub mod ReachLaws
+pub mod NotedLaws
+pub mod TryTurnLaws

@@ -1,0 +1,161 @@
+-- What is known of a look-up behind exchanges: what its notes, its counts and its reply tell of them.
+use Rattle.std.proofs.Common.{◌≡◌, ℕ, true, false, List, Contains, Some, None, Ok, Err, ◌⊎◌, refl, inl, inr}
+use Rattle.std.specs.Prelude.{min}
+use Rattle.odb_base.specs.Path.{Path}
+use Rattle.odb_disk.specs.declared.ask.DiskAnswer.{DiskAnswer}
+use Rattle.odb_disk.specs.declared.ask.DiskAnswer.TheVariants as answers
+use Rattle.odb_tree.specs.declared.disk_error.DiskError.TheVariants as disk_errors
+use Rattle.gix_hash.specs.declared.kind.Kind.{Kind}
+use Rattle.gix_hash.specs.declared.object_id.ObjectId.{ObjectId}
+use Rattle.gix_odb_loose.specs.LooseOrder.{reply_of}
+use Rattle.gix_odb_loose.specs.declared.call.LooseReply.{LooseReply}
+use Rattle.gix_odb_loose.specs.declared.call.LooseReply.TheVariants as loose_replies
+use Rattle.gix_odb_loose.specs.LooseFile.{loose_path}
+use Rattle.gix_odb_loose.specs.LooseOrder.Answered.{tested_by}
+use Rattle.gix_odb_loose.specs.declared.find.Error as loose
+use Rattle.gix_odb_loose.specs.declared.find.Error.TheVariants as loose_errors
+use Rattle.gix_odb_core.specs.Steps.{last_state}
+use Rattle.gix_odb_core.specs.declared.event.Refusal.{Refusal}
+use Rattle.gix_odb_core.specs.declared.event.Refusal.TheVariants as refusals
+use Rattle.gix_odb_packs.specs.declared.goal.Error as pack
+use Rattle.gix_odb_packs.specs.declared.goal.Error.TheVariants as pack_errors
+use Rattle.gix_odb_packs.specs.declared.goal.Found.{Found}
+use Rattle.gix_odb_packs.specs.declared.goal.Found.TheVariants as found
+use Rattle.gix_odb_calls.specs.Verdict.{asking, refused, verdict_on}
+use Rattle.gix_odb_calls.specs.declared.call.CallError.TheVariants as call_errors
+use Rattle.gix_odb_calls.specs.declared.call.Reply.{Reply}
+use Rattle.gix_odb_calls.specs.declared.call.Reply.TheVariants as replies
+use Rattle.gix_odb_calls.specs.declared.find.Error.{Error}
+use Rattle.gix_odb_calls.specs.declared.find.Error.TheVariants as find_errors
+use Rattle.gix_odb_calls.specs.declared.query.Query.{Query}
+use Rattle.gix_odb_calls.specs.declared.query.Query.TheVariants.{Find, Header, Test}
+use Rattle.gix_odb_calls.specs.declared.verdict.Verdict.{Verdict}
+use Rattle.gix_odb_calls.specs.declared.verdict.Verdict.TheVariants as verdicts
+use Rattle.gix_odb_looks.specs.Caused.{IsLoadCaused, IsRefused}
+use Rattle.gix_odb_looks.specs.Exchange.{Exchange, HasFailed, first_number, published_in}
+use Rattle.gix_odb_looks.specs.LoadIndex.{of_refusal}
+use Rattle.gix_odb_looks.specs.LookUpOrder.{Setting}
+use Rattle.gix_odb_looks.specs.LookUpOrder.{find_error, loose_fed, not_found}
+use Rattle.gix_odb_looks.specs.LookUpOrder.{reply_found}
+use Rattle.gix_odb_looks.specs.Shown.{folders_of}
+use Rattle.gix_odb_looks.specs.declared.look_up.LookHead.{LookHead}
+use Rattle.gix_odb_looks.specs.declared.look_up.LookStage.{LookStage}
+use Rattle.gix_odb_looks.specs.declared.look_up.LookStage.TheVariants as stages
+use Rattle.gix_odb_looks.specs.declared.look_up.Part.{Part}
+use Rattle.gix_odb_looks.specs.declared.look_up.Part.TheVariants as parts
+use Rattle.gix_odb_looks.proofs.CauseLaws.Listers.{Breaks}
+use Rattle.gix_odb_looks.proofs.CauseLaws.Pasts.{Noted}
+
+-- a view was handed over
+abbrev pub HasBegun : LookHead → Type 0
+HasBegun head = (number : ℕ) × (head.begun ≡ Some number)
+
+-- behind the snapshot a list is tried only if a view showed it
+abbrev pub ShowedPart : LookHead → Part → Type 0
+ShowedPart head parts.Snapshot = Unit {0}
+ShowedPart head (parts.List list_no loose) = HasBegun head
+ShowedPart head (parts.Published list_no) = HasBegun head
+
+-- the counts of a look-up are those of its exchanges
+pub record Counts (exchanges : List Exchange) (head : LookHead) : Type 0 where
+  pub begun : head.begun ≡ first_number exchanges
+  pub own : head.own ≡ min (published_in exchanges) last_state
+
+module _ (Shown : Path → List ℕ → Type 0) (Loosely : Path → Verdict → Type 0) (setting : Setting) (hash : Kind) (id : ObjectId)
+    (exchanges : List Exchange) where
+  -- Why the loose objects of a folder, or the lists of packs, refuse a query. Want of memory refuses none.
+  abbrev pub IsListCaused : Error → Type 0
+  IsListCaused (find_errors.Loose error) = (folder : Path) × Contains (folders_of setting) folder × Loosely folder (verdicts.Ends (refused error))
+  IsListCaused (find_errors.LoadIndex error) = IsLoadCaused Shown Loosely setting hash id exchanges error
+  IsListCaused find_errors.NoMemory = ⊥
+  IsListCaused error = Unit {0}
+
+  abbrev pub IsExplained : Reply → Type 0
+  IsExplained (replies.Refused (call_errors.Find error)) = IsListCaused error
+  IsExplained reply = Unit {0}
+
+  -- what is known at each stage
+  abbrev pub KnowsAt : LookHead → LookStage → Type 0
+  KnowsAt head (stages.Trying trier part) = Noted exchanges trier.ahead.notes × ShowedPart head part
+  KnowsAt head (stages.Loose round call) = Noted exchanges round.notes × ShowedPart head round.part
+  KnowsAt head (stages.Looking purpose notes) = Noted exchanges notes
+  KnowsAt head (stages.Listing lister base notes) = Noted exchanges notes × HasBegun head × Breaks exchanges lister.stage
+  KnowsAt head (stages.Publishing listing notes) = Noted exchanges notes × HasBegun head
+  KnowsAt head (stages.Done reply) = IsExplained reply
+
+  -- ---- replies
+
+  pub found_explained : (found : Found) → IsExplained (reply_found found)
+  found_explained (found.Object kind bytes) = tt
+  found_explained (found.Header kind size) = tt
+  found_explained found.Presence = tt
+
+  pub bad_explained : (error : pack.Error) → IsListCaused (find_error error)
+  bad_explained pack_errors.LoadPack = tt
+  bad_explained pack_errors.Pack = tt
+  bad_explained (pack_errors.EntryType code) = tt
+  bad_explained pack_errors.DeltaEntry = tt
+  bad_explained (pack_errors.OutOfMemory size) = tt
+
+  pub not_found_explained : (query : Query) → IsExplained (not_found query)
+  not_found_explained (Find asked) = tt
+  not_found_explained (Header asked) = tt
+  not_found_explained (Test asked) = tt
+
+  pub refusal_explained : (refusal : Refusal) → IsRefused Shown Loosely setting hash id exchanges refusal
+      → IsListCaused (find_errors.LoadIndex (of_refusal refusal))
+  refusal_explained (refusals.InsufficientSlots current needed) was = was
+  refusal_explained refusals.GenerationOverflow was = was
+  refusal_explained refusals.NoMemory was = was
+
+  -- a verdict on the loose objects of a folder ends with an explained reply, or notes a failure
+  abbrev pub VerdictTells : Verdict → Type 0
+  VerdictTells (verdicts.Ends reply) = IsExplained reply
+  VerdictTells verdicts.Misses = Unit {0}
+  VerdictTells (verdicts.Notes error) = HasFailed exchanges
+
+  verdict_tells : (folder : Path) → Contains (folders_of setting) folder → (query : Query) (reply : LooseReply)
+      → ((error : loose.Error) → reply ≡ loose_replies.Contains (Err error) → HasFailed exchanges ⊎ (error ≡ loose_errors.NoMemory))
+      → Loosely folder (verdict_on query reply) → VerdictTells (verdict_on query reply)
+  verdict_tells folder among (Find asked) (loose_replies.Found (Ok (Some found))) fails says = tt
+  verdict_tells folder among (Find asked) (loose_replies.Found (Ok None)) fails says = tt
+  verdict_tells folder among (Find asked) (loose_replies.Found (Err error)) fails says = (folder, among, says)
+  verdict_tells folder among (Find asked) (loose_replies.Header answer) fails says = tt
+  verdict_tells folder among (Find asked) (loose_replies.Contains answer) fails says = tt
+  verdict_tells folder among (Find asked) (loose_replies.Wrote answer) fails says = tt
+  verdict_tells folder among (Header asked) (loose_replies.Header (Ok (Some found))) fails says = tt
+  verdict_tells folder among (Header asked) (loose_replies.Header (Ok None)) fails says = tt
+  verdict_tells folder among (Header asked) (loose_replies.Header (Err error)) fails says = (folder, among, says)
+  verdict_tells folder among (Header asked) (loose_replies.Found answer) fails says = tt
+  verdict_tells folder among (Header asked) (loose_replies.Contains answer) fails says = tt
+  verdict_tells folder among (Header asked) (loose_replies.Wrote answer) fails says = tt
+  verdict_tells folder among (Test asked) (loose_replies.Contains (Ok true)) fails says = tt
+  verdict_tells folder among (Test asked) (loose_replies.Contains (Ok false)) fails says = tt
+  verdict_tells folder among (Test asked) (loose_replies.Contains (Err loose_errors.NoMemory)) fails says = (folder, among, says)
+  verdict_tells folder among (Test asked) (loose_replies.Contains (Err error)) fails says =
+      elim (fails error refl) [ inl failed ↦ failed | inr none ↦ absurd (cc none) ]
+  verdict_tells folder among (Test asked) (loose_replies.Found answer) fails says = tt
+  verdict_tells folder among (Test asked) (loose_replies.Header answer) fails says = tt
+  verdict_tells folder among (Test asked) (loose_replies.Wrote answer) fails says = tt
+
+  -- a look that failed is noted by its error
+  tested_failed : (path : Path) (answer : DiskAnswer) → (answer ≡ answers.Refused disk_errors.Failed → HasFailed exchanges) → (error : loose.Error)
+      → tested_by path answer ≡ Err error → HasFailed exchanges ⊎ (error ≡ loose_errors.NoMemory)
+  tested_failed path (answers.Refused disk_errors.Failed) fails error is = inl (fails refl)
+  tested_failed path (answers.Refused disk_errors.NoMemory) fails error is = inr cc
+  tested_failed path (answers.Meta meta) fails error is = absurd (cc is)
+  tested_failed path answer fails error is = absurd (cc is)
+
+  folder_failed : (query : Query) (folder : Path) (answer : DiskAnswer) → (answer ≡ answers.Refused disk_errors.Failed → HasFailed exchanges)
+      → (reply : LooseReply) → reply_of (loose_fed (asking setting.limit query id folder) answer) ≡ Some reply
+      → (error : loose.Error) → reply ≡ loose_replies.Contains (Err error) → HasFailed exchanges ⊎ (error ≡ loose_errors.NoMemory)
+  folder_failed (Find asked) folder answer fails reply is error so = absurd (cc (is, so))
+  folder_failed (Header asked) folder answer fails reply is error so = absurd (cc (is, so))
+  folder_failed (Test asked) folder answer fails reply is error so = tested_failed (loose_path folder id) answer fails error cc
+
+  -- what a folder's reply comes to
+  pub folder_tells : (query : Query) (folder : Path) → Contains (folders_of setting) folder → (answer : DiskAnswer)
+      → (answer ≡ answers.Refused disk_errors.Failed → HasFailed exchanges)
+      → (reply : LooseReply) → reply_of (loose_fed (asking setting.limit query id folder) answer) ≡ Some reply → Loosely folder (verdict_on query reply)
+      → VerdictTells (verdict_on query reply)
+  folder_tells query folder among answer fails reply is says = verdict_tells folder among query reply (folder_failed query folder answer fails reply is) says

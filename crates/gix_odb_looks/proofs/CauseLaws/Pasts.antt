@@ -1,0 +1,58 @@
+-- What exchanges tell is told by more of them.
+use Rattle.std.proofs.Common.{◌≡◌, ℕ, true, ◌+◌, List, [], ◌∷◌, ◌++◌, Option, Some, None, refl, sym, ◌∙◌, ap, arith}
+use Rattle.std.specs.Prelude.{min}
+use Rattle.std.proofs.lemmas.List.Elements.{Contains-append_left}
+use Rattle.odb_disk.specs.declared.ask.DiskAnswer.TheVariants as answers
+use Rattle.odb_tree.specs.declared.disk_error.DiskError.TheVariants as disk_errors
+use Rattle.gix_odb_core.specs.Steps.{last_state}
+use Rattle.gix_odb_core.specs.declared.view.View.{View}
+use Rattle.gix_odb_packs.specs.declared.answer.Answer.{Answer}
+use Rattle.gix_odb_packs.specs.declared.answer.Answer.TheVariants as told
+use Rattle.gix_odb_packs.specs.declared.answer.PartAsk.{PartAsk}
+use Rattle.gix_odb_packs.specs.declared.search.Notes.{Notes}
+use Rattle.gix_odb_looks.specs.Exchange.{Exchange, HasFailed, WasTold, first_number, is_publish, number_or, published_in}
+use Rattle.gix_odb_looks.specs.LookUpOrder.{first_of, view_of}
+
+pub HasFailed-more : (past more : List Exchange) → HasFailed past → HasFailed (past ++ more)
+HasFailed-more past more is = record { exchange = is.exchange; among = Contains-append_left past more is.exchange is.among; failed = is.failed }
+
+pub HasFailed-from_told : (exchanges : List Exchange) (ask : PartAsk) (answer : Answer) → WasTold exchanges ask answer
+    → answer ≡ told.Disk (answers.Refused disk_errors.Failed)
+    → HasFailed exchanges
+HasFailed-from_told exchanges ask answer was is = record { exchange = record { ask = ask; answer = answer }; among = was; failed = is }
+
+-- a failure that is noted is told
+abbrev pub Noted : List Exchange → Notes → Type 0
+Noted exchanges notes = notes.failed ≡ true → HasFailed exchanges
+
+-- ---- the first number
+
+first_of-number_or : (other : Option ℕ) (first : Option View) (later : Option View)
+    → first_of (number_or other first) later ≡ number_or (first_of other later) first
+first_of-number_or other None later = refl
+first_of-number_or other (Some view) later = refl
+
+number_or-first_of : (view : Option View) → first_of None view ≡ number_or None view
+number_or-first_of None = refl
+number_or-first_of (Some view) = refl
+
+pub first_number-push : (past : List Exchange) (exchange : Exchange)
+    → first_number (past ++ exchange ∷ []) ≡ first_of (first_number past) (view_of exchange.answer)
+first_number-push [] exchange = sym (number_or-first_of (view_of exchange.answer))
+first_number-push (first ∷ past) exchange =
+    ap (λ other. number_or other (view_of first.answer)) (first_number-push past exchange)
+    ∙ sym (first_of-number_or (first_number past) (view_of first.answer) (view_of exchange.answer))
+
+-- ---- what was published
+
+pub published_in-push : (past : List Exchange) (exchange : Exchange)
+    → published_in (past ++ exchange ∷ []) ≡ published_in past + is_publish exchange.ask exchange.answer
+published_in-push [] exchange = omega arith
+published_in-push (first ∷ past) exchange = omega (arith, published_in-push past exchange)
+
+-- one more that is the look-up's own
+pub one_more_own : (own before now : ℕ) → own ≡ min before last_state → now ≡ before + 1 → min (own + 1) last_state ≡ min now last_state
+one_more_own own before now is more = omega arith
+
+pub no_more_own : (own before now : ℕ) → own ≡ min before last_state → now ≡ before + 0 → own ≡ min now last_state
+no_more_own own before now is more = omega arith

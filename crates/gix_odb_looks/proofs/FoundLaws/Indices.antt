@@ -1,0 +1,180 @@
+-- An index that was shown leads to something that was shown, or to a pack beside it that is still to be read.
+use Rattle.std.proofs.Common.{◌≡◌, ℕ, Bool, true, List, [], ◌∷◌, map, All, Contains, slice_get, Option, Some, None, Result, Ok, Err, option_map}
+use Rattle.std.proofs.Common.{Ordering, Less, Equal, Greater, is_eq, refl, sym, subst, ap}
+use Rattle.std.specs.List.{find}
+use Rattle.std.proofs.lemmas.List.Elements.{All-head}
+use Rattle.odb_base.specs.Path.{Path}
+use Rattle.gix_hash.specs.ObjectId.{id_cmp}
+use Rattle.gix_hash.specs.declared.kind.Kind.{Kind}
+use Rattle.gix_hash.specs.declared.object_id.ObjectId.{ObjectId}
+use Rattle.gix_hash.proofs.IdOrderLaws.{same_id}
+use Rattle.gix_pack_files.specs.FileBytes.{FileBytes}
+use Rattle.gix_pack_files.specs.Index.{index_rows}
+use Rattle.gix_pack_files.specs.Pack.{Entry, entry_at, header_at}
+use Rattle.gix_pack_files.specs.declared.data.Error as pack_data
+use Rattle.gix_pack_files.specs.declared.data.Error.TheVariants as data_errors
+use Rattle.gix_pack_files.specs.declared.data.entry.Header as pack_header
+use Rattle.gix_pack_tables.specs.Rows.{Row}
+use Rattle.gix_odb_slots.specs.OnDiskFile.{loaded}
+use Rattle.gix_odb_slots.specs.PackPath.{pack_path}
+use Rattle.gix_odb_slots.specs.Slots.{PackFile}
+use Rattle.gix_odb_slots.specs.declared.loaded.LoadedIndex.{LoadedIndex}
+use Rattle.gix_odb_slots.specs.declared.loaded.SnapshotIndex.{SnapshotIndex}
+use Rattle.gix_odb_packs.specs.Goal.{error_of, given_by, header_in, object_in}
+use Rattle.gix_odb_packs.specs.Search.{at_spot, given_or_not, in_file, in_packs, tried}
+use Rattle.gix_odb_packs.specs.Spot.{spot_in}
+use Rattle.gix_odb_packs.specs.declared.goal.Error as goals
+use Rattle.gix_odb_packs.specs.declared.goal.Found.{Found}
+use Rattle.gix_odb_packs.specs.declared.goal.Goal.{Goal}
+use Rattle.gix_odb_packs.specs.declared.search.AbsentFile.{AbsentFile}
+use Rattle.gix_odb_packs.specs.declared.search.WantedPack.{WantedPack}
+use Rattle.gix_odb_packs.proofs.SeekLaws.{Comes, unloaded_comes}
+use Rattle.gix_odb_calls.specs.declared.call.Reply.TheVariants as replies
+use Rattle.gix_odb_calls.specs.declared.find.Header.TheVariants as headers
+use Rattle.gix_odb_calls.specs.declared.query.Query.{Query}
+use Rattle.gix_odb_calls.specs.declared.query.Query.TheVariants.{Find, Header, Test}
+use Rattle.gix_odb_calls.specs.declared.verdict.Verdict.{Verdict}
+use Rattle.gix_odb_looks.specs.Caused.{IsCaused}
+use Rattle.gix_odb_looks.specs.Exchange.{Exchange}
+use Rattle.gix_odb_looks.specs.Found.{IsEntryReply, IsHeaderReply, IsInIndex, IsInPack}
+use Rattle.gix_odb_looks.specs.LookUpOrder.{Setting, find_error, wanted_by}
+use Rattle.gix_odb_looks.specs.Shown.{IsPackRead, IsRead, IsShown}
+use Rattle.gix_odb_looks.proofs.FoundLaws.Known.{IsCausedHere, IsFoundHere, IsWanted, KnowsGiven, goal_for}
+use Rattle.gix_odb_looks.proofs.FoundLaws.Lists.{find_passes}
+use Rattle.gix_odb_looks.proofs.FoundLaws.PackErrors.{IsOfEntry, entry_error, header_error}
+
+equal : (order : Ordering) → is_eq order ≡ true → order ≡ Equal
+equal Less is = cc is
+equal Equal is = refl
+equal Greater is = cc is
+
+module _ (Shown : Path → List ℕ → Type 0) (Loosely : Path → Verdict → Type 0) (setting : Setting) (hash : Kind) (id : ObjectId)
+    (exchanges : List Exchange) where
+  abbrev aim : Query → Goal
+  aim query = goal_for setting query id
+
+  abbrev Hits : Query → Found → Type 0
+  Hits query found = IsFoundHere Shown Loosely setting hash id exchanges query found
+
+  abbrev Bads : Query → goals.Error → Type 0
+  Bads query error = IsCausedHere Shown Loosely setting hash id exchanges query error
+
+  abbrev Wanted : WantedPack → Type 0
+  Wanted pack = IsWanted Shown setting hash id pack
+
+  abbrev GivenOf : Query → Result Found goals.Error → Type 0
+  GivenOf query given = KnowsGiven Shown Loosely setting hash id exchanges query given
+
+  -- ---- what a pack gives
+
+  module _ (path : Path) (offset : ℕ) (index : IsInIndex Shown setting hash id path offset) (file : FileBytes)
+      (read : IsPackRead Shown setting hash (pack_path path) file) where
+    within : (Content : List ℕ → ℕ → Type 0) → Content file.bytes offset → IsInPack Shown setting hash id Content
+    within Content content =
+        record { path = path; offset = offset; index = index; pack = file.bytes; parsed = read.parsed; shown = read.shown; content = content }
+
+    abbrev IsCausedBy : Query → pack_data.Error → Type 0
+    IsCausedBy query error = IsCaused Shown Loosely setting hash id query exchanges (find_error (error_of error))
+
+    entry_refused : (asked : ObjectId) (error : pack_data.Error) → entry_at hash file.bytes offset setting.limit ≡ Err error → IsOfEntry error
+        → IsCausedBy (Find asked) error
+    entry_refused asked data_errors.BadPack is fits = absurd fits
+    entry_refused asked data_errors.BadEntry is fits = within (λ pack at. entry_at hash pack at setting.limit ≡ Err data_errors.BadEntry) is
+    entry_refused asked data_errors.DeltaEntry is fits = within (λ pack at. entry_at hash pack at setting.limit ≡ Err data_errors.DeltaEntry) is
+    entry_refused asked (data_errors.OutOfMemory size) is fits = within (λ pack at. entry_at hash pack at setting.limit ≡ Err (data_errors.OutOfMemory size)) is
+    entry_refused asked (data_errors.EntryType code) is fits = within (λ pack at. entry_at hash pack at setting.limit ≡ Err (data_errors.EntryType code)) is
+
+    header_refused : (asked : ObjectId) (error : pack_data.Error) → header_at hash file.bytes offset ≡ Err error → IsOfEntry error
+        → IsCausedBy (Header asked) error
+    header_refused asked data_errors.BadPack is fits = absurd fits
+    header_refused asked data_errors.BadEntry is fits = within (λ pack at. header_at hash pack at ≡ Err data_errors.BadEntry) is
+    header_refused asked data_errors.DeltaEntry is fits = within (λ pack at. header_at hash pack at ≡ Err data_errors.DeltaEntry) is
+    header_refused asked (data_errors.OutOfMemory size) is fits = within (λ pack at. header_at hash pack at ≡ Err (data_errors.OutOfMemory size)) is
+    header_refused asked (data_errors.EntryType code) is fits = within (λ pack at. header_at hash pack at ≡ Err (data_errors.EntryType code)) is
+
+    object_given : (asked : ObjectId) (result : Result Entry pack_data.Error) → entry_at hash file.bytes offset setting.limit ≡ result
+        → GivenOf (Find asked) (object_in result)
+    object_given asked (Ok entry) is =
+        within (λ pack at. IsEntryReply hash setting.limit pack at (replies.Found entry.kind entry.bytes)) (record { entry = entry; there = is; is = refl })
+    object_given asked (Err error) is = entry_refused asked error is (entry_error hash file.bytes offset setting.limit error is)
+
+    header_given : (asked : ObjectId) (result : Result pack_header.Header pack_data.Error) → header_at hash file.bytes offset ≡ result
+        → GivenOf (Header asked) (header_in result)
+    header_given asked (Ok header) is =
+        within (λ pack at. IsHeaderReply hash pack at (replies.Header (headers.Packed header.kind header.size)))
+        (record { header = header; there = is; is = refl })
+    header_given asked (Err error) is = header_refused asked error is (header_error hash file.bytes offset error is)
+
+    pub given_known : (query : Query) → GivenOf query (given_by (wanted_by query) setting.limit file offset)
+    given_known (Find asked) =
+        object_given asked (entry_at file.kind file.bytes offset setting.limit)
+        (ap (λ (kind : Kind). entry_at kind file.bytes offset setting.limit) (sym read.kind))
+    given_known (Header asked) =
+        header_given asked (header_at file.kind file.bytes offset) (ap (λ (kind : Kind). header_at kind file.bytes offset) (sym read.kind))
+    given_known (Test asked) = (path, offset, index, refl)
+
+  -- ---- one index
+
+  sought_given : (query : Query) (given : Result Found goals.Error) → GivenOf query given → Comes (Hits query) (Bads query) Wanted (given_or_not given)
+  sought_given query (Ok found) known = known
+  sought_given query (Err error) known = known
+
+  module _ (query : Query) (absent : List AbsentFile) (index : SnapshotIndex) (row : Row) (known : IsInIndex Shown setting hash id index.path row.offset) where
+    file_known : (path : Path) → path ≡ pack_path index.path → (file : Option FileBytes)
+        → ((bytes : FileBytes) → file ≡ Some bytes → IsPackRead Shown setting hash path bytes)
+        → Comes (Hits query) (Bads query) Wanted (in_file (aim query) absent index (record { place = 0; offset = row.offset }) path file)
+    file_known path beside None read =
+        unloaded_comes (Hits query) (Bads query) Wanted (aim query) absent index (record { place = 0; offset = row.offset }) path
+        (record { path = index.path; index = known; is = beside })
+    file_known path beside (Some file) read =
+        sought_given query (given_by (wanted_by query) setting.limit file row.offset)
+        (given_known index.path row.offset known file (subst (λ (p : Path). IsPackRead Shown setting hash p file) beside (read file refl)) query)
+
+    packs_known : (packs : List PackFile) → map (λ (pack : PackFile). pack.path) packs ≡ pack_path index.path ∷ [] → All (IsRead Shown setting hash) packs
+        → Comes (Hits query) (Bads query) Wanted (in_packs (aim query) absent index (record { place = 0; offset = row.offset }) (slice_get packs 0))
+    packs_known [] one read = tt
+    packs_known (pack ∷ packs) one read = file_known pack.path (cc one) (loaded pack.state) (All-head (IsRead Shown setting hash) pack packs read)
+
+  row_known : (query : Query) (absent : List AbsentFile) (index : SnapshotIndex) (row : Row) → IsInIndex Shown setting hash id index.path row.offset
+      → map (λ (pack : PackFile). pack.path) index.packs ≡ pack_path index.path ∷ []
+      → All (IsRead Shown setting hash) index.packs
+      → Comes (Hits query) (Bads query) Wanted (at_spot (wanted_by query) (aim query) absent index (Some (record { place = 0; offset = row.offset })))
+  row_known (Find asked) absent index row known one read = packs_known (Find asked) absent index row known index.packs one read
+  row_known (Header asked) absent index row known one read = packs_known (Header asked) absent index row known index.packs one read
+  row_known (Test asked) absent index row known one read = (index.path, row.offset, known, refl)
+
+  abbrev has_id : Row → Bool
+  has_id row = is_eq (id_cmp row.id id)
+
+  row_gives : (index : SnapshotIndex) (shown : IsShown Shown setting hash index) (row : Row)
+      → find has_id (index_rows shown.file.kind shown.file.bytes) ≡ Some row
+      → IsInIndex Shown setting hash id index.path row.offset
+  row_gives index shown row is =
+      let file : FileBytes = shown.file in
+      let found = find_passes has_id (index_rows file.kind file.bytes) row is in
+      record {
+        at = shown.at;
+        bytes = file.bytes;
+        shown = shown.read.shown;
+        gives = record {
+          parsed = shown.read.parsed;
+          row = row;
+          among = subst (λ (kind : Kind). Contains (index_rows kind file.bytes) row) shown.read.kind found.0;
+          of_id = same_id row.id id (equal (id_cmp row.id id) found.1);
+          at = refl;
+        };
+      }
+
+  spot_known : (query : Query) (absent : List AbsentFile) (index : SnapshotIndex) (shown : IsShown Shown setting hash index) (found : Option Row)
+      → find has_id (index_rows shown.file.kind shown.file.bytes) ≡ found
+      → Comes (Hits query) (Bads query) Wanted
+      (at_spot (wanted_by query) (aim query) absent index (option_map (λ (row : Row). record { place = 0; offset = row.offset }) found))
+  spot_known query absent index shown None is = tt
+  spot_known query absent index shown (Some row) is = row_known query absent index row (row_gives index shown row is) shown.one shown.packs
+
+  pub tried_known : (query : Query) (absent : List AbsentFile) (index : SnapshotIndex) → IsShown Shown setting hash index
+      → Comes (Hits query) (Bads query) Wanted (tried (aim query) absent index)
+  tried_known query absent index shown =
+      subst (λ (own : LoadedIndex). Comes (Hits query) (Bads query) Wanted (at_spot (wanted_by query) (aim query) absent index (spot_in own id)))
+      (sym shown.single)
+      (spot_known query absent index shown (find has_id (index_rows shown.file.kind shown.file.bytes)) refl)

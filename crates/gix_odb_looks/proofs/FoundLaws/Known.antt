@@ -1,0 +1,167 @@
+-- What is known at each stage of a look-up: of what it found, of what it is to hand to the core, and of why a pack refuses it.
+use Rattle.std.proofs.Common.{◌≡◌, ◌⊎◌, ℕ, true, List, All, Contains, Result, Ok, Err}
+use Rattle.odb_base.specs.Path.{Path}
+use Rattle.gix_hash.specs.declared.kind.Kind.{Kind}
+use Rattle.gix_hash.specs.declared.object_id.ObjectId.{ObjectId}
+use Rattle.gix_odb_loose.specs.declared.call.LooseCall.{LooseCall}
+use Rattle.gix_odb_slots.specs.PackPath.{pack_path}
+use Rattle.gix_odb_slots.specs.declared.loaded.Todo.{Todo}
+use Rattle.gix_odb_packs.specs.PackFolder.{pack_folder}
+use Rattle.gix_odb_packs.specs.declared.goal.Error as goals
+use Rattle.gix_odb_packs.specs.declared.goal.Found.{Found}
+use Rattle.gix_odb_packs.specs.declared.goal.Goal.{Goal}
+use Rattle.gix_odb_packs.specs.declared.lister.ListHead.{ListHead}
+use Rattle.gix_odb_packs.specs.declared.lister.ListStage.{ListStage}
+use Rattle.gix_odb_packs.specs.declared.lister.ListStage.TheVariants as list_stages
+use Rattle.gix_odb_packs.specs.declared.lister.ListStep.{ListStep}
+use Rattle.gix_odb_packs.specs.declared.lister.ListStep.TheVariants as list_steps
+use Rattle.gix_odb_packs.specs.declared.lister.Lister.{Lister}
+use Rattle.gix_odb_packs.specs.declared.search.WantedPack.{WantedPack}
+use Rattle.gix_odb_packs.specs.declared.trier.Ahead.{Ahead}
+use Rattle.gix_odb_packs.specs.declared.trier.Stage.{Stage}
+use Rattle.gix_odb_packs.specs.declared.trier.Stage.TheVariants as stages
+use Rattle.gix_odb_packs.specs.declared.trier.Tried.{Tried}
+use Rattle.gix_odb_packs.specs.declared.trier.Tried.TheVariants as tried
+use Rattle.gix_odb_packs.specs.declared.trier.Trier.{Trier}
+use Rattle.gix_odb_calls.specs.Verdict.{asking}
+use Rattle.gix_odb_calls.specs.declared.call.CallError.TheVariants as call_errors
+use Rattle.gix_odb_calls.specs.declared.call.Reply.{Reply}
+use Rattle.gix_odb_calls.specs.declared.call.Reply.TheVariants as replies
+use Rattle.gix_odb_calls.specs.declared.find.Error.{Error}
+use Rattle.gix_odb_calls.specs.declared.find.Error.TheVariants as errors
+use Rattle.gix_odb_calls.specs.declared.query.Query.{Query}
+use Rattle.gix_odb_calls.specs.declared.verdict.Verdict.{Verdict}
+use Rattle.gix_odb_calls.specs.declared.verdict.Verdict.TheVariants as verdicts
+use Rattle.gix_odb_looks.specs.Caused.{IsCaused}
+use Rattle.gix_odb_looks.specs.Exchange.{Exchange}
+use Rattle.gix_odb_looks.specs.Found.{IsFound, IsInIndex}
+use Rattle.gix_odb_looks.specs.LookUpOrder.{Setting, find_error, reply_found, wanted_by}
+use Rattle.gix_odb_looks.specs.Shown.{IsIndexPath, IsIndexRead, IsIndexRow, IsPackRead, IsShown, folders_of}
+use Rattle.gix_odb_looks.specs.declared.look_up.LookHead.{LookHead}
+use Rattle.gix_odb_looks.specs.declared.look_up.LookStage.{LookStage}
+use Rattle.gix_odb_looks.specs.declared.look_up.LookStage.TheVariants as look_stages
+use Rattle.gix_odb_looks.specs.declared.look_up.LookUp.{LookUp}
+
+-- a reply says that the object is there
+abbrev pub IsAnswer : Reply → Type 0
+IsAnswer (replies.Found kind bytes) = Unit {0}
+IsAnswer (replies.Header header) = Unit {0}
+IsAnswer (replies.Tested true) = Unit {0}
+IsAnswer reply = ⊥
+
+-- an error is one that packs give
+abbrev pub IsOfPack : Error → Type 0
+IsOfPack errors.LoadPack = Unit {0}
+IsOfPack errors.Pack = Unit {0}
+IsOfPack (errors.EntryType code) = Unit {0}
+IsOfPack errors.DeltaEntry = Unit {0}
+IsOfPack (errors.OutOfMemory size) = Unit {0}
+IsOfPack error = ⊥
+
+-- what a query seeks of an id
+abbrev pub goal_for : Setting → Query → ObjectId → Goal
+goal_for setting query id = record { id = id; wanted = wanted_by query; limit = setting.limit }
+
+-- ---- listings
+
+module _ (setting : Setting) where
+  abbrev pub IsIndexTodo : Todo → Type 0
+  IsIndexTodo todo = IsIndexPath setting todo.path
+
+  -- the folder of packs of one of the folders is listed, and the rows are of indices
+  pub record KnowsListHead (head : ListHead) : Type 0 where
+    pub folder : Path
+    pub among : Contains (folders_of setting) folder
+    pub is : head.folder ≡ pack_folder folder
+    pub rows : All (IsIndexRow setting) head.rows
+
+  abbrev pub KnowsListStage : ListStage → Type 0
+  KnowsListStage (list_stages.Index path left) = IsIndexPath setting path × All (IsIndexPath setting) left
+  KnowsListStage (list_stages.Pack row left) = IsIndexRow setting row × All (IsIndexPath setting) left
+  KnowsListStage stage = Unit {0}
+
+  pub record KnowsLister (lister : Lister) : Type 0 where
+    pub head : KnowsListHead lister.head
+    pub stage : KnowsListStage lister.stage
+
+  abbrev pub KnowsListStep : ListStep → Type 0
+  KnowsListStep (list_steps.More lister) = KnowsLister lister
+  KnowsListStep (list_steps.Rows rows) = All (IsIndexRow setting) rows
+  KnowsListStep list_steps.Broken = Unit {0}
+
+-- ---- packs
+
+module _ (Shown : Path → List ℕ → Type 0) (setting : Setting) (hash : Kind) (id : ObjectId) where
+  -- a pack is wanted beside an index that was shown, which gives the id the offset
+  pub record IsWanted (pack : WantedPack) : Type 0 where
+    pub path : Path
+    pub index : IsInIndex Shown setting hash id path pack.offset
+    pub is : pack.path ≡ pack_path path
+
+  -- what is still to be tried
+  pub record KnowsAhead (ahead : Ahead) : Type 0 where
+    pub indices : All (IsShown Shown setting hash) ahead.indices
+    pub todo : All (IsIndexTodo setting) ahead.todo
+
+  abbrev pub KnowsStage : Stage → Type 0
+  KnowsStage (stages.ReadingIndex place) = IsIndexPath setting place.path
+  KnowsStage (stages.StoringIndex place file) = IsIndexPath setting place.path × IsIndexRead Shown setting hash place.path file
+  KnowsStage (stages.PassingIndex place why) = Unit {0}
+  KnowsStage (stages.ReadingPack pack) = IsWanted pack
+  KnowsStage (stages.StoringPack pack file) = IsWanted pack × IsPackRead Shown setting hash pack.path file
+  KnowsStage (stages.PassingPack pack) = Unit {0}
+
+-- ---- look-ups
+
+module _ (Shown : Path → List ℕ → Type 0) (Loosely : Path → Verdict → Type 0) (setting : Setting) (hash : Kind) (id : ObjectId) (exchanges : List Exchange)
+    (query : Query) where
+  abbrev pub IsFoundHere : Found → Type 0
+  IsFoundHere found = IsFound Shown setting hash id query (reply_found found)
+
+  abbrev pub IsCausedHere : goals.Error → Type 0
+  IsCausedHere error = IsCaused Shown Loosely setting hash id query exchanges (find_error error)
+
+  abbrev pub KnowsGiven : Result Found goals.Error → Type 0
+  KnowsGiven (Ok found) = IsFoundHere found
+  KnowsGiven (Err error) = IsCausedHere error
+
+  pub record KnowsTrier (trier : Trier) : Type 0 where
+    pub goal : trier.goal ≡ goal_for setting query id
+    pub ahead : KnowsAhead Shown setting hash id trier.ahead
+    pub stage : KnowsStage Shown setting hash id trier.stage
+
+  abbrev pub KnowsTried : Tried → Type 0
+  KnowsTried (tried.More trier) = KnowsTrier trier
+  KnowsTried (tried.Hit found) = IsFoundHere found
+  KnowsTried (tried.Missed notes) = Unit {0}
+  KnowsTried (tried.Bad error) = IsCausedHere error
+  KnowsTried (tried.Broken refusal) = Unit {0}
+
+  -- an answer was found, in packs or among loose objects, and an error of a pack has its cause
+  pub record KnowsReply (reply : Reply) : Type 0 where
+    pub found : IsAnswer reply
+        → IsFound Shown setting hash id query reply ⊎ ((folder : Path) × Contains (folders_of setting) folder × Loosely folder (verdicts.Ends reply))
+    pub caused : (error : Error) → reply ≡ replies.Refused (call_errors.Find error) → IsOfPack error
+        → IsCaused Shown Loosely setting hash id query exchanges error
+
+  -- the loose objects of one of the folders are asked
+  pub record KnowsLoose (call : LooseCall) : Type 0 where
+    pub folder : Path
+    pub among : Contains (folders_of setting) folder
+    pub is : call ≡ asking setting.limit query id folder
+
+  abbrev pub KnowsLookStage : LookStage → Type 0
+  KnowsLookStage (look_stages.Trying trier part) = KnowsTrier trier
+  KnowsLookStage (look_stages.Loose round call) = KnowsLoose call
+  KnowsLookStage (look_stages.Looking purpose notes) = Unit {0}
+  KnowsLookStage (look_stages.Listing lister base notes) = KnowsLister setting lister
+  KnowsLookStage (look_stages.Publishing listing notes) = All (IsIndexRow setting) listing.rows
+  KnowsLookStage (look_stages.Done reply) = KnowsReply reply
+
+  pub record KnowsHead (head : LookHead) : Type 0 where
+    pub query_is : head.query ≡ query
+    pub id_is : head.id ≡ id
+
+  pub record KnowsLook (look : LookUp) : Type 0 where
+    pub head : KnowsHead look.head
+    pub stage : KnowsLookStage look.stage

@@ -1,0 +1,285 @@
+-- What is known of a look-up is kept by each exchange.
+use Rattle.std.proofs.Common.{◌≡◌, ◌==◌, ℕ, Bool, true, false, cond, List, [], All, Contains, slice_get, Option, Some, None, Ok, Err}
+use Rattle.std.proofs.Common.{refl, sym, subst, ap}
+use Rattle.std.proofs.lemmas.List.Elements.{All-nil}
+use Rattle.odb_base.specs.Path.{Path}
+use Rattle.odb_disk.specs.declared.ask.DiskAnswer.{DiskAnswer}
+use Rattle.odb_disk.specs.declared.ask.DiskAsk.{DiskAsk}
+use Rattle.gix_hash.specs.ObjectId.{kind_of}
+use Rattle.gix_hash.specs.declared.kind.Kind.{Kind}
+use Rattle.gix_hash.specs.declared.object_id.ObjectId.{ObjectId}
+use Rattle.gix_odb_loose.specs.LooseOrder.{disk_ask_of, reply_of}
+use Rattle.gix_odb_loose.specs.declared.call.LooseCall.{LooseCall}
+use Rattle.gix_odb_loose.specs.declared.call.LooseReply.{LooseReply}
+use Rattle.gix_odb_slots.specs.declared.listing.Listing.{Listing}
+use Rattle.gix_odb_slots.specs.declared.loaded.Todo.{Todo}
+use Rattle.gix_odb_core.specs.Replay.{view_in}
+use Rattle.gix_odb_core.specs.declared.event.Effect.{Effect}
+use Rattle.gix_odb_core.specs.declared.event.Effect.TheVariants as effects
+use Rattle.gix_odb_core.specs.declared.view.View.{View}
+use Rattle.gix_odb_packs.specs.ListOrder as lists
+use Rattle.gix_odb_packs.specs.TryOrder as tries
+use Rattle.gix_odb_packs.specs.TryOrder.{seek}
+use Rattle.gix_odb_packs.specs.declared.answer.Answer.{Answer}
+use Rattle.gix_odb_packs.specs.declared.answer.Answer.TheVariants as told
+use Rattle.gix_odb_packs.specs.declared.answer.PartAsk.{PartAsk}
+use Rattle.gix_odb_packs.specs.declared.answer.PartAsk.TheVariants as asks
+use Rattle.gix_odb_packs.specs.declared.goal.Goal.{Goal}
+use Rattle.gix_odb_packs.specs.declared.lister.ListStep.{ListStep}
+use Rattle.gix_odb_packs.specs.declared.lister.ListStep.TheVariants as listed
+use Rattle.gix_odb_packs.specs.declared.search.Notes.{Notes}
+use Rattle.gix_odb_packs.specs.declared.trier.Ahead.{Ahead}
+use Rattle.gix_odb_packs.specs.declared.trier.Tried.{Tried}
+use Rattle.gix_odb_packs.specs.declared.trier.Tried.TheVariants as tried
+use Rattle.gix_odb_packs.specs.declared.trier.Trier.{Trier}
+use Rattle.gix_odb_calls.specs.Verdict.{asking, verdict_on}
+use Rattle.gix_odb_calls.specs.declared.load_index.Error.TheVariants as load_errors
+use Rattle.gix_odb_calls.specs.declared.query.Query.{Query}
+use Rattle.gix_odb_calls.specs.declared.query.Query.TheVariants.{Find, Header, Test}
+use Rattle.gix_odb_calls.specs.declared.verdict.Verdict.{Verdict}
+use Rattle.gix_odb_calls.specs.declared.verdict.Verdict.TheVariants as verdicts
+use Rattle.gix_odb_looks.specs.Exchange.{Exchange, WasTold}
+use Rattle.gix_odb_looks.specs.LoadIndex.{of_refusal}
+use Rattle.gix_odb_looks.specs.LookUpOrder.{Setting, after_list, after_loose, ask_at, at_folder, by_call, by_check, by_first, by_listed, by_look}
+use Rattle.gix_odb_looks.specs.LookUpOrder.{by_published, by_reply, by_tried, by_verdict, counted, ended, fed_at, goal_of, is_unsettled, listing_from}
+use Rattle.gix_odb_looks.specs.LookUpOrder.{load_refused, loose_ask, loose_fed, loose_from, new_head, not_found, started, trier_fed, try_view, unsettled}
+use Rattle.gix_odb_looks.specs.LookUpOrder.{view_shown, wanted_by, with_own, without_notes}
+use Rattle.gix_odb_looks.specs.Shown.{IsIndexRow, IsShownView, folders_of}
+use Rattle.gix_odb_looks.specs.True.{IsTrue}
+use Rattle.gix_odb_looks.specs.declared.look_up.LookHead.{LookHead}
+use Rattle.gix_odb_looks.specs.declared.look_up.LookStage.{LookStage}
+use Rattle.gix_odb_looks.specs.declared.look_up.LookStage.TheVariants as stages
+use Rattle.gix_odb_looks.specs.declared.look_up.LookUp.{LookUp}
+use Rattle.gix_odb_looks.specs.declared.look_up.LooseRound.{LooseRound}
+use Rattle.gix_odb_looks.specs.declared.look_up.Part.{Part}
+use Rattle.gix_odb_looks.specs.declared.look_up.Part.TheVariants as parts
+use Rattle.gix_odb_looks.specs.declared.look_up.Purpose.{Purpose}
+use Rattle.gix_odb_looks.specs.declared.look_up.Purpose.TheVariants as purposes
+use Rattle.gix_odb_looks.proofs.FoundLaws.Known.{IsIndexTodo, KnowsHead, KnowsListStep, KnowsLook, KnowsLookStage, KnowsLoose, KnowsTried, KnowsTrier, goal_for}
+use Rattle.gix_odb_looks.proofs.FoundLaws.Listing.{fed_known, started_known}
+use Rattle.gix_odb_looks.proofs.FoundLaws.Lists.{all_longest_first, at_place, has_first, has_later}
+use Rattle.gix_odb_looks.proofs.FoundLaws.Replies.{EndsOther, found_reply, load_reply, loose_ends_other, loose_reply, missed_reply, pack_reply}
+use Rattle.gix_odb_looks.proofs.FoundLaws.Trying.{answer_known, seek_known}
+use Rattle.gix_odb_looks.proofs.FoundLaws.Views.{views_shown}
+
+-- ---- the loose objects of a folder
+
+-- a folder that is asked for an object asks the disk once, and replies to its answer
+asks_once : (limit : Option ℕ) (query : Query) (id : ObjectId) (folder : Path) → (ask : DiskAsk) × (disk_ask_of (asking limit query id folder) ≡ Some ask)
+asks_once limit (Find asked) id folder = (_, refl)
+asks_once limit (Header asked) id folder = (_, refl)
+asks_once limit (Test asked) id folder = (_, refl)
+
+replies_once : (limit : Option ℕ) (query : Query) (id : ObjectId) (folder : Path) (answer : DiskAnswer)
+    → (reply : LooseReply) × (reply_of (loose_fed (asking limit query id folder) answer) ≡ Some reply)
+replies_once limit (Find asked) id folder answer = (_, refl)
+replies_once limit (Header asked) id folder answer = (_, refl)
+replies_once limit (Test asked) id folder answer = (_, refl)
+
+same_ask : (call : Option DiskAsk) (ask : PartAsk) (own : DiskAsk) → call ≡ Some own → loose_ask call ≡ Some ask → ask ≡ asks.Disk own
+same_ask None ask own is asked = absurd (cc is)
+same_ask (Some other) ask own is asked = let one : other ≡ own = cc is in let two : asks.Disk other ≡ ask = cc asked in cc (one, two)
+
+module _ (Shown : Path → List ℕ → Type 0) (Loosely : Path → Verdict → Type 0) (setting : Setting) (hash : Kind) (id : ObjectId) (exchanges : List Exchange)
+    (query : Query) where
+  abbrev Stands : LookStage → Type 0
+  Stands stage = KnowsLookStage Shown Loosely setting hash id exchanges query stage
+
+  abbrev Heads : LookHead → Type 0
+  Heads head = KnowsHead Shown Loosely setting hash id exchanges query head
+
+  abbrev Knows : LookUp → Type 0
+  Knows look = KnowsLook Shown Loosely setting hash id exchanges query look
+
+  abbrev IsView : View → Type 0
+  IsView view = IsShownView Shown setting hash view
+
+  -- ---- the parts begin
+
+  chosen_known : (b : Bool) (one other : LookStage) → Stands one → Stands other → Stands (cond b one other)
+  chosen_known true one other first further = first
+  chosen_known false one other first further = further
+
+  folder_known : (head : LookHead) (folder : Path) → Heads head → Contains (folders_of setting) folder
+      → KnowsLoose Shown Loosely setting hash id exchanges query (asking setting.limit head.query head.id folder)
+  folder_known head folder known among =
+      record { folder = folder; among = among; is = λ i. asking setting.limit (known.query_is i) (known.id_is i) folder }
+
+  loose_known : (head : LookHead) (part : Part) (notes : Notes) → Heads head → Stands (loose_from setting head part notes)
+  loose_known head part notes known = folder_known head setting.objects known (has_first setting.objects setting.folders)
+
+  after_list_known : (head : LookHead) (part : Part) (notes : Notes) → Heads head → Stands (after_list setting head part notes)
+  after_list_known head parts.Snapshot notes known = loose_known head parts.Snapshot notes known
+  after_list_known head (parts.List list_no true) notes known = loose_known head (parts.List list_no true) notes known
+  after_list_known head (parts.List list_no false) notes known = started_known setting
+  after_list_known head (parts.Published list_no) notes known = loose_known head (parts.Published list_no) notes known
+
+  after_loose_known : (part : Part) (notes : Notes) → Stands (after_loose setting part notes)
+  after_loose_known parts.Snapshot notes = tt
+  after_loose_known (parts.List list_no loose) notes = started_known setting
+  after_loose_known (parts.Published list_no) notes = tt
+
+  -- ---- a list is tried
+
+  tried_known : (head : LookHead) (part : Part) (end : Tried) → Heads head → KnowsTried Shown Loosely setting hash id exchanges query end
+      → Stands (by_tried setting head part end)
+  tried_known head part (tried.More trier) known here = here
+  tried_known head part (tried.Hit found) known here = found_reply Shown Loosely setting hash id exchanges query found here
+  tried_known head part (tried.Missed notes) known here = after_list_known head part notes known
+  tried_known head part (tried.Bad error) known here = pack_reply Shown Loosely setting hash id exchanges query error here
+  tried_known head part (tried.Broken refusal) known here = load_reply Shown Loosely setting hash id exchanges query (of_refusal refusal)
+
+  goal_is : (head : LookHead) → Heads head → goal_for setting query id ≡ goal_of setting head
+  goal_is head known = sym (λ i. record { id = known.id_is i; wanted = wanted_by (known.query_is i); limit = setting.limit })
+
+  try_known : (head : LookHead) (part : Part) (view : View) (todo : List Todo) (notes : Notes) → Heads head → IsView view → All (IsIndexTodo setting) todo
+      → Stands (try_view setting head part view todo notes)
+  try_known head part view todo notes known shown paths =
+      let ahead : Ahead = record { indices = view.snapshot.indices; todo = todo; notes = notes } in
+      tried_known head part (seek (goal_of setting head) ahead) known
+      (subst (λ (goal : Goal). KnowsTried Shown Loosely setting hash id exchanges query (seek goal ahead)) (goal_is head known)
+      (seek_known Shown Loosely setting hash id exchanges query ahead (record { indices = shown.indices; todo = paths })))
+
+  pub begun_known : (view : View) → IsView view → Knows (started setting view query id)
+  begun_known view shown =
+      let head : Heads (new_head query id) = record { query_is = refl; id_is = refl } in
+      record {
+        head = head;
+        stage =
+            chosen_known view.read (try_view setting (new_head query id) parts.Snapshot view [] without_notes)
+            (stages.Looking (purposes.First true) without_notes)
+            (try_known (new_head query id) parts.Snapshot view [] without_notes head shown (All-nil (IsIndexTodo setting))) tt;
+      }
+
+  -- ---- a folder has replied
+
+  next_known : (head : LookHead) (round : LooseRound) (next : Option Path) → slice_get setting.folders round.next ≡ next → Heads head
+      → Stands (at_folder setting head round next)
+  next_known head round None is known = after_loose_known round.part round.notes
+  next_known head round (Some folder) is known =
+      folder_known head folder known (has_later setting.objects setting.folders folder (at_place setting.folders round.next folder is))
+
+  verdict_known : (head : LookHead) (round : LooseRound) (verdict : Verdict) (folder : Path) → Heads head → Contains (folders_of setting) folder
+      → Loosely folder verdict
+      → EndsOther verdict
+      → Stands (by_verdict setting head round verdict)
+  verdict_known head round (verdicts.Ends reply) folder known among says other =
+      loose_reply Shown Loosely setting hash id exchanges query reply folder among says other
+  verdict_known head round verdicts.Misses folder known among says other = next_known head round (slice_get setting.folders round.next) refl known
+  verdict_known head round (verdicts.Notes error) folder known among says other =
+      next_known head (record round { notes = record round.notes { failed = true } }) (slice_get setting.folders round.next) refl known
+
+  asked_known : (head : LookHead) (round : LooseRound) (folder : Path) (ask : PartAsk) (answer : DiskAnswer) → Heads head → Contains (folders_of setting) folder
+      → loose_ask (disk_ask_of (asking setting.limit query id folder)) ≡ Some ask
+      → IsTrue Shown Loosely setting hash query id ask (told.Disk answer)
+      → Stands (by_call setting head round (loose_fed (asking setting.limit query id folder) answer))
+  asked_known head round folder ask answer known among asked truth =
+      let own = asks_once setting.limit query id folder in
+      let call : LooseCall = loose_fed (asking setting.limit query id folder) answer in
+      let replied = replies_once setting.limit query id folder answer in
+      let is : ask ≡ asks.Disk own.0 = same_ask (disk_ask_of (asking setting.limit query id folder)) ask own.0 own.1 asked in
+      let true_own = subst (λ (other : PartAsk). IsTrue Shown Loosely setting hash query id other (told.Disk answer)) is truth in
+      let says : Loosely folder (verdict_on query replied.0) = true_own.2 folder replied.0 among own.1 replied.1 in
+      let same : verdict_on query replied.0 ≡ verdict_on head.query replied.0 = ap (λ (asks : Query). verdict_on asks replied.0) (sym known.query_is) in
+      subst (λ (reply : Option LooseReply). Stands (by_reply setting head round call reply)) (sym replied.1)
+      (verdict_known head round (verdict_on head.query replied.0) folder known among (subst (Loosely folder) same says) (loose_ends_other head.query replied.0))
+
+  call_known : (head : LookHead) (round : LooseRound) (call : LooseCall) (ask : PartAsk) (answer : DiskAnswer) → Heads head
+      → KnowsLoose Shown Loosely setting hash id exchanges query call
+      → loose_ask (disk_ask_of call) ≡ Some ask
+      → IsTrue Shown Loosely setting hash query id ask (told.Disk answer)
+      → Stands (by_call setting head round (loose_fed call answer))
+  call_known head round call ask answer known here asked truth =
+      subst (λ (own : LooseCall). Stands (by_call setting head round (loose_fed own answer))) (sym here.is)
+      (asked_known head round here.folder ask answer known here.among (subst (λ (own : LooseCall). loose_ask (disk_ask_of own) ≡ Some ask) here.is asked) truth)
+
+  -- ---- the core has answered
+
+  counted_known : (head : LookHead) (now : ℕ) (next : LookStage) → Stands next → Stands (counted setting head now next)
+  counted_known head now next here =
+      chosen_known (is_unsettled setting head now) (unsettled head now) next (load_reply Shown Loosely setting hash id exchanges query _) here
+
+  first_known : (head : LookHead) (loose : Bool) (view : View) (notes : Notes) → Heads head → IsView view → Stands (by_first setting head loose view notes)
+  first_known head loose view notes known shown =
+      chosen_known view.read (try_view setting head (parts.List view.list_no loose) view view.todo notes) (listing_from setting view.list_no notes)
+      (try_known head (parts.List view.list_no loose) view view.todo notes known shown shown.todo) (started_known setting)
+
+  ended_known : (asked : Query) (notes : Notes) → Stands (ended asked notes)
+  ended_known asked notes =
+      chosen_known notes.failed (stages.Done (load_refused load_errors.Io)) (stages.Done (not_found asked))
+      (load_reply Shown Loosely setting hash id exchanges query load_errors.Io) (missed_reply Shown Loosely setting hash id exchanges query asked)
+
+  check_known : (head : LookHead) (list_no : ℕ) (view : View) (notes : Notes) → Stands (by_check setting head list_no view notes)
+  check_known head list_no view notes =
+      chosen_known (view.list_no == list_no) (ended head.query notes) (counted setting head view.list_no (listing_from setting view.list_no notes))
+      (ended_known head.query notes) (counted_known head view.list_no (listing_from setting view.list_no notes) (started_known setting))
+
+  look_known : (head : LookHead) (purpose : Purpose) (notes : Notes) (view : Option View) → Heads head → ((own : View) → view ≡ Some own → IsView own)
+      → Stands (by_look setting head purpose notes view)
+  look_known head purpose notes None known views = tt
+  look_known head (purposes.First loose) notes (Some view) known views = first_known head loose view notes known (views view refl)
+  look_known head (purposes.Check list_no) notes (Some view) known views = check_known head list_no view notes
+  look_known head purposes.Again notes (Some view) known views = started_known setting
+
+  published_known : (head : LookHead) (listing : Listing) (notes : Notes) (effect : Effect) → Heads head → All (IsIndexRow setting) listing.rows
+      → ((own : View) → view_in (Ok effect) ≡ Some own → IsView own)
+      → Knows (by_published setting head listing notes effect)
+  published_known head listing notes (effects.Published view) known rows views =
+      let own : Heads (with_own head) = record { query_is = known.query_is; id_is = known.id_is } in
+      let shown = views view refl in
+      record { head = own; stage = try_known (with_own head) (parts.Published view.list_no) view view.todo notes own shown shown.todo }
+  published_known head listing notes (effects.Unchanged view) known rows views =
+      let shown = views view refl in
+      record { head = known; stage = try_known head (parts.Published view.list_no) view view.todo notes known shown shown.todo }
+  published_known head listing notes (effects.Outdated list_no) known rows views =
+      record { head = known; stage = counted_known head list_no (stages.Looking purposes.Again notes) tt }
+  published_known head listing notes effect known rows views = record { head = known; stage = rows }
+
+  -- ---- the folders of packs are listed
+
+  listed_known : (base : ℕ) (notes : Notes) (step : ListStep) → KnowsListStep setting step → Stands (by_listed base notes step)
+  listed_known base notes (listed.More lister) here = here
+  listed_known base notes (listed.Rows rows) here = all_longest_first (IsIndexRow setting) rows here
+  listed_known base notes listed.Broken here = load_reply Shown Loosely setting hash id exchanges query load_errors.Io
+
+  -- ---- an exchange
+
+  trier_known : (same : kind_of id ≡ hash) (head : LookHead) (trier : Trier) (part : Part) (answer : Answer) → Heads head
+      → KnowsTrier Shown Loosely setting hash id exchanges query trier
+      → IsTrue Shown Loosely setting hash query id (tries.ask_of trier) answer
+      → WasTold exchanges (tries.ask_of trier) answer
+      → Stands (by_tried setting head part (trier_fed trier answer))
+  trier_known same head trier part answer known here truth asked =
+      tried_known head part (trier_fed trier answer) known
+      (subst (λ (goal : Goal). KnowsTried Shown Loosely setting hash id exchanges query (tries.by_answer goal trier.ahead trier.stage answer)) (sym here.goal)
+      (answer_known Shown Loosely setting hash id exchanges query same trier.ahead here.ahead trier.stage answer here.stage truth asked))
+
+  pub stage_known : kind_of id ≡ hash → (head : LookHead) (stage : LookStage) (ask : PartAsk) (answer : Answer) → Heads head → Stands stage
+      → ask_at stage ≡ Some ask
+      → IsTrue Shown Loosely setting hash query id ask answer
+      → WasTold exchanges ask answer
+      → Knows (fed_at setting head stage answer)
+  stage_known same head (stages.Trying trier part) ask answer known here asks truth asked =
+      let own : tries.ask_of trier ≡ ask = cc asks in
+      record {
+        head = known;
+        stage =
+            trier_known same head trier part answer known here (subst (λ (a : PartAsk). IsTrue Shown Loosely setting hash query id a answer) (sym own) truth)
+            (subst (λ (a : PartAsk). WasTold exchanges a answer) (sym own) asked);
+      }
+  stage_known same head (stages.Loose round call) ask (told.Disk answer) known here asks truth asked =
+      record { head = known; stage = call_known head round call ask answer known here asks truth }
+  stage_known same head (stages.Listing lister base notes) ask (told.Disk answer) known here asks truth asked =
+      record { head = known; stage = listed_known base notes (lists.fed setting.folders lister answer) (fed_known setting lister answer here) }
+  stage_known same head (stages.Looking purpose notes) ask (told.Core (Ok effect)) known here asks truth asked =
+      record {
+        head = known;
+        stage = look_known head purpose notes (view_shown effect) known (views_shown Shown Loosely setting hash query id ask (Ok effect) truth);
+      }
+  stage_known same head (stages.Looking purpose notes) ask (told.Core (Err refusal)) known here asks truth asked =
+      record { head = known; stage = load_reply Shown Loosely setting hash id exchanges query (of_refusal refusal) }
+  stage_known same head (stages.Publishing listing notes) ask (told.Core (Ok effect)) known here asks truth asked =
+      published_known head listing notes effect known here (views_shown Shown Loosely setting hash query id ask (Ok effect) truth)
+  stage_known same head (stages.Publishing listing notes) ask (told.Core (Err refusal)) known here asks truth asked =
+      record { head = known; stage = load_reply Shown Loosely setting hash id exchanges query (of_refusal refusal) }
+  stage_known same head stage ask answer known here asks truth asked = record { head = known; stage = here }

@@ -1,0 +1,88 @@
+-- What is known of a look-up's reply: where an answer was found, and why a pack refused the object.
+use Rattle.std.proofs.Common.{◌≡◌, ℕ, true, false, Bool, List, Contains, Some, Ok, Err, Result, subst, inl, inr}
+use Rattle.odb_base.specs.Path.{Path}
+use Rattle.gix_hash.specs.declared.kind.Kind.{Kind}
+use Rattle.gix_hash.specs.declared.object_id.ObjectId.{ObjectId}
+use Rattle.gix_odb_loose.specs.declared.call.LooseReply.{LooseReply}
+use Rattle.gix_odb_loose.specs.declared.call.LooseReply.TheVariants as loose_replies
+use Rattle.gix_odb_loose.specs.declared.find.Error as loose
+use Rattle.gix_odb_loose.specs.declared.find.Error.TheVariants as loose_errors
+use Rattle.gix_odb_packs.specs.declared.goal.Error as goals
+use Rattle.gix_odb_packs.specs.declared.goal.Found.{Found}
+use Rattle.gix_odb_packs.specs.declared.goal.Found.TheVariants as founds
+use Rattle.gix_odb_calls.specs.Verdict.{verdict_on, verdict_on_test}
+use Rattle.gix_odb_calls.specs.declared.call.CallError.TheVariants as call_errors
+use Rattle.gix_odb_calls.specs.declared.call.Reply.{Reply}
+use Rattle.gix_odb_calls.specs.declared.call.Reply.TheVariants as replies
+use Rattle.gix_odb_calls.specs.declared.find.Error.{Error}
+use Rattle.gix_odb_calls.specs.declared.load_index.Error as load
+use Rattle.gix_odb_calls.specs.declared.query.Query.{Query}
+use Rattle.gix_odb_calls.specs.declared.query.Query.TheVariants.{Find, Header, Test}
+use Rattle.gix_odb_calls.specs.declared.verdict.Verdict.{Verdict}
+use Rattle.gix_odb_calls.specs.declared.verdict.Verdict.TheVariants as verdicts
+use Rattle.gix_odb_looks.specs.Caused.{IsCaused}
+use Rattle.gix_odb_looks.specs.Exchange.{Exchange}
+use Rattle.gix_odb_looks.specs.LookUpOrder.{Setting, find_error, load_refused, not_found, reply_found}
+use Rattle.gix_odb_looks.specs.Shown.{folders_of}
+use Rattle.gix_odb_looks.proofs.FoundLaws.Known.{IsCausedHere, IsFoundHere, IsOfPack, KnowsReply}
+
+-- a reply is no refusal by a pack
+abbrev IsOther : Reply → Type 0
+IsOther (replies.Refused (call_errors.Find error)) = IsOfPack error → ⊥
+IsOther reply = Unit {0}
+
+abbrev pub EndsOther : Verdict → Type 0
+EndsOther (verdicts.Ends reply) = IsOther reply
+EndsOther verdict = Unit {0}
+
+test_ends_other : (told : Result Bool loose.Error) → EndsOther (verdict_on_test told)
+test_ends_other (Ok true) = tt
+test_ends_other (Ok false) = tt
+test_ends_other (Err loose_errors.NoMemory) = λ no. no
+test_ends_other (Err error) = tt
+
+-- no loose object is refused by a pack
+pub loose_ends_other : (query : Query) (reply : LooseReply) → EndsOther (verdict_on query reply)
+loose_ends_other (Find asked) (loose_replies.Found (Ok (Some object))) = tt
+loose_ends_other (Find asked) (loose_replies.Found (Err error)) = λ no. no
+loose_ends_other (Header asked) (loose_replies.Header (Ok (Some object))) = tt
+loose_ends_other (Header asked) (loose_replies.Header (Err error)) = λ no. no
+loose_ends_other (Test asked) (loose_replies.Contains answer) = test_ends_other answer
+loose_ends_other query reply = tt
+
+module _ (Shown : Path → List ℕ → Type 0) (Loosely : Path → Verdict → Type 0) (setting : Setting) (hash : Kind) (id : ObjectId) (exchanges : List Exchange)
+    (query : Query) where
+  abbrev Knows : Reply → Type 0
+  Knows reply = KnowsReply Shown Loosely setting hash id exchanges query reply
+
+  abbrev Because : Error → Type 0
+  Because error = IsCaused Shown Loosely setting hash id query exchanges error
+
+  other_cause : (reply : Reply) → IsOther reply → (error : Error) → reply ≡ replies.Refused (call_errors.Find error) → IsOfPack error → Because error
+  other_cause reply other error is of = absurd (subst IsOther is other of)
+
+  found_is_other : (found : Found) → IsOther (reply_found found)
+  found_is_other (founds.Object kind bytes) = tt
+  found_is_other (founds.Header kind size) = tt
+  found_is_other founds.Presence = tt
+
+  pub found_reply : (found : Found) → IsFoundHere Shown Loosely setting hash id exchanges query found → Knows (reply_found found)
+  found_reply found here = record { found = λ answer. inl here; caused = other_cause (reply_found found) (found_is_other found) }
+
+  pub pack_reply : (error : goals.Error) → IsCausedHere Shown Loosely setting hash id exchanges query error
+      → Knows (replies.Refused (call_errors.Find (find_error error)))
+  pack_reply error here = record {
+    found = λ answer. absurd answer;
+    caused = λ other is of. let same : find_error error ≡ other = cc is in subst Because same here;
+  }
+
+  pub load_reply : (error : load.Error) → Knows (load_refused error)
+  load_reply error = record { found = λ answer. absurd answer; caused = other_cause (load_refused error) (λ no. no) }
+
+  pub missed_reply : (asked : Query) → Knows (not_found asked)
+  missed_reply (Find own) = record { found = λ answer. absurd answer; caused = other_cause replies.NotFound tt }
+  missed_reply (Header own) = record { found = λ answer. absurd answer; caused = other_cause replies.NotFound tt }
+  missed_reply (Test own) = record { found = λ answer. absurd answer; caused = other_cause (replies.Tested false) tt }
+
+  pub loose_reply : (reply : Reply) (folder : Path) → Contains (folders_of setting) folder → Loosely folder (verdicts.Ends reply) → IsOther reply → Knows reply
+  loose_reply reply folder among says other = record { found = λ answer. inr (folder, among, says); caused = other_cause reply other }

@@ -1,0 +1,210 @@
+-- While the indices of a list are tried, what is known of them is kept by each answer.
+use Rattle.std.proofs.Common.{◌≡◌, ℕ, Bool, true, false, cond, List, [], ◌∷◌, All, unwrap_or, Some, Result, Ok, Err}
+use Rattle.std.proofs.Common.{refl, subst, inl, inr}
+use Rattle.std.proofs.lemmas.List.Elements.{All-head, All-tail}
+use Rattle.odb_base.specs.Path.{Path}
+use Rattle.odb_tree.specs.declared.disk_error.DiskError.TheVariants as disk_errors
+use Rattle.odb_disk.specs.declared.ask.DiskAnswer.{DiskAnswer}
+use Rattle.odb_disk.specs.declared.ask.DiskAnswer.TheVariants as answers
+use Rattle.gix_hash.specs.ObjectId.{kind_of}
+use Rattle.gix_hash.specs.declared.kind.Kind.{Kind}
+use Rattle.gix_hash.specs.declared.object_id.ObjectId.{ObjectId}
+use Rattle.gix_pack_files.specs.FileBytes.{FileBytes}
+use Rattle.gix_pack_files.specs.Index.{is_index}
+use Rattle.gix_pack_files.specs.Pack.{is_pack}
+use Rattle.gix_odb_slots.specs.declared.loaded.Todo.{Todo}
+use Rattle.gix_odb_core.specs.Replay.{view_in}
+use Rattle.gix_odb_core.specs.declared.event.Effect.{Effect}
+use Rattle.gix_odb_core.specs.declared.event.PassWhy.TheVariants as whys
+use Rattle.gix_odb_core.specs.declared.event.Refusal.{Refusal}
+use Rattle.gix_odb_core.specs.declared.view.View.{View}
+use Rattle.gix_odb_packs.specs.Goal.{given_by}
+use Rattle.gix_odb_packs.specs.Search.{rest_behind, search, tried, with_absent}
+use Rattle.gix_odb_packs.specs.TryOrder.{ask_at, at, at_search, at_todo, behind_core, behind_disk, by_answer, by_given, index_read, noting}
+use Rattle.gix_odb_packs.specs.TryOrder.{pack_behind, pack_read, read_of, refused, seek, shown_behind, shown_or_own, why_of}
+use Rattle.gix_odb_packs.specs.declared.answer.Answer.{Answer}
+use Rattle.gix_odb_packs.specs.declared.answer.Answer.TheVariants as told
+use Rattle.gix_odb_packs.specs.declared.goal.Error as goals
+use Rattle.gix_odb_packs.specs.declared.goal.Error.TheVariants as pack_errors
+use Rattle.gix_odb_packs.specs.declared.goal.Found.{Found}
+use Rattle.gix_odb_packs.specs.declared.goal.Goal.{Goal}
+use Rattle.gix_odb_packs.specs.declared.search.WantedPack.{WantedPack}
+use Rattle.gix_odb_packs.specs.declared.trier.Ahead.{Ahead}
+use Rattle.gix_odb_packs.specs.declared.trier.IndexPlace.{IndexPlace}
+use Rattle.gix_odb_packs.specs.declared.trier.Stage.{Stage}
+use Rattle.gix_odb_packs.specs.declared.trier.Stage.TheVariants as stages
+use Rattle.gix_odb_packs.specs.declared.trier.Tried.{Tried}
+use Rattle.gix_odb_packs.specs.declared.trier.Tried.TheVariants as ends
+use Rattle.gix_odb_packs.proofs.SeekLaws.{all_rest_behind, search_comes, search_ends}
+use Rattle.gix_odb_calls.specs.declared.query.Query.{Query}
+use Rattle.gix_odb_calls.specs.declared.verdict.Verdict.{Verdict}
+use Rattle.gix_odb_looks.specs.Caused.{IsNoPack, IsUnloaded}
+use Rattle.gix_odb_looks.specs.Exchange.{Exchange, WasTold}
+use Rattle.gix_odb_looks.specs.LookUpOrder.{Setting, wanted_by}
+use Rattle.gix_odb_looks.specs.Shown.{IsIndexPath, IsIndexRead, IsPackRead, IsShown, IsShownView}
+use Rattle.gix_odb_looks.specs.True.{IsTrue}
+use Rattle.gix_odb_looks.proofs.FoundLaws.Known.{IsCausedHere, IsFoundHere, IsIndexTodo, IsWanted, KnowsAhead, KnowsGiven, KnowsStage, KnowsTried, goal_for}
+use Rattle.gix_odb_looks.proofs.FoundLaws.Indices.{given_known, tried_known}
+use Rattle.gix_odb_looks.proofs.FoundLaws.Views.{index_shown, pack_loaded, views_shown}
+
+module _ (Shown : Path → List ℕ → Type 0) (Loosely : Path → Verdict → Type 0) (setting : Setting) (hash : Kind) (id : ObjectId) (exchanges : List Exchange)
+    (query : Query) where
+  abbrev goal : Goal
+  goal = goal_for setting query id
+
+  abbrev Knows : Tried → Type 0
+  Knows tried = KnowsTried Shown Loosely setting hash id exchanges query tried
+
+  abbrev IsLeft : Ahead → Type 0
+  IsLeft ahead = KnowsAhead Shown setting hash id ahead
+
+  abbrev Stands : Stage → Type 0
+  Stands stage = KnowsStage Shown setting hash id stage
+
+  -- ---- the search goes on
+
+  at_known : (ahead : Ahead) (stage : Stage) → IsLeft ahead → Stands stage → Knows (at goal ahead stage)
+  at_known ahead stage known here = record { goal = refl; ahead = known; stage = here }
+
+  todo_known : (ahead : Ahead) (todo : List Todo) → All (IsShown Shown setting hash) ahead.indices → All (IsIndexTodo setting) todo
+      → Knows (at_todo goal ahead todo)
+  todo_known ahead [] indices paths = tt
+  todo_known ahead (todo ∷ rest) indices paths =
+      at_known (record ahead { todo = rest }) (stages.ReadingIndex (record { slot = todo.slot; path = todo.path }))
+      (record { indices = indices; todo = All-tail (IsIndexTodo setting) todo rest paths }) (All-head (IsIndexTodo setting) todo rest paths)
+
+  abbrev Hits : Found → Type 0
+  Hits found = IsFoundHere Shown Loosely setting hash id exchanges query found
+
+  abbrev Bads : goals.Error → Type 0
+  Bads error = IsCausedHere Shown Loosely setting hash id exchanges query error
+
+  abbrev Wanted : WantedPack → Type 0
+  Wanted pack = IsWanted Shown setting hash id pack
+
+  pub seek_known : (ahead : Ahead) → IsLeft ahead → Knows (seek goal ahead)
+  seek_known ahead known =
+      let absent = ahead.notes.absent in
+      let indices = rest_behind goal absent ahead.indices in
+      let left : IsLeft (record ahead { indices = indices }) =
+      record { indices = all_rest_behind goal absent (IsShown Shown setting hash) ahead.indices known.indices; todo = known.todo } in
+      let on : Ahead = record ahead { indices = indices } in
+      search_ends Hits Bads Wanted Knows goal on (search goal absent ahead.indices)
+      (search_comes Hits Bads Wanted goal absent (IsShown Shown setting hash) (tried_known Shown Loosely setting hash id exchanges query absent)
+      ahead.indices known.indices)
+      (todo_known on ahead.todo left.indices known.todo) (λ found hit. hit) (λ error bad. bad)
+      (λ pack wanted. at_known on (stages.ReadingPack pack) left wanted)
+
+  -- ---- an index
+
+  module _ (same : kind_of id ≡ hash) (ahead : Ahead) (known : IsLeft ahead) where
+    index_tested : (place : IndexPlace) (bytes : List ℕ) → IsIndexPath setting place.path → Shown place.path bytes → (parsed : Bool)
+        → is_index (kind_of id) bytes ≡ parsed
+        → Knows (at goal ahead (cond parsed (stages.StoringIndex place (record { kind = kind_of id; bytes = bytes })) (stages.PassingIndex place whys.Bad)))
+    index_tested place bytes path shown true is =
+        at_known ahead (stages.StoringIndex place (record { kind = kind_of id; bytes = bytes })) known
+        (path, record { kind = same; parsed = subst (λ (kind : Kind). is_index kind bytes ≡ true) same is; shown = shown })
+    index_tested place bytes path shown false is = at_known ahead (stages.PassingIndex place whys.Bad) known tt
+
+    index_read_known : (place : IndexPlace) (answer : DiskAnswer) → IsIndexPath setting place.path
+        → IsTrue Shown Loosely setting hash query id (read_of place.path) (told.Disk answer)
+        → Knows (index_read goal ahead place answer)
+    index_read_known place (answers.File bytes time) path truth = index_tested place bytes path truth.1 (is_index (kind_of id) bytes) refl
+    index_read_known place answer path truth =
+        at_known (record ahead { notes = noting ahead.notes (why_of answer) }) (stages.PassingIndex place (why_of answer))
+        (record { indices = known.indices; todo = known.todo }) tt
+
+    index_stored_known : (place : IndexPlace) (file : FileBytes) (effect : Effect) → IsIndexPath setting place.path
+        → IsIndexRead Shown setting hash place.path file
+        → ((view : View) → view_in (Ok effect) ≡ Some view → IsShownView Shown setting hash view)
+        → Knows (at_search goal ahead (tried goal ahead.notes.absent (shown_or_own place file (shown_behind place effect))))
+    index_stored_known place file effect path read views =
+        search_ends Hits Bads Wanted Knows goal ahead (tried goal ahead.notes.absent (shown_or_own place file (shown_behind place effect)))
+        (tried_known Shown Loosely setting hash id exchanges query ahead.notes.absent (shown_or_own place file (shown_behind place effect))
+        (index_shown Shown setting hash place file path read (view_in (Ok effect)) views))
+        (todo_known ahead ahead.todo known.indices known.todo) (λ found hit. hit) (λ error bad. bad)
+        (λ pack wanted. at_known ahead (stages.ReadingPack pack) known wanted)
+
+    -- ---- a pack
+
+    unloaded : (pack : WantedPack) (answer : DiskAnswer) → IsWanted Shown setting hash id pack → WasTold exchanges (read_of pack.path) (told.Disk answer)
+        → IsNoPack hash answer
+        → IsUnloaded Shown Loosely setting hash id exchanges
+    unloaded pack answer wanted asked none = record {
+      path = wanted.path;
+      offset = pack.offset;
+      index = wanted.index;
+      answer = answer;
+      told = subst (λ (path : Path). WasTold exchanges (read_of path) (told.Disk answer)) wanted.is asked;
+      none = none;
+    }
+
+    pack_tested : (pack : WantedPack) (bytes : List ℕ) (time : ℕ) → IsWanted Shown setting hash id pack → Shown pack.path bytes
+        → WasTold exchanges (read_of pack.path) (told.Disk (answers.File bytes time))
+        → (parsed : Bool)
+        → is_pack (kind_of id) bytes ≡ parsed
+        → Knows (cond parsed (at goal ahead (stages.StoringPack pack (record { kind = kind_of id; bytes = bytes }))) (ends.Bad pack_errors.LoadPack))
+    pack_tested pack bytes time wanted shown asked true is =
+        at_known ahead (stages.StoringPack pack (record { kind = kind_of id; bytes = bytes })) known
+        (wanted, record { kind = same; parsed = subst (λ (kind : Kind). is_pack kind bytes ≡ true) same is; shown = shown })
+    pack_tested pack bytes time wanted shown asked false is =
+        unloaded pack (answers.File bytes time) wanted asked (subst (λ (kind : Kind). is_pack kind bytes ≡ false) same is)
+
+    pack_read_known : (pack : WantedPack) (answer : DiskAnswer) → IsWanted Shown setting hash id pack
+        → IsTrue Shown Loosely setting hash query id (read_of pack.path) (told.Disk answer)
+        → WasTold exchanges (read_of pack.path) (told.Disk answer)
+        → Knows (pack_read goal ahead pack answer)
+    pack_read_known pack (answers.File bytes time) wanted truth asked = pack_tested pack bytes time wanted truth.1 asked (is_pack (kind_of id) bytes) refl
+    pack_read_known pack (answers.Refused disk_errors.Absent) wanted truth asked = at_known ahead (stages.PassingPack pack) known tt
+    pack_read_known pack (answers.Refused disk_errors.WrongKind) wanted truth asked =
+        unloaded pack (answers.Refused disk_errors.WrongKind) wanted asked (inr (inl refl))
+    pack_read_known pack (answers.Refused disk_errors.LinkLoop) wanted truth asked =
+        unloaded pack (answers.Refused disk_errors.LinkLoop) wanted asked (inr (inr refl))
+    pack_read_known pack (answers.Refused disk_errors.Failed) wanted truth asked = unloaded pack (answers.Refused disk_errors.Failed) wanted asked (inl refl)
+    pack_read_known pack answer wanted truth asked = absurd truth.0
+
+    given_ends : (given : Result Found goals.Error) → KnowsGiven Shown Loosely setting hash id exchanges query given → Knows (by_given given)
+    given_ends (Ok found) here = here
+    given_ends (Err error) here = here
+
+    pack_stored_known : (pack : WantedPack) (file : FileBytes) (effect : Effect) → IsWanted Shown setting hash id pack
+        → IsPackRead Shown setting hash pack.path file
+        → ((view : View) → view_in (Ok effect) ≡ Some view → IsShownView Shown setting hash view)
+        → Knows (by_given (given_by (wanted_by query) setting.limit (unwrap_or (pack_behind pack effect) file) pack.offset))
+    pack_stored_known pack file effect wanted read views =
+        let own : FileBytes = unwrap_or (pack_behind pack effect) file in
+        let own_read : IsPackRead Shown setting hash pack.path own = pack_loaded Shown setting hash pack file read (view_in (Ok effect)) views in
+        given_ends (given_by (wanted_by query) setting.limit own pack.offset)
+        (given_known Shown Loosely setting hash id exchanges wanted.path pack.offset wanted.index own
+        (subst (λ (path : Path). IsPackRead Shown setting hash path own) wanted.is own_read) query)
+
+    -- ---- an answer
+
+    disk_known : (stage : Stage) (answer : DiskAnswer) → Stands stage → IsTrue Shown Loosely setting hash query id (ask_at stage) (told.Disk answer)
+        → WasTold exchanges (ask_at stage) (told.Disk answer)
+        → Knows (behind_disk goal ahead stage answer)
+    disk_known (stages.ReadingIndex place) answer here truth asked = index_read_known place answer here truth
+    disk_known (stages.ReadingPack pack) answer here truth asked = pack_read_known pack answer here truth asked
+    disk_known stage answer here truth asked = at_known ahead stage known here
+
+    core_known : (stage : Stage) (effect : Effect) → Stands stage → ((view : View) → view_in (Ok effect) ≡ Some view → IsShownView Shown setting hash view)
+        → Knows (behind_core goal ahead stage effect)
+    core_known (stages.StoringIndex place file) effect here views = index_stored_known place file effect here.0 here.1 views
+    core_known (stages.PassingIndex place why) effect here views = seek_known ahead known
+    core_known (stages.StoringPack pack file) effect here views = pack_stored_known pack file effect here.0 here.1 views
+    core_known (stages.PassingPack pack) effect here views =
+        seek_known (record ahead { notes = with_absent ahead.notes pack.slot pack.path }) (record { indices = known.indices; todo = known.todo })
+    core_known stage effect here views = at_known ahead stage known here
+
+    refused_known : (stage : Stage) (refusal : Refusal) → Stands stage → Knows (refused goal ahead stage refusal)
+    refused_known (stages.ReadingIndex place) refusal here = at_known ahead (stages.ReadingIndex place) known here
+    refused_known (stages.ReadingPack pack) refusal here = at_known ahead (stages.ReadingPack pack) known here
+    refused_known stage refusal here = tt
+
+    pub answer_known : (stage : Stage) (answer : Answer) → Stands stage → IsTrue Shown Loosely setting hash query id (ask_at stage) answer
+        → WasTold exchanges (ask_at stage) answer
+        → Knows (by_answer goal ahead stage answer)
+    answer_known stage (told.Disk answer) here truth asked = disk_known stage answer here truth asked
+    answer_known stage (told.Core (Ok effect)) here truth asked =
+        core_known stage effect here (views_shown Shown Loosely setting hash query id (ask_at stage) (Ok effect) truth)
+    answer_known stage (told.Core (Err refusal)) here truth asked = refused_known stage refusal here

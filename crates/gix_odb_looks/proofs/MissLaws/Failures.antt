@@ -1,0 +1,288 @@
+-- A call of the disk that failed, other than the closing of a stream, keeps a look-up from ending with nothing found.
+use Rattle.std.proofs.Common.{◌≡◌, ◌⊎◌, inl, inr, ℕ, ◌==◌, Bool, true, false, cond, List, slice_get, Option, Some, None, unwrap_or, Ok, Err}
+use Rattle.std.proofs.Common.{refl, sym, ap, ◌∙◌, subst}
+use Rattle.std.proofs.lemmas.Option.{same_Some}
+use Rattle.odb_base.specs.Path.{Path}
+use Rattle.odb_disk.specs.declared.ask.DiskAnswer.{DiskAnswer}
+use Rattle.odb_disk.specs.declared.ask.DiskAnswer.TheVariants as disk_answers
+use Rattle.odb_disk.specs.declared.ask.DiskAsk.TheVariants as disk_asks
+use Rattle.odb_tree.specs.declared.disk_error.DiskError.TheVariants as disk_errors
+use Rattle.gix_hash.specs.declared.object_id.ObjectId.{ObjectId}
+use Rattle.gix_odb_loose.specs.LooseFile.{loose_path}
+use Rattle.gix_odb_loose.specs.LooseOrder.{reply_of}
+use Rattle.gix_odb_loose.specs.LooseOrder.Answered.{unreadable}
+use Rattle.gix_odb_loose.specs.declared.call.LooseCall.{LooseCall}
+use Rattle.gix_odb_loose.specs.declared.call.LooseReply.{LooseReply}
+use Rattle.gix_odb_loose.specs.declared.call.LooseReply.TheVariants as loose_replies
+use Rattle.gix_odb_slots.specs.declared.listing.Listing.{Listing}
+use Rattle.gix_odb_core.specs.declared.event.Effect.{Effect}
+use Rattle.gix_odb_core.specs.declared.event.Effect.TheVariants as effects
+use Rattle.gix_odb_core.specs.declared.event.Event.TheVariants as events
+use Rattle.gix_odb_core.specs.declared.view.View.{View}
+use Rattle.gix_odb_packs.specs.ListOrder as lists
+use Rattle.gix_odb_packs.specs.TryOrder.{seek}
+use Rattle.gix_odb_packs.specs.TryOrder as tries
+use Rattle.gix_odb_packs.specs.declared.answer.Answer.{Answer}
+use Rattle.gix_odb_packs.specs.declared.answer.Answer.TheVariants as told
+use Rattle.gix_odb_packs.specs.declared.answer.PartAsk.{PartAsk}
+use Rattle.gix_odb_packs.specs.declared.answer.PartAsk.TheVariants as asks
+use Rattle.gix_odb_packs.specs.declared.goal.Error.{Error}
+use Rattle.gix_odb_packs.specs.declared.goal.Found.{Found}
+use Rattle.gix_odb_packs.specs.declared.lister.ListHead.{ListHead}
+use Rattle.gix_odb_packs.specs.declared.lister.ListStage.{ListStage}
+use Rattle.gix_odb_packs.specs.declared.lister.ListStage.TheVariants as list_stages
+use Rattle.gix_odb_packs.specs.declared.lister.ListStep.{ListStep}
+use Rattle.gix_odb_packs.specs.declared.lister.ListStep.TheVariants as listed
+use Rattle.gix_odb_packs.specs.declared.search.Notes.{Notes}
+use Rattle.gix_odb_packs.specs.declared.trier.Ahead.{Ahead}
+use Rattle.gix_odb_packs.specs.declared.trier.Tried.{Tried}
+use Rattle.gix_odb_packs.specs.declared.trier.Tried.TheVariants as tried
+use Rattle.gix_odb_calls.specs.Verdict.{asking, verdict_on}
+use Rattle.gix_odb_calls.specs.declared.call.CallError.TheVariants as call_errors
+use Rattle.gix_odb_calls.specs.declared.find.Error.TheVariants as find_errors
+use Rattle.gix_odb_calls.specs.declared.load_index.Error as load_index
+use Rattle.gix_odb_calls.specs.declared.load_index.Error.TheVariants as load_errors
+use Rattle.gix_odb_calls.specs.declared.query.Query.{Query}
+use Rattle.gix_odb_calls.specs.declared.query.Query.TheVariants.{Find, Header, Test}
+use Rattle.gix_odb_calls.specs.declared.verdict.Verdict.{Verdict}
+use Rattle.gix_odb_calls.specs.declared.verdict.Verdict.TheVariants as verdicts
+use Rattle.gix_odb_looks.specs.LoadIndex.{of_refusal}
+use Rattle.gix_odb_looks.specs.LookUpOrder.{Setting, after_list, after_loose, ask_at, at_folder, by_call, by_listed, by_look, by_published, by_reply}
+use Rattle.gix_odb_looks.specs.LookUpOrder.{by_tried, by_verdict}
+use Rattle.gix_odb_looks.specs.LookUpOrder.{counted, ended, fed, fed_at, find_error, goal_of, is_unsettled, lister_fed, listing_from, load_refused}
+use Rattle.gix_odb_looks.specs.LookUpOrder.{loose_fed, not_found}
+use Rattle.gix_odb_looks.specs.LookUpOrder.{result_at, seen, trier_fed, try_view, unsettled, view_shown, with_own}
+use Rattle.gix_odb_looks.specs.declared.look_up.LookHead.{LookHead}
+use Rattle.gix_odb_looks.specs.declared.look_up.LookStage.{LookStage}
+use Rattle.gix_odb_looks.specs.declared.look_up.LookStage.TheVariants as stages
+use Rattle.gix_odb_looks.specs.declared.look_up.LookUp.{LookUp}
+use Rattle.gix_odb_looks.specs.declared.look_up.LooseRound.{LooseRound}
+use Rattle.gix_odb_looks.specs.declared.look_up.Part.{Part}
+use Rattle.gix_odb_looks.specs.declared.look_up.Part.TheVariants as parts
+use Rattle.gix_odb_looks.specs.declared.look_up.Purpose.{Purpose}
+use Rattle.gix_odb_looks.specs.declared.look_up.Purpose.TheVariants as purposes
+use Rattle.gix_odb_packs.proofs.NotedLaws.{IsDisk, IsNoted, NotedIn, failed, failed_trier, noted_answer, noted_seek}
+use Rattle.gix_odb_looks.proofs.MissLaws.Replies.{EndsNoMiss, IsMiss, found_is_no_miss, refused_is_no_miss, verdict_is_no_miss}
+
+-- ---- look-ups
+
+abbrev IsBreaking : ListStage → Type 0
+IsBreaking (list_stages.Breaking dir) = Unit {0}
+IsBreaking stage = ⊥
+
+-- a call of the disk that closes a stream
+abbrev pub closes : PartAsk → Bool
+closes (asks.Disk (disk_asks.CloseDir dir)) = true
+closes ask = false
+
+-- a verdict that is no plain miss
+abbrev IsNoPlainMiss : Query → Verdict → Type 0
+IsNoPlainMiss query verdicts.Misses = ⊥
+IsNoPlainMiss query verdict = EndsNoMiss query verdict
+
+module _ (setting : Setting) (query : Query) where
+  -- a failure was noted, or ends what is under way
+  abbrev pub IsMarred : LookStage → Type 0
+  IsMarred (stages.Trying trier part) = IsNoted trier.ahead.notes
+  IsMarred (stages.Loose round call) = IsNoted round.notes
+  IsMarred (stages.Looking purpose notes) = IsNoted notes
+  IsMarred (stages.Listing lister base notes) = IsNoted notes ⊎ IsBreaking lister.stage
+  IsMarred (stages.Publishing listing notes) = IsNoted notes
+  IsMarred (stages.Done reply) = ¬ (IsMiss query reply)
+
+  refused_mars : (error : load_index.Error) → IsMarred (stages.Done (load_refused error))
+  refused_mars error = refused_is_no_miss query (call_errors.Find (find_errors.LoadIndex error))
+
+  module _ (head : LookHead) where
+    marred_list : (part : Part) (notes : Notes) → IsNoted notes → IsMarred (after_list setting head part notes)
+    marred_list parts.Snapshot notes noted = noted
+    marred_list (parts.List list_no true) notes noted = noted
+    marred_list (parts.List list_no false) notes noted = inl noted
+    marred_list (parts.Published list_no) notes noted = noted
+
+    marred_tried : (part : Part) (result : Tried) → NotedIn result → IsMarred (by_tried setting head part result)
+    marred_tried part (tried.More trier) noted = noted
+    marred_tried part (tried.Hit what) noted = found_is_no_miss query what
+    marred_tried part (tried.Missed notes) noted = marred_list part notes noted
+    marred_tried part (tried.Bad error) noted = refused_is_no_miss query (call_errors.Find (find_error error))
+    marred_tried part (tried.Broken refusal) noted = refused_mars (of_refusal refusal)
+
+    marred_view : (part : Part) (view : View) (notes : Notes) → IsNoted notes → IsMarred (try_view setting head part view view.todo notes)
+    marred_view part view notes noted =
+        let ahead : Ahead = record { indices = view.snapshot.indices; todo = view.todo; notes = notes } in
+        marred_tried part (seek (goal_of setting head) ahead) (noted_seek (goal_of setting head) ahead noted)
+
+    marred_loose : (part : Part) (notes : Notes) → IsNoted notes → IsMarred (after_loose setting part notes)
+    marred_loose parts.Snapshot notes noted = noted
+    marred_loose (parts.List list_no loose) notes noted = inl noted
+    marred_loose (parts.Published list_no) notes noted = noted
+
+    marred_folder : (round : LooseRound) → IsNoted round.notes → (folder : Option Path) → IsMarred (at_folder setting head round folder)
+    marred_folder round noted None = marred_loose round.part round.notes noted
+    marred_folder round noted (Some folder) = noted
+
+    marred_verdict : (round : LooseRound) → IsNoted round.notes → (verdict : Verdict) → EndsNoMiss query verdict
+        → IsMarred (by_verdict setting head round verdict)
+    marred_verdict round noted (verdicts.Ends reply) ends = ends
+    marred_verdict round noted verdicts.Misses ends = marred_folder round noted (slice_get setting.folders round.next)
+    marred_verdict round noted (verdicts.Notes error) ends =
+        marred_folder (record round { notes = record round.notes { failed = true } }) refl (slice_get setting.folders round.next)
+
+    failed_verdict : (round : LooseRound) (verdict : Verdict) → IsNoPlainMiss query verdict → IsMarred (by_verdict setting head round verdict)
+    failed_verdict round (verdicts.Ends reply) ends = ends
+    failed_verdict round verdicts.Misses ends = absurd ends
+    failed_verdict round (verdicts.Notes error) ends =
+        marred_folder (record round { notes = record round.notes { failed = true } }) refl (slice_get setting.folders round.next)
+
+    marred_reply : head.query ≡ query → (round : LooseRound) → IsNoted round.notes → (call : LooseCall) (reply : Option LooseReply)
+        → IsMarred (by_reply setting head round call reply)
+    marred_reply own round noted call None = noted
+    marred_reply own round noted call (Some reply) =
+        marred_verdict round noted (verdict_on head.query reply)
+        (subst (λ (q : Query). EndsNoMiss q (verdict_on head.query reply)) own (verdict_is_no_miss head.query reply))
+
+    marred_counted : (b : Bool) (now : ℕ) (next : LookStage) → IsMarred next → IsMarred (cond b (unsettled head now) next)
+    marred_counted true now next marred = refused_mars (load_errors.Unsettled (unwrap_or head.begun now) head.own now)
+    marred_counted false now next marred = marred
+
+    marred_ended : (notes : Notes) → IsNoted notes → IsMarred (ended head.query notes)
+    marred_ended notes noted = by notes.failed noted
+      where
+        by : (b : Bool) → b ≡ true → IsMarred (cond b (stages.Done (load_refused load_errors.Io)) (stages.Done (not_found head.query)))
+        by true is = refused_mars load_errors.Io
+        by false is = absurd (cc is)
+
+    marred_look : (purpose : Purpose) (notes : Notes) → IsNoted notes → (view : Option View) → IsMarred (by_look setting head purpose notes view)
+    marred_look purpose notes noted None = noted
+    marred_look (purposes.First loose) notes noted (Some view) = by view.read
+      where
+        by : (b : Bool)
+            → IsMarred (cond b (try_view setting head (parts.List view.list_no loose) view view.todo notes) (listing_from setting view.list_no notes))
+        by true = marred_view (parts.List view.list_no loose) view notes noted
+        by false = inl noted
+    marred_look (purposes.Check list_no) notes noted (Some view) = by (view.list_no == list_no)
+      where
+        by : (b : Bool) → IsMarred (cond b (ended head.query notes) (counted setting head view.list_no (listing_from setting view.list_no notes)))
+        by true = marred_ended notes noted
+        by false = marred_counted (is_unsettled setting head view.list_no) view.list_no (listing_from setting view.list_no notes) (inl noted)
+    marred_look purposes.Again notes noted (Some view) = inl noted
+
+    marred_listed : (base : ℕ) (notes : Notes) → IsNoted notes → (step : ListStep) → IsMarred (by_listed base notes step)
+    marred_listed base notes noted (listed.More lister) = inl noted
+    marred_listed base notes noted (listed.Rows rows) = noted
+    marred_listed base notes noted listed.Broken = refused_mars load_errors.Io
+
+    breaking_ends : (base : ℕ) (notes : Notes) (list_head : ListHead) (stage : ListStage) → IsBreaking stage → (answer : DiskAnswer)
+        → IsMarred (by_listed base notes (lists.fed_at setting.folders list_head stage answer))
+    breaking_ends base notes list_head (list_stages.Breaking dir) breaking answer = refused_mars load_errors.Io
+    breaking_ends base notes list_head list_stages.Opening breaking answer = absurd breaking
+    breaking_ends base notes list_head (list_stages.Reading dir entries) breaking answer = absurd breaking
+    breaking_ends base notes list_head (list_stages.Closing dir entries) breaking answer = absurd breaking
+    breaking_ends base notes list_head (list_stages.Index path left) breaking answer = absurd breaking
+    breaking_ends base notes list_head (list_stages.Pack row left) breaking answer = absurd breaking
+
+  -- ---- what is marred stays so
+
+  pub record IsLookMarred (look : LookUp) : Type 0 where
+    pub own : look.head.query ≡ query
+    pub stage : IsMarred look.stage
+
+  marred_published : (head : LookHead) → head.query ≡ query → (listing : Listing) (notes : Notes) → IsNoted notes → (effect : Effect)
+      → IsLookMarred (by_published setting head listing notes effect)
+  marred_published head own listing notes noted (effects.Published view) =
+      record { own = own; stage = marred_view (with_own head) (parts.Published view.list_no) view notes noted }
+  marred_published head own listing notes noted (effects.Unchanged view) =
+      record { own = own; stage = marred_view head (parts.Published view.list_no) view notes noted }
+  marred_published head own listing notes noted (effects.Outdated list_no) =
+      record { own = own; stage = marred_counted head (is_unsettled setting head list_no) list_no (stages.Looking purposes.Again notes) noted }
+  marred_published head own listing notes noted effect = record { own = own; stage = noted }
+
+  marred_stage : (head : LookHead) → head.query ≡ query → (stage : LookStage) → IsMarred stage → (answer : Answer)
+      → IsLookMarred (fed_at setting head stage answer)
+  marred_stage head own (stages.Trying trier part) marred answer =
+      record { own = own; stage = marred_tried head part (trier_fed trier answer) (noted_answer trier.goal trier.ahead marred trier.stage answer) }
+  marred_stage head own (stages.Loose round call) marred (told.Disk answer) =
+      record { own = own; stage = marred_reply head own round marred (loose_fed call answer) (reply_of (loose_fed call answer)) }
+  marred_stage head own (stages.Loose round call) marred (told.Core answer) = record { own = own; stage = marred }
+  marred_stage head own (stages.Looking purpose notes) marred (told.Disk answer) = record { own = own; stage = marred }
+  marred_stage head own (stages.Looking purpose notes) marred (told.Core (Ok effect)) =
+      record { own = own; stage = marred_look head purpose notes marred (view_shown effect) }
+  marred_stage head own (stages.Looking purpose notes) marred (told.Core (Err refusal)) = record { own = own; stage = refused_mars (of_refusal refusal) }
+  marred_stage head own (stages.Listing lister base notes) (inl noted) (told.Disk answer) =
+      record { own = own; stage = marred_listed head base notes noted (lister_fed setting lister answer) }
+  marred_stage head own (stages.Listing lister base notes) (inr breaking) (told.Disk answer) =
+      record { own = own; stage = breaking_ends head base notes lister.head lister.stage breaking answer }
+  marred_stage head own (stages.Listing lister base notes) marred (told.Core answer) = record { own = own; stage = marred }
+  marred_stage head own (stages.Publishing listing notes) marred (told.Disk answer) = record { own = own; stage = marred }
+  marred_stage head own (stages.Publishing listing notes) marred (told.Core (Ok effect)) = marred_published head own listing notes marred effect
+  marred_stage head own (stages.Publishing listing notes) marred (told.Core (Err refusal)) = record { own = own; stage = refused_mars (of_refusal refusal) }
+  marred_stage head own (stages.Done reply) marred answer = record { own = own; stage = marred }
+
+  pub stays_marred : (look : LookUp) → IsLookMarred look → (answer : Answer) → IsLookMarred (fed setting look answer)
+  stays_marred look marred answer = marred_stage (seen look.head answer) marred.own look.stage marred.stage answer
+
+  -- what is marred is no miss
+  pub marred_is_no_miss : (head : LookHead) (stage : LookStage) → IsMarred stage → ¬ (result_at head stage ≡ Ok (not_found query))
+  marred_is_no_miss head (stages.Done reply) marred is = marred (cc is)
+  marred_is_no_miss head stage marred is = cc is
+
+  -- ---- a call that fails
+
+  failed_lister : (head : LookHead) (base : ℕ) (notes : Notes) (list_head : ListHead) (stage : ListStage)
+      → closes (asks.Disk (lists.ask_at list_head.folder stage)) ≡ false
+      → IsMarred (by_listed base notes (lists.fed_at setting.folders list_head stage (disk_answers.Refused disk_errors.Failed)))
+  failed_lister head base notes list_head list_stages.Opening tells = refused_mars load_errors.Io
+  failed_lister head base notes list_head (list_stages.Reading dir entries) tells = inr tt
+  failed_lister head base notes list_head (list_stages.Closing dir entries) tells = absurd (cc tells)
+  failed_lister head base notes list_head (list_stages.Breaking dir) tells = absurd (cc tells)
+  failed_lister head base notes list_head (list_stages.Index path left) tells = refused_mars load_errors.Io
+  failed_lister head base notes list_head (list_stages.Pack row left) tells = refused_mars load_errors.Io
+
+  -- the verdict on a folder whose call failed
+  failed_says : (q : Query) (id : ObjectId) (asked : Path) → (reply : LooseReply)
+      × (reply_of (loose_fed (asking setting.limit q id asked) (disk_answers.Refused disk_errors.Failed)) ≡ Some reply) × IsNoPlainMiss q (verdict_on q reply)
+  failed_says (Find own) id asked = (loose_replies.Found (Err (unreadable (loose_path asked id))), refl, refused_is_no_miss (Find own) _)
+  failed_says (Header own) id asked = (loose_replies.Header (Err (unreadable (loose_path asked id))), refl, refused_is_no_miss (Header own) _)
+  failed_says (Test own) id asked = (loose_replies.Contains (Err (unreadable (loose_path asked id))), refl, tt)
+
+  failed_folder : (head : LookHead) → head.query ≡ query → (round : LooseRound) (call : LooseCall) (id : ObjectId) (asked : Path)
+      → call ≡ asking setting.limit query id asked → IsMarred (by_call setting head round (loose_fed call (disk_answers.Refused disk_errors.Failed)))
+  failed_folder head own round call id asked is =
+      let says = failed_says query id asked in
+      let replies_so : reply_of (loose_fed call (disk_answers.Refused disk_errors.Failed)) ≡ Some says.0 =
+      ap (λ (c : LooseCall). reply_of (loose_fed c (disk_answers.Refused disk_errors.Failed))) is ∙ says.1 in
+      subst (λ (r : Option LooseReply). IsMarred (by_reply setting head round (loose_fed call (disk_answers.Refused disk_errors.Failed)) r)) (sym replies_so)
+      (subst (λ (q : Query). IsMarred (by_verdict setting head round (verdict_on q says.0))) (sym own)
+      (failed_verdict head round (verdict_on query says.0) says.2))
+
+  -- the folder of a call that the look-up makes there
+  abbrev pub IsAskingAt : LookStage → Type 0
+  IsAskingAt (stages.Loose round call) = (id : ObjectId) × (asked : Path) × (call ≡ asking setting.limit query id asked)
+  IsAskingAt stage = Unit {0}
+
+  failed_stage : (head : LookHead) → head.query ≡ query → (stage : LookStage) → IsAskingAt stage → (ask : PartAsk) → ask_at stage ≡ Some ask → IsDisk ask
+      → closes ask ≡ false → IsLookMarred (fed_at setting head stage failed)
+  failed_stage head own (stages.Trying trier part) at ask is disk tells =
+      record {
+        own = own;
+        stage =
+            marred_tried head part (trier_fed trier failed)
+            (failed_trier trier.goal trier.ahead trier.stage (subst IsDisk (sym (same_Some (tries.ask_of trier) ask is)) disk));
+      }
+  failed_stage head own (stages.Loose round call) at ask is disk tells = record { own = own; stage = failed_folder head own round call at.0 at.1 at.2 }
+  failed_stage head own (stages.Looking purpose notes) at ask is disk tells = absurd (subst IsDisk (sym (same_Some (asks.Core events.Look) ask is)) disk)
+  failed_stage head own (stages.Listing lister base notes) at ask is disk tells =
+      record {
+        own = own;
+        stage =
+            failed_lister head base notes lister.head lister.stage
+            (ap closes (same_Some (asks.Disk (lists.ask_of lister)) ask is) ∙ tells);
+      }
+  failed_stage head own (stages.Publishing listing notes) at ask is disk tells =
+      absurd (subst IsDisk (sym (same_Some (asks.Core (events.Publish listing)) ask is)) disk)
+  failed_stage head own (stages.Done reply) at ask is disk tells = absurd (cc is)
+
+  -- a look-up whose call failed is marred
+  pub failure_mars : (look : LookUp) → look.head.query ≡ query → IsAskingAt look.stage → (ask : PartAsk) → ask_at look.stage ≡ Some ask → IsDisk ask
+      → closes ask ≡ false → IsLookMarred (fed setting look failed)
+  failure_mars look own at ask is disk tells = failed_stage (seen look.head failed) own look.stage at ask is disk tells

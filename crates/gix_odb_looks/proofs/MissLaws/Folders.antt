@@ -1,0 +1,310 @@
+-- A look-up that ends with nothing found asked the loose objects of each folder, and missed there.
+use Rattle.std.proofs.Common.{◌≡◌, ◌⊎◌, inl, inr, ℕ, ◌==◌, Bool, true, false, cond, List, [], slice_get, drop, Contains, Option, Some, None, Ok, Err}
+use Rattle.std.proofs.Common.{refl, sym, ap, ◌∙◌, subst}
+use Rattle.std.proofs.lemmas.Option.{same_Some}
+use Rattle.odb_base.specs.Path.{Path}
+use Rattle.odb_disk.specs.declared.ask.DiskAnswer.{DiskAnswer}
+use Rattle.odb_disk.specs.declared.ask.DiskAsk.{DiskAsk}
+use Rattle.gix_hash.specs.declared.kind.Kind.{Kind}
+use Rattle.gix_hash.specs.declared.object_id.ObjectId.{ObjectId}
+use Rattle.gix_odb_loose.specs.LooseFile.{loose_path}
+use Rattle.gix_odb_loose.specs.LooseOrder.{disk_ask_of, reply_of}
+use Rattle.gix_odb_loose.specs.LooseOrder.Answered.{found_by, header_by, tested_by}
+use Rattle.gix_odb_loose.specs.declared.call.LooseCall.{LooseCall}
+use Rattle.gix_odb_loose.specs.declared.call.LooseReply.{LooseReply}
+use Rattle.gix_odb_loose.specs.declared.call.LooseReply.TheVariants as loose_replies
+use Rattle.gix_odb_slots.specs.declared.listing.Listing.{Listing}
+use Rattle.gix_odb_core.specs.declared.event.Effect.{Effect}
+use Rattle.gix_odb_core.specs.declared.event.Effect.TheVariants as effects
+use Rattle.gix_odb_core.specs.declared.view.View.{View}
+use Rattle.gix_odb_packs.specs.declared.answer.Answer.{Answer}
+use Rattle.gix_odb_packs.specs.declared.answer.Answer.TheVariants as told
+use Rattle.gix_odb_packs.specs.declared.answer.PartAsk.{PartAsk}
+use Rattle.gix_odb_packs.specs.declared.answer.PartAsk.TheVariants as asks
+use Rattle.gix_odb_packs.specs.TryOrder.{seek}
+use Rattle.gix_odb_packs.specs.declared.lister.ListStep.{ListStep}
+use Rattle.gix_odb_packs.specs.declared.lister.ListStep.TheVariants as listed
+use Rattle.gix_odb_packs.specs.declared.search.Notes.{Notes}
+use Rattle.gix_odb_packs.specs.declared.trier.Tried.{Tried}
+use Rattle.gix_odb_packs.specs.declared.trier.Tried.TheVariants as tried
+use Rattle.gix_odb_calls.specs.Verdict.{asking, verdict_on}
+use Rattle.gix_odb_calls.specs.declared.call.CallError.TheVariants as call_errors
+use Rattle.gix_odb_calls.specs.declared.find.Error.TheVariants as find_errors
+use Rattle.gix_odb_calls.specs.declared.load_index.Error as load_index
+use Rattle.gix_odb_calls.specs.declared.load_index.Error.TheVariants as load_errors
+use Rattle.gix_odb_calls.specs.declared.query.Query.{Query}
+use Rattle.gix_odb_calls.specs.declared.query.Query.TheVariants.{Find, Header, Test}
+use Rattle.gix_odb_calls.specs.declared.verdict.Verdict.{Verdict}
+use Rattle.gix_odb_calls.specs.declared.verdict.Verdict.TheVariants as verdicts
+use Rattle.gix_odb_looks.specs.LoadIndex.{of_refusal}
+use Rattle.gix_odb_looks.specs.LookUpOrder.{Setting, after_list, after_loose, ask_at, at_folder, by_listed, by_look, by_published, by_reply, by_tried}
+use Rattle.gix_odb_looks.specs.LookUpOrder.{by_verdict}
+use Rattle.gix_odb_looks.specs.LookUpOrder.{counted, ended, fed, fed_at, find_error, goal_of, is_unsettled, lister_fed, listing_from, load_refused}
+use Rattle.gix_odb_looks.specs.LookUpOrder.{loose_ask, loose_fed, loose_from, new_head, not_found}
+use Rattle.gix_odb_looks.specs.LookUpOrder.{result_at, seen, started, trier_fed, try_view, unsettled, view_shown, with_own, without_notes}
+use Rattle.gix_odb_looks.specs.Shown.{folders_of}
+use Rattle.gix_odb_looks.specs.True.{IsTrue}
+use Rattle.gix_odb_looks.specs.declared.look_up.LookHead.{LookHead}
+use Rattle.gix_odb_looks.specs.declared.look_up.LookStage.{LookStage}
+use Rattle.gix_odb_looks.specs.declared.look_up.LookStage.TheVariants as stages
+use Rattle.gix_odb_looks.specs.declared.look_up.LookUp.{LookUp}
+use Rattle.gix_odb_looks.specs.declared.look_up.LooseRound.{LooseRound}
+use Rattle.gix_odb_looks.specs.declared.look_up.Part.{Part}
+use Rattle.gix_odb_looks.specs.declared.look_up.Part.TheVariants as parts
+use Rattle.gix_odb_looks.specs.declared.look_up.Purpose.{Purpose}
+use Rattle.gix_odb_looks.specs.declared.look_up.Purpose.TheVariants as purposes
+use Rattle.gix_odb_packs.proofs.ReachLemmas.{first_or_later}
+use Rattle.gix_odb_looks.proofs.MissLaws.Lists.{drop_none, first_in, found_at, here_or_behind, later_in, nothing_ahead}
+use Rattle.gix_odb_looks.proofs.MissLaws.Replies.{EndsNoMiss, IsMiss, found_is_no_miss, refused_is_no_miss, verdict_is_no_miss}
+
+-- a folder that is asked replies to one call of the disk
+folder_replies : (limit : Option ℕ) (query : Query) (id : ObjectId) (folder : Path) (answer : DiskAnswer)
+    → (reply : LooseReply) × (reply_of (loose_fed (asking limit query id folder) answer) ≡ Some reply)
+folder_replies limit (Find asked) id folder answer = (loose_replies.Found (found_by (loose_path folder id) limit answer), refl)
+folder_replies limit (Header asked) id folder answer = (loose_replies.Header (header_by (loose_path folder id) answer), refl)
+folder_replies limit (Test asked) id folder answer = (loose_replies.Contains (tested_by (loose_path folder id) answer), refl)
+
+folder_asks : (limit : Option ℕ) (query : Query) (id : ObjectId) (folder : Path) → (ask : DiskAsk) × (disk_ask_of (asking limit query id folder) ≡ Some ask)
+folder_asks limit (Find asked) id folder = (_, refl)
+folder_asks limit (Header asked) id folder = (_, refl)
+folder_asks limit (Test asked) id folder = (_, refl)
+
+module _ (Shown : Path → List ℕ → Type 0) (Loosely : Path → Verdict → Type 0) (setting : Setting) (hash : Kind) (query : Query) (id : ObjectId) where
+  abbrev IsMissed : Path → Type 0
+  IsMissed folder = Loosely folder verdicts.Misses
+
+  abbrev pub AllMissed : Type 0
+  AllMissed = (folder : Path) → Contains (folders_of setting) folder → IsMissed folder
+
+  -- each folder was asked and missed, or is ahead
+  abbrev IsPast : (ahead : Path → Type 0) → Type 0
+  IsPast ahead = (folder : Path) → Contains (folders_of setting) folder → IsMissed folder ⊎ ahead folder
+
+  abbrev Behind : ℕ → Path → Type 0
+  Behind next folder = Contains (drop next setting.folders) folder
+
+  -- a folder is asked; where none was noted, those that are neither it nor ahead were missed
+  pub record IsAsking (round : LooseRound) (call : LooseCall) : Type 0 where
+    pub asked : Path
+    pub among : Contains (folders_of setting) asked
+    pub call_is : call ≡ asking setting.limit query id asked
+    pub past : round.notes.failed ≡ false → IsPast (λ folder. (asked ≡ folder) ⊎ Behind round.next folder)
+
+  -- what is known at each stage of the folders that were asked
+  abbrev pub IsPassing : LookStage → Type 0
+  IsPassing (stages.Trying trier part) = Unit {0}
+  IsPassing (stages.Loose round call) = IsAsking round call
+  IsPassing (stages.Looking (purposes.First loose) notes) = Unit {0}
+  IsPassing (stages.Looking (purposes.Check list_no) notes) = notes.failed ≡ false → AllMissed
+  IsPassing (stages.Looking purposes.Again notes) = Unit {0}
+  IsPassing (stages.Listing lister base notes) = Unit {0}
+  IsPassing (stages.Publishing listing notes) = Unit {0}
+  IsPassing (stages.Done reply) = IsMiss query reply → AllMissed
+
+  -- the look-up is for this query and id
+  pub record IsFor (head : LookHead) : Type 0 where
+    pub query_is : head.query ≡ query
+    pub id_is : head.id ≡ id
+
+  module _ (head : LookHead) (own : IsFor head) where
+    same_call : (folder : Path) → asking setting.limit head.query head.id folder ≡ asking setting.limit query id folder
+    same_call folder =
+        ap (λ (q : Query). asking setting.limit q head.id folder) own.query_is ∙ ap (λ (i : ObjectId). asking setting.limit query i folder) own.id_is
+
+    refused_passes : (error : load_index.Error) → IsPassing (stages.Done (load_refused error))
+    refused_passes error is = absurd (refused_is_no_miss query (call_errors.Find (find_errors.LoadIndex error)) is)
+
+    loose_begins : (part : Part) (notes : Notes) → IsPassing (loose_from setting head part notes)
+    loose_begins part notes =
+        record {
+          asked = setting.objects;
+          among = first_in setting.objects setting.folders;
+          call_is = same_call setting.objects;
+          past = λ none folder among. inr (by folder (first_or_later setting.objects setting.folders folder among));
+        }
+      where
+        by : (folder : Path) → (setting.objects ≡ folder) ⊎ Contains setting.folders folder → (setting.objects ≡ folder) ⊎ Behind 0 folder
+        by folder (inl is) = inl is
+        by folder (inr later) = inr (subst (λ (rest : List Path). Contains rest folder) (sym (drop_none setting.folders)) later)
+
+    list_passes : (part : Part) (notes : Notes) → IsPassing (after_list setting head part notes)
+    list_passes parts.Snapshot notes = loose_begins parts.Snapshot notes
+    list_passes (parts.List list_no true) notes = loose_begins (parts.List list_no true) notes
+    list_passes (parts.List list_no false) notes = tt
+    list_passes (parts.Published list_no) notes = loose_begins (parts.Published list_no) notes
+
+    tried_passes : (part : Part) (result : Tried) → IsPassing (by_tried setting head part result)
+    tried_passes part (tried.More trier) = tt
+    tried_passes part (tried.Hit what) = λ is. absurd (found_is_no_miss query what is)
+    tried_passes part (tried.Missed notes) = list_passes part notes
+    tried_passes part (tried.Bad error) = λ is. absurd (refused_is_no_miss query (call_errors.Find (find_error error)) is)
+    tried_passes part (tried.Broken refusal) = refused_passes (of_refusal refusal)
+
+    -- ---- loose folders
+
+    loose_passes : (part : Part) (notes : Notes) → (notes.failed ≡ false → AllMissed) → IsPassing (after_loose setting part notes)
+    loose_passes parts.Snapshot notes missed = tt
+    loose_passes (parts.List list_no loose) notes missed = tt
+    loose_passes (parts.Published list_no) notes missed = missed
+
+    folder_passes : (round : LooseRound) → (round.notes.failed ≡ false → IsPast (Behind round.next)) → (next : Option Path)
+        → slice_get setting.folders round.next ≡ next → IsPassing (at_folder setting head round next)
+    folder_passes round past None is =
+        loose_passes round.part round.notes
+        (λ none folder among.
+        elim (past none folder among) [
+          | inl missed ↦ missed
+          | inr ahead ↦ absurd (nothing_ahead setting.folders round.next folder is ahead)
+        ])
+    folder_passes round past (Some asked) is =
+        record {
+          asked = asked;
+          among = later_in setting.objects setting.folders asked (found_at setting.folders round.next asked is);
+          call_is = same_call asked;
+          past = λ none folder among.
+              elim (past none folder among) [
+                | inl missed ↦ inl missed
+                | inr ahead ↦ inr (here_or_behind setting.folders round.next asked folder is ahead)
+              ];
+        }
+
+    verdict_passes : (round : LooseRound) (asked : Path) → (round.notes.failed ≡ false → IsPast (λ folder. (asked ≡ folder) ⊎ Behind round.next folder))
+        → (verdict : Verdict) → Loosely asked verdict → EndsNoMiss query verdict → IsPassing (by_verdict setting head round verdict)
+    verdict_passes round asked past (verdicts.Ends reply) says ends = λ is. absurd (ends is)
+    verdict_passes round asked past verdicts.Misses says ends =
+        folder_passes round
+        (λ none folder among.
+        elim (past none folder among) [
+          | inl missed ↦ inl missed
+          | inr rest ↦ elim rest [
+            | inl is ↦ inl (subst IsMissed is says)
+            | inr ahead ↦ inr ahead
+          ]
+        ])
+        (slice_get setting.folders round.next) refl
+    verdict_passes round asked past (verdicts.Notes error) says ends =
+        folder_passes (record round { notes = record round.notes { failed = true } }) (λ none. absurd (cc none)) (slice_get setting.folders round.next) refl
+
+    asked_passes : (round : LooseRound) (call : LooseCall) → IsAsking round call → (ask : PartAsk) (answer : DiskAnswer)
+        → loose_ask (disk_ask_of call) ≡ Some ask → IsTrue Shown Loosely setting hash query id ask (told.Disk answer)
+        → IsPassing (by_reply setting head round (loose_fed call answer) (reply_of (loose_fed call answer)))
+    asked_passes round call asking_it ask answer is true_it =
+        let call_of = folder_asks setting.limit query id asking_it.asked in
+        let reply = folder_replies setting.limit query id asking_it.asked answer in
+        let asks_it : ask ≡ asks.Disk call_of.0 =
+        sym (same_Some (asks.Disk call_of.0) ask (sym (ap loose_ask (ap disk_ask_of asking_it.call_is ∙ call_of.1)) ∙ is)) in
+        let tells = subst (λ (a : PartAsk). IsTrue Shown Loosely setting hash query id a (told.Disk answer)) asks_it true_it in
+        let says = tells.2 asking_it.asked reply.0 asking_it.among call_of.1 reply.1 in
+        let replies_so : reply_of (loose_fed call answer) ≡ Some reply.0 = ap (λ (c : LooseCall). reply_of (loose_fed c answer)) asking_it.call_is ∙ reply.1 in
+        subst (λ (r : Option LooseReply). IsPassing (by_reply setting head round (loose_fed call answer) r)) (sym replies_so)
+        (subst (λ (q : Query). IsPassing (by_verdict setting head round (verdict_on q reply.0))) (sym own.query_is)
+        (verdict_passes round asking_it.asked asking_it.past (verdict_on query reply.0) says (verdict_is_no_miss query reply.0)))
+
+    -- ---- looks at the core
+
+    ended_passes : (notes : Notes) → (notes.failed ≡ false → AllMissed) → (b : Bool) → notes.failed ≡ b
+        → IsPassing (cond b (stages.Done (load_refused load_errors.Io)) (stages.Done (not_found head.query)))
+    ended_passes notes missed true is = refused_passes load_errors.Io
+    ended_passes notes missed false is = λ miss. missed is
+
+    counted_passes : (b : Bool) (now : ℕ) (next : LookStage) → IsPassing next → IsPassing (cond b (unsettled head now) next)
+    counted_passes true now next passes = refused_passes _
+    counted_passes false now next passes = passes
+
+    check_passes : (list_no : ℕ) (view : View) (notes : Notes) → (notes.failed ≡ false → AllMissed) → (b : Bool)
+        → IsPassing (cond b (ended head.query notes) (counted setting head view.list_no (listing_from setting view.list_no notes)))
+    check_passes list_no view notes missed true = ended_passes notes missed notes.failed refl
+    check_passes list_no view notes missed false =
+        counted_passes (is_unsettled setting head view.list_no) view.list_no (listing_from setting view.list_no notes) tt
+
+    first_passes : (b loose : Bool) (view : View) (notes : Notes)
+        → IsPassing (cond b (try_view setting head (parts.List view.list_no loose) view view.todo notes) (listing_from setting view.list_no notes))
+    first_passes true loose view notes =
+        tried_passes (parts.List view.list_no loose) (seek (goal_of setting head) (record { indices = view.snapshot.indices; todo = view.todo; notes = notes }))
+    first_passes false loose view notes = tt
+
+    look_passes : (purpose : Purpose) (notes : Notes) → IsPassing (stages.Looking purpose notes) → (view : Option View)
+        → IsPassing (by_look setting head purpose notes view)
+    look_passes (purposes.First loose) notes passes None = tt
+    look_passes (purposes.Check list_no) notes passes None = passes
+    look_passes purposes.Again notes passes None = tt
+    look_passes (purposes.First loose) notes passes (Some view) = first_passes view.read loose view notes
+    look_passes (purposes.Check list_no) notes passes (Some view) = check_passes list_no view notes passes (view.list_no == list_no)
+    look_passes purposes.Again notes passes (Some view) = tt
+
+    listed_passes : (base : ℕ) (notes : Notes) (step : ListStep) → IsPassing (by_listed base notes step)
+    listed_passes base notes (listed.More lister) = tt
+    listed_passes base notes (listed.Rows rows) = tt
+    listed_passes base notes listed.Broken = refused_passes load_errors.Io
+    -- ---- an answer
+
+  pub record IsLookPassing (look : LookUp) : Type 0 where
+    pub own : IsFor look.head
+    pub stage : IsPassing look.stage
+
+  published_passes : (head : LookHead) → IsFor head → (listing : Listing) (notes : Notes) (effect : Effect)
+      → IsLookPassing (by_published setting head listing notes effect)
+  published_passes head own listing notes (effects.Published view) =
+      let own_too : IsFor (with_own head) = record { query_is = own.query_is; id_is = own.id_is } in
+      record {
+        own = own_too;
+        stage =
+            tried_passes (with_own head) own_too (parts.Published view.list_no)
+            (seek (goal_of setting (with_own head)) (record { indices = view.snapshot.indices; todo = view.todo; notes = notes }));
+      }
+  published_passes head own listing notes (effects.Unchanged view) =
+      record {
+        own = own;
+        stage =
+            tried_passes head own (parts.Published view.list_no)
+            (seek (goal_of setting head) (record { indices = view.snapshot.indices; todo = view.todo; notes = notes }));
+      }
+  published_passes head own listing notes (effects.Outdated list_no) =
+      record { own = own; stage = counted_passes head own (is_unsettled setting head list_no) list_no (stages.Looking purposes.Again notes) tt }
+  published_passes head own listing notes effect = record { own = own; stage = tt }
+
+  stage_passes : (head : LookHead) → IsFor head → (stage : LookStage) → IsPassing stage → (ask : PartAsk) (answer : Answer) → ask_at stage ≡ Some ask
+      → IsTrue Shown Loosely setting hash query id ask answer → IsLookPassing (fed_at setting head stage answer)
+  stage_passes head own (stages.Trying trier part) passes ask answer is true_it =
+      record { own = own; stage = tried_passes head own part (trier_fed trier answer) }
+  stage_passes head own (stages.Loose round call) passes ask (told.Disk answer) is true_it =
+      record { own = own; stage = asked_passes head own round call passes ask answer is true_it }
+  stage_passes head own (stages.Loose round call) passes ask (told.Core answer) is true_it = record { own = own; stage = passes }
+  stage_passes head own (stages.Looking purpose notes) passes ask (told.Disk answer) is true_it = record { own = own; stage = passes }
+  stage_passes head own (stages.Looking purpose notes) passes ask (told.Core (Ok effect)) is true_it =
+      record { own = own; stage = look_passes head own purpose notes passes (view_shown effect) }
+  stage_passes head own (stages.Looking purpose notes) passes ask (told.Core (Err refusal)) is true_it =
+      record { own = own; stage = refused_passes head own (of_refusal refusal) }
+  stage_passes head own (stages.Listing lister base notes) passes ask (told.Disk answer) is true_it =
+      record { own = own; stage = listed_passes head own base notes (lister_fed setting lister answer) }
+  stage_passes head own (stages.Listing lister base notes) passes ask (told.Core answer) is true_it = record { own = own; stage = passes }
+  stage_passes head own (stages.Publishing listing notes) passes ask (told.Disk answer) is true_it = record { own = own; stage = passes }
+  stage_passes head own (stages.Publishing listing notes) passes ask (told.Core (Ok effect)) is true_it = published_passes head own listing notes effect
+  stage_passes head own (stages.Publishing listing notes) passes ask (told.Core (Err refusal)) is true_it =
+      record { own = own; stage = refused_passes head own (of_refusal refusal) }
+  stage_passes head own (stages.Done reply) passes ask answer is true_it = record { own = own; stage = passes }
+
+  -- a look-up that passes the folders in order goes on so
+  pub look_passes_on : (look : LookUp) → IsLookPassing look → (ask : PartAsk) (answer : Answer) → ask_at look.stage ≡ Some ask
+      → IsTrue Shown Loosely setting hash query id ask answer → IsLookPassing (fed setting look answer)
+  look_passes_on look passing ask answer is true_it =
+      stage_passes (seen look.head answer) (record { query_is = passing.own.query_is; id_is = passing.own.id_is })
+      look.stage passing.stage ask answer is true_it
+
+  pub passes_at_start : (view : View) → IsLookPassing (started setting view query id)
+  passes_at_start view = record { own = record { query_is = refl; id_is = refl }; stage = by view.read }
+    where
+      own : IsFor (new_head query id)
+      own = record { query_is = refl; id_is = refl }
+
+      by : (b : Bool)
+          → IsPassing (cond b (try_view setting (new_head query id) parts.Snapshot view [] without_notes) (stages.Looking (purposes.First true) without_notes))
+      by true =
+          tried_passes (new_head query id) own parts.Snapshot
+          (seek (goal_of setting (new_head query id)) (record { indices = view.snapshot.indices; todo = []; notes = without_notes }))
+      by false = tt
+
+  -- at its end each folder was missed
+  pub missed_at_end : (head : LookHead) (stage : LookStage) → IsPassing stage → result_at head stage ≡ Ok (not_found query) → AllMissed
+  missed_at_end head (stages.Done reply) passes is = passes (cc is)
+  missed_at_end head stage passes is = absurd (cc is)

@@ -1,0 +1,165 @@
+-- Trying indices among which is that of a place that an object lies at: with fair answers the try never comes to a miss.
+use Rattle.std.proofs.Common.{◌≡◌, inl, inr, ℕ, Bool, true, false, cond, List, [], ◌∷◌, Option, Some, unwrap_or, Result, Ok, Err, refl, sym, ap, ◌∙◌, subst}
+use Rattle.std.specs.List.{All}
+use Rattle.std.proofs.lemmas.Bool.{cond-true}
+use Rattle.std.proofs.lemmas.List.Elements.{All-weaker}
+use Rattle.odb_base.specs.Path.{Path}
+use Rattle.odb_disk.specs.declared.ask.DiskAnswer.{DiskAnswer}
+use Rattle.odb_disk.specs.declared.ask.DiskAnswer.TheVariants as answers
+use Rattle.odb_tree.specs.declared.disk_error.DiskError.TheVariants as disk_errors
+use Rattle.gix_hash.specs.ObjectId.{kind_of}
+use Rattle.gix_hash.specs.declared.kind.Kind.{Kind}
+use Rattle.gix_hash.specs.declared.object_id.ObjectId.{ObjectId}
+use Rattle.gix_pack_files.specs.Index.{is_index}
+use Rattle.gix_pack_files.specs.Pack.{is_pack}
+use Rattle.gix_odb_slots.specs.PackPath.{pack_path}
+use Rattle.gix_odb_slots.specs.declared.loaded.SnapshotIndex.{SnapshotIndex}
+use Rattle.gix_odb_core.specs.Replay.{view_in}
+use Rattle.gix_odb_core.specs.declared.event.Effect.{Effect}
+use Rattle.gix_odb_core.specs.declared.event.PassWhy.{PassWhy}
+use Rattle.gix_odb_core.specs.declared.event.PassWhy.TheVariants as whys
+use Rattle.gix_odb_core.specs.declared.view.View.{View}
+use Rattle.gix_odb_packs.specs.Goal.{given_by}
+use Rattle.gix_odb_packs.specs.TryOrder.{ask_at, at, by_answer, by_given, fed, index_or_bad, index_read, noting, own_index, pack_behind, pack_read, why_of}
+use Rattle.gix_odb_packs.specs.declared.answer.Answer.{Answer}
+use Rattle.gix_odb_packs.specs.declared.answer.Answer.TheVariants as told
+use Rattle.gix_odb_packs.specs.declared.goal.Error.{Error}
+use Rattle.gix_odb_packs.specs.declared.goal.Error.TheVariants as errors
+use Rattle.gix_odb_packs.specs.declared.goal.Found.{Found}
+use Rattle.gix_odb_packs.specs.declared.goal.Goal.{Goal}
+use Rattle.gix_odb_packs.specs.declared.search.WantedPack.{WantedPack}
+use Rattle.gix_odb_packs.specs.declared.trier.Ahead.{Ahead}
+use Rattle.gix_odb_packs.specs.declared.trier.IndexPlace.{IndexPlace}
+use Rattle.gix_odb_packs.specs.declared.trier.Stage.{Stage}
+use Rattle.gix_odb_packs.specs.declared.trier.Stage.TheVariants as stages
+use Rattle.gix_odb_packs.specs.declared.trier.Tried.{Tried}
+use Rattle.gix_odb_packs.specs.declared.trier.Tried.TheVariants as ends
+use Rattle.gix_odb_packs.specs.declared.trier.Trier.{Trier}
+use Rattle.gix_odb_packs.proofs.ReachLaws.{HasTodo, IsNoMiss, IsOnWay, IsSearchable, IsTracked, LeadsIfThere, passed_goes, seek_goes, stored_goes}
+use Rattle.gix_odb_packs.proofs.ReachLemmas.{Leads}
+use Rattle.gix_odb_calls.specs.declared.query.Query.{Query}
+use Rattle.gix_odb_looks.specs.Exchange.{Exchange}
+use Rattle.gix_odb_looks.specs.Fair.{IsFair, IsIndexFair, IsViewFair, Place, index_at, pack_at}
+use Rattle.gix_odb_looks.specs.Found.{Gives}
+
+module _ (limit : Option ℕ) (hash : Kind) (query : Query) (id : ObjectId) (place : Place) where
+  leads_fair : (index : SnapshotIndex) → IsIndexFair limit hash query id place index → Leads (pack_at place) hash id index
+  leads_fair index fair =
+      record {
+        file = fair.file;
+        single = fair.single;
+        kind = fair.kind;
+        row = fair.sound.row;
+        among = fair.sound.among;
+        of_id = fair.sound.of_id;
+        one = fair.one;
+      }
+
+  pub lead_if_fair : (indices : List SnapshotIndex)
+      → All (λ (index : SnapshotIndex). index.path ≡ index_at place → IsIndexFair limit hash query id place index) indices
+      → All (LeadsIfThere hash id (index_at place)) indices
+  lead_if_fair indices fair =
+      All-weaker (λ (index : SnapshotIndex). index.path ≡ index_at place → IsIndexFair limit hash query id place index) (LeadsIfThere hash id (index_at place))
+      (λ index sound there. leads_fair index (sound there)) indices fair
+
+  module _ (past : List Exchange) (of_hash : kind_of id ≡ hash) where
+    abbrev FairAt : Stage → Answer → Type 0
+    FairAt stage answer = IsFair limit hash query id place past (ask_at stage) answer
+
+    abbrev NoMiss : Tried → Type 0
+    NoMiss = IsNoMiss hash id (index_at place)
+
+    abbrev Way : Ahead → Stage → Type 0
+    Way = IsOnWay hash id (index_at place)
+
+    module _ (goal : Goal) (own : goal.id ≡ id) (ahead : Ahead) (able : IsSearchable hash id (index_at place) ahead) where
+      -- ---- an index that was read
+
+      -- an index that was read at the place's path leads to the place's pack
+      own_leads : (at : IndexPlace) (bytes : List ℕ) → at.path ≡ index_at place → Gives hash bytes id place.offset
+          → Leads (pack_at place) hash id (own_index at (record { kind = kind_of goal.id; bytes = bytes }))
+      own_leads at bytes is gives =
+          record {
+            file = record { kind = kind_of goal.id; bytes = bytes };
+            single = refl;
+            kind = ap kind_of own ∙ of_hash;
+            row = gives.row;
+            among = gives.among;
+            of_id = gives.of_id;
+            one = ap (λ (path : Path). pack_path path ∷ []) is;
+          }
+
+      stage_by : (at : IndexPlace) (b : Bool) (bytes : List ℕ) → HasTodo hash id (index_at place) ahead.todo
+          → Way ahead (cond b (stages.StoringIndex at (record { kind = kind_of goal.id; bytes = bytes })) (stages.PassingIndex at whys.Bad))
+      stage_by at true bytes has = inr has
+      stage_by at false bytes has = has
+
+      stage_goes : (at : IndexPlace) (bytes : List ℕ) → (at.path ≡ index_at place → Gives hash bytes id place.offset) → Way ahead (stages.ReadingIndex at)
+          → Way ahead (index_or_bad goal at bytes)
+      stage_goes at bytes gives (inr has) = stage_by at (is_index (kind_of goal.id) bytes) bytes has
+      stage_goes at bytes gives (inl is) =
+          subst (Way ahead)
+          (sym (cond-true (is_index (kind_of goal.id) bytes) (stages.StoringIndex at (record { kind = kind_of goal.id; bytes = bytes }))
+          (stages.PassingIndex at whys.Bad)
+          (ap (λ (kind : Kind). is_index kind bytes) (ap kind_of own ∙ of_hash) ∙ (gives is).parsed)))
+          (inl (is, own_leads at bytes is (gives is)))
+
+      index_missed_goes : (at : IndexPlace) (why : PassWhy) → HasTodo hash id (index_at place) ahead.todo
+          → NoMiss (ends.More (record { goal = goal; ahead = record ahead { notes = noting ahead.notes why }; stage = stages.PassingIndex at why }))
+      index_missed_goes at why has = record { of_id = own; searchable = record { lead = able.lead; present = able.present }; way = has }
+
+      index_read_goes : (at : IndexPlace) (answer : DiskAnswer) → FairAt (stages.ReadingIndex at) (told.Disk answer) → Way ahead (stages.ReadingIndex at)
+          → NoMiss (index_read goal ahead at answer)
+      index_read_goes at (answers.File bytes time) fair way = record { of_id = own; searchable = able; way = stage_goes at bytes fair.0 way }
+      index_read_goes at answer fair (inl is) = absurd (fair.0 is)
+      index_read_goes at answer fair (inr has) = index_missed_goes at (why_of answer) has
+
+      -- ---- packs
+
+      given_goes : (given : Result Found Error) → NoMiss (by_given given)
+      given_goes (Ok what) = tt
+      given_goes (Err error) = tt
+
+      pack_goes : (wanted : WantedPack) (bytes : List ℕ) (b : Bool)
+          → NoMiss (cond b (at goal ahead (stages.StoringPack wanted (record { kind = kind_of goal.id; bytes = bytes }))) (ends.Bad errors.LoadPack))
+      pack_goes wanted bytes true = record { of_id = own; searchable = able; way = tt }
+      pack_goes wanted bytes false = tt
+
+      pack_read_goes : (wanted : WantedPack) (answer : DiskAnswer) → FairAt (stages.ReadingPack wanted) (told.Disk answer)
+          → Way ahead (stages.ReadingPack wanted) → NoMiss (pack_read goal ahead wanted answer)
+      pack_read_goes wanted (answers.File bytes time) fair way = pack_goes wanted bytes (is_pack (kind_of goal.id) bytes)
+      pack_read_goes wanted (answers.Refused disk_errors.Absent) fair (inl is) = absurd (fair.1 is)
+      pack_read_goes wanted (answers.Refused disk_errors.Absent) fair (inr has) = record { of_id = own; searchable = able; way = (fair.1, has) }
+      pack_read_goes wanted answer fair way = tt
+
+      -- ---- an answer
+
+      views_lead : (effect : Effect) → ((view : View) → view_in (Ok effect) ≡ Some view → IsViewFair limit hash query id place view) → (view : View)
+          → view_in (Ok effect) ≡ Some view
+          → All (LeadsIfThere hash id (index_at place)) view.snapshot.indices × All (LeadsIfThere hash id (index_at place)) view.snapshot.kept
+      views_lead effect fair view is =
+          let shown = fair view is in (lead_if_fair view.snapshot.indices shown.indices, lead_if_fair view.snapshot.kept shown.kept)
+
+      answer_goes : (stage : Stage) → Way ahead stage → (answer : Answer) → FairAt stage answer → NoMiss (by_answer goal ahead stage answer)
+      answer_goes (stages.ReadingIndex at) way (told.Disk answer) fair = index_read_goes at answer fair way
+      answer_goes (stages.ReadingIndex at) way (told.Core answer) fair = absurd fair
+      answer_goes (stages.StoringIndex at file) way (told.Disk answer) fair = absurd fair
+      answer_goes (stages.StoringIndex at file) way (told.Core (Ok effect)) fair =
+          stored_goes hash id (index_at place) goal own ahead able at file effect way (views_lead effect fair.0)
+      answer_goes (stages.StoringIndex at file) way (told.Core (Err refusal)) fair = tt
+      answer_goes (stages.PassingIndex at why) way (told.Disk answer) fair = absurd fair
+      answer_goes (stages.PassingIndex at why) way (told.Core (Ok effect)) fair = seek_goes hash id (index_at place) goal own ahead able (inr way)
+      answer_goes (stages.PassingIndex at why) way (told.Core (Err refusal)) fair = tt
+      answer_goes (stages.ReadingPack wanted) way (told.Disk answer) fair = pack_read_goes wanted answer fair way
+      answer_goes (stages.ReadingPack wanted) way (told.Core answer) fair = absurd fair
+      answer_goes (stages.StoringPack wanted file) way (told.Disk answer) fair = absurd fair
+      answer_goes (stages.StoringPack wanted file) way (told.Core (Ok effect)) fair =
+          given_goes (given_by goal.wanted goal.limit (unwrap_or (pack_behind wanted effect) file) wanted.offset)
+      answer_goes (stages.StoringPack wanted file) way (told.Core (Err refusal)) fair = tt
+      answer_goes (stages.PassingPack wanted) way (told.Disk answer) fair = absurd fair
+      answer_goes (stages.PassingPack wanted) way (told.Core (Ok effect)) fair = passed_goes hash id (index_at place) goal own ahead able wanted way
+      answer_goes (stages.PassingPack wanted) way (told.Core (Err refusal)) fair = tt
+
+    -- a try that is on its way stays so, and comes to no miss
+    pub try_goes : (trier : Trier) → IsTracked hash id (index_at place) trier → (answer : Answer) → FairAt trier.stage answer → NoMiss (fed trier answer)
+    try_goes trier tracked answer fair = answer_goes trier.goal tracked.of_id trier.ahead tracked.searchable trier.stage tracked.way answer fair

@@ -1,0 +1,111 @@
+-- Why a look-up was refused: each error, and what was asked and answered where it is given.
+use Rattle.std.specs.Prelude.{◌≡◌, ◌⊎◌, ℕ, ◌-◌, ◌<◌, true, false, List, Contains, min, Option, Some, Ok, Err}
+use Rattle.odb_base.specs.Path.{Path}
+use Rattle.odb_disk.specs.declared.ask.DiskAnswer.{DiskAnswer}
+use Rattle.odb_disk.specs.declared.ask.DiskAnswer.TheVariants as disk_answers
+use Rattle.odb_disk.specs.declared.ask.DiskAsk.TheVariants as disk_asks
+use Rattle.odb_tree.specs.declared.disk_error.DiskError.{DiskError}
+use Rattle.odb_tree.specs.declared.disk_error.DiskError.TheVariants as disk_errors
+use Rattle.gix_hash.specs.declared.kind.Kind.{Kind}
+use Rattle.gix_hash.specs.declared.object_id.ObjectId.{ObjectId}
+use Rattle.gix_pack_files.specs.Pack.{entry_at, header_at, is_pack}
+use Rattle.gix_pack_files.specs.declared.data.Error as pack
+use Rattle.gix_pack_files.specs.declared.data.Error.TheVariants as pack_errors
+use Rattle.gix_odb_slots.specs.PackPath.{pack_path}
+use Rattle.gix_odb_core.specs.Steps.{last_state}
+use Rattle.gix_odb_core.specs.declared.event.Effect.TheVariants as effects
+use Rattle.gix_odb_core.specs.declared.event.Event.{Event}
+use Rattle.gix_odb_core.specs.declared.event.Refusal.{Refusal}
+use Rattle.gix_odb_core.specs.declared.event.Refusal.TheVariants as refusals
+use Rattle.gix_odb_packs.specs.PackFolder.{pack_folder}
+use Rattle.gix_odb_packs.specs.declared.answer.Answer.{Answer}
+use Rattle.gix_odb_packs.specs.declared.answer.Answer.TheVariants as told
+use Rattle.gix_odb_packs.specs.declared.answer.PartAsk.TheVariants as asks
+use Rattle.gix_odb_calls.specs.declared.find.Error.{Error}
+use Rattle.gix_odb_calls.specs.declared.find.Error.TheVariants as errors
+use Rattle.gix_odb_calls.specs.declared.load_index.Error as load
+use Rattle.gix_odb_calls.specs.declared.load_index.Error.TheVariants as load_errors
+use Rattle.gix_odb_calls.specs.declared.query.Query.{Query}
+use Rattle.gix_odb_calls.specs.declared.query.Query.TheVariants.{Find, Header, Test}
+use Rattle.gix_odb_core.specs.declared.view.View.{View}
+use Rattle.gix_odb_calls.specs.declared.verdict.Verdict.{Verdict}
+use Rattle.gix_odb_calls.specs.declared.verdict.Verdict.TheVariants as verdicts
+use Rattle.gix_odb_calls.specs.Verdict.{refused}
+use Rattle.gix_odb_looks.specs.LookUpOrder.{Setting, view_of}
+use Rattle.gix_odb_looks.specs.Exchange.{Exchange, HasFailed, WasTold, first_number, published_in}
+use Rattle.gix_odb_looks.specs.Found.{IsInIndex, IsInPack}
+use Rattle.gix_odb_looks.specs.Shown.{folders_of}
+
+-- the wrong kind stands there, or a part of its way is one or a link loop
+abbrev pub IsBlocked : DiskError → Type 0
+IsBlocked error = (error ≡ disk_errors.WrongKind) ⊎ (error ≡ disk_errors.LinkLoop)
+
+-- a pack could not be read, or its bytes are none
+abbrev pub IsNoPack : Kind → DiskAnswer → Type 0
+IsNoPack hash (disk_answers.File bytes time) = is_pack hash bytes ≡ false
+IsNoPack hash (disk_answers.Refused error) = (error ≡ disk_errors.Failed) ⊎ IsBlocked error
+IsNoPack hash answer = ⊥
+
+-- the number of the list that an answer tells: that of its view, or the one that made a listing outdated
+abbrev pub TellsNumber : Answer → ℕ → Type 0
+TellsNumber (told.Core (Ok (effects.Outdated number))) now = number ≡ now
+TellsNumber answer now = (view : View) × (view_of answer ≡ Some view) × (view.list_no ≡ now)
+
+-- Here `Shown path bytes` says that a file with these bytes was shown at this path since the store was opened, and
+-- `Loosely folder verdict` what the verdict on the loose objects of a folder says.
+module _ (Shown : Path → List ℕ → Type 0) (Loosely : Path → Verdict → Type 0) (setting : Setting) (hash : Kind) (id : ObjectId) where
+  -- an index gives the id an offset, at which its pack refuses what the query wants by this error
+  abbrev pub IsPackError : Query → pack.Error → Type 0
+  IsPackError (Find asked) error = IsInPack Shown setting hash id (λ pack offset. entry_at hash pack offset setting.limit ≡ Err error)
+  IsPackError (Header asked) error = IsInPack Shown setting hash id (λ pack offset. header_at hash pack offset ≡ Err error)
+  IsPackError (Test asked) error = ⊥
+
+  -- an index gives the id an offset, and its pack was read and is none
+  pub record IsUnloaded (exchanges : List Exchange) : Type 0 where
+    pub path : Path
+    pub offset : ℕ
+    pub index : IsInIndex Shown setting hash id path offset
+    pub answer : DiskAnswer
+    pub told : WasTold exchanges (asks.Disk (disk_asks.Read (pack_path path))) (told.Disk answer)
+    pub none : IsNoPack hash answer
+
+  -- the folder of packs of a folder is none
+  pub record IsNoFolder (exchanges : List Exchange) : Type 0 where
+    pub folder : Path
+    pub among : Contains (folders_of setting) folder
+    pub error : DiskError
+    pub blocked : IsBlocked error
+    pub told : WasTold exchanges (asks.Disk (disk_asks.OpenDir (pack_folder folder))) (told.Disk (disk_answers.Refused error))
+
+  -- the core refused an event so
+  pub record IsRefused (exchanges : List Exchange) (refusal : Refusal) : Type 0 where
+    pub event : Event
+    pub told : WasTold exchanges (asks.Core event) (told.Core (Err refusal))
+
+  -- Others published more lists than the look-up may meet: `begun` is the number of the list in the first view that it was handed,
+  -- `own` counts the lists that it published, up to the greatest number, and `now` is the number that an answer told.
+  pub record IsUnsettled (exchanges : List Exchange) (begun own now : ℕ) : Type 0 where
+    pub first : first_number exchanges ≡ Some begun
+    pub published : own ≡ min (published_in exchanges) last_state
+    pub exchange : Exchange
+    pub among : Contains exchanges exchange
+    pub number : TellsNumber exchange.answer now
+    pub many : setting.most < now - begun - own
+
+  abbrev pub IsLoadCaused : List Exchange → load.Error → Type 0
+  IsLoadCaused exchanges load_errors.Io = HasFailed exchanges ⊎ IsNoFolder exchanges
+  IsLoadCaused exchanges (load_errors.InsufficientSlots current needed) = IsRefused exchanges (refusals.InsufficientSlots current needed)
+  IsLoadCaused exchanges load_errors.GenerationOverflow = IsRefused exchanges refusals.GenerationOverflow
+  IsLoadCaused exchanges (load_errors.Unsettled begun own now) = IsUnsettled exchanges begun own now
+  IsLoadCaused exchanges load_errors.NoMemory = IsRefused exchanges refusals.NoMemory
+
+  -- why a query was refused
+  abbrev pub IsCaused : Query → List Exchange → Error → Type 0
+  IsCaused query exchanges (errors.Loose error) = (folder : Path) × Contains (folders_of setting) folder × Loosely folder (verdicts.Ends (refused error))
+  IsCaused query exchanges (errors.LoadIndex error) = IsLoadCaused exchanges error
+  IsCaused query exchanges errors.LoadPack = IsUnloaded exchanges
+  IsCaused query exchanges errors.Pack = IsPackError query pack_errors.BadEntry
+  IsCaused query exchanges (errors.EntryType code) = IsPackError query (pack_errors.EntryType code)
+  IsCaused query exchanges errors.DeltaEntry = IsPackError query pack_errors.DeltaEntry
+  IsCaused query exchanges (errors.OutOfMemory size) = IsPackError query (pack_errors.OutOfMemory size)
+  IsCaused query exchanges errors.NoMemory = ⊥

@@ -1,0 +1,89 @@
+-- How many turns a look-up may take, by what it is told: a lap is one way through all that a list names, and through the folders.
+use Rattle.std.specs.Prelude.{◌≡◌, ◌≢◌, ℕ, ◌+◌, ◌*◌, ◌≤◌, List, [], ◌∷◌, length, Option, Some, None, Ok, Err}
+use Rattle.odb_disk.specs.declared.ask.DiskAnswer.TheVariants as disk_answers
+use Rattle.odb_disk.specs.declared.ask.DiskAsk.TheVariants as disk_asks
+use Rattle.gix_odb_core.specs.Replay as core
+use Rattle.gix_odb_core.specs.Steps.{last_state}
+use Rattle.gix_odb_core.specs.declared.event.Effect.TheVariants as effects
+use Rattle.gix_odb_core.specs.declared.event.Event.{Event}
+use Rattle.gix_odb_core.specs.declared.event.Event.TheVariants as events
+use Rattle.gix_odb_core.specs.declared.view.View.{View}
+use Rattle.gix_odb_packs.specs.declared.answer.Answer.{Answer}
+use Rattle.gix_odb_packs.specs.declared.answer.Answer.TheVariants as told
+use Rattle.gix_odb_packs.specs.declared.answer.PartAsk.{PartAsk}
+use Rattle.gix_odb_packs.specs.declared.answer.PartAsk.TheVariants as asks
+use Rattle.gix_odb_looks.specs.Exchange.{Exchange}
+use Rattle.gix_odb_looks.specs.LookUpOrder.{view_of}
+
+-- ---- what is told of streams: none gives more entries than so many
+
+abbrev pub count_by : (count : ℕ) → PartAsk → Answer → ℕ
+count_by count (asks.Disk (disk_asks.NextEntry dir)) (told.Disk (disk_answers.Entry entry)) = count + 1
+count_by count ask answer = 0
+
+-- each run of entries, of which the first `count` were given before, has at most so many
+abbrev pub AreWithin : (entries count : ℕ) → List Exchange → Type 0
+AreWithin entries count [] = Unit {0}
+AreWithin entries count (exchange ∷ exchanges) =
+    (count_by count exchange.ask exchange.answer ≤ entries) × AreWithin entries (count_by count exchange.ask exchange.answer) exchanges
+
+-- ---- what is told of lists
+
+-- a view has no more loaded and listed indices than there are slots
+abbrev pub HasFew : (slots : ℕ) → View → Type 0
+HasFew slots view = (length view.snapshot.indices + length view.todo ≤ slots) × (view.list_no ≤ last_state)
+
+-- an answer behind the number of a list, and the number behind it: numbers never fall, a publish makes the next number of its base, and
+-- confirms it where nothing is new; an outdated listing has another base
+abbrev pub number_by : (before : ℕ) → Answer → ℕ
+number_by before (told.Core (Ok (effects.Outdated number))) = number
+number_by before answer = number_of before (view_of answer)
+  where
+    number_of : ℕ → Option View → ℕ
+    number_of before None = before
+    number_of before (Some view) = view.list_no
+
+abbrev pub Follows : (before : ℕ) → Event → core.Answer → Type 0
+Follows before (events.Publish listing) (Ok (effects.Published view)) = view.list_no ≡ listing.base + 1
+Follows before (events.Publish listing) (Ok (effects.Unchanged view)) = view.list_no ≡ listing.base
+Follows before (events.Publish listing) (Ok (effects.Outdated number)) = (number ≢ listing.base) × (number ≤ last_state)
+Follows before event answer = Unit {0}
+
+abbrev pub IsNumbered : (slots before : ℕ) → PartAsk → Answer → Type 0
+IsNumbered slots before (asks.Core event) (told.Core answer) =
+    (before ≤ number_by before (told.Core answer)) × Follows before event answer × ((view : View) → view_of (told.Core answer) ≡ Some view → HasFew slots view)
+IsNumbered slots before ask answer = Unit {0}
+
+abbrev pub AreNumbered : (slots before : ℕ) → List Exchange → Type 0
+AreNumbered slots before [] = Unit {0}
+AreNumbered slots before (exchange ∷ exchanges) =
+    IsNumbered slots before exchange.ask exchange.answer × AreNumbered slots (number_by before exchange.answer) exchanges
+
+-- ---- what is told at all
+
+-- an answer is of the kind of its ask: calls of the disk are answered by the disk and events by the core, a look by a view and a
+-- listing by what it came to, unless the event is refused
+abbrev pub IsAnswerTo : PartAsk → Answer → Type 0
+IsAnswerTo (asks.Disk ask) (told.Disk answer) = Unit {0}
+IsAnswerTo (asks.Core event) (told.Core (Err refusal)) = Unit {0}
+IsAnswerTo (asks.Core events.Look) (told.Core (Ok effect)) = (view : View) × (core.view_in (Ok effect) ≡ Some view)
+IsAnswerTo (asks.Core (events.Publish listing)) (told.Core (Ok (effects.Published view))) = Unit {0}
+IsAnswerTo (asks.Core (events.Publish listing)) (told.Core (Ok (effects.Unchanged view))) = Unit {0}
+IsAnswerTo (asks.Core (events.Publish listing)) (told.Core (Ok (effects.Outdated number))) = Unit {0}
+IsAnswerTo (asks.Core (events.Publish listing)) (told.Core (Ok effect)) = ⊥
+IsAnswerTo (asks.Core event) (told.Core (Ok effect)) = Unit {0}
+IsAnswerTo ask answer = ⊥
+
+abbrev pub AreAnswered : List Exchange → Type 0
+AreAnswered [] = Unit {0}
+AreAnswered (exchange ∷ exchanges) = IsAnswerTo exchange.ask exchange.answer × AreAnswered exchanges
+
+-- ---- the bound
+
+-- the turns of one lap over a store with so many slots and folders, where a folder that is listed has at most so many entries
+abbrev pub turns_of_lap : (slots folders entries : ℕ) → ℕ
+turns_of_lap slots folders entries = 8 + 8 * slots + folders * (8 * entries + 16)
+
+-- two laps more than the changes of the list that the look-up may meet
+abbrev pub turns_of_look : (slots folders most entries : ℕ) → ℕ
+turns_of_look slots folders most entries = (most + 2) * turns_of_lap slots folders entries

@@ -1,0 +1,83 @@
+-- What a store's core shows that was read from the disk: the indices of the folders of packs, and their packs.
+use Rattle.std.specs.Prelude.{◌≡◌, ℕ, true, List, [], ◌∷◌, ◌++◌, map, All, Contains, Some, None}
+use Rattle.odb_base.specs.Path.{Name, Path}
+use Rattle.gix_hash.specs.declared.kind.Kind.{Kind}
+use Rattle.gix_pack_files.specs.FileBytes.{FileBytes}
+use Rattle.gix_pack_files.specs.Index.{is_index}
+use Rattle.gix_pack_files.specs.Pack.{is_pack}
+use Rattle.gix_odb_slots.specs.OnDiskFile.{loaded}
+use Rattle.gix_odb_slots.specs.PackPath.{pack_path}
+use Rattle.gix_odb_slots.specs.Slots.{PackFile}
+use Rattle.gix_odb_slots.specs.declared.listing.Listing.{Listing}
+use Rattle.gix_odb_slots.specs.declared.listing.ListingRow.{ListingRow}
+use Rattle.gix_odb_slots.specs.declared.loaded.LoadedIndex.TheVariants.{Single}
+use Rattle.gix_odb_slots.specs.declared.loaded.SnapshotIndex.{SnapshotIndex}
+use Rattle.gix_odb_slots.specs.declared.loaded.Todo.{Todo}
+use Rattle.gix_odb_core.specs.declared.event.Event.{Event}
+use Rattle.gix_odb_core.specs.declared.event.Event.TheVariants as events
+use Rattle.gix_odb_core.specs.declared.view.View.{View}
+use Rattle.gix_odb_packs.specs.PackFolder.{is_index_name, pack_folder}
+use Rattle.gix_odb_packs.specs.declared.answer.PartAsk.{PartAsk}
+use Rattle.gix_odb_packs.specs.declared.answer.PartAsk.TheVariants as asks
+use Rattle.gix_odb_looks.specs.LookUpOrder.{Setting}
+
+-- the folders of a store, the objects directory first
+abbrev pub folders_of : Setting → List Path
+folders_of setting = setting.objects ∷ setting.folders
+
+-- the path of an index in the folder of packs of one of the folders
+pub record IsIndexPath (setting : Setting) (path : Path) : Type 0 where
+  pub folder : Path
+  pub among : Contains (folders_of setting) folder
+  pub name : Name
+  pub named : is_index_name name ≡ true
+  pub is : path ≡ pack_folder folder ++ name ∷ []
+
+-- the row of an index in one of the folders, which is no multi-pack index
+pub record IsIndexRow (setting : Setting) (row : ListingRow) : Type 0 where
+  pub at : IsIndexPath setting row.path
+  pub single : row.multi ≡ None
+
+-- Here `Shown path bytes` says that a file with these bytes was shown at this path since the store was opened.
+module _ (Shown : Path → List ℕ → Type 0) (setting : Setting) (hash : Kind) where
+  -- bytes that an index was read from at a path
+  pub record IsIndexRead (path : Path) (file : FileBytes) : Type 0 where
+    pub kind : file.kind ≡ hash
+    pub parsed : is_index hash file.bytes ≡ true
+    pub shown : Shown path file.bytes
+
+  -- bytes that a pack was read from at a path
+  pub record IsPackRead (path : Path) (file : FileBytes) : Type 0 where
+    pub kind : file.kind ≡ hash
+    pub parsed : is_pack hash file.bytes ≡ true
+    pub shown : Shown path file.bytes
+
+  -- a pack was read, if it is loaded
+  abbrev pub IsRead : PackFile → Type 0
+  IsRead pack = (file : FileBytes) → loaded pack.state ≡ Some file → IsPackRead pack.path file
+
+  -- an index of one of the folders, which was read there, beside the one pack that it is of
+  pub record IsShown (index : SnapshotIndex) : Type 0 where
+    pub file : FileBytes
+    pub single : index.index ≡ Single file
+    pub at : IsIndexPath setting index.path
+    pub read : IsIndexRead index.path file
+    pub one : map (λ (pack : PackFile). pack.path) index.packs ≡ pack_path index.path ∷ []
+    pub packs : All IsRead index.packs
+
+  -- what a view shows
+  pub record IsShownView (view : View) : Type 0 where
+    pub indices : All IsShown view.snapshot.indices
+    pub kept : All IsShown view.snapshot.kept
+    pub todo : All (λ (todo : Todo). IsIndexPath setting todo.path) view.todo
+
+  -- what a look-up hands to the core: files that it read, and rows of indices of the folders
+  abbrev pub IsHanded : Event → Type 0
+  IsHanded (events.PutIndex slot path file) = IsIndexPath setting path × IsIndexRead path file
+  IsHanded (events.PutPack pack path file) = IsPackRead path file
+  IsHanded (events.Publish listing) = All (IsIndexRow setting) listing.rows
+  IsHanded event = Unit {0}
+
+  abbrev pub IsHandedBy : PartAsk → Type 0
+  IsHandedBy (asks.Disk ask) = Unit {0}
+  IsHandedBy (asks.Core event) = IsHanded event

@@ -1,0 +1,73 @@
+-- What exchanges with a disk and a core say that tell the truth.
+use Rattle.std.specs.Prelude.{◌≡◌, ℕ, List, Contains, Some, Result, Ok, Err}
+use Rattle.odb_base.specs.Path.{Path}
+use Rattle.odb_disk.specs.declared.ask.DiskAnswer.{DiskAnswer}
+use Rattle.odb_disk.specs.declared.ask.DiskAnswer.TheVariants as disk_answers
+use Rattle.odb_disk.specs.declared.ask.DiskAsk.{DiskAsk}
+use Rattle.odb_disk.specs.declared.ask.DiskAsk.TheVariants as disk_asks
+use Rattle.odb_tree.specs.declared.disk_error.DiskError.{DiskError}
+use Rattle.odb_tree.specs.declared.disk_error.DiskError.TheVariants as disk_errors
+use Rattle.gix_hash.specs.declared.kind.Kind.{Kind}
+use Rattle.gix_hash.specs.declared.object_id.ObjectId.{ObjectId}
+use Rattle.gix_odb_loose.specs.LooseOrder.{disk_ask_of, reply_of}
+use Rattle.gix_odb_loose.specs.declared.call.LooseReply.{LooseReply}
+use Rattle.gix_odb_core.specs.declared.view.View.{View}
+use Rattle.gix_odb_packs.specs.declared.answer.Answer.{Answer}
+use Rattle.gix_odb_packs.specs.declared.answer.Answer.TheVariants as told
+use Rattle.gix_odb_packs.specs.declared.answer.PartAsk.{PartAsk}
+use Rattle.gix_odb_packs.specs.declared.answer.PartAsk.TheVariants as asks
+use Rattle.gix_odb_calls.specs.Verdict.{asking, verdict_on}
+use Rattle.gix_odb_calls.specs.declared.query.Query.{Query}
+use Rattle.gix_odb_calls.specs.declared.verdict.Verdict.{Verdict}
+use Rattle.gix_odb_looks.specs.Exchange.{Exchange}
+use Rattle.gix_odb_looks.specs.LookUpOrder.{Setting, loose_fed, view_of}
+use Rattle.gix_odb_looks.specs.Shown.{IsShownView, folders_of}
+
+-- why a path can't be read, looked at or opened
+abbrev pub IsRefusal : DiskError → Type 0
+IsRefusal disk_errors.Absent = Unit {0}
+IsRefusal disk_errors.WrongKind = Unit {0}
+IsRefusal disk_errors.LinkLoop = Unit {0}
+IsRefusal disk_errors.Failed = Unit {0}
+IsRefusal error = ⊥
+
+-- an answer is one of those that a call of the disk has
+abbrev pub Suits : DiskAsk → DiskAnswer → Type 0
+Suits (disk_asks.Read path) (disk_answers.File bytes time) = Unit {0}
+Suits (disk_asks.Read path) (disk_answers.Refused error) = IsRefusal error
+Suits (disk_asks.Read path) answer = ⊥
+Suits (disk_asks.Look path follow) (disk_answers.Meta meta) = Unit {0}
+Suits (disk_asks.Look path follow) (disk_answers.Refused error) = IsRefusal error
+Suits (disk_asks.Look path follow) answer = ⊥
+Suits (disk_asks.OpenDir path) (disk_answers.Dir dir) = Unit {0}
+Suits (disk_asks.OpenDir path) (disk_answers.Refused error) = IsRefusal error
+Suits (disk_asks.OpenDir path) answer = ⊥
+Suits (disk_asks.NextEntry dir) (disk_answers.Entry entry) = Unit {0}
+Suits (disk_asks.NextEntry dir) disk_answers.End = Unit {0}
+Suits (disk_asks.NextEntry dir) (disk_answers.Refused error) = error ≡ disk_errors.Failed
+Suits (disk_asks.NextEntry dir) answer = ⊥
+Suits ask answer = Unit {0}
+
+-- Here `Shown path bytes` says that a file with these bytes was shown at this path since the store was opened, and
+-- `Loosely folder verdict` what the verdict on the loose objects of a folder says.
+module _ (Shown : Path → List ℕ → Type 0) (Loosely : Path → Verdict → Type 0) (setting : Setting) (hash : Kind) (query : Query) (id : ObjectId) where
+  -- a file that was read was shown
+  abbrev ShowsRead : DiskAsk → DiskAnswer → Type 0
+  ShowsRead (disk_asks.Read path) (disk_answers.File bytes time) = Shown path bytes
+  ShowsRead ask answer = Unit {0}
+
+  -- where the loose objects of a folder were asked, the verdict on what they reply says so
+  abbrev SaysLoosely : DiskAsk → DiskAnswer → Type 0
+  SaysLoosely ask answer =
+      (folder : Path) (reply : LooseReply) → Contains (folders_of setting) folder → disk_ask_of (asking setting.limit query id folder) ≡ Some ask
+      → reply_of (loose_fed (asking setting.limit query id folder) answer) ≡ Some reply
+      → Loosely folder (verdict_on query reply)
+
+  -- an exchange tells the truth
+  abbrev pub IsTrue : PartAsk → Answer → Type 0
+  IsTrue (asks.Disk ask) (told.Disk answer) = Suits ask answer × ShowsRead ask answer × SaysLoosely ask answer
+  IsTrue (asks.Core event) (told.Core answer) = (view : View) → view_of (told.Core answer) ≡ Some view → IsShownView Shown setting hash view
+  IsTrue ask answer = ⊥
+
+  abbrev pub AreTrue : List Exchange → Type 0
+  AreTrue exchanges = (exchange : Exchange) → Contains exchanges exchange → IsTrue exchange.ask exchange.answer

@@ -1,0 +1,249 @@
+-- What trying the indices of a list comes to.
+use Rattle.std.proofs.Common.{◌≡◌, Bool, true, false, List, [], ◌∷◌, Option, Some, None, Result, Ok, Err, refl, sym, subst, ℕ, ap, inl, inr}
+use Rattle.std.specs.Prelude.{slice_get, unwrap_or, if◌then◌else◌}
+use Rattle.std.proofs.lemmas.Bool.{or_cases}
+use Rattle.odb_base.specs.Path.{Path}
+use Rattle.odb_disk.specs.declared.ask.DiskAnswer.{DiskAnswer}
+use Rattle.odb_disk.specs.declared.ask.DiskAnswer.TheVariants as answers
+use Rattle.odb_tree.specs.declared.disk_error.DiskError.TheVariants as disk_errors
+use Rattle.gix_hash.specs.ObjectId.{kind_of}
+use Rattle.gix_pack_files.specs.FileBytes.{FileBytes}
+use Rattle.gix_pack_files.specs.Index.{is_index}
+use Rattle.gix_pack_files.specs.Pack.{Entry, entry_at, header_at, is_pack}
+use Rattle.gix_pack_files.specs.declared.data.Error as pack
+use Rattle.gix_pack_files.specs.declared.data.entry.Header as pack_header
+use Rattle.gix_odb_core.specs.declared.event.Effect.{Effect}
+use Rattle.gix_odb_core.specs.declared.event.Refusal.{Refusal}
+use Rattle.gix_odb_slots.specs.OnDiskFile.{loaded}
+use Rattle.gix_odb_slots.specs.Slots.{PackFile}
+use Rattle.gix_odb_slots.specs.declared.loaded.SnapshotIndex.{SnapshotIndex}
+use Rattle.gix_odb_slots.specs.declared.loaded.Todo.{Todo}
+use Rattle.gix_odb_packs.specs.Goal.{given_by, header_in, object_in}
+use Rattle.gix_odb_packs.specs.Search.{at_spot, first_of, given_or_not, in_file, in_packs, place_in, rest_behind, search, tried, was_absent, with_absent}
+use Rattle.gix_odb_packs.specs.Spot.{spot_in}
+use Rattle.gix_odb_packs.specs.TryOrder.{at, ask_of, ask_at, noting, why_of, is_failed, at_search, at_todo, behind_core, behind_disk, by_answer}
+use Rattle.gix_odb_packs.specs.TryOrder.{by_given, fed, index_read, pack_read, refused, search_stored, seek, pack_behind, shown_behind, shown_or_own}
+use Rattle.gix_odb_packs.specs.declared.answer.Answer.{Answer}
+use Rattle.gix_odb_packs.specs.declared.answer.Answer.TheVariants as told
+use Rattle.gix_odb_packs.specs.declared.goal.Error.{Error}
+use Rattle.gix_odb_packs.specs.declared.goal.Error.TheVariants as errors
+use Rattle.gix_odb_packs.specs.declared.goal.Found.{Found}
+use Rattle.gix_odb_packs.specs.declared.goal.Found.TheVariants as found
+use Rattle.gix_odb_packs.specs.declared.goal.Goal.{Goal}
+use Rattle.gix_odb_packs.specs.declared.goal.Wanted.{Wanted}
+use Rattle.gix_odb_packs.specs.declared.goal.Wanted.TheVariants as wanted
+use Rattle.gix_odb_packs.specs.declared.search.AbsentFile.{AbsentFile}
+use Rattle.gix_odb_packs.specs.declared.search.Sought.{Sought}
+use Rattle.gix_odb_packs.specs.declared.search.Sought.TheVariants as searches
+use Rattle.gix_odb_packs.specs.declared.search.WantedPack.{WantedPack}
+use Rattle.gix_odb_packs.specs.declared.spot.Spot.{Spot}
+use Rattle.gix_odb_packs.specs.declared.trier.Ahead.{Ahead}
+use Rattle.gix_odb_packs.specs.declared.trier.IndexPlace.{IndexPlace}
+use Rattle.gix_odb_packs.specs.declared.trier.Stage.{Stage}
+use Rattle.gix_odb_packs.specs.declared.trier.Stage.TheVariants as stages
+use Rattle.gix_odb_packs.specs.declared.trier.Tried.{Tried}
+use Rattle.gix_odb_packs.specs.declared.trier.Tried.TheVariants as ends
+use Rattle.gix_odb_packs.specs.declared.trier.Trier.{Trier}
+use Rattle.gix_odb_packs.specs.declared.search.Notes.{Notes}
+use Rattle.gix_odb_core.specs.declared.event.PassWhy.TheVariants as whys
+use Rattle.gix_odb_packs.specs.declared.answer.PartAsk.TheVariants as asks
+use Rattle.gix_odb_core.specs.declared.event.Event.{Event}
+
+-- ---- what a pack gives
+
+-- what was found is what is wanted
+abbrev pub Fits : Wanted → Found → Type 0
+Fits wanted.Object (found.Object kind bytes) = Unit {0}
+Fits wanted.Header (found.Header kind size) = Unit {0}
+Fits wanted.Presence found.Presence = Unit {0}
+Fits wanted found = ⊥
+
+abbrev IsGiven : Wanted → Result Found Error → Type 0
+IsGiven wanted (Ok found) = Fits wanted found
+IsGiven wanted (Err error) = Unit {0}
+
+object_given : (result : Result Entry pack.Error) → IsGiven wanted.Object (object_in result)
+object_given (Ok entry) = tt
+object_given (Err error) = tt
+
+header_given : (result : Result pack_header.Header pack.Error) → IsGiven wanted.Header (header_in result)
+header_given (Ok header) = tt
+header_given (Err error) = tt
+
+given_fits : (wanted : Wanted) (limit : Option ℕ) (file : FileBytes) (offset : ℕ) → IsGiven wanted (given_by wanted limit file offset)
+given_fits wanted.Object limit file offset = object_given (entry_at file.kind file.bytes offset limit)
+given_fits wanted.Header limit file offset = header_given (header_at file.kind file.bytes offset)
+given_fits wanted.Presence limit file offset = tt
+
+-- ---- a search
+
+abbrev IsSought : Wanted → Sought → Type 0
+IsSought wanted searches.Nowhere = Unit {0}
+IsSought wanted (searches.Finds found) = Fits wanted found
+IsSought wanted (searches.Fails error) = Unit {0}
+IsSought wanted (searches.Wants pack) = Unit {0}
+
+given_or_not-sought : (wanted : Wanted) (result : Result Found Error) → IsGiven wanted result → IsSought wanted (given_or_not result)
+given_or_not-sought wanted (Ok found) fits = fits
+given_or_not-sought wanted (Err error) fits = tt
+
+first_of-sought : (wanted : Wanted) (search further : Sought) → IsSought wanted search → IsSought wanted further → IsSought wanted (first_of search further)
+first_of-sought wanted searches.Nowhere further fits next = next
+first_of-sought wanted (searches.Finds found) further fits next = fits
+first_of-sought wanted (searches.Fails error) further fits next = tt
+first_of-sought wanted (searches.Wants pack) further fits next = tt
+
+module _ (goal : Goal) (absent : List AbsentFile) where
+  module _ (index : SnapshotIndex) (spot : Spot) where
+    in_file-sought : (path : Path) (file : Option FileBytes) → IsSought goal.wanted (in_file goal absent index spot path file)
+    in_file-sought path (Some file) =
+        given_or_not-sought goal.wanted (given_by goal.wanted goal.limit file spot.offset) (given_fits goal.wanted goal.limit file spot.offset)
+    in_file-sought path None = by (was_absent absent index.slot path)
+      where
+        pack : WantedPack
+        pack = record { slot = index.slot; place = place_in index.index spot; path = path; offset = spot.offset }
+
+        by : (b : Bool) → IsSought goal.wanted (if b then searches.Nowhere else searches.Wants pack)
+        by true = tt
+        by false = tt
+
+    in_packs-sought : (pack : Option PackFile) → IsSought goal.wanted (in_packs goal absent index spot pack)
+    in_packs-sought None = tt
+    in_packs-sought (Some pack) = in_file-sought pack.path (loaded pack.state)
+
+  at_spot-sought : (wanted : Wanted) → goal.wanted ≡ wanted → (index : SnapshotIndex) (spot : Option Spot)
+      → IsSought goal.wanted (at_spot wanted goal absent index spot)
+  at_spot-sought wanted.Object is index None = tt
+  at_spot-sought wanted.Header is index None = tt
+  at_spot-sought wanted.Presence is index None = tt
+  at_spot-sought wanted.Object is index (Some spot) = in_packs-sought index spot (slice_get index.packs spot.place)
+  at_spot-sought wanted.Header is index (Some spot) = in_packs-sought index spot (slice_get index.packs spot.place)
+  at_spot-sought wanted.Presence is index (Some spot) = subst (λ (w : Wanted). Fits w found.Presence) (sym is) tt
+
+  tried-sought : (index : SnapshotIndex) → IsSought goal.wanted (tried goal absent index)
+  tried-sought index = at_spot-sought goal.wanted refl index (spot_in index.index goal.id)
+
+  search-sought : (indices : List SnapshotIndex) → IsSought goal.wanted (search goal absent indices)
+  search-sought [] = tt
+  search-sought (index ∷ rest) = first_of-sought goal.wanted (tried goal absent index) (search goal absent rest) (tried-sought index) (search-sought rest)
+
+-- ---- a trier
+
+-- why a file is passed over is a failure only where a call of the disk failed
+why_failed : (answer : DiskAnswer) → is_failed (why_of answer) ≡ true → answer ≡ answers.Refused disk_errors.Failed
+why_failed (answers.Refused disk_errors.Failed) is = refl
+why_failed (answers.Refused disk_errors.Absent) is = absurd (cc is)
+why_failed (answers.Refused disk_errors.LinkLoop) is = absurd (cc is)
+why_failed (answers.Refused error) is = absurd (cc is)
+why_failed answer is = absurd (cc is)
+
+module _ (goal : Goal) (Failed : Type 0) (Refuses : Refusal → Type 0) where
+  -- what is noted failed
+  abbrev Noted : Notes → Type 0
+  Noted notes = notes.failed ≡ true → Failed
+
+  -- What trying comes to: it goes on for its goal, finds what is wanted, or ends. A failure that is noted is one, and so is a refusal.
+  abbrev pub Comes : Tried → Type 0
+  Comes (ends.More trier) = (trier.goal ≡ goal) × Noted trier.ahead.notes
+  Comes (ends.Hit found) = Fits goal.wanted found
+  Comes (ends.Missed notes) = Noted notes
+  Comes (ends.Bad error) = Unit {0}
+  Comes (ends.Broken refusal) = Refuses refusal
+
+  given-comes : (result : Result Found Error) → IsGiven goal.wanted result → Comes (by_given result)
+  given-comes (Ok found) fits = fits
+  given-comes (Err error) fits = tt
+
+  at_todo-comes : (ahead : Ahead) → Noted ahead.notes → (todo : List Todo) → Comes (at_todo goal ahead todo)
+  at_todo-comes ahead noted [] = noted
+  at_todo-comes ahead noted (todo ∷ rest) = (refl, noted)
+
+  at_search-comes : (ahead : Ahead) → Noted ahead.notes → (sought : Sought) → IsSought goal.wanted sought → Comes (at_search goal ahead sought)
+  at_search-comes ahead noted searches.Nowhere fits = at_todo-comes ahead noted ahead.todo
+  at_search-comes ahead noted (searches.Finds found) fits = fits
+  at_search-comes ahead noted (searches.Fails error) fits = tt
+  at_search-comes ahead noted (searches.Wants pack) fits = (refl, noted)
+
+  pub seek-comes : (ahead : Ahead) → Noted ahead.notes → Comes (seek goal ahead)
+  seek-comes ahead noted =
+      at_search-comes (record ahead { indices = rest_behind goal ahead.notes.absent ahead.indices }) noted (search goal ahead.notes.absent ahead.indices)
+      (search-sought goal ahead.notes.absent ahead.indices)
+
+  module _ (ahead : Ahead) (noted : Noted ahead.notes) where
+    -- an index that could not be read
+    missed-noted : (answer : DiskAnswer) → (answer ≡ answers.Refused disk_errors.Failed → Failed) → Noted (noting ahead.notes (why_of answer))
+    missed-noted answer fails is =
+        elim (or_cases ahead.notes.failed (is_failed (why_of answer)) is) [
+          | inl before ↦ noted before
+          | inr now ↦ fails (why_failed answer now)
+        ]
+
+    index_read-comes : (place : IndexPlace) (answer : DiskAnswer) → (answer ≡ answers.Refused disk_errors.Failed → Failed)
+        → Comes (index_read goal ahead place answer)
+    index_read-comes place (answers.File bytes time) fails = by (is_index (kind_of goal.id) bytes)
+      where
+        file : FileBytes
+        file = record { kind = kind_of goal.id; bytes = bytes }
+
+        by : (b : Bool) → Comes (at goal ahead (if b then stages.StoringIndex place file else stages.PassingIndex place whys.Bad))
+        by true = (refl, noted)
+        by false = (refl, noted)
+    index_read-comes place (answers.Refused error) fails = (refl, missed-noted (answers.Refused error) fails)
+    index_read-comes place (answers.Meta meta) fails = (refl, missed-noted (answers.Meta meta) fails)
+    index_read-comes place (answers.Dir dir) fails = (refl, missed-noted (answers.Dir dir) fails)
+    index_read-comes place (answers.Entry entry) fails = (refl, missed-noted (answers.Entry entry) fails)
+    index_read-comes place answers.End fails = (refl, missed-noted answers.End fails)
+    index_read-comes place answers.Done fails = (refl, missed-noted answers.Done fails)
+
+    pack_read-comes : (pack : WantedPack) (answer : DiskAnswer) → Comes (pack_read goal ahead pack answer)
+    pack_read-comes pack (answers.File bytes time) = by (is_pack (kind_of goal.id) bytes)
+      where
+        stored : Tried
+        stored = at goal ahead (stages.StoringPack pack (record { kind = kind_of goal.id; bytes = bytes }))
+
+        by : (b : Bool) → Comes (if b then stored else ends.Bad errors.LoadPack)
+        by true = (refl, noted)
+        by false = tt
+    pack_read-comes pack (answers.Refused disk_errors.Absent) = (refl, noted)
+    pack_read-comes pack answer = tt
+
+    behind_disk-comes : (stage : Stage) (answer : DiskAnswer) → (answer ≡ answers.Refused disk_errors.Failed → Failed)
+        → Comes (behind_disk goal ahead stage answer)
+    behind_disk-comes (stages.ReadingIndex place) answer fails = index_read-comes place answer fails
+    behind_disk-comes (stages.ReadingPack pack) answer fails = pack_read-comes pack answer
+    behind_disk-comes stage answer fails = (refl, noted)
+
+    behind_core-comes : (stage : Stage) (effect : Effect) → Comes (behind_core goal ahead stage effect)
+    behind_core-comes (stages.StoringIndex place file) effect =
+        at_search-comes ahead noted (search_stored goal ahead.notes place file effect)
+        (tried-sought goal ahead.notes.absent (shown_or_own place file (shown_behind place effect)))
+    behind_core-comes (stages.PassingIndex place why) effect = seek-comes ahead noted
+    behind_core-comes (stages.StoringPack pack file) effect =
+        given-comes (given_by goal.wanted goal.limit (unwrap_or (pack_behind pack effect) file) pack.offset)
+        (given_fits goal.wanted goal.limit (unwrap_or (pack_behind pack effect) file) pack.offset)
+    behind_core-comes (stages.PassingPack pack) effect = seek-comes (record ahead { notes = with_absent ahead.notes pack.slot pack.path }) noted
+    behind_core-comes stage effect = (refl, noted)
+
+    refused-comes : (stage : Stage) (refusal : Refusal) → ((event : Event) → ask_at stage ≡ asks.Core event → Refuses refusal)
+        → Comes (refused goal ahead stage refusal)
+    refused-comes (stages.ReadingIndex place) refusal refuses = (refl, noted)
+    refused-comes (stages.ReadingPack pack) refusal refuses = (refl, noted)
+    refused-comes (stages.StoringIndex place file) refusal refuses = refuses _ refl
+    refused-comes (stages.PassingIndex place why) refusal refuses = refuses _ refl
+    refused-comes (stages.StoringPack pack file) refusal refuses = refuses _ refl
+    refused-comes (stages.PassingPack pack) refusal refuses = refuses _ refl
+
+    by_answer-comes : (stage : Stage) (answer : Answer) → (answer ≡ told.Disk (answers.Refused disk_errors.Failed) → Failed)
+        → ((event : Event) (refusal : Refusal) → ask_at stage ≡ asks.Core event → answer ≡ told.Core (Err refusal) → Refuses refusal)
+        → Comes (by_answer goal ahead stage answer)
+    by_answer-comes stage (told.Disk answer) fails refuses = behind_disk-comes stage answer (λ is. fails (ap (λ (a : DiskAnswer). told.Disk a) is))
+    by_answer-comes stage (told.Core (Ok effect)) fails refuses = behind_core-comes stage effect
+    by_answer-comes stage (told.Core (Err refusal)) fails refuses = refused-comes stage refusal (λ event is. refuses event refusal is refl)
+
+-- an answer to a trier: a failure that it notes was noted before, or is the answer; and so is a refusal that ends it
+pub fed-comes : (Failed : Type 0) (Refuses : Refusal → Type 0) (trier : Trier) (answer : Answer) → (trier.ahead.notes.failed ≡ true → Failed)
+    → (answer ≡ told.Disk (answers.Refused disk_errors.Failed) → Failed)
+    → ((event : Event) (refusal : Refusal) → ask_of trier ≡ asks.Core event → answer ≡ told.Core (Err refusal) → Refuses refusal)
+    → Comes trier.goal Failed Refuses (fed trier answer)
+fed-comes Failed Refuses trier answer noted fails refuses =
+    by_answer-comes trier.goal Failed Refuses trier.ahead noted trier.stage answer fails refuses

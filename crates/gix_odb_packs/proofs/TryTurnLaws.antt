@@ -1,0 +1,122 @@
+-- How many turns the indices of a list take that are tried.
+use Rattle.std.proofs.Common.{ℕ, suc, ◌+◌, ◌*◌, ◌≤◌, ◌<◌, List, [], ◌∷◌, length, arith}
+use Rattle.gix_pack_files.specs.FileBytes.{FileBytes}
+use Rattle.gix_odb_slots.specs.declared.loaded.SnapshotIndex.{SnapshotIndex}
+use Rattle.gix_odb_slots.specs.declared.loaded.Todo.{Todo}
+use Rattle.gix_odb_core.specs.declared.event.Effect.{Effect}
+use Rattle.gix_odb_packs.specs.Search.{first_of, left_by, rest_behind, search, tried}
+use Rattle.gix_odb_packs.specs.TryOrder.{at_search, at_todo, index_stored, search_stored, seek}
+use Rattle.gix_odb_packs.specs.declared.goal.Goal.{Goal}
+use Rattle.gix_odb_packs.specs.declared.search.AbsentFile.{AbsentFile}
+use Rattle.gix_odb_packs.specs.declared.search.Sought.{Sought}
+use Rattle.gix_odb_packs.specs.declared.search.Sought.TheVariants as searches
+use Rattle.gix_odb_packs.specs.declared.trier.Ahead.{Ahead}
+use Rattle.gix_odb_packs.specs.declared.trier.IndexPlace.{IndexPlace}
+use Rattle.gix_odb_packs.specs.declared.trier.Stage.{Stage}
+use Rattle.gix_odb_packs.specs.declared.trier.Stage.TheVariants as stages
+use Rattle.gix_odb_packs.specs.declared.trier.Tried.{Tried}
+use Rattle.gix_odb_packs.specs.declared.trier.Tried.TheVariants as ends
+use Rattle.gix_odb_packs.specs.declared.trier.Trier.{Trier}
+
+-- the index that stands next is read and stored or passed over, and so is its pack
+abbrev pub stage_turns : Stage → ℕ
+stage_turns (stages.ReadingIndex place) = 4
+stage_turns (stages.StoringIndex place file) = 3
+stage_turns (stages.PassingIndex place why) = 1
+stage_turns (stages.ReadingPack pack) = 2
+stage_turns (stages.StoringPack pack file) = 1
+stage_turns (stages.PassingPack pack) = 1
+
+-- of each index ahead that is loaded the pack is read, and each other one is read, too
+abbrev pub ahead_turns : Ahead → ℕ
+ahead_turns ahead = 2 * length ahead.indices + 4 * length ahead.todo
+
+abbrev pub trier_turns : Trier → ℕ
+trier_turns trier = stage_turns trier.stage + ahead_turns trier.ahead
+
+-- where trying goes on, it takes at most so many turns
+abbrev pub TriesFor : (turns : ℕ) → Tried → Type 0
+TriesFor turns (ends.More trier) = trier_turns trier ≤ turns
+TriesFor turns tried = Unit {0}
+
+some_turns : (stage : Stage) → 0 < stage_turns stage
+some_turns (stages.ReadingIndex place) = omega arith
+some_turns (stages.StoringIndex place file) = omega arith
+some_turns (stages.PassingIndex place why) = omega arith
+some_turns (stages.ReadingPack pack) = omega arith
+some_turns (stages.StoringPack pack file) = omega arith
+some_turns (stages.PassingPack pack) = omega arith
+
+pub trier_turns-pos : (trier : Trier) → 0 < trier_turns trier
+trier_turns-pos trier = omega (arith, some_turns trier.stage)
+
+-- ---- a search
+
+-- a search that comes to something leaves fewer indices than it was given
+abbrev Leaves : Sought → (left all : ℕ) → Type 0
+Leaves searches.Nowhere left all = left ≤ all
+Leaves sought left all = left + 1 ≤ all
+
+leaves_more : (sought : Sought) (left all : ℕ) → Leaves sought left all → Leaves sought left (suc all)
+leaves_more searches.Nowhere left all fewer = omega arith
+leaves_more (searches.Finds found) left all fewer = omega arith
+leaves_more (searches.Fails error) left all fewer = omega arith
+leaves_more (searches.Wants pack) left all fewer = omega arith
+
+first_leaves : (here further : Sought) (rest behind : List SnapshotIndex) → Leaves further (length behind) (length rest)
+    → Leaves (first_of here further) (length (left_by here rest behind)) (suc (length rest))
+first_leaves searches.Nowhere further rest behind fewer = leaves_more further (length behind) (length rest) fewer
+first_leaves (searches.Finds found) further rest behind fewer = omega arith
+first_leaves (searches.Fails error) further rest behind fewer = omega arith
+first_leaves (searches.Wants pack) further rest behind fewer = omega arith
+
+search_leaves : (goal : Goal) (absent : List AbsentFile) (indices : List SnapshotIndex)
+    → Leaves (search goal absent indices) (length (rest_behind goal absent indices)) (length indices)
+search_leaves goal absent [] = omega arith
+search_leaves goal absent (index ∷ rest) =
+    first_leaves (tried goal absent index) (search goal absent rest) rest (rest_behind goal absent rest) (search_leaves goal absent rest)
+
+-- ---- what trying comes to next
+
+todo_tries : (turns : ℕ) (goal : Goal) (ahead : Ahead) (todo : List Todo) → 2 * length ahead.indices + 4 * length todo ≤ turns
+    → TriesFor turns (at_todo goal ahead todo)
+todo_tries turns goal ahead [] room = tt
+todo_tries turns goal ahead (first ∷ rest) room = omega arith
+
+-- what is to be had for a search: two turns for a pack that is to be read
+abbrev search_turns : Sought → ℕ
+search_turns (searches.Wants pack) = 2
+search_turns sought = 0
+
+search_tries : (turns : ℕ) (goal : Goal) (ahead : Ahead) (sought : Sought) → search_turns sought + ahead_turns ahead ≤ turns
+    → TriesFor turns (at_search goal ahead sought)
+search_tries turns goal ahead searches.Nowhere room = todo_tries turns goal ahead ahead.todo (omega arith)
+search_tries turns goal ahead (searches.Finds found) room = tt
+search_tries turns goal ahead (searches.Fails error) room = tt
+search_tries turns goal ahead (searches.Wants pack) room = room
+
+few_search_turns : (sought : Sought) → search_turns sought ≤ 2
+few_search_turns searches.Nowhere = omega arith
+few_search_turns (searches.Finds found) = omega arith
+few_search_turns (searches.Fails error) = omega arith
+few_search_turns (searches.Wants pack) = omega arith
+
+left_turns : (sought : Sought) (left all rest : ℕ) → Leaves sought left all → search_turns sought + (2 * left + rest) ≤ 2 * all + rest
+left_turns searches.Nowhere left all rest fewer = omega arith
+left_turns (searches.Finds found) left all rest fewer = omega arith
+left_turns (searches.Fails error) left all rest fewer = omega arith
+left_turns (searches.Wants pack) left all rest fewer = omega arith
+
+-- trying goes on among what is ahead
+pub seek_tries : (turns : ℕ) (goal : Goal) (ahead : Ahead) → ahead_turns ahead ≤ turns → TriesFor turns (seek goal ahead)
+seek_tries turns goal ahead room =
+    let sought = search goal ahead.notes.absent ahead.indices in
+    let left = rest_behind goal ahead.notes.absent ahead.indices in
+    let fewer = left_turns sought (length left) (length ahead.indices) (4 * length ahead.todo) (search_leaves goal ahead.notes.absent ahead.indices) in
+    search_tries turns goal (record ahead { indices = left }) sought (omega (arith, fewer))
+
+-- an index that was stored is searched, for which two turns are had
+pub stored_tries : (turns : ℕ) (goal : Goal) (ahead : Ahead) (place : IndexPlace) (file : FileBytes) (effect : Effect) → 2 + ahead_turns ahead ≤ turns
+    → TriesFor turns (index_stored goal ahead place file effect)
+stored_tries turns goal ahead place file effect room =
+    let sought = search_stored goal ahead.notes place file effect in search_tries turns goal ahead sought (omega (arith, few_search_turns sought))
