@@ -1,0 +1,3 @@
+mod InterruptLemmas
+mod ChunksLemmas
+mod Leb64Lemmas
