@@ -1,3 +1,5 @@
 mod InterruptLemmas
 mod ChunksLemmas
 mod Leb64Lemmas
+mod InOrderLemmas
+pub mod InOrderLaws

@@ -6,3 +6,7 @@ pub mod Progress
 pub mod Leb64
 pub mod Leb64Reads
 pub mod Chunks
+pub mod Sizes
+pub mod InOrder
+pub mod InOrderState
+pub mod InOrderRuns

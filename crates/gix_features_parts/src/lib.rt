@@ -14,4 +14,5 @@ pub mod cache;
 pub mod decode;
 pub mod interrupt;
 pub mod iter;
+pub mod parallel;
 pub mod progress;

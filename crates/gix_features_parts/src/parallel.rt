@@ -1,0 +1,8 @@
+//! What work in parallel is split by, and how its results come into order again.
+mod in_order;
+pub mod reduce;
+mod sizes;
+
+pub use in_order::{InOrderError, InOrderIter, SequenceId};
+pub use reduce::Reduce;
+pub use sizes::{num_threads, optimize_chunk_size_and_thread_limit};

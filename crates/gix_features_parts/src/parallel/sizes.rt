@@ -1,0 +1,65 @@
+//! How many threads work, and how many items they take at a time.
+ghost use Rattle.std.specs.Prelude.{◌≡◌, ◌≤◌, None, Some, unwrap_or};
+ghost use Rattle.gix_features_parts.specs.Sizes.{threads_of, chunk_of, limit_of, limit_for_chunks};
+
+/// The fewest and the most items of a chunk, where it isn't known how many items there are.
+const LEAST: usize = 50;
+
+const MOST: usize = 1000;
+
+/// How many threads work: the limit, or as many as there are cores where it is none or 0.
+pub fn num_threads(thread_limit: Option<usize>, cores: usize) -> usize
+    ensures number { result ≡ threads_of thread_limit cores }
+{
+    match thread_limit {
+        None | Some(0) => cores,
+        Some(limit) => limit,
+    }
+}
+
+/// How many items a chunk has, and how many threads work at most, twice: as a limit and as a number.
+pub fn optimize_chunk_size_and_thread_limit(
+    desired_chunk_size: usize,
+    num_items: Option<usize>,
+    thread_limit: Option<usize>,
+    available_threads: Option<usize>,
+    cores: usize,
+) -> (usize, Option<usize>, usize)
+    requires some { 1 ≤ threads_of thread_limit (unwrap_or available_threads cores) }
+    requires few { threads_of thread_limit (unwrap_or available_threads cores) ≤ 65_536 }
+    ensures chunk { result.0 ≡ chunk_of desired_chunk_size num_items (threads_of thread_limit (unwrap_or available_threads cores)) }
+    ensures threads { result.2 ≡ limit_of num_items result.0 (threads_of thread_limit (unwrap_or available_threads cores)) }
+    ensures limit { result.1 ≡ Some result.2 }
+{
+    let threads = num_threads(thread_limit, available_threads.unwrap_or(cores));
+    let (chunk, limit) = match num_items {
+        None => (chunk_without_items(desired_chunk_size, threads), threads),
+        Some(items) => {
+            let chunk = (items / (2 * threads)).clamp(1, MOST);
+            (chunk, limit_with_items(items / chunk, threads))
+        }
+    };
+    (chunk, Some(limit), limit)
+}
+
+/// How many items a chunk has, where it isn't known how many items there are.
+fn chunk_without_items(desired: usize, threads: usize) -> usize
+    ensures chunk { result ≡ chunk_of desired None threads }
+{
+    if threads == 1 {
+        desired
+    } else {
+        desired.clamp(LEAST, MOST)
+    }
+}
+
+/// How many threads take so many chunks: at most one for every two, where each thread could have one.
+fn limit_with_items(chunks: usize, threads: usize) -> usize
+    ensures limit { result ≡ limit_for_chunks chunks threads }
+{
+    if chunks <= threads {
+        (chunks / 2).max(1)
+    } else {
+        threads
+    }
+}
