@@ -16,3 +16,4 @@ pub mod interrupt;
 pub mod iter;
 pub mod parallel;
 pub mod progress;
+pub mod threading;
