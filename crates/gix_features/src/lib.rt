@@ -1,7 +1,10 @@
-//! What the object database uses of the crate `gix-features` 0.50: walks with composed names.
+//! What the object database uses of the crate `gix-features` 0.50.
 //!
 //! `fs` wraps the walks of the crate `walkdir`: unsorted, or in the order of Git's trees, and with names in Unicode's
-//! form NFC where that is asked for.
+//! form NFC where that is asked for. The other modules are those of `gix_features_parts`: `interrupt` ends work where a flag
+//! is set, `progress` counts bytes that pass, `decode` reads numbers of variable length, `iter` cuts items into chunks,
+//! `cache` takes what a cache tells, `threading` names what threads share, and `parallel` has what work in parallel is split
+//! by, and how its results come into order again.
 //! ```rust
 //! let root = PathText::parse(alloc, "/src")?;
 //! let walk = fs::walkdir_sorted_new(root, Parallelism::Serial, usize::MAX, true);
@@ -12,3 +15,6 @@
 #![tactic(auto)]
 
 pub mod fs;
+pub mod parallel;
+
+pub use gix_features_parts::{cache, decode, interrupt, iter, progress, threading};

@@ -1,0 +1,71 @@
+//! Counts of bytes that pass, numbers of bytes in words, and a cache's counts that aren't kept.
+use crate::words::compare;
+use gix_features_parts::cache;
+use gix_features_parts::progress::{self, ByteSize, Count};
+use odb_disk::{MemSink, MemSource, Sink, Source};
+use std::test::Fail;
+
+/// A count in memory.
+#[derive(Drop)]
+struct Total(usize);
+
+impl Count for Total {
+    ghost steps = { λ total. total.0 };
+
+    fn inc_by(&mut self, step: usize) {
+        self.0 = self.0.saturating_add(step);
+    }
+
+    fn step(&self) -> usize {
+        self.0
+    }
+}
+
+// Catches bytes that aren't counted, and a failed read that is.
+#[test]
+fn reads(rt: HostRuntime) -> Result<(), Fail> {
+    let bytes = b"abcde".to_vec(rt.alloc())?;
+    let mut source = progress::Read {
+        inner: MemSource::with_faults(rt.alloc(), bytes, &[2])?,
+        progress: Total(0),
+    };
+    let mut out = [0; 4];
+    let first = source.read(&mut out).is_ok();
+    let second = source.read(&mut out).is_err();
+    let third = source.read(&mut out).is_ok();
+    assert!(rt; first && second && third);
+    assert_eq!(rt; source.progress.step(), 5);
+    Ok(())
+}
+
+// Catches bytes that aren't counted, and a failed write that is.
+#[test]
+fn writes(rt: HostRuntime) -> Result<(), Fail> {
+    let mut sink = progress::Write {
+        inner: MemSink::with_faults(rt.alloc(), &[2])?,
+        progress: Total(0),
+    };
+    let first = sink.write(b"abc").is_ok();
+    let second = sink.write(b"de").is_err();
+    assert!(rt; first && second);
+    assert_eq!(rt; sink.progress.step(), 3);
+    Ok(())
+}
+
+// Catches a number that is rounded or has a unit.
+#[test]
+fn byte_size(rt: HostRuntime) -> Result<(), Fail> {
+    let size = ByteSize(1024);
+    let shown = format!(in rt.alloc(); "{size}")?;
+    compare("a number of bytes", shown.as_str(), "1024")
+}
+
+#[test]
+fn cache_counts(rt: HostRuntime) -> Result<(), Fail> {
+    let owner = String::from_str(rt.alloc(), "packs")?;
+    let mut counts = cache::Debug::new(owner);
+    counts.put();
+    counts.hit();
+    counts.miss();
+    Ok(())
+}

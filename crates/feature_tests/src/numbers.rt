@@ -1,0 +1,120 @@
+//! Numbers of variable length, numbers of threads, and sizes of chunks.
+use crate::words::{add, compare, halves};
+use gix_features_parts::decode::{Error, leb64_from_read};
+use gix_features_parts::iter::Chunks;
+use gix_features_parts::parallel::{num_threads, optimize_chunk_size_and_thread_limit};
+use odb_disk::MemSource;
+use std::alloc::{AllocError, Global};
+use std::test::Fail;
+
+/// The bytes that a text of hex digits spells.
+fn bytes_of(alloc: Global, digits: &str) -> Result<Vec<u8>, AllocError> {
+    let mut bytes = Vec::new(alloc);
+    for pair in digits.as_bytes().chunks(2) {
+        let pair = str::from_utf8(pair).unwrap_or("");
+        bytes.push(u8::from_str_radix(pair, 16).unwrap_or(0))?;
+    }
+    Ok(bytes)
+}
+
+fn error_word(error: Error) -> &'static str {
+    match error {
+        Error::Overflow => "overflow",
+        Error::Source => "source",
+        Error::Truncated => "truncated",
+    }
+}
+
+/// The number at the front of a source and its length, or why there is none, and how many bytes are left.
+fn number_shown(alloc: Global, source: &mut MemSource) -> Result<String, AllocError> {
+    let read = leb64_from_read(source);
+    let left = source.left().len();
+    match read {
+        Ok((number, count)) => format!(in alloc; "{number} {count} {left}"),
+        Err(error) => {
+            let word = error_word(error);
+            format!(in alloc; "{word} {left}")
+        }
+    }
+}
+
+/// Bytes in hex, and the number that they begin with. Spellings by Git's rule for offsets of deltas.
+const NUMBERS: &str = "\
+    00|0 1 0;\
+    7f|127 1 0;\
+    8000|128 2 0;\
+    8101|257 2 0;\
+    ff7f|16511 2 0;\
+    808000|16512 3 0;\
+    05aa|5 1 1;\
+    80fefefefefefefefe7f|18446744073709551615 10 0;\
+    80fefefefefefefeff00|overflow 0;\
+    ffffffffffffffffffffff7f|overflow 2;\
+    |truncated 0;\
+    80|truncated 0;\
+    8080|truncated 0";
+
+fn number_row(alloc: Global, row: &str) -> Result<(), Fail> {
+    let (digits, want) = halves(row);
+    let mut source = MemSource::new(bytes_of(alloc, digits)?);
+    compare(digits, number_shown(alloc, &mut source)?.as_str(), want)
+}
+
+// Catches bits in a wrong order, a longer spelling that begins with 0, a value that wraps, and a byte too many that is read.
+#[test]
+fn numbers(rt: HostRuntime) -> Result<(), Fail> {
+    for row in NUMBERS.split(';') {
+        number_row(rt.alloc(), row)?;
+    }
+    Ok(())
+}
+
+// Catches a failed read that is taken for the end.
+#[test]
+fn failed_read(rt: HostRuntime) -> Result<(), Fail> {
+    let bytes = bytes_of(rt.alloc(), "8000")?;
+    let mut source = MemSource::with_faults(rt.alloc(), bytes, &[2])?;
+    let shown = number_shown(rt.alloc(), &mut source)?;
+    compare("a second read that fails", shown.as_str(), "source 1")
+}
+
+fn plan_shown(alloc: Global, plan: (usize, Option<usize>, usize)) -> Result<String, AllocError> {
+    let (chunk, limit, threads) = plan;
+    format!(in alloc; "{chunk} {limit:?} {threads}")
+}
+
+// Catches a limit of 0 that is taken for no thread, and bounds of a chunk that are mixed up.
+#[test]
+fn sizes(rt: HostRuntime) -> Result<(), Fail> {
+    let known = optimize_chunk_size_and_thread_limit(10, Some(100), None, Some(4), 1);
+    compare("100 items", plan_shown(rt.alloc(), known)?.as_str(), "12 Some(4) 4")?;
+    let unknown = optimize_chunk_size_and_thread_limit(10, None, None, Some(4), 1);
+    compare("no items", plan_shown(rt.alloc(), unknown)?.as_str(), "50 Some(4) 4")?;
+    let few = optimize_chunk_size_and_thread_limit(10, Some(3), None, Some(4), 1);
+    compare("3 items", plan_shown(rt.alloc(), few)?.as_str(), "1 Some(1) 1")?;
+    let one = optimize_chunk_size_and_thread_limit(7, None, Some(0), None, 1);
+    compare("one core", plan_shown(rt.alloc(), one)?.as_str(), "7 Some(1) 1")?;
+    let chosen = (num_threads(None, 4), num_threads(Some(0), 4), num_threads(Some(3), 4));
+    let shown = format!(in rt.alloc(); "{chosen:?}")?;
+    compare("threads", shown.as_str(), "(4, 4, 3)")
+}
+
+/// Numbers in chunks of a size.
+fn chunks_shown(alloc: Global, numbers: &[u8], size: usize) -> Result<String, Fail> {
+    let mut all = String::new(alloc);
+    for chunk in Chunks::new(alloc, numbers.iter().copied(), size.max(1)) {
+        let text = format!(in alloc; "{:?}", chunk?)?;
+        add(&mut all, text.as_str())?;
+    }
+    Ok(all)
+}
+
+// Catches a last chunk that is lost, and an empty one behind a full one.
+#[test]
+fn chunks(rt: HostRuntime) -> Result<(), Fail> {
+    let odd = chunks_shown(rt.alloc(), &[1, 2, 3], 2)?;
+    compare("three by two", odd.as_str(), "[1, 2], [3]")?;
+    let even = chunks_shown(rt.alloc(), &[1, 2, 3, 4], 2)?;
+    compare("four by two", even.as_str(), "[1, 2], [3, 4]")?;
+    compare("none", chunks_shown(rt.alloc(), &[], 2)?.as_str(), "")
+}

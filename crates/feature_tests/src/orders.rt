@@ -1,0 +1,76 @@
+//! Items that come in any order, and what reduces them.
+use crate::words::{add, compare, halves};
+use gix_features_parts::parallel::reduce::{IdentityWithResult, Reduce};
+use gix_features_parts::parallel::{InOrderError, InOrderIter};
+use std::alloc::{AllocError, Global};
+use std::test::Fail;
+
+/// The error of an inner iterator.
+#[derive(Clone, Copy, Debug, Drop)]
+struct Broken;
+
+/// A number and the name of an item, as `1b`. Another word is an error.
+fn item_of(word: &str) -> Result<(usize, char), Broken> {
+    let mut letters = word.chars();
+    match (letters.next(), letters.next()) {
+        (Some(number), Some(name)) => match number.to_digit(10) {
+            Some(number) => Ok((number as usize, name)),
+            None => Err(Broken),
+        },
+        _ => Err(Broken),
+    }
+}
+
+fn given_shown(
+    alloc: Global,
+    given: Result<char, InOrderError<Broken>>,
+) -> Result<String, AllocError> {
+    match given {
+        Ok(name) => format!(in alloc; "{name}"),
+        Err(InOrderError::Inner(Broken)) => "broken".to_string(alloc),
+        Err(InOrderError::OutOfSequence { got, next }) => format!(in alloc; "{got} for {next}"),
+        Err(InOrderError::NoMemory) => "no memory".to_string(alloc),
+    }
+}
+
+fn order_shown(alloc: Global, words: &str) -> Result<String, AllocError> {
+    let mut all = String::new(alloc);
+    for given in InOrderIter::from(alloc, words.split(' ').map(item_of)) {
+        let text = given_shown(alloc, given)?;
+        add(&mut all, text.as_str())?;
+    }
+    Ok(all)
+}
+
+/// Items as they come, and what is given.
+const ORDERS: &str = "\
+    0a 1b 2c|a, b, c;\
+    1b 0a 2c|a, b, c;\
+    2c 1b 0a|a, b, c;\
+    2c 0a|a;\
+    1b|;\
+    0a 0b|a, 0 for 1;\
+    1b 1c 0a|1 for 0;\
+    0a !|a, broken;\
+    1b ! 0a|broken";
+
+// Catches an item that is given before its turn or twice, one that is lost at the end, and one given after an error.
+#[test]
+fn orders(rt: HostRuntime) -> Result<(), Fail> {
+    for row in ORDERS.split(';') {
+        let (words, want) = halves(row);
+        compare(words, order_shown(rt.alloc(), words)?.as_str(), want)?;
+    }
+    Ok(())
+}
+
+// Catches a reducer that keeps an error back, or gives one at the end.
+#[test]
+fn reduces(rt: HostRuntime) -> Result<(), Fail> {
+    let mut reducer = IdentityWithResult::<u8, Broken>::default();
+    let first = reducer.feed(Ok(1)).is_ok();
+    let second = reducer.feed(Err(Broken)).is_err();
+    let last = reducer.finalize().is_ok();
+    assert!(rt; first && second && last);
+    Ok(())
+}
