@@ -70,7 +70,11 @@ fn reads(rt: HostRuntime) -> Result<(), Fail> {
     let mut out = [0; 2];
     compare("first read", answer_word(source.read(&mut out)), "two")?;
     compare("second read", answer_word(source.read(&mut out)), "failed")?;
-    compare("third read", answer_word(source.read(&mut out)), "interrupted")?;
+    compare(
+        "third read",
+        answer_word(source.read(&mut out)),
+        "interrupted",
+    )?;
     assert!(rt; source.inner.left() == b"cdef".as_slice());
     Ok(())
 }

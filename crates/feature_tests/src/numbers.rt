@@ -87,14 +87,34 @@ fn plan_shown(alloc: Global, plan: (usize, Option<usize>, usize)) -> Result<Stri
 #[test]
 fn sizes(rt: HostRuntime) -> Result<(), Fail> {
     let known = optimize_chunk_size_and_thread_limit(10, Some(100), None, Some(4), 1);
-    compare("100 items", plan_shown(rt.alloc(), known)?.as_str(), "12 Some(4) 4")?;
+    compare(
+        "100 items",
+        plan_shown(rt.alloc(), known)?.as_str(),
+        "12 Some(4) 4",
+    )?;
     let unknown = optimize_chunk_size_and_thread_limit(10, None, None, Some(4), 1);
-    compare("no items", plan_shown(rt.alloc(), unknown)?.as_str(), "50 Some(4) 4")?;
+    compare(
+        "no items",
+        plan_shown(rt.alloc(), unknown)?.as_str(),
+        "50 Some(4) 4",
+    )?;
     let few = optimize_chunk_size_and_thread_limit(10, Some(3), None, Some(4), 1);
-    compare("3 items", plan_shown(rt.alloc(), few)?.as_str(), "1 Some(1) 1")?;
+    compare(
+        "3 items",
+        plan_shown(rt.alloc(), few)?.as_str(),
+        "1 Some(1) 1",
+    )?;
     let one = optimize_chunk_size_and_thread_limit(7, None, Some(0), None, 1);
-    compare("one core", plan_shown(rt.alloc(), one)?.as_str(), "7 Some(1) 1")?;
-    let chosen = (num_threads(None, 4), num_threads(Some(0), 4), num_threads(Some(3), 4));
+    compare(
+        "one core",
+        plan_shown(rt.alloc(), one)?.as_str(),
+        "7 Some(1) 1",
+    )?;
+    let chosen = (
+        num_threads(None, 4),
+        num_threads(Some(0), 4),
+        num_threads(Some(3), 4),
+    );
     let shown = format!(in rt.alloc(); "{chosen:?}")?;
     compare("threads", shown.as_str(), "(4, 4, 3)")
 }
