@@ -32,6 +32,8 @@ with `#` say nothing. See docs/SCRIPT.md for the whole language.
 
   open H PATH slots=N        handle H begins to open the store at PATH; further
                              options: folder=PATH, replace=HEX:HEX, limit=N
+  clone NEW H                NEW is a further handle on the store of an idle
+                             handle H
   close H                    closes an idle handle
   ignore H                   an idle handle ignores replacements from now on
   find H HEX                 begins to find an object
@@ -40,7 +42,7 @@ with `#` say nothing. See docs/SCRIPT.md for the whole language.
   write H KIND DATA          begins to write an object
   stream H KIND SIZE DATA    the same, of data that are said to have SIZE bytes
   writeas H KIND HEX DATA    the same, under an id that is known
-  turn H                     lets H make one call of the disk
+  turn H                     lets H make one call of the disk, or register
   finish H                   turns H until its call has ended
   do mkdir PATH              another program makes a directory
   do put PATH TIME CONTENT   another program puts a file
@@ -55,8 +57,8 @@ CONTENT is DATA, @loose:OBJ, @pack:OBJ,OBJ.., @idx:OBJ,OBJ.. or
 or tag; DATA is hex, or `-` for nothing. HEX has 40 lower-case digits. Numbers
 are decimal.
 
-Known, and not built yet (status 8): ids, clone, upgrade, never, prefix, locate,
-entry; the options changes=, midx= and hash= of open; HEX of 64 digits.
+Known, and not built yet (status 8): ids, upgrade, never, prefix, locate, entry;
+the options changes=, midx= and hash= of open; HEX of 64 digits.
 
 status  0 done   1 words not understood   2 a line was refused   3 read fault
         4 write fault   5 out of memory   8 a line has a word not built yet

@@ -1,18 +1,23 @@
 //! A handle on a store without its work.
-ghost use Rattle.std.specs.Prelude.{◌≡◌, IfOk, false};
+ghost use Rattle.std.specs.Prelude.{◌≡◌, IfOk, None, false};
 ghost use Rattle.gix_odb.specs.HandleState.{replaced_by, sought_by};
 
 use gix_hash::ObjectId;
 use gix_odb_calls::{Query, StoreParts};
+use gix_odb_core::View;
 use odb_base::NoMemory;
 use std::alloc::Global;
 use std::sync::Arc;
 
-/// A handle without its work: its store, and its mode.
+/// A handle without its work: its store and its mode, and what it has of the store's core.
 #[derive(Drop)]
 pub struct HandleState {
     pub store: Arc<StoreParts, Global>,
     pub ignore_replacements: bool,
+    /// The number of the store's core, among those of whoever carries out what machines ask for.
+    pub core: usize,
+    /// Its snapshot: what the core last showed it. There is none before it is registered.
+    pub view: Option<View>,
 }
 
 impl HandleState {
@@ -20,10 +25,29 @@ impl HandleState {
     pub fn new(alloc: Global, parts: StoreParts) -> Result<HandleState, NoMemory>
         ensures parts { IfOk result (λ handle. handle.store.value ≡ parts) }
         ensures mode { IfOk result (λ handle. handle.ignore_replacements ≡ false) }
+        ensures core { IfOk result (λ handle. handle.core ≡ 0) }
+        ensures view { IfOk result (λ handle. handle.view ≡ None) }
     {
         Ok(HandleState {
             store: Arc::new(alloc, parts)?,
             ignore_replacements: false,
+            core: 0,
+            view: None,
+        })
+    }
+
+    /// Another handle on the same store, in the same mode, which has no snapshot yet.
+    pub fn sharing(&self) -> Result<HandleState, NoMemory>
+        ensures store { IfOk result (λ other. other.store.value ≡ self.now.store.value) }
+        ensures mode { IfOk result (λ other. other.ignore_replacements ≡ self.now.ignore_replacements) }
+        ensures core { IfOk result (λ other. other.core ≡ self.now.core) }
+        ensures view { IfOk result (λ other. other.view ≡ None) }
+    {
+        Ok(HandleState {
+            store: Arc::try_clone(&self.store)?,
+            ignore_replacements: self.ignore_replacements,
+            core: self.core,
+            view: None,
         })
     }
 

@@ -21,6 +21,11 @@ pub enum Step {
         replacements: IdPairs,
         options: Options,
     },
+    /// Begins a further handle on the store of an idle one, in the modes of that, under a free handle number.
+    Clone {
+        handle: u32,
+        from: u32,
+    },
     /// Closes an idle handle, whose number is free then.
     Close {
         handle: u32,
@@ -34,7 +39,7 @@ pub enum Step {
         handle: u32,
         call: Call,
     },
-    /// Lets a handle that runs a call, or is opening, make one call of the disk.
+    /// Lets a handle that runs a call, or is opening, make one call of the disk or one event of the core of its store.
     Turn {
         handle: u32,
     },
@@ -55,6 +60,10 @@ impl Step {
                 replacements,
                 options,
             } => opening_copy(alloc, *handle, path, folders, replacements, *options),
+            Step::Clone { handle, from } => Ok(Step::Clone {
+                handle: *handle,
+                from: *from,
+            }),
             Step::Close { handle } => Ok(Step::Close { handle: *handle }),
             Step::Ignore { handle } => Ok(Step::Ignore { handle: *handle }),
             Step::Start { handle, call } => Ok(Step::Start {

@@ -1,5 +1,6 @@
 -- From which steps a handle has its task, its store and its mode, after each event of a lawful run.
 pub mod OneEvent
+pub mod OneTurn
 pub mod Turns
 use Rattle.std.proofs.Common.{◌≡◌, ◌≢◌, ℕ, ◌+◌, Bool, true, false, List, [], ◌∷◌, ◌++◌, length, None, refl, sym, subst}
 use Rattle.std.specs.Prelude.{◌==◌, if◌then◌else◌}
@@ -14,12 +15,13 @@ use Rattle.gix_odb_calls.specs.declared.step.Step.TheVariants as steps
 use Rattle.gix_odb_calls.specs.declared.step.Outcome.{Outcome}
 use Rattle.gix_odb_calls.specs.declared.step.Outcome.TheVariants as outcomes
 use Rattle.gix_odb_world.specs.Event.{Event}
-use Rattle.gix_odb_world.specs.Status.{Status, Store, Free, after_turn_of, ignoring_from, replied, started, status_after, status_of, store_at, turned, with_status}
+use Rattle.gix_odb_world.specs.Status.{Status, Store, Free, after_turn_of, cloned, ignoring_from, replied, started, status_after, status_of, store_at, turned, with_status}
 use Rattle.gix_odb_world.specs.Begun.{IsIgnoreOf, IsTaskOf, OpenedBy}
 use Rattle.gix_odb_world.specs.Valid.{misuse_of, why_not_after}
 use Rattle.gix_odb_world.specs.Headline.{IsLawful}
 use Rattle.gix_odb_world.proofs.AlongRun.{along_run}
-use Rattle.gix_odb_world.proofs.BegunLemmas.OneEvent.{Stems, holds_opened, none_after, opened_now, stems_ignoring, stems_kept, stems_replied, stems_started, stems_turned}
+use Rattle.gix_odb_world.proofs.BegunLemmas.OneEvent.{Stems, holds_opened, none_after, opened_now, stems_ignoring, stems_kept, stems_started}
+use Rattle.gix_odb_world.proofs.BegunLemmas.OneTurn.{stems_cloned, stems_replied, stems_turned}
 
 -- ---- what an event makes of all handles
 
@@ -66,6 +68,9 @@ module _ (first : Volume) (past : List Event) (e : Event) (before : (handle : �
   stems_applied : (step : Step) → e.step ≡ step → e.outcome ≡ outcomes.Applied → None ≡ why_not_after first past step → (handle : ℕ)
       → Stems now handle (status_after (length past + 1) step outcomes.Applied e.asked table handle)
   stems_applied (steps.Open number path folders replacements options) step applied valid handle = stems_opened number path folders replacements options step applied handle
+  stems_applied (steps.Clone number from) step applied valid handle =
+      stems_set now table number (cloned e.asked (table from)) handle (stems_cloned past e number from e.asked (table from) step applied (before from))
+      (λ apart. others (steps.Clone number from) step handle (λ same. apart (sym same)) (λ never. never))
   stems_applied (steps.Close number) step applied valid handle = stems_set now table number Free handle tt (λ apart. others (steps.Close number) step handle (λ never. never) (λ never. never))
   stems_applied (steps.Ignore number) step applied valid handle =
       stems_set now table number (ignoring_from (table number)) handle (stems_ignoring past e number (table number) valid step applied (before number))
@@ -83,7 +88,7 @@ module _ (first : Volume) (past : List Event) (e : Event) (before : (handle : �
       stems_after_turn now table e.step (turned e.asked) (λ h. stems_turned now h e.asked (table h) (kept h)) kept handle
   stems_by (outcomes.Reply reply) is valid handle =
       let kept = unapplied (λ applied. cc (is, applied)) in
-      stems_after_turn now table e.step (replied reply) (λ h. stems_replied now h reply (table h) (kept h)) kept handle
+      stems_after_turn now table e.step (replied e.asked reply) (λ h. stems_replied now h e.asked reply (table h) (kept h)) kept handle
   stems_by (outcomes.Misuse why) is valid handle = unapplied (λ applied. cc (is, applied)) handle
 
 -- ---- along a run

@@ -5,12 +5,12 @@ use Rattle.odb_disk.specs.Ask.{answer_now, fails_now, op_of}
 use Rattle.odb_disk.specs.declared.ask.DiskAsk.{DiskAsk}
 use Rattle.gix_odb_loose.specs.LooseOrder.{disk_ask_of}
 use Rattle.gix_odb_loose.specs.declared.call.LooseCall.{LooseCall}
-use Rattle.gix_odb_world.specs.declared.record.Did.TheVariants.{Disk, Nothing}
-use Rattle.gix_odb_world.specs.Event.{Ask, FromDisk, OfDisk, ToCore, ToDisk, Event, answered, to_disk}
-use Rattle.gix_odb_world.specs.Headline.{LeavesDisk, Works, outcome_of}
+use Rattle.gix_odb_world.specs.declared.record.Did.TheVariants.{Disk}
+use Rattle.gix_odb_world.specs.Event.{Ask, FromDisk, OfDisk, ToCore, ToDisk, ToNewCore, Event, answered, to_disk}
+use Rattle.gix_odb_world.specs.Headline.{LeavesDisk, Works, outcome_of, stand_of}
 use Rattle.gix_odb_world.specs.Machines.{ask_in, fed_in, write_in}
 use Rattle.gix_odb_world.specs.Recorded.{opened_in, path_recorded}
-use Rattle.gix_odb_world.specs.Run.{change_asked, change_by, did_asked, disk_after, told_now}
+use Rattle.gix_odb_world.specs.Run.{NoCall, change_asked, change_by, did_asked, disk_after, told_now}
 use Rattle.gix_odb_world.specs.Running.Write.{IsWriting}
 use Rattle.gix_odb_world.specs.Status.{Running}
 use Rattle.gix_odb_world.proofs.WorkLaws.{asks_as_write}
@@ -28,7 +28,7 @@ pub record CallsDisk (first : Volume) (past : List Event) (handle : ℕ) (runnin
 -- an event changed nothing, and made no call of the disk
 pub record IsQuiet (e : Event) : Type 0 where
   pub none : e.entry.change ≡ None
-  pub did : e.entry.did ≡ Nothing
+  pub did : NoCall e.entry.did
   pub leaves : LeavesDisk e.asked
 
 module _ (first : Volume) (past : List Event) (handle : ℕ) (running : Running) (e : Event) (works : Works first past handle running e) where
@@ -37,11 +37,11 @@ module _ (first : Volume) (past : List Event) (handle : ℕ) (running : Running)
 
   by_call : (ask : DiskAsk) → works.ask ≡ Some (ToDisk ask) → CallsDisk first past handle running e
   by_call ask is =
-      let told : e.asked ≡ OfDisk ask (answer_now disk ask) = works.told ∙ ap (told_now disk) is in
+      let told : e.asked ≡ OfDisk ask (answer_now disk ask) = works.told ∙ ap (told_now (stand_of past handle running) disk) is in
       record {
         ask = ask;
         asks = works.asks ∙ is;
-        asked = works.asked ∙ ap (did_asked (opened_in running.work) disk) is;
+        asked = works.asked ∙ ap (did_asked (opened_in running.work) (stand_of past handle running) disk) is;
         told = told;
         goes = works.goes ∙ ap (λ asked. outcome_of (fed_in running.store running.work (answered asked))) told;
         changed = works.changed ∙ ap (change_asked disk) is;
@@ -52,13 +52,18 @@ module _ (first : Volume) (past : List Event) (handle : ℕ) (running : Running)
   by_ask (Some (ToDisk ask)) is = inl (by_call ask is)
   by_ask None is = inr (record {
     none = works.changed ∙ ap (change_asked disk) is;
-    did = works.asked ∙ ap (did_asked (opened_in running.work) disk) is;
-    leaves = subst LeavesDisk (sym (works.told ∙ ap (told_now disk) is)) tt;
+    did = subst NoCall (sym (works.asked ∙ ap (did_asked (opened_in running.work) (stand_of past handle running) disk) is)) tt;
+    leaves = subst LeavesDisk (sym (works.told ∙ ap (told_now (stand_of past handle running) disk) is)) tt;
   })
   by_ask (Some (ToCore event)) is = inr (record {
     none = works.changed ∙ ap (change_asked disk) is;
-    did = works.asked ∙ ap (did_asked (opened_in running.work) disk) is;
-    leaves = subst LeavesDisk (sym (works.told ∙ ap (told_now disk) is)) tt;
+    did = subst NoCall (sym (works.asked ∙ ap (did_asked (opened_in running.work) (stand_of past handle running) disk) is)) tt;
+    leaves = subst LeavesDisk (sym (works.told ∙ ap (told_now (stand_of past handle running) disk) is)) tt;
+  })
+  by_ask (Some (ToNewCore slots folders)) is = inr (record {
+    none = works.changed ∙ ap (change_asked disk) is;
+    did = subst NoCall (sym (works.asked ∙ ap (did_asked (opened_in running.work) (stand_of past handle running) disk) is)) tt;
+    leaves = subst LeavesDisk (sym (works.told ∙ ap (told_now (stand_of past handle running) disk) is)) tt;
   })
 
   pub called_or_quiet : CallsDisk first past handle running e ⊎ IsQuiet e

@@ -27,7 +27,7 @@ use Rattle.gix_odb_loose.proofs.NameLaws.{IsTemporary, object_spot, prefix_path-
 use Rattle.gix_odb_world.specs.Recorded.{opened_in, path_recorded}
 use Rattle.gix_odb_world.specs.declared.record.Did.TheVariants.{Nothing, Disk}
 use Rattle.gix_odb_world.specs.Event.{Event}
-use Rattle.gix_odb_world.specs.Run.{change_by, disk_after, tree_at}
+use Rattle.gix_odb_world.specs.Run.{change_by, disk_after, tree_at, NoCall}
 use Rattle.gix_odb_world.specs.Writing.{AskedAt, ToWrite}
 use Rattle.gix_odb_world.proofs.LawfulRun.{LawfulRun}
 use Rattle.gix_odb_world.proofs.RunSteps.{IsLeft, Made, Quiet, Turned, change_by_some, is_tree_at, kind_at, left_at}
@@ -169,8 +169,8 @@ module _ (run : LawfulRun) where
   pub new_at : (handle made : ℕ) (path : Path) (a : AskedAt first events handle made (asks.NewFile path) answers.Done)
       → IsNewAt first events made a.event path
   new_at handle made path a = elim (kind_at run made a.event a.there) [
-    | Quiet q ↦ absurd (let both : Nothing ≡ Disk ops.NewFile path (next_fails (disk_after first (take made events))) = sym q.did ∙ a.did.1 in cc both)
-    | Made m ↦ absurd (let both : Nothing ≡ Disk ops.NewFile path (next_fails (disk_after first (take made events))) = sym m.did ∙ a.did.1 in cc both)
+    | Quiet q ↦ absurd (subst NoCall a.did.1 q.did)
+    | Made m ↦ absurd (subst NoCall a.did.1 m.did)
     | Turned t ↦
         let disk = disk_after first (take made events) in
         let before = tree_at first events made in

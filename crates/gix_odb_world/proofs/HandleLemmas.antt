@@ -1,5 +1,5 @@
 -- The opening and the closing of a handle, and the setting of its mode.
-use Rattle.std.proofs.Common.{◌≡◌, ℕ, ◌+◌, Bool, true, false, List, [], ◌∷◌, ◌++◌, length, Some, None, Option, refl, sym, ◌∙◌, ap, subst, arith}
+use Rattle.std.proofs.Common.{◌≡◌, ℕ, ◌+◌, Bool, true, false, List, [], ◌∷◌, ◌++◌, length, Some, None, Option, refl, sym, ◌∙◌, ap, subst, arith, Vec, Global}
 use Rattle.std.specs.Map.{keys_of}
 use Rattle.std.specs.Ordering.{eq_by_cmp}
 use Rattle.std.proofs.lemmas.Bool.{and_parts}
@@ -14,23 +14,29 @@ use Rattle.gix_odb_calls.specs.declared.step.Why.{Why}
 use Rattle.gix_odb_calls.specs.declared.step.Why.TheVariants.{BadOpen}
 use Rattle.gix_odb_calls.specs.declared.init.Options.{Options}
 use Rattle.gix_odb.specs.declared.open_state.OpenState.TheVariants.{Looking}
-use Rattle.gix_odb_world.specs.declared.record.Did.TheVariants.{Nothing}
+use Rattle.gix_odb_world.specs.declared.record.Did.{Did}
+use Rattle.gix_odb_world.specs.declared.record.Did.TheVariants.{Core, Nothing}
 use Rattle.gix_odb_world.specs.declared.handle.Handle.{Handle}
 use Rattle.gix_odb.specs.declared.handle_state.HandleState.{HandleState}
 use Rattle.gix_odb_world.specs.declared.work.Work.{Work}
 use Rattle.gix_odb_world.specs.declared.work.Work.TheVariants.{Opening}
-use Rattle.gix_odb_world.specs.declared.world.World.{World}
+use Rattle.gix_odb_world.specs.declared.course.Course.{Course}
 use Rattle.gix_hash.specs.ObjectId.{id_cmp}
-use Rattle.gix_odb_world.specs.Event.{Event}
-use Rattle.gix_odb_world.specs.Status.{OpenStore, Store, Status, Free, Resting, Working, store_at, opening_at, ignoring_from, modes_at_opening}
+use Rattle.gix_odb_core.specs.History.{History}
+use Rattle.gix_odb_core.specs.Replay.{number_behind}
+use Rattle.gix_odb_core.specs.declared.event.Event.TheVariants as core_events
+use Rattle.gix_odb_world.specs.Cores.{answer_behind, cores_after, cores_after_asked, history_at}
+use Rattle.gix_odb_world.specs.Event.{Asked, Event, OfCore}
+use Rattle.gix_odb_world.specs.Headline.{LeavesDisk, asked_applied, asked_by_close}
+use Rattle.gix_odb_world.specs.Status.{OpenStore, Store, Status, Free, Resting, Working, store_at, opening_at, ignoring_from, modes_at_opening, status_of}
 use Rattle.gix_odb_world.specs.Handle.{IsHandleOf, IsOpened}
-use Rattle.gix_odb_world.specs.Run.{IsTurnOf}
+use Rattle.gix_odb_world.specs.Run.{IsTurnOf, did_of_asked}
 use Rattle.gix_odb_world.specs.Running.{Runs}
 use Rattle.gix_odb_world.specs.Valid.{Phase, NoneThere, Idle, Running, why_not_open, why_not_idle, are_distinct, are_good_folders, is_openable}
-use Rattle.gix_odb_world.specs.World.{Continues, Matches, handle_at}
+use Rattle.gix_odb_world.specs.World.{Continues, Explains, Matches, handle_at}
 use Rattle.gix_odb_world.specs.Table.{SetsHandle, Notes, phase_of_handle, phase_of_work, why_not_now, with_ignoring}
 use Rattle.gix_odb_world.proofs.DistinctLemmas.{IsDistinct-by_count, ids_equal}
-use Rattle.gix_odb_world.proofs.StepLemmas.{applied}
+use Rattle.gix_odb_world.proofs.StepLemmas.{Tells, applied, applied_at_core}
 use Rattle.gix_odb_world.proofs.KnowsLemmas.{begins, runs-push}
 
 runs_opening : (first : Volume) (events : List Event) (e : Event) (handle : ℕ) (store : Store)
@@ -51,9 +57,11 @@ replacements_same path folders replacements options n state good begun =
       ignoring = begun.ignoring;
       limit = begun.limit;
       slots = begun.slots;
+      core = begun.core;
+      view = begun.view;
     }
 
-pub opened : (old mid new : World) (number : ℕ) (path : Path) (folders : List Path) (replacements : List (ObjectId × ObjectId)) (options : Options) (state : HandleState)
+pub opened : (old mid new : Course) (number : ℕ) (path : Path) (folders : List Path) (replacements : List (ObjectId × ObjectId)) (options : Options) (state : HandleState)
     → why_not_open (phase_of_handle (handle_at old number)) true ≡ None → is_openable path folders replacements ≡ true
     → IsOpened path folders replacements options state
     → SetsHandle old mid number (Some (record { state = state; work = Some (Opening Looking) })) → Notes mid new outcomes.Applied Nothing None
@@ -61,9 +69,10 @@ pub opened : (old mid new : World) (number : ℕ) (path : Path) (folders : List 
 opened old mid new number path folders replacements options state free good begun sets notes =
     applied old mid new (steps.Open number path folders replacements options) number (Some (record { state = state; work = Some (Opening Looking) }))
     (λ n status. opening_at n (store_at n path folders replacements options))
-    (ap (why_not_open (phase_of_handle (handle_at old number))) good ∙ free) sets notes (λ turn. turn, tt) refl (λ other turn. cc) (λ n table. refl)
+    (ap (why_not_open (phase_of_handle (handle_at old number))) good ∙ free) sets notes (λ turn. turn) refl (λ other turn. cc) (λ n asked table. refl)
     (λ n status match. (replacements_same path folders replacements options n state good begun, refl))
     (λ first events e status opens no_turn runs. runs_opening first events e number (store_at (length events + 1) path folders replacements options))
+    (λ events. refl)
 
 -- a bad opening is told where the number is free
 pub bad_open : (phase : Phase) (openable : Bool) → why_not_open phase true ≡ None → openable ≡ false → why_not_open phase openable ≡ Some BadOpen
@@ -77,11 +86,46 @@ taken NoneThere openable why is = absurd (cc is)
 taken Idle openable why is = sym is
 taken Running openable why is = sym is
 
-pub closed : (old mid new : World) (number : ℕ) → why_not_now old (steps.Close number) ≡ None
-    → SetsHandle old mid number None → Notes mid new outcomes.Applied Nothing None → Continues old (steps.Close number) new
-closed old mid new number reason sets notes =
-    applied old mid new (steps.Close number) number None (λ n status. Free)
-    reason sets notes (λ turn. turn, tt) refl (λ other turn. cc) (λ n table. refl) (λ n status match. tt) (λ first events e status starts no_turn runs. tt)
+-- ---- a close
+
+-- what the removal of a handle from the core of a number asks
+abbrev removal : List History → (core number : ℕ) → Asked
+removal cores core number = OfCore core number core_events.Remove (answer_behind (history_at cores core) number core_events.Remove)
+
+-- a handle at rest is removed from its own core
+removal_is : (cores : List History) (number : ℕ) (status : Status) (handle : Handle) → why_not_idle (phase_of_handle (Some handle)) ≡ None → Matches status (Some handle)
+    → removal cores handle.state.core number ≡ asked_by_close cores number status
+removal_is cores number Free handle idle match = absurd match
+removal_is cores number (Resting store modes) handle idle match = ap (λ core. removal cores core number) match.0.core
+removal_is cores number (Working running) handle idle match = absurd (cc (subst (λ (w : Option Work). why_not_idle (phase_of_work w) ≡ None) match.1 idle))
+
+close_tells : (old : Course) (cores : Vec History Global) (number : ℕ) (handle : Handle) (did : Did) → why_not_now old (steps.Close number) ≡ None → handle_at old number ≡ Some handle
+    → did ≡ Core handle.state.core (number_behind (history_at old.cores.items handle.state.core).entries)
+    → cores.items ≡ cores_after_asked old.cores.items (removal old.cores.items handle.state.core number)
+    → (first : Volume) (events : List Event) → Explains first events old → Tells events old cores (steps.Close number) did
+close_tells old cores number handle did reason there did_is cores_are first events explains =
+    let core : ℕ = handle.state.core in
+    let idle : why_not_idle (phase_of_handle (Some handle)) ≡ None = subst (λ h. why_not_idle (phase_of_handle h) ≡ None) there reason in
+    let match : Matches (status_of events number) (Some handle) = subst (Matches (status_of events number)) there (explains.handles number) in
+    let here : removal old.cores.items core number ≡ asked_applied events (steps.Close number) =
+    ap (λ cs. removal cs core number) explains.cores ∙ removal_is (cores_after events) number (status_of events number) handle idle match in
+    record {
+      did_is =
+          did_is ∙ (ap (λ cs. Core core (number_behind (history_at cs core).entries)) explains.cores
+          ∙ ap (did_of_asked None (cores_after events)) (removal_is (cores_after events) number (status_of events number) handle idle match));
+      cores_are = cores_are ∙ ap (cores_after_asked old.cores.items) here;
+      leaves = subst LeavesDisk here tt;
+    }
+
+pub closed : (old mid new : Course) (cores : Vec History Global) (number : ℕ) (handle : Handle) (did : Did) → why_not_now old (steps.Close number) ≡ None
+    → handle_at old number ≡ Some handle
+    → did ≡ Core handle.state.core (number_behind (history_at old.cores.items handle.state.core).entries)
+    → cores.items ≡ cores_after_asked old.cores.items (removal old.cores.items handle.state.core number)
+    → SetsHandle (record old { cores = cores }) mid number None → Notes mid new outcomes.Applied did None → Continues old (steps.Close number) new
+closed old mid new cores number handle did reason there did_is cores_are sets notes =
+    applied_at_core old mid new cores did (steps.Close number) number None (λ n asked table. Free)
+    reason sets notes (λ turn. turn) refl (λ other turn. cc) (λ n asked table. refl) (λ first events explains. tt) (λ first events e closes no_turn running. tt)
+    (close_tells old cores number handle did reason there did_is cores_are)
 
 -- ---- the mode of an idle handle
 
@@ -91,7 +135,8 @@ matches_ignoring Free None idle match = tt
 matches_ignoring Free (Some handle) idle match = absurd match
 matches_ignoring (Resting store modes) None idle match = absurd match
 matches_ignoring (Resting store modes) (Some handle) idle match =
-    (record { objects = match.0.objects; folders = match.0.folders; replacements = match.0.replacements; ignoring = refl; limit = match.0.limit; slots = match.0.slots }, match.1)
+    let own = match.0 in
+    (record { objects = own.objects; folders = own.folders; replacements = own.replacements; ignoring = refl; limit = own.limit; slots = own.slots; core = own.core; view = own.view }, match.1)
 matches_ignoring (Working running) None idle match = absurd match
 matches_ignoring (Working running) (Some handle) idle match =
     absurd (cc (subst (λ (w : Option Work). why_not_idle (phase_of_work w) ≡ None) match.1 idle))
@@ -102,11 +147,12 @@ runs_ignoring number first events e Free no_turn runs = tt
 runs_ignoring number first events e (Resting store modes) no_turn runs = tt
 runs_ignoring number first events e (Working running) no_turn runs = runs-push first events e number (Working running) (no_turn number) runs
 
-pub ignored : (old mid new : World) (number : ℕ) → why_not_now old (steps.Ignore number) ≡ None
+pub ignored : (old mid new : Course) (number : ℕ) → why_not_now old (steps.Ignore number) ≡ None
     → SetsHandle old mid number (with_ignoring (handle_at old number)) → Notes mid new outcomes.Applied Nothing None
     → Continues old (steps.Ignore number) new
 ignored old mid new number reason sets notes =
     applied old mid new (steps.Ignore number) number (with_ignoring (handle_at old number)) (λ n status. ignoring_from status)
-    reason sets notes (λ turn. turn, tt) refl (λ other turn. cc) (λ n table. refl)
+    reason sets notes (λ turn. turn) refl (λ other turn. cc) (λ n asked table. refl)
     (λ n status match. matches_ignoring status (handle_at old number) reason match)
     (λ first events e status starts. runs_ignoring number first events e status)
+    (λ events. refl)

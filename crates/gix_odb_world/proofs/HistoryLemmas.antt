@@ -7,6 +7,7 @@ use Rattle.std.proofs.Math.Seq.{take-append_seam, take-length}
 use Rattle.odb_tree.specs.Tree.{tree_of}
 use Rattle.odb_disk.specs.MemDisk.{Volume}
 use Rattle.std.proofs.lemmas.Option.{slice_get_within}
+use Rattle.gix_odb_world.specs.Cores.{cores_after, cores_after_asked, cores_after_event}
 use Rattle.gix_odb_world.specs.Event.{Event}
 use Rattle.gix_odb_world.specs.Status.{Status, Free, status_of, status_after, statuses_from}
 use Rattle.gix_odb_world.specs.Run.{disk_after, disk_after_event, tree_at, IsTurnOf, Fails, FailedSince}
@@ -55,6 +56,10 @@ pub disk_after-push : (first : Volume) (events : List Event) (e : Event)
     → disk_after first (events ++ e ∷ []) ≡ disk_after_event (disk_after first events) e
 unfolding disk_after
 disk_after-push first events e = fold_push disk_after_event first events e
+
+pub cores_after-push : (events : List Event) (e : Event) → cores_after (events ++ e ∷ []) ≡ cores_after_asked (cores_after events) e.asked
+unfolding cores_after
+cores_after-push events e = fold_push cores_after_event [] events e
 
 -- the tree after the last event
 pub tree_at-now : (first : Volume) (events : List Event) (e : Event)

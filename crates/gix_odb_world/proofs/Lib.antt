@@ -1,6 +1,8 @@
 mod AlongRun
 mod BegunLemmas
 mod BoundLemmas
+mod CarriedLemmas
+mod CloneLemmas
 mod CallLemmas
 mod FailedLemmas
 mod FolderLemmas
@@ -14,6 +16,10 @@ mod FileSteps
 mod OwnFiles
 mod CutFiles
 mod StandAlone
+mod SeatLemmas
+mod ExplainedLemmas
+mod ExplainedSeats
+mod EntryLemmas
 mod NameSteps
 mod RunEnds
 mod QueryKept

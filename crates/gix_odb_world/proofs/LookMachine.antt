@@ -28,7 +28,7 @@ use Rattle.gix_odb_calls.specs.declared.query.Query.TheVariants.{Find, Header, T
 use Rattle.gix_odb_world.specs.declared.work.Work.TheVariants.{Calling}
 use Rattle.gix_odb_world.specs.Bound.{bound_of_call, bound_of_task, bytes_to_write, default_changes, laps_without_change, turns_each, turns_of_folder, turns_of_lap}
 use Rattle.gix_odb_world.specs.AtWork.{nothing_in_front, Modes}
-use Rattle.gix_odb_world.specs.Event.{Event, from_disk}
+use Rattle.gix_odb_world.specs.Event.{Answer, Event, FromCore, FromDisk, OfDisk}
 use Rattle.gix_odb_world.specs.Handle.{IsHandleOf}
 use Rattle.gix_odb_world.specs.Machine.{placed}
 use Rattle.gix_odb_world.specs.Promise.{Promise, QueryPromise}
@@ -54,10 +54,11 @@ looking_placed : (result : Result Reply LookState) → calling_result (looking_r
 looking_placed (Ok reply) = refl
 looking_placed (Err state) = refl
 
-looking_feeds : (store : Store) (modes : Modes) (code : HandleState) → IsHandleOf store modes code → (state : LookState) (answer : Option DiskAnswer)
-    → result_in (fed_after code (Calling (Looking state)) answer) ≡ placed looking (looking.feed store state (from_disk answer))
+looking_feeds : (store : Store) (modes : Modes) (code : HandleState) → IsHandleOf store modes code → (state : LookState) (answer : Option Answer)
+    → result_in (fed_after code (Calling (Looking state)) answer) ≡ placed looking (looking.feed store state answer)
 looking_feeds store modes code own state None = looking_placed (looks.result_of state)
-looking_feeds store modes code own state (Some answer) =
+looking_feeds store modes code own state (Some (FromCore answer)) = looking_placed (looks.result_of state)
+looking_feeds store modes code own state (Some (FromDisk answer)) =
     ap (λ folders. calling_result (looking_result (looks.result_of (looks.fed folders code.store.value.alloc_limit_bytes state answer)))) own.folders
     ∙ (ap (λ limit. calling_result (looking_result (looks.result_of (looks.fed store.parts.folders limit state answer)))) own.limit
     ∙ looking_placed (looks.result_of (looks.fed store.parts.folders store.parts.limit state answer)))
@@ -149,7 +150,7 @@ module _ (first : Volume) (events : List Event) (handle : ℕ) (running : Runnin
       by_query (Header id) reply p = p
       by_query (Test id) reply p = p
 
-      from_look : (result : Result Reply LookState) → Comes result → MachineComes first events e handle running looking result
+      from_look : (result : Result Reply LookState) → Comes result → MachineComes first events e handle running looking (OfDisk ask (answer_now (disk_after first events) ask)) result
       from_look (Ok reply) c =
           subst (λ task. Promise first whole handle running.store running.modes running.begun task reply) (sym knows.task)
           (by_query state.head.query reply
@@ -166,7 +167,7 @@ module _ (first : Volume) (events : List Event) (handle : ℕ) (running : Runnin
         few_queries running.store running.turns (let few = c.3 in omega (arith, had, few)),
       )
 
-      looking_comes : MachineComes first events e handle running looking
+      looking_comes : MachineComes first events e handle running looking (OfDisk ask (answer_now (disk_after first events) ask))
           (looks.result_of (looks.fed running.store.parts.folders running.store.parts.limit state (answer_now (disk_after first events) ask)))
       looking_comes =
           from_look (looks.result_of (looks.fed running.store.parts.folders running.store.parts.limit state (answer_now (disk_after first events) ask)))

@@ -13,22 +13,22 @@ use Rattle.gix_odb_loose.specs.LooseOrder.{disk_ask_of}
 use Rattle.gix_odb_loose.specs.LooseOrder as loose_order
 use Rattle.gix_odb_loose.specs.declared.call.LooseCall.{LooseCall}
 use Rattle.gix_odb_loose.specs.declared.write_order.WriteStage.TheVariants.{Making}
-use Rattle.gix_odb_world.specs.declared.record.Did.TheVariants.{Nothing}
 use Rattle.gix_odb_world.specs.declared.work.Work.{Work}
-use Rattle.gix_odb_world.specs.Asks.{AsksInOrder, MayAskCore, MayEndUnasked}
+use Rattle.gix_odb_world.specs.Asks.{AsksInOrder, MayAskCore, MayAskNewCore, MayEndUnasked}
 use Rattle.gix_odb_world.specs.Bound.{bound_of_task}
 use Rattle.gix_odb_world.specs.Changes.{ChangesInTask}
-use Rattle.gix_odb_world.specs.Event.{Answer, Ask, Event, FromDisk, ToCore, ToDisk, answered, from_disk, to_disk}
+use Rattle.gix_odb_world.specs.Event.{Answer, Ask, Asked, Event, FromDisk, OfDisk, ToCore, ToDisk, ToNewCore, answered, to_disk}
 use Rattle.gix_odb_world.specs.Handle.{IsHandleOf}
+use Rattle.gix_odb_world.specs.Headline.{stand_of}
 use Rattle.gix_odb_world.specs.Machine.{At, Machine, placed}
 use Rattle.gix_odb_world.specs.Machines.{at}
 use Rattle.gix_odb_world.specs.Promise.{Promise}
-use Rattle.gix_odb_world.specs.Run.{IsTurnOf, change_by, disk_after, told_now}
+use Rattle.gix_odb_world.specs.Run.{IsTurnOf, NoCall, change_by, disk_after, told_now}
 use Rattle.gix_odb_world.specs.Running.{Knows}
 use Rattle.gix_odb_world.specs.Running.Write.{IsWriting, write_at}
 use Rattle.gix_odb_world.specs.Writing.{ToWrite}
 use Rattle.gix_odb_world.specs.Status.{MakeCall, OpenStore, Running, Store, Task, begun_with, gone_on, running_from, Modes}
-use Rattle.gix_odb_world.specs.WorkOrder.{ask_on, fed_after, result_in}
+use Rattle.gix_odb_world.specs.WorkOrder.{asks_on, fed_after, result_in}
 use Rattle.gix_odb_world.proofs.WriteTurn.Common.{IsTurnWith}
 
 -- the turn of a task's call of the disk, and the change that this makes
@@ -41,24 +41,27 @@ abbrev pub TakesTurn : Volume → List Event → (handle : ℕ) → Running → 
 TakesTurn first events handle running task None = MayEndUnasked task
 TakesTurn first events handle running task (Some (ToDisk ask)) = HasTurn first events handle running task ask
 TakesTurn first events handle running task (Some (ToCore event)) = MayAskCore task event
+TakesTurn first events handle running task (Some (ToNewCore slots folders)) = MayAskNewCore running.store running.turns task slots folders
 
 -- the last event is a turn of the handle that asked so, and made no call of the disk
-pub record IsTurnWithoutCall (first : Volume) (events : List Event) (e : Event) (handle : ℕ) (ask : Option Ask) : Type 0 where
+pub record IsTurnWithoutCall (first : Volume) (events : List Event) (e : Event) (handle : ℕ) (running : Running) (ask : Option Ask) : Type 0 where
   pub turn : IsTurnOf handle e.step
-  pub did : e.entry.did ≡ Nothing
-  pub asked : e.asked ≡ told_now (disk_after first events) ask
+  pub did : NoCall e.entry.did
+  pub asked : e.asked ≡ told_now (stand_of events handle running) (disk_after first events) ask
   pub change : e.entry.change ≡ None
   pub tree : IsTree (tree_of (disk_after first events).state)
 
 -- the last event is a turn of the handle that asked so
-abbrev pub IsTurnAsking : Volume → List Event → Event → (handle : ℕ) → Option Ask → Type 0
-IsTurnAsking first events e handle None = IsTurnWithoutCall first events e handle None
-IsTurnAsking first events e handle (Some (ToDisk ask)) = IsTurnWith first events e handle ask
-IsTurnAsking first events e handle (Some (ToCore event)) = IsTurnWithoutCall first events e handle (Some (ToCore event))
+abbrev pub IsTurnAsking : Volume → List Event → Event → (handle : ℕ) → Running → Option Ask → Type 0
+IsTurnAsking first events e handle running None = IsTurnWithoutCall first events e handle running None
+IsTurnAsking first events e handle running (Some (ToDisk ask)) = IsTurnWith first events e handle ask
+IsTurnAsking first events e handle running (Some (ToCore event)) = IsTurnWithoutCall first events e handle running (Some (ToCore event))
+IsTurnAsking first events e handle running (Some (ToNewCore slots folders)) =
+    IsTurnWithoutCall first events e handle running (Some (ToNewCore slots folders))
 
--- the answer to what is asked after some events
-abbrev pub answer_after : Volume → List Event → Option Ask → Option Answer
-answer_after first events ask = answered (told_now (disk_after first events) ask)
+-- what is told of what is asked after some events
+abbrev pub told_after : Volume → List Event → (handle : ℕ) → Running → Option Ask → Asked
+told_after first events handle running ask = told_now (stand_of events handle running) (disk_after first events) ask
 
 -- the size of what a task is to write has 64 bits
 abbrev pub IsSized : Task → Type 0
@@ -79,15 +82,15 @@ module _ (first : Volume) (events : List Event) (e : Event) (handle : ℕ) (runn
   abbrev pub InTime : (bound : Store → Task → (entries : ℕ) → ℕ) → Type 0
   InTime bound = (entries : ℕ) → running.turns + 1 < bound running.store running.task entries
 
-  -- a turn's reply keeps its promise, or the machine goes on, knows as much and is within its bound
-  abbrev pub MachineComes : (m : Machine) → Result Reply m.State → Type 0
-  MachineComes m (Ok reply) = Keeps reply
-  MachineComes m (Err state) = m.Knows first whole handle (gone_on running (m.work state)) state × InTime m.bound
+  -- the reply of a turn that asked so keeps its promise, or the machine goes on, knows as much and is within its bound
+  abbrev pub MachineComes : (m : Machine) → Asked → Result Reply m.State → Type 0
+  MachineComes m asked (Ok reply) = Keeps reply
+  MachineComes m asked (Err state) = m.Knows first whole handle (gone_on asked running (m.work state)) state × InTime m.bound
 
   -- the same of any work, within the bound of its task
-  abbrev pub ComesTo : Result Reply Work → Type 0
-  ComesTo (Ok reply) = Keeps reply
-  ComesTo (Err left) = Knows first whole handle (gone_on running left) left × InTime bound_of_task
+  abbrev pub ComesTo : Asked → Result Reply Work → Type 0
+  ComesTo asked (Ok reply) = Keeps reply
+  ComesTo asked (Err left) = Knows first whole handle (gone_on asked running left) left × InTime bound_of_task
 
 -- ---- the laws
 
@@ -129,17 +132,18 @@ pub record KeepsTurnLaws (m : Machine) : Type 1 where
       → m.ask running.store state ≡ None → (reply : Reply) × (m.feed running.store state None ≡ Ok reply)
   -- the turn leads to a reply that keeps the promise of the task, or on
   pub comes : (first : Volume) (events : List Event) (e : Event) (handle : ℕ) (running : Running) → running.begun ≤ length events
-      → (state : m.State) → m.Knows first events handle running state → IsTurnAsking first events e handle (m.ask running.store state)
-      → MachineComes first events e handle running m (m.feed running.store state (answer_after first events (m.ask running.store state)))
+      → (state : m.State) → m.Knows first events handle running state → IsTurnAsking first events e handle running (m.ask running.store state)
+      → MachineComes first events e handle running m (told_after first events handle running (m.ask running.store state))
+      (m.feed running.store state (answered (told_after first events handle running (m.ask running.store state))))
 
 pub record KeepsLaws (m : Machine) : Type 1 where
   -- the work of a state is of this machine, at this state
   pub at_home : (state : m.State) → at (m.work state) ≡ home m state
   -- the code of the work asks and goes on as the machine does
   pub asks : (store : Store) (modes : Modes) (code : HandleState) → IsHandleOf store modes code → (state : m.State)
-      → to_disk (ask_on code (m.work state)) ≡ m.ask store state
-  pub feeds : (store : Store) (modes : Modes) (code : HandleState) → IsHandleOf store modes code → (state : m.State) (answer : Option DiskAnswer)
-      → result_in (fed_after code (m.work state) answer) ≡ placed m (m.feed store state (from_disk answer))
+      → asks_on code (m.work state) ≡ m.ask store state
+  pub feeds : (store : Store) (modes : Modes) (code : HandleState) → IsHandleOf store modes code → (state : m.State) (answer : Option Answer)
+      → result_in (fed_after code (m.work state) answer) ≡ placed m (m.feed store state answer)
   -- where a task begins at a state, that is all that it knows
   pub starts : (first : Volume) (events : List Event) (e : Event) (handle : ℕ) (store : Store) (modes : Modes) (task : Task) (state : m.State)
       → IsSized task
@@ -173,7 +177,8 @@ pub record AsksDisk (m : Machine) (call : Store → m.State → Option DiskAsk) 
       → (ask : DiskAsk) → call running.store state ≡ Some ask → HasTurn first events handle running running.task ask
   pub comes : (first : Volume) (events : List Event) (handle : ℕ) (running : Running) (state : m.State) → m.Knows first events handle running state
       → (ask : DiskAsk) → call running.store state ≡ Some ask → (e : Event) → running.begun ≤ length events → IsTurnWith first events e handle ask
-      → MachineComes first events e handle running m (m.feed running.store state (Some (FromDisk (answer_now (disk_after first events) ask))))
+      → MachineComes first events e handle running m (OfDisk ask (answer_now (disk_after first events) ask))
+      (m.feed running.store state (Some (FromDisk (answer_now (disk_after first events) ask))))
 
 module _ (m : Machine) (call : Store → m.State → Option DiskAsk) (disk : AsksDisk m call) where
   named : (store : Store) (state : m.State) (ask : DiskAsk) → call store state ≡ Some ask → m.ask store state ≡ Some (ToDisk ask)
@@ -192,10 +197,12 @@ module _ (m : Machine) (call : Store → m.State → Option DiskAsk) (disk : Ask
     never_ends : m.ask running.store state ≡ None → ⊥
     never_ends none = let both : None ≡ Some (ToDisk some.0) = sym none ∙ asked in cc both
 
-    comes : (e : Event) → running.begun ≤ length events → IsTurnAsking first events e handle (m.ask running.store state)
-        → MachineComes first events e handle running m (m.feed running.store state (answer_after first events (m.ask running.store state)))
+    comes : (e : Event) → running.begun ≤ length events → IsTurnAsking first events e handle running (m.ask running.store state)
+        → MachineComes first events e handle running m (told_after first events handle running (m.ask running.store state))
+        (m.feed running.store state (answered (told_after first events handle running (m.ask running.store state))))
     comes e since =
-        subst (λ a. IsTurnAsking first events e handle a → MachineComes first events e handle running m (m.feed running.store state (answer_after first events a))) (sym asked)
+        subst (λ a. IsTurnAsking first events e handle running a
+        → MachineComes first events e handle running m (told_after first events handle running a) (m.feed running.store state (answered (told_after first events handle running a)))) (sym asked)
         (disk.comes first events handle running state knows some.0 some.1 e since)
 
   pub turns_by_disk : KeepsTurnLaws m

@@ -9,7 +9,7 @@ use Rattle.gix_odb_calls.specs.declared.step.Outcome.{Outcome}
 use Rattle.gix_odb_calls.specs.declared.step.Outcome.TheVariants.{Pending}
 use Rattle.gix_odb_calls.specs.declared.line.Line.{Line}
 use Rattle.gix_odb_calls.specs.declared.line.Line.TheVariants.{One, Finish}
-use Rattle.gix_odb_world.specs.declared.world.World.{World}
+use Rattle.gix_odb_world.specs.declared.course.Course.{Course}
 use Rattle.gix_odb_world.specs.Event.{Event}
 use Rattle.gix_odb_world.specs.Play.{Made, StandsFor, Plays, made_of}
 use Rattle.gix_odb_world.specs.Played.{Makes, MakesOne, PlaysTurns, PlaysLine, HasPlayed}
@@ -19,10 +19,10 @@ use Rattle.gix_odb_world.proofs.StepLemmas.{IsRunOf-push}
 
 -- ---- steps made one after another
 
-makes_none : (world : World) (steps : List Step) → Makes world world steps steps []
+makes_none : (world : Course) (steps : List Step) → Makes world world steps steps []
 makes_none world steps = record { steps = sym (append-nil steps); outcomes = sym (append-nil world.outcomes); runs = λ first run. run }
 
-makes_more : (old mid new : World) (before between after : List Step) (own other : List Made) → Makes old mid before between own
+makes_more : (old mid new : Course) (before between after : List Step) (own other : List Made) → Makes old mid before between own
     → Makes mid new between after other → Makes old new before after (own ++ other)
 makes_more old mid new before between after own other one two =
     record {
@@ -38,11 +38,11 @@ all_push : {A : Type 0} (P : A → Type 0) (xs : List A) (x : A) → AllByRecurs
 all_push P [] x all here = (here, tt)
 all_push P (y ∷ xs) x all here = (all.0, all_push P xs x all.1 here)
 
-pub turns_none : (world : World) (steps : List Step) (handle : ℕ) → PlaysTurns world world steps steps handle
+pub turns_none : (world : Course) (steps : List Step) (handle : ℕ) → PlaysTurns world world steps steps handle
 turns_none world steps handle = record { own = []; pending = tt; makes = makes_none world steps }
 
 -- a pending turn more
-pub turns_more : (old mid new : World) (before between after : List Step) (handle : ℕ) → PlaysTurns old mid before between handle
+pub turns_more : (old mid new : Course) (before between after : List Step) (handle : ℕ) → PlaysTurns old mid before between handle
     → (one : MakesOne mid new between after (Turn handle)) → one.outcome ≡ Pending → PlaysTurns old new before after handle
 turns_more old mid new before between after handle turns one pending =
     record {
@@ -52,7 +52,7 @@ turns_more old mid new before between after handle turns one pending =
     }
 
 -- the last turn
-pub turns_end : (old mid new : World) (before between after : List Step) (handle : ℕ) → PlaysTurns old mid before between handle
+pub turns_end : (old mid new : Course) (before between after : List Step) (handle : ℕ) → PlaysTurns old mid before between handle
     → (one : MakesOne mid new between after (Turn handle)) → one.outcome ≢ Pending → PlaysLine old new before after (Finish handle)
 turns_end old mid new before between after handle turns one ended =
     record {
@@ -61,7 +61,7 @@ turns_end old mid new before between after handle turns one ended =
       makes = makes_more old mid new before between after turns.own (record { step = Turn handle; outcome = one.outcome } ∷ []) turns.makes one.makes;
     }
 
-pub plays_one : (old new : World) (before after : List Step) (step : Step) → MakesOne old new before after step
+pub plays_one : (old new : Course) (before after : List Step) (step : Step) → MakesOne old new before after step
     → PlaysLine old new before after (One step)
 plays_one old new before after step one =
     record { own = record { step = step; outcome = one.outcome } ∷ []; stands = (one.outcome, refl); makes = one.makes }
@@ -73,7 +73,7 @@ last_is steps more step last added is =
     is ∙ (ap (λ (all : List Step). get_or all (length all - 1) last) added ∙ get_or_push steps step last (length (steps ++ step ∷ []) - 1) place)
 
 -- a step that was made and added to the steps
-pub makes_one : (old new : World) (before after : List Step) (step : Step) → after ≡ before ++ step ∷ [] → HasOneMore old new → Continues old step new
+pub makes_one : (old new : Course) (before after : List Step) (step : Step) → after ≡ before ++ step ∷ [] → HasOneMore old new → Continues old step new
     → MakesOne old new before after step
 makes_one old new before after step added more continues =
     record {
@@ -132,11 +132,11 @@ length-made_of (step ∷ steps) [] same = absurd (omega arith)
 length-made_of (step ∷ steps) (outcome ∷ outcomes) same = omega (arith, length-made_of steps outcomes (omega arith))
 
 -- one outcome for each step
-run_even : (first : Volume) (steps : List Step) (world : World) → IsRunOf first steps world → length steps ≡ length world.outcomes
+run_even : (first : Volume) (steps : List Step) (world : Course) → IsRunOf first steps world → length steps ≡ length world.outcomes
 run_even first steps world run =
     ap length (sym run.steps_are) ∙ (length-map run.events (λ (e : Event). e.step) ∙ (sym (length-map run.events (λ (e : Event). e.outcome)) ∙ ap length run.explains.outcomes))
 
-pub has_played_none : (first : Volume) (world : World) (steps : List Step) (last : List ℕ) → steps ≡ [] → last ≡ [] → Explains first [] world
+pub has_played_none : (first : Volume) (world : Course) (steps : List Step) (last : List ℕ) → steps ≡ [] → last ≡ [] → Explains first [] world
     → HasPlayed first [] steps last world
 unfolding made_of
 has_played_none first world steps last no_steps no_last explains =
@@ -145,11 +145,11 @@ has_played_none first world steps last no_steps no_last explains =
       plays = rw no_steps (refl, no_last);
     }
 
-pub more_steps : (old new : World) (before after : List Step) (line : Line) → PlaysLine old new before after line → length before < length after
+pub more_steps : (old new : Course) (before after : List Step) (line : Line) → PlaysLine old new before after line → length before < length after
 more_steps old new before after line own =
     omega (arith, ap length own.makes.steps, length-append before (map (λ (m : Made). m.step) own.own), length-map own.own (λ (m : Made). m.step), some_made line own.own own.stands)
 
-pub has_played_more : (first : Volume) (old new : World) (before after : List Step) (line : Line) (lines : List Line) (index : ℕ) (last : List ℕ) (at : ℕ)
+pub has_played_more : (first : Volume) (old new : Course) (before after : List Step) (line : Line) (lines : List Line) (index : ℕ) (last : List ℕ) (at : ℕ)
     → index < length lines → line ≡ get_or lines index line → at ≡ length after - 1 → PlaysLine old new before after line
     → HasPlayed first (take index lines) before last old → HasPlayed first (take (index + 1) lines) after (last ++ at ∷ []) new
 has_played_more first old new before after line lines index last at within is at_is own played =

@@ -1,18 +1,29 @@
 -- The run that a world comes to.
-use Rattle.std.proofs.Common.{List}
+use Rattle.std.proofs.Common.{◌≡◌, ◌≤◌, List, length, map, ap, ◌∙◌, subst}
+use Rattle.std.specs.List.{All}
+use Rattle.gix_odb_core.specs.History.{History}
+use Rattle.gix_odb_core.specs.Journal.{entries_of}
+use Rattle.gix_odb_core.specs.Steps.{last_state}
+use Rattle.gix_odb_core.specs.declared.journal.Journal.{Journal}
 use Rattle.odb_disk.specs.MemDisk.{Volume}
-use Rattle.gix_odb_world.specs.declared.world.World.{World}
+use Rattle.gix_odb_world.specs.declared.course.Course.{Course}
 use Rattle.gix_odb_world.specs.Event.{Event}
-use Rattle.gix_odb_world.specs.Headline.{IsRun}
-use Rattle.gix_odb_world.specs.World.{Explains}
+use Rattle.gix_odb_world.specs.Headline.{Headline, IsJournal, IsRun}
+use Rattle.gix_odb_world.specs.declared.record.Run.{Run}
+use Rattle.gix_odb_calls.specs.declared.step.Step.{Step}
+use Rattle.gix_odb_world.specs.World.{Explains, IsRunOf}
+use Rattle.gix_odb_world.proofs.EntryLemmas.{each_entry_told}
 use Rattle.gix_odb_world.proofs.NameSteps.{names_stay_whole}
 use Rattle.gix_odb_world.proofs.LawfulRun.{LawfulRun}
+use Rattle.gix_odb_world.proofs.SeatLemmas.{registers_own, seats_now}
 use Rattle.gix_odb_world.proofs.StandAlone.{writes_stand_alone}
 
 -- what led to the world is its run
-pub is_run : (world : World) (first : Volume) (events : List Event) → Explains first events world
-    → IsRun first events (record { outcomes = world.outcomes; records = world.records; disk = world.disk })
-is_run world first events explains =
+pub is_run : (world : Course) (journals : List Journal) → map entries_of journals ≡ map (λ (h : History). h.entries) world.cores.items → All IsJournal world.cores.items
+    → length world.records ≤ last_state
+    → (first : Volume) (events : List Event) → Explains first events world
+    → IsRun first events (record { outcomes = world.outcomes; records = world.records; disk = world.disk; journals = journals })
+is_run world journals entries each few first events explains =
     let lawful_run : LawfulRun =
     record { first = first; events = events; start = explains.start; lawful = explains.lawful; throughout = explains.throughout } in
     record {
@@ -20,6 +31,18 @@ is_run world first events explains =
       records_are = explains.records;
       lawful = explains.lawful;
       disk = explains.disk;
+      journals_are = entries ∙ ap (map (λ (h : History). h.entries)) explains.cores;
+      journals = subst (All IsJournal) explains.cores each;
+      entries = each_entry_told first events world.records explains.lawful explains.records few;
+      seats = seats_now first events explains.lawful;
+      registers_own = registers_own first events explains.lawful;
       alone = writes_stand_alone lawful_run;
       names = names_stay_whole lawful_run;
     }
+
+-- the run of some steps that were all made
+pub headline_of : (first : Volume) (made : List Step) (steps : List Step) (world : Course) (run : Run) → made ≡ steps → IsRunOf first made world
+    → ((start : Volume) (events : List Event) → Explains start events world → IsRun start events run)
+    → Headline first steps run
+headline_of first made steps world run all own is =
+    record { events = own.events; steps_are = own.steps_are ∙ all; is_run = is first own.events own.explains }

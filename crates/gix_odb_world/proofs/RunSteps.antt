@@ -13,17 +13,18 @@ use Rattle.odb_tree.specs.declared.change.Change.{Change}
 use Rattle.odb_tree.proofs.TreeLemmas.Changed.{IsTree-changed, after_change-tree, is_possible-tree_of}
 use Rattle.odb_tree.proofs.WriteLaws.{tree_of-written}
 use Rattle.odb_disk.proofs.AskedLaws.{IsTree-asked}
-use Rattle.gix_odb_world.specs.declared.record.Did.TheVariants.{Nothing}
+use Rattle.gix_odb_core.specs.History.{History}
+use Rattle.gix_odb_world.specs.Cores.{cores_after}
 use Rattle.gix_odb_calls.specs.declared.step.Outcome.{Outcome}
 use Rattle.gix_odb_calls.specs.declared.step.Outcome.TheVariants as outcomes
 use Rattle.gix_odb_calls.specs.declared.step.Step.{Step}
 use Rattle.gix_odb_calls.specs.declared.step.Step.TheVariants as steps
 use Rattle.gix_odb_calls.specs.declared.step.Why.{Why}
-use Rattle.gix_odb_world.specs.Event.{Asked, OfNothing, OfDisk, OfCore, Event}
+use Rattle.gix_odb_world.specs.Event.{Asked, OfNothing, OfDisk, OfCore, OfNewCore, Event}
 use Rattle.gix_odb_world.specs.Status.{Running, Status, Free, Resting, Working, status_of, status_after}
 use Rattle.gix_odb_world.specs.Headline.{IsTurn, Law, LeavesDisk, Suits, Turns}
 use Rattle.gix_odb_world.specs.Changes.{ChangesAs, change_applied}
-use Rattle.gix_odb_world.specs.Run.{change_by, did_of_asked, disk_after, disk_after_change, disk_after_event, disk_after_asked, tree_at}
+use Rattle.gix_odb_world.specs.Run.{NoCall, change_by, did_of_asked, disk_after, disk_after_change, disk_after_event, disk_after_asked, tree_at}
 use Rattle.gix_odb_world.specs.Undisturbed.{IsOutside}
 use Rattle.gix_odb_world.specs.Valid.{misuse_of, phase_of, why_not_after, why_not_running}
 use Rattle.gix_odb_world.proofs.LawfulRun.{LawfulRun}
@@ -45,7 +46,7 @@ pub record IsMade (first : Volume) (past : List Event) (e : Event) : Type 0 wher
   pub change : Change
   pub outside : IsOutside e
   pub makes : e.entry.change ≡ Some change
-  pub did : e.entry.did ≡ Nothing
+  pub did : NoCall e.entry.did
   pub leaves : LeavesDisk e.asked
   pub possible : is_possible (disk_after first past).state change ≡ true
 
@@ -55,7 +56,7 @@ pub data Kind (first : Volume) (past : List Event) (e : Event) : Type 0 where
   Made : IsMade first past e → Kind first past e
   Quiet : IsQuiet e → Kind first past e
 
-at_work : (status : Status) → None ≡ why_not_running (phase_of status) → (running : Running) × (status ≡ Working running)
+pub at_work : (status : Status) → None ≡ why_not_running (phase_of status) → (running : Running) × (status ≡ Working running)
 at_work Free valid = absurd (cc)
 at_work (Resting store modes) valid = absurd (cc)
 at_work (Working running) valid = (running, refl)
@@ -64,16 +65,20 @@ possible_by : (b : Bool) (why : Why) → None ≡ (if b then None else Some why)
 possible_by true why valid = refl
 possible_by false why valid = absurd (cc)
 
-left_disk : (opened : Option Path) (asked : Asked) → LeavesDisk asked → did_of_asked opened asked ≡ Nothing
-left_disk opened OfNothing left = refl
-left_disk opened (OfDisk ask answer) left = absurd left
-left_disk opened (OfCore event answer) left = refl
+left_disk : (opened : Option Path) (cores : List History) (asked : Asked) → LeavesDisk asked → NoCall (did_of_asked opened cores asked)
+left_disk opened cores OfNothing left = tt
+left_disk opened cores (OfDisk ask answer) left = absurd left
+left_disk opened cores (OfCore store seat event answer) left = tt
+left_disk opened cores (OfNewCore slots folders store seat answer) left = tt
 
-turn_step : (step : Step) → IsTurn step → (handle : ℕ) × (step ≡ steps.Turn handle)
+pub turn_step : (step : Step) → IsTurn step → (handle : ℕ) × (step ≡ steps.Turn handle)
 turn_step (steps.Turn handle) turn = (handle, refl)
 turn_step step turn = absurd turn
 
 module _ (first : Volume) (past : List Event) (e : Event) (law : Law first past e) where
+  no_call : LeavesDisk e.asked → NoCall e.entry.did
+  no_call leaves = subst NoCall (sym law.did.1) (left_disk law.did.0 (cores_after past) e.asked leaves)
+
   turned : IsTurn e.step → None ≡ why_not_after first past e.step → Kind first past e
   turned is valid =
       let t = turn_step e.step is in
@@ -88,15 +93,15 @@ module _ (first : Volume) (past : List Event) (e : Event) (law : Law first past 
       → e.entry.change ≡ change_applied step → None ≡ why_not_after first past step → Kind first past e
   kind_applied (steps.Turn handle) s o other leaves made valid = absurd (other tt)
   kind_applied (steps.Disk change) s o other leaves made valid =
-      Made (record { change = change; outside = (change, s, o); makes = made; did = law.did.1 ∙ left_disk law.did.0 e.asked leaves; leaves = leaves; possible = possible_by _ _ valid })
-  kind_applied step s o other leaves made valid = Quiet (record { none = made; did = law.did.1 ∙ left_disk law.did.0 e.asked leaves; leaves = leaves })
+      Made (record { change = change; outside = (change, s, o); makes = made; did = no_call leaves; leaves = leaves; possible = possible_by _ _ valid })
+  kind_applied step s o other leaves made valid = Quiet (record { none = made; did = no_call leaves; leaves = leaves })
 
   kind_by : (outcome : Outcome) → e.outcome ≡ outcome → Suits e.step outcome e.asked → ChangesAs e.step outcome e.entry.change
       → misuse_of outcome ≡ why_not_after first past e.step → Kind first past e
   kind_by outcomes.Applied o suits made valid = kind_applied e.step refl o suits.0 suits.1 made valid
   kind_by outcomes.Pending o suits made valid = turned suits.0 valid
   kind_by (outcomes.Reply reply) o suits made valid = turned suits valid
-  kind_by (outcomes.Misuse why) o suits made valid = Quiet (record { none = made; did = law.did.1 ∙ ap (did_of_asked law.did.0) suits; leaves = subst LeavesDisk (sym suits) tt })
+  kind_by (outcomes.Misuse why) o suits made valid = Quiet (record { none = made; did = no_call (subst LeavesDisk (sym suits) tt); leaves = subst LeavesDisk (sym suits) tt })
 
   pub kind_of : Kind first past e
   kind_of = kind_by e.outcome refl law.suits law.change law.valid
@@ -119,7 +124,8 @@ module _ (first : Volume) (past : List Event) (e : Event) where
   by_change_alone : (asked : Asked) (change : Option Change) → LeavesDisk asked → disk_after_asked disk asked change ≡ disk_after_change disk change
   by_change_alone OfNothing change leaves = refl
   by_change_alone (OfDisk ask answer) change leaves = absurd leaves
-  by_change_alone (OfCore event answer) change leaves = refl
+  by_change_alone (OfCore store seat event answer) change leaves = refl
+  by_change_alone (OfNewCore slots folders store seat answer) change leaves = refl
 
   after_by : (change : Option Change) → LeavesDisk e.asked → e.entry.change ≡ change → after ≡ tree_of (disk_after_change disk change).state
   after_by change leaves is =

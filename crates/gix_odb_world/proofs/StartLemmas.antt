@@ -11,7 +11,7 @@ use Rattle.gix_odb_world.specs.declared.handle.Handle.{Handle}
 use Rattle.gix_odb.specs.declared.handle_state.HandleState.{HandleState}
 use Rattle.gix_odb_world.specs.declared.work.Work.{Work}
 use Rattle.gix_odb_world.specs.declared.work.Work.TheVariants.{Calling}
-use Rattle.gix_odb_world.specs.declared.world.World.{World}
+use Rattle.gix_odb_world.specs.declared.course.Course.{Course}
 use Rattle.gix_odb.specs.CallOrder as calls
 use Rattle.gix_odb.specs.CallOrder.{HasSize}
 use Rattle.gix_odb.specs.Contents.{sought, sought_with}
@@ -55,15 +55,16 @@ runs_started number call sized first events e (Resting store modes) starts no_tu
     let whole : length (events ++ e ∷ []) ≡ length events + 1 = length_push events e in (omega (arith, whole), begins first events e number store modes (MakeCall call) sized)
 runs_started number call sized first events e (Working running) starts no_turn runs = runs-push first events e number (Working running) (no_turn number) runs
 
-pub begun : (old mid new : World) (number : ℕ) (call : Call) (handle : Handle) (work : Work) → HasSize call
+pub begun : (old mid new : Course) (number : ℕ) (call : Call) (handle : Handle) (work : Work) → HasSize call
     → why_not_now old (steps.Start number call) ≡ None → handle_at old number ≡ Some handle
     → work ≡ Calling (calls.started handle.state.store.value.objects handle.state.store.value.alloc_limit_bytes (sought_by handle.state) call)
     → SetsHandle old mid number (with_work (Some work) (handle_at old number)) → Notes mid new outcomes.Applied Nothing None
     → Continues old (steps.Start number call) new
 begun old mid new number call handle work sized reason there is sets notes =
     applied old mid new (steps.Start number call) number (with_work (Some work) (handle_at old number)) (λ n status. started n call status)
-    reason sets notes (λ turn. turn, tt) refl (λ other turn. cc) (λ n table. refl)
+    reason sets notes (λ turn. turn) refl (λ other turn. cc) (λ n asked table. refl)
     (λ n status match.
     subst (λ (h : Option Handle). Matches (started n call status) (with_work (Some work) h)) (sym there)
     (matches_started n call status handle work (subst (λ (h : Option Handle). why_not_idle (phase_of_handle h) ≡ None) there reason) is (subst (Matches status) there match)))
     (runs_started number call sized)
+    (λ events. refl)

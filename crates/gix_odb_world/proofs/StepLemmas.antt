@@ -1,5 +1,6 @@
 -- Each step of a world takes its history one event on.
-use Rattle.std.proofs.Common.{◌≡◌, ◌≢◌, ℕ, ◌+◌, ◌<◌, true, List, [], ◌∷◌, ◌++◌, length, take, get_or, Some, None, Option, refl, sym, ◌∙◌, ap, subst}
+pub mod Apart
+use Rattle.std.proofs.Common.{◌≡◌, ◌≢◌, ℕ, ◌+◌, ◌<◌, true, List, [], ◌∷◌, ◌++◌, length, take, get_or, Some, None, Option, refl, sym, ◌∙◌, ap, subst, Vec, Global}
 use Rattle.std.specs.Prelude.{if◌then◌else◌, ◌==◌}
 use Rattle.std.proofs.lemmas.List.{map-append, take_more}
 use Rattle.odb_disk.specs.MemDisk.{Volume, after_outside_change}
@@ -14,18 +15,21 @@ use Rattle.gix_odb_calls.specs.declared.call.Reply.{Reply}
 use Rattle.gix_odb_world.specs.declared.record.Did.{Did}
 use Rattle.gix_odb_world.specs.declared.record.Did.TheVariants.{Nothing}
 use Rattle.gix_odb_world.specs.declared.handle.Handle.{Handle}
-use Rattle.gix_odb_world.specs.declared.world.World.{World}
-use Rattle.gix_odb_world.specs.Event.{OfNothing, Event}
+use Rattle.gix_odb_world.specs.declared.course.Course.{Course}
+use Rattle.gix_odb_core.specs.History.{History}
+use Rattle.gix_odb_world.specs.Cores.{cores_after, cores_after_asked}
+use Rattle.gix_odb_world.specs.Event.{Asked, OfCore, OfDisk, OfNewCore, OfNothing, Event}
 use Rattle.gix_odb_world.specs.Status.{Status, Free, Resting, Working, status_of, status_after, with_status}
-use Rattle.gix_odb_world.specs.Run.{disk_after, disk_after_event, disk_after_change, IsTurnOf}
+use Rattle.gix_odb_world.specs.Run.{did_of_asked, disk_after, disk_after_asked, disk_after_event, disk_after_change, IsTurnOf}
 use Rattle.gix_odb_world.specs.Running.{Runs}
-use Rattle.gix_odb_world.specs.Valid.{is_openable, misuse_of, phase_after, phase_of, why_not_after, why_not_change, why_not_idle, why_not_open, why_not_running}
-use Rattle.gix_odb_world.specs.Headline.{Law, Suits}
+use Rattle.gix_odb_world.specs.Valid.{is_openable, misuse_of, phase_after, phase_of, why_not_after, why_not_change, why_not_idle, why_not_open, why_not_running, why_not_clone}
+use Rattle.gix_odb_world.specs.Headline.{FailsAsListed, IsTurn, Law, LeavesDisk, Suits, asked_applied}
 use Rattle.gix_odb_world.specs.Changes.{ChangesAs}
 use Rattle.gix_odb_world.specs.World.{Explains, GoesOn, Continues, IsRunOf, Matches, handle_at}
 use Rattle.gix_odb_world.specs.Table.{SetsHandle, Notes, phase_of_handle, phase_of_work, phase_now, why_not_now}
-use Rattle.gix_odb_world.proofs.HistoryLemmas.{status_of-push, disk_after-push, IsLawful-push}
+use Rattle.gix_odb_world.proofs.HistoryLemmas.{cores_after-push, status_of-push, disk_after-push, IsLawful-push}
 use Rattle.gix_odb_world.proofs.KnowsLemmas.{runs-push, runs_set}
+use Rattle.gix_odb_world.proofs.StepLemmas.Apart.{apart, law_apart, left_alone, quiet}
 use Rattle.gix_odb_world.proofs.WorldLemmas.{matches_set, throughout-push}
 
 -- ---- the reason for misuse, by the history and by the world
@@ -39,14 +43,17 @@ phase_of-matched (Working running) None match = absurd match
 phase_of-matched (Working running) (Some handle) match = ap phase_of_work (sym match.1)
 
 -- the phases of a handle by the history and by the world are the same
-phase_same : (first : Volume) (events : List Event) (world : World) (handle : ℕ) → Explains first events world
+phase_same : (first : Volume) (events : List Event) (world : Course) (handle : ℕ) → Explains first events world
     → phase_after events handle ≡ phase_now world handle
 phase_same first events world handle explains = phase_of-matched (status_of events handle) (handle_at world handle) (explains.handles handle)
 
-pub why_not-same : (first : Volume) (events : List Event) (world : World) (step : Step) → Explains first events world
+pub why_not-same : (first : Volume) (events : List Event) (world : Course) (step : Step) → Explains first events world
     → why_not_after first events step ≡ why_not_now world step
 why_not-same first events world (steps.Open handle path folders replacements options) explains =
     ap (λ phase. why_not_open phase (is_openable path folders replacements)) (phase_same first events world handle explains)
+why_not-same first events world (steps.Clone handle from) explains =
+    ap (λ phase. why_not_clone phase (phase_after events from)) (phase_same first events world handle explains)
+    ∙ ap (why_not_clone (phase_now world handle)) (phase_same first events world from explains)
 why_not-same first events world (steps.Close handle) explains = ap why_not_idle (phase_same first events world handle explains)
 why_not-same first events world (steps.Ignore handle) explains = ap why_not_idle (phase_same first events world handle explains)
 why_not-same first events world (steps.Start handle call) explains = ap why_not_idle (phase_same first events world handle explains)
@@ -55,12 +62,13 @@ why_not-same first events world (steps.Disk change) explains = ap (λ disk. why_
 
 -- ---- one event more
 
-pub goes_on : (first : Volume) (events : List Event) (old new : World) (e : Event) → Explains first events old → Law first events e
+pub goes_on : (first : Volume) (events : List Event) (old new : Course) (e : Event) → Explains first events old → Law first events e
     → new.outcomes ≡ old.outcomes ++ e.outcome ∷ [] → new.records ≡ old.records ++ e.entry ∷ [] → new.disk ≡ disk_after_event old.disk e
+    → new.cores.items ≡ cores_after_asked old.cores.items e.asked
     → ((handle : ℕ) → Matches (status_after (length events + 1) e.step e.outcome e.asked (status_of events) handle) (handle_at new handle))
     → ((handle : ℕ) → Runs first (events ++ e ∷ []) handle (status_after (length events + 1) e.step e.outcome e.asked (status_of events) handle))
     → GoesOn first events e.step e.outcome new
-goes_on first events old new e explains law outcomes records disk handles running =
+goes_on first events old new e explains law outcomes records disk cores handles running =
     record {
       event = e;
       step_is = refl;
@@ -70,6 +78,7 @@ goes_on first events old new e explains law outcomes records disk handles runnin
         outcomes = map-append (λ (x : Event). x.outcome) events (e ∷ []) ∙ ap (λ os. os ++ e.outcome ∷ []) explains.outcomes ∙ sym outcomes;
         records = map-append (λ (x : Event). x.entry) events (e ∷ []) ∙ ap (λ rs. rs ++ e.entry ∷ []) explains.records ∙ sym records;
         disk = disk ∙ ap (λ d. disk_after_event d e) explains.disk ∙ sym (disk_after-push first events e);
+        cores = cores ∙ ap (λ cs. cores_after_asked cs e.asked) explains.cores ∙ sym (cores_after-push events e);
         handles = λ handle. subst (λ (table : ℕ → Status). Matches (table handle) (handle_at new handle)) (sym (status_of-push events e)) (handles handle);
         running = λ handle. subst (λ (table : ℕ → Status). Runs first (events ++ e ∷ []) handle (table handle)) (sym (status_of-push events e)) (running handle);
         lawful = IsLawful-push first events e explains.lawful law;
@@ -77,40 +86,6 @@ goes_on first events old new e explains law outcomes records disk handles runnin
         throughout = throughout-push first events e explains.throughout
             (λ handle. subst (λ (table : ℕ → Status). Runs first (events ++ e ∷ []) handle (table handle)) (sym (status_of-push events e)) (running handle));
       };
-    }
-
--- an event without a call of the disk
-abbrev quiet : Step → Outcome → Option Change → ℕ → Event
-quiet step outcome change faults = record { step = step; outcome = outcome; entry = record { did = Nothing; change = change; faults = faults }; asked = OfNothing }
-
--- a turn that is no misuse gives a reply, or its call goes on
-no_quiet_turn : (handle : ℕ) (outcome : Outcome) → Suits (steps.Turn handle) outcome OfNothing → misuse_of outcome ≡ None
-    → ((reply : Reply) → outcome ≢ outcomes.Reply reply) → outcome ≢ outcomes.Pending → ⊥
-no_quiet_turn handle outcomes.Applied suits valid no_reply not_pending = suits.0 tt
-no_quiet_turn handle outcomes.Pending suits valid no_reply not_pending = not_pending refl
-no_quiet_turn handle (outcomes.Reply reply) suits valid no_reply not_pending = no_reply reply refl
-no_quiet_turn handle (outcomes.Misuse why) suits valid no_reply not_pending = cc
-
--- it is lawful where it is no reply, and no call goes on
-law_quiet : (first : Volume) (past : List Event) (step : Step) (outcome : Outcome) (change : Option Change) (faults : ℕ)
-    → misuse_of outcome ≡ why_not_after first past step → Suits step outcome OfNothing → ChangesAs step outcome change
-    → faults ≡ (disk_after_change (disk_after first past) change).calls.faults → ((reply : Reply) → outcome ≢ outcomes.Reply reply)
-    → outcome ≢ outcomes.Pending
-    → Law first past (quiet step outcome change faults)
-law_quiet first past step outcome change faults valid suits made counted no_reply not_pending =
-    record {
-      valid = valid;
-      suits = suits;
-      change = made;
-      failed = tt;
-      faults = counted ∙ ap (λ (disk : Volume). disk.calls.faults) (sym (disk_after-push first past (quiet step outcome change faults)));
-      did = (None, refl);
-      worked = λ handle running turn.
-          let valid_turn : misuse_of outcome ≡ None =
-          subst (λ s. misuse_of outcome ≡ why_not_after first past s) turn.step valid ∙ ap (λ s. why_not_running (phase_of s)) turn.status in
-          absurd (no_quiet_turn handle outcome (subst (λ s. Suits s outcome OfNothing) turn.step suits) valid_turn no_reply not_pending);
-      promise = λ handle running task reply turn began is. absurd (no_reply reply is);
-      in_time = λ handle running task entries turn began is most. absurd (not_pending is);
     }
 
 -- ---- a misused step
@@ -123,15 +98,16 @@ runs_misused first events e why handle Free is reason runs = tt
 runs_misused first events e why handle (Resting store modes) is reason runs = tt
 runs_misused first events e why handle (Working running) is reason runs = runs-push first events e handle (Working running) (λ turn. absurd (cc (reason turn))) runs
 
-pub misused : (old new : World) (step : Step) (why : Why) → why_not_now old step ≡ Some why → Notes old new (outcomes.Misuse why) Nothing None
+pub misused : (old new : Course) (step : Step) (why : Why) → why_not_now old step ≡ Some why → Notes old new (outcomes.Misuse why) Nothing None
     → Continues old step new
 misused old new step why reason notes first events explains =
     let same : why_not_after first events step ≡ Some why = why_not-same first events old step explains ∙ reason in
     let e : Event = quiet step (outcomes.Misuse why) None old.disk.calls.faults in (
       outcomes.Misuse why,
       goes_on first events old new e explains
-          (law_quiet first events step (outcomes.Misuse why) None old.disk.calls.faults (sym same) refl refl (ap (λ (disk : Volume). disk.calls.faults) explains.disk) (λ reply is. cc) (λ is. cc))
-          notes.outcomes notes.records notes.disk
+          (law_apart first events step (outcomes.Misuse why) Nothing None old.disk.calls.faults OfNothing (sym same) refl tt refl
+          (ap (λ (disk : Volume). disk.calls.faults) explains.disk) (λ reply is. cc) (λ is. cc) refl (λ is. absurd (cc is)))
+          notes.outcomes notes.records notes.disk (ap (λ (c : Vec History Global). c.items) notes.cores)
           (λ handle. subst (λ handles. Matches (status_of events handle) (handle_at (record new { handles = handles }) handle)) (sym notes.handles) (explains.handles handle))
           (λ handle. runs_misused first events e why handle (status_of events handle) refl (λ turn. subst (λ (s : Step). why_not_after first events s ≡ Some why) turn same) (explains.running handle)),
     )
@@ -139,43 +115,78 @@ misused old new step why reason notes first events explains =
 -- ---- an applied step of one handle
 
 -- the table after a handle is set and the step is noted
-pub table_noted : (old mid new : World) (number : ℕ) (handle : Option Handle) (outcome : Outcome) (did : Did) (change : Option Change)
+pub table_noted : (old mid new : Course) (number : ℕ) (handle : Option Handle) (outcome : Outcome) (did : Did) (change : Option Change)
     → SetsHandle old mid number handle → Notes mid new outcome did change → (other : ℕ)
     → handle_at new other ≡ (if other == number then handle else handle_at old other)
 table_noted old mid new number handle outcome did change sets notes other =
     ap (λ handles. handle_at (record new { handles = handles }) other) notes.handles ∙ sets.table other
 
--- a step sets one handle, and its status goes on as the handle does
-pub applied : (old mid new : World) (step : Step) (number : ℕ) (handle : Option Handle) (next : ℕ → Status → Status)
-    → why_not_now old step ≡ None → SetsHandle old mid number handle → Notes mid new outcomes.Applied Nothing None
-    → Suits step outcomes.Applied OfNothing → ChangesAs step outcomes.Applied None → ((other : ℕ) → ¬ IsTurnOf other step)
-    → ((n : ℕ) (table : ℕ → Status) → status_after n step outcomes.Applied OfNothing table ≡ with_status table number (next n (table number)))
-    → ((n : ℕ) (status : Status) → Matches status (handle_at old number) → Matches (next n status) handle)
-    → ((first : Volume) (events : List Event) (e : Event) (status : Status) → e.step ≡ step → ((other : ℕ) → ¬ IsTurnOf other e.step) → Runs first events number status
-    → Runs first (events ++ e ∷ []) number (next (length events + 1) status))
+-- what a step tells of the core of a store, of which it changes the cores
+pub record Tells (events : List Event) (old : Course) (cores : Vec History Global) (step : Step) (did : Did) : Type 0 where
+  pub did_is : did ≡ did_of_asked None (cores_after events) (asked_applied events step)
+  pub cores_are : cores.items ≡ cores_after_asked old.cores.items (asked_applied events step)
+  pub leaves : LeavesDisk (asked_applied events step)
+
+-- A step sets one handle, and its status goes on as the handle does. It may have made an event of a core.
+pub applied_at_core : (old mid new : Course) (cores : Vec History Global) (did : Did) (step : Step) (number : ℕ) (handle : Option Handle)
+    (next : ℕ → Asked → (ℕ → Status) → Status)
+    → why_not_now old step ≡ None → SetsHandle (record old { cores = cores }) mid number handle → Notes mid new outcomes.Applied did None
+    → ¬ (IsTurn step) → ChangesAs step outcomes.Applied None → ((other : ℕ) → ¬ IsTurnOf other step)
+    → ((n : ℕ) (asked : Asked) (table : ℕ → Status) → status_after n step outcomes.Applied asked table ≡ with_status table number (next n asked table))
+    → ((first : Volume) (events : List Event) → Explains first events old → Matches (next (length events + 1) (asked_applied events step) (status_of events)) handle)
+    → ((first : Volume) (events : List Event) (e : Event) → e.step ≡ step → ((other : ℕ) → ¬ IsTurnOf other e.step)
+    → ((other : ℕ) → Runs first events other (status_of events other))
+    → Runs first (events ++ e ∷ []) number (next (length events + 1) (asked_applied events step) (status_of events)))
+    → ((first : Volume) (events : List Event) → Explains first events old → Tells events old cores step did)
     → Continues old step new
-applied old mid new step number handle next reason sets notes suits made no_turn after matches runs first events explains =
-    let e : Event = quiet step outcomes.Applied None mid.disk.calls.faults in
+applied_at_core old mid new cores did step number handle next reason sets notes other_step made no_turn after matches runs tells first events explains =
+    let told : Tells events old cores step did = tells first events explains in
+    let asked : Asked = asked_applied events step in
+    let e : Event = apart step outcomes.Applied did None mid.disk.calls.faults asked in
     let table : ℕ → Status = status_of events in
     let counted : mid.disk.calls.faults ≡ (disk_after first events).calls.faults = ap (λ (disk : Volume). disk.calls.faults) (sets.disk ∙ explains.disk) in (
       outcomes.Applied,
       goes_on first events old new e explains
-          (law_quiet first events step outcomes.Applied None mid.disk.calls.faults (sym (why_not-same first events old step explains ∙ reason)) suits made counted (λ reply is. cc) (λ is. cc))
+          (law_apart first events step outcomes.Applied did None mid.disk.calls.faults asked (sym (why_not-same first events old step explains ∙ reason))
+          (other_step, told.leaves) told.leaves made counted (λ reply is. cc) (λ is. cc) told.did_is (λ is. refl))
           (notes.outcomes ∙ ap (λ os. os ++ outcomes.Applied ∷ []) sets.outcomes)
           (notes.records ∙ ap (λ rs. rs ++ e.entry ∷ []) sets.records)
-          (notes.disk ∙ sets.disk)
-          (λ other. rw (after (length events + 1) table)
-          (matches_set old new table number (next (length events + 1) (table number)) handle explains.handles
-          (table_noted old mid new number handle outcomes.Applied Nothing None sets notes) (matches (length events + 1) (table number) (explains.handles number)) other))
-          (λ other. rw (after (length events + 1) table)
-          (runs_set first events e table number (next (length events + 1) (table number)) explains.running (λ o apart. no_turn o)
-          (runs first events e (table number) refl no_turn (explains.running number)) other)),
+          (notes.disk ∙ (sets.disk ∙ sym (left_alone old.disk asked None told.leaves)))
+          (ap (λ (c : Vec History Global). c.items) (notes.cores ∙ sets.cores) ∙ told.cores_are)
+          (λ other. rw (after (length events + 1) asked table)
+          (matches_set old new table number (next (length events + 1) asked table) handle explains.handles
+          (table_noted (record old { cores = cores }) mid new number handle outcomes.Applied did None sets notes) (matches first events explains) other))
+          (λ other. rw (after (length events + 1) asked table)
+          (runs_set first events e table number (next (length events + 1) asked table) explains.running (λ o apart. no_turn o)
+          (runs first events e refl no_turn explains.running) other)),
     )
+
+-- the same of a step that asks for nothing
+pub applied : (old mid new : Course) (step : Step) (number : ℕ) (handle : Option Handle) (next : ℕ → Status → Status)
+    → why_not_now old step ≡ None → SetsHandle old mid number handle → Notes mid new outcomes.Applied Nothing None
+    → ¬ (IsTurn step) → ChangesAs step outcomes.Applied None → ((other : ℕ) → ¬ IsTurnOf other step)
+    → ((n : ℕ) (asked : Asked) (table : ℕ → Status) → status_after n step outcomes.Applied asked table ≡ with_status table number (next n (table number)))
+    → ((n : ℕ) (status : Status) → Matches status (handle_at old number) → Matches (next n status) handle)
+    → ((first : Volume) (events : List Event) (e : Event) (status : Status) → e.step ≡ step → ((other : ℕ) → ¬ IsTurnOf other e.step) → Runs first events number status
+    → Runs first (events ++ e ∷ []) number (next (length events + 1) status))
+    → ((events : List Event) → OfNothing ≡ asked_applied events step)
+    → Continues old step new
+applied old mid new step number handle next reason sets notes other_step made no_turn after matches runs nothing =
+    applied_at_core old mid new old.cores Nothing step number handle (λ n asked table. next n (table number)) reason
+    (record { table = sets.table; disk = sets.disk; cores = sets.cores; outcomes = sets.outcomes; records = sets.records })
+    notes other_step made no_turn after
+    (λ first events explains. matches (length events + 1) (status_of events number) (explains.handles number))
+    (λ first events e is others running. runs first events e (status_of events number) is others (running number))
+    (λ first events explains. record {
+      did_is = ap (did_of_asked None (cores_after events)) (nothing events);
+      cores_are = ap (cores_after_asked old.cores.items) (nothing events);
+      leaves = subst LeavesDisk (nothing events) tt;
+    })
 
 -- ---- a change
 
 -- the disk takes the change, and the step is noted
-pub changed : (old new : World) (disk : Volume) (change made : Change) → is_possible old.disk.state change ≡ true
+pub changed : (old new : Course) (disk : Volume) (change made : Change) → is_possible old.disk.state change ≡ true
     → disk ≡ after_outside_change old.disk change → made ≡ change
     → Notes (record old { disk = disk }) new outcomes.Applied Nothing (Some made) → Continues old (steps.Disk change) new
 changed old new disk change made possible after made_is notes first events explains =
@@ -188,15 +199,16 @@ changed old new disk change made possible after made_is notes first events expla
     let here : disk ≡ after_outside_change old.disk made = after ∙ ap (λ c. after_outside_change old.disk c) (sym made_is) in (
       outcomes.Applied,
       goes_on first events old new e explains
-          (law_quiet first events step outcomes.Applied (Some made) disk.calls.faults same (λ turn. turn, tt) (ap Some made_is) (ap (λ (d : Volume). d.calls.faults) now) (λ reply is. cc) (λ is. cc))
+          (law_apart first events step outcomes.Applied Nothing (Some made) disk.calls.faults OfNothing same (λ turn. turn, tt) tt (ap Some made_is)
+          (ap (λ (d : Volume). d.calls.faults) now) (λ reply is. cc) (λ is. cc) refl (λ is. refl))
           notes.outcomes notes.records
-          (notes.disk ∙ here)
+          (notes.disk ∙ here) (ap (λ (c : Vec History Global). c.items) notes.cores)
           (λ handle. subst (λ handles. Matches (status_of events handle) (handle_at (record new { handles = handles }) handle)) (sym notes.handles) (explains.handles handle))
           (λ handle. runs-push first events e handle (status_of events handle) (λ turn. cc) (explains.running handle)),
     )
 
 -- what is noted on a world whose disk was kept
-pub notes_kept : (old new : World) (disk : Volume) (outcome : Outcome) (did : Did) (change : Option Change) → disk ≡ old.disk
+pub notes_kept : (old new : Course) (disk : Volume) (outcome : Outcome) (did : Did) (change : Option Change) → disk ≡ old.disk
     → Notes (record old { disk = disk }) new outcome did change → Notes old new outcome did change
 notes_kept old new disk outcome did change same notes =
     subst (λ (d : Volume). Notes (record old { disk = d }) new outcome did change) same notes
@@ -204,7 +216,7 @@ notes_kept old new disk outcome did change same notes =
 -- ---- a run of steps
 
 -- one step more leads on
-pub IsRunOf-push : (first : Volume) (old new : World) (made : List Step) (step : Step) → Continues old step new → IsRunOf first made old
+pub IsRunOf-push : (first : Volume) (old new : Course) (made : List Step) (step : Step) → Continues old step new → IsRunOf first made old
     → IsRunOf first (made ++ step ∷ []) new
 IsRunOf-push first old new made step continues before =
     let goes : (outcome : Outcome) × GoesOn first before.events step outcome new = continues first before.events before.explains in
@@ -216,7 +228,7 @@ IsRunOf-push first old new made step continues before =
     }
 
 -- the same along a list of steps
-pub IsRunOf-more : (first : Volume) (old new : World) (step : Step) (steps : List Step) (index : ℕ) → index < length steps
+pub IsRunOf-more : (first : Volume) (old new : Course) (step : Step) (steps : List Step) (index : ℕ) → index < length steps
     → step ≡ get_or steps index step → Continues old step new
     → IsRunOf first (take index steps) old → IsRunOf first (take (index + 1) steps) new
 IsRunOf-more first old new step steps index within is continues before =

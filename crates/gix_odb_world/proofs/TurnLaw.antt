@@ -13,17 +13,17 @@ use Rattle.gix_odb_calls.specs.declared.step.Outcome.TheVariants as outcomes
 use Rattle.gix_odb_calls.specs.declared.call.Reply.{Reply}
 use Rattle.gix_odb.specs.declared.handle_state.HandleState.{HandleState}
 use Rattle.gix_odb_world.specs.declared.work.Work.{Work}
-use Rattle.gix_odb_world.specs.declared.world.World.{World}
+use Rattle.gix_odb_world.specs.declared.course.Course.{Course}
 use Rattle.gix_odb_world.specs.Bound.{bound_of_task}
 use Rattle.gix_odb_world.specs.Event.{Ask, Asked, OfNothing, Event, answered}
-use Rattle.gix_odb_world.specs.Status.{Free, Resting, Running, Status, Task, Working, come_to, refuses_opening, replied, status_of, turned}
+use Rattle.gix_odb_world.specs.Status.{Free, Resting, Running, Status, Task, Working, come_to, modes_after, refuses_opening, replied, status_of, turned}
 use Rattle.gix_odb_world.specs.Handle.{IsHandleOf}
-use Rattle.gix_odb_world.specs.Run.{change_asked, did_asked, did_of_asked, disk_after, disk_after_asked, told_now}
+use Rattle.gix_odb_world.specs.Run.{Stand, change_asked, did_asked, did_of_asked, disk_after, disk_after_asked, told_now}
 use Rattle.gix_odb_world.specs.Begun.{BegunAs}
 use Rattle.gix_odb_world.specs.Recorded.{opened_in}
 use Rattle.gix_odb_world.specs.Running.{Runs}
 use Rattle.gix_odb_world.specs.Valid.{phase_of, why_not_running, misuse_of}
-use Rattle.gix_odb_world.specs.Headline.{FailsAsListed, Law, Turns, Works, outcome_of}
+use Rattle.gix_odb_world.specs.Headline.{FailsAsListed, Law, Turns, Works, outcome_of, stand_of}
 use Rattle.gix_odb_world.specs.Changes.{ChangesAs, ChangesAsAsked}
 use Rattle.gix_odb_world.specs.Promise.{Promise}
 use Rattle.gix_odb_world.specs.Machines.{ask_in, fed_in}
@@ -44,6 +44,10 @@ misuse_of-turn : (result : Result Reply Work) → misuse_of (outcome_of result) 
 misuse_of-turn (Ok reply) = refl
 misuse_of-turn (Err work) = refl
 
+not_applied : (result : Result Reply Work) → ¬ (outcome_of result ≡ outcomes.Applied)
+not_applied (Ok reply) is = cc is
+not_applied (Err work) is = cc is
+
 changes_turn : (number : ℕ) (result : Result Reply Work) (change : Option Change) → ChangesAs (steps.Turn number) (outcome_of result) change
 changes_turn number (Ok reply) change = tt
 changes_turn number (Err work) change = tt
@@ -53,7 +57,7 @@ abbrev OfWork : (Running → Type 0) → Status → Type 0
 OfWork P (Working running) = P running
 OfWork P status = Unit {0}
 
-module _ (first : Volume) (events : List Event) (old : World) (number : ℕ) (running : Running) (explains : Explains first events old) (status : status_of events number ≡ Working running) where
+module _ (first : Volume) (events : List Event) (old : Course) (number : ℕ) (running : Running) (explains : Explains first events old) (status : status_of events number ≡ Working running) where
   pub runs : Runs first events number (Working running)
   runs = subst (Runs first events number) status (explains.running number)
 
@@ -72,8 +76,11 @@ module _ (first : Volume) (events : List Event) (old : World) (number : ℕ) (ru
   abbrev pub opened : Option Path
   opened = opened_in running.work
 
+  abbrev pub at : Stand
+  at = stand_of events number running
+
   abbrev pub told : Asked
-  told = told_now old.disk ask
+  told = told_now at old.disk ask
 
   abbrev pub made : Option Change
   made = change_asked old.disk ask
@@ -84,35 +91,37 @@ module _ (first : Volume) (events : List Event) (old : World) (number : ℕ) (ru
 
   module _ (tree : IsTree (tree_of old.disk.state)) (faults : ℕ) (counted : faults ≡ (disk_after_asked old.disk told made).calls.faults) where
     abbrev pub event : Event
-    event = record { step = steps.Turn number; outcome = outcome_of after; entry = record { did = did_of_asked opened told; change = made; faults = faults }; asked = told }
+    event = record { step = steps.Turn number; outcome = outcome_of after; entry = record { did = did_of_asked opened at.cores told; change = made; faults = faults }; asked = told }
 
     abbrev pub whole : List Event
     whole = events ++ event ∷ []
 
-    did_is : event.entry.did ≡ did_asked opened (disk_after first events) ask
-    did_is = did_told opened old.disk ask ∙ ap (λ d. did_asked opened d ask) explains.disk
+    did_is : event.entry.did ≡ did_asked opened at (disk_after first events) ask
+    did_is = did_told opened at old.disk ask ∙ ap (λ d. did_asked opened at d ask) explains.disk
 
-    told_is : event.asked ≡ told_now (disk_after first events) ask
-    told_is = ap (λ d. told_now d ask) explains.disk
+    told_is : event.asked ≡ told_now at (disk_after first events) ask
+    told_is = ap (λ d. told_now at d ask) explains.disk
 
     change_is : event.entry.change ≡ change_asked (disk_after first events) ask
     change_is = ap (λ d. change_asked d ask) explains.disk
 
-    turn_is : IsTurnAsking first events event number ask
-    turn_is = turn_asking first events event number opened ask refl did_is told_is change_is (subst (λ (d : Volume). IsTree (tree_of d.state)) explains.disk tree)
+    turn_is : IsTurnAsking first events event number running ask
+    turn_is = turn_asking first events event number running opened ask refl did_is told_is change_is (subst (λ (d : Volume). IsTree (tree_of d.state)) explains.disk tree)
 
     abbrev pub WorkNow : Result Reply Work → Type 0
-    WorkNow result = ComesTo first events event number running result
+    WorkNow result = ComesTo first events event number running told result
 
     pub come : WorkNow after
-    come = subst (λ d. WorkNow (fed_in running.store running.work (answered (told_now d ask)))) (sym explains.disk) (come_of first events event number running runs.0 running.work runs.1 turn_is)
+    come =
+        subst (λ d. ComesTo first events event number running (told_now at d ask) (fed_in running.store running.work (answered (told_now at d ask)))) (sym explains.disk)
+        (come_of first events event number running runs.0 running.work runs.1 turn_is)
 
     -- ---- its law
 
     -- one in which nothing was asked has its reply
     ended : told ≡ OfNothing → (reply : Reply) × (after ≡ Ok reply)
     ended nothing =
-        let end = end_of first events number running running.work runs.1 (told_nothing old.disk ask nothing) in
+        let end = end_of first events number running running.work runs.1 (told_nothing at old.disk ask nothing) in
         (end.0, ap (λ a. fed_in running.store running.work (answered a)) nothing ∙ end.1)
 
     promised : (result : Result Reply Work) → WorkNow result → (reply : Reply) → outcome_of result ≡ outcomes.Reply reply
@@ -163,9 +172,10 @@ module _ (first : Volume) (events : List Event) (old : World) (number : ℕ) (ru
           valid = misuse_of-turn after ∙ ap (λ s. why_not_running (phase_of s)) (sym status);
           suits = suits_turn number after told ended;
           change = changes_turn number after event.entry.change;
-          failed = subst (FailsAsListed (disk_after first events)) (sym told_is) (fails_listed (disk_after first events) ask);
+          failed = subst (FailsAsListed (disk_after first events)) (sym told_is) (fails_listed at (disk_after first events) ask);
           faults = counted ∙ (ap (λ d. (disk_after_asked d told made).calls.faults) explains.disk ∙ ap (λ (d : Volume). d.calls.faults) (sym (disk_after-push first events event)));
           did = (opened, refl);
+          applied = λ is. absurd (not_applied after is);
           worked = of_turn (λ h r. Works first events h r event) works;
           promise = λ handle other task reply turns_it began is.
               of_turn (λ h r. (k : Task) → BegunAs events h r.begun r.store k → (o : Reply) → outcome_of after ≡ outcomes.Reply o → Promise first whole h r.store r.modes r.begun k o)
@@ -178,20 +188,20 @@ module _ (first : Volume) (events : List Event) (old : World) (number : ℕ) (ru
     -- ---- the handle after it
 
     abbrev pub status_next : Result Reply Work → Status
-    status_next (Ok reply) = replied reply (Working running)
+    status_next (Ok reply) = replied told reply (Working running)
     status_next (Err left) = turned told (Working running)
 
-    matches_rest : (state : HandleState) → IsHandleOf running.store running.modes state → (frees : Bool)
-        → Matches (if frees then Free else Resting running.store running.modes) (if frees then None else Some (record { state = state; work = None }))
+    matches_rest : (state : HandleState) → IsHandleOf running.store (modes_after told running.modes) state → (frees : Bool)
+        → Matches (if frees then Free else Resting running.store (modes_after told running.modes)) (if frees then None else Some (record { state = state; work = None }))
     matches_rest state own true = tt
     matches_rest state own false = (own, refl)
 
-    pub matches_next : (state : HandleState) → IsHandleOf running.store running.modes state → (result : Result Reply Work) → after ≡ result
+    pub matches_next : (state : HandleState) → IsHandleOf running.store (modes_after told running.modes) state → (result : Result Reply Work) → after ≡ result
         → Matches (status_next result) (after_turn state result)
     matches_next state own (Ok reply) is = matches_rest state own (refuses_opening reply)
-    matches_next state own (Err left) is = subst (λ r. Matches (come_to running r) (Some (record { state = state; work = Some left }))) (sym is) (own, refl)
+    matches_next state own (Err left) is = subst (λ r. Matches (come_to told running r) (Some (record { state = state; work = Some left }))) (sym is) (own, refl)
 
-    runs_rest : (frees : Bool) → Runs first whole number (if frees then Free else Resting running.store running.modes)
+    runs_rest : (frees : Bool) → Runs first whole number (if frees then Free else Resting running.store (modes_after told running.modes))
     runs_rest true = tt
     runs_rest false = tt
 
@@ -201,4 +211,4 @@ module _ (first : Volume) (events : List Event) (old : World) (number : ℕ) (ru
         let count : length whole ≡ length events + 1 = length_push events event in
         let begun : running.begun ≤ length events = runs.0 in
         let later : running.begun ≤ length whole = omega (arith, count, begun) in
-        subst (λ r. Runs first whole number (come_to running r)) (sym is) (later, now.0)
+        subst (λ r. Runs first whole number (come_to told running r)) (sym is) (later, now.0)

@@ -10,7 +10,7 @@ use Rattle.gix_odb_loose.specs.LooseOrder.{disk_ask_of}
 use Rattle.gix_odb_loose.specs.LooseOrder as loose_order
 use Rattle.gix_odb_loose.specs.declared.call.LooseCall.{LooseCall}
 use Rattle.gix_odb_world.specs.declared.work.Work.{Work}
-use Rattle.gix_odb_world.specs.Event.{Answer, Event, FromDisk, ToDisk, from_disk, to_disk}
+use Rattle.gix_odb_world.specs.Event.{Answer, Event, FromDisk, ToDisk, to_disk}
 use Rattle.gix_odb_world.specs.Handle.{IsHandleOf}
 use Rattle.gix_odb_world.specs.Machine.{At, Machine, placed}
 use Rattle.gix_odb_world.specs.Machines.{at, ask_in, fed_in, write_in}
@@ -18,7 +18,7 @@ use Rattle.gix_odb_world.specs.Run.{change_by, disk_after}
 use Rattle.gix_odb_world.specs.Running.{Knows}
 use Rattle.gix_odb_world.specs.Running.Write.{IsWriting}
 use Rattle.gix_odb_world.specs.Status.{Running, Store, Modes}
-use Rattle.gix_odb_world.specs.WorkOrder.{ask_on, fed_after, result_in}
+use Rattle.gix_odb_world.specs.WorkOrder.{asks_on, fed_after, result_in}
 use Rattle.gix_odb_world.proofs.MachineLaws.{HasNoFile}
 use Rattle.gix_odb_world.proofs.Machines.{laws_at}
 
@@ -26,12 +26,12 @@ use Rattle.gix_odb_world.proofs.Machines.{laws_at}
 
 -- the code of a handle asks what the work names
 pub code_asks : (store : Store) (modes : Modes) (code : HandleState) → IsHandleOf store modes code → (work : Work)
-    → to_disk (ask_on code work) ≡ ask_in store work
-code_asks store modes code own work = ap (λ w. to_disk (ask_on code w)) (sym (at work).is) ∙ (laws_at work).asks store modes code own (at work).state
+    → asks_on code work ≡ ask_in store work
+code_asks store modes code own work = ap (asks_on code) (sym (at work).is) ∙ (laws_at work).asks store modes code own (at work).state
 
 -- and goes on as the work does
-pub code_feeds : (store : Store) (modes : Modes) (code : HandleState) → IsHandleOf store modes code → (work : Work) (answer : Option DiskAnswer)
-    → result_in (fed_after code work answer) ≡ fed_in store work (from_disk answer)
+pub code_feeds : (store : Store) (modes : Modes) (code : HandleState) → IsHandleOf store modes code → (work : Work) (answer : Option Answer)
+    → result_in (fed_after code work answer) ≡ fed_in store work answer
 code_feeds store modes code own work answer =
     ap (λ w. result_in (fed_after code w answer)) (sym (at work).is) ∙ (laws_at work).feeds store modes code own (at work).state answer
 

@@ -6,7 +6,8 @@ use Rattle.std.proofs.lemmas.List.{take-append-le, length_push}
 use Rattle.odb_disk.specs.MemDisk.{Volume}
 use Rattle.odb_tree.specs.Tree.{IsTree, tree_of}
 use Rattle.gix_odb_world.specs.declared.handle.Handle.{Handle}
-use Rattle.gix_odb_world.specs.declared.world.World.{World}
+use Rattle.gix_odb_world.specs.declared.course.Course.{Course}
+use Rattle.gix_odb_world.specs.Cores.{cores_after}
 use Rattle.gix_odb_world.specs.Event.{Event}
 use Rattle.gix_odb_world.specs.Status.{Status, status_of, statuses_from, with_status}
 use Rattle.gix_odb_world.specs.Run.{disk_after}
@@ -20,14 +21,15 @@ throughout_none first zero handle = tt
 throughout_none first (suc now) handle = tt
 
 -- nothing has happened in a world with no handles and no outcomes
-pub explains_none : (world : World) → IsTree (tree_of world.disk.state) → world.handles.entries ≡ [] → world.outcomes ≡ [] → world.records ≡ []
+pub explains_none : (world : Course) → IsTree (tree_of world.disk.state) → world.handles.entries ≡ [] → world.cores.items ≡ [] → world.outcomes ≡ [] → world.records ≡ []
     → Explains world.disk [] world
-unfolding disk_after statuses_from
-explains_none world is_tree handles outcomes records =
+unfolding disk_after statuses_from cores_after
+explains_none world is_tree handles cores outcomes records =
     record {
       outcomes = sym outcomes;
       records = sym records;
       disk = refl;
+      cores = cores;
       handles = λ handle. rw handles tt;
       running = λ handle. tt;
       lawful = IsLawful-none world.disk;
@@ -39,7 +41,7 @@ matches_either : (b : Bool) (s t : Status) (h k : Option Handle) → Matches s h
 matches_either true s t h k here there = here
 matches_either false s t h k here there = there
 
-pub matches_set : (old new : World) (table : ℕ → Status) (number : ℕ) (status : Status) (handle : Option Handle)
+pub matches_set : (old new : Course) (table : ℕ → Status) (number : ℕ) (status : Status) (handle : Option Handle)
     → ((other : ℕ) → Matches (table other) (handle_at old other))
     → ((other : ℕ) → handle_at new other ≡ (if other == number then handle else handle_at old other)) → Matches status handle
     → (other : ℕ) → Matches (with_status table number status other) (handle_at new other)

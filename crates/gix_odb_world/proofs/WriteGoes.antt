@@ -21,7 +21,7 @@ use Rattle.gix_odb_world.specs.Bound.{bound_of_task, default_changes, laps_witho
 use Rattle.gix_odb.specs.CallOrder.{hash_to_write, result_of_write}
 use Rattle.gix_odb.specs.Contents.{folder_list}
 use Rattle.gix_odb_world.specs.AtWork.{nothing_in_front}
-use Rattle.gix_odb_world.specs.Event.{Event}
+use Rattle.gix_odb_world.specs.Event.{Event, OfDisk}
 use Rattle.gix_odb_world.specs.Status.{MakeCall, Running, gone_on}
 use Rattle.gix_odb_world.specs.Promise.{Promise}
 use Rattle.gix_odb_world.specs.Run.{disk_after}
@@ -57,7 +57,7 @@ module _ (first : Volume) (events : List Event) (e : Event) (handle : ℕ) (runn
 
     -- a write that goes on has had a turn of its own more, and not too many
     pub record StageComes (next : LooseCall) : Type 0 where
-      pub now : IsWriting first whole handle (gone_on running (Calling (Writing next))) next
+      pub now : IsWriting first whole handle (gone_on (OfDisk (ask_at_stage w writes.stage) (answer_now (disk_after first events) (ask_at_stage w writes.stage))) running (Calling (Writing next))) next
       pub same : now.write ≡ w
       pub had : now.own ≡ writes.own + 1
       pub few : writes.own + 1 ≤ calls_beside_pieces + pieces_of (length w.bytes)
@@ -114,7 +114,8 @@ module _ (first : Volume) (events : List Event) (e : Event) (handle : ℕ) (runn
         subst (λ task. Promise first whole handle running.store running.modes running.begun task reply) (sym at.task)
         (subst (λ objects. PromiseOfWrite first whole handle running.begun (to_write objects own.write.kind own.write.size own.write.bytes own.write.known) reply) own.into p)
 
-    comes_to : (result : Result Reply LooseCall) → WriteComes call own result → laws.MachineComes first events e handle running writing result
+    comes_to : (result : Result Reply LooseCall) → WriteComes call own result
+        → laws.MachineComes first events e handle running writing (OfDisk (ask_at_stage own.write own.stage) (answer_now (disk_after first events) (ask_at_stage own.write own.stage))) result
     comes_to (Ok reply) p = keeps reply p
     comes_to (Err next) on =
         let had = at.turns in
@@ -124,5 +125,6 @@ module _ (first : Volume) (events : List Event) (e : Event) (handle : ℕ) (runn
         )
 
     pub write_comes : IsTurnWith first events e handle (ask_at_stage own.write own.stage)
-        → laws.MachineComes first events e handle running writing (result_of_write (loose_order.fed call (answer_now (disk_after first events) (ask_at_stage own.write own.stage))))
+        → laws.MachineComes first events e handle running writing (OfDisk (ask_at_stage own.write own.stage) (answer_now (disk_after first events) (ask_at_stage own.write own.stage)))
+        (result_of_write (loose_order.fed call (answer_now (disk_after first events) (ask_at_stage own.write own.stage))))
     write_comes is = comes_to (result_of_write (loose_order.fed call (answer_now (disk_after first events) (ask_at_stage own.write own.stage)))) (write_goes call own is)

@@ -16,7 +16,7 @@ use Rattle.gix_odb.specs.declared.call_state.CallState.TheVariants.{Writing}
 use Rattle.gix_odb.specs.declared.handle_state.HandleState.{HandleState}
 use Rattle.gix_odb_world.specs.declared.work.Work.TheVariants.{Calling}
 use Rattle.gix_odb_world.specs.AtWork.{nothing_in_front, Modes}
-use Rattle.gix_odb_world.specs.Event.{Event, from_disk, to_disk}
+use Rattle.gix_odb_world.specs.Event.{Answer, Event, FromCore, FromDisk, OfDisk, to_disk}
 use Rattle.gix_odb_world.specs.Machine.{placed}
 use Rattle.gix_odb_world.specs.Run.{disk_after}
 use Rattle.gix_odb_world.specs.Running.Write.{IsAtOwnWrite, IsWriting, writing}
@@ -34,10 +34,11 @@ write_placed : (result : Result Reply LooseCall) → calling_result (writing_res
 write_placed (Ok reply) = refl
 write_placed (Err call) = refl
 
-write_feeds : (store : Store) (code : HandleState) (call : LooseCall) (answer : Option DiskAnswer)
-    → result_in (fed_after code (Calling (Writing call)) answer) ≡ placed writing (writing.feed store call (from_disk answer))
+write_feeds : (store : Store) (code : HandleState) (call : LooseCall) (answer : Option Answer)
+    → result_in (fed_after code (Calling (Writing call)) answer) ≡ placed writing (writing.feed store call answer)
 write_feeds store code call None = write_placed (result_of_write call)
-write_feeds store code call (Some answer) = write_placed (result_of_write (loose_order.fed call answer))
+write_feeds store code call (Some (FromCore answer)) = write_placed (result_of_write call)
+write_feeds store code call (Some (FromDisk answer)) = write_placed (result_of_write (loose_order.fed call answer))
 
 -- a state at which a task begins is that of its write
 write_starts : (first : Volume) (events : List Event) (e : Event) (handle : ℕ) (store : Store) (modes : Modes) (task : Task) (call : LooseCall)
@@ -70,9 +71,10 @@ module _ (first : Volume) (events : List Event) (handle : ℕ) (running : Runnin
       }))
 
   machine_comes : (e : Event) → running.begun ≤ length events → IsTurnWith first events e handle ask
-      → MachineComes first events e handle running writing (result_of_write (loose_order.fed call (answer_now (disk_after first events) ask)))
+      → MachineComes first events e handle running writing (OfDisk ask (answer_now (disk_after first events) ask)) (result_of_write (loose_order.fed call (answer_now (disk_after first events) ask)))
   machine_comes e since turn =
-      subst (λ a. IsTurnWith first events e handle a → MachineComes first events e handle running writing (result_of_write (loose_order.fed call (answer_now (disk_after first events) a)))) same_ask
+      subst (λ a. IsTurnWith first events e handle a → MachineComes first events e handle running writing (OfDisk a (answer_now (disk_after first events) a))
+      (result_of_write (loose_order.fed call (answer_now (disk_after first events) a)))) same_ask
       (λ stage_turn. write_comes first events e handle running since call knows stage_turn) turn
 
 -- ---- its laws

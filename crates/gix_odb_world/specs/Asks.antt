@@ -1,5 +1,5 @@
--- Which call of the disk a turn makes, by the task of its handle and the turns that its work has had before.
-use Rattle.std.specs.Prelude.{◌≡◌, ℕ, ◌+◌, ◌*◌, ◌<◌, true, List, length, slice_get, Option, Some, None}
+-- Which call of the disk or event of a core a turn makes, by the task of its handle and the turns that its work has had before.
+use Rattle.std.specs.Prelude.{◌≡◌, ℕ, ◌+◌, ◌*◌, ◌<◌, ◌≤◌, true, List, length, slice_get, Option, Some, None}
 use Rattle.odb_base.specs.Path.{Path}
 use Rattle.odb_disk.specs.MemDisk.{Volume}
 use Rattle.odb_disk.specs.declared.ask.DiskAsk.{DiskAsk}
@@ -12,8 +12,9 @@ use Rattle.gix_odb_loose.specs.WritePieces.{piece_size}
 use Rattle.gix_odb_calls.specs.declared.call.Call.TheVariants as calls
 use Rattle.gix_odb_calls.specs.declared.query.Query.TheVariants.{Find, Header, Test}
 use Rattle.gix_odb.specs.Contents.{folder_list, sought}
+use Rattle.gix_odb.specs.OpenOrder.{most_slots}
 use Rattle.gix_odb_world.specs.AtWork.{nothing_in_front, Modes}
-use Rattle.gix_odb_world.specs.Event.{Ask, CoreEvent, Event, ToCore, ToDisk}
+use Rattle.gix_odb_world.specs.Event.{Ask, CoreEvent, Event, ToCore, ToDisk, ToNewCore}
 use Rattle.gix_odb_world.specs.Status.{Store, MakeCall, OpenStore, Task}
 use Rattle.gix_odb_world.specs.Writing.{DoneSince, ToWrite, name_to_write, to_write}
 
@@ -51,7 +52,7 @@ pub data AsksToWrite (first : Volume) (past : List Event) (handle begun own : �
       → AsksToWrite first past handle begun own w (asks.Remove (temp_path w.objects number))
 
 -- What a turn asks, where its handle has had so many turns since the step that set its task: an opening looks at the objects
--- directory; a find and a header read, and a test looks at, the loose path of the sought id in the folder of that number. Nothing
+-- directory in its first; a find and a header read, and a test looks at, the loose path of the sought id in the folder of that number. Nothing
 -- comes in front of a query or a write here.
 abbrev pub AsksInOrder : Volume → List Event → (handle : ℕ) → Store → (modes : Modes) → (begun turns : ℕ) → Task → DiskAsk → Type 0
 AsksInOrder first past handle store modes begun turns OpenStore ask = (turns ≡ 0) × (ask ≡ asks.Look store.parts.objects true)
@@ -63,6 +64,12 @@ AsksInOrder first past handle store modes begun turns (MakeCall (calls.Test id))
     AsksBehind nothing_in_front turns (λ own. AsksFolder store own (λ folder. asks.Look (loose_path folder (sought store.parts modes.ignoring (Test id))) true) ask)
 AsksInOrder first past handle store modes begun turns (MakeCall (calls.Write kind size bytes known)) ask =
     AsksBehind nothing_in_front turns (λ own. AsksToWrite first past handle begun own (to_write store.parts.objects kind size bytes known) ask)
+
+-- How many slots and folders a task may ask for in a core for its store: an opening asks for those of the store, in its second turn.
+abbrev pub MayAskNewCore : Store → (turns : ℕ) → Task → (slots folders : ℕ) → Type 0
+MayAskNewCore store turns OpenStore slots folders =
+    (turns ≡ 1) × (slots ≡ store.slots) × (slots ≤ most_slots) × (folders ≡ length (folder_list store.parts))
+MayAskNewCore store turns (MakeCall call) slots folders = ⊥
 
 -- Whether a task may end in a turn that asks for nothing, since its work has ended before it asks: none of these does.
 abbrev pub MayEndUnasked : Task → Type 0
@@ -79,3 +86,4 @@ abbrev pub AsksAsTask : Volume → List Event → (handle : ℕ) → Store → (
 AsksAsTask first past handle store modes begun turns task None = MayEndUnasked task
 AsksAsTask first past handle store modes begun turns task (Some (ToDisk ask)) = AsksInOrder first past handle store modes begun turns task ask
 AsksAsTask first past handle store modes begun turns task (Some (ToCore event)) = MayAskCore task event
+AsksAsTask first past handle store modes begun turns task (Some (ToNewCore slots folders)) = MayAskNewCore store turns task slots folders

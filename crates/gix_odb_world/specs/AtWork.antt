@@ -1,7 +1,11 @@
 -- What a handle is at: a task in a store, and the work that is left of it.
-use Rattle.std.specs.Prelude.{ℕ, Bool, true, false}
+use Rattle.std.specs.Prelude.{ℕ, Bool, true, false, Option, None}
+use Rattle.gix_odb_core.specs.declared.view.View.{View}
 use Rattle.gix_odb.specs.Contents.{StoreData}
 use Rattle.gix_odb_calls.specs.declared.call.Call.{Call}
+use Rattle.gix_odb_core.specs.Replay.{view_in}
+use Rattle.gix_odb_world.specs.Cores.{or_before}
+use Rattle.gix_odb_world.specs.Event.{Asked, OfCore, OfDisk, OfNewCore, OfNothing}
 use Rattle.gix_odb_world.specs.declared.work.Work.{Work}
 
 -- a store that was opened, or whose opening runs: the number of its open step, its slots, and its parts
@@ -19,17 +23,28 @@ pub data Task : Type 0 where
 abbrev pub nothing_in_front : ℕ
 nothing_in_front = 0
 
--- the modes of a handle: whether it ignores replacements; a further mode is one more field
+-- What a handle has of its own: its modes, which are whether it ignores replacements, and a further mode is one more field; and of the
+-- core of its store the core's number, and its snapshot, which is the view that the core last handed over to it. Before its opening
+-- registered it there it has number 0 and no snapshot.
 pub record Modes : Type 0 where
   pub ignoring : Bool
+  pub core : ℕ
+  pub view : Option View
 
 -- those of a handle whose store is opened
 abbrev pub modes_at_opening : Modes
-modes_at_opening = record { ignoring = false }
+modes_at_opening = record { ignoring = false; core = 0; view = None }
 
 -- those of a handle that ignores replacements from now on
 abbrev pub now_ignoring : Modes → Modes
 now_ignoring modes = record modes { ignoring = true }
+
+-- those after an event that asked so
+abbrev pub modes_after : Asked → Modes → Modes
+modes_after OfNothing modes = modes
+modes_after (OfDisk ask answer) modes = modes
+modes_after (OfCore store seat event answer) modes = record modes { view = or_before (view_in answer) modes.view }
+modes_after (OfNewCore slots folders store seat answer) modes = record modes { core = store; view = or_before (view_in answer) modes.view }
 
 -- What a handle is at: a task in a store, set by the event that has the number `begun`, with so many turns taken, and the work that
 -- is left of it; and the modes of the handle.

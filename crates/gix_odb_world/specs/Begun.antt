@@ -1,5 +1,5 @@
 -- From which steps a handle has its task, its store and its mode, and how many turns it took since.
-use Rattle.std.specs.Prelude.{◌≡◌, ◌↔◌, ℕ, ◌+◌, ◌≤◌, Bool, true, false, ◌==◌, List, count_by, drop, slice_get, Some}
+use Rattle.std.specs.Prelude.{◌≡◌, ◌⊎◌, take, ◌↔◌, ℕ, ◌+◌, ◌≤◌, Bool, true, false, ◌==◌, List, count_by, drop, slice_get, Some}
 use Rattle.odb_base.specs.Path.{Path}
 use Rattle.gix_hash.specs.declared.object_id.ObjectId.{ObjectId}
 use Rattle.gix_odb_calls.specs.declared.call.Call.{Call}
@@ -47,13 +47,16 @@ BegunAs events handle begun store (MakeCall call) = BegunBy events handle begun 
 
 -- ---- the latest steps of a handle
 
+-- a step that begins a handle: it opens a store, or is a clone
 abbrev pub IsOpenOf : (handle : ℕ) → Step → Type 0
 IsOpenOf handle (steps.Open other path folders replacements options) = other ≡ handle
+IsOpenOf handle (steps.Clone other from) = other ≡ handle
 IsOpenOf handle step = ⊥
 
--- a step that sets a task of a handle: it opens a store, or starts a call
+-- a step that sets what a handle is at: it opens a store, is a clone, or starts a call
 abbrev pub IsTaskOf : (handle : ℕ) → Step → Type 0
 IsTaskOf handle (steps.Open other path folders replacements options) = other ≡ handle
+IsTaskOf handle (steps.Clone other from) = other ≡ handle
 IsTaskOf handle (steps.Start other call) = other ≡ handle
 IsTaskOf handle step = ⊥
 
@@ -74,12 +77,22 @@ pub record AppliedSince (P : Step → Type 0) (events : List Event) (number : �
   pub applied : event.outcome ≡ outcomes.Applied
   pub step : P event.step
 
--- A store is that of the latest open step of a handle, and the modes are those of the steps since: it ignores replacements from an
--- `Ignore` step on.
-pub record HoldsStore (events : List Event) (handle : ℕ) (store : Store) (modes : Modes) : Type 0 where
-  pub step : IsOpenStore events handle store
-  pub latest : NoneSince (IsOpenOf handle) events store.opened
-  pub ignoring : (modes.ignoring ≡ true) ↔ AppliedSince (IsIgnoreOf handle) events store.opened
+-- A handle has its store by the latest step that began it: by its open step, or as a clone of a handle that had the store then. Its modes
+-- are those of the steps since: it ignores replacements from an `Ignore` step on, and a clone of a handle that ignored them does too.
+pub data Holds (store : Store) : List Event → (handle : ℕ) → (modes : Modes) → Type 0 where
+  FromOpen : {events : List Event} {handle : ℕ} {modes : Modes} (step : IsOpenStore events handle store)
+      (latest : NoneSince (IsOpenOf handle) events store.opened)
+      (ignoring : (modes.ignoring ≡ true) ↔ AppliedSince (IsIgnoreOf handle) events store.opened)
+      → Holds store events handle modes
+  FromClone : {events : List Event} {handle : ℕ} {modes : Modes} (from place : ℕ) (event : Event) (parent : Modes)
+      (there : slice_get events place ≡ Some event) (applied : event.outcome ≡ outcomes.Applied)
+      (clones : event.step ≡ steps.Clone handle from) (held : Holds store (take place events) from parent)
+      (latest : NoneSince (IsOpenOf handle) events (place + 1))
+      (ignoring : (modes.ignoring ≡ true) ↔ ((parent.ignoring ≡ true) ⊎ AppliedSince (IsIgnoreOf handle) events (place + 1)))
+      → Holds store events handle modes
+
+abbrev pub HoldsStore : List Event → (handle : ℕ) → Store → (modes : Modes) → Type 0
+HoldsStore events handle store modes = Holds store events handle modes
 
 -- ---- the turns of a handle
 

@@ -17,7 +17,7 @@ use Rattle.gix_odb_calls.specs.declared.step.Step.{Step}
 use Rattle.gix_odb_calls.specs.declared.step.Step.TheVariants as steps
 use Rattle.gix_odb_calls.specs.declared.step.Outcome.{Outcome}
 use Rattle.gix_odb_calls.specs.declared.step.Outcome.TheVariants as outcomes
-use Rattle.gix_odb_world.specs.Event.{Ask, Event, ToCore, ToDisk}
+use Rattle.gix_odb_world.specs.Event.{Ask, Event, ToCore, ToDisk, ToNewCore}
 use Rattle.gix_odb_world.specs.Status.{Store, MakeCall, Task}
 use Rattle.gix_odb_world.specs.Run.{disk_after}
 use Rattle.gix_odb_world.specs.Writing.{DoneSince, ToWrite, name_to_write, to_write}
@@ -68,3 +68,4 @@ abbrev pub ChangesAsAsked : Volume → List Event → (handle : ℕ) → Store �
 ChangesAsAsked first past handle store begun task None change = change ≡ None
 ChangesAsAsked first past handle store begun task (Some (ToDisk ask)) change = ChangesInTask first past handle store begun task ask change
 ChangesAsAsked first past handle store begun task (Some (ToCore event)) change = change ≡ None
+ChangesAsAsked first past handle store begun task (Some (ToNewCore slots folders)) change = change ≡ None

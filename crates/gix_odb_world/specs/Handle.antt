@@ -1,5 +1,5 @@
 -- How a handle of the code stands for a store.
-use Rattle.std.specs.Prelude.{◌≡◌, false, List}
+use Rattle.std.specs.Prelude.{◌≡◌, false, List, None}
 use Rattle.std.specs.BTreeMap.{IsFromIterResult}
 use Rattle.odb_base.specs.Path.{Path}
 use Rattle.gix_hash.specs.declared.object_id.ObjectId.{ObjectId}
@@ -19,6 +19,8 @@ pub record IsOpened (objects : Path) (folders : List Path) (replacements : List 
   pub ignoring : handle.ignore_replacements ≡ false
   pub limit : handle.store.value.alloc_limit_bytes ≡ options.alloc_limit_bytes
   pub slots : handle.store.value.slots ≡ given_slots options.slots
+  pub core : handle.core ≡ 0
+  pub view : handle.view ≡ None
 
 -- the handle is one of the store, in these modes
 pub record IsHandleOf (store : Store) (modes : Modes) (handle : HandleState) : Type 0 where
@@ -28,3 +30,5 @@ pub record IsHandleOf (store : Store) (modes : Modes) (handle : HandleState) : T
   pub ignoring : handle.ignore_replacements ≡ modes.ignoring
   pub limit : handle.store.value.alloc_limit_bytes ≡ store.parts.limit
   pub slots : handle.store.value.slots ≡ store.slots
+  pub core : handle.core ≡ modes.core
+  pub view : handle.view ≡ modes.view

@@ -2,10 +2,15 @@
 -- what is found was held by the store's files, a not-found means that no sound object lay still, a write names its
 -- object last and changes nothing else of the tree than five changes tell, each call ends within its bound, and each
 -- error has its cause.
-use Rattle.std.specs.Prelude.{◌≡◌, ℕ, ◌+◌, ◌<◌, List, [], ◌∷◌, ◌++◌, map, length, take, slice_get, Option, Some, Result, Ok, Err}
+use Rattle.std.specs.Prelude.{◌≡◌, false, ℕ, All, ◌+◌, ◌<◌, List, [], ◌∷◌, ◌++◌, map, length, take, slice_get, Option, Some, Result, Ok, Err}
 use Rattle.odb_base.specs.Path.{Path}
 use Rattle.odb_disk.specs.Ask.{fails_now}
 use Rattle.odb_disk.specs.MemDisk.{Volume}
+use Rattle.gix_odb_core.specs.History.{History}
+use Rattle.gix_odb_core.specs.Journal.{entries_of}
+use Rattle.gix_odb_core.specs.Possible.{IsComplete, IsOpened, IsPossible}
+use Rattle.gix_odb_core.specs.Replay.{IsLegal}
+use Rattle.gix_odb_core.specs.declared.event.Event.TheVariants as core_events
 use Rattle.gix_odb_calls.specs.declared.call.Reply.{Reply}
 use Rattle.gix_odb_calls.specs.declared.step.Step.{Step}
 use Rattle.gix_odb_calls.specs.declared.step.Step.TheVariants as steps
@@ -14,10 +19,13 @@ use Rattle.gix_odb_calls.specs.declared.step.Outcome.TheVariants as outcomes
 use Rattle.gix_odb_world.specs.declared.record.Did.{Did}
 use Rattle.gix_odb_world.specs.declared.record.Run.{Run}
 use Rattle.gix_odb_world.specs.declared.work.Work.{Work}
-use Rattle.gix_odb_world.specs.Event.{Ask, Asked, OfNothing, OfDisk, OfCore, Event, answered}
+use Rattle.gix_odb_world.specs.Event.{Ask, Asked, OfNothing, OfDisk, OfCore, OfNewCore, Event, answered}
+use Rattle.gix_odb_world.specs.Cores.{answer_behind, cores_after, history_at}
+use Rattle.gix_odb_world.specs.Entries.{TellsEachEntry}
 use Rattle.gix_odb_world.specs.Recorded.{opened_in}
-use Rattle.gix_odb_world.specs.Status.{Running, Task, Working, status_of}
-use Rattle.gix_odb_world.specs.Run.{change_asked, did_asked, did_of_asked, disk_after, has_failed, told_now, tree_at}
+use Rattle.gix_odb_world.specs.Seats.{HasSeat, RegistersOwn}
+use Rattle.gix_odb_world.specs.Status.{Resting, Running, Status, Task, Working, status_of}
+use Rattle.gix_odb_world.specs.Run.{Stand, change_asked, did_asked, did_of_asked, disk_after, has_failed, stand, told_now, tree_at}
 use Rattle.gix_odb_world.specs.Begun.{BegunAs, HoldsStore, IsTaskOf, NoneSince, turns_since}
 use Rattle.gix_odb_world.specs.Changes.{ChangesAs, ChangesAsAsked}
 use Rattle.gix_odb_world.specs.Undisturbed.{WritesStandAlone}
@@ -37,13 +45,15 @@ IsTurn step = ⊥
 abbrev pub AsksSomething : Asked → Type 0
 AsksSomething OfNothing = ⊥
 AsksSomething (OfDisk ask answer) = Unit {0}
-AsksSomething (OfCore event answer) = Unit {0}
+AsksSomething (OfCore store seat event answer) = Unit {0}
+AsksSomething (OfNewCore slots folders store seat answer) = Unit {0}
 
 -- no call of the disk was made; an event of a core may have been
 abbrev pub LeavesDisk : Asked → Type 0
 LeavesDisk OfNothing = Unit {0}
 LeavesDisk (OfDisk ask answer) = ⊥
-LeavesDisk (OfCore event answer) = Unit {0}
+LeavesDisk (OfCore store seat event answer) = Unit {0}
+LeavesDisk (OfNewCore slots folders store seat answer) = Unit {0}
 
 -- The outcomes that a step may have, and what was asked in it: a turn asks for at most one thing, and asks for one where its call
 -- goes on; all other steps make no call of the disk; in misused ones nothing was asked.
@@ -58,10 +68,30 @@ abbrev pub FailsAsListed : Volume → Asked → Type 0
 FailsAsListed disk (OfDisk ask answer) = has_failed answer ≡ fails_now disk ask
 FailsAsListed disk asked = Unit {0}
 
--- A record tells the call of the disk that its event made, or that it made none. Of a call on an open stream, `asked` of `Works` says
--- which path it has.
-abbrev pub TellsAsked : Asked → Did → Type 0
-TellsAsked asked did = (opened : Option Path) × (did ≡ did_of_asked opened asked)
+-- A record tells the call of the disk that its event made, or the event of a core, or that it made neither. Of a call on an open stream,
+-- `asked` of `Works` says which path it has.
+abbrev pub TellsAsked : List History → Asked → Did → Type 0
+TellsAsked cores asked did = (opened : Option Path) × (did ≡ did_of_asked opened cores asked)
+
+-- What a step asks that was applied, by what a handle did before: a close removes its handle from the core of its store, a clone
+-- registers its handle there, as one that isn't stable, and no other step asks for anything.
+abbrev pub asked_by_close : List History → (handle : ℕ) → Status → Asked
+asked_by_close cores handle (Resting store modes) = OfCore modes.core handle core_events.Remove (answer_behind (history_at cores modes.core) handle core_events.Remove)
+asked_by_close cores handle status = OfNothing
+
+abbrev pub asked_by_clone : List History → (handle : ℕ) → (parent : Status) → Asked
+asked_by_clone cores handle (Resting store modes) =
+    OfCore modes.core handle (core_events.Register false) (answer_behind (history_at cores modes.core) handle (core_events.Register false))
+asked_by_clone cores handle status = OfNothing
+
+abbrev pub asked_applied : List Event → Step → Asked
+asked_applied past (steps.Clone handle from) = asked_by_clone (cores_after past) handle (status_of past from)
+asked_applied past (steps.Close handle) = asked_by_close (cores_after past) handle (status_of past handle)
+asked_applied past step = OfNothing
+
+-- only a turn asks for something else
+abbrev pub AsksAsApplied : List Event → Event → Type 0
+AsksAsApplied past e = e.outcome ≡ outcomes.Applied → e.asked ≡ asked_applied past e.step
 
 -- the handle that the event turns, and what it was at
 pub record Turns (past : List Event) (e : Event) (handle : ℕ) (running : Running) : Type 0 where
@@ -73,6 +103,10 @@ abbrev pub outcome_of : Result Reply Work → Outcome
 outcome_of (Ok reply) = outcomes.Reply reply
 outcome_of (Err work) = outcomes.Pending
 
+-- where a handle stands that is at this work: its seat at the core of its store has its number
+abbrev pub stand_of : List Event → (handle : ℕ) → Running → Stand
+stand_of past handle running = stand (cores_after past) running.modes.core handle
+
 -- A turn carries out the one thing that its work asks for at its stage, a call of the disk or an event of a core, if it asks for any.
 -- Its outcome is the reply where the work is done after the answer, and else that the work goes on.
 pub record Works (first : Volume) (past : List Event) (handle : ℕ) (running : Running) (e : Event) : Type 0 where
@@ -81,15 +115,16 @@ pub record Works (first : Volume) (past : List Event) (handle : ℕ) (running : 
   pub latest : NoneSince (IsTaskOf handle) past running.begun
   -- the turns that it tells are all that its handle took since
   pub counted : running.turns ≡ turns_since past handle running.begun
-  -- its store is that of the latest open step of its handle, and the modes of its handle are those that the steps since then set
+  -- its store is that of the latest open or clone step of its handle, and the modes of its handle are those that the steps since then set
   pub opened : HoldsStore past handle running.store running.modes
   -- what it asks for, which the event tells with its answer
   pub ask : Option Ask
   pub asks : ask_in running.store running.work ≡ ask
-  -- which is a call of the disk, the one of this turn of the task: of turn t of a find, the read of the loose path in the t-th folder
+  -- which is the one of this turn of the task: of turn t of a find, the read of the loose path in the t-th folder; of the second turn of an
+  -- opening, a core for its store
   pub in_order : AsksAsTask first past handle running.store running.modes running.begun running.turns running.task ask
-  pub asked : e.entry.did ≡ did_asked (opened_in running.work) (disk_after first past) ask
-  pub told : e.asked ≡ told_now (disk_after first past) ask
+  pub asked : e.entry.did ≡ did_asked (opened_in running.work) (stand_of past handle running) (disk_after first past) ask
+  pub told : e.asked ≡ told_now (stand_of past handle running) (disk_after first past) ask
   pub goes : e.outcome ≡ outcome_of (fed_in running.store running.work (answered e.asked))
   -- the change of the record is that of the call
   pub changed : e.entry.change ≡ change_asked (disk_after first past) ask
@@ -104,8 +139,10 @@ pub record Law (first : Volume) (past : List Event) (e : Event) : Type 0 where
   pub failed : FailsAsListed (disk_after first past) e.asked
   -- the record has the disk's count of faults after the step
   pub faults : e.entry.faults ≡ (disk_after first (past ++ e ∷ [])).calls.faults
-  -- the record tells the call of the disk that the event made, and that no other event made one
-  pub did : TellsAsked e.asked e.entry.did
+  -- the record tells the call of the disk, or the event of a core, that the event made, and that no other event made one
+  pub did : TellsAsked (cores_after past) e.asked e.entry.did
+  -- a close and a clone make their events of a core, and no other step that isn't a turn makes one
+  pub applied : AsksAsApplied past e
   -- a turn does what the order of work says
   pub worked : (handle : ℕ) (running : Running) → Turns past e handle running → Works first past handle running e
   -- a reply keeps its promise, which is that of the task that the step `begun` set
@@ -122,6 +159,14 @@ pub record Law (first : Volume) (past : List Event) (e : Event) : Type 0 where
 abbrev pub IsLawful : Volume → List Event → Type 0
 IsLawful first events = (place : ℕ) (e : Event) → slice_get events place ≡ Some e → Law first (take place events) e
 
+-- The journal of a core that was made as its history says: each entry has its number and the answer that its event gives behind those
+-- before it, each event could happen when it came, and none was refused for want of memory.
+pub record IsJournal (history : History) : Type 0 where
+  pub opened : IsOpened history.opening
+  pub legal : IsLegal history.opening history.entries
+  pub possible : IsPossible history.opening history.entries
+  pub complete : IsComplete history.entries
+
 -- A run is what these events come to.
 pub record IsRun (first : Volume) (events : List Event) (run : Run) : Type 0 where
   -- one outcome and one record for each event
@@ -131,6 +176,15 @@ pub record IsRun (first : Volume) (events : List Event) (run : Run) : Type 0 whe
   pub lawful : IsLawful first events
   -- the disk handed back has the last state and the counts that the records give
   pub disk : run.disk ≡ disk_after first events
+  -- the journals handed back are those of the cores after these events, of which each is a journal
+  pub journals_are : map entries_of run.journals ≡ map (λ (h : History). h.entries) (cores_after events)
+  pub journals : All IsJournal (cores_after events)
+  -- the records that tell an event of a store's core name the entries of its journal, in order and each once
+  pub entries : TellsEachEntry (cores_after events) run.records
+  -- each handle of an open store is registered at the core of its store, and its snapshot is the one that the core's journal tells;
+  -- nothing else is registered at a core
+  pub seats : (handle : ℕ) → HasSeat events handle (status_of events handle)
+  pub registers_own : RegistersOwn events
   -- where the run is undisturbed, no write touches the temporary file of another, and a name that a write made stays whole
   pub alone : WritesStandAlone first events
   pub names : NamesStayWhole first events

@@ -1,5 +1,6 @@
-pub mod AtWork
 pub mod Event
+pub mod Cores
+pub mod AtWork
 pub mod Status
 pub mod Recorded
 pub mod Run
@@ -14,6 +15,8 @@ pub mod WholeNames
 pub mod Bound
 pub mod Promise
 pub mod Changes
+pub mod Seats
+pub mod Entries
 pub mod Headline
 pub mod Play
 pub mod Machine
@@ -21,6 +24,7 @@ pub mod Machines
 pub mod Running
 pub mod Handle
 pub mod WorkOrder
+pub mod Made
 pub mod World
 pub mod Table
 pub mod Played

@@ -1,5 +1,5 @@
 -- What the reply to an opening or a call promises of the moments from its start to the reply.
-use Rattle.std.specs.Prelude.{◌≡◌, ℕ, ◌≤◌, true, false, List, length}
+use Rattle.std.specs.Prelude.{◌≡◌, ℕ, ◌≤◌, true, false, List, [], ◌∷◌, ◌++◌, length}
 use Rattle.odb_tree.specs.Tree.{Tree}
 use Rattle.odb_disk.specs.MemDisk.{Volume}
 use Rattle.gix_hash.specs.declared.object_id.ObjectId.{ObjectId}
@@ -10,9 +10,9 @@ use Rattle.gix_odb_calls.specs.declared.call.Reply.TheVariants as replies
 use Rattle.gix_odb_calls.specs.declared.call.CallError.TheVariants as call_errors
 use Rattle.gix_odb_calls.specs.declared.find.Error as finding
 use Rattle.gix_odb_calls.specs.declared.call.Call.TheVariants as calls
-use Rattle.gix_odb.specs.Contents.{Answer, Object, HeaderOf, Presence, sought}
+use Rattle.gix_odb.specs.Contents.{Answer, Object, HeaderOf, Presence, folder_list, sought}
 use Rattle.gix_odb.specs.Held.{Held, Still}
-use Rattle.gix_odb_world.specs.Event.{Event}
+use Rattle.gix_odb_world.specs.Event.{CoreAnswer, Event, OfNewCore}
 use Rattle.gix_odb_world.specs.Status.{Store, Task, OpenStore, MakeCall, Modes}
 use Rattle.gix_odb_world.specs.Run.{tree_at, FailedSince}
 use Rattle.gix_odb_world.specs.Writing.{to_write}
@@ -20,9 +20,21 @@ use Rattle.gix_odb_world.specs.Written.{PromiseOfWrite}
 use Rattle.gix_odb_world.specs.Causes.{Sometime, ShowsDirectory, OpeningCause, FindCause}
 use Rattle.gix_odb.specs.OpenOrder.{most_slots}
 
--- An open store has the slots that were asked for, and its objects directory was shown in the opening.
-pub record Opens (trees : ℕ → Tree) (store : Store) (begun now slots : ℕ) : Type 0 where
+-- The last of the events made a core with so many slots, of a store with so many folders.
+pub record MadeCore (events : List Event) (slots folders : ℕ) : Type 0 where
+  pub past : List Event
+  pub event : Event
+  pub last : events ≡ past ++ event ∷ []
+  pub core : ℕ
+  pub seat : ℕ
+  pub answer : CoreAnswer
+  pub asked : event.asked ≡ OfNewCore slots folders core seat answer
+
+-- An open store has the slots that were asked for, which are those of the core that was made for it, and its objects directory was shown in
+-- the opening.
+pub record Opens (events : List Event) (trees : ℕ → Tree) (store : Store) (begun now slots : ℕ) : Type 0 where
   pub as_asked : slots ≡ store.slots
+  pub core : MadeCore events slots (length (folder_list store.parts))
   pub not_too_many : slots ≤ most_slots
   pub directory : Sometime begun now (λ moment. ShowsDirectory (trees moment) store.parts.objects)
 
@@ -58,10 +70,10 @@ Keeps trees Failed store begun now call id (Caused error) = FindCause trees Fail
 Keeps trees Failed store begun now call id Never = ⊥
 
 -- What a reply to an opening promises. A reply that an opening never ends with promises what nothing can keep.
-abbrev pub OpeningPromise : (ℕ → Tree) → Type 0 → Store → ℕ → ℕ → Reply → Type 0
-OpeningPromise trees Failed store begun now (replies.Opened slots) = Opens trees store begun now slots
-OpeningPromise trees Failed store begun now (replies.Refused (call_errors.Open error)) = OpeningCause trees Failed store begun now error
-OpeningPromise trees Failed store begun now reply = ⊥
+abbrev pub OpeningPromise : List Event → (ℕ → Tree) → Type 0 → Store → ℕ → ℕ → Reply → Type 0
+OpeningPromise events trees Failed store begun now (replies.Opened slots) = Opens events trees store begun now slots
+OpeningPromise events trees Failed store begun now (replies.Refused (call_errors.Open error)) = OpeningCause trees Failed store begun now error
+OpeningPromise events trees Failed store begun now reply = ⊥
 
 -- What the reply to a query promises, of the id that it seeks.
 abbrev pub QueryPromise : (ℕ → Tree) → Type 0 → Store → (modes : Modes) → ℕ → ℕ → Query → Reply → Type 0
@@ -70,7 +82,7 @@ QueryPromise trees Failed store modes begun now query reply = Keeps trees Failed
 -- What a reply that the last event gives promises, by the task that the handle was begun with.
 abbrev pub Promise : Volume → List Event → (handle : ℕ) → Store → (modes : Modes) → ℕ → Task → Reply → Type 0
 Promise first events handle store modes begun OpenStore reply =
-    OpeningPromise (tree_at first events) (FailedSince events handle begun) store begun (length events) reply
+    OpeningPromise events (tree_at first events) (FailedSince events handle begun) store begun (length events) reply
 Promise first events handle store modes begun (MakeCall (calls.Find id)) reply =
     QueryPromise (tree_at first events) (FailedSince events handle begun) store modes begun (length events) (Find id) reply
 Promise first events handle store modes begun (MakeCall (calls.Header id)) reply =

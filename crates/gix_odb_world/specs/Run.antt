@@ -1,5 +1,5 @@
 -- The disk and its states over a run: state 0 is the handed-in one, and each event takes the disk one step on.
-use Rattle.std.specs.Prelude.{◌≡◌, ℕ, ◌≤◌, Bool, true, false, List, fold, take, slice_get, Option, Some, None, if◌then◌else◌}
+use Rattle.std.specs.Prelude.{◌≡◌, ℕ, ◌≤◌, Bool, true, false, List, [], fold, length, take, slice_get, Option, Some, None, if◌then◌else◌}
 use Rattle.odb_base.specs.Path.{Path}
 use Rattle.odb_tree.specs.Tree.{Tree, tree_of}
 use Rattle.odb_tree.specs.Tree.Write.{written}
@@ -12,10 +12,14 @@ use Rattle.odb_tree.specs.declared.change.Change.{Change}
 use Rattle.odb_tree.specs.declared.disk_error.DiskError.TheVariants as disk_errors
 use Rattle.gix_odb_world.specs.Recorded.{path_recorded}
 use Rattle.gix_odb_world.specs.declared.record.Did.{Did}
-use Rattle.gix_odb_world.specs.declared.record.Did.TheVariants.{Nothing, Disk}
+use Rattle.gix_odb_world.specs.declared.record.Did.TheVariants.{Nothing, Disk, Core}
 use Rattle.gix_odb_calls.specs.declared.step.Step.{Step}
 use Rattle.gix_odb_calls.specs.declared.step.Step.TheVariants as steps
-use Rattle.gix_odb_world.specs.Event.{Ask, Asked, OfNothing, OfDisk, OfCore, ToCore, ToDisk, Event, core_answer}
+use Rattle.gix_odb_core.specs.History.{History, opened}
+use Rattle.gix_odb_core.specs.Replay.{number_behind}
+use Rattle.gix_odb_core.specs.declared.event.Event.TheVariants as core_events
+use Rattle.gix_odb_world.specs.Cores.{answer_behind, history_at}
+use Rattle.gix_odb_world.specs.Event.{Ask, Asked, OfNothing, OfDisk, OfCore, OfNewCore, ToCore, ToDisk, ToNewCore, Event}
 
 abbrev pub disk_after_change : Volume → Option Change → Volume
 disk_after_change disk None = disk
@@ -26,7 +30,8 @@ disk_after_change disk (Some change) = after_outside_change disk change
 abbrev pub disk_after_asked : Volume → Asked → Option Change → Volume
 disk_after_asked disk OfNothing change = disk_after_change disk change
 disk_after_asked disk (OfDisk ask answer) change = record (after_ask disk ask) { state = written disk.state change }
-disk_after_asked disk (OfCore event answer) change = disk_after_change disk change
+disk_after_asked disk (OfCore store seat event answer) change = disk_after_change disk change
+disk_after_asked disk (OfNewCore slots folders store seat answer) change = disk_after_change disk change
 
 -- the disk after an event: after what it asked, with the change of its record
 abbrev pub disk_after_event : Volume → Event → Volume
@@ -45,23 +50,38 @@ has_failed answer = false
 abbrev pub did_of : (opened : Option Path) → DiskAsk → DiskAnswer → Did
 did_of opened ask answer = Disk (op_of ask) (path_recorded opened ask) (has_failed answer)
 
--- the record of an event that asked so: only a call of the disk is told
-abbrev pub did_of_asked : (opened : Option Path) → Asked → Did
-did_of_asked opened OfNothing = Nothing
-did_of_asked opened (OfDisk ask answer) = did_of opened ask answer
-did_of_asked opened (OfCore event answer) = Nothing
+-- The record of an event that asked so, where the cores were these: a call of the disk, or the number of a store and that of the entry
+-- in its journal.
+abbrev pub did_of_asked : (opened : Option Path) → List History → Asked → Did
+did_of_asked opened cores OfNothing = Nothing
+did_of_asked opened cores (OfDisk ask answer) = did_of opened ask answer
+did_of_asked opened cores (OfCore store seat event answer) = Core store (number_behind (history_at cores store).entries)
+did_of_asked opened cores (OfNewCore slots folders store seat answer) = Core store (number_behind [])
 
--- what an event tells that asked so: a call of the disk has the answer that the disk gives then, and an event of a core that of the core
-abbrev pub told_now : Volume → Option Ask → Asked
-told_now disk None = OfNothing
-told_now disk (Some (ToDisk ask)) = OfDisk ask (answer_now disk ask)
-told_now disk (Some (ToCore event)) = OfCore event (core_answer event)
+-- The cores of a run, and where a handle stands among them: its store's number, and its own, which is its seat.
+pub record Stand : Type 0 where
+  pub cores : List History
+  pub store : ℕ
+  pub seat : ℕ
+
+abbrev pub stand : List History → (store seat : ℕ) → Stand
+stand cores store seat = record { cores = cores; store = store; seat = seat }
+
+-- What an event tells that asked so, by a handle that stands so: a call of the disk has the answer that the disk gives then, and an event
+-- of a core the one that the event gives behind the core's history. A new core has the next number.
+abbrev pub told_now : Stand → Volume → Option Ask → Asked
+told_now at disk None = OfNothing
+told_now at disk (Some (ToDisk ask)) = OfDisk ask (answer_now disk ask)
+told_now at disk (Some (ToCore event)) = OfCore at.store at.seat event (answer_behind (history_at at.cores at.store) at.seat event)
+told_now at disk (Some (ToNewCore slots folders)) =
+    OfNewCore slots folders (length at.cores) at.seat (answer_behind (opened slots folders 0 0) at.seat (core_events.Register false))
 
 -- the record of what was asked so: a call of the disk fails where its number is listed
-abbrev pub did_asked : (opened : Option Path) → Volume → Option Ask → Did
-did_asked opened disk None = Nothing
-did_asked opened disk (Some (ToDisk ask)) = Disk (op_of ask) (path_recorded opened ask) (fails_now disk ask)
-did_asked opened disk (Some (ToCore event)) = Nothing
+abbrev pub did_asked : (opened : Option Path) → Stand → Volume → Option Ask → Did
+did_asked opened at disk None = Nothing
+did_asked opened at disk (Some (ToDisk ask)) = Disk (op_of ask) (path_recorded opened ask) (fails_now disk ask)
+did_asked opened at disk (Some (ToCore event)) = Core at.store (number_behind (history_at at.cores at.store).entries)
+did_asked opened at disk (Some (ToNewCore slots folders)) = Core (length at.cores) (number_behind [])
 
 -- a record is that of a call of the disk, whatever stream it may be on
 abbrev pub TellsCall : Volume → DiskAsk → Did → Type 0
@@ -72,6 +92,7 @@ abbrev pub change_asked : Volume → Option Ask → Option Change
 change_asked disk None = None
 change_asked disk (Some (ToDisk ask)) = change_by disk ask
 change_asked disk (Some (ToCore event)) = None
+change_asked disk (Some (ToNewCore slots folders)) = None
 
 -- the disk after all events
 unfoldable pub disk_after : Volume → List Event → Volume
@@ -87,6 +108,13 @@ IsTurnOf handle step = step ≡ steps.Turn handle
 abbrev pub Fails : Did → Type 0
 Fails Nothing = ⊥
 Fails (Disk op path failed) = failed ≡ true
+Fails (Core store entry) = ⊥
+
+-- no call of the disk is told
+abbrev pub NoCall : Did → Type 0
+NoCall Nothing = Unit {0}
+NoCall (Disk op path failed) = ⊥
+NoCall (Core store entry) = Unit {0}
 
 -- the event that has a number is a turn of the handle in which a call of the disk failed
 pub record FailedAt (events : List Event) (handle number : ℕ) : Type 0 where

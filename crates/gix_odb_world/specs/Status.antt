@@ -12,7 +12,7 @@ use Rattle.gix_odb_calls.specs.declared.call.Reply.{Reply}
 use Rattle.gix_odb_calls.specs.declared.call.Reply.TheVariants as replies
 use Rattle.gix_odb_calls.specs.declared.init.Options.{Options}
 use Rattle.gix_odb.specs.declared.open_state.OpenState.TheVariants.{Looking}
-pub use Rattle.gix_odb_world.specs.AtWork.{Store, Task, OpenStore, MakeCall, Modes, Running, modes_at_opening, now_ignoring}
+pub use Rattle.gix_odb_world.specs.AtWork.{Store, Task, OpenStore, MakeCall, Modes, Running, modes_after, modes_at_opening, now_ignoring}
 use Rattle.gix_odb_world.specs.Machines.{fed_in, write_in}
 use Rattle.gix_odb_calls.specs.declared.step.Step.{Step}
 use Rattle.gix_odb_calls.specs.declared.step.Step.TheVariants as steps
@@ -75,23 +75,24 @@ refuses_opening reply = false
 abbrev pub after_reply : {A : Type 0} → (free rest : A) → Reply → A
 after_reply free rest reply = if refuses_opening reply then free else rest
 
--- a handle's work goes on as what is left of it, with a turn more
-abbrev pub gone_on : Running → (left : Work) → Running
-gone_on running left = record running { turns = running.turns + 1; work = left }
+-- a handle's work goes on as what is left of it, with a turn more that asked so
+abbrev pub gone_on : Asked → Running → (left : Work) → Running
+gone_on asked running left = record running { modes = modes_after asked running.modes; turns = running.turns + 1; work = left }
 
--- a handle whose turn came to a reply, or to the work that is left
-abbrev pub come_to : Running → Result Reply Work → Status
-come_to running (Ok reply) = after_reply Free (Resting running.store running.modes) reply
-come_to running (Err left) = Working (gone_on running left)
+-- a handle whose turn asked so and came to a reply, or to the work that is left
+abbrev pub come_to : Asked → Running → Result Reply Work → Status
+come_to asked running (Ok reply) = after_reply Free (Resting running.store (modes_after asked running.modes)) reply
+come_to asked running (Err left) = Working (gone_on asked running left)
 
 -- a turn after which the work goes on, by what it was answered
 abbrev pub turned : Asked → Status → Status
-turned asked (Working running) = come_to running (fed_in running.store running.work (answered asked))
+turned asked (Working running) = come_to asked running (fed_in running.store running.work (answered asked))
 turned asked status = status
 
-abbrev pub replied : Reply → Status → Status
-replied reply (Working running) = after_reply Free (Resting running.store running.modes) reply
-replied reply status = status
+-- a turn after which its handle is at rest, or free
+abbrev pub replied : Asked → Reply → Status → Status
+replied asked reply (Working running) = after_reply Free (Resting running.store (modes_after asked running.modes)) reply
+replied asked reply status = status
 
 -- ---- the handles of a run
 
@@ -99,14 +100,20 @@ replied reply status = status
 abbrev pub with_status : (ℕ → Status) → ℕ → Status → ℕ → Status
 with_status table handle status other = if other == handle then status else table other
 
--- what all handles do after a step that was applied, in the event that has a number
-abbrev pub applied : ℕ → Step → (ℕ → Status) → ℕ → Status
-applied number (steps.Open handle path folders replacements options) table =
+-- a clone has the store and the modes of the handle that it is one of, and the snapshot that its own registration handed over
+abbrev pub cloned : Asked → Status → Status
+cloned asked (Resting store modes) = Resting store (modes_after asked modes)
+cloned asked status = Free
+
+-- what all handles do after a step that was applied, in the event that has a number and asked so
+abbrev pub applied : ℕ → Asked → Step → (ℕ → Status) → ℕ → Status
+applied number asked (steps.Open handle path folders replacements options) table =
     with_status table handle (opening_at number (store_at number path folders replacements options))
-applied number (steps.Close handle) table = with_status table handle Free
-applied number (steps.Ignore handle) table = with_status table handle (ignoring_from (table handle))
-applied number (steps.Start handle call) table = with_status table handle (started number call (table handle))
-applied number step table = table
+applied number asked (steps.Clone handle from) table = with_status table handle (cloned asked (table from))
+applied number asked (steps.Close handle) table = with_status table handle Free
+applied number asked (steps.Ignore handle) table = with_status table handle (ignoring_from (table handle))
+applied number asked (steps.Start handle call) table = with_status table handle (started number call (table handle))
+applied number asked step table = table
 
 -- what all handles do after a turn that takes its handle on; no other step takes a call on
 abbrev pub after_turn_of : Step → (Status → Status) → (ℕ → Status) → ℕ → Status
@@ -115,9 +122,9 @@ after_turn_of step next table = table
 
 -- what all handles do after the event that has a number: by its outcome, and then by its step
 abbrev pub status_after : ℕ → Step → Outcome → Asked → (ℕ → Status) → ℕ → Status
-status_after number step outcomes.Applied asked table = applied number step table
+status_after number step outcomes.Applied asked table = applied number asked step table
 status_after number step outcomes.Pending asked table = after_turn_of step (turned asked) table
-status_after number step (outcomes.Reply reply) asked table = after_turn_of step (replied reply) table
+status_after number step (outcomes.Reply reply) asked table = after_turn_of step (replied asked reply) table
 status_after number step (outcomes.Misuse why) asked table = table
 
 -- what all handles do after events, of which the first has a number

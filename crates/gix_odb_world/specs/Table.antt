@@ -1,5 +1,5 @@
 -- What the code of a world does with its table of handles and its lists. No public clause cites this.
-use Rattle.std.specs.Prelude.{◌≡◌, ℕ, ◌==◌, true, [], ◌∷◌, ◌++◌, Option, Some, None, Result, Ok, Err, if◌then◌else◌}
+use Rattle.std.specs.Prelude.{◌≡◌, ℕ, ◌+◌, ◌==◌, length, min, true, [], ◌∷◌, ◌++◌, List, Option, Some, None, Result, Ok, Err, if◌then◌else◌}
 use Rattle.odb_base.specs.Path.{Path}
 use Rattle.odb_disk.specs.Ask.{answer_now, after_ask, change_of_ask}
 use Rattle.odb_tree.specs.Tree.{tree_of}
@@ -16,12 +16,21 @@ use Rattle.gix_odb_world.specs.declared.record.Did.TheVariants as done
 use Rattle.gix_odb_world.specs.declared.handle.Handle.{Handle}
 use Rattle.gix_odb.specs.declared.handle_state.HandleState.{HandleState}
 use Rattle.gix_odb_world.specs.declared.work.Work.{Work}
-use Rattle.gix_odb_world.specs.Run.{did_of, has_failed}
+use Rattle.gix_odb_core.specs.History.{History}
+use Rattle.gix_odb_core.specs.Replay.{view_in}
+use Rattle.gix_odb_world.specs.declared.turn.Carried.{Carried}
+use Rattle.gix_odb_world.specs.Cores.{cores_after_asked, or_before}
+use Rattle.gix_odb_world.specs.Event.{Asked, OfCore, OfDisk, OfNewCore, OfNothing, answered}
+use Rattle.gix_odb.specs.OpenOrder.{most_slots}
+use Rattle.gix_odb_core.specs.declared.view.View.{View}
+use Rattle.gix_odb_world.specs.Made.{MakesCore}
+use Rattle.gix_odb_world.specs.Recorded.{opened_in}
+use Rattle.gix_odb_world.specs.Run.{change_asked, did_of, did_of_asked, disk_after_asked, has_failed, stand, told_now}
 use Rattle.gix_odb_world.specs.Status.{after_reply}
-use Rattle.gix_odb_world.specs.WorkOrder.{fed_on}
-use Rattle.gix_odb_world.specs.declared.world.World.{World}
+use Rattle.gix_odb_world.specs.WorkOrder.{asks_on, fed_after, fed_on, registered_on}
+use Rattle.gix_odb_world.specs.declared.course.Course.{Course}
 use Rattle.gix_odb_world.specs.World.{handle_at}
-use Rattle.gix_odb_world.specs.Valid.{Phase, NoneThere, Idle, Running, is_openable, why_not_change, why_not_idle, why_not_open, why_not_running}
+use Rattle.gix_odb_world.specs.Valid.{Phase, NoneThere, Idle, Running, is_openable, why_not_change, why_not_idle, why_not_open, why_not_running, why_not_clone}
 
 abbrev pub phase_of_work : Option Work → Phase
 phase_of_work None = Idle
@@ -33,12 +42,13 @@ phase_of_handle None = NoneThere
 phase_of_handle (Some handle) = phase_of_work handle.work
 
 -- what counts for validity of the handle of a world that has a number
-abbrev pub phase_now : World → (number : ℕ) → Phase
+abbrev pub phase_now : Course → (number : ℕ) → Phase
 phase_now world number = phase_of_handle (handle_at world number)
 
 -- the first reason why a step isn't valid, by the world's own table and disk
-abbrev pub why_not_now : World → Step → Option Why
+abbrev pub why_not_now : Course → Step → Option Why
 why_not_now world (steps.Open handle path folders replacements options) = why_not_open (phase_now world handle) (is_openable path folders replacements)
+why_not_now world (steps.Clone handle from) = why_not_clone (phase_now world handle) (phase_now world from)
 why_not_now world (steps.Close handle) = why_not_idle (phase_now world handle)
 why_not_now world (steps.Ignore handle) = why_not_idle (phase_now world handle)
 why_not_now world (steps.Start handle call) = why_not_idle (phase_now world handle)
@@ -65,27 +75,29 @@ after_turn state (Ok reply) = after_reply None (at_rest state) reply
 after_turn state (Err work) = Some (record { state = state; work = Some work })
 
 -- the world differs from another in the handle that has a number, and in nothing else
-pub record SetsHandle (old new : World) (number : ℕ) (handle : Option Handle) : Type 0 where
+pub record SetsHandle (old new : Course) (number : ℕ) (handle : Option Handle) : Type 0 where
   pub table : (other : ℕ) → handle_at new other ≡ (if other == number then handle else handle_at old other)
   pub disk : new.disk ≡ old.disk
+  pub cores : new.cores ≡ old.cores
   pub outcomes : new.outcomes ≡ old.outcomes
   pub records : new.records ≡ old.records
 
 -- the world has one outcome and one record more, with its disk's count of faults, and differs in nothing else
-pub record Notes (old new : World) (outcome : Outcome) (did : Did) (change : Option Change) : Type 0 where
+pub record Notes (old new : Course) (outcome : Outcome) (did : Did) (change : Option Change) : Type 0 where
   pub outcomes : new.outcomes ≡ old.outcomes ++ outcome ∷ []
   pub records : new.records ≡ old.records ++ record { did = did; change = change; faults = old.disk.calls.faults } ∷ []
   pub disk : new.disk ≡ old.disk
+  pub cores : new.cores ≡ old.cores
   pub handles : new.handles ≡ old.handles
 
 -- a turn is settled: its handle is put back, and its outcome and its record are added
-pub record Settles (old new : World) (number : ℕ) (handle : Option Handle) (outcome : Outcome) (did : Did) (change : Option Change) : Type 0 where
-  pub mid : World
+pub record Settles (old new : Course) (number : ℕ) (handle : Option Handle) (outcome : Outcome) (did : Did) (change : Option Change) : Type 0 where
+  pub mid : Course
   pub sets : SetsHandle old mid number handle
   pub notes : Notes mid new outcome did change
 
 -- the world has one outcome more than another
-abbrev pub HasOneMore : World → World → Type 0
+abbrev pub HasOneMore : Course → Course → Type 0
 HasOneMore old new = (outcome : Outcome) × (new.outcomes ≡ old.outcomes ++ outcome ∷ [])
 
 -- what a turn did whose work asked so, of a stream that was opened with a path if it is on one
@@ -107,3 +119,38 @@ work_now disk state work (Some ask) = fed_on state work (answer_now disk ask)
 abbrev pub disk_now : Volume → Option DiskAsk → Volume
 disk_now disk None = disk
 disk_now disk (Some ask) = after_ask disk ask
+
+-- the handle after a turn that asked so
+abbrev pub state_after : Asked → HandleState → HandleState
+state_after OfNothing state = state
+state_after (OfDisk ask answer) state = state
+state_after (OfCore store seat event answer) state = record state { view = or_before (view_in answer) state.view }
+state_after (OfNewCore slots folders store seat answer) state = record state { core = store; view = or_before (view_in answer) state.view }
+
+-- what a turn of a handle that has a seat asked so, with the answer
+abbrev pub told_in : List History → Volume → (seat : ℕ) → HandleState → Work → Asked
+told_in cores disk seat state work = told_now (stand cores state.core seat) disk (asks_on state work)
+
+-- a core was added for the store of a handle, and the handle registered there, which handed over a view
+pub record AddsCore (cores cores_then : List History) (seat : ℕ) (state : HandleState) (view : View) : Type 0 where
+  pub core : History
+  pub made : MakesCore (min state.store.value.slots most_slots) (length state.store.value.folders + 1) seat core view
+  pub cores_are : cores_then ≡ cores ++ core ∷ []
+
+-- what a turn comes to that registered its handle at the core of a number
+abbrev pub carried_at : HandleState → Work → (store : ℕ) → View → Carried
+carried_at state work store view = record {
+  did = done.Core store 1;
+  change = None;
+  state = record state { core = store; view = Some view };
+  work = registered_on state work;
+}
+
+-- A turn that asked so was carried out, on the disk and on the cores.
+pub record Carries (disk disk_then : Volume) (cores cores_then : List History) (state : HandleState) (work : Work) (asked : Asked) (done : Carried) : Type 0 where
+  pub did : done.did ≡ did_of_asked (opened_in work) cores asked
+  pub change : done.change ≡ change_asked disk (asks_on state work)
+  pub state_is : done.state ≡ state_after asked state
+  pub work_is : done.work ≡ fed_after state work (answered asked)
+  pub disk_is : disk_then ≡ disk_after_asked disk asked (change_asked disk (asks_on state work))
+  pub cores_are : cores_then ≡ cores_after_asked cores asked

@@ -64,6 +64,12 @@ why_not_idle NoneThere = Some NoHandle
 why_not_idle Idle = None
 why_not_idle Running = Some Busy
 
+-- a clone needs a free number, and an idle handle
+abbrev pub why_not_clone : Phase → (parent : Phase) → Option Why
+why_not_clone NoneThere parent = why_not_idle parent
+why_not_clone Idle parent = Some HandleTaken
+why_not_clone Running parent = Some HandleTaken
+
 -- a turn needs a handle that runs a call
 abbrev pub why_not_running : Phase → Option Why
 why_not_running NoneThere = Some NoHandle
@@ -81,6 +87,7 @@ phase_after events handle = phase_of (status_of events handle)
 -- The first reason why a step isn't valid after the events of a run, or nothing where it is. Each step sees the whole history.
 abbrev pub why_not_after : Volume → List Event → Step → Option Why
 why_not_after first events (steps.Open handle path folders replacements options) = why_not_open (phase_after events handle) (is_openable path folders replacements)
+why_not_after first events (steps.Clone handle from) = why_not_clone (phase_after events handle) (phase_after events from)
 why_not_after first events (steps.Close handle) = why_not_idle (phase_after events handle)
 why_not_after first events (steps.Ignore handle) = why_not_idle (phase_after events handle)
 why_not_after first events (steps.Start handle call) = why_not_idle (phase_after events handle)

@@ -1,13 +1,15 @@
 -- What the code of a handle's work asks, and what an answer makes of it. No public clause cites this.
-use Rattle.std.specs.Prelude.{Option, Some, None, Result, Ok, Err}
+use Rattle.std.specs.Prelude.{◌+◌, Bool, false, length, min, Option, Some, None, Result, Ok, Err, if◌then◌else◌}
 use Rattle.odb_disk.specs.declared.ask.DiskAsk.{DiskAsk}
 use Rattle.odb_disk.specs.declared.ask.DiskAnswer.{DiskAnswer}
 use Rattle.gix_odb.specs.CallOrder as calls
 use Rattle.gix_odb.specs.OpenOrder as openings
+use Rattle.gix_odb.specs.OpenOrder.{most_slots}
 use Rattle.gix_odb_calls.specs.declared.call.Reply.{Reply}
 use Rattle.gix_odb.specs.declared.call_state.CallState.{CallState}
 use Rattle.gix_odb.specs.declared.handle_state.HandleState.{HandleState}
 use Rattle.gix_odb.specs.declared.open_state.OpenState.{OpenState}
+use Rattle.gix_odb_world.specs.Event.{Answer, Ask, FromCore, FromDisk, ToNewCore, to_disk}
 use Rattle.gix_odb_world.specs.declared.work.Work.{Work}
 use Rattle.gix_odb_world.specs.declared.work.Work.TheVariants.{Opening, Calling}
 
@@ -21,10 +23,26 @@ abbrev pub fed_on : HandleState → Work → DiskAnswer → Work
 fed_on handle (Opening state) answer = Opening (openings.fed handle.store.value.slots state answer)
 fed_on handle (Calling state) answer = Calling (calls.fed handle.store.value.folders handle.store.value.alloc_limit_bytes state answer)
 
+-- whether the work of a handle is to register it at a core for its store
+abbrev pub registers_in : Work → Bool
+registers_in (Opening state) = openings.registers state
+registers_in (Calling state) = false
+
+-- what the work of a handle asks for: a call of the disk, or a core for its store
+abbrev pub asks_on : HandleState → Work → Option Ask
+asks_on handle work =
+    if registers_in work then Some (ToNewCore (min handle.store.value.slots most_slots) (length handle.store.value.folders + 1)) else to_disk (ask_on handle work)
+
+-- the work of a handle after it was registered
+abbrev pub registered_on : HandleState → Work → Work
+registered_on handle (Opening state) = Opening (openings.registered handle.store.value.slots state)
+registered_on handle (Calling state) = Calling state
+
 -- the work of a handle after a turn, where it asked for nothing or had its answer
-abbrev pub fed_after : HandleState → Work → Option DiskAnswer → Work
+abbrev pub fed_after : HandleState → Work → Option Answer → Work
 fed_after handle work None = work
-fed_after handle work (Some answer) = fed_on handle work answer
+fed_after handle work (Some (FromDisk answer)) = fed_on handle work answer
+fed_after handle work (Some (FromCore answer)) = registered_on handle work
 
 abbrev pub opening_result : Result Reply OpenState → Result Reply Work
 opening_result (Ok reply) = Ok reply

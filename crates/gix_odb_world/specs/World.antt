@@ -7,16 +7,17 @@ use Rattle.odb_tree.specs.Tree.{IsTree, tree_of}
 use Rattle.gix_odb_calls.specs.declared.step.Step.{Step}
 use Rattle.gix_odb_calls.specs.declared.step.Outcome.{Outcome}
 use Rattle.gix_odb_world.specs.declared.handle.Handle.{Handle}
-use Rattle.gix_odb_world.specs.declared.world.World.{World}
+use Rattle.gix_odb_world.specs.declared.course.Course.{Course}
 use Rattle.gix_odb_world.specs.Event.{Event}
 use Rattle.gix_odb_world.specs.Status.{Status, Free, Resting, Working, status_of}
 use Rattle.gix_odb_world.specs.Handle.{IsHandleOf}
+use Rattle.gix_odb_world.specs.Cores.{cores_after}
 use Rattle.gix_odb_world.specs.Run.{disk_after}
 use Rattle.gix_odb_world.specs.Running.{Runs, RunsThroughout}
 use Rattle.gix_odb_world.specs.Headline.{Law, IsLawful}
 
 -- the handle of a world that has a number
-abbrev pub handle_at : World → ℕ → Option Handle
+abbrev pub handle_at : Course → ℕ → Option Handle
 handle_at world number = get nat_cmp world.handles number
 
 -- a handle of the code does what a status says
@@ -29,10 +30,11 @@ Matches (Working running) None = ⊥
 Matches (Working running) (Some handle) = IsHandleOf running.store running.modes handle.state × (handle.work ≡ Some running.work)
 
 -- these events from this first disk lead to the world
-pub record Explains (first : Volume) (events : List Event) (world : World) : Type 0 where
+pub record Explains (first : Volume) (events : List Event) (world : Course) : Type 0 where
   pub outcomes : map (λ e. e.outcome) events ≡ world.outcomes
   pub records : map (λ e. e.entry) events ≡ world.records
   pub disk : world.disk ≡ disk_after first events
+  pub cores : world.cores.items ≡ cores_after events
   pub handles : (handle : ℕ) → Matches (status_of events handle) (handle_at world handle)
   pub running : (handle : ℕ) → Runs first events handle (status_of events handle)
   pub lawful : IsLawful first events
@@ -40,8 +42,17 @@ pub record Explains (first : Volume) (events : List Event) (world : World) : Typ
   pub start : IsTree (tree_of first.state)
   pub throughout : RunsThroughout first events
 
+-- some events from some first disk lead there
+pub record HasHistory (world : Course) : Type 0 where
+  pub first : Volume
+  pub events : List Event
+  pub explains : Explains first events world
+
+abbrev pub IsExplained : Course → Type 0
+IsExplained world = ∥ HasHistory world ∥₁
+
 -- a step takes the history one event on
-pub record GoesOn (first : Volume) (events : List Event) (step : Step) (outcome : Outcome) (world : World) : Type 0 where
+pub record GoesOn (first : Volume) (events : List Event) (step : Step) (outcome : Outcome) (world : Course) : Type 0 where
   pub event : Event
   pub step_is : event.step ≡ step
   pub outcome_is : event.outcome ≡ outcome
@@ -49,12 +60,12 @@ pub record GoesOn (first : Volume) (events : List Event) (step : Step) (outcome 
   pub explains : Explains first (events ++ event ∷ []) world
 
 -- Every history that leads to the old world goes on by the step to the new one.
-abbrev pub Continues : World → Step → World → Type 0
+abbrev pub Continues : Course → Step → Course → Type 0
 Continues old step new =
     (first : Volume) (events : List Event) → Explains first events old → (outcome : Outcome) × GoesOn first events step outcome new
 
 -- some events have these steps, and lead to the world
-pub record IsRunOf (first : Volume) (made : List Step) (world : World) : Type 0 where
+pub record IsRunOf (first : Volume) (made : List Step) (world : Course) : Type 0 where
   pub events : List Event
   pub steps_are : map (λ e. e.step) events ≡ made
   pub explains : Explains first events world

@@ -1,7 +1,8 @@
 //! Interleaved runs of calls over one disk that other programs change too.
 //!
-//! A world takes steps: it opens stores over some folders, starts calls that look for objects or write them, lets a
-//! handle make one call of the disk, and lets other programs change the tree. For every disk and every list of steps
+//! A world takes steps: it opens stores over some folders, begins clones of their handles and closes them, starts calls
+//! that look for objects or write them, lets a handle make one call of the disk or one event of the core of its store, and
+//! lets other programs change the tree. For every disk and every list of steps
 //! `World::run` gives one outcome for each step; what is found was held by the store's files, a not-found means that no
 //! sound object lay still, each call ends within its bound, and each error has its cause: `specs/Headline.antt` says
 //! it.
@@ -12,6 +13,8 @@
 #![tactic(auto)]
 
 mod bound;
+mod cores;
+mod course;
 mod handle;
 mod opening;
 mod play;
@@ -21,6 +24,7 @@ mod work;
 mod world;
 
 pub use bound::bound_of;
+pub use cores::JournalList;
 pub use gix_odb_calls::{
     Call, CallError, IdPairs, Line, Options, Outcome, PathList, Reply, Slots, Step, Why, find,
     init, write,

@@ -4,6 +4,7 @@ ghost use Rattle.std.specs.Option.{option_map};
 ghost use Rattle.gix_odb_world.specs.Recorded.{path_recorded};
 ghost use Rattle.gix_odb_world.specs.Run.{did_of};
 
+use crate::cores::JournalList;
 use gix_odb_calls::Outcome;
 use odb_base::{NoMemory, Sequence};
 use odb_disk::{Change, DiskAnswer, DiskAsk, DiskError, MemDisk, Op, PathText};
@@ -18,6 +19,12 @@ pub enum Did {
         op: Op,
         path: PathText,
         failed: bool,
+    },
+    /// One event of the core of a store, which is the entry of a number in the core's journal. Stores are numbered from 0,
+    /// in the order in which they were opened, and entries from 1.
+    Core {
+        store: u64,
+        entry: u64,
     },
 }
 
@@ -78,10 +85,11 @@ pub type OutcomeList = Sequence<Outcome>;
 /// The records of a run, one for each step.
 pub type RecordList = Sequence<Record>;
 
-/// A whole run: what each step came to, and the disk after the last one.
+/// A whole run: what each step came to, and the disk and the journals of the stores' cores after the last one.
 #[derive(Drop)]
 pub struct Run {
     pub outcomes: OutcomeList,
     pub records: RecordList,
     pub disk: MemDisk,
+    pub journals: JournalList,
 }

@@ -1,27 +1,143 @@
-//! A turn of a handle: the one call of the disk that its work names, and what the turn comes to.
-ghost use Rattle.std.specs.Prelude.{if◌then◌else◌, ◌≡◌, IfOk, OnOk, None, Some};
+//! A turn of a handle: the one call of the disk or event of a core that its work names, and what the turn comes to.
+ghost use Rattle.std.specs.Prelude.{if◌then◌else◌, ◌≡◌, ℕ, List, true, false, IfOk, OnOk, None, Some};
 ghost use Rattle.std.specs.Option.{option_map};
 ghost use Rattle.odb_disk.specs.Ask.{answer_now};
+ghost use Rattle.odb_disk.specs.MemDisk.{Volume};
+ghost use Rattle.gix_odb_core.specs.History.{History};
 ghost use Rattle.gix_odb_world.specs.Recorded.{opened_in};
 ghost use Rattle.gix_odb_world.specs.Run.{has_failed};
 ghost use Rattle.gix_odb_world.specs.Status.{after_reply};
 ghost use Rattle.gix_odb_world.specs.Headline.{outcome_of};
-ghost use Rattle.gix_odb_world.specs.WorkOrder.{ask_on, fed_on, result_in};
+ghost use Rattle.gix_odb_world.specs.WorkOrder.{ask_on, fed_on, registers_in, result_in};
 ghost use Rattle.gix_odb_world.specs.Table as tables;
-ghost use Rattle.gix_odb_world.specs.Table.{after_turn, change_now, did_now, disk_now, work_now};
+ghost use Rattle.gix_odb_world.specs.Table.{AddsCore, Carries, after_turn, carried_at, change_now, did_now, disk_now, told_in, work_now};
 
+use crate::cores::core_with;
 use crate::handle::Handle;
 use crate::record::Did;
 use crate::work::Work;
 use gix_odb::HandleState;
 use gix_odb_calls::{CallError, Outcome, Reply};
+use gix_odb_core::{Core, View};
 use odb_base::NoMemory;
 use odb_disk::{Change, DiskAnswer, DiskAsk, DiskError, MemDisk, PathText};
 use std::alloc::Global;
 
+/// What a turn came to: what it did, the change that it made, and its handle and the work after it.
+#[derive(Drop)]
+pub struct Carried {
+    pub did: Did,
+    pub change: Option<Change>,
+    pub state: HandleState,
+    pub work: Work,
+}
+
+/// Carries out the one thing that a piece of work asks for, of the disk or of the cores, by the handle that has a seat.
+pub fn carried_out(
+    alloc: Global,
+    disk: &mut MemDisk,
+    cores: &mut Vec<Core>,
+    seat: u32,
+    state: HandleState,
+    work: Work,
+) -> Result<Carried, NoMemory>
+    ensures carried { IfOk result (Carries disk.old disk.new cores.old.items cores.new.items state work (told_in cores.old.items disk.old seat state work)) }
+{
+    if work.registers() {
+        registered(alloc, cores, seat, state, work)
+    } else {
+        turned(alloc, disk, state, work)
+    }
+}
+
+/// Makes a core for the store of a handle, and registers the handle there.
+fn registered(
+    alloc: Global,
+    cores: &mut Vec<Core>,
+    seat: u32,
+    state: HandleState,
+    work: Work,
+) -> Result<Carried, NoMemory>
+    requires registers { registers_in work ≡ true }
+    ensures carried { IfOk result (λ done. (disk : Volume) → Carries disk disk cores.old.items cores.new.items state work (told_in cores.old.items disk seat state work) done) }
+{
+    let store = cores.len();
+    match added(alloc, cores, seat, &state) {
+        Ok(view) => Ok(at_core(state, work, store, view)),
+        Err(error) => {
+            drop((state, work));
+            Err(error)
+        }
+    }
+}
+
+/// Adds a core for the store of a handle, and registers the handle there: the view that this hands over.
+fn added(
+    alloc: Global,
+    cores: &mut Vec<Core>,
+    seat: u32,
+    state: &HandleState,
+) -> Result<View, NoMemory>
+    ensures added { IfOk result (AddsCore cores.old.items cores.new.items seat state.now) }
+{
+    let parts = state.parts();
+    // A list of as many paths as an address has values fits into no memory.
+    let Some(folders) = parts.folders.len().checked_add(1) else {
+        return Err(NoMemory);
+    };
+    let (core, view) = core_with(alloc, parts.slots, folders, seat)?;
+    cores.push(core)?;
+    Ok(view)
+}
+
+/// A handle after its registration at the core of a number.
+fn at_core(state: HandleState, work: Work, store: usize, view: View) -> Carried
+    ensures carried { result ≡ carried_at state work store view }
+{
+    let work = work.registered(&state);
+    Carried {
+        did: Did::Core {
+            store: store as u64,
+            entry: 1,
+        },
+        change: None,
+        state: HandleState {
+            store: state.store,
+            ignore_replacements: state.ignore_replacements,
+            core: store,
+            view: Some(view),
+        },
+        work,
+    }
+}
+
+/// Carries out the one call of the disk that a piece of work names, if it names one.
+fn turned(
+    alloc: Global,
+    disk: &mut MemDisk,
+    state: HandleState,
+    work: Work,
+) -> Result<Carried, NoMemory>
+    requires other { registers_in work ≡ false }
+    ensures carried { IfOk result (λ done. (cores : List History) (seat : ℕ) → Carries disk.old disk.new cores cores state work (told_in cores disk.old seat state work) done) }
+{
+    match on_disk(alloc, disk, &state, work) {
+        Ok((did, change, work)) => Ok(Carried {
+            did,
+            change,
+            state,
+            work,
+        }),
+        Err(error) => {
+            drop(state);
+            Err(error)
+        }
+    }
+}
+
 /// Carries out the one call of the disk that a piece of work names: what it did, the change that it made, and the work
 /// after the answer.
-pub fn carried_out(
+fn on_disk(
     alloc: Global,
     disk: &mut MemDisk,
     state: &HandleState,

@@ -2,7 +2,7 @@
 ghost use Rattle.std.specs.Prelude.{◌≡◌, IfOk};
 ghost use Rattle.std.specs.Option.{option_map};
 ghost use Rattle.gix_odb_world.specs.Recorded.{opened_in};
-ghost use Rattle.gix_odb_world.specs.WorkOrder.{ask_on, fed_on, result_in};
+ghost use Rattle.gix_odb_world.specs.WorkOrder.{ask_on, fed_on, registered_on, registers_in, result_in};
 
 use gix_odb::{CallState, HandleState, OpenState};
 use gix_odb_calls::Reply;
@@ -25,6 +25,26 @@ impl Work {
         match self {
             Work::Opening(state) => state.disk_ask(alloc, handle),
             Work::Calling(state) => state.disk_ask(alloc),
+        }
+    }
+
+    /// Whether what comes next is the making of a core for the handle's store.
+    pub fn registers(&self) -> bool
+        ensures registers { result ≡ registers_in self.now }
+    {
+        match self {
+            Work::Opening(state) => state.registers(),
+            Work::Calling(_) => false,
+        }
+    }
+
+    /// The work after the handle was registered at the core of its store.
+    pub fn registered(self, handle: &HandleState) -> Work
+        ensures registered { result ≡ registered_on handle.now self }
+    {
+        match self {
+            Work::Opening(state) => Work::Opening(state.registered(handle.parts().slots)),
+            Work::Calling(state) => Work::Calling(state),
         }
     }
 

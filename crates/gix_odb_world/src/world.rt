@@ -1,76 +1,40 @@
 //! A world: its steps, one after another, and the run that they come to.
-ghost use Rattle.std.specs.Prelude.{◌≡◌, ◌≢◌, ◌<◌, ◌^◌, ◌↔◌, IsTrue, ◌++◌, ◌∷◌, [], List, IfOk, OnOk, length, None, Some};
+ghost use Rattle.std.specs.Prelude.{◌↔◌, ◌∷◌, ◌++◌, ◌<◌, ◌^◌, ◌≡◌, [], IfOk, IsTrue, List, OnErr, OnOk, length};
 ghost use Rattle.odb_disk.specs.MemDisk.{Volume};
-ghost use Rattle.odb_tree.specs.Tree.{IsTree, tree_of};
 ghost use Rattle.gix_odb_world.specs.Event.{Event};
-ghost use Rattle.gix_odb_world.specs.Valid as reasons;
-ghost use Rattle.gix_odb_world.specs.Valid.{why_not_after, is_openable};
-ghost use Rattle.gix_odb_world.specs.Headline.{Headline, IsRun, outcome_of};
-ghost use Rattle.gix_odb_world.specs.WorkOrder.{result_in};
-ghost use Rattle.gix_odb_world.specs.World.{Explains, GoesOn, Continues, handle_at};
-ghost use Rattle.gix_odb_world.specs.Table.{HasOneMore, Notes, SetsHandle, Settles, after_turn, phase_of_handle, why_not_now};
+ghost use Rattle.gix_odb_world.specs.Headline.{Headline, IsRun};
+ghost use Rattle.gix_odb_world.specs.Table.{HasOneMore};
+ghost use Rattle.gix_odb_world.specs.Valid.{why_not_after};
+ghost use Rattle.gix_odb_world.specs.World.{Continues, Explains, GoesOn, IsExplained};
 
-use crate::handle::Handle;
-use crate::opening;
-use crate::record::{Did, OutcomeList, Record, RecordList, Run};
-use crate::turn::{carried_out, settled};
-use crate::work::Work;
-use gix_odb::{CallState, HandleState, OpenState};
-use gix_odb_calls::{Call, IdPairs, Options, Outcome, PathList, Step, Why};
+use crate::course::Course;
+use crate::record::Run;
+use gix_odb_calls::{Outcome, Step, Why};
 use odb_base::NoMemory;
-use odb_disk::{Change, Impossible, MemDisk, PathText};
+use odb_disk::MemDisk;
 use std::alloc::Global;
-use std::collections::BTreeMap;
 
-mod handles;
-
-/// A disk, the handles on it, and what has come of the steps so far.
+/// A disk, the handles on it, and what has come of the steps so far. Some events lead there, from some first disk.
 #[derive(Drop)]
 pub struct World {
-    disk: MemDisk,
-    handles: BTreeMap<u32, Handle>,
-    outcomes: OutcomeList,
-    records: RecordList,
+    course: Course,
+    ghost explained: { IsExplained course },
 }
 
 /// The first reason why a step isn't valid now, or `None` where it is.
 pub fn is_valid(alloc: Global, world: &World, step: &Step) -> Result<Option<Why>, NoMemory>
-    ensures reason { IfOk result (λ why. (first : Volume) (events : List Event) → Explains first events world.now → why ≡ why_not_after first events step.now) }
+    ensures reason { IfOk result (λ why. (first : Volume) (events : List Event) → Explains first events world.now.course → why ≡ why_not_after first events step.now) }
 {
-    match step {
-        Step::Open {
-            handle,
-            path,
-            folders,
-            replacements,
-            options: _,
-        } => world.why_not_open(alloc, *handle, path, folders, replacements),
-        Step::Close { handle } => Ok(world.why_not_idle(*handle)),
-        Step::Ignore { handle } => Ok(world.why_not_idle(*handle)),
-        Step::Start { handle, call: _ } => Ok(world.why_not_idle(*handle)),
-        Step::Turn { handle } => Ok(world.why_not_running(*handle)),
-        Step::Disk(change) => {
-            if world.disk.is_possible(alloc, change)? {
-                Ok(None)
-            } else {
-                Ok(Some(Why::ImpossibleChange))
-            }
-        }
-    }
+    world.course.why_not(alloc, step)
 }
 
 impl World {
     /// A world at its first state: nothing open, and no step made.
     pub fn new(alloc: Global, disk: MemDisk) -> World
-        ensures explained { Explains disk [] result }
+        ensures explained { Explains disk [] result.course }
     {
-        // A disk shows a tree: each node lies in a directory.
-        let _ = disk.tree();
         World {
-            disk,
-            handles: BTreeMap::new(alloc),
-            outcomes: OutcomeList::new(alloc),
-            records: RecordList::new(alloc),
+            course: Course::new(alloc, disk),
         }
     }
 
@@ -82,230 +46,54 @@ impl World {
         for step in steps {
             world.advance(alloc, step)?;
         }
-        Ok(world.finish())
+        let run = world.finish(alloc)?;
+        Ok(run)
     }
 
-    /// Makes one step, and gives what it came to. After want of memory the world is of no more use.
+    /// Makes one step, and gives what it came to. Where memory runs out, the steps so far are forgotten, and the world is a new one
+    /// on its disk as it is then.
     pub fn step(&mut self, alloc: Global, step: &Step) -> Result<Outcome, NoMemory>
-        ensures goes_on { IfOk result (λ outcome. (first : Volume) (events : List Event) → Explains first events self.old → GoesOn first events step.now outcome self.new) }
+        ensures goes_on { IfOk result (λ outcome. (first : Volume) (events : List Event) → Explains first events self.old.course → GoesOn first events step.now outcome self.new.course) }
+        ensures anew { OnErr result (Explains self.new.course.disk [] self.new.course) }
     {
         self.advance(alloc, step)?;
-        self.last_outcome(alloc)
+        match self.course.last_outcome(alloc) {
+            Ok(outcome) => Ok(outcome),
+            Err(error) => {
+                self.course.begin_anew(alloc);
+                Err(error)
+            }
+        }
     }
 
     /// The run of the steps so far. Every history that leads to the world is its own.
-    pub fn finish(self) -> Run
-        ensures run { (first : Volume) (events : List Event) → Explains first events self → IsRun first events result }
+    pub fn finish(self, alloc: Global) -> Result<Run, NoMemory>
+        ensures run { IfOk result (λ run. (first : Volume) (events : List Event) → Explains first events self.course → IsRun first events run) }
     {
-        let World {
-            disk,
-            handles: _,
-            outcomes,
-            records,
-        } = self;
-        Run {
-            outcomes,
-            records,
-            disk,
-        }
+        let World { course } = self;
+        course.finish(alloc)
     }
 
     /// Makes one step.
     pub(crate) fn advance(&mut self, alloc: Global, step: &Step) -> Result<(), NoMemory>
-        ensures continues { OnOk result (Continues self.old step.now self.new) }
-        ensures noted { OnOk result (HasOneMore self.old self.new) }
+        ensures continues { OnOk result (Continues self.old.course step.now self.new.course) }
+        ensures noted { OnOk result (HasOneMore self.old.course self.new.course) }
+        ensures anew { OnErr result (Explains self.new.course.disk [] self.new.course) }
     {
-        match step {
-            Step::Open {
-                handle,
-                path,
-                folders,
-                replacements,
-                options,
-            } => self.open(alloc, *handle, path, folders, replacements, *options),
-            Step::Close { handle } => self.close(*handle),
-            Step::Ignore { handle } => self.ignore(*handle),
-            Step::Start { handle, call } => self.start(alloc, *handle, call),
-            Step::Turn { handle } => self.turn(alloc, *handle),
-            Step::Disk(change) => self.change(alloc, change),
+        match self.course.advance(alloc, step) {
+            Ok(()) => Ok(()),
+            Err(error) => {
+                self.course.begin_anew(alloc);
+                Err(error)
+            }
         }
     }
 
     /// Whether the last step was a turn after which its call goes on.
     pub(crate) fn is_pending(&self) -> bool
-        ensures pending { (before : List Outcome) (outcome : Outcome) → self.now.outcomes ≡ before ++ outcome ∷ [] → IsTrue result ↔ (outcome ≡ Outcome.Pending) }
-        ensures fits { length self.now.outcomes < 2 ^ 64 }
+        ensures pending { (before : List Outcome) (outcome : Outcome) → self.now.course.outcomes ≡ before ++ outcome ∷ [] → IsTrue result ↔ (outcome ≡ Outcome.Pending) }
+        ensures fits { length self.now.course.outcomes < 2 ^ 64 }
     {
-        matches!(self.outcomes.as_slice(), [.., Outcome::Pending])
-    }
-
-    /// What the last step came to.
-    fn last_outcome(&self, alloc: Global) -> Result<Outcome, NoMemory>
-        requires some { self.now.outcomes ≢ [] }
-        ensures last { IfOk result (λ outcome. (before : List Outcome) × (self.now.outcomes ≡ before ++ outcome ∷ [])) }
-    {
-        let outcomes = self.outcomes.as_slice();
-        outcomes[outcomes.len() - 1].try_clone(alloc)
-    }
-
-    /// Begins the opening of a store.
-    fn open(
-        &mut self,
-        alloc: Global,
-        number: u32,
-        path: &PathText,
-        folders: &PathList,
-        replacements: &IdPairs,
-        options: Options,
-    ) -> Result<(), NoMemory>
-        ensures continues { OnOk result (Continues self.old (Step.Open number path.now folders.now replacements.now options) self.new) }
-        ensures noted { OnOk result (HasOneMore self.old self.new) }
-    {
-        if let Some(why) = self.why_not_free(number) {
-            return self.misuse(why);
-        }
-        let Some(state) = opening::begun(alloc, path, folders, replacements, options)? else {
-            return self.misuse(Why::BadOpen);
-        };
-        let work = Some(Work::Opening(OpenState::Looking));
-        self.put(number, Handle { state, work })?;
-        self.note(Outcome::Applied, Did::Nothing, None)
-    }
-
-    /// Closes an idle handle.
-    fn close(&mut self, number: u32) -> Result<(), NoMemory>
-        ensures continues { OnOk result (Continues self.old (Step.Close number) self.new) }
-        ensures noted { OnOk result (HasOneMore self.old self.new) }
-    {
-        if let Some(why) = self.why_not_idle(number) {
-            return self.misuse(why);
-        }
-        self.remove(number);
-        self.note(Outcome::Applied, Did::Nothing, None)
-    }
-
-    /// Lets an idle handle ignore replacements from now on.
-    fn ignore(&mut self, number: u32) -> Result<(), NoMemory>
-        ensures continues { OnOk result (Continues self.old (Step.Ignore number) self.new) }
-        ensures noted { OnOk result (HasOneMore self.old self.new) }
-    {
-        if let Some(why) = self.why_not_idle(number) {
-            return self.misuse(why);
-        }
-        self.set_ignoring(number);
-        self.note(Outcome::Applied, Did::Nothing, None)
-    }
-
-    /// Begins a call on an idle handle.
-    fn start(&mut self, alloc: Global, number: u32, call: &Call) -> Result<(), NoMemory>
-        ensures continues { OnOk result (Continues self.old (Step.Start number call.now) self.new) }
-        ensures noted { OnOk result (HasOneMore self.old self.new) }
-    {
-        let handle = match self.idle(number) {
-            Ok(handle) => handle,
-            Err(why) => return self.misuse(why),
-        };
-        let state = CallState::start(alloc, &handle.state, call)?;
-        self.set_work(number, Some(Work::Calling(state)));
-        self.note(Outcome::Applied, Did::Nothing, None)
-    }
-
-    /// Lets a handle make the call of the disk that its work names.
-    fn turn(&mut self, alloc: Global, number: u32) -> Result<(), NoMemory>
-        ensures continues { OnOk result (Continues self.old (Step.Turn number) self.new) }
-        ensures noted { OnOk result (HasOneMore self.old self.new) }
-    {
-        let (state, work) = match self.take_work(number) {
-            Ok(taken) => taken,
-            Err(why) => return self.misuse(why),
-        };
-        // The proof takes from this call that the disk shows a tree, each node of which lies in a directory: what a call of
-        // the disk changes and what it leaves alone is told of trees.
-        let _ = self.disk.tree();
-        match carried_out(alloc, &mut self.disk, &state, work) {
-            Ok((did, change, work)) => self.settle(number, state, work, did, change),
-            Err(error) => {
-                drop(state);
-                Err(error)
-            }
-        }
-    }
-
-    /// Puts a handle back after its turn, and adds the outcome and the record of the turn.
-    fn settle(
-        &mut self,
-        number: u32,
-        state: HandleState,
-        work: Work,
-        did: Did,
-        change: Option<Change>,
-    ) -> Result<(), NoMemory>
-        requires free { handle_at self.old number ≡ None }
-        ensures settles { OnOk result (Settles self.old self.new number (after_turn state (result_in work)) (outcome_of (result_in work)) did change) }
-    {
-        let (outcome, handle) = settled(state, work);
-        match self.set(number, handle) {
-            Ok(()) => self.note(outcome, did, change),
-            Err(error) => {
-                drop((outcome, did, change));
-                Err(error)
-            }
-        }
-    }
-
-    /// Makes a change that another program makes.
-    fn change(&mut self, alloc: Global, change: &Change) -> Result<(), NoMemory>
-        ensures continues { OnOk result (Continues self.old (Step.Disk change.now) self.new) }
-        ensures noted { OnOk result (HasOneMore self.old self.new) }
-    {
-        match self.disk.change(alloc, change) {
-            Ok(()) => {
-                let made = change.try_clone(alloc)?;
-                self.note(Outcome::Applied, Did::Nothing, Some(made))
-            }
-            Err(Impossible::Impossible) => self.misuse(Why::ImpossibleChange),
-            Err(Impossible::NoMemory) => Err(NoMemory),
-        }
-    }
-
-    /// Why an open step isn't valid.
-    fn why_not_open(
-        &self,
-        alloc: Global,
-        number: u32,
-        path: &PathText,
-        folders: &PathList,
-        replacements: &IdPairs,
-    ) -> Result<Option<Why>, NoMemory>
-        ensures why { IfOk result (λ why. why ≡ reasons.why_not_open (phase_of_handle (handle_at self.now number)) (is_openable path.now folders.now replacements.now)) }
-    {
-        if let Some(why) = self.why_not_free(number) {
-            return Ok(Some(why));
-        }
-        if opening::is_good(alloc, path, folders, replacements)? {
-            Ok(None)
-        } else {
-            Ok(Some(Why::BadOpen))
-        }
-    }
-
-    fn misuse(&mut self, why: Why) -> Result<(), NoMemory>
-        ensures notes { OnOk result (Notes self.old self.new (Outcome.Misuse why) Did.Nothing None) }
-    {
-        self.note(Outcome::Misuse(why), Did::Nothing, None)
-    }
-
-    /// Adds the outcome and the record of a step.
-    fn note(&mut self, outcome: Outcome, did: Did, change: Option<Change>) -> Result<(), NoMemory>
-        ensures notes { OnOk result (Notes self.old self.new outcome did change) }
-    {
-        let faults = self.disk.faults();
-        self.records.push(Record {
-            did,
-            change,
-            faults,
-        })?;
-        self.outcomes.push(outcome)?;
-        Ok(())
+        self.course.is_pending()
     }
 }

@@ -168,6 +168,14 @@ item_of-ignore handle small =
     item_of-line_of 105 (codes "gnore") (decimal handle ∷ []) refl (IsField-word (codes "ignore") refl refl, (IsField-decimal handle (omega arith), tt))
     ∙ rw (handle_of-decimal handle small) refl
 
+pub item_of-clone : (handle from : ℕ) → handle < 2 ^ 32 → from < 2 ^ 32
+    → item_of (line_of (codes "clone" ∷ decimal handle ∷ decimal from ∷ [])) ≡ items.Play (One (steps.Clone handle from))
+unfolding word_of line_item
+item_of-clone handle from small few =
+    item_of-line_of 99 (codes "lone") (decimal handle ∷ decimal from ∷ []) refl
+    (IsField-word (codes "clone") refl refl, (IsField-decimal handle (omega arith), (IsField-decimal from (omega arith), tt)))
+    ∙ rw (handle_of-decimal handle small, handle_of-decimal from few) refl
+
 -- questions about an id
 module _ (handle : ℕ) (id : List ℕ) (small : handle < 2 ^ 32) (is : IsId (ids.Sha1 id)) where
   asked : (b : ℕ) (word : List ℕ) (question : Question) → (b == 35) ≡ false → IsField (b ∷ word) → word_of (b ∷ word) ≡ Some (words.Ask question)

@@ -56,6 +56,11 @@ one_handle fields = None
 abbrev pub for_handle : (ℕ → Item) → Fields → Item
 for_handle item fields = item_or_refused item (one_handle fields)
 
+-- a further handle on the store of another
+abbrev pub clone_of : (handle from : Option ℕ) → Item
+clone_of (Some handle) (Some from) = step_item (steps.Clone handle from)
+clone_of handle from = items.Refused
+
 -- the call that a question about an id is
 abbrev pub call_of : Question → ObjectId → Call
 call_of questions.Find id = calls.Find id
@@ -98,6 +103,7 @@ line_item (Some words.Put) fields = setup_item (change_of change_words.Put field
 line_item (Some words.Link) fields = setup_item (change_of change_words.Link fields)
 line_item (Some words.Steps) [] = items.Steps
 line_item (Some words.Open) (handle ∷ path ∷ options) = open_of handle path options
+line_item (Some words.Clone) (handle ∷ from ∷ []) = clone_of (handle_of handle) (handle_of from)
 line_item (Some words.Close) fields = for_handle (λ h. step_item (steps.Close h)) fields
 line_item (Some words.Ignore) fields = for_handle (λ h. step_item (steps.Ignore h)) fields
 line_item (Some (words.Ask question)) (handle ∷ id ∷ []) = start_of (call_of question) (handle_of handle) (id_of id)

@@ -2,7 +2,7 @@
 ghost use Rattle.std.specs.Prelude.{◌≡◌, Some, IfOk};
 ghost use Rattle.std.specs.Option.{MatchOption};
 ghost use Rattle.odb_script.specs.Change.{change_of};
-ghost use Rattle.odb_script.specs.Line.{item_of, is_blank, fields_of, fields_item, texts_of, one_handle, line_item, call_of, start_of, step_item, setup_item, outside_item, changed_item};
+ghost use Rattle.odb_script.specs.Line.{clone_of, item_of, is_blank, fields_of, fields_item, texts_of, one_handle, line_item, call_of, start_of, step_item, setup_item, outside_item, changed_item};
 
 use crate::change::change_of;
 use crate::field::{handle_of, id_of};
@@ -89,6 +89,7 @@ fn line_item(alloc: Global, word: Option<Word>, fields: &[&str]) -> Result<Item,
         Some(Word::Link) => set_up(alloc, ChangeWord::Link, fields),
         Some(Word::Steps) => Ok(steps(fields)),
         Some(Word::Open) => open(alloc, fields),
+        Some(Word::Clone) => Ok(clone_line(fields)),
         Some(Word::Close) => Ok(for_handle(fields, |handle| step_item(Step::Close { handle }))),
         Some(Word::Ignore) => Ok(for_handle(fields, |handle| step_item(Step::Ignore { handle }))),
         Some(Word::Ask(question)) => Ok(ask(question, fields)),
@@ -151,6 +152,26 @@ fn for_handle<F: FnOnce(u32) -> Item + Drop>(fields: &[&str], item: F) -> Item
         [handle] => handle_of(handle).map_or(Item::Refused, item),
         _ => Item::Refused,
     }
+}
+
+#[tactic(auto, unfolding(crate::specs::Line::line_item))]
+fn clone_line(fields: &[&str]) -> Item
+    ensures item { result ≡ line_item (Some Word.Clone) (texts_of fields.now) }
+{
+    match fields {
+        [handle, from] => clone_of(handle_of(handle), handle_of(from)),
+        _ => Item::Refused,
+    }
+}
+
+/// A further handle on the store of another.
+fn clone_of(handle: Option<u32>, from: Option<u32>) -> Item
+    ensures item { result ≡ clone_of handle from }
+{
+    let (Some(handle), Some(from)) = (handle, from) else {
+        return Item::Refused;
+    };
+    step_item(Step::Clone { handle, from })
 }
 
 #[tactic(auto, unfolding(crate::specs::Line::line_item))]

@@ -19,6 +19,7 @@ pub enum Word {
     Link,
     Steps,
     Open,
+    Clone,
     Close,
     Ignore,
     /// A call that a question is.
@@ -65,6 +66,7 @@ fn step_word_of(text: &str) -> Option<Word>
 {
     match text {
         "open" => Some(Word::Open),
+        "clone" => Some(Word::Clone),
         "close" => Some(Word::Close),
         "ignore" => Some(Word::Ignore),
         "find" => Some(Word::Ask(Question::Find)),
@@ -102,7 +104,7 @@ fn is_unbuilt_word(text: &str) -> bool
 {
     matches!(
         text,
-        "ids" | "clone" | "upgrade" | "never" | "prefix" | "locate" | "entry"
+        "ids" | "upgrade" | "never" | "prefix" | "locate" | "entry"
     )
 }
 

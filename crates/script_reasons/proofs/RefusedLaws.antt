@@ -62,6 +62,13 @@ no_fault (Some words.Steps) (more ∷ rest) none h = absurd (all_spelled [] (mor
 no_fault (Some words.Open) [] none h = no_handle none
 no_fault (Some words.Open) (handle ∷ []) none h = no_path handle none
 no_fault (Some words.Open) (handle ∷ path ∷ options) none h = opens handle path options (opening_spelled handle path options none) h
+no_fault (Some words.Clone) fields none h = clone fields (all_spelled (expected_of words.Clone) fields 2 none) h
+  where
+    clone : (fields : Fields) → AllSpelled (expected_of words.Clone) fields → line_item (Some words.Clone) fields ≢ items.Refused
+    clone [] all h = absurd all
+    clone (handle ∷ []) all h = absurd all.1
+    clone (handle ∷ from ∷ []) all h = let hd = some_is (handle_of handle) all.0 in let f = some_is (handle_of from) all.1.0 in cc (rw (hd.1, f.1) at h)
+    clone (handle ∷ from ∷ more ∷ rest) all h = absurd all.1.1
 no_fault (Some words.Close) fields none h = one _ fields (λ handle e. cc e) (all_spelled (expected_of words.Close) fields 2 none) h
 no_fault (Some words.Ignore) fields none h = one _ fields (λ handle e. cc e) (all_spelled (expected_of words.Ignore) fields 2 none) h
 no_fault (Some (words.Ask question)) fields none h = ask fields (all_spelled (expected_of (words.Ask question)) fields 2 none) h

@@ -31,6 +31,7 @@ expected_of words.Put = expected_of_change changes.Put
 expected_of words.Link = expected_of_change changes.Link
 expected_of words.Steps = []
 expected_of words.Open = Handle ∷ Path ∷ []
+expected_of words.Clone = Handle ∷ Handle ∷ []
 expected_of words.Close = Handle ∷ []
 expected_of words.Ignore = Handle ∷ []
 expected_of (words.Ask question) = Handle ∷ Id ∷ []

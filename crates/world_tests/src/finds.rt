@@ -2,7 +2,7 @@
 
 // A header that is read as data, or a path whose digits are split elsewhere.
 pub(crate) const FOUND: &str = "\
-    make /o; make /o/e6; put /o:E blob 0~; open 0 /o; finish 0|1: 32 slots\n\
+    make /o; make /o/e6; put /o:E blob 0~; open 0 /o; finish 0|2: 32 slots\n\
     find 0 E; turn 0|Blob ";
 
 pub(crate) const FILE_FRONT: &str = "\
@@ -51,7 +51,7 @@ pub(crate) const FILES: &str = "\
 
 // A second folder that is skipped, asked in the first one's turn or before it, or a find that goes on after an error.
 pub(crate) const FOLDERS: &str = "\
-    make /o; make /o/e6; make /p; make /p/e6; put /p:E blob 0~; open 0 /o folder=/p folder=/q; finish 0|1: 32 slots\n\
+    make /o; make /o/e6; make /p; make /p/e6; put /p:E blob 0~; open 0 /o folder=/p folder=/q; finish 0|2: 32 slots\n\
     find 0 E; finish 0|2: Blob \n\
     find 0 Z; turn 0; turn 0; turn 0|pending; pending; not found\n\
     header 0 E; finish 0|2: Loose { kind: Blob, size: 0 }\n\
@@ -71,29 +71,29 @@ pub(crate) const FAULT_STEPS: &str = "\
 // A failed call that is answered as a miss, a test that ends with it though another folder says yes, a noted failure
 // that is forgotten, or told with the path of the last one.
 pub(crate) const FAULTS: &str = "\
-    99|1: 32 slots; 2: Blob ; 2: Loose { kind: Blob, size: 0 }; 2: true; 2: false\n\
+    99|2: 32 slots; 2: Blob ; 2: Loose { kind: Blob, size: 0 }; 2: true; 2: false\n\
     1|1: the objects directory could not be looked at; misuse NoHandle; 1: misuse NoHandle; misuse NoHandle; \
     1: misuse NoHandle; misuse NoHandle; 1: misuse NoHandle; misuse NoHandle; 1: misuse NoHandle\n\
-    2|1: 32 slots; 1: could not open or map /o/e6/9de29bb2d1d6434b8b29ae775ad8c2e48c5391; \
+    2|2: 32 slots; 1: could not open or map /o/e6/9de29bb2d1d6434b8b29ae775ad8c2e48c5391; \
     2: Loose { kind: Blob, size: 0 }; 2: true; 2: false\n\
-    3|1: 32 slots; 2: could not open or map /p/e6/9de29bb2d1d6434b8b29ae775ad8c2e48c5391; \
+    3|2: 32 slots; 2: could not open or map /p/e6/9de29bb2d1d6434b8b29ae775ad8c2e48c5391; \
     2: Loose { kind: Blob, size: 0 }; 2: true; 2: false\n\
-    4|1: 32 slots; 2: Blob ; 1: could not open or map /o/e6/9de29bb2d1d6434b8b29ae775ad8c2e48c5391; 2: true; 2: false\n\
-    6|1: 32 slots; 2: Blob ; 2: Loose { kind: Blob, size: 0 }; 2: true; 2: false\n\
-    7|1: 32 slots; 2: Blob ; 2: Loose { kind: Blob, size: 0 }; \
+    4|2: 32 slots; 2: Blob ; 1: could not open or map /o/e6/9de29bb2d1d6434b8b29ae775ad8c2e48c5391; 2: true; 2: false\n\
+    6|2: 32 slots; 2: Blob ; 2: Loose { kind: Blob, size: 0 }; 2: true; 2: false\n\
+    7|2: 32 slots; 2: Blob ; 2: Loose { kind: Blob, size: 0 }; \
     2: could not open or map /p/e6/9de29bb2d1d6434b8b29ae775ad8c2e48c5391; 2: false\n\
-    8|1: 32 slots; 2: Blob ; 2: Loose { kind: Blob, size: 0 }; 2: true; \
+    8|2: 32 slots; 2: Blob ; 2: Loose { kind: Blob, size: 0 }; 2: true; \
     2: could not open or map /o/00/00000000000000000000000000000000000001\n\
-    9|1: 32 slots; 2: Blob ; 2: Loose { kind: Blob, size: 0 }; 2: true; \
+    9|2: 32 slots; 2: Blob ; 2: Loose { kind: Blob, size: 0 }; 2: true; \
     2: could not open or map /p/00/00000000000000000000000000000000000001\n\
-    8 9|1: 32 slots; 2: Blob ; 2: Loose { kind: Blob, size: 0 }; 2: true; \
+    8 9|2: 32 slots; 2: Blob ; 2: Loose { kind: Blob, size: 0 }; 2: true; \
     2: could not open or map /o/00/00000000000000000000000000000000000001";
 
 // A replacement that is followed twice or not at all, taken by a test, or taken after it is to be ignored, by this
 // handle or by another.
 pub(crate) const REPLACED: &str = "\
     make /o; make /o/e6; put /o:E blob 0~; make /o/b6; put /o:H blob 5~hello|\n\
-    open 0 /o replace=Z:E replace=E:H; finish 0; open 1 /o replace=E:Z; finish 1|1: 32 slots; 1: 32 slots\n\
+    open 0 /o replace=Z:E replace=E:H; finish 0; open 1 /o replace=E:Z; finish 1|2: 32 slots; 2: 32 slots\n\
     find 0 Z; finish 0; find 0 E; finish 0; find 0 H; finish 0|1: Blob ; 1: Blob hello; 1: Blob hello\n\
     header 0 E; finish 0; header 0 Z; finish 0|1: Loose { kind: Blob, size: 5 }; 1: Loose { kind: Blob, size: 0 }\n\
     test 0 Z; finish 0; test 0 E; finish 0|1: false; 1: true\n\

@@ -63,10 +63,10 @@ const LINES: &str = "\
     close 0";
 
 const LINE_OUTCOMES: &str = "\
-    applied; applied; 32 slots; applied; pending; not found; misuse NotRunning; applied; pending; pending; pending; \
+    applied; applied; pending; 32 slots; applied; pending; not found; misuse NotRunning; applied; pending; pending; pending; \
     wrote e69de29bb2d1d6434b8b29ae775ad8c2e48c5391; applied; ";
 
-const LINE_PLACES: &str = "13 [0, 1, 2, 3, 5, 6, 7, 11, 12]";
+const LINE_PLACES: &str = "14 [0, 1, 3, 4, 6, 7, 8, 12, 13]";
 
 fn check_outcomes(alloc: Global, play: &Play) -> Result<(), Fail> {
     let found = outcomes_shown(alloc, &play.run.outcomes)?;

@@ -4,11 +4,12 @@
 // that makes a call of the disk.
 pub(crate) const MISUSES: &str = "\
     make /o; make /o/e6; put /o:E blob 0~|\n\
-    turn 0; close 0; ignore 0; find 0 E; write 0 0 -|\
-    misuse NoHandle; misuse NoHandle; misuse NoHandle; misuse NoHandle; misuse NoHandle\n\
+    turn 0; close 0; ignore 0; find 0 E; clone 1 0; write 0 0 -|\
+    misuse NoHandle; misuse NoHandle; misuse NoHandle; misuse NoHandle; misuse NoHandle; misuse NoHandle\n\
     open 0 /o; open 0 /o; open 0 /o folder=/o|misuse HandleTaken; misuse HandleTaken\n\
     close 0; ignore 0; find 0 E; write 0 0 -|misuse Busy; misuse Busy; misuse Busy; misuse Busy\n\
-    turn 0; turn 0|32 slots; misuse NotRunning\n\
+    clone 0 0; clone 0 1; clone 1 0|misuse HandleTaken; misuse HandleTaken; misuse Busy\n\
+    turn 0; turn 0; turn 0|pending; 32 slots; misuse NotRunning\n\
     find 0 E; close 0; take /o:E; turn 0|misuse Busy; not found\n\
     take /o:E; make /o/e6; make /x/y; put /o x; move /x /y|misuse ImpossibleChange; misuse ImpossibleChange; \
     misuse ImpossibleChange; misuse ImpossibleChange; misuse ImpossibleChange\n\
@@ -18,4 +19,5 @@ pub(crate) const MISUSES: &str = "\
     open 0 /x; turn 0; turn 0|the objects directory is not a directory; misuse NoHandle\n\
     open 0 /o:E; turn 0|the objects directory is not a directory\n\
     open 0 /o slots=32768; turn 0|32768 slots are too many\n\
-    open 0 /o slots=32767; turn 0|32767 slots";
+    open 0 /o slots=32767; turn 0; turn 0|pending; 32767 slots\n\
+    clone 1 0; clone 1 0; close 0; test 1 E; turn 1; clone 0 1; close 1; test 0 E; turn 0|misuse HandleTaken; true; true";

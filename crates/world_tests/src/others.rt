@@ -2,7 +2,7 @@
 
 // A name that is there before its data, or an object that is found nowhere afterwards.
 pub(crate) const READER: &str = "\
-    make /o; open 0 /o; finish 0; open 1 /o; finish 1|1: 32 slots; 1: 32 slots\n\
+    make /o; open 0 /o; finish 0; open 1 /o; finish 1|2: 32 slots; 2: 32 slots\n\
     write 0 0 -; turn 0; turn 0; turn 0; find 1 E; turn 1; test 1 E; turn 1|\
     pending; pending; pending; not found; false\n\
     turn 0|wrote e69de29bb2d1d6434b8b29ae775ad8c2e48c5391\n\

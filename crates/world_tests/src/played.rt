@@ -89,7 +89,7 @@ fn done(alloc: Global, world: &mut World, text: &str) -> Result<String, Fail> {
 }
 
 /// What steps come to, and one more, but for `applied`.
-fn joined(alloc: Global, before: &str, told: &str) -> Result<String, AllocError> {
+pub(crate) fn joined(alloc: Global, before: &str, told: &str) -> Result<String, AllocError> {
     match (before, told) {
         (_, "applied") => before.to_string(alloc),
         ("", _) => told.to_string(alloc),
@@ -125,7 +125,7 @@ fn check(alloc: Global, world: &mut World, rows: &str) -> Result<(), Fail> {
 pub(crate) fn check_run(alloc: Global, rows: &str) -> Result<Run, Fail> {
     let mut world = World::new(alloc, MemDisk::new(alloc)?);
     check(alloc, &mut world, rows)?;
-    Ok(world.finish())
+    Ok(world.finish(alloc)?)
 }
 
 /// The same for each row on a disk of its own, after these steps.
@@ -197,5 +197,6 @@ fn did_shown(alloc: Global, did: &Did) -> Result<String, AllocError> {
     match did {
         Did::Nothing => "-".to_string(alloc),
         Did::Disk { op, path, failed } => format!(in alloc; "{op:?} {path} {failed}"),
+        Did::Core { store, entry } => format!(in alloc; "core {store} {entry}"),
     }
 }

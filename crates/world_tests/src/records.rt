@@ -1,9 +1,10 @@
 //! What each step of a run did to the disk.
-use crate::played::record_shown;
+use crate::played::{joined, record_shown};
 use crate::words::{compare, halves, step_of};
+use gix_odb_core::{Effect, Entry, Event, Journal, Refusal};
 use gix_odb_world::{Run, Step, World};
 use odb_disk::MemDisk;
-use std::alloc::Global;
+use std::alloc::{AllocError, Global};
 use std::test::Fail;
 
 /// Compares what each step of a run did with the second half of its row.
@@ -38,8 +39,10 @@ const RECORDS: &str = "\
     turn 0|Look /o true false 1\n\
     open 0 /o|- false 1\n\
     turn 0|Look /o false false 1\n\
+    turn 0|core 0 1 false 1\n\
     open 1 /o|- false 1\n\
     turn 1|Look /o false false 1\n\
+    turn 1|core 1 1 false 1\n\
     find 0 E|- false 1\n\
     turn 0|Read /o/e6/9de29bb2d1d6434b8b29ae775ad8c2e48c5391 true false 2\n\
     write 0 0 -|- false 2\n\
@@ -55,12 +58,65 @@ const RECORDS: &str = "\
     turn 1|Append /o/tmp_obj_1 false true 3\n\
     turn 1|MakeDir /o/c1 false true 3\n\
     turn 1|Rename /o/tmp_obj_1 false true 3\n\
-    close 0|- false 3";
+    clone 2 1|core 1 2 false 3\n\
+    close 0|core 0 2 false 3\n\
+    close 1|core 1 3 false 3";
 
-// A failed call that is counted twice or makes its change, a path of another call, or a change that is lost.
+/// The entries of the journals of that run, a row for each journal: their numbers, seats, events and answers.
+const JOURNALS: &str = "\
+    1 0 register seen; 2 0 remove removed\n\
+    1 1 register seen; 2 2 register seen; 3 1 remove removed";
+
+fn event_shown(event: &Event) -> &'static str {
+    match event {
+        Event::Register { stable: false } => "register",
+        Event::Remove => "remove",
+        _ => "another event",
+    }
+}
+
+fn answer_shown(answer: &Result<Effect, Refusal>) -> &'static str {
+    match answer {
+        Ok(Effect::Seen(_)) => "seen",
+        Ok(Effect::Removed) => "removed",
+        _ => "another answer",
+    }
+}
+
+fn entry_shown(alloc: Global, entry: &Entry) -> Result<String, AllocError> {
+    let number = entry.number;
+    let seat = entry.seat;
+    let event = event_shown(&entry.event);
+    let answer = answer_shown(&entry.answer);
+    format!(in alloc; "{number} {seat} {event} {answer}")
+}
+
+fn journal_shown(alloc: Global, journal: &Journal) -> Result<String, AllocError> {
+    let mut shown = String::new(alloc);
+    for index in 0..journal.len() {
+        if let Some(entry) = journal.get(index) {
+            let entry = entry_shown(alloc, entry)?;
+            shown = joined(alloc, shown.as_str(), entry.as_str())?;
+        }
+    }
+    Ok(shown)
+}
+
+/// Compares the journals of a run, one after another, with rows.
+fn check_journals(alloc: Global, run: &Run, rows: &str) -> Result<(), Fail> {
+    for (journal, row) in run.journals.as_slice().iter().zip(rows.split('\n')) {
+        let found = journal_shown(alloc, journal)?;
+        compare("a journal", found.as_str(), row)?;
+    }
+    Ok(())
+}
+
+// A failed call that is counted twice or makes its change, a path of another call, or a change that is lost; an entry of
+// another store's journal, or one of another handle.
 #[test]
 fn records_what_each_step_did(rt: HostRuntime) -> Result<(), Fail> {
     let run = run_of(rt.alloc(), &[1, 4, 9], RECORDS)?;
-    assert!(rt; run.records.len() == 23 && run.outcomes.len() == 23);
-    check_records(rt.alloc(), &run, RECORDS)
+    assert!(rt; run.records.len() == 27 && run.outcomes.len() == 27 && run.journals.len() == 2);
+    check_records(rt.alloc(), &run, RECORDS)?;
+    check_journals(rt.alloc(), &run, JOURNALS)
 }

@@ -12,7 +12,7 @@ fn steps_in_turn(rt: HostRuntime) -> Result<(), Fail> {
         (finds::REPLACED, 16),
         (writes::WRITES, 39),
         (others::READER, 10),
-        (misuse::MISUSES, 10),
+        (misuse::MISUSES, 12),
     ] {
         let run = check_run(rt.alloc(), rows)?;
         assert!(rt; run.disk.calls() == calls);

@@ -123,6 +123,10 @@ fn known_id(text: &str) -> Result<Option<ObjectId>, Fail> {
 fn step_on(verb: &str, rest: &str) -> Result<Step, Fail> {
     let (handle, id) = cut(rest);
     let handle = handle.parse::<u32>()?;
+    if verb == "clone" {
+        let from = id.parse::<u32>()?;
+        return Ok(Step::Clone { handle, from });
+    }
     Ok(match verb {
         "close" => Step::Close { handle },
         "ignore" => Step::Ignore { handle },

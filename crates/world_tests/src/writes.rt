@@ -9,7 +9,7 @@ use std::test::Fail;
 // An id of the data without their header, a write that answers another id than it wrote under, a length that isn't
 // tested, a temporary file that stays, or a temporary name that is taken though another file has it.
 pub(crate) const WRITES: &str = "\
-    make /o; open 0 /o; finish 0|1: 32 slots\n\
+    make /o; open 0 /o; finish 0|2: 32 slots\n\
     write 0 5 - hello; finish 0|5: wrote b6fc4c620b67d95f953a5c1c1230aaab5db5a1b0\n\
     find 0 H; finish 0; header 0 H; finish 0|1: Blob hello; 1: Loose { kind: Blob, size: 5 }\n\
     write 0 5 - hello; finish 0|5: wrote b6fc4c620b67d95f953a5c1c1230aaab5db5a1b0\n\
@@ -30,19 +30,19 @@ pub(crate) const FAULT_STEPS: &str = "\
 // An error that is told of another call, a name that stands nevertheless, or a temporary file that is left though it
 // could be removed.
 pub(crate) const FAULTS: &str = "\
-    99|1: 32 slots; 5: wrote b6fc4c620b67d95f953a5c1c1230aaab5db5a1b0; 1: Blob hello; misuse ImpossibleChange\n\
-    2|1: 32 slots; 1: could not create named temp file in /o; 1: not found; misuse ImpossibleChange\n\
-    3|1: 32 slots; 3: could not write header to tempfile in /o; 1: not found; misuse ImpossibleChange\n\
-    4|1: 32 slots; 4: could not stream all data into tempfile in /o; 1: not found; misuse ImpossibleChange\n\
-    5|1: 32 slots; 5: could not make the directory of the object; 1: not found; misuse ImpossibleChange\n\
-    6|1: 32 slots; 6: could not turn the temporary file into /o/b6/fc4c620b67d95f953a5c1c1230aaab5db5a1b0; \
+    99|2: 32 slots; 5: wrote b6fc4c620b67d95f953a5c1c1230aaab5db5a1b0; 1: Blob hello; misuse ImpossibleChange\n\
+    2|2: 32 slots; 1: could not create named temp file in /o; 1: not found; misuse ImpossibleChange\n\
+    3|2: 32 slots; 3: could not write header to tempfile in /o; 1: not found; misuse ImpossibleChange\n\
+    4|2: 32 slots; 4: could not stream all data into tempfile in /o; 1: not found; misuse ImpossibleChange\n\
+    5|2: 32 slots; 5: could not make the directory of the object; 1: not found; misuse ImpossibleChange\n\
+    6|2: 32 slots; 6: could not turn the temporary file into /o/b6/fc4c620b67d95f953a5c1c1230aaab5db5a1b0; \
     1: not found; misuse ImpossibleChange\n\
-    3 4|1: 32 slots; 3: could not write header to tempfile in /o; 1: not found\n\
-    4 5|1: 32 slots; 4: could not stream all data into tempfile in /o; 1: not found\n\
-    5 6|1: 32 slots; 5: could not make the directory of the object; 1: not found\n\
-    6 7|1: 32 slots; 6: could not turn the temporary file into /o/b6/fc4c620b67d95f953a5c1c1230aaab5db5a1b0; \
+    3 4|2: 32 slots; 3: could not write header to tempfile in /o; 1: not found\n\
+    4 5|2: 32 slots; 4: could not stream all data into tempfile in /o; 1: not found\n\
+    5 6|2: 32 slots; 5: could not make the directory of the object; 1: not found\n\
+    6 7|2: 32 slots; 6: could not turn the temporary file into /o/b6/fc4c620b67d95f953a5c1c1230aaab5db5a1b0; \
     1: not found\n\
-    7|1: 32 slots; 5: wrote b6fc4c620b67d95f953a5c1c1230aaab5db5a1b0; \
+    7|2: 32 slots; 5: wrote b6fc4c620b67d95f953a5c1c1230aaab5db5a1b0; \
     1: could not open or map /o/b6/fc4c620b67d95f953a5c1c1230aaab5db5a1b0; misuse ImpossibleChange";
 
 pub(crate) const NAMES_FRONT: &str = "make /o; open 0 /o; finish 0";
@@ -59,9 +59,9 @@ pub(crate) const NAMES: &str = "\
     make /o/b6; put /o:H x; find 0 H; finish 0; write 0 5 - hello; finish 0; find 0 H; finish 0|\
     1: the loose object has no header; 5: wrote b6fc4c620b67d95f953a5c1c1230aaab5db5a1b0; 1: Blob hello\n\
     make /p; open 1 /o folder=/p; finish 1; write 1 5 - hello; finish 1; take /o:H; find 1 H; finish 1|\
-    1: 32 slots; 5: wrote b6fc4c620b67d95f953a5c1c1230aaab5db5a1b0; 2: not found\n\
+    2: 32 slots; 5: wrote b6fc4c620b67d95f953a5c1c1230aaab5db5a1b0; 2: not found\n\
     open 1 /o replace=H:E limit=0; finish 1; write 1 5 - hello; finish 1; find 1 H; finish 1; find 0 H; finish 0|\
-    1: 32 slots; 5: wrote b6fc4c620b67d95f953a5c1c1230aaab5db5a1b0; 1: not found; 1: Blob hello";
+    2: 32 slots; 5: wrote b6fc4c620b67d95f953a5c1c1230aaab5db5a1b0; 1: not found; 1: Blob hello";
 
 /// Takes all temporary names.
 fn take_names(alloc: Global, world: &mut World) -> Result<(), Fail> {
@@ -83,7 +83,7 @@ fn disk_after(alloc: Global, row: &str) -> Result<MemDisk, Fail> {
     let mut world = World::new(alloc, MemDisk::new(alloc)?);
     take_names(alloc, &mut world)?;
     check_row(alloc, &mut world, row)?;
-    Ok(world.finish().disk)
+    Ok(world.finish(alloc)?.disk)
 }
 
 /// Its tree, where so many calls of it were made.
@@ -100,7 +100,7 @@ fn tree_after(alloc: Global, row: &str, calls: u64) -> Result<String, Fail> {
 fn leaves_all_names_that_are_taken(rt: HostRuntime) -> Result<(), Fail> {
     let before = tree_after(rt.alloc(), "open 0 /o|", 0)?;
     let row = "open 0 /o; finish 0; write 0 0 -; finish 0|\
-        1: 32 slots; 16: could not create named temp file in /o";
+        2: 32 slots; 16: could not create named temp file in /o";
     let after = tree_after(rt.alloc(), row, 17)?;
     compare("the tree", after.as_str(), before.as_str())
 }

@@ -7,13 +7,14 @@ use std::alloc::Global;
 use std::test::Fail;
 
 /// Each word of a line that is built, but for `do`, which stands before those of changes.
-const WORDS: [Word; 16] = [
+const WORDS: [Word; 17] = [
     Word::Fail,
     Word::Mkdir,
     Word::Put,
     Word::Link,
     Word::Steps,
     Word::Open,
+    Word::Clone,
     Word::Close,
     Word::Ignore,
     Word::Ask(Question::Find),
@@ -45,6 +46,7 @@ fn spelled(word: Word) -> &'static str {
         Word::Link => "link PATH TARGET",
         Word::Steps => "steps",
         Word::Open => "open H PATH slots=N",
+        Word::Clone => "clone NEW H",
         Word::Close => "close H",
         Word::Ignore => "ignore H",
         Word::Ask(Question::Find) => "find H HEX",
@@ -200,9 +202,7 @@ fn names_each_option(rt: HostRuntime) -> Result<(), Fail> {
 }
 
 /// Each word that is known and isn't built.
-const UNBUILT_WORDS: [&str; 7] = [
-    "ids", "clone", "upgrade", "never", "prefix", "locate", "entry",
-];
+const UNBUILT_WORDS: [&str; 6] = ["ids", "upgrade", "never", "prefix", "locate", "entry"];
 
 /// Each option that is known and isn't built.
 const UNBUILT_OPTIONS: [&str; 3] = ["changes=", "midx=", "hash="];

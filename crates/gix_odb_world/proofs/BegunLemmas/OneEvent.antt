@@ -1,25 +1,23 @@
 -- What one event more makes of the steps from which a handle has its task, its store and its mode.
-use Rattle.std.proofs.Common.{◌≡◌, ℕ, ◌+◌, ◌≤◌, Bool, true, false, List, [], ◌∷◌, ◌++◌, length, Some, None, Result, Ok, Err, refl, sym, ◌∙◌, ap, subst, arith, inl, inr}
-use Rattle.std.specs.Prelude.{slice_get, if◌then◌else◌}
-use Rattle.std.proofs.lemmas.List.{length_push}
+use Rattle.std.proofs.Common.{◌≡◌, ℕ, ◌+◌, ◌≤◌, true, List, [], ◌∷◌, ◌++◌, length, Some, None, refl, sym, ◌∙◌, ap, subst, arith, inl, inr, ◌⊎◌, take}
+use Rattle.std.specs.Prelude.{slice_get}
+use Rattle.std.proofs.lemmas.List.{length_push, take-append-le}
+use Rattle.std.proofs.Math.Seq.{take-append_seam}
 use Rattle.std.proofs.lemmas.Option.{slice_get_within}
 use Rattle.odb_base.specs.Path.{Path}
 use Rattle.gix_hash.specs.declared.object_id.ObjectId.{ObjectId}
 use Rattle.gix_odb_calls.specs.Slots.{given_slots}
 use Rattle.gix_odb_calls.specs.declared.call.Call.{Call}
-use Rattle.gix_odb_calls.specs.declared.call.Reply.{Reply}
 use Rattle.gix_odb_calls.specs.declared.init.Options.{Options}
 use Rattle.gix_odb_calls.specs.declared.init.Slots.{Slots}
 use Rattle.gix_odb_calls.specs.declared.init.Slots.TheVariants.{Given}
 use Rattle.gix_odb_calls.specs.declared.step.Step.{Step}
 use Rattle.gix_odb_calls.specs.declared.step.Step.TheVariants as steps
 use Rattle.gix_odb_calls.specs.declared.step.Outcome.TheVariants as outcomes
-use Rattle.gix_odb_world.specs.Event.{Asked, Event, answered}
-use Rattle.gix_odb_world.specs.declared.work.Work.{Work}
-use Rattle.gix_odb_world.specs.Machines.{fed_in}
-use Rattle.gix_odb_world.specs.Status.{MakeCall, OpenStore, Running, Status, Store, Task, Free, Resting, Working, come_to, ignoring_from}
-use Rattle.gix_odb_world.specs.Status.{refuses_opening, replied, started, store_at, turned, Modes, modes_at_opening, now_ignoring}
-use Rattle.gix_odb_world.specs.Begun.{AppliedSince, BegunAs, BegunBy, HoldsStore, IsIgnoreOf, IsOpenOf, IsTaskOf, NoneSince, OpenedBy}
+use Rattle.gix_odb_world.specs.Event.{Event}
+use Rattle.gix_odb_world.specs.Status.{MakeCall, OpenStore, Running, Status, Store, Task, Free, Resting, Working, ignoring_from}
+use Rattle.gix_odb_world.specs.Status.{started, store_at, Modes, modes_at_opening, now_ignoring}
+use Rattle.gix_odb_world.specs.Begun.{AppliedSince, BegunAs, BegunBy, FromClone, FromOpen, HoldsStore, IsIgnoreOf, IsOpenOf, IsTaskOf, NoneSince, OpenedBy}
 use Rattle.gix_odb_world.specs.Valid.{phase_of, why_not_idle}
 use Rattle.gix_odb_world.proofs.HistoryLemmas.{slice_get-kept, slice_get-last, slice_get-push}
 
@@ -66,6 +64,7 @@ Stems events handle (Working running) = HoldsStore events handle running.store r
 
 open_is_task : (handle : ℕ) (step : Step) → IsOpenOf handle step → IsTaskOf handle step
 open_is_task handle (steps.Open other path folders replacements options) is = is
+open_is_task handle (steps.Clone other from) is = is
 open_is_task handle step is = absurd is
 
 given_as : (slots : Slots) → slots ≡ Given (given_slots slots)
@@ -159,31 +158,61 @@ module _ (events : List Event) (e : Event) where
     pub holds_opened : (store : Store) → store.opened ≡ length events + 1 → OpenedBy whole handle store.opened store
         → HoldsStore whole handle store modes_at_opening
     holds_opened store number o =
-        record {
-          step = o;
-          latest = subst (NoneSince (IsOpenOf handle) whole) (sym number) (none_after (IsOpenOf handle));
-          ignoring = (λ is. absurd (cc is), λ a. absurd (no_applied_after (IsIgnoreOf handle) (subst (AppliedSince (IsIgnoreOf handle) whole) number a)));
-        }
+        FromOpen o
+        (subst (NoneSince (IsOpenOf handle) whole) (sym number) (none_after (IsOpenOf handle)))
+        (λ is. absurd (cc is), λ a. absurd (no_applied_after (IsIgnoreOf handle) (subst (AppliedSince (IsIgnoreOf handle) whole) number a)))
+
+    -- what stood before a place stands before it still
+    front_kept : (place : ℕ) (event : Event) → slice_get events place ≡ Some event → take place events ≡ take place whole
+    front_kept place event there =
+        let within = slice_get_within events place event there in
+        sym (take-append-le place events (e ∷ []) (omega (arith, within)))
 
     holds_kept : (store : Store) (modes : Modes) → Apart (IsOpenOf handle) → Apart (IsIgnoreOf handle) → HoldsStore events handle store modes
         → HoldsStore whole handle store modes
-    holds_kept store modes no_open no_ignore h =
-        record {
-          step = opened_kept handle store.opened store h.step;
-          latest = none_push (IsOpenOf handle) store.opened no_open h.latest;
-          ignoring = (λ is. applied_kept (IsIgnoreOf handle) store.opened (h.ignoring.0 is), λ a. h.ignoring.1 (applied_before (IsIgnoreOf handle) store.opened no_ignore a));
-        }
+    holds_kept store modes no_open no_ignore (FromOpen step latest ignoring) =
+        FromOpen (opened_kept handle store.opened store step) (none_push (IsOpenOf handle) store.opened no_open latest)
+        (λ is. applied_kept (IsIgnoreOf handle) store.opened (ignoring.0 is), λ a. ignoring.1 (applied_before (IsIgnoreOf handle) store.opened no_ignore a))
+    holds_kept store modes no_open no_ignore (FromClone from place event parent there applied clones held latest ignoring) =
+        FromClone from place event parent (slice_get-kept events e place event there) applied clones
+        (subst (λ front. HoldsStore front from store parent) (front_kept place event there) held)
+        (none_push (IsOpenOf handle) (place + 1) no_open latest)
+        (λ is. wider (ignoring.0 is), λ either. ignoring.1 (narrower either))
+      where
+        wider : (parent.ignoring ≡ true) ⊎ AppliedSince (IsIgnoreOf handle) events (place + 1) → (parent.ignoring ≡ true) ⊎ AppliedSince (IsIgnoreOf handle) whole (place + 1)
+        wider (inl was) = inl was
+        wider (inr a) = inr (applied_kept (IsIgnoreOf handle) (place + 1) a)
+
+        narrower : (parent.ignoring ≡ true) ⊎ AppliedSince (IsIgnoreOf handle) whole (place + 1) → (parent.ignoring ≡ true) ⊎ AppliedSince (IsIgnoreOf handle) events (place + 1)
+        narrower (inl was) = inl was
+        narrower (inr a) = inr (applied_before (IsIgnoreOf handle) (place + 1) no_ignore a)
 
     holds_ignoring : (store : Store) (modes : Modes) → e.step ≡ steps.Ignore handle → e.outcome ≡ outcomes.Applied
         → HoldsStore events handle store modes → HoldsStore whole handle store (now_ignoring modes)
-    holds_ignoring store modes step applied h =
-        let within = slice_get_within events h.step.place h.step.event h.step.there in
-        let number = h.step.number in
-        record {
-          step = opened_kept handle store.opened store h.step;
-          latest = none_push (IsOpenOf handle) store.opened (λ _ is. subst (IsOpenOf handle) step is) h.latest;
-          ignoring = (λ _. applied_now (IsIgnoreOf handle) store.opened (omega (arith, within, number)) applied (subst (IsIgnoreOf handle) (sym step) refl), λ _. refl);
-        }
+    holds_ignoring store modes step applied (FromOpen o latest ignoring) =
+        let within = slice_get_within events o.place o.event o.there in
+        let number = o.number in
+        FromOpen (opened_kept handle store.opened store o) (none_push (IsOpenOf handle) store.opened (λ _ is. subst (IsOpenOf handle) step is) latest)
+        (λ _. applied_now (IsIgnoreOf handle) store.opened (omega (arith, within, number)) applied (subst (IsIgnoreOf handle) (sym step) refl), λ _. refl)
+    holds_ignoring store modes step applied (FromClone from place event parent there own clones held latest ignoring) =
+        let within = slice_get_within events place event there in
+        FromClone from place event parent (slice_get-kept events e place event there) own clones
+        (subst (λ front. HoldsStore front from store parent) (front_kept place event there) held)
+        (none_push (IsOpenOf handle) (place + 1) (λ _ is. subst (IsOpenOf handle) step is) latest)
+        (λ _. inr (applied_now (IsIgnoreOf handle) (place + 1) (omega (arith, within)) applied (subst (IsIgnoreOf handle) (sym step) refl)), λ _. refl)
+
+    -- the last event is a clone of a handle that had the store
+    pub holds_cloned : (from : ℕ) (store : Store) (parent modes : Modes) → modes.ignoring ≡ parent.ignoring → e.step ≡ steps.Clone handle from → e.outcome ≡ outcomes.Applied
+        → HoldsStore events from store parent → HoldsStore whole handle store modes
+    holds_cloned from store parent modes same step applied held =
+        FromClone from (length events) e parent (slice_get-last events e) applied step
+        (subst (λ front. HoldsStore front from store parent) (sym (take-append_seam events (e ∷ []))) held)
+        (none_after (IsOpenOf handle))
+        (λ is. inl (sym same ∙ is), λ either. ignored either)
+      where
+        ignored : (parent.ignoring ≡ true) ⊎ AppliedSince (IsIgnoreOf handle) whole (length events + 1) → modes.ignoring ≡ true
+        ignored (inl was) = same ∙ was
+        ignored (inr a) = absurd (no_applied_after (IsIgnoreOf handle) a)
 
     -- ---- the task
 
@@ -213,26 +242,3 @@ module _ (events : List Event) (e : Event) where
       record { begins = record { place = length events; number = refl; event = e; there = slice_get-last events e; applied = applied; starts = step }; latest = none_after (IsTaskOf handle) },
     )
     stems_started call (Working running) idle step applied stems = absurd (cc idle)
-
-stems_rest : (events : List Event) (handle : ℕ) (store : Store) (modes : Modes) (frees : Bool) → HoldsStore events handle store modes
-    → Stems events handle (if frees then Free else Resting store modes)
-stems_rest events handle store modes true holds = tt
-stems_rest events handle store modes false holds = holds
-
--- a turn's reply frees its handle or leaves it at rest, and what is left of its work has the same task
-stems_come : (events : List Event) (handle : ℕ) (running : Running) (result : Result Reply Work) → Stems events handle (Working running)
-    → Stems events handle (come_to running result)
-stems_come events handle running (Ok reply) stems = stems_rest events handle running.store running.modes (refuses_opening reply) stems.0
-stems_come events handle running (Err left) stems = (stems.0, record { begins = stems.1.begins; latest = stems.1.latest })
-
-pub stems_turned : (events : List Event) (handle : ℕ) (asked : Asked) (status : Status) → Stems events handle status
-    → Stems events handle (turned asked status)
-stems_turned events handle asked Free stems = tt
-stems_turned events handle asked (Resting store modes) stems = stems
-stems_turned events handle asked (Working running) stems = stems_come events handle running (fed_in running.store running.work (answered asked)) stems
-
-pub stems_replied : (events : List Event) (handle : ℕ) (reply : Reply) (status : Status) → Stems events handle status
-    → Stems events handle (replied reply status)
-stems_replied events handle reply Free stems = tt
-stems_replied events handle reply (Resting store modes) stems = stems
-stems_replied events handle reply (Working running) stems = stems_rest events handle running.store running.modes (refuses_opening reply) stems.0

@@ -18,7 +18,8 @@ use Rattle.gix_odb_calls.specs.declared.step.Why.{Why}
 use Rattle.gix_odb_world.specs.declared.work.Work.{Work}
 use Rattle.gix_odb_world.specs.Event.{Asked, Event, answered}
 use Rattle.gix_odb_world.specs.Status.{MakeCall, OpenStore, Running, Status, Store, Task, Free, Resting, Working, Modes, modes_at_opening}
-use Rattle.gix_odb_world.specs.Status.{come_to, ignoring_from, opening_at, refuses_opening, replied, running_from, started, status_after, status_of, store_at, turned, with_status}
+use Rattle.gix_odb_world.specs.Status.{cloned, come_to, gone_on, ignoring_from, modes_after}
+use Rattle.gix_odb_world.specs.Status.{opening_at, refuses_opening, replied, running_from, started, status_after, status_of, store_at, turned, with_status}
 use Rattle.gix_odb_world.specs.Begun.{is_turn_of, turns_since}
 use Rattle.gix_odb_world.specs.Machines.{fed_in}
 use Rattle.gix_odb_world.specs.Valid.{misuse_of, phase_of, why_not_after, why_not_running}
@@ -58,9 +59,9 @@ module _ (past : List Event) (e : Event) where
       (omega (arith, within, count), omega (arith, counts.1, now, none))
 
   -- a turn of it adds one
-  counts_more : (handle : ℕ) (running : Running) (left : Work) → is_turn_of handle e.step ≡ true → Counts past handle (Working running)
-      → Counts whole handle (Working (record running { turns = running.turns + 1; work = left }))
-  counts_more handle running left turn counts =
+  counts_more : (handle : ℕ) (running : Running) (asked : Asked) (left : Work) → is_turn_of handle e.step ≡ true → Counts past handle (Working running)
+      → Counts whole handle (Working (gone_on asked running left))
+  counts_more handle running asked left turn counts =
       let now = turns_since-push handle running.begun counts.0 in
       let one : added (is_turn_of handle e.step) ≡ 1 = ap added turn in
       let count = length_push past e in
@@ -84,26 +85,31 @@ module _ (past : List Event) (e : Event) where
   counts_ignoring handle (Resting store modes) other counts = tt
   counts_ignoring handle (Working running) other counts = counts_kept handle (Working running) other counts
 
+  counts_cloned : (handle : ℕ) (asked : Asked) (parent : Status) → Counts whole handle (cloned asked parent)
+  counts_cloned handle asked Free = tt
+  counts_cloned handle asked (Resting store modes) = tt
+  counts_cloned handle asked (Working running) = tt
+
   counts_started : (handle : ℕ) (call : Call) (status : Status) → is_turn_of handle e.step ≡ false → Counts past handle status
       → Counts whole handle (started (length past + 1) call status)
   counts_started handle call Free other counts = tt
   counts_started handle call (Resting store modes) other counts = counts_new handle (MakeCall call) store modes
   counts_started handle call (Working running) other counts = counts_kept handle (Working running) other counts
 
-  counts_come : (handle : ℕ) (running : Running) (result : Result Reply Work) → is_turn_of handle e.step ≡ true
-      → Counts past handle (Working running) → Counts whole handle (come_to running result)
-  counts_come handle running (Ok reply) turn counts = counts_rest handle running.store running.modes (refuses_opening reply)
-  counts_come handle running (Err left) turn counts = counts_more handle running left turn counts
+  counts_come : (handle : ℕ) (running : Running) (asked : Asked) (result : Result Reply Work) → is_turn_of handle e.step ≡ true
+      → Counts past handle (Working running) → Counts whole handle (come_to asked running result)
+  counts_come handle running asked (Ok reply) turn counts = counts_rest handle running.store (modes_after asked running.modes) (refuses_opening reply)
+  counts_come handle running asked (Err left) turn counts = counts_more handle running asked left turn counts
 
   counts_turned : (handle : ℕ) (asked : Asked) (status : Status) → is_turn_of handle e.step ≡ true → Counts past handle status → Counts whole handle (turned asked status)
   counts_turned handle asked Free turn counts = tt
   counts_turned handle asked (Resting store modes) turn counts = tt
-  counts_turned handle asked (Working running) turn counts = counts_come handle running (fed_in running.store running.work (answered asked)) turn counts
+  counts_turned handle asked (Working running) turn counts = counts_come handle running asked (fed_in running.store running.work (answered asked)) turn counts
 
-  counts_replied : (handle : ℕ) (reply : Reply) (status : Status) → Counts whole handle (replied reply status)
-  counts_replied handle reply Free = tt
-  counts_replied handle reply (Resting store modes) = tt
-  counts_replied handle reply (Working running) = counts_rest handle running.store running.modes (refuses_opening reply)
+  counts_replied : (handle : ℕ) (asked : Asked) (reply : Reply) (status : Status) → Counts whole handle (replied asked reply status)
+  counts_replied handle asked reply Free = tt
+  counts_replied handle asked reply (Resting store modes) = tt
+  counts_replied handle asked reply (Working running) = counts_rest handle running.store (modes_after asked running.modes) (refuses_opening reply)
 
 -- ---- what an event makes of all handles
 
@@ -137,6 +143,8 @@ module _ (first : Volume) (past : List Event) (e : Event) (law : Law first past 
   counts_applied : (step : Step) → e.step ≡ step → ¬ (IsTurn step) → (handle : ℕ)
       → Counts now handle (status_after (length past + 1) step outcomes.Applied e.asked table handle)
   counts_applied (steps.Open number path folders replacements options) is no_turn handle = counts_opened number path folders replacements options is handle
+  counts_applied (steps.Clone number from) is no_turn handle =
+      counts_set number (cloned e.asked (table from)) (counts_cloned past e number e.asked (table from)) (λ h _. ap (is_turn_of h) is) handle
   counts_applied (steps.Close number) is no_turn handle = counts_set number Free tt (λ h _. ap (is_turn_of h) is) handle
   counts_applied (steps.Ignore number) is no_turn handle =
       counts_set number (ignoring_from (table number)) (counts_ignoring past e number (table number) (ap (is_turn_of number) is) (before number)) (λ h _. ap (is_turn_of h) is) handle
@@ -159,7 +167,7 @@ module _ (first : Volume) (past : List Event) (e : Event) (law : Law first past 
   counts_answered : (step : Step) (reply : Reply) → e.step ≡ step → IsTurn step → (handle : ℕ)
       → Counts now handle (status_after (length past + 1) step (outcomes.Reply reply) e.asked table handle)
   counts_answered (steps.Turn number) reply is turn handle =
-      counts_set number (replied reply (table number)) (counts_replied past e number reply (table number)) (λ h other. ap (is_turn_of h) is ∙ other) handle
+      counts_set number (replied e.asked reply (table number)) (counts_replied past e number e.asked reply (table number)) (λ h other. ap (is_turn_of h) is ∙ other) handle
   counts_answered step reply is turn handle = absurd turn
 
   -- a misused turn is none of a handle that runs a call

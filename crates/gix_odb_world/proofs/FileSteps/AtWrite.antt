@@ -12,7 +12,7 @@ use Rattle.gix_odb_calls.specs.declared.step.Step.TheVariants as steps
 use Rattle.gix_odb_world.specs.declared.work.Work.{Work}
 use Rattle.gix_odb_world.specs.Event.{Answer, Asked, answered}
 use Rattle.gix_odb_world.specs.Machines.{fed_in, write_in}
-use Rattle.gix_odb_world.specs.Status.{IsAtWrite, MakeCall, Running, Store, Status, Free, Resting, Working, after_turn_of, applied, come_to, gone_on, ignoring_from}
+use Rattle.gix_odb_world.specs.Status.{IsAtWrite, MakeCall, Running, Store, Status, Free, Resting, Working, after_turn_of, applied, come_to, gone_on, ignoring_from, modes_after, cloned}
 use Rattle.gix_odb_world.specs.Status.{opening_at, refuses_opening, replied, running_from, started, status_after, turned, with_status, Modes, now_ignoring}
 use Rattle.gix_odb_world.proofs.MachineLaws.{HasNoFile}
 use Rattle.gix_odb_world.proofs.WorkLaws.{wrote_before}
@@ -53,17 +53,17 @@ module _ (store : Store) (begun : ℕ) where
   rests own modes false = no_write_resting own modes
 
   -- a reply ends it
-  pub ended : (reply : Reply) (status : Status) → ¬ (Before (replied reply status))
-  ended reply Free = no_write_free
-  ended reply (Resting own modes) = no_write_resting own modes
-  ended reply (Working running) = rests running.store running.modes (refuses_opening reply)
+  pub ended : (asked : Asked) (reply : Reply) (status : Status) → ¬ (Before (replied asked reply status))
+  ended asked reply Free = no_write_free
+  ended asked reply (Resting own modes) = no_write_resting own modes
+  ended asked reply (Working running) = rests running.store (modes_after asked running.modes) (refuses_opening reply)
 
-  come_before : (running : Running) (answer : Option Answer) (result : Result Reply Work) → fed_in running.store running.work answer ≡ result
-      → After (come_to running result) → Before (Working running)
-  come_before running answer (Ok reply) is f = absurd (rests running.store running.modes (refuses_opening reply) f.at)
-  come_before running answer (Err left) is f =
-      let a : Before (Working (gone_on running left)) = f.at in
-      let same : gone_on running left ≡ a.running = one_running (gone_on running left) a.running a.at.works in
+  come_before : (running : Running) (asked : Asked) (answer : Option Answer) (result : Result Reply Work) → fed_in running.store running.work answer ≡ result
+      → After (come_to asked running result) → Before (Working running)
+  come_before running asked answer (Ok reply) is f = absurd (rests running.store (modes_after asked running.modes) (refuses_opening reply) f.at)
+  come_before running asked answer (Err left) is f =
+      let a : Before (Working (gone_on asked running left)) = f.at in
+      let same : gone_on asked running left ≡ a.running = one_running (gone_on asked running left) a.running a.at.works in
       elim (wrote_before running.store running.work left answer a.call is (ap (λ (r : Running). write_in r.work) same ∙ a.at.writes)) [
         | inl was ↦ record {
           running = running;
@@ -78,12 +78,17 @@ module _ (store : Store) (begun : ℕ) where
   turned_before : (asked : Asked) (status : Status) → After (turned asked status) → Before status
   turned_before asked Free a = a.at
   turned_before asked (Resting own modes) a = a.at
-  turned_before asked (Working running) a = come_before running (answered asked) (fed_in running.store running.work (answered asked)) refl a
+  turned_before asked (Working running) a = come_before running asked (answered asked) (fed_in running.store running.work (answered asked)) refl a
 
   ignoring_before : (status : Status) → Before (ignoring_from status) → Before status
   ignoring_before Free a = a
   ignoring_before (Resting own modes) a = absurd (no_write_resting own (now_ignoring modes) a)
   ignoring_before (Working running) a = a
+
+  cloned_before : (asked : Asked) (status : Status) → ¬ (Before (cloned asked status))
+  cloned_before asked Free = no_write_free
+  cloned_before asked (Resting own modes) = no_write_resting own (modes_after asked modes)
+  cloned_before asked (Working running) = no_write_free
 
   started_before : (number : ℕ) (call : Call) (status : Status) → begun < number → Before (started number call status) → Before status
   started_before number call Free soon a = a
@@ -107,12 +112,13 @@ module _ (store : Store) (begun : ℕ) where
         by_number true is a = subst (λ n. Before (table n)) (sym (eqb-true handle number is)) (back a)
         by_number false is a = a.at
 
-    applied_before : (number : ℕ) (step : Step) → begun < number → After (applied number step table handle) → Before (table handle)
-    applied_before number (steps.Open h path folders replacements options) soon = set_before h _ (λ a. opened_before number _ (table h) soon a.at)
-    applied_before number (steps.Close h) soon = set_before h _ (λ b. absurd (no_write_free b.at))
-    applied_before number (steps.Ignore h) soon = set_before h _ (λ a. ignoring_before (table h) a.at)
-    applied_before number (steps.Start h call) soon = set_before h _ (λ a. started_before number call (table h) soon a.at)
-    applied_before number step soon = λ a. a.at
+    applied_before : (number : ℕ) (asked : Asked) (step : Step) → begun < number → After (applied number asked step table handle) → Before (table handle)
+    applied_before number asked (steps.Open h path folders replacements options) soon = set_before h _ (λ a. opened_before number _ (table h) soon a.at)
+    applied_before number asked (steps.Clone h from) soon = set_before h _ (λ b. absurd (cloned_before asked (table from) b.at))
+    applied_before number asked (steps.Close h) soon = set_before h _ (λ b. absurd (no_write_free b.at))
+    applied_before number asked (steps.Ignore h) soon = set_before h _ (λ a. ignoring_before (table h) a.at)
+    applied_before number asked (steps.Start h call) soon = set_before h _ (λ a. started_before number call (table h) soon a.at)
+    applied_before number asked step soon = λ a. a.at
 
     after_turn_before : (step : Step) (next : Status → Status) → ((status : Status) → After (next status) → Before status)
         → After (after_turn_of step next table handle) → Before (table handle)
@@ -121,7 +127,7 @@ module _ (store : Store) (begun : ℕ) where
 
     pub write_before : (number : ℕ) (step : Step) (outcome : Outcome) (asked : Asked) → begun < number
         → After (status_after number step outcome asked table handle) → Before (table handle)
-    write_before number step outcomes.Applied asked soon = applied_before number step soon
+    write_before number step outcomes.Applied asked soon = applied_before number asked step soon
     write_before number step outcomes.Pending asked soon = after_turn_before step (turned asked) (turned_before asked)
-    write_before number step (outcomes.Reply reply) asked soon = after_turn_before step (replied reply) (λ status b. absurd (ended reply status b.at))
+    write_before number step (outcomes.Reply reply) asked soon = after_turn_before step (replied asked reply) (λ status b. absurd (ended asked reply status b.at))
     write_before number step (outcomes.Misuse why) asked soon = λ a. a.at

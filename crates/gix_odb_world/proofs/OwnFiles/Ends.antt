@@ -35,4 +35,4 @@ pub no_write_after : (store : Store) (begun number : ℕ) (step : Step) (outcome
 no_write_after store begun number step outcome asked table handle reply turn is at =
     let here : AtWrite store begun (status_after number (steps.Turn handle) (outcomes.Reply reply) asked table handle) =
     subst (λ o. AtWrite store begun (status_after number (steps.Turn handle) o asked table handle)) is (subst (λ s. AtWrite store begun (status_after number s outcome asked table handle)) turn at) in
-    ended store begun reply (table handle) (subst (λ b. AtWrite store begun (if b then replied reply (table handle) else table handle)) (eq-eqb handle handle refl) here)
+    ended store begun asked reply (table handle) (subst (λ b. AtWrite store begun (if b then replied asked reply (table handle) else table handle)) (eq-eqb handle handle refl) here)

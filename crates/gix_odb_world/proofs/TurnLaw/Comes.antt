@@ -4,12 +4,12 @@ use Rattle.std.proofs.Common.{◌≡◌, ℕ, ◌+◌, ◌<◌, ◌≤◌, List,
 use Rattle.odb_disk.specs.MemDisk.{Volume}
 use Rattle.gix_odb_calls.specs.declared.call.Reply.{Reply}
 use Rattle.gix_odb_world.specs.declared.work.Work.{Work}
-use Rattle.gix_odb_world.specs.Event.{Event}
+use Rattle.gix_odb_world.specs.Event.{Asked, Event, answered}
 use Rattle.gix_odb_world.specs.Machine.{At, Machine, placed}
 use Rattle.gix_odb_world.specs.Machines.{at, ask_in, fed_in}
 use Rattle.gix_odb_world.specs.Status.{Running, gone_on}
 use Rattle.gix_odb_world.specs.Running.{Knows}
-use Rattle.gix_odb_world.proofs.MachineLaws.{ComesTo, IsTurnAsking, KeepsLaws, MachineComes, TakesTurn, answer_after}
+use Rattle.gix_odb_world.proofs.MachineLaws.{ComesTo, IsTurnAsking, KeepsLaws, MachineComes, TakesTurn, told_after}
 use Rattle.gix_odb_world.proofs.Machines.{laws_at}
 
 module _ (first : Volume) (events : List Event) (handle : ℕ) (running : Running) (work : Work) (knows : Knows first events handle running work) where
@@ -23,21 +23,23 @@ module _ (first : Volume) (events : List Event) (handle : ℕ) (running : Runnin
 
 -- what a machine comes to, among all work
 placed_comes : (first : Volume) (events : List Event) (e : Event) (handle : ℕ) (running : Running) (m : Machine) → KeepsLaws m
-    → (result : Result Reply m.State)
-    → MachineComes first events e handle running m result → ComesTo first events e handle running (placed m result)
-placed_comes first events e handle running m laws (Ok reply) comes = comes
-placed_comes first events e handle running m laws (Err state) comes =
-    let task_is = laws.tasked first (events ++ e ∷ []) handle (gone_on running (m.work state)) state comes.0 in (
-      subst (λ (a : At (m.work state)). a.machine.Knows first (events ++ e ∷ []) handle (gone_on running (m.work state)) a.state) (sym (laws.at_home state)) comes.0,
+    → (asked : Asked) (result : Result Reply m.State)
+    → MachineComes first events e handle running m asked result → ComesTo first events e handle running asked (placed m result)
+placed_comes first events e handle running m laws asked (Ok reply) comes = comes
+placed_comes first events e handle running m laws asked (Err state) comes =
+    let task_is = laws.tasked first (events ++ e ∷ []) handle (gone_on asked running (m.work state)) state comes.0 in (
+      subst (λ (a : At (m.work state)). a.machine.Knows first (events ++ e ∷ []) handle (gone_on asked running (m.work state)) a.state) (sym (laws.at_home state)) comes.0,
       λ entries. subst (λ bound. running.turns + 1 < bound) (laws.bounded running.store running.task state task_is entries) (comes.1 entries),
     )
 
 -- the whole turn of any work
 pub come_of : (first : Volume) (events : List Event) (e : Event) (handle : ℕ) (running : Running) → running.begun ≤ length events
     → (work : Work) (knows : Knows first events handle running work)
-    → IsTurnAsking first events e handle (ask_in running.store work)
-    → ComesTo first events e handle running (fed_in running.store work (answer_after first events (ask_in running.store work)))
+    → IsTurnAsking first events e handle running (ask_in running.store work)
+    → ComesTo first events e handle running (told_after first events handle running (ask_in running.store work))
+    (fed_in running.store work (answered (told_after first events handle running (ask_in running.store work))))
 come_of first events e handle running since work knows is =
     placed_comes first events e handle running (at work).machine (laws_at work)
-    ((at work).machine.feed running.store (at work).state (answer_after first events (ask_in running.store work)))
+    (told_after first events handle running (ask_in running.store work))
+    ((at work).machine.feed running.store (at work).state (answered (told_after first events handle running (ask_in running.store work))))
     ((laws_at work).turns.comes first events e handle running since (at work).state knows is)

@@ -1,12 +1,5 @@
-use Rattle.gix_odb_world.proofs.WorldLemmas.{explains_none}
+use Rattle.gix_odb_world.proofs.ExplainedLemmas.{explained_anew}
 use Rattle.gix_odb_world.proofs.world.World.new.Goals as goal
 
-pub returns : goal.returns
-returns c = record {
-  explained = explains_none record {
-    disk = c.args.disk;
-    handles = c.new.result;
-    outcomes = c.new-2.result;
-    records = c.new-3.result;
-  } c.tree.ensures.is_tree c.new.ensures.empty c.new-2.ensures.empty c.new-3.ensures.empty;
-}
+pub invariant_of-result : goal.invariant_of-result
+invariant_of-result c = record { explained = explained_anew c.new.result c.args.disk c.new.ensures.explained }

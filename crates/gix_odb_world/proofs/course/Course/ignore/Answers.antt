@@ -1,0 +1,14 @@
+use Rattle.std.proofs.Common.{sym}
+use Rattle.std.proofs.lemmas.Result.{on_ok_weaker}
+use Rattle.gix_odb_world.proofs.StepLemmas.{misused}
+use Rattle.gix_odb_world.proofs.HandleLemmas.{ignored}
+use Rattle.gix_odb_calls.specs.declared.step.Step.TheVariants as steps
+use Rattle.gix_odb_world.proofs.course.Course.ignore.Goals as goal
+
+pub returns-in-Some-clause-continues : goal.returns-in-Some-clause-continues
+returns-in-Some-clause-continues c = on_ok_weaker c.misuse.result
+    (misused c.args.self.now c.misuse.new.self (steps.Ignore c.args.number) c.in-Some.why (sym c.in-Some.ensures.why)) c.misuse.ensures.notes
+
+pub returns-clause-continues : goal.returns-clause-continues
+returns-clause-continues c =
+    on_ok_weaker c.note.result (ignored c.args.self.now c.set_ignoring.new.self c.note.new.self c.args.number (sym c.in_default.ensures.why) c.set_ignoring.ensures.sets) c.note.ensures.notes

@@ -1,0 +1,35 @@
+use Rattle.std.proofs.Common.{[], ◌∷◌, ◌++◌, None, refl, sym, ap, ◌∙◌, subst}
+use Rattle.std.proofs.lemmas.Result.{on_ok_weaker}
+use Rattle.gix_odb_world.specs.declared.record.Did.TheVariants.{Nothing}
+use Rattle.gix_odb_calls.specs.declared.step.Outcome.TheVariants.{Misuse}
+use Rattle.gix_odb_calls.specs.declared.step.Step.TheVariants as steps
+use Rattle.gix_odb_world.specs.declared.course.Course.{Course}
+use Rattle.gix_odb_world.specs.Headline.{outcome_of}
+use Rattle.gix_odb_world.specs.Table.{Notes}
+use Rattle.gix_odb_world.specs.WorkOrder.{result_in}
+use Rattle.gix_odb_world.proofs.StepLemmas.{misused}
+use Rattle.gix_odb_world.proofs.TurnLemmas.{turned_on}
+use Rattle.gix_odb_world.proofs.course.Course.turn.Goals as goal
+
+-- a handle that isn't at work stays as it was
+pub returns-in-Err-clause-continues : goal.returns-in-Err-clause-continues
+returns-in-Err-clause-continues c =
+    on_ok_weaker c.misuse.result
+    (λ notes. misused c.args.self.now c.misuse.new.self (steps.Turn c.args.number) c.in-Err.why (sym c.in-Err.ensures.why)
+    (subst (λ (world : Course). Notes world c.misuse.new.self (Misuse c.in-Err.why) Nothing None) c.in-Err.ensures.kept notes))
+    c.misuse.ensures.notes
+
+pub returns-clause-continues : goal.returns-clause-continues
+returns-clause-continues c =
+    on_ok_weaker c.settle.result
+    (λ settles. turned_on c.args.self.now c.take_work.new.self settles.mid c.settle.new.self c.carried_out.new.disk c.carried_out.new.cores c.args.number
+    c.in-Ok.taken.0 c.in-Ok.taken.1 c.in_ok-carried.carried
+    _ _ c.in-Ok.ensures.taken c.in-Ok.ensures.sets c.tree.ensures.is_tree c.in_ok-carried.ensures.carried refl refl settles.sets settles.notes) c.settle.ensures.settles
+
+pub returns-clause-noted : goal.returns-clause-noted
+returns-clause-noted c =
+    on_ok_weaker c.settle.result
+    (λ settles. (
+      outcome_of (result_in c.in_ok-carried.carried.work),
+      settles.notes.outcomes ∙ ap (λ outcomes. outcomes ++ outcome_of (result_in c.in_ok-carried.carried.work) ∷ []) (settles.sets.outcomes ∙ c.in-Ok.ensures.sets.outcomes),
+    )) c.settle.ensures.settles

@@ -1,0 +1,46 @@
+-- Where the handles of open stores stand at the cores of these.
+use Rattle.std.specs.Prelude.{◌≡◌, ◌≢◌, ◌↔◌, ℕ, List, IsSome, slice_get, None, Some}
+use Rattle.gix_odb_core.specs.Handles.{IsRegistered}
+use Rattle.gix_odb_core.specs.History.{History, present}
+use Rattle.gix_odb_core.specs.Replay.{snapshot_of}
+use Rattle.gix_odb_world.specs.Cores.{cores_after, registered_at}
+use Rattle.gix_odb_world.specs.Event.{Event}
+use Rattle.gix_odb_world.specs.Status.{Free, MakeCall, Modes, OpenStore, Resting, Status, Task, Working, status_of}
+
+-- A handle is registered at the core of its store, under its number, and at no other one; and its snapshot is the view of its last entry in
+-- the core's journal that handed one over.
+pub record IsSeated (cores : List History) (handle : ℕ) (modes : Modes) : Type 0 where
+  pub history : History
+  pub there : slice_get cores modes.core ≡ Some history
+  pub registered : IsRegistered (present history).handles handle
+  pub only : (store : ℕ) → store ≢ modes.core → registered_at cores store handle ≡ None
+  pub snapshot : modes.view ≡ snapshot_of handle history.entries
+
+-- a number is registered at no core
+abbrev pub IsNowhere : List History → (handle : ℕ) → Type 0
+IsNowhere cores handle = (store : ℕ) → registered_at cores store handle ≡ None
+
+-- each handle of an open store is seated; one whose store is opening isn't registered yet, nor is a number that no handle has
+abbrev pub HasSeatAt : List History → (handle : ℕ) → Modes → Task → Type 0
+HasSeatAt cores handle modes OpenStore = IsNowhere cores handle
+HasSeatAt cores handle modes (MakeCall call) = IsSeated cores handle modes
+
+abbrev pub HasSeat : List Event → (handle : ℕ) → Status → Type 0
+HasSeat events handle Free = IsNowhere (cores_after events) handle
+HasSeat events handle (Resting store modes) = IsSeated (cores_after events) handle modes
+HasSeat events handle (Working running) = HasSeatAt (cores_after events) handle running.modes running.task
+
+-- a handle that does this is one of the open store whose core has a number
+abbrev pub IsOpenAtTask : (core : ℕ) → Modes → Task → Type 0
+IsOpenAtTask core modes OpenStore = ⊥
+IsOpenAtTask core modes (MakeCall call) = modes.core ≡ core
+
+abbrev pub IsOpenAt : (core : ℕ) → Status → Type 0
+IsOpenAt core Free = ⊥
+IsOpenAt core (Resting store modes) = modes.core ≡ core
+IsOpenAt core (Working running) = IsOpenAtTask core running.modes running.task
+
+-- What is registered at the core of a store are the handles of that store that are open, and nothing else.
+abbrev pub RegistersOwn : List Event → Type 0
+RegistersOwn events =
+    (store seat : ℕ) → IsSome (registered_at (cores_after events) store seat) ↔ IsOpenAt store (status_of events seat)

@@ -1,0 +1,342 @@
+//! How far a world has come: its disk, its handles and cores, and what its steps came to; and what each step makes of it.
+ghost use Rattle.std.specs.Prelude.{◌≡◌, ◌≢◌, ◌<◌, ◌^◌, ◌↔◌, IsTrue, ◌++◌, ◌∷◌, [], List, IfOk, OnOk, length, None, Some};
+ghost use Rattle.odb_disk.specs.MemDisk.{Volume};
+ghost use Rattle.gix_odb_world.specs.Event.{Event};
+ghost use Rattle.gix_odb_world.specs.Valid as reasons;
+ghost use Rattle.gix_odb_world.specs.Valid.{why_not_after, is_openable};
+ghost use Rattle.gix_odb_world.specs.Headline.{IsRun, outcome_of};
+ghost use Rattle.gix_odb_world.specs.WorkOrder.{result_in};
+ghost use Rattle.gix_odb_world.specs.World.{Continues, Explains, IsExplained, handle_at};
+ghost use Rattle.gix_odb_world.specs.Table.{HasOneMore, Notes, SetsHandle, Settles, after_turn, phase_of_handle, why_not_now};
+
+use crate::cores::{joined, journals_of, removed};
+use crate::handle::Handle;
+use crate::opening;
+use crate::record::{Did, OutcomeList, Record, RecordList, Run};
+use crate::turn::{Carried, carried_out, settled};
+use crate::work::Work;
+use gix_odb::{CallState, HandleState, OpenState};
+use gix_odb_calls::{Call, IdPairs, Options, Outcome, PathList, Step, Why};
+use gix_odb_core::Core;
+use odb_base::NoMemory;
+use odb_disk::{Change, Impossible, MemDisk, PathText};
+use std::alloc::Global;
+use std::collections::BTreeMap;
+
+mod handles;
+
+/// A disk, the handles on it, the cores of their stores, and what has come of the steps so far.
+#[derive(Drop)]
+pub struct Course {
+    disk: MemDisk,
+    handles: BTreeMap<u32, Handle>,
+    cores: Vec<Core>,
+    outcomes: OutcomeList,
+    records: RecordList,
+}
+
+impl Course {
+    /// No step was made, and nothing is open.
+    pub fn new(alloc: Global, disk: MemDisk) -> Course
+        ensures explained { Explains disk [] result }
+    {
+        // A disk shows a tree: each node lies in a directory.
+        let _ = disk.tree();
+        Course {
+            disk,
+            handles: BTreeMap::new(alloc),
+            cores: Vec::new(alloc),
+            outcomes: OutcomeList::new(alloc),
+            records: RecordList::new(alloc),
+        }
+    }
+
+    /// Begins anew on the disk as it is now: the steps so far are forgotten.
+    pub fn begin_anew(&mut self, alloc: Global)
+        ensures explained { Explains self.new.disk [] self.new }
+    {
+        self.handles = BTreeMap::new(alloc);
+        self.cores = Vec::new(alloc);
+        self.outcomes = OutcomeList::new(alloc);
+        self.records = RecordList::new(alloc);
+        let _ = self.disk.tree();
+    }
+
+    /// The first reason why a step isn't valid now, or `None` where it is.
+    pub fn why_not(&self, alloc: Global, step: &Step) -> Result<Option<Why>, NoMemory>
+        ensures reason { IfOk result (λ why. (first : Volume) (events : List Event) → Explains first events self.now → why ≡ why_not_after first events step.now) }
+    {
+        match step {
+            Step::Open {
+                handle,
+                path,
+                folders,
+                replacements,
+                options: _,
+            } => self.why_not_open(alloc, *handle, path, folders, replacements),
+            Step::Clone { handle, from } => Ok(self.why_not_clone(*handle, *from)),
+            Step::Close { handle } => Ok(self.why_not_idle(*handle)),
+            Step::Ignore { handle } => Ok(self.why_not_idle(*handle)),
+            Step::Start { handle, call: _ } => Ok(self.why_not_idle(*handle)),
+            Step::Turn { handle } => Ok(self.why_not_running(*handle)),
+            Step::Disk(change) => {
+                if self.disk.is_possible(alloc, change)? {
+                    Ok(None)
+                } else {
+                    Ok(Some(Why::ImpossibleChange))
+                }
+            }
+        }
+    }
+
+    /// The run of the steps so far. Every history that leads here is its own.
+    pub fn finish(self, alloc: Global) -> Result<Run, NoMemory>
+        ensures run { IfOk result (λ run. (first : Volume) (events : List Event) → Explains first events self → IsRun first events run) }
+    {
+        let Course {
+            disk,
+            handles: _,
+            cores,
+            outcomes,
+            records,
+        } = self;
+        // The proof takes from this call that the steps are counted by a number of 64 bits, as the entries of a journal are.
+        let _ = records.len();
+        match journals_of(alloc, cores) {
+            Ok(journals) => Ok(Run {
+                outcomes,
+                records,
+                disk,
+                journals,
+            }),
+            Err(error) => {
+                drop((disk, outcomes, records));
+                Err(error)
+            }
+        }
+    }
+
+    /// Makes one step. Where memory runs out, nothing is said of what is left.
+    pub fn advance(&mut self, alloc: Global, step: &Step) -> Result<(), NoMemory>
+        requires explained { IsExplained self.old }
+        ensures continues { OnOk result (Continues self.old step.now self.new) }
+        ensures noted { OnOk result (HasOneMore self.old self.new) }
+    {
+        match step {
+            Step::Open {
+                handle,
+                path,
+                folders,
+                replacements,
+                options,
+            } => self.open(alloc, *handle, path, folders, replacements, *options),
+            Step::Clone { handle, from } => self.share(alloc, *handle, *from),
+            Step::Close { handle } => self.close(alloc, *handle),
+            Step::Ignore { handle } => self.ignore(*handle),
+            Step::Start { handle, call } => self.start(alloc, *handle, call),
+            Step::Turn { handle } => self.turn(alloc, *handle),
+            Step::Disk(change) => self.change(alloc, change),
+        }
+    }
+
+    /// Whether the last step was a turn after which its call goes on.
+    pub fn is_pending(&self) -> bool
+        ensures pending { (before : List Outcome) (outcome : Outcome) → self.now.outcomes ≡ before ++ outcome ∷ [] → IsTrue result ↔ (outcome ≡ Outcome.Pending) }
+        ensures fits { length self.now.outcomes < 2 ^ 64 }
+    {
+        matches!(self.outcomes.as_slice(), [.., Outcome::Pending])
+    }
+
+    /// What the last step came to.
+    pub fn last_outcome(&self, alloc: Global) -> Result<Outcome, NoMemory>
+        requires some { self.now.outcomes ≢ [] }
+        ensures last { IfOk result (λ outcome. (before : List Outcome) × (self.now.outcomes ≡ before ++ outcome ∷ [])) }
+    {
+        let outcomes = self.outcomes.as_slice();
+        outcomes[outcomes.len() - 1].try_clone(alloc)
+    }
+
+    /// Begins the opening of a store.
+    fn open(
+        &mut self,
+        alloc: Global,
+        number: u32,
+        path: &PathText,
+        folders: &PathList,
+        replacements: &IdPairs,
+        options: Options,
+    ) -> Result<(), NoMemory>
+        ensures continues { OnOk result (Continues self.old (Step.Open number path.now folders.now replacements.now options) self.new) }
+        ensures noted { OnOk result (HasOneMore self.old self.new) }
+    {
+        if let Some(why) = self.why_not_free(number) {
+            return self.misuse(why);
+        }
+        let Some(state) = opening::begun(alloc, path, folders, replacements, options)? else {
+            return self.misuse(Why::BadOpen);
+        };
+        let work = Some(Work::Opening(OpenState::Looking));
+        self.put(number, Handle { state, work })?;
+        self.note(Outcome::Applied, Did::Nothing, None)
+    }
+
+    /// Begins a further handle on the store of an idle one.
+    fn share(&mut self, alloc: Global, number: u32, from: u32) -> Result<(), NoMemory>
+        requires explained { IsExplained self.old }
+        ensures continues { OnOk result (Continues self.old (Step.Clone number from) self.new) }
+        ensures noted { OnOk result (HasOneMore self.old self.new) }
+    {
+        if let Some(why) = self.why_not_clone(number, from) {
+            return self.misuse(why);
+        }
+        let mut state = match self.idle(from) {
+            Ok(parent) => parent.state.sharing()?,
+            Err(why) => return self.misuse(why),
+        };
+        let (did, view) = joined(alloc, &mut self.cores, state.core, number)?;
+        state.view = Some(view);
+        self.put(number, Handle { state, work: None })?;
+        self.note(Outcome::Applied, did, None)
+    }
+
+    /// Closes an idle handle: the core of its store removes it.
+    fn close(&mut self, alloc: Global, number: u32) -> Result<(), NoMemory>
+        requires explained { IsExplained self.old }
+        ensures continues { OnOk result (Continues self.old (Step.Close number) self.new) }
+        ensures noted { OnOk result (HasOneMore self.old self.new) }
+    {
+        let core = match self.idle(number) {
+            Ok(handle) => handle.state.core,
+            Err(why) => return self.misuse(why),
+        };
+        let did = removed(alloc, &mut self.cores, core, number);
+        self.remove(number);
+        self.note(Outcome::Applied, did, None)
+    }
+
+    /// Lets an idle handle ignore replacements from now on.
+    fn ignore(&mut self, number: u32) -> Result<(), NoMemory>
+        ensures continues { OnOk result (Continues self.old (Step.Ignore number) self.new) }
+        ensures noted { OnOk result (HasOneMore self.old self.new) }
+    {
+        if let Some(why) = self.why_not_idle(number) {
+            return self.misuse(why);
+        }
+        self.set_ignoring(number);
+        self.note(Outcome::Applied, Did::Nothing, None)
+    }
+
+    /// Begins a call on an idle handle.
+    fn start(&mut self, alloc: Global, number: u32, call: &Call) -> Result<(), NoMemory>
+        ensures continues { OnOk result (Continues self.old (Step.Start number call.now) self.new) }
+        ensures noted { OnOk result (HasOneMore self.old self.new) }
+    {
+        let handle = match self.idle(number) {
+            Ok(handle) => handle,
+            Err(why) => return self.misuse(why),
+        };
+        let state = CallState::start(alloc, &handle.state, call)?;
+        self.set_work(number, Some(Work::Calling(state)));
+        self.note(Outcome::Applied, Did::Nothing, None)
+    }
+
+    /// Lets a handle carry out the one thing that its work asks for.
+    fn turn(&mut self, alloc: Global, number: u32) -> Result<(), NoMemory>
+        ensures continues { OnOk result (Continues self.old (Step.Turn number) self.new) }
+        ensures noted { OnOk result (HasOneMore self.old self.new) }
+    {
+        let (state, work) = match self.take_work(number) {
+            Ok(taken) => taken,
+            Err(why) => return self.misuse(why),
+        };
+        // The proof takes from this call that the disk shows a tree, each node of which lies in a directory: what a call of
+        // the disk changes and what it leaves alone is told of trees.
+        let _ = self.disk.tree();
+        let carried = carried_out(alloc, &mut self.disk, &mut self.cores, number, state, work)?;
+        let Carried {
+            did,
+            change,
+            state,
+            work,
+        } = carried;
+        self.settle(number, state, work, did, change)
+    }
+
+    /// Puts a handle back after its turn, and adds the outcome and the record of the turn.
+    fn settle(
+        &mut self,
+        number: u32,
+        state: HandleState,
+        work: Work,
+        did: Did,
+        change: Option<Change>,
+    ) -> Result<(), NoMemory>
+        requires free { handle_at self.old number ≡ None }
+        ensures settles { OnOk result (Settles self.old self.new number (after_turn state (result_in work)) (outcome_of (result_in work)) did change) }
+    {
+        let (outcome, handle) = settled(state, work);
+        match self.set(number, handle) {
+            Ok(()) => self.note(outcome, did, change),
+            Err(error) => {
+                drop((outcome, did, change));
+                Err(error)
+            }
+        }
+    }
+
+    /// Makes a change that another program makes.
+    fn change(&mut self, alloc: Global, change: &Change) -> Result<(), NoMemory>
+        ensures continues { OnOk result (Continues self.old (Step.Disk change.now) self.new) }
+        ensures noted { OnOk result (HasOneMore self.old self.new) }
+    {
+        match self.disk.change(alloc, change) {
+            Ok(()) => {
+                let made = change.try_clone(alloc)?;
+                self.note(Outcome::Applied, Did::Nothing, Some(made))
+            }
+            Err(Impossible::Impossible) => self.misuse(Why::ImpossibleChange),
+            Err(Impossible::NoMemory) => Err(NoMemory),
+        }
+    }
+
+    /// Why an open step isn't valid.
+    fn why_not_open(
+        &self,
+        alloc: Global,
+        number: u32,
+        path: &PathText,
+        folders: &PathList,
+        replacements: &IdPairs,
+    ) -> Result<Option<Why>, NoMemory>
+        ensures why { IfOk result (λ why. why ≡ reasons.why_not_open (phase_of_handle (handle_at self.now number)) (is_openable path.now folders.now replacements.now)) }
+    {
+        if let Some(why) = self.why_not_free(number) {
+            return Ok(Some(why));
+        }
+        if opening::is_good(alloc, path, folders, replacements)? {
+            Ok(None)
+        } else {
+            Ok(Some(Why::BadOpen))
+        }
+    }
+
+    fn misuse(&mut self, why: Why) -> Result<(), NoMemory>
+        ensures notes { OnOk result (Notes self.old self.new (Outcome.Misuse why) Did.Nothing None) }
+    {
+        self.note(Outcome::Misuse(why), Did::Nothing, None)
+    }
+
+    /// Adds the outcome and the record of a step.
+    fn note(&mut self, outcome: Outcome, did: Did, change: Option<Change>) -> Result<(), NoMemory>
+        ensures notes { OnOk result (Notes self.old self.new outcome did change) }
+    {
+        let faults = self.disk.faults();
+        self.records.push(Record {
+            did,
+            change,
+            faults,
+        })?;
+        self.outcomes.push(outcome)?;
+        Ok(())
+    }
+}
