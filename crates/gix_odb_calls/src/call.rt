@@ -1,6 +1,8 @@
 //! A call on an open handle: what it asks for, what it ends with, and why it is refused.
 ghost use Rattle.std.specs.Prelude.{◌≡◌, IfOk};
+ghost use Rattle.gix_odb_calls.specs.Hashes.{is_of_hash};
 
+use crate::hashes::is_id_of;
 use crate::{find, init, write};
 use gix_hash::ObjectId;
 use gix_object::Kind;
@@ -47,6 +49,17 @@ impl Call {
                 bytes: bytes.try_clone(alloc)?,
                 id: *id,
             }),
+        }
+    }
+
+    /// Whether the ids that the call names are of a hash. A write of an object whose id isn't known names none.
+    pub fn is_of_hash(&self, hash: gix_hash::Kind) -> bool
+        ensures of_hash { result ≡ is_of_hash hash self.now }
+    {
+        match self {
+            Call::Find(id) | Call::Header(id) | Call::Test(id) => is_id_of(hash, *id),
+            Call::Write { id: Some(id), .. } => is_id_of(hash, *id),
+            Call::Write { id: None, .. } => true,
         }
     }
 }

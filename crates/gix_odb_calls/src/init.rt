@@ -36,6 +36,8 @@ pub struct Options {
     pub slots: Slots,
     /// The most bytes of data that an object may have to be found, if there is a limit.
     pub alloc_limit_bytes: Option<u64>,
+    /// The most changes of the list of indices that a call bears: at most 1,000,000.
+    pub max_changes: u32,
 }
 
 /// Why an opening was refused.

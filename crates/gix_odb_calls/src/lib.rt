@@ -14,6 +14,7 @@
 
 mod call;
 pub mod find;
+mod hashes;
 pub mod init;
 mod line;
 pub mod load_index;
@@ -24,6 +25,7 @@ pub mod verdict;
 pub mod write;
 
 pub use call::{Call, CallError, Reply};
+pub use hashes::are_pairs_of;
 pub use init::{IdPairs, Options, PathList, Slots, copy_of_pairs, copy_of_paths};
 pub use line::Line;
 pub use query::Query;

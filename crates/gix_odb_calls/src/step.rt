@@ -17,6 +17,8 @@ pub enum Step {
         path: PathText,
         /// The other folders, in the order in which they are asked: at most 255.
         folders: PathList,
+        /// The hash that the ids of the store are of.
+        hash: gix_hash::Kind,
         /// Each id with the one that is sought in its place.
         replacements: IdPairs,
         options: Options,
@@ -57,9 +59,10 @@ impl Step {
                 handle,
                 path,
                 folders,
+                hash,
                 replacements,
                 options,
-            } => opening_copy(alloc, *handle, path, folders, replacements, *options),
+            } => opening_copy(alloc, *handle, path, folders, *hash, replacements, *options),
             Step::Clone { handle, from } => Ok(Step::Clone {
                 handle: *handle,
                 from: *from,
@@ -81,15 +84,17 @@ fn opening_copy(
     handle: u32,
     path: &PathText,
     folders: &PathList,
+    hash: gix_hash::Kind,
     replacements: &IdPairs,
     options: Options,
 ) -> Result<Step, NoMemory>
-    ensures copied { IfOk result (λ copy. copy ≡ Step.Open handle path.now folders.now replacements.now options) }
+    ensures copied { IfOk result (λ copy. copy ≡ Step.Open handle path.now folders.now hash replacements.now options) }
 {
     Ok(Step::Open {
         handle,
         path: path.try_clone(alloc)?,
         folders: copy_of_paths(alloc, folders)?,
+        hash,
         replacements: copy_of_pairs(alloc, replacements)?,
         options,
     })
@@ -125,8 +130,9 @@ impl Outcome {
 pub enum Why {
     /// The handle number isn't free.
     HandleTaken,
-    /// A folder is named twice or is the objects directory, an id is replaced twice, or there are more than 255
-    /// folders beside the objects directory.
+    /// A folder is named twice or is the objects directory, an id is replaced twice, an id is of another hash than the
+    /// store, there are more than 255 folders beside the objects directory, or a call is to bear more than 1,000,000
+    /// changes.
     BadOpen,
     /// No handle has the number.
     NoHandle,
@@ -134,6 +140,8 @@ pub enum Why {
     NotRunning,
     /// The handle runs a call.
     Busy,
+    /// The id of the call is of another hash than the store.
+    WrongHash,
     /// The tree has no place for the change.
     ImpossibleChange,
 }
