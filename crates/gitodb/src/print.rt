@@ -259,6 +259,7 @@ fn word_of(why: Why) -> &'static [u8]
         Why::NoHandle => b"no-handle",
         Why::NotRunning => b"not-running",
         Why::Busy => b"busy",
+        Why::WrongHash => b"wrong-hash",
         Why::ImpossibleChange => b"impossible-change",
     }
 }

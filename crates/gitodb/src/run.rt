@@ -31,7 +31,8 @@ with `#` say nothing. See docs/SCRIPT.md for the whole language.
   steps                      the steps begin
 
   open H PATH slots=N        handle H begins to open the store at PATH; further
-                             options: folder=PATH, replace=HEX:HEX, limit=N
+                             options: folder=PATH, replace=HEX:HEX, limit=N,
+                             changes=N, hash=sha256
   clone NEW H                NEW is a further handle on the store of an idle
                              handle H
   close H                    closes an idle handle
@@ -54,11 +55,11 @@ with `#` say nothing. See docs/SCRIPT.md for the whole language.
 
 CONTENT is DATA, @loose:OBJ, @pack:OBJ,OBJ.., @idx:OBJ,OBJ.. or
 @midx:STEM=OBJ,OBJ..;STEM=OBJ.., and OBJ is KIND:DATA. KIND is commit, tree, blob
-or tag; DATA is hex, or `-` for nothing. HEX has 40 lower-case digits. Numbers
-are decimal.
+or tag; DATA is hex, or `-` for nothing. HEX has 40 lower-case digits, or 64 in
+a store that is opened with hash=sha256. Numbers are decimal.
 
 Known, and not built yet (status 8): ids, upgrade, never, prefix, locate, entry;
-the options changes=, midx= and hash= of open; HEX of 64 digits.
+the option midx= of open.
 
 status  0 done   1 words not understood   2 a line was refused   3 read fault
         4 write fault   5 out of memory   8 a line has a word not built yet

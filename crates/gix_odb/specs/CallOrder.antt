@@ -1,11 +1,9 @@
 -- The order of work of a call: an object is looked for in the folders, or written into the objects directory.
-use Rattle.std.specs.Prelude.{ℕ, ◌<◌, ◌^◌, List, Option, Some, None, Result, Ok, Err}
+use Rattle.std.specs.Prelude.{◌≡◌, ℕ, ◌<◌, ◌^◌, true, List, Option, Some, None, Result, Ok, Err}
 use Rattle.odb_base.specs.Path.{Path}
 use Rattle.odb_disk.specs.declared.ask.DiskAsk.{DiskAsk}
 use Rattle.odb_disk.specs.declared.ask.DiskAnswer.{DiskAnswer}
-use Rattle.gix_hash.specs.ObjectId.{kind_of}
 use Rattle.gix_hash.specs.declared.kind.Kind.{Kind as HashKind}
-use Rattle.gix_hash.specs.declared.kind.Kind.TheVariants.{Sha1}
 use Rattle.gix_hash.specs.declared.object_id.ObjectId.{ObjectId}
 use Rattle.gix_object.specs.declared.kind.Kind.{Kind}
 use Rattle.gix_odb_loose.specs.LooseOrder.{reply_of}
@@ -15,6 +13,7 @@ use Rattle.gix_odb_loose.specs.declared.call.LooseJob.TheVariants as jobs
 use Rattle.gix_odb_loose.specs.declared.call.LooseReply.{LooseReply}
 use Rattle.gix_odb_loose.specs.declared.call.LooseReply.TheVariants as loose_replies
 use Rattle.gix_odb_loose.specs.declared.store.Store as loose
+use Rattle.gix_odb_calls.specs.Hashes.{is_of_hash}
 use Rattle.gix_odb_calls.specs.declared.call.Call.{Call}
 use Rattle.gix_odb_calls.specs.declared.call.Call.TheVariants as call_kinds
 use Rattle.gix_odb_calls.specs.declared.call.CallError.TheVariants as call_errors
@@ -31,18 +30,13 @@ use Rattle.gix_odb.specs.LookOrder.{asked_by}
 
 -- ---- a write
 
--- the hash of a known id, and SHA-1 where none is known
-abbrev pub hash_to_write : Option ObjectId → HashKind
-hash_to_write None = Sha1
-hash_to_write (Some id) = kind_of id
+-- the objects directory as the folder that is written into, with the hash of the store
+abbrev pub write_store : Path → HashKind → loose.Store
+write_store objects hash = record { path = objects; object_hash = hash; options = record { alloc_limit_bytes = None } }
 
--- the objects directory as the folder that is written into
-abbrev pub write_store : Path → Option ObjectId → loose.Store
-write_store objects known = record { path = objects; object_hash = hash_to_write known; options = record { alloc_limit_bytes = None } }
-
--- an object is written into the objects directory
-abbrev pub writing : Path → Kind → (size : ℕ) → List ℕ → (known : Option ObjectId) → LooseCall
-writing objects kind size bytes known = loose_order.started (write_store objects known) (jobs.Write kind size bytes known)
+-- an object is written into the objects directory of a store of a hash
+abbrev pub writing : Path → HashKind → Kind → (size : ℕ) → List ℕ → (known : Option ObjectId) → LooseCall
+writing objects hash kind size bytes known = loose_order.started (write_store objects hash) (jobs.Write kind size bytes known)
 
 -- what a write came to. It comes to nothing but the first two
 abbrev pub wrote_as : LooseReply → Reply
@@ -65,16 +59,20 @@ HasSize call = Unit {0}
 
 -- ---- any call
 
+-- the ids that a call names are of a hash
+abbrev pub IsOfHash : HashKind → Call → Type 0
+IsOfHash hash call = is_of_hash hash call ≡ true
+
 -- a new query, where `sought` tells the id that is sought
 abbrev pub looking : Path → (limit : Option ℕ) → (sought : Query → ObjectId) → Query → CallState
 looking objects limit sought query = Looking (looks.started objects limit query (sought query))
 
--- a new call
-abbrev pub started : Path → (limit : Option ℕ) → (sought : Query → ObjectId) → Call → CallState
-started objects limit sought (call_kinds.Find id) = looking objects limit sought (Find id)
-started objects limit sought (call_kinds.Header id) = looking objects limit sought (Header id)
-started objects limit sought (call_kinds.Test id) = looking objects limit sought (Test id)
-started objects limit sought (call_kinds.Write kind size bytes id) = Writing (writing objects kind size bytes id)
+-- a new call in a store of a hash
+abbrev pub started : Path → HashKind → (limit : Option ℕ) → (sought : Query → ObjectId) → Call → CallState
+started objects hash limit sought (call_kinds.Find id) = looking objects limit sought (Find id)
+started objects hash limit sought (call_kinds.Header id) = looking objects limit sought (Header id)
+started objects hash limit sought (call_kinds.Test id) = looking objects limit sought (Test id)
+started objects hash limit sought (call_kinds.Write kind size bytes id) = Writing (writing objects hash kind size bytes id)
 
 -- the folder's call at which a call stands, if there is one
 abbrev pub waiting_in : CallState → Option LooseCall

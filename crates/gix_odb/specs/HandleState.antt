@@ -2,18 +2,22 @@
 use Rattle.std.specs.Prelude.{ℕ, List, Option}
 use Rattle.std.specs.BTreeMap.{get}
 use Rattle.odb_base.specs.Path.{Path}
+use Rattle.gix_hash.specs.declared.kind.Kind.{Kind as HashKind}
 use Rattle.gix_hash.specs.declared.object_id.ObjectId.{ObjectId}
 use Rattle.gix_hash.specs.ObjectId.{id_cmp}
 use Rattle.gix_odb.specs.Contents.{replaced, sought_with}
 use Rattle.gix_odb.specs.declared.handle_state.HandleState.{HandleState}
 use Rattle.gix_odb_calls.specs.declared.query.Query.{Query}
 
--- the objects directory of a handle's store, the other folders, and the limit on found objects
+-- the objects directory of a handle's store, the other folders, the hash, and the limit on found objects
 abbrev pub objects_of : HandleState → Path
 objects_of handle = handle.store.value.objects
 
 abbrev pub folders_of : HandleState → List Path
 folders_of handle = handle.store.value.folders
+
+abbrev pub hash_of : HandleState → HashKind
+hash_of handle = handle.store.value.object_hash
 
 abbrev pub limit_of : HandleState → Option ℕ
 limit_of handle = handle.store.value.alloc_limit_bytes

@@ -1,9 +1,9 @@
 //! The order of work of a call on a handle: an object is looked for, or written.
 ghost use Rattle.std.specs.Prelude.{◌≡◌, ◌<◌, ◌^◌, IfOk};
 ghost use Rattle.std.specs.Option.{option_copied};
-ghost use Rattle.gix_odb.specs.CallOrder.{HasSize, ask_of, hash_to_write, result_of, started, waiting_in, writing, wrote_as};
+ghost use Rattle.gix_odb.specs.CallOrder.{HasSize, IsOfHash, ask_of, result_of, started, waiting_in, writing, wrote_as};
 ghost use Rattle.gix_odb.specs.CallOrder as calls;
-ghost use Rattle.gix_odb.specs.HandleState.{folders_of, limit_of, objects_of, sought_by};
+ghost use Rattle.gix_odb.specs.HandleState.{folders_of, hash_of, limit_of, objects_of, sought_by};
 
 use crate::handle_state::HandleState;
 use crate::look_state::LookState;
@@ -27,9 +27,10 @@ pub enum CallState {
 }
 
 impl CallState {
-    /// A new call. It asks nothing of the disk yet.
+    /// A new call, whose ids are of the store's hash. It asks nothing of the disk yet.
     pub fn start(alloc: Global, handle: &HandleState, call: &Call) -> Result<CallState, NoMemory>
-        ensures begun { IfOk result (λ state. state ≡ started (objects_of handle.now) (limit_of handle.now) (sought_by handle.now) call.now) }
+        requires of_hash { IsOfHash (hash_of handle.now) call.now }
+        ensures begun { IfOk result (λ state. state ≡ started (objects_of handle.now) (hash_of handle.now) (limit_of handle.now) (sought_by handle.now) call.now) }
         ensures sized { HasSize call.now }
     {
         match call {
@@ -41,7 +42,18 @@ impl CallState {
                 size,
                 bytes,
                 id,
-            } => begun(alloc, &handle.parts().objects, *kind, *size, bytes, *id),
+            } => {
+                let parts = handle.parts();
+                begun(
+                    alloc,
+                    &parts.objects,
+                    parts.object_hash,
+                    *kind,
+                    *size,
+                    bytes,
+                    *id,
+                )
+            }
         }
     }
 
@@ -105,23 +117,25 @@ fn looking(alloc: Global, handle: &HandleState, query: Query) -> Result<CallStat
     Ok(CallState::Looking(LookState::start(alloc, handle, query)?))
 }
 
-// The write of an object into a folder.
+// The write of an object into a folder, with a hash.
 fn begun(
     alloc: Global,
     folder: &PathText,
+    hash: gix_hash::Kind,
     kind: Kind,
     size: u64,
     bytes: &ByteList,
     id: Option<ObjectId>,
 ) -> Result<CallState, NoMemory>
-    ensures begun { IfOk result (λ state. state ≡ CallState.Writing (writing folder.now kind size bytes.now id)) }
+    requires of_hash { IsOfHash hash (Call.Write kind size bytes.now id) }
+    ensures begun { IfOk result (λ state. state ≡ CallState.Writing (writing folder.now hash kind size bytes.now id)) }
     ensures sized { size < 2 ^ 64 }
 {
     let bytes = bytes.try_clone(alloc)?;
     let options = gix_odb_loose::Options {
         alloc_limit_bytes: None,
     };
-    let store = gix_odb_loose::Store::at_opts(alloc, folder, hash_of(id), options)?;
+    let store = gix_odb_loose::Store::at_opts(alloc, folder, hash, options)?;
     let job = LooseJob::Write {
         kind,
         size,
@@ -129,16 +143,6 @@ fn begun(
         id,
     };
     Ok(CallState::Writing(LooseCall::start(alloc, &store, job)?))
-}
-
-// The hash of an id that is known, and SHA-1 where none is.
-fn hash_of(id: Option<ObjectId>) -> gix_hash::Kind
-    ensures hash { result ≡ hash_to_write id }
-{
-    match id {
-        Some(id) => id.kind(),
-        None => gix_hash::Kind::Sha1,
-    }
 }
 
 // The reply of a write, by that of the objects directory.

@@ -7,6 +7,7 @@ use Rattle.std.specs.Prelude.{◌==◌, if◌then◌else◌}
 use Rattle.std.proofs.lemmas.Bool.{eqb-true, eqb-false}
 use Rattle.odb_base.specs.Path.{Path}
 use Rattle.odb_disk.specs.MemDisk.{Volume}
+use Rattle.gix_hash.specs.declared.kind.Kind.{Kind as HashKind}
 use Rattle.gix_hash.specs.declared.object_id.ObjectId.{ObjectId}
 use Rattle.gix_odb_calls.specs.declared.call.Reply.{Reply}
 use Rattle.gix_odb_calls.specs.declared.init.Options.{Options}
@@ -54,20 +55,20 @@ module _ (first : Volume) (past : List Event) (e : Event) (before : (handle : �
   unapplied : e.outcome ≢ outcomes.Applied → (handle : ℕ) → Stems now handle (table handle)
   unapplied other handle = stems_kept past e handle (table handle) (λ applied. absurd (other applied)) (λ applied. absurd (other applied)) (before handle)
 
-  stems_opened : (number : ℕ) (path : Path) (folders : List Path) (replacements : List (ObjectId × ObjectId)) (options : Options)
-      → e.step ≡ steps.Open number path folders replacements options → e.outcome ≡ outcomes.Applied
+  stems_opened : (number : ℕ) (path : Path) (folders : List Path) (hash : HashKind) (replacements : List (ObjectId × ObjectId)) (options : Options)
+      → e.step ≡ steps.Open number path folders hash replacements options → e.outcome ≡ outcomes.Applied
       → (handle : ℕ)
-      → Stems now handle (status_after (length past + 1) (steps.Open number path folders replacements options) outcomes.Applied e.asked table handle)
-  stems_opened number path folders replacements options step applied handle =
-      let store : Store = store_at (length past + 1) path folders replacements options in
-      let opened : OpenedBy now number (length past + 1) store = opened_now past e number path folders replacements options step applied in
+      → Stems now handle (status_after (length past + 1) (steps.Open number path folders hash replacements options) outcomes.Applied e.asked table handle)
+  stems_opened number path folders hash replacements options step applied handle =
+      let store : Store = store_at (length past + 1) path folders hash replacements options in
+      let opened : OpenedBy now number (length past + 1) store = opened_now past e number path folders hash replacements options step applied in
       stems_set now table number _ handle
       (holds_opened past e number store refl opened, record { begins = opened; latest = none_after past e (IsTaskOf number) })
-      (λ apart. others (steps.Open number path folders replacements options) step handle (λ same. apart (sym same)) (λ never. never))
+      (λ apart. others (steps.Open number path folders hash replacements options) step handle (λ same. apart (sym same)) (λ never. never))
 
   stems_applied : (step : Step) → e.step ≡ step → e.outcome ≡ outcomes.Applied → None ≡ why_not_after first past step → (handle : ℕ)
       → Stems now handle (status_after (length past + 1) step outcomes.Applied e.asked table handle)
-  stems_applied (steps.Open number path folders replacements options) step applied valid handle = stems_opened number path folders replacements options step applied handle
+  stems_applied (steps.Open number path folders hash replacements options) step applied valid handle = stems_opened number path folders hash replacements options step applied handle
   stems_applied (steps.Clone number from) step applied valid handle =
       stems_set now table number (cloned e.asked (table from)) handle (stems_cloned past e number from e.asked (table from) step applied (before from))
       (λ apart. others (steps.Clone number from) step handle (λ same. apart (sym same)) (λ never. never))

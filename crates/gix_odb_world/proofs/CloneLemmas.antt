@@ -35,7 +35,7 @@ abbrev joining : List History → (core number : ℕ) → Asked
 joining cores core number = OfCore core number (core_events.Register false) (joins cores core number)
 
 no_work : {A : Type 0} (handle : Handle) (work : Work) → why_not_idle (phase_of_handle (Some handle)) ≡ None → handle.work ≡ Some work → A
-no_work handle work idle is = absurd (cc (subst (λ (w : Option Work). why_not_idle (phase_of_work w) ≡ None) is idle))
+no_work handle work idle is = absurd (cc (subst (λ (w : Option Work). why_not_idle (phase_of_work handle.state.store.value.object_hash w) ≡ None) is idle))
 
 -- a clone is registered at the core of the handle that it is one of
 joining_is : (cores : List History) (number : ℕ) (status : Status) (parent : Handle) → why_not_idle (phase_of_handle (Some parent)) ≡ None → Matches status (Some parent)
@@ -64,6 +64,8 @@ matches_cloned cores number (Resting store modes) parent own view idle match sha
     ignoring = shares.ignoring ∙ match.0.ignoring;
     limit = ap (λ (p : StoreParts). p.alloc_limit_bytes) shares.store ∙ match.0.limit;
     slots = ap (λ (p : StoreParts). p.slots) shares.store ∙ match.0.slots;
+    hash = ap (λ (p : StoreParts). p.object_hash) shares.store ∙ match.0.hash;
+    changes = ap (λ (p : StoreParts). p.max_changes) shares.store ∙ match.0.changes;
     core = shares.core ∙ match.0.core;
     view = shares.view_is ∙ sym (ap (λ v. or_before v modes.view) (ap (λ core. view_in (joins cores core number)) (sym match.0.core) ∙ seen));
   },

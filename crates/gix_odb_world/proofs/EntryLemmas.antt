@@ -58,7 +58,7 @@ module _ (past : List Event) (e : Event) (before : (handle : ℕ) → Stands pas
   of_clone number from (Working running) stands = tt
 
   of_applied : (step : Step) → OfItsCore cores (asked_applied past step)
-  of_applied (steps.Open number path folders replacements options) = tt
+  of_applied (steps.Open number path folders hash replacements options) = tt
   of_applied (steps.Clone number from) = of_clone number from (status_of past from) (before from)
   of_applied (steps.Close number) = of_close number (status_of past number) (before number)
   of_applied (steps.Ignore number) = tt

@@ -1,5 +1,6 @@
 -- The opening and the closing of a handle, and the setting of its mode.
-use Rattle.std.proofs.Common.{◌≡◌, ℕ, ◌+◌, Bool, true, false, List, [], ◌∷◌, ◌++◌, length, Some, None, Option, refl, sym, ◌∙◌, ap, subst, arith, Vec, Global}
+use Rattle.std.proofs.Common.{◌≡◌, ℕ, ◌+◌, ◌&&◌, nat_le, Bool, true, false, List, [], ◌∷◌, ◌++◌, length, Some, None, Option, refl, sym, ◌∙◌, ap, subst, arith, Vec, Global}
+use Rattle.std.specs.List.{list_all}
 use Rattle.std.specs.Map.{keys_of}
 use Rattle.std.specs.Ordering.{eq_by_cmp}
 use Rattle.std.proofs.lemmas.Bool.{and_parts}
@@ -7,7 +8,9 @@ use Rattle.std.proofs.lemmas.List.{length_push}
 use Rattle.std.proofs.lemmas.Map.Made.{update_all_none}
 use Rattle.odb_base.specs.Path.{Path}
 use Rattle.odb_disk.specs.MemDisk.{Volume}
+use Rattle.gix_hash.specs.declared.kind.Kind.{Kind as HashKind}
 use Rattle.gix_hash.specs.declared.object_id.ObjectId.{ObjectId}
+use Rattle.gix_odb_calls.specs.Hashes.{is_pair_of}
 use Rattle.gix_odb_calls.specs.declared.step.Step.TheVariants as steps
 use Rattle.gix_odb_calls.specs.declared.step.Outcome.TheVariants as outcomes
 use Rattle.gix_odb_calls.specs.declared.step.Why.{Why}
@@ -25,6 +28,7 @@ use Rattle.gix_hash.specs.ObjectId.{id_cmp}
 use Rattle.gix_odb_core.specs.History.{History}
 use Rattle.gix_odb_core.specs.Replay.{number_behind}
 use Rattle.gix_odb_core.specs.declared.event.Event.TheVariants as core_events
+use Rattle.gix_odb_world.specs.Bound.{most_changes}
 use Rattle.gix_odb_world.specs.Cores.{answer_behind, cores_after, cores_after_asked, history_at}
 use Rattle.gix_odb_world.specs.Event.{Asked, Event, OfCore}
 use Rattle.gix_odb_world.specs.Headline.{LeavesDisk, asked_applied, asked_by_close}
@@ -32,7 +36,7 @@ use Rattle.gix_odb_world.specs.Status.{OpenStore, Store, Status, Free, Resting, 
 use Rattle.gix_odb_world.specs.Handle.{IsHandleOf, IsOpened}
 use Rattle.gix_odb_world.specs.Run.{IsTurnOf, did_of_asked}
 use Rattle.gix_odb_world.specs.Running.{Runs}
-use Rattle.gix_odb_world.specs.Valid.{Phase, NoneThere, Idle, Running, why_not_open, why_not_idle, are_distinct, are_good_folders, is_openable}
+use Rattle.gix_odb_world.specs.Valid.{Phase, NoneThere, Idle, Running, why_not_open, why_not_idle, are_distinct, are_good_folders, are_good_replacements, is_openable}
 use Rattle.gix_odb_world.specs.World.{Continues, Explains, Matches, handle_at}
 use Rattle.gix_odb_world.specs.Table.{SetsHandle, Notes, phase_of_handle, phase_of_work, why_not_now, with_ignoring}
 use Rattle.gix_odb_world.proofs.DistinctLemmas.{IsDistinct-by_count, ids_equal}
@@ -45,45 +49,49 @@ runs_opening first events e handle store =
     let whole : length (events ++ e ∷ []) ≡ length events + 1 = length_push events e in (omega (arith, whole), begins first events e handle store modes_at_opening OpenStore tt)
 
 -- each pair's first id is replaced by its second, where no id is replaced twice
-replacements_same : (path : Path) (folders : List Path) (replacements : List (ObjectId × ObjectId)) (options : Options) (n : ℕ) (state : HandleState)
-    → is_openable path folders replacements ≡ true
-    → IsOpened path folders replacements options state → IsHandleOf (store_at n path folders replacements options) modes_at_opening state
-replacements_same path folders replacements options n state good begun =
-    let distinct = and_parts (are_good_folders path folders) (are_distinct id_cmp (keys_of replacements)) good in
+replacements_same : (path : Path) (folders : List Path) (hash : HashKind) (replacements : List (ObjectId × ObjectId)) (options : Options) (n : ℕ) (state : HandleState)
+    → is_openable path folders hash replacements options.max_changes ≡ true
+    → IsOpened path folders hash replacements options state → IsHandleOf (store_at n path folders hash replacements options) modes_at_opening state
+replacements_same path folders hash replacements options n state good begun =
+    let conditions = and_parts (are_good_folders path folders) (are_good_replacements hash replacements && nat_le options.max_changes most_changes) good in
+    let both = and_parts (are_good_replacements hash replacements) (nat_le options.max_changes most_changes) conditions.1 in
+    let distinct = and_parts (are_distinct id_cmp (keys_of replacements)) (list_all (is_pair_of hash) replacements) both.0 in
     record {
       objects = begun.objects_are;
       folders = begun.folders_are;
-      replacements = λ id. begun.replacements_are.0 id ∙ update_all_none ids_equal (eq_by_cmp id_cmp) (λ x y. refl) replacements id (IsDistinct-by_count ids_equal (keys_of replacements) distinct.1);
+      replacements = λ id. begun.replacements_are.0 id ∙ update_all_none ids_equal (eq_by_cmp id_cmp) (λ x y. refl) replacements id (IsDistinct-by_count ids_equal (keys_of replacements) distinct.0);
       ignoring = begun.ignoring;
       limit = begun.limit;
       slots = begun.slots;
+      hash = begun.hash_is;
+      changes = begun.changes;
       core = begun.core;
       view = begun.view;
     }
 
-pub opened : (old mid new : Course) (number : ℕ) (path : Path) (folders : List Path) (replacements : List (ObjectId × ObjectId)) (options : Options) (state : HandleState)
-    → why_not_open (phase_of_handle (handle_at old number)) true ≡ None → is_openable path folders replacements ≡ true
-    → IsOpened path folders replacements options state
+pub opened : (old mid new : Course) (number : ℕ) (path : Path) (folders : List Path) (hash : HashKind) (replacements : List (ObjectId × ObjectId)) (options : Options) (state : HandleState)
+    → why_not_open (phase_of_handle (handle_at old number)) true ≡ None → is_openable path folders hash replacements options.max_changes ≡ true
+    → IsOpened path folders hash replacements options state
     → SetsHandle old mid number (Some (record { state = state; work = Some (Opening Looking) })) → Notes mid new outcomes.Applied Nothing None
-    → Continues old (steps.Open number path folders replacements options) new
-opened old mid new number path folders replacements options state free good begun sets notes =
-    applied old mid new (steps.Open number path folders replacements options) number (Some (record { state = state; work = Some (Opening Looking) }))
-    (λ n status. opening_at n (store_at n path folders replacements options))
+    → Continues old (steps.Open number path folders hash replacements options) new
+opened old mid new number path folders hash replacements options state free good begun sets notes =
+    applied old mid new (steps.Open number path folders hash replacements options) number (Some (record { state = state; work = Some (Opening Looking) }))
+    (λ n status. opening_at n (store_at n path folders hash replacements options))
     (ap (why_not_open (phase_of_handle (handle_at old number))) good ∙ free) sets notes (λ turn. turn) refl (λ other turn. cc) (λ n asked table. refl)
-    (λ n status match. (replacements_same path folders replacements options n state good begun, refl))
-    (λ first events e status opens no_turn runs. runs_opening first events e number (store_at (length events + 1) path folders replacements options))
+    (λ n status match. (replacements_same path folders hash replacements options n state good begun, refl))
+    (λ first events e status opens no_turn runs. runs_opening first events e number (store_at (length events + 1) path folders hash replacements options))
     (λ events. refl)
 
 -- a bad opening is told where the number is free
 pub bad_open : (phase : Phase) (openable : Bool) → why_not_open phase true ≡ None → openable ≡ false → why_not_open phase openable ≡ Some BadOpen
 bad_open NoneThere openable free bad = rw bad refl
-bad_open Idle openable free bad = absurd (cc free)
+bad_open (Idle hash) openable free bad = absurd (cc free)
 bad_open Running openable free bad = absurd (cc free)
 
 -- a number that isn't free is told first
 pub taken : (phase : Phase) (openable : Bool) (why : Why) → Some why ≡ why_not_open phase true → why_not_open phase openable ≡ Some why
 taken NoneThere openable why is = absurd (cc is)
-taken Idle openable why is = sym is
+taken (Idle hash) openable why is = sym is
 taken Running openable why is = sym is
 
 -- ---- a close
@@ -97,7 +105,7 @@ removal_is : (cores : List History) (number : ℕ) (status : Status) (handle : H
     → removal cores handle.state.core number ≡ asked_by_close cores number status
 removal_is cores number Free handle idle match = absurd match
 removal_is cores number (Resting store modes) handle idle match = ap (λ core. removal cores core number) match.0.core
-removal_is cores number (Working running) handle idle match = absurd (cc (subst (λ (w : Option Work). why_not_idle (phase_of_work w) ≡ None) match.1 idle))
+removal_is cores number (Working running) handle idle match = absurd (cc (subst (λ (w : Option Work). why_not_idle (phase_of_work handle.state.store.value.object_hash w) ≡ None) match.1 idle))
 
 close_tells : (old : Course) (cores : Vec History Global) (number : ℕ) (handle : Handle) (did : Did) → why_not_now old (steps.Close number) ≡ None → handle_at old number ≡ Some handle
     → did ≡ Core handle.state.core (number_behind (history_at old.cores.items handle.state.core).entries)
@@ -136,10 +144,10 @@ matches_ignoring Free (Some handle) idle match = absurd match
 matches_ignoring (Resting store modes) None idle match = absurd match
 matches_ignoring (Resting store modes) (Some handle) idle match =
     let own = match.0 in
-    (record { objects = own.objects; folders = own.folders; replacements = own.replacements; ignoring = refl; limit = own.limit; slots = own.slots; core = own.core; view = own.view }, match.1)
+    (record { objects = own.objects; folders = own.folders; replacements = own.replacements; ignoring = refl; limit = own.limit; slots = own.slots; hash = own.hash; changes = own.changes; core = own.core; view = own.view }, match.1)
 matches_ignoring (Working running) None idle match = absurd match
 matches_ignoring (Working running) (Some handle) idle match =
-    absurd (cc (subst (λ (w : Option Work). why_not_idle (phase_of_work w) ≡ None) match.1 idle))
+    absurd (cc (subst (λ (w : Option Work). why_not_idle (phase_of_work handle.state.store.value.object_hash w) ≡ None) match.1 idle))
 
 runs_ignoring : (number : ℕ) (first : Volume) (events : List Event) (e : Event) (status : Status) → ((other : ℕ) → ¬ IsTurnOf other e.step)
     → Runs first events number status → Runs first (events ++ e ∷ []) number (ignoring_from status)

@@ -26,7 +26,7 @@ use Rattle.gix_odb.specs.declared.look_state.Stage.TheVariants as stages
 use Rattle.gix_odb_calls.specs.declared.query.Query.{Query}
 use Rattle.gix_odb_calls.specs.declared.query.Query.TheVariants.{Find, Header, Test}
 use Rattle.gix_odb_world.specs.declared.work.Work.TheVariants.{Calling}
-use Rattle.gix_odb_world.specs.Bound.{bound_of_call, bound_of_task, bytes_to_write, default_changes, laps_without_change, turns_each, turns_of_folder, turns_of_lap}
+use Rattle.gix_odb_world.specs.Bound.{bound_of_call, bound_of_task, bytes_to_write, laps_without_change, turns_each, turns_of_folder, turns_of_lap}
 use Rattle.gix_odb_world.specs.AtWork.{nothing_in_front, Modes}
 use Rattle.gix_odb_world.specs.Event.{Answer, Event, FromCore, FromDisk, OfDisk}
 use Rattle.gix_odb_world.specs.Handle.{IsHandleOf}
@@ -77,7 +77,7 @@ few_turns laps slots folders entries some =
 
 few_queries : (store : Store) (turns : ℕ) → turns + 1 < length (folder_list store.parts) → (entries : ℕ) → turns + 1 < bound_of_call store entries None
 few_queries store turns few entries =
-    let many = few_turns (default_changes + laps_without_change) store.slots (length (folder_list store.parts)) entries (omega arith) in omega (arith, few, many)
+    let many = few_turns (store.max_changes + laps_without_change) store.slots (length (folder_list store.parts)) entries (omega arith) in omega (arith, few, many)
 
 -- a query has no bytes to write
 no_bytes : (query : Query) → None ≡ bytes_to_write (call_of query)

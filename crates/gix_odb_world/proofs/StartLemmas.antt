@@ -21,7 +21,7 @@ use Rattle.gix_odb_world.specs.Handle.{IsHandleOf}
 use Rattle.gix_odb.specs.HandleState.{replacement_of, sought_by}
 use Rattle.gix_odb_world.specs.Run.{IsTurnOf}
 use Rattle.gix_odb_world.specs.Running.{Runs}
-use Rattle.gix_odb_world.specs.Valid.{why_not_idle}
+use Rattle.gix_odb_world.specs.Valid.{why_not_start}
 use Rattle.gix_odb_world.specs.World.{Continues, Matches, handle_at}
 use Rattle.gix_odb_world.specs.Table.{SetsHandle, Notes, phase_of_handle, phase_of_work, why_not_now, with_work}
 use Rattle.gix_odb_world.proofs.StepLemmas.{applied}
@@ -29,23 +29,24 @@ use Rattle.gix_odb_world.proofs.KnowsLemmas.{begins, runs-push}
 
 -- the work of the code is that of the store
 work_started : (store : Store) (modes : Modes) (state : HandleState) (call : Call) → IsHandleOf store modes state
-    → Calling (calls.started state.store.value.objects state.store.value.alloc_limit_bytes (sought_by state) call) ≡ begun_with store modes (MakeCall call)
+    → Calling (calls.started state.store.value.objects state.store.value.object_hash state.store.value.alloc_limit_bytes (sought_by state) call) ≡ begun_with store modes (MakeCall call)
 work_started store modes state call own =
-    ap (λ objects. Calling (calls.started objects state.store.value.alloc_limit_bytes (sought_by state) call)) own.objects
-    ∙ (ap (λ limit. Calling (calls.started store.parts.objects limit (sought_by state) call)) own.limit
-    ∙ ap (λ seeks. Calling (calls.started store.parts.objects store.parts.limit seeks call)) sought_same)
+    ap (λ objects. Calling (calls.started objects state.store.value.object_hash state.store.value.alloc_limit_bytes (sought_by state) call)) own.objects
+    ∙ (ap (λ hash. Calling (calls.started store.parts.objects hash state.store.value.alloc_limit_bytes (sought_by state) call)) own.hash
+    ∙ (ap (λ limit. Calling (calls.started store.parts.objects store.hash limit (sought_by state) call)) own.limit
+    ∙ ap (λ seeks. Calling (calls.started store.parts.objects store.hash store.parts.limit seeks call)) sought_same))
   where
     -- the handle seeks what its store does
     sought_same : sought_by state ≡ sought store.parts modes.ignoring
     sought_same = ap (λ ignoring. sought_with (replacement_of state) ignoring) own.ignoring ∙ ap (λ replacement. sought_with replacement modes.ignoring) (fun_ext own.replacements)
 
-matches_started : (n : ℕ) (call : Call) (status : Status) (handle : Handle) (work : Work) → why_not_idle (phase_of_handle (Some handle)) ≡ None
-    → work ≡ Calling (calls.started handle.state.store.value.objects handle.state.store.value.alloc_limit_bytes (sought_by handle.state) call)
+matches_started : (n : ℕ) (call : Call) (status : Status) (handle : Handle) (work : Work) → why_not_start (phase_of_handle (Some handle)) call ≡ None
+    → work ≡ Calling (calls.started handle.state.store.value.objects handle.state.store.value.object_hash handle.state.store.value.alloc_limit_bytes (sought_by handle.state) call)
     → Matches status (Some handle) → Matches (started n call status) (with_work (Some work) (Some handle))
 matches_started n call Free handle work idle is match = absurd match
 matches_started n call (Resting store modes) handle work idle is match = (match.0, ap Some (is ∙ work_started store modes handle.state call match.0))
 matches_started n call (Working running) handle work idle is match =
-    absurd (cc (subst (λ (w : Option Work). why_not_idle (phase_of_work w) ≡ None) match.1 idle))
+    absurd (cc (subst (λ (w : Option Work). why_not_start (phase_of_work handle.state.store.value.object_hash w) call ≡ None) match.1 idle))
 
 runs_started : (number : ℕ) (call : Call) → HasSize call → (first : Volume) (events : List Event) (e : Event) (status : Status)
     → e.step ≡ steps.Start number call → ((other : ℕ) → ¬ IsTurnOf other e.step)
@@ -57,7 +58,7 @@ runs_started number call sized first events e (Working running) starts no_turn r
 
 pub begun : (old mid new : Course) (number : ℕ) (call : Call) (handle : Handle) (work : Work) → HasSize call
     → why_not_now old (steps.Start number call) ≡ None → handle_at old number ≡ Some handle
-    → work ≡ Calling (calls.started handle.state.store.value.objects handle.state.store.value.alloc_limit_bytes (sought_by handle.state) call)
+    → work ≡ Calling (calls.started handle.state.store.value.objects handle.state.store.value.object_hash handle.state.store.value.alloc_limit_bytes (sought_by handle.state) call)
     → SetsHandle old mid number (with_work (Some work) (handle_at old number)) → Notes mid new outcomes.Applied Nothing None
     → Continues old (steps.Start number call) new
 begun old mid new number call handle work sized reason there is sets notes =
@@ -65,6 +66,6 @@ begun old mid new number call handle work sized reason there is sets notes =
     reason sets notes (λ turn. turn) refl (λ other turn. cc) (λ n asked table. refl)
     (λ n status match.
     subst (λ (h : Option Handle). Matches (started n call status) (with_work (Some work) h)) (sym there)
-    (matches_started n call status handle work (subst (λ (h : Option Handle). why_not_idle (phase_of_handle h) ≡ None) there reason) is (subst (Matches status) there match)))
+    (matches_started n call status handle work (subst (λ (h : Option Handle). why_not_start (phase_of_handle h) call ≡ None) there reason) is (subst (Matches status) there match)))
     (runs_started number call sized)
     (λ events. refl)

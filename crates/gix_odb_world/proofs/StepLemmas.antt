@@ -22,7 +22,7 @@ use Rattle.gix_odb_world.specs.Event.{Asked, OfCore, OfDisk, OfNewCore, OfNothin
 use Rattle.gix_odb_world.specs.Status.{Status, Free, Resting, Working, status_of, status_after, with_status}
 use Rattle.gix_odb_world.specs.Run.{did_of_asked, disk_after, disk_after_asked, disk_after_event, disk_after_change, IsTurnOf}
 use Rattle.gix_odb_world.specs.Running.{Runs}
-use Rattle.gix_odb_world.specs.Valid.{is_openable, misuse_of, phase_after, phase_of, why_not_after, why_not_change, why_not_idle, why_not_open, why_not_running, why_not_clone}
+use Rattle.gix_odb_world.specs.Valid.{Idle, is_openable, misuse_of, phase_after, phase_of, why_not_after, why_not_change, why_not_idle, why_not_open, why_not_running, why_not_clone, why_not_start}
 use Rattle.gix_odb_world.specs.Headline.{FailsAsListed, IsTurn, Law, LeavesDisk, Suits, asked_applied}
 use Rattle.gix_odb_world.specs.Changes.{ChangesAs}
 use Rattle.gix_odb_world.specs.World.{Explains, GoesOn, Continues, IsRunOf, Matches, handle_at}
@@ -38,9 +38,10 @@ phase_of-matched : (status : Status) (handle : Option Handle) → Matches status
 phase_of-matched Free None match = refl
 phase_of-matched Free (Some handle) match = absurd match
 phase_of-matched (Resting store modes) None match = absurd match
-phase_of-matched (Resting store modes) (Some handle) match = ap phase_of_work (sym match.1)
+phase_of-matched (Resting store modes) (Some handle) match =
+    ap Idle (sym match.0.hash) ∙ ap (phase_of_work handle.state.store.value.object_hash) (sym match.1)
 phase_of-matched (Working running) None match = absurd match
-phase_of-matched (Working running) (Some handle) match = ap phase_of_work (sym match.1)
+phase_of-matched (Working running) (Some handle) match = ap (phase_of_work handle.state.store.value.object_hash) (sym match.1)
 
 -- the phases of a handle by the history and by the world are the same
 phase_same : (first : Volume) (events : List Event) (world : Course) (handle : ℕ) → Explains first events world
@@ -49,14 +50,14 @@ phase_same first events world handle explains = phase_of-matched (status_of even
 
 pub why_not-same : (first : Volume) (events : List Event) (world : Course) (step : Step) → Explains first events world
     → why_not_after first events step ≡ why_not_now world step
-why_not-same first events world (steps.Open handle path folders replacements options) explains =
-    ap (λ phase. why_not_open phase (is_openable path folders replacements)) (phase_same first events world handle explains)
+why_not-same first events world (steps.Open handle path folders hash replacements options) explains =
+    ap (λ phase. why_not_open phase (is_openable path folders hash replacements options.max_changes)) (phase_same first events world handle explains)
 why_not-same first events world (steps.Clone handle from) explains =
     ap (λ phase. why_not_clone phase (phase_after events from)) (phase_same first events world handle explains)
     ∙ ap (why_not_clone (phase_now world handle)) (phase_same first events world from explains)
 why_not-same first events world (steps.Close handle) explains = ap why_not_idle (phase_same first events world handle explains)
 why_not-same first events world (steps.Ignore handle) explains = ap why_not_idle (phase_same first events world handle explains)
-why_not-same first events world (steps.Start handle call) explains = ap why_not_idle (phase_same first events world handle explains)
+why_not-same first events world (steps.Start handle call) explains = ap (λ phase. why_not_start phase call) (phase_same first events world handle explains)
 why_not-same first events world (steps.Turn handle) explains = ap why_not_running (phase_same first events world handle explains)
 why_not-same first events world (steps.Disk change) explains = ap (λ disk. why_not_change disk change) (sym explains.disk)
 

@@ -65,6 +65,8 @@ handle_after store modes state (OfCore number seat happens answer) own = record 
   ignoring = own.ignoring;
   limit = own.limit;
   slots = own.slots;
+  hash = own.hash;
+  changes = own.changes;
   core = own.core;
   view = ap (or_before (view_in answer)) own.view;
 }
@@ -75,6 +77,8 @@ handle_after store modes state (OfNewCore slots folders number seat answer) own 
   ignoring = own.ignoring;
   limit = own.limit;
   slots = own.slots;
+  hash = own.hash;
+  changes = own.changes;
   core = refl;
   view = ap (or_before (view_in answer)) own.view;
 }

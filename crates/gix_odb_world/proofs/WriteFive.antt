@@ -135,13 +135,14 @@ module _ (first : Volume) (events : List Event) (handle : ℕ) (running : Runnin
       → ChangesInTask first events handle running.store running.begun (MakeCall (call_to_write w)) (ask_at_stage w stage) change
   by_change None five = tt
   by_change (Some change) five =
-      subst (λ objects. ChangesInWrite first events handle running.begun (to_write objects w.kind w.size w.bytes w.known) (ask_at_stage w stage) change) writes.into
+      subst (λ hash. ChangesInWrite first events handle running.begun (to_write running.store.parts.objects hash w.kind w.size w.bytes w.known) (ask_at_stage w stage) change) writes.hashed
+      (subst (λ objects. ChangesInWrite first events handle running.begun (to_write objects w.hash w.kind w.size w.bytes w.known) (ask_at_stage w stage) change) writes.into
       (record {
         number = number_in stage;
         below = below first events handle running.begun writes.own w stage writes.stands;
         own = is_own first events handle running.begun writes.own w stage writes.stands;
         one = five;
-      })
+      }))
 
   -- so does a running write
   pub five_written : ChangesInTask first events handle running.store running.begun (MakeCall (call_to_write w)) (ask_at_stage w stage) (change_by now (ask_at_stage w stage))

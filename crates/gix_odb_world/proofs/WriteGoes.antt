@@ -17,8 +17,8 @@ use Rattle.gix_odb_loose.proofs.WriteDoneLaws.{IsAlong-left}
 use Rattle.gix_odb_calls.specs.declared.call.Reply.{Reply}
 use Rattle.gix_odb.specs.declared.call_state.CallState.TheVariants.{Writing}
 use Rattle.gix_odb_world.specs.declared.work.Work.TheVariants.{Calling}
-use Rattle.gix_odb_world.specs.Bound.{bound_of_task, default_changes, laps_without_change, turns_beside_pieces, turns_of_lap}
-use Rattle.gix_odb.specs.CallOrder.{hash_to_write, result_of_write}
+use Rattle.gix_odb_world.specs.Bound.{bound_of_task, laps_without_change, turns_beside_pieces, turns_of_lap}
+use Rattle.gix_odb.specs.CallOrder.{result_of_write}
 use Rattle.gix_odb.specs.Contents.{folder_list}
 use Rattle.gix_odb_world.specs.AtWork.{nothing_in_front}
 use Rattle.gix_odb_world.specs.Event.{Event, OfDisk}
@@ -34,7 +34,7 @@ use Rattle.gix_odb_world.proofs.WriteTurn.Common.{IsTurnWith, TurnOfWrite, call_
 use Rattle.gix_odb_world.proofs.WriteTurn.Comes.{Goes}
 
 abbrev job_at : ToWrite → WriteStage → WriteJob
-job_at w stage = record { head = head_to_write w; stage = stage; bytes = w.bytes; hash = hash_to_write w.known; known = w.known }
+job_at w stage = record { head = head_to_write w; stage = stage; bytes = w.bytes; hash = w.hash; known = w.known }
 
 -- The most calls of the disk of a write beside those of its pieces: one for each temporary name, and some more. It is the measure of
 -- the calls that are left to a write of no bytes at its beginning.
@@ -79,9 +79,9 @@ module _ (first : Volume) (events : List Event) (e : Event) (handle : ℕ) (runn
 
       onward_comes : (onward : Onward) → WriteGoes onward → WriteComes (result_of_write (record { stage = written_to (job_at w writes.stage) (advance_to (job_at w writes.stage) onward) }))
       onward_comes (Stage stage) goes =
-          let few = IsAlong-left (head_to_write w) (hash_to_write w.known) w.known w.bytes (Stage stage) goes.past goes.along in
+          let few = IsAlong-left (head_to_write w) (w.hash) w.known w.bytes (Stage stage) goes.past goes.along in
           record {
-            now = record { write = w; into = writes.into; fits = writes.fits; stage = stage; is = refl; own = writes.own + 1; stands = goes };
+            now = record { write = w; into = writes.into; hashed = writes.hashed; fits = writes.fits; stage = stage; is = refl; own = writes.own + 1; stands = goes };
             same = refl;
             had = refl;
             few = omega (arith, few, goes.had);
@@ -105,14 +105,15 @@ module _ (first : Volume) (events : List Event) (e : Event) (handle : ℕ) (runn
         let had = at.turns in
         subst (λ task. running.turns + 1 < bound_of_task running.store task entries) (sym at.task)
         (few_writes running.turns (pieces_of (length own.write.bytes))
-        ((default_changes + laps_without_change) * turns_of_lap running.store.slots (length (folder_list running.store.parts)) entries)
+        ((running.store.max_changes + laps_without_change) * turns_of_lap running.store.slots (length (folder_list running.store.parts)) entries)
         (omega (arith, few, had)))
 
     -- what the write promises, into the objects directory of its store
     keeps : (reply : Reply) → PromiseOfWrite first whole handle running.begun own.write reply → laws.Keeps first events e handle running reply
     keeps reply p =
         subst (λ task. Promise first whole handle running.store running.modes running.begun task reply) (sym at.task)
-        (subst (λ objects. PromiseOfWrite first whole handle running.begun (to_write objects own.write.kind own.write.size own.write.bytes own.write.known) reply) own.into p)
+        (subst (λ hash. PromiseOfWrite first whole handle running.begun (to_write running.store.parts.objects hash own.write.kind own.write.size own.write.bytes own.write.known) reply) own.hashed
+        (subst (λ objects. PromiseOfWrite first whole handle running.begun (to_write objects own.write.hash own.write.kind own.write.size own.write.bytes own.write.known) reply) own.into p))
 
     comes_to : (result : Result Reply LooseCall) → WriteComes call own result
         → laws.MachineComes first events e handle running writing (OfDisk (ask_at_stage own.write own.stage) (answer_now (disk_after first events) (ask_at_stage own.write own.stage))) result

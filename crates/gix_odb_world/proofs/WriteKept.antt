@@ -22,7 +22,7 @@ use Rattle.gix_object.specs.declared.kind.Kind.{Kind}
 use Rattle.gix_odb_loose.proofs.AskLaws.{IsAlong-start}
 use Rattle.gix_odb_loose.specs.declared.write_order.WriteStage.{WriteStage}
 use Rattle.gix_odb_loose.specs.declared.write_order.WriteStage.TheVariants as write_stages
-use Rattle.gix_odb.specs.CallOrder.{hash_to_write, writing}
+use Rattle.gix_odb.specs.CallOrder.{writing}
 use Rattle.gix_odb_calls.specs.declared.call.Call.TheVariants.{Write}
 use Rattle.gix_odb_world.specs.AtWork.{nothing_in_front, Modes}
 use Rattle.gix_odb_world.specs.Event.{OfDisk, Event}
@@ -139,20 +139,21 @@ nothing_among x (k, within, is) = omega (arith, within)
 pub writing_begun : (first : Volume) (events : List Event) (e : Event) (handle : ℕ) (store : Store) (modes : Modes) (kind : Kind) (size : ℕ) (bytes : List ℕ)
     (known : Option ObjectId) → size < 2 ^ 64
     → IsAtOwnWrite first (events ++ e ∷ []) handle (running_from (length events + 1) (MakeCall (Write kind size bytes known)) store modes) nothing_in_front
-    (writing store.parts.objects kind size bytes known)
+    (writing store.parts.objects store.hash kind size bytes known)
 writing_begun first events e handle store modes kind size bytes known fits =
     let short : length (events ++ e ∷ []) ≤ length events + 1 = omega (arith, length_push events e) in
     record {
       writing = record {
-        write = record { objects = store.parts.objects; kind = kind; size = size; bytes = bytes; known = known };
+        write = record { objects = store.parts.objects; hash = store.hash; kind = kind; size = size; bytes = bytes; known = known };
         into = refl;
+        hashed = refl;
         fits = fits;
         stage = write_stages.Making 0;
         is = refl;
         own = 0;
         stands = record {
           past = [];
-          along = IsAlong-start (write_of (record { objects = store.parts.objects; kind = kind; size = size }) (hash_to_write known) known bytes);
+          along = IsAlong-start (write_of (record { objects = store.parts.objects; kind = kind; size = size }) store.hash known bytes);
           had = refl;
           asked = λ x among. absurd (nothing_among x among);
           unnamed = each_turn_none (events ++ e ∷ []) handle (length events + 1) _ short;
@@ -191,6 +192,7 @@ writing_push first events e handle running call other front at =
       writing = record {
         write = writes.write;
         into = writes.into;
+        hashed = writes.hashed;
         fits = writes.fits;
         stage = writes.stage;
         is = writes.is;

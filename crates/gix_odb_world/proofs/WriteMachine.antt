@@ -47,7 +47,7 @@ write_starts : (first : Volume) (events : List Event) (e : Event) (handle : ℕ)
     → IsAtOwnWrite first (events ++ e ∷ []) handle (running_from (length events + 1) task store modes) nothing_in_front call
 write_starts first events e handle store modes OpenStore call sized at = absurd (cc at)
 write_starts first events e handle store modes (MakeCall (call_kinds.Write kind size bytes id)) call sized at =
-    let same : calls.writing store.parts.objects kind size bytes id ≡ call = cc at in
+    let same : calls.writing store.parts.objects store.hash kind size bytes id ≡ call = cc at in
     subst (IsAtOwnWrite first (events ++ e ∷ []) handle (running_from (length events + 1) (MakeCall (call_kinds.Write kind size bytes id)) store modes) nothing_in_front) same
     (writing_begun first events e handle store modes kind size bytes id sized)
 write_starts first events e handle store modes (MakeCall other) call sized at = absurd (cc at)

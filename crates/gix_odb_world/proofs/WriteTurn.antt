@@ -17,7 +17,6 @@ use Rattle.gix_odb_loose.specs.WriteOrder.{next_write, write_ask, written_in}
 use Rattle.gix_odb_loose.specs.declared.write_at_hand.Onward.TheVariants.{Stage}
 use Rattle.gix_odb_loose.specs.declared.write_order.WriteStage.{WriteStage}
 use Rattle.gix_odb_loose.specs.declared.write_order.WriteStage.TheVariants as stages
-use Rattle.gix_odb.specs.CallOrder.{hash_to_write}
 use Rattle.gix_odb_world.specs.Event.{Event}
 use Rattle.gix_odb_world.specs.Run.{disk_after}
 use Rattle.gix_odb_world.specs.Running.Write.{StandsAt, job_to_write}
@@ -35,7 +34,7 @@ ask_at_stage w stage = write_ask (head_to_write w) (piece_of w.size w.bytes (wri
 -- what a write has done that stands at a stage
 pub done_at : (first : Volume) (events : List Event) (handle begun turns : ℕ) (w : ToWrite) (stage : WriteStage) (s : StandsAt first events handle begun turns w stage)
     → HasDone (job_to_write w) stage s.past
-done_at first events handle begun turns w stage s = IsAlong-done (head_to_write w) (hash_to_write w.known) w.known w.bytes (Stage stage) s.past s.along
+done_at first events handle begun turns w stage s = IsAlong-done (head_to_write w) (w.hash) w.known w.bytes (Stage stage) s.past s.along
 
 module _ (t : TurnOfWrite) where
   open t use {first, events, handle, begun, turns, w}

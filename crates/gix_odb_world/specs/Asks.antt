@@ -63,7 +63,7 @@ AsksInOrder first past handle store modes begun turns (MakeCall (calls.Header id
 AsksInOrder first past handle store modes begun turns (MakeCall (calls.Test id)) ask =
     AsksBehind nothing_in_front turns (λ own. AsksFolder store own (λ folder. asks.Look (loose_path folder (sought store.parts modes.ignoring (Test id))) true) ask)
 AsksInOrder first past handle store modes begun turns (MakeCall (calls.Write kind size bytes known)) ask =
-    AsksBehind nothing_in_front turns (λ own. AsksToWrite first past handle begun own (to_write store.parts.objects kind size bytes known) ask)
+    AsksBehind nothing_in_front turns (λ own. AsksToWrite first past handle begun own (to_write store.parts.objects store.hash kind size bytes known) ask)
 
 -- How many slots and folders a task may ask for in a core for its store: an opening asks for those of the store, in its second turn.
 abbrev pub MayAskNewCore : Store → (turns : ℕ) → Task → (slots folders : ℕ) → Type 0

@@ -1,5 +1,6 @@
 -- What a handle is at: a task in a store, and the work that is left of it.
 use Rattle.std.specs.Prelude.{ℕ, Bool, true, false, Option, None}
+use Rattle.gix_hash.specs.declared.kind.Kind.{Kind as HashKind}
 use Rattle.gix_odb_core.specs.declared.view.View.{View}
 use Rattle.gix_odb.specs.Contents.{StoreData}
 use Rattle.gix_odb_calls.specs.declared.call.Call.{Call}
@@ -8,10 +9,13 @@ use Rattle.gix_odb_world.specs.Cores.{or_before}
 use Rattle.gix_odb_world.specs.Event.{Asked, OfCore, OfDisk, OfNewCore, OfNothing}
 use Rattle.gix_odb_world.specs.declared.work.Work.{Work}
 
--- a store that was opened, or whose opening runs: the number of its open step, its slots, and its parts
+-- a store that was opened, or whose opening runs: the number of its open step, its slots, the hash of its ids, the most changes of the list
+-- that a call bears, and its parts
 pub record Store : Type 0 where
   pub opened : ℕ
   pub slots : ℕ
+  pub hash : HashKind
+  pub max_changes : ℕ
   pub parts : StoreData
 
 -- what a handle at work is to do: to open its store, or to make a call

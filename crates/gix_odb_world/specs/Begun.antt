@@ -1,6 +1,7 @@
 -- From which steps a handle has its task, its store and its mode, and how many turns it took since.
 use Rattle.std.specs.Prelude.{◌≡◌, ◌⊎◌, take, ◌↔◌, ℕ, ◌+◌, ◌≤◌, Bool, true, false, ◌==◌, List, count_by, drop, slice_get, Some}
 use Rattle.odb_base.specs.Path.{Path}
+use Rattle.gix_hash.specs.declared.kind.Kind.{Kind as HashKind}
 use Rattle.gix_hash.specs.declared.object_id.ObjectId.{ObjectId}
 use Rattle.gix_odb_calls.specs.declared.call.Call.{Call}
 use Rattle.gix_odb_calls.specs.declared.init.Options.{Options}
@@ -29,11 +30,14 @@ pub record OpenedBy (events : List Event) (handle begun : ℕ) (store : Store) :
   pub applied : event.outcome ≡ outcomes.Applied
   pub path : Path
   pub folders : List Path
+  pub hash : HashKind
   pub replacements : List (ObjectId × ObjectId)
   pub options : Options
-  pub opens : event.step ≡ steps.Open handle path folders replacements options
+  pub opens : event.step ≡ steps.Open handle path folders hash replacements options
   -- the store has what the step handed in
   pub slots : options.slots ≡ Given store.slots
+  pub hash_is : store.hash ≡ hash
+  pub changes : store.max_changes ≡ options.max_changes
   pub parts : store.parts ≡ record { objects = path; folders = folders; replacements = replacements; limit = options.alloc_limit_bytes }
 
 -- a store is that of an open step of this handle
@@ -49,13 +53,13 @@ BegunAs events handle begun store (MakeCall call) = BegunBy events handle begun 
 
 -- a step that begins a handle: it opens a store, or is a clone
 abbrev pub IsOpenOf : (handle : ℕ) → Step → Type 0
-IsOpenOf handle (steps.Open other path folders replacements options) = other ≡ handle
+IsOpenOf handle (steps.Open other path folders hash replacements options) = other ≡ handle
 IsOpenOf handle (steps.Clone other from) = other ≡ handle
 IsOpenOf handle step = ⊥
 
 -- a step that sets what a handle is at: it opens a store, is a clone, or starts a call
 abbrev pub IsTaskOf : (handle : ℕ) → Step → Type 0
-IsTaskOf handle (steps.Open other path folders replacements options) = other ≡ handle
+IsTaskOf handle (steps.Open other path folders hash replacements options) = other ≡ handle
 IsTaskOf handle (steps.Clone other from) = other ≡ handle
 IsTaskOf handle (steps.Start other call) = other ≡ handle
 IsTaskOf handle step = ⊥

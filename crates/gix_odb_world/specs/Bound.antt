@@ -30,10 +30,6 @@ laps_without_change = 2
 abbrev pub turns_beside_pieces : ℕ
 turns_beside_pieces = 40
 
--- the changes of the list that a call bears, where no option says otherwise
-abbrev pub default_changes : ℕ
-default_changes = 16
-
 -- the most changes of the list that a call may be told to bear: the bound is a number of 128 bits then
 abbrev pub most_changes : ℕ
 most_changes = 1000000
@@ -76,9 +72,9 @@ abbrev pub bytes_to_write : Call → Option ℕ
 bytes_to_write (Write kind size bytes known) = Some (length bytes)
 bytes_to_write call = None
 
--- the bound of a call in a store that is to write so many bytes, if it is a write
+-- the bound of a call in a store that is to write so many bytes, if it is a write: it bears the changes that its store was opened with
 abbrev pub bound_of_call : Store → (entries : ℕ) → (bytes : Option ℕ) → ℕ
-bound_of_call store entries bytes = turn_bound store.slots (length (folder_list store.parts)) default_changes entries bytes
+bound_of_call store entries bytes = turn_bound store.slots (length (folder_list store.parts)) store.max_changes entries bytes
 
 -- the bound of a task; an opening is bounded with no slots and no changes
 abbrev pub bound_of_task : Store → Task → (entries : ℕ) → ℕ

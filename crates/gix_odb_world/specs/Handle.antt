@@ -2,6 +2,7 @@
 use Rattle.std.specs.Prelude.{◌≡◌, false, List, None}
 use Rattle.std.specs.BTreeMap.{IsFromIterResult}
 use Rattle.odb_base.specs.Path.{Path}
+use Rattle.gix_hash.specs.declared.kind.Kind.{Kind as HashKind}
 use Rattle.gix_hash.specs.declared.object_id.ObjectId.{ObjectId}
 use Rattle.gix_hash.specs.ObjectId.{id_cmp}
 use Rattle.gix_odb.specs.Contents.{replacement_in}
@@ -12,13 +13,15 @@ use Rattle.gix_odb.specs.declared.handle_state.HandleState.{HandleState}
 use Rattle.gix_odb_calls.specs.declared.init.Options.{Options}
 
 -- the handle has what its open step was handed
-pub record IsOpened (objects : Path) (folders : List Path) (replacements : List (ObjectId × ObjectId)) (options : Options) (handle : HandleState) : Type 0 where
+pub record IsOpened (objects : Path) (folders : List Path) (hash : HashKind) (replacements : List (ObjectId × ObjectId)) (options : Options) (handle : HandleState) : Type 0 where
   pub objects_are : handle.store.value.objects ≡ objects
   pub folders_are : handle.store.value.folders ≡ folders
   pub replacements_are : IsFromIterResult id_cmp replacements handle.store.value.replacements
   pub ignoring : handle.ignore_replacements ≡ false
   pub limit : handle.store.value.alloc_limit_bytes ≡ options.alloc_limit_bytes
   pub slots : handle.store.value.slots ≡ given_slots options.slots
+  pub hash_is : handle.store.value.object_hash ≡ hash
+  pub changes : handle.store.value.max_changes ≡ options.max_changes
   pub core : handle.core ≡ 0
   pub view : handle.view ≡ None
 
@@ -30,5 +33,7 @@ pub record IsHandleOf (store : Store) (modes : Modes) (handle : HandleState) : T
   pub ignoring : handle.ignore_replacements ≡ modes.ignoring
   pub limit : handle.store.value.alloc_limit_bytes ≡ store.parts.limit
   pub slots : handle.store.value.slots ≡ store.slots
+  pub hash : handle.store.value.object_hash ≡ store.hash
+  pub changes : handle.store.value.max_changes ≡ store.max_changes
   pub core : handle.core ≡ modes.core
   pub view : handle.view ≡ modes.view

@@ -90,4 +90,4 @@ Promise first events handle store modes begun (MakeCall (calls.Header id)) reply
 Promise first events handle store modes begun (MakeCall (calls.Test id)) reply =
     QueryPromise (tree_at first events) (FailedSince events handle begun) store modes begun (length events) (Test id) reply
 Promise first events handle store modes begun (MakeCall (calls.Write kind size bytes known)) reply =
-    PromiseOfWrite first events handle begun (to_write store.parts.objects kind size bytes known) reply
+    PromiseOfWrite first events handle begun (to_write store.parts.objects store.hash kind size bytes known) reply

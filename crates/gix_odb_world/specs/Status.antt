@@ -1,6 +1,7 @@
 -- What each handle does after the events of a run.
 use Rattle.std.specs.Prelude.{◌≡◌, ℕ, ◌+◌, ◌==◌, Bool, true, false, List, [], ◌∷◌, Some, Result, Ok, Err, if◌then◌else◌}
 use Rattle.odb_base.specs.Path.{Path}
+use Rattle.gix_hash.specs.declared.kind.Kind.{Kind as HashKind}
 use Rattle.gix_hash.specs.declared.object_id.ObjectId.{ObjectId}
 use Rattle.gix_odb_loose.specs.declared.call.LooseCall.{LooseCall}
 use Rattle.gix_odb.specs.Contents.{sought}
@@ -35,17 +36,19 @@ pub record IsAtWrite (status : Status) (running : Running) (call : LooseCall) : 
 
 -- ---- what a step makes of a handle
 
-abbrev pub store_at : ℕ → Path → List Path → List (ObjectId × ObjectId) → Options → Store
-store_at number path folders replacements options = record {
+abbrev pub store_at : ℕ → Path → List Path → HashKind → List (ObjectId × ObjectId) → Options → Store
+store_at number path folders hash replacements options = record {
   opened = number;
   slots = given_slots options.slots;
+  hash = hash;
+  max_changes = options.max_changes;
   parts = record { objects = path; folders = folders; replacements = replacements; limit = options.alloc_limit_bytes };
 }
 
 -- the work with which a task of a store's handle begins
 abbrev pub begun_with : Store → (modes : Modes) → Task → Work
 begun_with store modes OpenStore = Opening Looking
-begun_with store modes (MakeCall call) = Calling (calls.started store.parts.objects store.parts.limit (sought store.parts modes.ignoring) call)
+begun_with store modes (MakeCall call) = Calling (calls.started store.parts.objects store.hash store.parts.limit (sought store.parts modes.ignoring) call)
 
 -- what a store's handle is at whose task is set by the event that has a number
 abbrev pub running_from : ℕ → Task → Store → (modes : Modes) → Running
@@ -107,8 +110,8 @@ cloned asked status = Free
 
 -- what all handles do after a step that was applied, in the event that has a number and asked so
 abbrev pub applied : ℕ → Asked → Step → (ℕ → Status) → ℕ → Status
-applied number asked (steps.Open handle path folders replacements options) table =
-    with_status table handle (opening_at number (store_at number path folders replacements options))
+applied number asked (steps.Open handle path folders hash replacements options) table =
+    with_status table handle (opening_at number (store_at number path folders hash replacements options))
 applied number asked (steps.Clone handle from) table = with_status table handle (cloned asked (table from))
 applied number asked (steps.Close handle) table = with_status table handle Free
 applied number asked (steps.Ignore handle) table = with_status table handle (ignoring_from (table handle))

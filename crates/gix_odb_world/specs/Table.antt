@@ -6,6 +6,7 @@ use Rattle.odb_tree.specs.Tree.{tree_of}
 use Rattle.odb_disk.specs.MemDisk.{Volume}
 use Rattle.odb_disk.specs.declared.ask.DiskAsk.{DiskAsk}
 use Rattle.odb_tree.specs.declared.change.Change.{Change}
+use Rattle.gix_hash.specs.declared.kind.Kind.{Kind as HashKind}
 use Rattle.gix_odb_calls.specs.declared.call.Reply.{Reply}
 use Rattle.gix_odb_calls.specs.declared.step.Step.{Step}
 use Rattle.gix_odb_calls.specs.declared.step.Step.TheVariants as steps
@@ -30,16 +31,16 @@ use Rattle.gix_odb_world.specs.Status.{after_reply}
 use Rattle.gix_odb_world.specs.WorkOrder.{asks_on, fed_after, fed_on, registered_on}
 use Rattle.gix_odb_world.specs.declared.course.Course.{Course}
 use Rattle.gix_odb_world.specs.World.{handle_at}
-use Rattle.gix_odb_world.specs.Valid.{Phase, NoneThere, Idle, Running, is_openable, why_not_change, why_not_idle, why_not_open, why_not_running, why_not_clone}
+use Rattle.gix_odb_world.specs.Valid.{Phase, NoneThere, Idle, Running, is_openable, why_not_change, why_not_idle, why_not_open, why_not_running, why_not_clone, why_not_start}
 
-abbrev pub phase_of_work : Option Work → Phase
-phase_of_work None = Idle
-phase_of_work (Some work) = Running
+abbrev pub phase_of_work : HashKind → Option Work → Phase
+phase_of_work hash None = Idle hash
+phase_of_work hash (Some work) = Running
 
 -- what counts of a handle of the code for validity
 abbrev pub phase_of_handle : Option Handle → Phase
 phase_of_handle None = NoneThere
-phase_of_handle (Some handle) = phase_of_work handle.work
+phase_of_handle (Some handle) = phase_of_work handle.state.store.value.object_hash handle.work
 
 -- what counts for validity of the handle of a world that has a number
 abbrev pub phase_now : Course → (number : ℕ) → Phase
@@ -47,11 +48,11 @@ phase_now world number = phase_of_handle (handle_at world number)
 
 -- the first reason why a step isn't valid, by the world's own table and disk
 abbrev pub why_not_now : Course → Step → Option Why
-why_not_now world (steps.Open handle path folders replacements options) = why_not_open (phase_now world handle) (is_openable path folders replacements)
+why_not_now world (steps.Open handle path folders hash replacements options) = why_not_open (phase_now world handle) (is_openable path folders hash replacements options.max_changes)
 why_not_now world (steps.Clone handle from) = why_not_clone (phase_now world handle) (phase_now world from)
 why_not_now world (steps.Close handle) = why_not_idle (phase_now world handle)
 why_not_now world (steps.Ignore handle) = why_not_idle (phase_now world handle)
-why_not_now world (steps.Start handle call) = why_not_idle (phase_now world handle)
+why_not_now world (steps.Start handle call) = why_not_start (phase_now world handle) call
 why_not_now world (steps.Turn handle) = why_not_running (phase_now world handle)
 why_not_now world (steps.Disk change) = why_not_change world.disk change
 

@@ -1,34 +1,39 @@
 -- Which steps are valid, and the first reason why one isn't.
 use Rattle.std.specs.Prelude.{ℕ, Bool, true, false, ◌&&◌, ◌==◌, nat_le, List, ◌∷◌, length, Option, Some, None, if◌then◌else◌}
+use Rattle.std.specs.List.{list_all}
 use Rattle.std.specs.Map.{keys_of}
 use Rattle.std.specs.Ordering.{eq_by_cmp}
 use Rattle.std.specs.Set.{distinct_count}
 use Rattle.std.specs.declared.cmp.Ordering.{Ordering}
 use Rattle.odb_base.specs.Path.{Path, path_cmp}
+use Rattle.gix_hash.specs.declared.kind.Kind.{Kind as HashKind}
 use Rattle.gix_hash.specs.declared.object_id.ObjectId.{ObjectId}
 use Rattle.gix_hash.specs.ObjectId.{id_cmp}
 use Rattle.odb_disk.specs.MemDisk.{Volume}
 use Rattle.odb_tree.specs.Tree.Change.{is_possible}
 use Rattle.odb_tree.specs.declared.change.Change.{Change}
+use Rattle.gix_odb_calls.specs.Hashes.{is_of_hash, is_pair_of}
+use Rattle.gix_odb_calls.specs.declared.call.Call.{Call}
 use Rattle.gix_odb_calls.specs.declared.step.Step.{Step}
 use Rattle.gix_odb_calls.specs.declared.step.Step.TheVariants as steps
 use Rattle.gix_odb_calls.specs.declared.step.Outcome.{Outcome}
 use Rattle.gix_odb_calls.specs.declared.step.Outcome.TheVariants as outcomes
 use Rattle.gix_odb_calls.specs.declared.step.Why.{Why}
-use Rattle.gix_odb_calls.specs.declared.step.Why.TheVariants.{HandleTaken, BadOpen, NoHandle, NotRunning, Busy, ImpossibleChange}
+use Rattle.gix_odb_calls.specs.declared.step.Why.TheVariants.{HandleTaken, BadOpen, NoHandle, NotRunning, Busy, WrongHash, ImpossibleChange}
+use Rattle.gix_odb_world.specs.Bound.{most_changes}
 use Rattle.gix_odb_world.specs.Event.{Event}
 use Rattle.gix_odb_world.specs.Status.{Status, Free, Resting, Working, status_of}
 use Rattle.gix_odb_world.specs.Run.{disk_after}
 
--- what counts of a handle for validity
+-- what counts of a handle for validity; of an idle one the hash of its store does too
 pub data Phase : Type 0 where
   NoneThere : Phase
-  Idle : Phase
+  Idle : (hash : HashKind) → Phase
   Running : Phase
 
 abbrev pub phase_of : Status → Phase
 phase_of Free = NoneThere
-phase_of (Resting store modes) = Idle
+phase_of (Resting store modes) = Idle store.hash
 phase_of (Working running) = Running
 
 -- no two items of a list are equal by an order
@@ -44,9 +49,14 @@ most_folders = 255
 abbrev pub are_good_folders : Path → List Path → Bool
 are_good_folders objects folders = nat_le (length folders) most_folders && are_distinct path_cmp (objects ∷ folders)
 
--- The conditions of opening: good folders, and distinct replaced ids.
-abbrev pub is_openable : Path → List Path → List (ObjectId × ObjectId) → Bool
-is_openable objects folders replacements = are_good_folders objects folders && are_distinct id_cmp (keys_of replacements)
+-- distinct replaced ids, and all ids of the hash of the store
+abbrev pub are_good_replacements : HashKind → List (ObjectId × ObjectId) → Bool
+are_good_replacements hash replacements = are_distinct id_cmp (keys_of replacements) && list_all (is_pair_of hash) replacements
+
+-- The conditions of opening: good folders, good replacements, and not too many changes that a call is to bear.
+abbrev pub is_openable : Path → List Path → HashKind → List (ObjectId × ObjectId) → (changes : ℕ) → Bool
+is_openable objects folders hash replacements changes =
+    are_good_folders objects folders && (are_good_replacements hash replacements && nat_le changes most_changes)
 
 abbrev pub why_not_openable : Bool → Option Why
 why_not_openable true = None
@@ -55,25 +65,35 @@ why_not_openable false = Some BadOpen
 -- an open step needs a free number, and the conditions of opening
 abbrev pub why_not_open : Phase → (openable : Bool) → Option Why
 why_not_open NoneThere openable = why_not_openable openable
-why_not_open Idle openable = Some HandleTaken
+why_not_open (Idle hash) openable = Some HandleTaken
 why_not_open Running openable = Some HandleTaken
 
--- a close, a start and the setting of a mode need an idle handle
+-- a close and the setting of a mode need an idle handle
 abbrev pub why_not_idle : Phase → Option Why
 why_not_idle NoneThere = Some NoHandle
-why_not_idle Idle = None
+why_not_idle (Idle hash) = None
 why_not_idle Running = Some Busy
+
+-- a start needs an idle handle, and a call whose ids are of the hash of its store
+abbrev pub why_not_of_hash : Bool → Option Why
+why_not_of_hash true = None
+why_not_of_hash false = Some WrongHash
+
+abbrev pub why_not_start : Phase → Call → Option Why
+why_not_start NoneThere call = Some NoHandle
+why_not_start (Idle hash) call = why_not_of_hash (is_of_hash hash call)
+why_not_start Running call = Some Busy
 
 -- a clone needs a free number, and an idle handle
 abbrev pub why_not_clone : Phase → (parent : Phase) → Option Why
 why_not_clone NoneThere parent = why_not_idle parent
-why_not_clone Idle parent = Some HandleTaken
+why_not_clone (Idle hash) parent = Some HandleTaken
 why_not_clone Running parent = Some HandleTaken
 
 -- a turn needs a handle that runs a call
 abbrev pub why_not_running : Phase → Option Why
 why_not_running NoneThere = Some NoHandle
-why_not_running Idle = Some NotRunning
+why_not_running (Idle hash) = Some NotRunning
 why_not_running Running = None
 
 -- another program's change needs a place in the tree
@@ -86,11 +106,11 @@ phase_after events handle = phase_of (status_of events handle)
 
 -- The first reason why a step isn't valid after the events of a run, or nothing where it is. Each step sees the whole history.
 abbrev pub why_not_after : Volume → List Event → Step → Option Why
-why_not_after first events (steps.Open handle path folders replacements options) = why_not_open (phase_after events handle) (is_openable path folders replacements)
+why_not_after first events (steps.Open handle path folders hash replacements options) = why_not_open (phase_after events handle) (is_openable path folders hash replacements options.max_changes)
 why_not_after first events (steps.Clone handle from) = why_not_clone (phase_after events handle) (phase_after events from)
 why_not_after first events (steps.Close handle) = why_not_idle (phase_after events handle)
 why_not_after first events (steps.Ignore handle) = why_not_idle (phase_after events handle)
-why_not_after first events (steps.Start handle call) = why_not_idle (phase_after events handle)
+why_not_after first events (steps.Start handle call) = why_not_start (phase_after events handle) call
 why_not_after first events (steps.Turn handle) = why_not_running (phase_after events handle)
 why_not_after first events (steps.Disk change) = why_not_change (disk_after first events) change
 

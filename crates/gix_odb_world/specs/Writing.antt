@@ -12,6 +12,7 @@ use Rattle.odb_tree.specs.declared.change.Change.{Change}
 use Rattle.odb_tree.specs.declared.change.Change.TheVariants.{PutFile, Rename}
 use Rattle.odb_tree.specs.declared.disk_error.DiskError.{DiskError}
 use Rattle.odb_tree.specs.declared.disk_error.DiskError.TheVariants as disk_errors
+use Rattle.gix_hash.specs.declared.kind.Kind.{Kind as HashKind}
 use Rattle.gix_hash.specs.declared.object_id.ObjectId.{ObjectId}
 use Rattle.gix_object.specs.declared.kind.Kind.{Kind}
 use Rattle.gix_odb_loose.specs.Causes.{WriteCause}
@@ -21,7 +22,6 @@ use Rattle.gix_odb_loose.specs.WriteRuns.RefusedAsks.{IsOnWay}
 use Rattle.gix_odb_loose.specs.WriteStreams.{OtherLength}
 use Rattle.gix_odb_loose.specs.declared.write.Error as loose_write
 use Rattle.gix_odb_loose.specs.declared.write_order.WriteHead.{WriteHead}
-use Rattle.gix_odb.specs.CallOrder.{hash_to_write}
 use Rattle.gix_odb_world.specs.Event.{OfDisk, Event}
 use Rattle.gix_odb_world.specs.Run.{Fails, IsTurnOf, TellsCall, disk_after, tree_at}
 use Rattle.gix_odb_calls.specs.declared.call.Call.{Call}
@@ -31,17 +31,18 @@ use Rattle.gix_odb_world.specs.declared.record.Did.TheVariants.{Disk}
 
 -- ---- what is written
 
--- an object that is to be written into an objects directory
+-- an object that is to be written into the objects directory of a store of a hash
 pub record ToWrite : Type 0 where
   pub objects : Path
+  pub hash : HashKind
   pub kind : Kind
   pub size : ℕ
   pub bytes : List ℕ
   pub known : Option ObjectId
 
 -- what a write into an objects directory is to write
-abbrev pub to_write : (objects : Path) (kind : Kind) (size : ℕ) (bytes : List ℕ) (known : Option ObjectId) → ToWrite
-to_write objects kind size bytes known = record { objects = objects; kind = kind; size = size; bytes = bytes; known = known }
+abbrev pub to_write : (objects : Path) (hash : HashKind) (kind : Kind) (size : ℕ) (bytes : List ℕ) (known : Option ObjectId) → ToWrite
+to_write objects hash kind size bytes known = record { objects = objects; hash = hash; kind = kind; size = size; bytes = bytes; known = known }
 
 abbrev pub call_to_write : ToWrite → Call
 call_to_write w = Write w.kind w.size w.bytes w.known
@@ -49,9 +50,9 @@ call_to_write w = Write w.kind w.size w.bytes w.known
 abbrev pub head_to_write : ToWrite → WriteHead
 head_to_write w = record { objects = w.objects; kind = w.kind; size = w.size }
 
--- its id: the known one, or that of header and data
+-- its id: the known one, or that of header and data, by the hash of the store
 abbrev pub name_to_write : ToWrite → ObjectId
-name_to_write w = name_for w.known (hash_to_write w.known) (head_to_write w) w.bytes
+name_to_write w = name_for w.known (w.hash) (head_to_write w) w.bytes
 
 -- ---- what was asked of the disk
 

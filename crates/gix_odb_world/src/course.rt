@@ -71,13 +71,14 @@ impl Course {
                 handle,
                 path,
                 folders,
+                hash,
                 replacements,
-                options: _,
-            } => self.why_not_open(alloc, *handle, path, folders, replacements),
+                options,
+            } => self.why_not_open(alloc, *handle, path, folders, *hash, replacements, *options),
             Step::Clone { handle, from } => Ok(self.why_not_clone(*handle, *from)),
             Step::Close { handle } => Ok(self.why_not_idle(*handle)),
             Step::Ignore { handle } => Ok(self.why_not_idle(*handle)),
-            Step::Start { handle, call: _ } => Ok(self.why_not_idle(*handle)),
+            Step::Start { handle, call } => Ok(self.why_not_start(*handle, call)),
             Step::Turn { handle } => Ok(self.why_not_running(*handle)),
             Step::Disk(change) => {
                 if self.disk.is_possible(alloc, change)? {
@@ -127,9 +128,10 @@ impl Course {
                 handle,
                 path,
                 folders,
+                hash,
                 replacements,
                 options,
-            } => self.open(alloc, *handle, path, folders, replacements, *options),
+            } => self.open(alloc, *handle, path, folders, *hash, replacements, *options),
             Step::Clone { handle, from } => self.share(alloc, *handle, *from),
             Step::Close { handle } => self.close(alloc, *handle),
             Step::Ignore { handle } => self.ignore(*handle),
@@ -163,16 +165,17 @@ impl Course {
         number: u32,
         path: &PathText,
         folders: &PathList,
+        hash: gix_hash::Kind,
         replacements: &IdPairs,
         options: Options,
     ) -> Result<(), NoMemory>
-        ensures continues { OnOk result (Continues self.old (Step.Open number path.now folders.now replacements.now options) self.new) }
+        ensures continues { OnOk result (Continues self.old (Step.Open number path.now folders.now hash replacements.now options) self.new) }
         ensures noted { OnOk result (HasOneMore self.old self.new) }
     {
         if let Some(why) = self.why_not_free(number) {
             return self.misuse(why);
         }
-        let Some(state) = opening::begun(alloc, path, folders, replacements, options)? else {
+        let Some(state) = opening::begun(alloc, path, folders, hash, replacements, options)? else {
             return self.misuse(Why::BadOpen);
         };
         let work = Some(Work::Opening(OpenState::Looking));
@@ -231,7 +234,7 @@ impl Course {
         ensures continues { OnOk result (Continues self.old (Step.Start number call.now) self.new) }
         ensures noted { OnOk result (HasOneMore self.old self.new) }
     {
-        let handle = match self.idle(number) {
+        let handle = match self.ready(number, call) {
             Ok(handle) => handle,
             Err(why) => return self.misuse(why),
         };
@@ -306,14 +309,16 @@ impl Course {
         number: u32,
         path: &PathText,
         folders: &PathList,
+        hash: gix_hash::Kind,
         replacements: &IdPairs,
+        options: Options,
     ) -> Result<Option<Why>, NoMemory>
-        ensures why { IfOk result (λ why. why ≡ reasons.why_not_open (phase_of_handle (handle_at self.now number)) (is_openable path.now folders.now replacements.now)) }
+        ensures why { IfOk result (λ why. why ≡ reasons.why_not_open (phase_of_handle (handle_at self.now number)) (is_openable path.now folders.now hash replacements.now options.max_changes)) }
     {
         if let Some(why) = self.why_not_free(number) {
             return Ok(Some(why));
         }
-        if opening::is_good(alloc, path, folders, replacements)? {
+        if opening::is_good(alloc, path, folders, hash, replacements, options)? {
             Ok(None)
         } else {
             Ok(Some(Why::BadOpen))

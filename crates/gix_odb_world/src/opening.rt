@@ -5,11 +5,11 @@ ghost use Rattle.std.specs.BTreeMap.{get, IsFromIterResult};
 ghost use Rattle.odb_base.specs.Path.{path_cmp};
 ghost use Rattle.gix_hash.specs.ObjectId.{id_cmp};
 ghost use Rattle.gix_odb_world.specs.Handle.{IsOpened};
-ghost use Rattle.gix_odb_world.specs.Valid.{are_distinct, is_openable};
+ghost use Rattle.gix_odb_world.specs.Valid.{are_distinct, are_good_replacements, is_openable};
 
-use gix_hash::ObjectId;
+use gix_hash::{Kind, ObjectId};
 use gix_odb::HandleState;
-use gix_odb_calls::{IdPairs, Options, PathList, StoreParts, copy_of_paths};
+use gix_odb_calls::{IdPairs, Options, PathList, StoreParts, are_pairs_of, copy_of_paths};
 use odb_base::{NoMemory, PathText};
 use std::alloc::Global;
 use std::collections::{BTreeMap, BTreeSet};
@@ -18,29 +18,36 @@ use std::collections::{BTreeMap, BTreeSet};
 /// bits, and the bound of a call's turns, which has a sum over the folders, is a number of 128 bits.
 const MAX_FOLDERS: usize = 255;
 
+/// The most changes of the list of indices that a call may be told to bear: the bound of its turns is a number of 128 bits
+/// then.
+const MAX_CHANGES: u32 = 1_000_000;
+
 /// The state of a handle whose opening begins, or nothing where a condition of opening doesn't hold.
 pub fn begun(
     alloc: Global,
     path: &PathText,
     folders: &PathList,
+    hash: Kind,
     replacements: &IdPairs,
     options: Options,
 ) -> Result<Option<HandleState>, NoMemory>
-    ensures begun { IfOk result (λ begun. MatchOption begun (is_openable path.now folders.now replacements.now ≡ false)
-        (λ state. (is_openable path.now folders.now replacements.now ≡ true) × IsOpened path.now folders.now replacements.now options state)) }
+    ensures begun { IfOk result (λ begun. MatchOption begun (is_openable path.now folders.now hash replacements.now options.max_changes ≡ false)
+        (λ state. (is_openable path.now folders.now hash replacements.now options.max_changes ≡ true) × IsOpened path.now folders.now hash replacements.now options state)) }
 {
-    if !are_good_folders(alloc, path, folders)? {
+    if options.max_changes > MAX_CHANGES || !are_good_folders(alloc, path, folders)? {
         return Ok(None);
     }
-    let Some(replacements) = replacement_map(alloc, replacements)? else {
+    let Some(replacements) = good_replacements(alloc, hash, replacements)? else {
         return Ok(None);
     };
     let parts = StoreParts {
         objects: path.try_clone(alloc)?,
         folders: copy_of_paths(alloc, folders)?,
+        object_hash: hash,
         replacements,
         alloc_limit_bytes: options.alloc_limit_bytes,
         slots: options.slots.count(),
+        max_changes: options.max_changes,
     };
     Ok(Some(HandleState::new(alloc, parts)?))
 }
@@ -50,11 +57,17 @@ pub fn is_good(
     alloc: Global,
     path: &PathText,
     folders: &PathList,
+    hash: Kind,
     replacements: &IdPairs,
+    options: Options,
 ) -> Result<bool, NoMemory>
-    ensures good { IfOk result (λ good. good ≡ is_openable path.now folders.now replacements.now) }
+    ensures good { IfOk result (λ good. good ≡ is_openable path.now folders.now hash replacements.now options.max_changes) }
 {
-    Ok(are_good_folders(alloc, path, folders)? && replacement_map(alloc, replacements)?.is_some())
+    Ok(
+        options.max_changes <= MAX_CHANGES
+            && are_good_folders(alloc, path, folders)?
+            && good_replacements(alloc, hash, replacements)?.is_some(),
+    )
 }
 
 // Whether the folders are few enough, all distinct, and none of them the objects directory.
@@ -70,6 +83,22 @@ fn are_good_folders(alloc: Global, path: &PathText, folders: &PathList) -> Resul
         paths.insert(folder.try_clone(alloc)?)?;
     }
     Ok(paths.len() == folders.len() + 1)
+}
+
+// The replacements by the ids that are replaced, or nothing where one of these comes twice, or an id is of another hash.
+fn good_replacements(
+    alloc: Global,
+    hash: Kind,
+    pairs: &IdPairs,
+) -> Result<Option<BTreeMap<ObjectId, ObjectId>>, NoMemory>
+    ensures made { IfOk result (λ made. MatchOption made (are_good_replacements hash pairs.now ≡ false)
+        (λ map. (are_good_replacements hash pairs.now ≡ true) × IsFromIterResult id_cmp pairs.now map)) }
+{
+    if are_pairs_of(hash, pairs) {
+        replacement_map(alloc, pairs)
+    } else {
+        Ok(None)
+    }
 }
 
 // The replacements by the ids that are replaced, or nothing where one of these comes twice.

@@ -11,7 +11,6 @@ use Rattle.std.proofs.lemmas.List.Folds.{list_all-append}
 use Rattle.odb_base.proofs.DecimalLemmas.{own, number_of-decimal, number_below-is}
 use Rattle.gix_hash.specs.ObjectId.{IsId, hex_of, is_lower_text, is_lower_digit}
 use Rattle.gix_hash.specs.declared.object_id.ObjectId.{ObjectId}
-use Rattle.gix_hash.specs.declared.object_id.ObjectId.TheVariants as ids
 use Rattle.gix_hash.proofs.ObjectIdLemmas.{id_of-hex_of, is_lower_text-hex_of}
 use Rattle.gix_odb_calls.specs.declared.call.Call.TheVariants as calls
 use Rattle.gix_odb_calls.specs.declared.step.Step.TheVariants as steps
@@ -177,23 +176,23 @@ item_of-clone handle from small few =
     ∙ rw (handle_of-decimal handle small, handle_of-decimal from few) refl
 
 -- questions about an id
-module _ (handle : ℕ) (id : List ℕ) (small : handle < 2 ^ 32) (is : IsId (ids.Sha1 id)) where
+module _ (handle : ℕ) (id : ObjectId) (small : handle < 2 ^ 32) (is : IsId id) where
   asked : (b : ℕ) (word : List ℕ) (question : Question) → (b == 35) ≡ false → IsField (b ∷ word) → word_of (b ∷ word) ≡ Some (words.Ask question)
-      → item_of (line_of ((b ∷ word) ∷ decimal handle ∷ hex_of (ids.Sha1 id) ∷ [])) ≡ items.Play (One (steps.Start handle (call_of question (ids.Sha1 id))))
+      → item_of (line_of ((b ∷ word) ∷ decimal handle ∷ hex_of id ∷ [])) ≡ items.Play (One (steps.Start handle (call_of question id)))
   unfolding line_item
   asked b word question no_comment field word_is =
-      item_of-line_of b word (decimal handle ∷ hex_of (ids.Sha1 id) ∷ []) no_comment (field, (IsField-decimal handle (omega arith), (IsField-hex_of (ids.Sha1 id) is, tt)))
-      ∙ rw (word_is, handle_of-decimal handle small, id_of-hex_of (ids.Sha1 id) is) refl
+      item_of-line_of b word (decimal handle ∷ hex_of id ∷ []) no_comment (field, (IsField-decimal handle (omega arith), (IsField-hex_of id is, tt)))
+      ∙ rw (word_is, handle_of-decimal handle small, id_of-hex_of id is) refl
 
-  pub item_of-find : item_of (line_of (codes "find" ∷ decimal handle ∷ hex_of (ids.Sha1 id) ∷ [])) ≡ items.Play (One (steps.Start handle (calls.Find (ids.Sha1 id))))
+  pub item_of-find : item_of (line_of (codes "find" ∷ decimal handle ∷ hex_of id ∷ [])) ≡ items.Play (One (steps.Start handle (calls.Find id)))
   unfolding word_of
   item_of-find = asked 102 (codes "ind") questions.Find refl (IsField-word (codes "find") refl refl) refl
 
-  pub item_of-header : item_of (line_of (codes "header" ∷ decimal handle ∷ hex_of (ids.Sha1 id) ∷ [])) ≡ items.Play (One (steps.Start handle (calls.Header (ids.Sha1 id))))
+  pub item_of-header : item_of (line_of (codes "header" ∷ decimal handle ∷ hex_of id ∷ [])) ≡ items.Play (One (steps.Start handle (calls.Header id)))
   unfolding word_of
   item_of-header = asked 104 (codes "eader") questions.Header refl (IsField-word (codes "header") refl refl) refl
 
-  pub item_of-test : item_of (line_of (codes "test" ∷ decimal handle ∷ hex_of (ids.Sha1 id) ∷ [])) ≡ items.Play (One (steps.Start handle (calls.Test (ids.Sha1 id))))
+  pub item_of-test : item_of (line_of (codes "test" ∷ decimal handle ∷ hex_of id ∷ [])) ≡ items.Play (One (steps.Start handle (calls.Test id)))
   unfolding word_of
   item_of-test = asked 116 (codes "est") questions.Test refl (IsField-word (codes "test") refl refl) refl
 
@@ -220,10 +219,10 @@ module _ (handle : ℕ) (kind : Kind) (digits bytes : List ℕ) (small : handle 
       (IsField-word (codes "stream") refl refl, (IsField-decimal handle (omega arith), (IsField-kind_word kind, (IsField-decimal size fits, (field, tt)))))
       ∙ rw (handle_of-decimal handle small, kind_of_word-kind_word kind, number_of-decimal size fits, spelled) refl
 
-  pub item_of-writeas : (id : List ℕ) → IsId (ids.Sha1 id) → item_of (line_of (codes "writeas" ∷ decimal handle ∷ kind_word kind ∷ hex_of (ids.Sha1 id) ∷ digits ∷ [])) ≡ items.Play
-      (One (steps.Start handle (calls.Write kind (length bytes) bytes (Some (ids.Sha1 id)))))
+  pub item_of-writeas : (id : ObjectId) → IsId id → item_of (line_of (codes "writeas" ∷ decimal handle ∷ kind_word kind ∷ hex_of id ∷ digits ∷ [])) ≡ items.Play
+      (One (steps.Start handle (calls.Write kind (length bytes) bytes (Some id))))
   unfolding word_of line_item
   item_of-writeas id is =
-      item_of-line_of 119 (codes "riteas") (decimal handle ∷ kind_word kind ∷ hex_of (ids.Sha1 id) ∷ digits ∷ []) refl
-      (IsField-word (codes "writeas") refl refl, (IsField-decimal handle (omega arith), (IsField-kind_word kind, (IsField-hex_of (ids.Sha1 id) is, (field, tt)))))
-      ∙ rw (handle_of-decimal handle small, kind_of_word-kind_word kind, id_of-hex_of (ids.Sha1 id) is, spelled) refl
+      item_of-line_of 119 (codes "riteas") (decimal handle ∷ kind_word kind ∷ hex_of id ∷ digits ∷ []) refl
+      (IsField-word (codes "writeas") refl refl, (IsField-decimal handle (omega arith), (IsField-kind_word kind, (IsField-hex_of id is, (field, tt)))))
+      ∙ rw (handle_of-decimal handle small, kind_of_word-kind_word kind, id_of-hex_of id is, spelled) refl

@@ -8,10 +8,9 @@ use Rattle.odb_base.specs.PathLaws.{path_of-text_of}
 use Rattle.odb_base.proofs.DecimalLemmas.{number_of-decimal, number_below-is}
 use Rattle.gix_hash.specs.ObjectId.{IsId, hex_of, id_of, is_lower_text, is_lower_digit}
 use Rattle.gix_hash.specs.declared.object_id.ObjectId.{ObjectId}
-use Rattle.gix_hash.specs.declared.object_id.ObjectId.TheVariants as ids
 use Rattle.gix_hash.proofs.ObjectIdLemmas.{id_of-hex_of, is_lower_text-hex_of}
 use Rattle.odb_script.specs.declared.choice.Choice.{Choice}
-use Rattle.odb_script.specs.declared.choice.Choice.TheVariants.{Folder, Replacement, Slots, Limit}
+use Rattle.odb_script.specs.declared.choice.Choice.TheVariants.{Folder, Replacement, Slots, Limit, Changes, Sha256}
 use Rattle.odb_script.specs.declared.choice.Chosen.{Chosen}
 use Rattle.odb_script.specs.Word.{word_of}
 use Rattle.odb_script.specs.Line.{line_item, item_of}
@@ -47,39 +46,36 @@ spelled (Folder path) = codes "folder=" ++ text_of path
 spelled (Replacement id by) = codes "replace=" ++ hex_of id ++ 58 ∷ hex_of by
 spelled (Slots slots) = codes "slots=" ++ decimal slots
 spelled (Limit bytes) = codes "limit=" ++ decimal bytes
-
--- an id of 40 digits
-abbrev pub IsShort : ObjectId → Type 0
-IsShort (ids.Sha1 bytes) = IsId (ids.Sha1 bytes)
-IsShort (ids.Sha256 bytes) = ⊥
+spelled (Changes changes) = codes "changes=" ++ decimal changes
+spelled Sha256 = codes "hash=sha256"
 
 -- what an option can choose
 abbrev pub IsChoice : Choice → Type 0
 IsChoice (Folder path) = list_all is_name path ≡ true
-IsChoice (Replacement id by) = IsShort id × IsShort by
+IsChoice (Replacement id by) = IsId id × IsId by
 IsChoice (Slots slots) = slots < 2 ^ 16
 IsChoice (Limit bytes) = bytes < 2 ^ 64
+IsChoice (Changes changes) = changes < 2 ^ 32
+IsChoice Sha256 = Unit {0}
 
 abbrev pub AreChoices : List Choice → Type 0
 AreChoices choices = AllByRecursion IsChoice choices
 
 pub choice_of-spelled : (choice : Choice) → IsChoice choice → choice_of (spelled choice) ≡ Some choice
 choice_of-spelled (Folder path) is = rw (path_of-text_of path is) refl
-choice_of-spelled (Replacement (ids.Sha1 id) (ids.Sha1 by)) is =
-    rw (first_is (ids.Sha1 id) (ids.Sha1 by) is.0 is.1, second_is (ids.Sha1 id) (ids.Sha1 by) is.0 is.1) refl
-choice_of-spelled (Replacement (ids.Sha1 id) (ids.Sha256 by)) is = absurd is.1
-choice_of-spelled (Replacement (ids.Sha256 id) by) is = absurd is.0
+choice_of-spelled (Replacement id by) is = rw (first_is id by is.0 is.1, second_is id by is.0 is.1) refl
 choice_of-spelled (Slots slots) is = rw (number_below-is (2 ^ 16) (decimal slots) slots (number_of-decimal slots (omega arith)) is) refl
 choice_of-spelled (Limit bytes) is = rw (number_of-decimal bytes is) refl
+choice_of-spelled (Changes changes) is = rw (number_below-is (2 ^ 32) (decimal changes) changes (number_of-decimal changes (omega arith)) is) refl
+choice_of-spelled Sha256 is = refl
 
 built : (choice : Choice) → IsChoice choice → is_unbuilt_option (spelled choice) ≡ false
 built (Folder path) is = refl
-built (Replacement (ids.Sha1 id) (ids.Sha1 by)) is =
-    rw (first_is (ids.Sha1 id) (ids.Sha1 by) is.0 is.1, second_is (ids.Sha1 id) (ids.Sha1 by) is.0 is.1) refl
-built (Replacement (ids.Sha1 id) (ids.Sha256 by)) is = absurd is.1
-built (Replacement (ids.Sha256 id) by) is = absurd is.0
+built (Replacement id by) is = refl
 built (Slots slots) is = refl
 built (Limit bytes) is = refl
+built (Changes changes) is = refl
+built Sha256 is = refl
 
 all_built : (choices : List Choice) → AreChoices choices → list_any is_unbuilt_option (map spelled choices) ≡ false
 all_built [] are = refl
@@ -105,6 +101,8 @@ kept_slots (Folder path ∷ choices) chosen none = kept_slots choices (with_choi
 kept_slots (Replacement id by ∷ choices) chosen none = kept_slots choices (with_choice chosen (Replacement id by)) none
 kept_slots (Slots slots ∷ choices) chosen none = absurd (cc none)
 kept_slots (Limit bytes ∷ choices) chosen none = kept_slots choices (with_choice chosen (Limit bytes)) none
+kept_slots (Changes changes ∷ choices) chosen none = kept_slots choices (with_choice chosen (Changes changes)) none
+kept_slots (Sha256 ∷ choices) chosen none = kept_slots choices (with_choice chosen Sha256) none
 
 given : (choices : List Choice) (slots : ℕ) → (with_all nothing_chosen choices).slots ≡ Some slots → list_any gives_slots (map spelled choices) ≡ true
 given choices slots e = by_test (list_any gives_slots (map spelled choices)) refl

@@ -5,7 +5,6 @@ use Rattle.odb_base.specs.Decimal.{number_of}
 use Rattle.odb_tree.specs.declared.change.Change.{Change}
 use Rattle.gix_hash.specs.ObjectId.{id_of}
 use Rattle.gix_hash.specs.declared.object_id.ObjectId.{ObjectId}
-use Rattle.gix_hash.specs.declared.object_id.ObjectId.TheVariants as ids
 use Rattle.gix_object.specs.Kind.{kind_of_word}
 use Rattle.gix_object.specs.declared.kind.Kind.{Kind}
 use Rattle.gix_odb_calls.specs.declared.call.Call.{Call}
@@ -67,12 +66,11 @@ call_of questions.Find id = calls.Find id
 call_of questions.Header id = calls.Header id
 call_of questions.Test id = calls.Test id
 
--- the start of a call on an id; ids of 64 digits aren't built yet
+-- the start of a call on an id
 abbrev pub start_of : (ObjectId → Call) → Option ℕ → Option ObjectId → Item
-start_of call handle None = items.Refused
-start_of call handle (Some (ids.Sha256 bytes)) = items.NotBuilt
-start_of call None (Some (ids.Sha1 bytes)) = items.Refused
-start_of call (Some handle) (Some (ids.Sha1 bytes)) = step_item (steps.Start handle (call (ids.Sha1 bytes)))
+start_of call None id = items.Refused
+start_of call (Some handle) None = items.Refused
+start_of call (Some handle) (Some id) = step_item (steps.Start handle (call id))
 
 -- how many bytes data have
 abbrev pub size_of : Option (List ℕ) → Option ℕ
@@ -87,11 +85,10 @@ write_of (Some handle) (Some kind) None bytes id = items.Refused
 write_of (Some handle) (Some kind) (Some size) None id = items.Refused
 write_of (Some handle) (Some kind) (Some size) (Some bytes) id = step_item (steps.Start handle (calls.Write kind size bytes id))
 
--- the start of a write under an id that is known; ids of 64 digits aren't built yet
+-- the start of a write under an id that is known
 abbrev pub write_under : Option ℕ → Option Kind → Option ObjectId → Option (List ℕ) → Item
 write_under handle kind None bytes = items.Refused
-write_under handle kind (Some (ids.Sha256 digest)) bytes = items.NotBuilt
-write_under handle kind (Some (ids.Sha1 digest)) bytes = write_of handle kind (size_of bytes) bytes (Some (ids.Sha1 digest))
+write_under handle kind (Some id) bytes = write_of handle kind (size_of bytes) bytes (Some id)
 
 -- a line by its first word and the fields after it
 unfoldable pub line_item : Option Word → Fields → Item

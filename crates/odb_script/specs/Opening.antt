@@ -5,8 +5,8 @@ use Rattle.std.specs.Option.{option_map}
 use Rattle.odb_base.specs.Decimal.{number_of, number_below}
 use Rattle.odb_base.specs.Path.{Path, path_of, same_name}
 use Rattle.gix_hash.specs.ObjectId.{id_of}
+use Rattle.gix_hash.specs.declared.kind.Kind.TheVariants as hashes
 use Rattle.gix_hash.specs.declared.object_id.ObjectId.{ObjectId}
-use Rattle.gix_hash.specs.declared.object_id.ObjectId.TheVariants as ids
 use Rattle.gix_odb_calls.specs.declared.init.Options.{Options}
 use Rattle.gix_odb_calls.specs.declared.init.Slots.TheVariants.{Given}
 use Rattle.gix_odb_calls.specs.declared.step.Step.TheVariants as steps
@@ -17,7 +17,6 @@ use Rattle.odb_script.specs.declared.choice.Chosen.{Chosen}
 use Rattle.odb_script.specs.declared.item.Item.{Item}
 use Rattle.odb_script.specs.declared.item.Item.TheVariants as items
 use Rattle.odb_script.specs.Split.{equals, before_colon, after_colon, before_equals, after_equals}
-use Rattle.odb_script.specs.Word.{is_one_of}
 
 abbrev pub handle_of : List ℕ → Option ℕ
 handle_of text = number_below (2 ^ 32) text
@@ -41,23 +40,9 @@ second_id pair = id_of (after_colon pair)
 
 -- ---- what isn't built yet
 
--- an id of 64 digits
-abbrev pub is_long : Option ObjectId → Bool
-is_long None = false
-is_long (Some (ids.Sha1 bytes)) = false
-is_long (Some (ids.Sha256 bytes)) = true
-
--- names of options
-abbrev pub unbuilt_options : List (List ℕ)
-unbuilt_options = codes "changes" ∷ codes "midx" ∷ codes "hash" ∷ []
-
--- such an option, or a replacement with an id of 64 digits
-abbrev pub is_unbuilt_choice : List ℕ → List ℕ → Bool
-is_unbuilt_choice name value =
-    is_one_of unbuilt_options name || (same_name name (codes "replace") && (is_long (first_id value) || is_long (second_id value)))
-
+-- an option that has this name
 abbrev pub is_unbuilt_option : List ℕ → Bool
-is_unbuilt_option option = has_value option && is_unbuilt_choice (name_in option) (value_in option)
+is_unbuilt_option option = has_value option && same_name (name_in option) (codes "midx")
 
 abbrev pub gives_slots : List ℕ → Bool
 gives_slots option = has_value option && same_name (name_in option) (codes "slots")
@@ -74,6 +59,10 @@ replacement None by = None
 replacement (Some id) None = None
 replacement (Some id) (Some by) = Some (choices.Replacement id by)
 
+-- the one hash that is chosen by its name
+abbrev pub hash_choice : List ℕ → Option Choice
+hash_choice value = if same_name value (codes "sha256") then Some choices.Sha256 else None
+
 -- what a name chooses with its value
 abbrev pub named_choice : List ℕ → List ℕ → Option Choice
 named_choice name value =
@@ -81,21 +70,29 @@ named_choice name value =
     else if same_name name (codes "replace") then replacement (first_id value) (second_id value)
     else if same_name name (codes "slots") then option_map choices.Slots (number_below (2 ^ 16) value)
     else if same_name name (codes "limit") then option_map choices.Limit (number_of value)
+    else if same_name name (codes "changes") then option_map choices.Changes (number_below (2 ^ 32) value)
+    else if same_name name (codes "hash") then hash_choice value
     else None
 
 abbrev pub choice_of : List ℕ → Option Choice
 choice_of option = if has_value option then named_choice (name_in option) (value_in option) else None
 
--- Each folder and each replacement adds one; of slots and of limits the last counts.
+-- Each folder and each replacement adds one; of slots, of limits and of changes the last counts.
 abbrev pub with_choice : Chosen → Choice → Chosen
 with_choice chosen (choices.Folder path) = record chosen { folders = chosen.folders ++ path ∷ [] }
 with_choice chosen (choices.Replacement id by) = record chosen { replacements = chosen.replacements ++ (id, by) ∷ [] }
 with_choice chosen (choices.Slots slots) = record chosen { slots = Some slots }
 with_choice chosen (choices.Limit bytes) = record chosen { limit = Some bytes }
+with_choice chosen (choices.Changes changes) = record chosen { max_changes = changes }
+with_choice chosen choices.Sha256 = record chosen { hash = hashes.Sha256 }
+
+-- the changes of the list of indices that a call bears where no option says otherwise
+abbrev pub default_changes : ℕ
+default_changes = 16
 
 -- what is chosen before the first option
 abbrev pub nothing_chosen : Chosen
-nothing_chosen = record { folders = []; replacements = []; slots = None; limit = None }
+nothing_chosen = record { folders = []; replacements = []; slots = None; limit = None; max_changes = default_changes; hash = hashes.Sha1 }
 
 -- what options choose that go on so, after one option
 abbrev pub with_next : (Chosen → Option Chosen) → Chosen → Option Choice → Option Chosen
@@ -109,14 +106,14 @@ chosen_by (option ∷ options) chosen = with_next (chosen_by options) chosen (ch
 
 -- ---- the line
 
-abbrev pub options_of : ℕ → Option ℕ → Options
-options_of slots limit = record { slots = Given slots; alloc_limit_bytes = limit }
+abbrev pub options_of : (slots : ℕ) → (limit : Option ℕ) → (changes : ℕ) → Options
+options_of slots limit changes = record { slots = Given slots; alloc_limit_bytes = limit; max_changes = changes }
 
 -- an opening by what is chosen; without slots it is refused
 abbrev pub opening_at : ℕ → Path → Chosen → Option ℕ → Item
 opening_at handle path chosen None = items.Refused
 opening_at handle path chosen (Some slots) =
-    items.Play (One (steps.Open handle path chosen.folders chosen.replacements (options_of slots chosen.limit)))
+    items.Play (One (steps.Open handle path chosen.folders chosen.hash chosen.replacements (options_of slots chosen.limit chosen.max_changes)))
 
 abbrev pub open_with : Option ℕ → Option Path → Option Chosen → Item
 open_with None path chosen = items.Refused

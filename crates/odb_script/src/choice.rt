@@ -3,11 +3,11 @@ ghost use Rattle.std.specs.Prelude.{◌≡◌, ◌^◌, IfOk, IfSome, is_some};
 ghost use Rattle.std.specs.Option.{option_map};
 ghost use Rattle.odb_base.specs.Decimal.{number_of, number_below};
 ghost use Rattle.odb_script.specs.Line.{texts_of};
-ghost use Rattle.odb_script.specs.Opening.{has_value, name_in, value_in, replacement, first_id, second_id, named_choice, choice_of, with_choice, nothing_chosen, chosen_by};
+ghost use Rattle.odb_script.specs.Opening.{has_value, name_in, value_in, replacement, first_id, second_id, hash_choice, named_choice, choice_of, with_choice, nothing_chosen, chosen_by};
 
 use crate::field::{id_of, path_of};
 use crate::split::at_colon;
-use gix_hash::ObjectId;
+use gix_hash::{Kind, ObjectId};
 use gix_odb_calls::{IdPairs, PathList};
 use odb_base::{NoMemory, parse_decimal};
 use odb_disk::PathText;
@@ -23,7 +23,14 @@ pub enum Choice {
     Slots(u16),
     /// The most bytes of an object.
     Limit(u64),
+    /// The most changes of the list of indices that a call bears.
+    Changes(u32),
+    /// The ids of the store are of SHA-256.
+    Sha256,
 }
+
+/// The changes of the list of indices that a call bears where no option says otherwise.
+const DEFAULT_CHANGES: u32 = 16;
 
 /// What options choose together.
 #[derive(Drop)]
@@ -34,6 +41,10 @@ pub struct Chosen {
     pub slots: Option<u16>,
     /// The most bytes of an object.
     pub limit: Option<u64>,
+    /// The most changes of the list of indices that a call bears.
+    pub max_changes: u32,
+    /// The hash of the store's ids.
+    pub hash: Kind,
 }
 
 /// What options choose, if each of them chooses something.
@@ -61,11 +72,13 @@ fn nothing_chosen(alloc: Global) -> Chosen
         replacements: IdPairs::new(alloc),
         slots: None,
         limit: None,
+        max_changes: DEFAULT_CHANGES,
+        hash: Kind::Sha1,
     }
 }
 
-/// What is chosen with one option more: each folder and each replacement adds one; of slots and of limits the last
-/// counts.
+/// What is chosen with one option more: each folder and each replacement adds one; of slots, of limits and of
+/// changes the last counts.
 fn with_choice(mut chosen: Chosen, choice: Choice) -> Result<Chosen, NoMemory>
     ensures chosen { IfOk result (λ more. more ≡ with_choice chosen choice) }
 {
@@ -74,6 +87,8 @@ fn with_choice(mut chosen: Chosen, choice: Choice) -> Result<Chosen, NoMemory>
         Choice::Replacement(id, by) => chosen.replacements.push((id, by))?,
         Choice::Slots(slots) => chosen.slots = Some(slots),
         Choice::Limit(bytes) => chosen.limit = Some(bytes),
+        Choice::Changes(changes) => chosen.max_changes = changes,
+        Choice::Sha256 => chosen.hash = Kind::Sha256,
     }
     Ok(chosen)
 }
@@ -100,6 +115,8 @@ fn named_choice(alloc: Global, name: &str, value: &str) -> Result<Option<Choice>
         }
         "slots" => Ok(slots(value)),
         "limit" => Ok(limit(value)),
+        "changes" => Ok(changes(value)),
+        "hash" => Ok(hash(value)),
         _ => Ok(None),
     }
 }
@@ -126,8 +143,26 @@ fn limit(value: &str) -> Option<Choice>
     parse_decimal(value).map(Choice::Limit)
 }
 
+#[tactic(auto, unfolding(odb_base::specs::Decimal::number_below))]
+fn changes(value: &str) -> Option<Choice>
+    ensures choice { result ≡ option_map Choice.Changes (number_below (2 ^ 32) value.now) }
+{
+    u32::try_from(parse_decimal(value)?)
+        .ok()
+        .map(Choice::Changes)
+}
+
+fn hash(value: &str) -> Option<Choice>
+    ensures choice { result ≡ hash_choice value.now }
+{
+    match value {
+        "sha256" => Some(Choice::Sha256),
+        _ => None,
+    }
+}
+
 /// The two ids of a value, which `:` splits, as far as they are ids.
-pub fn id_pair(value: &str) -> (Option<ObjectId>, Option<ObjectId>)
+fn id_pair(value: &str) -> (Option<ObjectId>, Option<ObjectId>)
     ensures first { result.0 ≡ first_id value.now }
     ensures second { result.1 ≡ second_id value.now }
 {

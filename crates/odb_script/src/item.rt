@@ -184,19 +184,17 @@ fn ask(question: Question, fields: &[&str]) -> Item
     }
 }
 
-/// The start of a call on an id. Ids of 64 digits aren't built yet.
+/// The start of a call on an id.
 fn start_of(question: Question, handle: Option<u32>, id: Option<ObjectId>) -> Item
     ensures item { result ≡ start_of (call_of question) handle id }
 {
-    match (handle, id) {
-        (_, None) => Item::Refused,
-        (_, Some(ObjectId::Sha256(_))) => Item::NotBuilt,
-        (None, Some(ObjectId::Sha1(_))) => Item::Refused,
-        (Some(handle), Some(id)) => step_item(Step::Start {
-            handle,
-            call: call_of(question, id),
-        }),
-    }
+    let (Some(handle), Some(id)) = (handle, id) else {
+        return Item::Refused;
+    };
+    step_item(Step::Start {
+        handle,
+        call: call_of(question, id),
+    })
 }
 
 /// The call that a question about an id is.

@@ -2,13 +2,11 @@
 ghost use Rattle.std.specs.Prelude.{◌≡◌, IfOk};
 ghost use Rattle.std.specs.List.{list_any};
 ghost use Rattle.odb_script.specs.Line.{texts_of};
-ghost use Rattle.odb_script.specs.Opening.{gives_slots, is_long, unbuilt_options, is_unbuilt_choice, is_unbuilt_option, is_unbuilt, opening_at, open_with, open_of};
-ghost use Rattle.odb_script.specs.Word.{is_one_of};
+ghost use Rattle.odb_script.specs.Opening.{gives_slots, is_unbuilt_option, is_unbuilt, opening_at, open_with, open_of};
 
-use crate::choice::{Chosen, chosen_by, id_pair, name_and_value};
+use crate::choice::{Chosen, chosen_by, name_and_value};
 use crate::field::{handle_of, path_of};
 use crate::item::Item;
-use gix_hash::ObjectId;
 use gix_odb_calls::{Line, Options, Slots, Step};
 use odb_base::NoMemory;
 use odb_disk::PathText;
@@ -46,16 +44,20 @@ fn opening_at(handle: u32, path: PathText, chosen: Chosen) -> Item
         replacements,
         slots,
         limit,
+        max_changes,
+        hash,
     } = chosen;
     match slots {
         Some(slots) => Item::Play(Line::One(Step::Open {
             handle,
             path,
             folders,
+            hash,
             replacements,
             options: Options {
                 slots: Slots::Given(slots),
                 alloc_limit_bytes: limit,
+                max_changes,
             },
         })),
         None => Item::Refused,
@@ -109,31 +111,7 @@ pub fn is_unbuilt_option(option: &str) -> bool
     ensures unbuilt { result ≡ is_unbuilt_option option.now }
 {
     match name_and_value(option) {
-        Some((name, value)) => is_unbuilt_choice(name, value),
+        Some((name, _)) => name == "midx",
         None => false,
     }
-}
-
-/// Whether a name isn't built yet, or one of the ids in its value.
-fn is_unbuilt_choice(name: &str, value: &str) -> bool
-    ensures unbuilt { result ≡ is_unbuilt_choice name.now value.now }
-{
-    if is_unbuilt_name(name) {
-        return true;
-    }
-    let (id, by) = id_pair(value);
-    name == "replace" && (is_long(id) || is_long(by))
-}
-
-fn is_unbuilt_name(name: &str) -> bool
-    ensures unbuilt { result ≡ is_one_of unbuilt_options name.now }
-{
-    matches!(name, "changes" | "midx" | "hash")
-}
-
-/// Whether an id has 64 digits. Those aren't built yet.
-fn is_long(id: Option<ObjectId>) -> bool
-    ensures long { result ≡ is_long id }
-{
-    matches!(id, Some(ObjectId::Sha256(_)))
 }

@@ -65,7 +65,7 @@ fn size_of(bytes: &Option<ByteList>) -> Option<u64>
     }
 }
 
-/// The start of a write under an id that is known. Ids of 64 digits aren't built yet.
+/// The start of a write under an id that is known.
 fn write_under(
     handle: Option<u32>,
     kind: Option<Kind>,
@@ -76,8 +76,7 @@ fn write_under(
 {
     match id {
         None => Item::Refused,
-        Some(ObjectId::Sha256(_)) => Item::NotBuilt,
-        Some(ObjectId::Sha1(_)) => {
+        Some(_) => {
             let size = size_of(&bytes);
             write_of(handle, kind, size, bytes, id)
         }

@@ -40,6 +40,8 @@ keeps_slots chosen (choices.Folder path) h = h
 keeps_slots chosen (choices.Replacement id by) h = h
 keeps_slots chosen (choices.Slots slots) h = refl
 keeps_slots chosen (choices.Limit bytes) h = h
+keeps_slots chosen (choices.Changes changes) h = h
+keeps_slots chosen choices.Sha256 h = h
 
 new_slots : (chosen : Chosen) (choice : Choice) → (slots : ℕ) × (choices.Slots slots ≡ choice) → is_some (with_choice chosen choice).slots ≡ true
 new_slots chosen choice is = subst (λ c. is_some (with_choice chosen c).slots ≡ true) is.1 refl

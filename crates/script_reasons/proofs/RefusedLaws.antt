@@ -4,7 +4,6 @@ use Rattle.std.specs.Str.{is_utf8}
 use Rattle.odb_base.specs.Decimal.{number_of}
 use Rattle.gix_hash.specs.ObjectId.{id_of}
 use Rattle.gix_hash.specs.declared.object_id.ObjectId.{ObjectId}
-use Rattle.gix_hash.specs.declared.object_id.ObjectId.TheVariants as ids
 use Rattle.gix_object.specs.Kind.{kind_of_word}
 use Rattle.gix_object.specs.declared.kind.Kind.{Kind}
 use Rattle.odb_script.specs.Content.{data_of}
@@ -36,12 +35,10 @@ one item (handle ∷ []) other all h = let is = some_is (handle_of handle) all.0
 one item (handle ∷ more ∷ rest) other all h = absurd all.1
 
 asked : (question : Question) (handle : ℕ) (id : ObjectId) → start_of (call_of question) (Some handle) (Some id) ≢ items.Refused
-asked question handle (ids.Sha1 bytes) h = cc h
-asked question handle (ids.Sha256 bytes) h = cc h
+asked question handle id h = cc h
 
 known : (handle : ℕ) (kind : Kind) (id : ObjectId) (bytes : List ℕ) → write_under (Some handle) (Some kind) (Some id) (Some bytes) ≢ items.Refused
-known handle kind (ids.Sha1 digest) bytes h = cc h
-known handle kind (ids.Sha256 digest) bytes h = cc h
+known handle kind id bytes h = cc h
 
 -- a line whose fields have no fault isn't outside the language
 no_fault : (word : Option Word) (fields : Fields) → fault_behind word fields ≡ None → line_item word fields ≢ items.Refused

@@ -18,12 +18,9 @@ unbuilt_option [] = None
 unbuilt_option (handle ∷ []) = None
 unbuilt_option (handle ∷ path ∷ options) = first_unbuilt options 4
 
--- By the first word of a line: the word itself, the id of a question or of a write, or an option of an opening. An opening
--- may have none, where it gives no slots.
+-- By the first word of a line: the word itself, or an option of an opening. An opening may have none, where it gives no slots.
 abbrev pub unbuilt_behind : Option Word → Fields → Option ℕ
 unbuilt_behind (Some words.NotBuilt) fields = Some 1
-unbuilt_behind (Some (words.Ask question)) fields = Some 3
-unbuilt_behind (Some words.WriteAs) fields = Some 4
 unbuilt_behind (Some words.Open) fields = unbuilt_option fields
 unbuilt_behind word fields = None
 

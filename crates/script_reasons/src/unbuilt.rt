@@ -95,14 +95,12 @@ fn unbuilt_in(fields: &[&str]) -> Option<usize>
     }
 }
 
-/// By the first word and the fields behind it: the word itself, an id, or an option of an opening.
+/// By the first word and the fields behind it: the word itself, or an option of an opening.
 fn unbuilt_behind(word: Option<Word>, fields: &[&str]) -> Option<usize>
     ensures field { result ≡ unbuilt_behind word (texts_of fields.now) }
 {
     match word {
         Some(Word::NotBuilt) => Some(1),
-        Some(Word::Ask(_)) => Some(3),
-        Some(Word::WriteAs) => Some(4),
         Some(Word::Open) => unbuilt_option(fields),
         _ => None,
     }

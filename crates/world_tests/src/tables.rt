@@ -13,6 +13,7 @@ fn steps_in_turn(rt: HostRuntime) -> Result<(), Fail> {
         (writes::WRITES, 39),
         (others::READER, 10),
         (misuse::MISUSES, 12),
+        (openings::HASHES, 17),
     ] {
         let run = check_run(rt.alloc(), rows)?;
         assert!(rt; run.disk.calls() == calls);

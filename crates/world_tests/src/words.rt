@@ -1,7 +1,8 @@
 //! Steps of the tests in words, and what they come to.
 //!
 //! The letters E and H are the ids of the blobs of no bytes and of `hello`, as `git hash-object` tells them, and Z is
-//! a one behind zeros. `/o:E` is the path of such an object below `/o`. In data `~` is a NUL.
+//! a one behind zeros. S is the id of the blob of `hello` by SHA-256, as python's `hashlib` tells it. `/o:E` is the path of
+//! such an object below `/o`. In data `~` is a NUL.
 use gix_hash::ObjectId;
 use gix_object::Kind;
 use gix_odb_world::{Call, IdPairs, Options, PathList, Slots, Step};
@@ -32,6 +33,7 @@ fn id_of(text: &str) -> Result<ObjectId, Fail> {
         "E" => "e69de29bb2d1d6434b8b29ae775ad8c2e48c5391",
         "H" => "b6fc4c620b67d95f953a5c1c1230aaab5db5a1b0",
         "Z" => "0000000000000000000000000000000000000001",
+        "S" => "8aec4e4876f854f688d0ebfc8f37598f38e5fd6903cccc850ca36591175aeb60",
         _ => text,
     };
     Ok(ObjectId::from_hex(digits.as_bytes())?)
@@ -41,6 +43,7 @@ fn end_of(name: &str) -> &'static str {
     match name {
         "E" => "/e6/9de29bb2d1d6434b8b29ae775ad8c2e48c5391",
         "H" => "/b6/fc4c620b67d95f953a5c1c1230aaab5db5a1b0",
+        "S" => "/8a/ec4e4876f854f688d0ebfc8f37598f38e5fd6903cccc850ca36591175aeb60",
         _ => "",
     }
 }
@@ -150,11 +153,12 @@ fn question(verb: &str, id: ObjectId) -> Call {
 #[derive(Drop)]
 struct Chosen {
     folders: PathList,
+    hash: gix_hash::Kind,
     replacements: IdPairs,
     options: Options,
 }
 
-/// An opening: the handle, the path, and options `folder=`, `replace=`, `limit=` and `slots=`.
+/// An opening: the handle, the path, and options `folder=`, `replace=`, `limit=`, `slots=`, `changes=` and `hash=sha256`.
 fn open_of(alloc: Global, text: &str) -> Result<Step, Fail> {
     let (handle, text) = cut(text);
     let (path, words) = cut(text);
@@ -165,6 +169,7 @@ fn open_of(alloc: Global, text: &str) -> Result<Step, Fail> {
         handle,
         path,
         folders: chosen.folders,
+        hash: chosen.hash,
         replacements: chosen.replacements,
         options: chosen.options,
     })
@@ -173,10 +178,12 @@ fn open_of(alloc: Global, text: &str) -> Result<Step, Fail> {
 fn chosen_by(alloc: Global, words: &str) -> Result<Chosen, Fail> {
     let mut chosen = Chosen {
         folders: PathList::new(alloc),
+        hash: gix_hash::Kind::Sha1,
         replacements: IdPairs::new(alloc),
         options: Options {
             slots: Slots::Given(32),
             alloc_limit_bytes: None,
+            max_changes: 16,
         },
     };
     for word in words.split(' ') {
@@ -192,6 +199,8 @@ fn choose(alloc: Global, chosen: &mut Chosen, word: &str) -> Result<(), Fail> {
         "replace" => chosen.replacements.push(pair_of(value)?)?,
         "limit" => chosen.options.alloc_limit_bytes = Some(value.parse::<u64>()?),
         "slots" => chosen.options.slots = Slots::Given(value.parse::<u16>()?),
+        "changes" => chosen.options.max_changes = value.parse::<u32>()?,
+        "hash" => chosen.hash = gix_hash::Kind::Sha256,
         _ => {}
     }
     Ok(())

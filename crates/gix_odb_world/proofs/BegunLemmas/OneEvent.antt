@@ -5,6 +5,7 @@ use Rattle.std.proofs.lemmas.List.{length_push, take-append-le}
 use Rattle.std.proofs.Math.Seq.{take-append_seam}
 use Rattle.std.proofs.lemmas.Option.{slice_get_within}
 use Rattle.odb_base.specs.Path.{Path}
+use Rattle.gix_hash.specs.declared.kind.Kind.{Kind as HashKind}
 use Rattle.gix_hash.specs.declared.object_id.ObjectId.{ObjectId}
 use Rattle.gix_odb_calls.specs.Slots.{given_slots}
 use Rattle.gix_odb_calls.specs.declared.call.Call.{Call}
@@ -18,7 +19,7 @@ use Rattle.gix_odb_world.specs.Event.{Event}
 use Rattle.gix_odb_world.specs.Status.{MakeCall, OpenStore, Running, Status, Store, Task, Free, Resting, Working, ignoring_from}
 use Rattle.gix_odb_world.specs.Status.{started, store_at, Modes, modes_at_opening, now_ignoring}
 use Rattle.gix_odb_world.specs.Begun.{AppliedSince, BegunAs, BegunBy, FromClone, FromOpen, HoldsStore, IsIgnoreOf, IsOpenOf, IsTaskOf, NoneSince, OpenedBy}
-use Rattle.gix_odb_world.specs.Valid.{phase_of, why_not_idle}
+use Rattle.gix_odb_world.specs.Valid.{phase_of, why_not_idle, why_not_start}
 use Rattle.gix_odb_world.proofs.HistoryLemmas.{slice_get-kept, slice_get-last, slice_get-push}
 
 -- ---- one step sets one task
@@ -40,7 +41,7 @@ open_or_call : (events : List Event) (handle begun : ℕ) (store : Store) (call 
 open_or_call events handle begun store call o b =
     let place : o.place ≡ b.place = omega (arith, o.number, b.number) in
     let same : o.event ≡ b.event = same_event events o.place b.place o.event b.event place o.there b.there in
-    let step : steps.Open handle o.path o.folders o.replacements o.options ≡ steps.Start handle call = sym o.opens ∙ (ap (λ (x : Event). x.step) same ∙ b.starts) in
+    let step : steps.Open handle o.path o.folders o.hash o.replacements o.options ≡ steps.Start handle call = sym o.opens ∙ (ap (λ (x : Event). x.step) same ∙ b.starts) in
     absurd (cc step)
 
 pub one_task : (events : List Event) (handle begun : ℕ) (store : Store) (task other : Task) → BegunAs events handle begun store task
@@ -63,7 +64,7 @@ Stems events handle (Resting store modes) = HoldsStore events handle store modes
 Stems events handle (Working running) = HoldsStore events handle running.store running.modes × IsLatestTask events handle running
 
 open_is_task : (handle : ℕ) (step : Step) → IsOpenOf handle step → IsTaskOf handle step
-open_is_task handle (steps.Open other path folders replacements options) is = is
+open_is_task handle (steps.Open other path folders hash replacements options) is = is
 open_is_task handle (steps.Clone other from) is = is
 open_is_task handle step is = absurd is
 
@@ -120,10 +121,13 @@ module _ (events : List Event) (e : Event) where
         applied = o.applied;
         path = o.path;
         folders = o.folders;
+        hash = o.hash;
         replacements = o.replacements;
         options = o.options;
         opens = o.opens;
         slots = o.slots;
+        hash_is = o.hash_is;
+        changes = o.changes;
         parts = o.parts;
       }
 
@@ -133,10 +137,10 @@ module _ (events : List Event) (e : Event) where
       record { place = b.place; number = b.number; event = b.event; there = slice_get-kept events e b.place b.event b.there; applied = b.applied; starts = b.starts }
 
   -- the last event opens a store
-  pub opened_now : (handle : ℕ) (path : Path) (folders : List Path) (replacements : List (ObjectId × ObjectId)) (options : Options)
-      → e.step ≡ steps.Open handle path folders replacements options → e.outcome ≡ outcomes.Applied
-      → OpenedBy whole handle (length events + 1) (store_at (length events + 1) path folders replacements options)
-  opened_now handle path folders replacements options opens applied =
+  pub opened_now : (handle : ℕ) (path : Path) (folders : List Path) (hash : HashKind) (replacements : List (ObjectId × ObjectId)) (options : Options)
+      → e.step ≡ steps.Open handle path folders hash replacements options → e.outcome ≡ outcomes.Applied
+      → OpenedBy whole handle (length events + 1) (store_at (length events + 1) path folders hash replacements options)
+  opened_now handle path folders hash replacements options opens applied =
       record {
         place = length events;
         number = refl;
@@ -145,10 +149,13 @@ module _ (events : List Event) (e : Event) where
         applied = applied;
         path = path;
         folders = folders;
+        hash = hash;
         replacements = replacements;
         options = options;
         opens = opens;
         slots = given_as options.slots;
+        hash_is = refl;
+        changes = refl;
         parts = refl;
       }
 
@@ -234,7 +241,7 @@ module _ (events : List Event) (e : Event) where
     stems_ignoring (Resting store modes) idle step applied stems = holds_ignoring store modes step applied stems
     stems_ignoring (Working running) idle step applied stems = absurd (cc idle)
 
-    pub stems_started : (call : Call) (status : Status) → None ≡ why_not_idle (phase_of status) → e.step ≡ steps.Start handle call
+    pub stems_started : (call : Call) (status : Status) → None ≡ why_not_start (phase_of status) call → e.step ≡ steps.Start handle call
         → e.outcome ≡ outcomes.Applied → Stems events handle status → Stems whole handle (started (length events + 1) call status)
     stems_started call Free idle step applied stems = tt
     stems_started call (Resting store modes) idle step applied stems = (

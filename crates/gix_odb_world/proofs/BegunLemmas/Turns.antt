@@ -6,6 +6,7 @@ use Rattle.std.proofs.lemmas.List.{drop-append-le, drop_all, length_push}
 use Rattle.std.proofs.lemmas.List.Sums.{sum_by_push}
 use Rattle.odb_disk.specs.MemDisk.{Volume}
 use Rattle.odb_base.specs.Path.{Path}
+use Rattle.gix_hash.specs.declared.kind.Kind.{Kind as HashKind}
 use Rattle.gix_hash.specs.declared.object_id.ObjectId.{ObjectId}
 use Rattle.gix_odb_calls.specs.declared.call.Call.{Call}
 use Rattle.gix_odb_calls.specs.declared.call.Reply.{Reply}
@@ -133,16 +134,16 @@ module _ (first : Volume) (past : List Event) (e : Event) (law : Law first past 
       by_number true is = subst (λ h. Counts now h status) (sym (eqb-true handle number is)) here
       by_number false is = apart handle (others handle is)
 
-  counts_opened : (number : ℕ) (path : Path) (folders : List Path) (replacements : List (ObjectId × ObjectId)) (options : Options)
-      → e.step ≡ steps.Open number path folders replacements options → (handle : ℕ)
-      → Counts now handle (with_status table number (opening_at (length past + 1) (store_at (length past + 1) path folders replacements options)) handle)
-  counts_opened number path folders replacements options is =
-      counts_set number (opening_at (length past + 1) (store_at (length past + 1) path folders replacements options))
-      (counts_new past e number OpenStore (store_at (length past + 1) path folders replacements options) modes_at_opening) (λ h _. ap (is_turn_of h) is)
+  counts_opened : (number : ℕ) (path : Path) (folders : List Path) (hash : HashKind) (replacements : List (ObjectId × ObjectId)) (options : Options)
+      → e.step ≡ steps.Open number path folders hash replacements options → (handle : ℕ)
+      → Counts now handle (with_status table number (opening_at (length past + 1) (store_at (length past + 1) path folders hash replacements options)) handle)
+  counts_opened number path folders hash replacements options is =
+      counts_set number (opening_at (length past + 1) (store_at (length past + 1) path folders hash replacements options))
+      (counts_new past e number OpenStore (store_at (length past + 1) path folders hash replacements options) modes_at_opening) (λ h _. ap (is_turn_of h) is)
 
   counts_applied : (step : Step) → e.step ≡ step → ¬ (IsTurn step) → (handle : ℕ)
       → Counts now handle (status_after (length past + 1) step outcomes.Applied e.asked table handle)
-  counts_applied (steps.Open number path folders replacements options) is no_turn handle = counts_opened number path folders replacements options is handle
+  counts_applied (steps.Open number path folders hash replacements options) is no_turn handle = counts_opened number path folders hash replacements options is handle
   counts_applied (steps.Clone number from) is no_turn handle =
       counts_set number (cloned e.asked (table from)) (counts_cloned past e number e.asked (table from)) (λ h _. ap (is_turn_of h) is) handle
   counts_applied (steps.Close number) is no_turn handle = counts_set number Free tt (λ h _. ap (is_turn_of h) is) handle

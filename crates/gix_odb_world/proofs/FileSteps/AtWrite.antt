@@ -113,7 +113,7 @@ module _ (store : Store) (begun : ℕ) where
         by_number false is a = a.at
 
     applied_before : (number : ℕ) (asked : Asked) (step : Step) → begun < number → After (applied number asked step table handle) → Before (table handle)
-    applied_before number asked (steps.Open h path folders replacements options) soon = set_before h _ (λ a. opened_before number _ (table h) soon a.at)
+    applied_before number asked (steps.Open h path folders hash replacements options) soon = set_before h _ (λ a. opened_before number _ (table h) soon a.at)
     applied_before number asked (steps.Clone h from) soon = set_before h _ (λ b. absurd (cloned_before asked (table from) b.at))
     applied_before number asked (steps.Close h) soon = set_before h _ (λ b. absurd (no_write_free b.at))
     applied_before number asked (steps.Ignore h) soon = set_before h _ (λ a. ignoring_before (table h) a.at)

@@ -80,16 +80,17 @@ module _ (run : LawfulRun) where
     ends =
         writers.rename_ends run place gives.event gives.there gives.handle gives.running gives.call gives.at gives.turn gives.from to gives.moves
 
-    keeps : HasWritten first upto gives.handle gives.running.begun (to_write gives.running.store.parts.objects w.kind w.size w.bytes w.known) ends.0
+    keeps : HasWritten first upto gives.handle gives.running.begun (to_write gives.running.store.parts.objects gives.running.store.hash w.kind w.size w.bytes w.known) ends.0
     keeps =
-        subst (λ es. HasWritten first es gives.handle gives.running.begun (to_write gives.running.store.parts.objects w.kind w.size w.bytes w.known) ends.0) (sym upto_is)
+        subst (λ es. HasWritten first es gives.handle gives.running.begun (to_write gives.running.store.parts.objects gives.running.store.hash w.kind w.size w.bytes w.known) ends.0) (sym upto_is)
         ((lawful place gives.event gives.there).promise gives.handle gives.running (MakeCall (call_to_write w)) (replies.Wrote ends.0)
         (record { step = gives.turn; status = gives.at.works }) gives.begins ends.1)
 
     written : HasWritten first upto gives.handle gives.running.begun w (name_to_write w)
     written =
         let as_replied : HasWritten first upto gives.handle gives.running.begun w ends.0 =
-        subst (λ objects. HasWritten first upto gives.handle gives.running.begun (to_write objects w.kind w.size w.bytes w.known) ends.0) (sym gives.into) keeps in
+        subst (λ objects. HasWritten first upto gives.handle gives.running.begun (to_write objects w.hash w.kind w.size w.bytes w.known) ends.0) (sym gives.into)
+        (subst (λ hash. HasWritten first upto gives.handle gives.running.begun (to_write gives.running.store.parts.objects hash w.kind w.size w.bytes w.known) ends.0) (sym gives.hashed) keeps) in
         subst (HasWritten first upto gives.handle gives.running.begun w) as_replied.name as_replied
 
     pub full : length w.bytes ≡ w.size

@@ -19,7 +19,6 @@ use Rattle.gix_odb_loose.specs.declared.write_at_hand.WriteJob.{WriteJob}
 use Rattle.gix_odb_loose.specs.declared.write_order.WriteStage.{WriteStage}
 use Rattle.gix_odb_loose.specs.declared.write_order.WriteStage.TheVariants.{Making}
 use Rattle.gix_odb_loose.proofs.NameLaws.{IsTemporary, temp_path-is, temporary_spot}
-use Rattle.gix_odb.specs.CallOrder.{hash_to_write}
 use Rattle.gix_odb_world.specs.Event.{Event}
 use Rattle.gix_odb_world.specs.Status.{IsAtWrite, Running, Store, Status, status_after, status_of}
 use Rattle.gix_odb_world.specs.Run.{IsTurnOf, tree_at}
@@ -34,7 +33,7 @@ use Rattle.gix_odb_world.proofs.RunSteps.{IsLeft, left_at, status_next}
 use Rattle.gix_odb_world.proofs.OwnFiles.Writer.{one_event, same_tree_on_way, is_tree, made_at_stage, stage_of_made, writing_at, ByWriter}
 
 abbrev job_at : ToWrite → WriteStage → WriteJob
-job_at w stage = record { head = head_to_write w; stage = stage; bytes = w.bytes; hash = hash_to_write w.known; known = w.known }
+job_at w stage = record { head = head_to_write w; stage = stage; bytes = w.bytes; hash = w.hash; known = w.known }
 
 -- a write at a stage that has a file has made it
 makes_no_more : (w : ToWrite) (stage : WriteStage) (number : ℕ) (call : LooseCall) → call ≡ write_at w stage → number_made stage ≡ Some number

@@ -165,8 +165,8 @@ module _ (past : List Event) (e : Event) where
     module _ (first : Volume) where
       pub applied_by : (step : Step) → ¬ (IsTurn step) → None ≡ why_not_after first past step → e.asked ≡ asked_applied past step → (handle : ℕ)
           → Stands now handle (status_after (length past + 1) step outcomes.Applied e.asked table handle)
-      applied_by (steps.Open number path folders replacements options) no_turn valid is handle =
-          let free = is_free (table number) (is_openable path folders replacements) valid in
+      applied_by (steps.Open number path folders hash replacements options) no_turn valid is handle =
+          let free = is_free (table number) (is_openable path folders hash replacements options.max_changes) valid in
           set number _ handle (opens.Looking, refl, tt, opening number free is) (λ apart. kept handle (carry_nothing is handle))
       applied_by (steps.Clone number from) no_turn valid is handle =
           let free = is_free_for_clone (table number) (table from) valid in

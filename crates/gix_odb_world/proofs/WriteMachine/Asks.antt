@@ -71,6 +71,7 @@ in_order_write first events handle running call at =
     record {
       own = writes.own;
       turn = at.turns;
-      asks = subst (λ objects. AsksToWrite first events handle running.begun writes.own (to_write objects w.kind w.size w.bytes w.known) (ask_at_stage w writes.stage)) writes.into
-          (at_stage first events handle running.begun writes.own w writes.stage writes.stands);
+      asks = subst (λ hash. AsksToWrite first events handle running.begun writes.own (to_write running.store.parts.objects hash w.kind w.size w.bytes w.known) (ask_at_stage w writes.stage)) writes.hashed
+          (subst (λ objects. AsksToWrite first events handle running.begun writes.own (to_write objects w.hash w.kind w.size w.bytes w.known) (ask_at_stage w writes.stage)) writes.into
+          (at_stage first events handle running.begun writes.own w writes.stage writes.stands));
     }

@@ -11,7 +11,6 @@ use Rattle.odb_disk.specs.declared.ask.DiskAnswer.TheVariants as answers
 use Rattle.odb_disk.specs.declared.ask.DiskAsk.TheVariants as asks
 use Rattle.odb_tree.specs.declared.disk_error.DiskError.TheVariants as disk_errors
 use Rattle.gix_object.specs.Loose.{header_of}
-use Rattle.gix_odb.specs.CallOrder.{hash_to_write}
 use Rattle.gix_odb_loose.proofs.CauseLaws.Write.{WriteCause-wider}
 use Rattle.gix_odb_loose.specs.Exchanges.{Exchange, exchanged}
 use Rattle.gix_odb_loose.specs.WriteHistory.Refused.{DoneIn, HasCauseIn, RefusedIn, TakenIn, WantedIn}
@@ -120,7 +119,7 @@ module _ (t : TurnOfWrite) where
           makes = parts.2.1;
           cleared = parts.2.2;
           cause = cause_now refusal (refused_cause (head_to_write w) (GetsNameOf (job_to_write w)) ⊥ (CountsOf (job_to_write w)) refusal longer
-              (IsAlong-done (head_to_write w) (hash_to_write w.known) w.known w.bytes (End (Err refusal)) longer along));
+              (IsAlong-done (head_to_write w) (w.hash) w.known w.bytes (End (Err refusal)) longer along));
         }
 
     -- The next piece is appended, or the end of the data is told, as soon as data are asked for.

@@ -30,7 +30,6 @@ use Rattle.gix_odb_loose.specs.declared.write_order.Refusal.TheVariants as refus
 use Rattle.gix_odb_loose.specs.declared.write_order.WriteAsk.{WriteAsk}
 use Rattle.gix_odb_loose.specs.declared.write_order.WriteAsk.TheVariants as wants
 use Rattle.gix_odb_loose.specs.declared.write_order.WriteStage.TheVariants as stages
-use Rattle.gix_odb.specs.CallOrder.{hash_to_write}
 use Rattle.gix_odb_world.specs.Event.{Event}
 use Rattle.gix_odb_world.specs.Run.{change_by, disk_after, tree_at}
 use Rattle.gix_odb_world.specs.Running.Write.{job_to_write}
@@ -122,7 +121,7 @@ module _ (t : TurnOfWrite) where
         MovingParts answer given wanted = PartsTo t (moving_call answer given) wanted
 
         abbrev has_done : HasDone (job_to_write w) (stages.Moving number id) s.past
-        has_done = IsAlong-done (head_to_write w) (hash_to_write w.known) w.known w.bytes (Stage (stages.Moving number id)) s.past s.along
+        has_done = IsAlong-done (head_to_write w) (w.hash) w.known w.bytes (Stage (stages.Moving number id)) s.past s.along
 
         unmoved : (answer : DiskAnswer) (given : answer ≡ answer_now disk (asks.Rename path name_path)) (refusal : Refusal) → answers.Done ≢ answer
             → MovingParts answer given (wants.Disk (stages.Removing number refusal))
@@ -188,7 +187,7 @@ module _ (t : TurnOfWrite) where
         (λ change told. let c = remove_change (tree_of disk.state) path change told in subst (λ d. P (Some d)) (sym c.2) (some c.0))) in (
           never (λ c. ¬ (IsRename c)) (λ r. r) (λ s' r. r),
           λ at same. made_before_removal (head_to_write w) (GetsNameOf (job_to_write w)) (CountsOf (job_to_write w)) number refusal s.past at
-              (IsAlong-done (head_to_write w) (hash_to_write w.known) w.known w.bytes (Stage (stages.Removing number refusal)) s.past s.along).history same
+              (IsAlong-done (head_to_write w) (w.hash) w.known w.bytes (Stage (stages.Removing number refusal)) s.past s.along).history same
               (ChangedNothing whole handle begun),
           (
             Some number,

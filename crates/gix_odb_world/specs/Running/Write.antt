@@ -24,16 +24,16 @@ use Rattle.gix_odb_world.specs.Machine.{Machine, by_answer}
 use Rattle.gix_odb_world.specs.AtWork.{MakeCall, Running, Task, nothing_in_front}
 use Rattle.gix_odb_world.specs.Bound.{bound_of_task}
 use Rattle.gix_odb_world.specs.Run.{tree_at}
-use Rattle.gix_odb.specs.CallOrder.{hash_to_write, result_of_write}
+use Rattle.gix_odb.specs.CallOrder.{result_of_write}
 use Rattle.gix_odb_world.specs.Writing.{AskedAt, AskedSince, ChangedNothing, LeftAlone, TurnsMadeOnly, NoTurnRenamed, ToWrite, call_to_write, head_to_write}
 
 -- a write that has asked nothing
 abbrev pub job_to_write : ToWrite → WriteJob
-job_to_write w = write_of (head_to_write w) (hash_to_write w.known) w.known w.bytes
+job_to_write w = write_of (head_to_write w) (w.hash) w.known w.bytes
 
 -- a write that stands at a stage
 abbrev pub write_at : ToWrite → WriteStage → LooseCall
-write_at w stage = record { stage = loose_stages.Writing (record { head = head_to_write w; stage = stage; bytes = w.bytes; hash = hash_to_write w.known; known = w.known }) }
+write_at w stage = record { stage = loose_stages.Writing (record { head = head_to_write w; stage = stage; bytes = w.bytes; hash = w.hash; known = w.known }) }
 
 -- the file that a write made holds so much, where nobody else touched it: nothing, and then the header and the data
 abbrev pub content_at : ToWrite → WriteStage → Option (List ℕ)
@@ -76,6 +76,7 @@ pub record StandsAt (first : Volume) (events : List Event) (handle begun own : �
 pub record IsWriting (first : Volume) (events : List Event) (handle : ℕ) (running : Running) (call : LooseCall) : Type 0 where
   pub write : ToWrite
   pub into : write.objects ≡ running.store.parts.objects
+  pub hashed : write.hash ≡ running.store.hash
   pub fits : write.size < 2 ^ 64
   pub stage : WriteStage
   pub is : call ≡ write_at write stage

@@ -1,6 +1,8 @@
 //! The handles of a world, each under its number.
 ghost use Rattle.std.specs.Prelude.{◌≡◌, IfOk, OnErr, OnOk, true, None, Some};
 ghost use Rattle.std.specs.Result.{result_err};
+ghost use Rattle.gix_odb.specs.CallOrder.{IsOfHash};
+ghost use Rattle.gix_odb.specs.HandleState.{hash_of};
 ghost use Rattle.gix_odb_world.specs.Valid as reasons;
 ghost use Rattle.gix_odb_world.specs.World.{handle_at};
 ghost use Rattle.gix_odb_world.specs.Table.{SetsHandle, phase_of_handle, with_ignoring, with_work};
@@ -9,7 +11,7 @@ use super::Course;
 use crate::handle::Handle;
 use crate::work::Work;
 use gix_odb::HandleState;
-use gix_odb_calls::Why;
+use gix_odb_calls::{Call, Why};
 use odb_base::NoMemory;
 use std::mem::replace;
 
@@ -110,6 +112,27 @@ impl Course {
                 Some(_) => Err(Why::Busy),
             },
         }
+    }
+
+    /// The handle that has a number, if a call may start on it: it is idle, and the call's ids are of its store's hash.
+    pub(super) fn ready(&self, number: u32, call: &Call) -> Result<&Handle, Why>
+        ensures handle { IfOk result (λ handle. handle_at self.now number ≡ Some handle.now) }
+        ensures of_hash { IfOk result (λ handle. IsOfHash (hash_of handle.now.state) call.now) }
+        ensures why { result_err result ≡ reasons.why_not_start (phase_of_handle (handle_at self.now number)) call.now }
+    {
+        let handle = self.idle(number)?;
+        if call.is_of_hash(handle.state.parts().object_hash) {
+            Ok(handle)
+        } else {
+            Err(Why::WrongHash)
+        }
+    }
+
+    /// Why the start of a call isn't valid.
+    pub(super) fn why_not_start(&self, number: u32, call: &Call) -> Option<Why>
+        ensures why { result ≡ reasons.why_not_start (phase_of_handle (handle_at self.now number)) call.now }
+    {
+        self.ready(number, call).err()
     }
 
     /// Why a step that needs an idle handle isn't valid.

@@ -15,29 +15,29 @@ use Rattle.gix_odb_world.proofs.course.Course.open.Goals as goal
 pub returns-in-Some-clause-continues : goal.returns-in-Some-clause-continues
 returns-in-Some-clause-continues c =
     on_ok_weaker c.misuse.result
-    (misused c.args.self.now c.misuse.new.self (steps.Open c.args.number c.args.path.now c.args.folders.now c.args.replacements.now c.args.options) c.in-Some.why
+    (misused c.args.self.now c.misuse.new.self (steps.Open c.args.number c.args.path.now c.args.folders.now c.args.hash c.args.replacements.now c.args.options) c.in-Some.why
     (taken (phase_of_handle (handle_at c.args.self.now c.args.number))
-    (is_openable c.args.path.now c.args.folders.now c.args.replacements.now) c.in-Some.why c.in-Some.ensures.why)) c.misuse.ensures.notes
+    (is_openable c.args.path.now c.args.folders.now c.args.hash c.args.replacements.now c.args.options.max_changes) c.in-Some.why c.in-Some.ensures.why)) c.misuse.ensures.notes
 
 -- a condition of opening doesn't hold
 pub returns-in_default-2-clause-continues : goal.returns-in_default-2-clause-continues
 returns-in_default-2-clause-continues c =
-    let bad : is_openable c.args.path.now c.args.folders.now c.args.replacements.now ≡ false =
-    none_of c.in_ok-state.field-0 (is_openable c.args.path.now c.args.folders.now c.args.replacements.now ≡ false)
-    (λ state. (is_openable c.args.path.now c.args.folders.now c.args.replacements.now ≡ true)
-    × IsOpened c.args.path.now c.args.folders.now c.args.replacements.now c.args.options state) c.in_ok-state.ensures.begun c.in_default-2.is in
+    let bad : is_openable c.args.path.now c.args.folders.now c.args.hash c.args.replacements.now c.args.options.max_changes ≡ false =
+    none_of c.in_ok-state.field-0 (is_openable c.args.path.now c.args.folders.now c.args.hash c.args.replacements.now c.args.options.max_changes ≡ false)
+    (λ state. (is_openable c.args.path.now c.args.folders.now c.args.hash c.args.replacements.now c.args.options.max_changes ≡ true)
+    × IsOpened c.args.path.now c.args.folders.now c.args.hash c.args.replacements.now c.args.options state) c.in_ok-state.ensures.begun c.in_default-2.is in
     on_ok_weaker c.misuse-in_default-2.result
-    (misused c.args.self.now c.misuse-in_default-2.new.self (steps.Open c.args.number c.args.path.now c.args.folders.now c.args.replacements.now c.args.options) BadOpen
-    (bad_open (phase_of_handle (handle_at c.args.self.now c.args.number)) (is_openable c.args.path.now c.args.folders.now c.args.replacements.now)
+    (misused c.args.self.now c.misuse-in_default-2.new.self (steps.Open c.args.number c.args.path.now c.args.folders.now c.args.hash c.args.replacements.now c.args.options) BadOpen
+    (bad_open (phase_of_handle (handle_at c.args.self.now c.args.number)) (is_openable c.args.path.now c.args.folders.now c.args.hash c.args.replacements.now c.args.options.max_changes)
     (sym c.in_default.ensures.why) bad)) c.misuse-in_default-2.ensures.notes
 
 -- the opening begins
 pub returns-clause-continues : goal.returns-clause-continues
 returns-clause-continues c =
     let good =
-    some_of c.in_ok-state.field-0 (is_openable c.args.path.now c.args.folders.now c.args.replacements.now ≡ false)
-    (λ state. (is_openable c.args.path.now c.args.folders.now c.args.replacements.now ≡ true)
-    × IsOpened c.args.path.now c.args.folders.now c.args.replacements.now c.args.options state) c.in-Some-2.state c.in_ok-state.ensures.begun c.in-Some-2.is in
+    some_of c.in_ok-state.field-0 (is_openable c.args.path.now c.args.folders.now c.args.hash c.args.replacements.now c.args.options.max_changes ≡ false)
+    (λ state. (is_openable c.args.path.now c.args.folders.now c.args.hash c.args.replacements.now c.args.options.max_changes ≡ true)
+    × IsOpened c.args.path.now c.args.folders.now c.args.hash c.args.replacements.now c.args.options state) c.in-Some-2.state c.in_ok-state.ensures.begun c.in-Some-2.is in
     on_ok_weaker c.note.result
-    (opened c.args.self.now c.put.new.self c.note.new.self c.args.number c.args.path.now c.args.folders.now c.args.replacements.now c.args.options c.in-Some-2.state
+    (opened c.args.self.now c.put.new.self c.note.new.self c.args.number c.args.path.now c.args.folders.now c.args.hash c.args.replacements.now c.args.options c.in-Some-2.state
     (sym c.in_default.ensures.why) good.0 good.1 c.in_ok-put.ensures.sets) c.note.ensures.notes
