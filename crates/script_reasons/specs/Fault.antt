@@ -1,5 +1,5 @@
 -- The first field of a line that is wrong.
-use Rattle.std.specs.Prelude.{ℕ, ◌+◌, Bool, true, false, List, [], ◌∷◌, Option, Some, None, if◌then◌else◌}
+use Rattle.std.specs.Prelude.{ℕ, ◌+◌, List, [], ◌∷◌, Option, Some, None, if◌then◌else◌}
 use Rattle.odb_script.specs.Split.{Fields}
 use Rattle.odb_script.specs.Word.{change_word_of, word_of}
 use Rattle.odb_script.specs.declared.word.ChangeWord.{ChangeWord}

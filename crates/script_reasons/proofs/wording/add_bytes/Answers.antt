@@ -1,6 +1,4 @@
 -- No bytes are shown as nothing; one byte more adds what it is shown as.
-use Rattle.std.proofs.Common.{ap, ◌++◌, ◌∙◌}
-use Rattle.script_reasons.specs.Told.{shown_byte}
 use Rattle.script_reasons.proofs.ToldLemmas.{shown_bytes-nothing, shown_bytes-more}
 use Rattle.script_reasons.proofs.wording.add_bytes.Goals as goal
 
