@@ -24,6 +24,10 @@ first_of_length-suc (suc n) =
     let power = pow-suc 128 (suc n) in
     rw before (rw power (omega arith))
 
+pub value_of-none : value_of [] ≡ 0
+unfolding value_of first_of_length in_base_128
+value_of-none = refl
+
 pub value_of-one : (byte : ℕ) → value_of (byte ∷ []) ≡ low_bits byte
 unfolding value_of first_of_length in_base_128
 value_of-one byte = omega arith

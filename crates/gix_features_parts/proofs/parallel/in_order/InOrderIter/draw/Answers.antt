@@ -1,7 +1,8 @@
 -- An item that came is kept until its turn, and the one whose turn it is is given.
-use Rattle.std.proofs.Common.{refl, ap, ◌∙◌, arith, length}
+use Rattle.std.proofs.Common.{refl, ap, ◌∙◌, ◌+◌, arith, length}
 use Rattle.std.specs.Ordering.{nat_cmp}
-use Rattle.std.specs.BTreeMap.{get}
+use Rattle.std.specs.BTreeMap.{get, btree_map_len}
+use Rattle.std.specs.Iterator.{size}
 use Rattle.gix_features_parts.proofs.InOrderLemmas.{draws_end, draws_fail, draws_refused, draws_give, draws_wait, get-entries, Releases-none, Releases-inner, given_progress, waits_fewer}
 use Rattle.gix_features_parts.proofs.parallel.in_order.InOrderIter.draw.Goals as goal
 
@@ -55,7 +56,10 @@ drawing-preserved g c =
       drawing = ap (λ at. at.stage) same ∙ c.keep.ensures.same.2 ∙ c.drawing.invariant.drawing;
       can = rw inner nearer.0;
       finite = rw inner nearer.1;
-      fewer = waits_fewer g.I.Iterator.remaining c.next.new.self c.release-in-drawing.new.self.inner _ _ _ _ _ inner nearer.2
+      fewer = waits_fewer g.I.Iterator.remaining c.next.new.self c.release-in-drawing.new.self.inner
+          (btree_map_len c.drawing.self.waiting) (btree_map_len c.keep.new.self.waiting) (btree_map_len c.release-in-drawing.new.self.waiting)
+          (size (g.I.Iterator.remaining c.drawing.self.inner))
+          (size (g.I.Iterator.remaining c.args.self.now.inner) + btree_map_len c.args.self.now.waiting) inner nearer.2
           c.in_default-keep.ensures.one_more (ap length entries) c.drawing.invariant.fewer;
       draws = record { then = λ result after draws. c.drawing.invariant.draws.then result after (on.then result after draws) };
     }
