@@ -1,8 +1,12 @@
 //! The names of `threading`.
+ghost use Rattle.std.specs.Prelude.{◌≡◌, OnOk};
+ghost use Rattle.std.specs.Arc.{arc_value};
+
 use gix_features_parts::threading::{
     Mutable, MutableOnDemand, OnceBox, OnceLock, OwnShared, downgrade_mut_to_ref, get_mut, get_ref,
     lock, make_mut, with_ref,
 };
+use odb_disk::NoMemory;
 use std::test::Fail;
 
 // Catches a change that is lost between two guards.
@@ -28,12 +32,20 @@ fn locks(rt: HostRuntime) -> Result<(), Fail> {
     Ok(())
 }
 
+/// Gives an owner another value.
+fn put(owner: &mut OwnShared<u8>, value: u8) -> Result<(), NoMemory>
+    ensures { OnOk result (arc_value owner.new ≡ value) }
+{
+    *make_mut(owner)? = value;
+    Ok(())
+}
+
 // Catches an owner whose change is seen by another one.
 #[test]
 fn owners(rt: HostRuntime) -> Result<(), Fail> {
     let mut one: OwnShared<u8> = OwnShared::new(rt.alloc(), 1)?;
     let other = OwnShared::try_clone(&one)?;
-    *make_mut(&mut one)? = 2;
+    put(&mut one, 2)?;
     let (changed, kept) = (*one, *other);
     assert_eq!(rt; changed, 2);
     assert_eq!(rt; kept, 1);

@@ -1,12 +1,14 @@
 //! Names for what threads share, and for what one of them at a time changes.
 ghost use Rattle.std.specs.Prelude.{◌≡◌, ◌⊎◌, IfOk};
-ghost use Rattle.std.specs.Arc.{arc_value};
+ghost use Rattle.std.specs.Arc.{arc_value, arc_follows_make_mut};
+ghost use Rattle.std.specs.Borrow.{sem};
+ghost use Rattle.std.specs.contracts.alloc.Global.{the_row};
 ghost use Rattle.std.specs.Fn.{FnOnceReturnsAt};
 ghost use Rattle.std.specs.Sync.RwLock.{read_guard_value};
 
 use odb_disk::NoMemory;
 pub use once_cell::race::OnceBox;
-use std::alloc::Global;
+use std::alloc::{Allocator, Global};
 pub use std::sync::OnceLock;
 use std::sync::{Arc, Mutex, MutexGuard, RwLock, RwLockReadGuard, RwLockWriteGuard, Wait};
 
@@ -37,6 +39,7 @@ pub fn get_mut<'a, T, R: Wait>(rt: &R, value: &'a MutableOnDemand<T>) -> RwLockW
 
 /// The value of an owner, to change. Where it has other owners, this one gets a copy of it first.
 pub fn make_mut<T: Clone>(this: &mut OwnShared<T>) -> Result<&mut T, NoMemory>
+    ensures* writes_back { sem 𝓛 (arc_follows_make_mut T.row the_row ⟦<Global as Allocator>⟧ T.is_clone this.entry result) }
     ensures value { IfOk result (λ x. (x.now ≡ arc_value this.old) ⊎ T.is_clone (arc_value this.old) x.now) }
 {
     Ok(Arc::make_mut(this)?)
