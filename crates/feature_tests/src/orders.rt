@@ -51,10 +51,13 @@ const ORDERS: &str = "\
     1b|;\
     0a 0b|a, 0 for 1;\
     1b 1c 0a|1 for 0;\
+    1b 0a 1c|a, b, 1 for 2;\
     0a !|a, broken;\
+    1b 0a !|a, b, broken;\
     1b ! 0a|broken";
 
-// Catches an item that is given before its turn or twice, one that is lost at the end, and one given after an error.
+// Catches an item that is given before its turn or twice, one that is lost at the end or by an error behind it, and one
+// that is given after an error.
 #[test]
 fn orders(rt: HostRuntime) -> Result<(), Fail> {
     for row in ORDERS.split(';') {

@@ -1,7 +1,8 @@
--- Items that come in any order, given by their numbers.
-use Rattle.std.specs.Prelude.{◌≡◌, ℕ, ◌+◌, ◌-◌, ◌^◌, ◌<◌, ◌==◌, ◌⊎◌, min, Bool, true, false, Option, Some, None, Result, Ok, Err, IsSome, option_map, if◌then◌else◌}
-use Rattle.gix_features_parts.specs.declared.parallel.in_order.Stage.{Stage}
-use Rattle.gix_features_parts.specs.declared.parallel.in_order.Stage.TheVariants.{Drawing, Drained, Over}
+-- Items that come in any order, given by their numbers: what one call gives.
+use Rattle.std.specs.Prelude.{◌≡◌, ◌≢◌, ℕ, ◌+◌, ◌-◌, ◌^◌, ◌<◌, ◌==◌, ◌⊎◌, min, map, Bool, true, false, List, [], ◌∷◌, Option, Some, None, Result, Ok, Err, IsSome, if◌then◌else◌}
+use Rattle.std.specs.Map.{lookup}
+use Rattle.std.specs.Option.{option_or}
+use Rattle.std.specs.Iterator.{YieldsThen}
 use Rattle.gix_features_parts.specs.declared.parallel.in_order.InOrderError.{InOrderError}
 use Rattle.gix_features_parts.specs.declared.parallel.in_order.InOrderError.TheVariants.{Inner, OutOfSequence, NoMemory}
 
@@ -9,12 +10,14 @@ use Rattle.gix_features_parts.specs.declared.parallel.in_order.InOrderError.TheV
 abbrev pub greatest_number : ℕ
 greatest_number = 2 ^ 64 - 1
 
--- the number whose turn comes after that of an item, and how far one is then: no turn comes after the greatest number's
-abbrev pub number_after : ℕ → ℕ
-number_after number = min (number + 1) greatest_number
+-- the first item with a number
+abbrev pub item_numbered : {T : Type 0} → ℕ → List (ℕ × T) → Option T
+item_numbered number pairs = lookup (λ k. k == number) pairs
 
-abbrev pub stage_after : ℕ → Stage → Stage
-stage_after number stage = if number == greatest_number then Over else stage
+-- no number comes twice
+abbrev pub EachOnce : {T : Type 0} → List (ℕ × T) → Type 0
+EachOnce [] = Unit {0}
+EachOnce (pair ∷ pairs) = (item_numbered pair.0 pairs ≡ None) × EachOnce pairs
 
 -- which items wait for their turn, by their numbers
 abbrev pub Waiting : Type 0 → Type 0
@@ -28,80 +31,79 @@ Changes before number item after = (k : ℕ) → after k ≡ (if number == k the
 abbrev pub CameBefore : {T : Type 0} → ℕ → Waiting T → ℕ → Type 0
 CameBefore next waiting number = (number < next) ⊎ IsSome (waiting number)
 
--- what an iterator in order is at: the inner iterator, the number whose turn it is, what waits, and how far it is
+-- these items come before their turn, each for the first time
+pub record AreEarly {T : Type 0} (next : ℕ) (waiting : Waiting T) (pairs : List (ℕ × T)) : Type 0 where
+  pub once : EachOnce pairs
+  pub early : (number : ℕ) → IsSome (item_numbered number pairs) → (next < number) × (waiting number ≡ None)
+
+-- these items wait, beside those that waited
+abbrev pub WaitToo : {T : Type 0} → List (ℕ × T) → Waiting T → Waiting T → Type 0
+WaitToo pairs before after = (number : ℕ) → after number ≡ option_or (item_numbered number pairs) (before number)
+
+-- a number had its turn, and it is that of the one after it; behind the greatest number nothing more is given
+pub record PassesTurn (number next : ℕ) (is_over : Bool) : Type 0 where
+  pub passed : next ≡ min (number + 1) greatest_number
+  pub last : is_over ≡ (number == greatest_number)
+
+-- what an iterator in order is at: the inner iterator, the number whose turn it is, what waits, and whether nothing more
+-- is given
 pub record At (S T : Type 0) : Type 0 where
   pub inner : S
   pub next : ℕ
   pub waiting : Waiting T
-  pub stage : Stage
-
--- the item whose turn it is, if it waits
-pub data Releases {S T : Type 0} : At S T → Option T → At S T → Type 0 where
-  -- none waits
-  Gap : {at : At S T} → at.waiting at.next ≡ None → Releases at None at
-  -- it is given, and the turn is the next one's
-  Turn : {at : At S T} {item : T} {rest : Waiting T} → at.waiting at.next ≡ Some item → Changes at.waiting at.next None rest
-      → Releases at (Some item) (record { inner = at.inner; next = number_after at.next; waiting = rest; stage = stage_after at.next at.stage })
-
--- an inner iterator by its steps
-module _ {S T E : Type 0} (steps : S → Option (Result (ℕ × T) E) → S → Type 0) where
-  -- What is given while the inner iterator has items.
-  pub data Draws : At S T → Option (Result T (InOrderError E)) → At S T → Type 0 where
-    -- the inner iterator ends, and what waits is given up to the first gap
-    Ends : {s t : S} {next : ℕ} {waiting : Waiting T} {at : At S T} {item : Option T} → steps s None t
-        → Releases (record { inner = t; next = next; waiting = waiting; stage = Drained }) item at
-        → Draws (record { inner = s; next = next; waiting = waiting; stage = Drawing }) (option_map Ok item) at
-    -- it gives an error
-    Fails : {s t : S} {next : ℕ} {waiting : Waiting T} {error : E} → steps s (Some (Err error)) t
-        → Draws (record { inner = s; next = next; waiting = waiting; stage = Drawing }) (Some (Err (Inner error)))
-        (record { inner = t; next = next; waiting = waiting; stage = Over })
-    -- it gives an item whose number came before
-    Repeats : {s t : S} {next : ℕ} {waiting : Waiting T} {number : ℕ} {item : T} → steps s (Some (Ok (number, item))) t → CameBefore next waiting number
-        → Draws (record { inner = s; next = next; waiting = waiting; stage = Drawing }) (Some (Err (OutOfSequence number next)))
-        (record { inner = t; next = next; waiting = waiting; stage = Over })
-    -- it gives a new item, for which there is no memory
-    Lost : {s t : S} {next : ℕ} {waiting : Waiting T} {number : ℕ} {item : T} → steps s (Some (Ok (number, item))) t → ¬ CameBefore next waiting number
-        → Draws (record { inner = s; next = next; waiting = waiting; stage = Drawing }) (Some (Err NoMemory))
-        (record { inner = t; next = next; waiting = waiting; stage = Over })
-    -- it gives a new item, and then the one whose turn it is waits
-    Gives : {s t : S} {next : ℕ} {waiting kept : Waiting T} {number : ℕ} {item given : T} {at : At S T} → steps s (Some (Ok (number, item))) t
-        → ¬ CameBefore next waiting number → Changes waiting number (Some item) kept
-        → Releases (record { inner = t; next = next; waiting = kept; stage = Drawing }) (Some given) at
-        → Draws (record { inner = s; next = next; waiting = waiting; stage = Drawing }) (Some (Ok given)) at
-    -- it gives a new item, and the one whose turn it is hasn't come yet
-    Waits : {s t : S} {next : ℕ} {waiting kept : Waiting T} {number : ℕ} {item : T} {result : Option (Result T (InOrderError E))} {at : At S T}
-        → steps s (Some (Ok (number, item))) t → ¬ CameBefore next waiting number → Changes waiting number (Some item) kept
-        → kept next ≡ None → Draws (record { inner = t; next = next; waiting = kept; stage = Drawing }) result at
-        → Draws (record { inner = s; next = next; waiting = waiting; stage = Drawing }) result at
-
-  -- what is given next, by how far the iterator is
-  abbrev pub GivesWhen : Stage → At S T → Option (Result T (InOrderError E)) → At S T → Type 0
-  GivesWhen Drawing before result after = Draws before result after
-  GivesWhen Drained before result after = (item : Option T) × (result ≡ option_map Ok item) × Releases before item after
-  GivesWhen Over before result after = (result ≡ None) × (after ≡ before)
-
-  abbrev pub GivesInOrder : At S T → Option (Result T (InOrderError E)) → At S T → Type 0
-  GivesInOrder before result after = GivesWhen before.stage before result after
-
--- whether the inner iterator is still asked, and whether nothing more is given
-abbrev pub is_drawing : Stage → Bool
-is_drawing Drawing = true
-is_drawing Drained = false
-is_drawing Over = false
-
-abbrev pub is_over : Stage → Bool
-is_over Drawing = false
-is_over Drained = false
-is_over Over = true
+  pub is_over : Bool
 
 -- nothing has come yet
 pub record IsBegun {S T : Type 0} (at : At S T) : Type 0 where
   pub first : at.next ≡ 0
   pub none : (k : ℕ) → at.waiting k ≡ None
-  pub drawing : at.stage ≡ Drawing
+  pub going : at.is_over ≡ false
 
--- why an item isn't kept: its number came before; or it didn't, and there is no memory
-abbrev pub IsRefusal : {T E : Type 0} → ℕ → Waiting T → ℕ → InOrderError E → Type 0
-IsRefusal next waiting number (Inner error) = ⊥
-IsRefusal next waiting number (OutOfSequence got turn) = CameBefore next waiting number × (got ≡ number) × (turn ≡ next)
-IsRefusal next waiting number NoMemory = ¬ CameBefore next waiting number
+-- an item that waits has its turn, and is given with no question to the inner iterator
+pub record Releases {S T : Type 0} (before : At S T) (item : T) (after : At S T) : Type 0 where
+  pub waited : before.waiting before.next ≡ Some item
+  pub rest : Changes before.waiting before.next None after.waiting
+  pub unasked : after.inner ≡ before.inner
+  pub passes : PassesTurn before.next after.next after.is_over
+
+-- nothing more is given, with this number's turn still to come
+abbrev pub Stops : {S T : Type 0} → ℕ → At S T → Type 0
+Stops next after = (after.next ≡ next) × (after.is_over ≡ true)
+
+-- What is given for an answer of the inner iterator, by the number whose turn it is and by what waits then.
+pub data IsGivenFor {S T E : Type 0} (next : ℕ) (after : At S T) : Option (Result (ℕ × T) E) → Option (Result T (InOrderError E)) → Type 0 where
+  -- an item in its turn is given
+  InTurn : {number : ℕ} {item : T} → number ≡ next → PassesTurn next after.next after.is_over
+      → IsGivenFor next after (Some (Ok (number, item))) (Some (Ok item))
+  -- a number that came before is out of sequence
+  Again : {number : ℕ} {item : T} → CameBefore next after.waiting number → Stops next after
+      → IsGivenFor next after (Some (Ok (number, item))) (Some (Err (OutOfSequence number next)))
+  -- for an item before its turn, which comes for the first time, there may be no memory
+  NoRoom : {number : ℕ} {item : T} → number ≢ next → ¬ CameBefore next after.waiting number → Stops next after
+      → IsGivenFor next after (Some (Ok (number, item))) (Some (Err NoMemory))
+  -- an error is handed on
+  Fails : {error : E} → Stops next after → IsGivenFor next after (Some (Err error)) (Some (Err (Inner error)))
+  -- the end is the end, since nothing that waits has its turn
+  Ends : Stops next after → IsGivenFor next after None None
+
+-- an inner iterator by its steps
+module _ {S T E : Type 0} (steps : S → Option (Result (ℕ × T) E) → S → Type 0) where
+  -- The item whose turn it is doesn't wait. The inner iterator gives items before their turn, which wait, and then this
+  -- answer.
+  pub record Asks (before : At S T) (pairs : List (ℕ × T)) (answer : Option (Result (ℕ × T) E)) (after : At S T) : Type 0 where
+    pub gap : before.waiting before.next ≡ None
+    pub early : AreEarly before.next before.waiting pairs
+    pub answers : YieldsThen steps before.inner (map Ok pairs) answer after.inner
+    pub wait : WaitToo pairs before.waiting after.waiting
+
+  -- what is given where the inner iterator is asked
+  abbrev pub Comes : At S T → Option (Result T (InOrderError E)) → At S T → Type 0
+  Comes before result after = (pairs : List (ℕ × T)) × (answer : Option (Result (ℕ × T) E)) × Asks before pairs answer after
+      × IsGivenFor before.next after answer result
+
+  -- What one call gives.
+  pub data GivesInOrder : At S T → Option (Result T (InOrderError E)) → At S T → Type 0 where
+    Over : {at : At S T} → at.is_over ≡ true → GivesInOrder at None at
+    Waited : {before after : At S T} {item : T} → before.is_over ≡ false → Releases before item after → GivesInOrder before (Some (Ok item)) after
+    Came : {before after : At S T} {result : Option (Result T (InOrderError E))} → before.is_over ≡ false → Comes before result after
+        → GivesInOrder before result after

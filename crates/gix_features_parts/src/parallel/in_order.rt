@@ -1,10 +1,10 @@
 //! Items that come in any order, given by their numbers.
-ghost use Rattle.std.specs.Prelude.{◌≡◌, ◌+◌, Some, IfSome, IfNone, IfErr, OnOk, OnErr};
+ghost use Rattle.std.specs.Prelude.{◌≡◌, ◌+◌, false, None, Some, IfErr, OnOk, OnErr};
 ghost use Rattle.std.specs.Ordering.{nat_cmp};
 ghost use Rattle.std.specs.BTreeMap.{get, btree_map_len};
 ghost use Rattle.std.specs.Iterator.{IsFinite, MakesProgress};
-ghost use Rattle.gix_features_parts.specs.InOrder.{Changes, CameBefore, IsBegun, IsRefusal, Releases, Draws, GivesInOrder};
-ghost use Rattle.gix_features_parts.specs.InOrderState.{in_order_at, can_draw, left_in_order};
+ghost use Rattle.gix_features_parts.specs.InOrder.{CameBefore, Changes, Comes, GivesInOrder, IsBegun, PassesTurn};
+ghost use Rattle.gix_features_parts.specs.InOrderState.{in_order_at, can_draw, left_in_order, IsRefusal};
 
 use std::alloc::Global;
 use std::collections::BTreeMap;
@@ -32,29 +32,20 @@ pub enum InOrderError<E> {
     NoMemory,
 }
 
-/// How far an iterator in order is.
-#[derive(Clone, Copy)]
-enum Stage {
-    /// The inner iterator is asked for items.
-    Drawing,
-    /// The inner iterator has ended. What waits is given up to the first gap.
-    Drained,
-    /// Nothing more is given.
-    Over,
-}
-
 /// The items of an inner iterator by their numbers, which begin at 0.
 ///
-/// An item that comes before its turn waits for it. After an error there is nothing more.
+/// An item that comes before its turn waits, and is given when its turn has come, before the inner iterator is asked
+/// again. One that comes in its turn is given at once, and takes no memory. After an error there is nothing more.
 #[derive(Drop)]
 pub struct InOrderIter<T, I> {
-    /// The iterator that gives the items with their numbers.
+    /// The iterator that gives the items with their numbers. It has to end.
     pub inner: I,
     /// The items that came before their turn, by their numbers.
     waiting: BTreeMap<SequenceId, T>,
     /// The number whose turn it is.
     next: SequenceId,
-    stage: Stage,
+    /// Nothing more is given.
+    is_over: bool,
 }
 
 impl<T, I> InOrderIter<T, I> {
@@ -67,23 +58,21 @@ impl<T, I> InOrderIter<T, I> {
             inner: iter,
             waiting: BTreeMap::new(alloc),
             next: 0,
-            stage: Stage::Drawing,
+            is_over: false,
         }
     }
 
-    /// The item whose turn it is, if it waits.
-    fn release(&mut self) -> Option<T>
-        ensures released { Releases (in_order_at self.old) result (in_order_at self.new) }
-        ensures fewer { IfSome result (λ _. btree_map_len self.new.waiting + 1 ≡ btree_map_len self.old.waiting) }
-        ensures same { IfNone result (self.new.waiting.entries ≡ self.old.waiting.entries) }
+    /// Makes it the next number's turn. None comes after the greatest number.
+    fn pass_turn(&mut self)
+        ensures passes { PassesTurn self.old.next self.new.next self.new.is_over }
+        ensures same { (self.new.inner ≡ self.old.inner) × (self.new.waiting ≡ self.old.waiting) }
     {
-        let item = self.waiting.remove(&self.next)?;
         if self.next == SequenceId::MAX {
-            self.stage = Stage::Over;
+            self.is_over = true;
         } else {
             self.next += 1;
+            self.is_over = false;
         }
-        Some(item)
     }
 }
 
@@ -95,7 +84,8 @@ impl<T: Drop, I> InOrderIter<T, I> {
         ensures one_more { OnOk result (btree_map_len self.new.waiting ≡ btree_map_len self.old.waiting + 1) }
         ensures refused { IfErr result (λ error. IsRefusal self.old.next (get nat_cmp self.old.waiting) number error) }
         ensures unkept { OnErr result (self.new.waiting.entries ≡ self.old.waiting.entries) }
-        ensures same { (self.new.inner ≡ self.old.inner) × (self.new.next ≡ self.old.next) × (self.new.stage ≡ self.old.stage) }
+        ensures same { (self.new.inner ≡ self.old.inner) × (self.new.next ≡ self.old.next)
+            × (self.new.is_over ≡ self.old.is_over) }
     {
         if number < self.next || self.waiting.contains_key(&number) {
             return Err(InOrderError::OutOfSequence {
@@ -111,35 +101,35 @@ impl<T: Drop, I> InOrderIter<T, I> {
 }
 
 impl<T: Drop, E, I: Iterator<Item = Result<(SequenceId, T), E>>> InOrderIter<T, I> {
-    /// Asks the inner iterator for items until the one whose turn it is has come.
+    /// Asks the inner iterator for items until the one whose turn it is comes. The others wait.
     fn draw(&mut self) -> Option<Result<T, InOrderError<E>>>
-        requires drawing { self.old.stage ≡ Stage.Drawing }
+        requires going { self.old.is_over ≡ false }
+        requires gap { get nat_cmp self.old.waiting self.old.next ≡ None }
         requires can { I.can_next self.old.inner }
         requires finite { IsFinite (I.remaining self.old.inner) }
-        ensures draws { Draws I.next_gives (in_order_at self.old) result (in_order_at self.new) }
-        ensures goes { MakesProgress (can_draw I.can_next I.remaining) (left_in_order I.remaining) self.old result self.new }
+        ensures comes { Comes I.next_gives (in_order_at self.old) result (in_order_at self.new) }
+        ensures goes { MakesProgress (can_draw I.can_next I.remaining) (left_in_order I.remaining)
+            self.old result self.new }
     {
-        'drawing: loop {
-            let Some(arrived) = self.inner.next() else {
-                self.stage = Stage::Drained;
-                return Some(Ok(self.release()?));
-            };
-            match arrived {
-                Ok((number, item)) => {
-                    if let Err(error) = self.keep(number, item) {
-                        self.stage = Stage::Over;
-                        return Some(Err(error));
-                    }
-                }
+        'drawing: while let Some(arrived) = self.inner.next() {
+            let (number, item) = match arrived {
+                Ok(pair) => pair,
                 Err(error) => {
-                    self.stage = Stage::Over;
+                    self.is_over = true;
                     return Some(Err(InOrderError::Inner(error)));
                 }
-            }
-            if let Some(item) = self.release() {
+            };
+            if number == self.next {
+                self.pass_turn();
                 return Some(Ok(item));
             }
+            if let Err(error) = self.keep(number, item) {
+                self.is_over = true;
+                return Some(Err(error));
+            }
         }
+        self.is_over = true;
+        None
     }
 }
 
@@ -153,10 +143,13 @@ impl<T: Drop, E, I: Iterator<Item = Result<(SequenceId, T), E>>> Iterator for In
     ghost remaining = { left_in_order I.remaining };
 
     fn next(&mut self) -> Option<Result<T, InOrderError<E>>> {
-        match self.stage {
-            Stage::Drawing => self.draw(),
-            Stage::Drained => Some(Ok(self.release()?)),
-            Stage::Over => None,
+        if self.is_over {
+            return None;
         }
+        if let Some(item) = self.waiting.remove(&self.next) {
+            self.pass_turn();
+            return Some(Ok(item));
+        }
+        self.draw()
     }
 }
