@@ -30,6 +30,7 @@ pub trait Reduce {
 }
 
 /// Gives each value that it is fed, which may be an error, and comes to nothing.
+#[derive(Drop)]
 pub struct IdentityWithResult<Input, Error> {
     input: PhantomData<Input>,
     error: PhantomData<Error>,
