@@ -92,7 +92,10 @@ module _ (left middle : Option (List ℕ)) (value count : ℕ) (before : ReadSoF
 
   wanted : WantsMore bytes
   unfolding bytes
-  wanted = record { going = rw (list_all-append goes_on before.front (before.last ∷ []), before.wanted.going, before.last_is) refl; fits = rw before.spells fits }
+  wanted = record {
+    going = rw (list_all-append goes_on before.front (before.last ∷ []), before.wanted.going, before.last_is) refl;
+    fits = rw before.spells fits;
+  }
 
   some : 0 < length bytes
   unfolding bytes

@@ -18,7 +18,8 @@ IsAtEnd (Some left) = left ≡ []
 -- byte is wanted, which the source didn't give.
 abbrev pub Decodes : List ℕ → Result (ℕ × ℕ) Error → Type 0
 Decodes bytes (Ok number) =
-    (front : List ℕ) × (last : ℕ) × (bytes ≡ front ++ last ∷ []) × WantsMore front × (goes_on last ≡ false) × (value_of bytes ≡ number.0) × (length bytes ≡ number.1)
+    (front : List ℕ) × (last : ℕ) × (bytes ≡ front ++ last ∷ []) × WantsMore front × (goes_on last ≡ false)
+    × (value_of bytes ≡ number.0) × (length bytes ≡ number.1)
 Decodes bytes (Err Overflow) = (front : List ℕ) × (last : ℕ) × (bytes ≡ front ++ last ∷ []) × WantsMore front × (2 ^ 64 ≤ value_of bytes)
 Decodes bytes (Err Truncated) = WantsMore bytes
 Decodes bytes (Err Source) = WantsMore bytes

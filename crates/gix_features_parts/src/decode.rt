@@ -1,5 +1,6 @@
 //! Numbers of variable length.
-ghost use Rattle.std.specs.Prelude.{◌≡◌, ◌+◌, ◌*◌, ◌<◌, ◌≤◌, ◌^◌, List, ℕ, [], ◌∷◌, IsErrOf, OnErr, IfOk, IfSome, MatchOption};
+ghost use Rattle.std.specs.Prelude.{◌≡◌, ◌+◌, ◌*◌, ◌<◌, ◌≤◌, ◌^◌, ℕ, List, [], ◌∷◌};
+ghost use Rattle.std.specs.Prelude.{IsErrOf, OnErr, IfOk, IfSome, MatchOption};
 ghost use Rattle.odb_base.specs.Faults.{Rose};
 ghost use Rattle.gix_features_parts.specs.Leb64.{low_bits, goes_on};
 ghost use Rattle.gix_features_parts.specs.Leb64Reads.{TakesBytes, IsAtEnd, Decodes};
@@ -23,10 +24,12 @@ pub enum Error {
 
 /// Reads a number from a source, and answers it with the number of its bytes. It takes no memory.
 pub fn leb64_from_read<S: Source>(source: &mut S) -> Result<(u64, usize), Error>
-    ensures decoded { (bytes : List ℕ) × TakesBytes (S.left source.old) (S.left source.new) bytes × Decodes bytes result }
+    ensures decoded { (bytes : List ℕ) × TakesBytes (S.left source.old) (S.left source.new) bytes
+        × Decodes bytes result }
     ensures truncated { IsErrOf result Error.Truncated → IsAtEnd (S.left source.new) }
     ensures later { S.faults source.old ≤ S.faults source.new }
     ensures failed { IsErrOf result Error.Source → Rose (S.faults source.old) (S.faults source.new) }
+    ensures same { (IsErrOf result Error.Source → ⊥) → S.faults source.new ≡ S.faults source.old }
 {
     let first = next_byte(source)?;
     let mut value = low_bits(first);
@@ -60,7 +63,8 @@ fn low_bits(byte: u8) -> u64
 
 /// The number that one byte more makes of a number, unless that passes 64 bits.
 fn with_byte(value: u64, byte: u8) -> Option<u64>
-    ensures number { MatchOption result (2 ^ 64 ≤ (value + 1) * 128 + low_bits byte) (λ n. n ≡ (value + 1) * 128 + low_bits byte) }
+    ensures number { MatchOption result (2 ^ 64 ≤ (value + 1) * 128 + low_bits byte)
+        (λ n. n ≡ (value + 1) * 128 + low_bits byte) }
     ensures fits { IfSome result (λ n. n < 2 ^ 64) }
 {
     value
@@ -77,6 +81,7 @@ fn next_byte<S: Source>(source: &mut S) -> Result<u8, Error>
     ensures truncated { IsErrOf result Error.Truncated → IsAtEnd (S.left source.new) }
     ensures later { S.faults source.old ≤ S.faults source.new }
     ensures failed { IsErrOf result Error.Source → Rose (S.faults source.old) (S.faults source.new) }
+    ensures same { (IsErrOf result Error.Source → ⊥) → S.faults source.new ≡ S.faults source.old }
 {
     let mut byte = [0];
     match source.read(&mut byte) {

@@ -1,5 +1,5 @@
 -- The bytes of the number are read one after another.
-use Rattle.std.proofs.Common.{arith, []}
+use Rattle.std.proofs.Common.{arith, [], ◌∙◌}
 use Rattle.std.proofs.lemmas.Result.{err_from_is_err_and}
 use Rattle.gix_features_parts.proofs.Leb64Lemmas.{refused, WantsMore-none, ReadSoFar-first, ReadSoFar-next, ReadSoFar-overflow, ReadSoFar-refused}
 use Rattle.gix_features_parts.proofs.decode.leb64_from_read.Goals as goal
@@ -12,7 +12,7 @@ returns-in_err-first-clause-decoded g c =
 pub reading-init : goal.reading-init
 reading-init g c = record {
   read = ReadSoFar-first _ _ c.in_ok-first.first _ _ c.in_ok-first.ensures.taken c.low_bits-value.ensures.bits c.goes_on-more.ensures.more;
-  later = c.in_ok-first.ensures.later;
+  same = c.in_ok-first.ensures.same (λ other. cc other);
   fits = c.low_bits-value.type_inv;
   short = omega arith;
 }
@@ -35,7 +35,7 @@ reading-preserved g c =
     record {
       read = ReadSoFar-next _ _ _ _ before c.reading.invariant.fits _ c.in_ok-byte.byte _ _ c.in_ok-byte.ensures.taken longer
           c.goes_on-more-in-reading.ensures.more;
-      later = omega (arith, c.reading.invariant.later, c.in_ok-byte.ensures.later);
+      same = c.in_ok-byte.ensures.same (λ other. cc other) ∙ c.reading.invariant.same;
       fits = c.in-Some.ensures.fits;
       short = omega (arith, c.reading.invariant.short, longer);
     }

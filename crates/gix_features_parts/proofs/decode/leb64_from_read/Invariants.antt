@@ -1,4 +1,4 @@
-use Rattle.std.proofs.Common.{◌+◌, ◌-◌, ◌^◌, ◌<◌, ◌≤◌}
+use Rattle.std.proofs.Common.{◌≡◌, ◌+◌, ◌-◌, ◌^◌, ◌<◌, ◌≤◌}
 use Rattle.gix_features_parts.proofs.Leb64Lemmas.{ReadSoFar}
 use Rattle.gix_features_parts.proofs.decode.leb64_from_read.Given as goal
 
@@ -6,7 +6,7 @@ use Rattle.gix_features_parts.proofs.decode.leb64_from_read.Given as goal
 abbrev pub invariant-reading : goal.invariant-reading
 invariant-reading g l = record {
   read : ReadSoFar (g.S.Source.left l.fn.source) (g.S.Source.left l.source) l.value l.count l.more;
-  later : g.S.Source.faults l.fn.source ≤ g.S.Source.faults l.source;
+  same : g.S.Source.faults l.source ≡ g.S.Source.faults l.fn.source;
   fits : l.value < 2 ^ 64;
   short : l.count ≤ l.value + 1;
 }
