@@ -37,9 +37,11 @@ pub fn get_mut<'a, T, R: Wait>(rt: &R, value: &'a MutableOnDemand<T>) -> RwLockW
     value.write(rt)
 }
 
-/// The value of an owner, to change. Where it has other owners, this one gets a copy of it first.
+/// The value of an owner, to change. Where it has other owners, this one gets a copy of it first, in memory of the
+/// allocator that made it.
 pub fn make_mut<T: Clone>(this: &mut OwnShared<T>) -> Result<&mut T, NoMemory>
-    ensures* writes_back { sem 𝓛 (arc_follows_make_mut T.row the_row ⟦<Global as Allocator>⟧ T.is_clone this.entry result) }
+    ensures* writes_back { sem 𝓛 (arc_follows_make_mut T.row the_row ⟦<Global as Allocator>⟧ T.is_clone
+        this.entry result) }
     ensures value { IfOk result (λ x. (x.now ≡ arc_value this.old) ⊎ T.is_clone (arc_value this.old) x.now) }
 {
     Ok(Arc::make_mut(this)?)
@@ -62,7 +64,7 @@ pub fn downgrade_mut_to_ref<'a, T, R: Wait>(
 
 /// What a function gives of the value that is held.
 pub fn with_ref<T, U, F: FnOnce(&T) -> U>(guard: &MappedRefGuard<'_, T>, f: F) -> U
-    requires { F.IsAlwaysCallable f }
+    requires { (x : _) → x.now ≡ read_guard_value guard.now → F.pre f x }
     ensures { FnOnceReturnsAt F.FnOnce f (read_guard_value guard.now) result }
 {
     f(guard)
