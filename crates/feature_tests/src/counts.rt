@@ -60,6 +60,7 @@ fn byte_size(rt: HostRuntime) -> Result<(), Fail> {
     compare("a number of bytes", shown.as_str(), "1024")
 }
 
+// Catches counts that are kept.
 #[test]
 fn cache_counts(rt: HostRuntime) -> Result<(), Fail> {
     let owner = String::from_str(rt.alloc(), "packs")?;
@@ -67,5 +68,6 @@ fn cache_counts(rt: HostRuntime) -> Result<(), Fail> {
     counts.put();
     counts.hit();
     counts.miss();
+    assert_eq!(rt; size_of::<cache::Debug>(), 0);
     Ok(())
 }

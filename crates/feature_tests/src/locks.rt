@@ -52,15 +52,24 @@ fn owners(rt: HostRuntime) -> Result<(), Fail> {
     Ok(())
 }
 
-// Catches a cell that is set twice.
+// Catches a cell that is set twice, and one that forgets its value.
 #[test]
-fn cells(rt: HostRuntime) -> Result<(), Fail> {
-    let waiting: OnceLock<u8> = OnceLock::new();
-    let first = waiting.set(&rt, 1).is_ok();
-    let second = waiting.set(&rt, 2).is_ok();
-    let racing: OnceBox<u8> = OnceBox::new(rt.alloc());
-    let third = racing.set(Box::new(rt.alloc(), 3)?).is_ok();
-    let fourth = racing.set(Box::new(rt.alloc(), 4)?).is_ok();
-    assert!(rt; first && !second && third && !fourth);
+fn waiting_cell(rt: HostRuntime) -> Result<(), Fail> {
+    let cell: OnceLock<u8> = OnceLock::new();
+    let first = cell.set(&rt, 1).is_ok();
+    let second = cell.set(&rt, 2).is_ok();
+    assert!(rt; first && !second);
+    assert_eq!(rt; cell.get().copied(), Some(1));
+    Ok(())
+}
+
+// Catches the same of a cell that doesn't wait.
+#[test]
+fn racing_cell(rt: HostRuntime) -> Result<(), Fail> {
+    let cell: OnceBox<u8> = OnceBox::new(rt.alloc());
+    let first = cell.set(Box::new(rt.alloc(), 3)?).is_ok();
+    let second = cell.set(Box::new(rt.alloc(), 4)?).is_ok();
+    assert!(rt; first && !second);
+    assert_eq!(rt; cell.get().copied(), Some(3));
     Ok(())
 }

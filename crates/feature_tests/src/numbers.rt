@@ -60,7 +60,8 @@ fn number_row(alloc: Global, row: &str) -> Result<(), Fail> {
     compare(digits, number_shown(alloc, &mut source)?.as_str(), want)
 }
 
-// Catches bits in a wrong order, a longer spelling that begins with 0, a value that wraps, and a byte too many that is read.
+// Catches bits in a wrong order, a longer spelling that begins with 0, a value that wraps, and a byte too many that is
+// read.
 #[test]
 fn numbers(rt: HostRuntime) -> Result<(), Fail> {
     for row in NUMBERS.split(';') {
@@ -83,33 +84,37 @@ fn plan_shown(alloc: Global, plan: (usize, Option<usize>, usize)) -> Result<Stri
     format!(in alloc; "{chunk} {limit:?} {threads}")
 }
 
-// Catches a limit of 0 that is taken for no thread, and bounds of a chunk that are mixed up.
+// Catches a chunk above the greatest size, an empty one, and threads that would have nothing to do.
 #[test]
-fn sizes(rt: HostRuntime) -> Result<(), Fail> {
-    let known = optimize_chunk_size_and_thread_limit(10, Some(100), None, Some(4), 1);
-    compare(
-        "100 items",
-        plan_shown(rt.alloc(), known)?.as_str(),
-        "12 Some(4) 4",
-    )?;
-    let unknown = optimize_chunk_size_and_thread_limit(10, None, None, Some(4), 1);
-    compare(
-        "no items",
-        plan_shown(rt.alloc(), unknown)?.as_str(),
-        "50 Some(4) 4",
-    )?;
+fn sizes_of_known_items(rt: HostRuntime) -> Result<(), Fail> {
+    let hundred = optimize_chunk_size_and_thread_limit(10, Some(100), None, Some(4), 1);
+    let shown = plan_shown(rt.alloc(), hundred)?;
+    compare("100 items", shown.as_str(), "12 Some(4) 4")?;
     let few = optimize_chunk_size_and_thread_limit(10, Some(3), None, Some(4), 1);
-    compare(
-        "3 items",
-        plan_shown(rt.alloc(), few)?.as_str(),
-        "1 Some(1) 1",
-    )?;
+    let shown = plan_shown(rt.alloc(), few)?;
+    compare("3 items", shown.as_str(), "1 Some(1) 1")?;
+    let many = optimize_chunk_size_and_thread_limit(10, Some(100_000), None, Some(4), 1);
+    let shown = plan_shown(rt.alloc(), many)?;
+    compare("100000 items", shown.as_str(), "1000 Some(4) 4")
+}
+
+// Catches bounds of a chunk that are mixed up, and a limit that the number of threads stands above.
+#[test]
+fn sizes_of_unknown_items(rt: HostRuntime) -> Result<(), Fail> {
+    let small = optimize_chunk_size_and_thread_limit(10, None, None, Some(4), 1);
+    let shown = plan_shown(rt.alloc(), small)?;
+    compare("small chunks", shown.as_str(), "50 Some(4) 4")?;
+    let large = optimize_chunk_size_and_thread_limit(5000, None, Some(2), Some(4), 1);
+    let shown = plan_shown(rt.alloc(), large)?;
+    compare("large chunks", shown.as_str(), "1000 Some(2) 2")?;
     let one = optimize_chunk_size_and_thread_limit(7, None, Some(0), None, 1);
-    compare(
-        "one core",
-        plan_shown(rt.alloc(), one)?.as_str(),
-        "7 Some(1) 1",
-    )?;
+    let shown = plan_shown(rt.alloc(), one)?;
+    compare("one core", shown.as_str(), "7 Some(1) 1")
+}
+
+// Catches a limit of 0 that is taken for no thread.
+#[test]
+fn threads(rt: HostRuntime) -> Result<(), Fail> {
     let chosen = (
         num_threads(None, 4),
         num_threads(Some(0), 4),

@@ -67,13 +67,13 @@ fn orders(rt: HostRuntime) -> Result<(), Fail> {
     Ok(())
 }
 
-// Catches a reducer that keeps an error back, or gives one at the end.
+// Catches a reducer that gives another value than it is fed, keeps an error back, or gives one at the end.
 #[test]
 fn reduces(rt: HostRuntime) -> Result<(), Fail> {
     let mut reducer = IdentityWithResult::<u8, Broken>::default();
-    let first = reducer.feed(Ok(1)).is_ok();
-    let second = reducer.feed(Err(Broken)).is_err();
-    let last = reducer.finalize().is_ok();
-    assert!(rt; first && second && last);
-    Ok(())
+    let first = reducer.feed(Ok(7));
+    let second = reducer.feed(Err(Broken));
+    let last = reducer.finalize();
+    let shown = format!(in rt.alloc(); "{first:?} {second:?} {last:?}")?;
+    compare("fed", shown.as_str(), "Ok(7) Err(Broken) Ok(())")
 }
