@@ -168,7 +168,8 @@ module _ {S T E : Type 0} (steps : S → Option (Result (ℕ × T) E) → S → 
         | inl e ↦ subst (λ n. (next ≤ n) × (after.waiting n ≡ None)) (sym is ∙ e.1) (omega arith, gap)
         | inr e ↦ absurd (not_some {A = T} {o = item_numbered k ((number, item) ∷ [])} (item_there k number item [] e.1) some)
       ] in
-      let more = arrive_more s after.inner next after.waiting kept pairs ((number, item) ∷ []) items arrived (after.inner, step, refl) (refl, tt) new (λ k. refl) in
+      let more = arrive_more s after.inner next after.waiting kept pairs ((number, item) ∷ []) items arrived
+      (after.inner, step, refl) (refl, tt) new (λ k. refl) in
       let here : kept next ≡ Some item = ap (λ o. option_or o (after.waiting next)) (item_here next number item [] is) in
       let changes : Changes kept next None after.waiting
       = λ k.

@@ -7,8 +7,8 @@ threads_of None there = there
 threads_of (Some zero) there = there
 threads_of (Some (suc n)) there = suc n
 
--- A chunk of unknown items is as large as desired where one thread works, and else of 50 to 1000 items. Of known items
--- each thread has two chunks, of 1 to 1000 items.
+-- A chunk of unknown items is as large as desired where one thread works, and else of 50 to 1000 items. Known items are
+-- cut so that each thread has two chunks, but in no chunks of less than 1 or of more than 1000 items.
 abbrev pub chunk_of : ℕ → Option ℕ → ℕ → ℕ
 chunk_of desired None threads = if threads == 1 then desired else max 50 (min desired 1000)
 chunk_of desired (Some items) threads = max 1 (min (items / (2 * threads)) 1000)

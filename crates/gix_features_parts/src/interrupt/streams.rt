@@ -32,8 +32,10 @@ pub struct Read<R, G> {
 impl<R: Source, G: Flag> Read<R, G> {
     /// Reads bytes to the front of `out`, and answers how many, unless the flag is set.
     pub fn read(&mut self, out: &mut [u8]) -> Result<usize, Error>
-        ensures flag { Asked G.tells G.count self.old.should_interrupt (is_interrupted result) self.new.should_interrupt }
-        ensures interrupted { is_interrupted result ≡ true → (self.new.inner ≡ self.old.inner) × (out.new ≡ out.old) }
+        ensures flag { Asked G.tells G.count self.old.should_interrupt (is_interrupted result)
+            self.new.should_interrupt }
+        ensures interrupted { is_interrupted result ≡ true →
+            (self.new.inner ≡ self.old.inner) × (out.new ≡ out.old) }
         ensures count { IfOk result (λ n. n ≤ length out.old) }
         ensures bytes { Reads (R.left self.old.inner) (R.left self.new.inner) out.new (inner_answer result) }
         ensures cause { is_interrupted result ≡ false →
@@ -62,7 +64,8 @@ pub struct Write<W, G> {
 impl<W: Sink, G: Flag> Write<W, G> {
     /// Writes bytes from the front of `bytes`, and answers how many, unless the flag is set.
     pub fn write(&mut self, bytes: &[u8]) -> Result<usize, Error>
-        ensures flag { Asked G.tells G.count self.old.should_interrupt (is_interrupted result) self.new.should_interrupt }
+        ensures flag { Asked G.tells G.count self.old.should_interrupt (is_interrupted result)
+            self.new.should_interrupt }
         ensures interrupted { is_interrupted result ≡ true → self.new.inner ≡ self.old.inner }
         ensures count { IfOk result (λ n. n ≤ length bytes.now) }
         ensures some { IfOk result (λ n. n ≡ 0 → length bytes.now ≡ 0) }

@@ -82,7 +82,8 @@ impl<T: Drop, I> InOrderIter<T, I> {
         ensures kept { OnOk result ((CameBefore self.old.next (get nat_cmp self.old.waiting) number → ⊥)
             × Changes (get nat_cmp self.old.waiting) number (Some item) (get nat_cmp self.new.waiting)) }
         ensures one_more { OnOk result (btree_map_len self.new.waiting ≡ btree_map_len self.old.waiting + 1) }
-        ensures refused { IfErr result (λ error. IsRefusal self.old.next (get nat_cmp self.old.waiting) number error) }
+        ensures refused { IfErr result (λ error.
+            IsRefusal self.old.next (get nat_cmp self.old.waiting) number error) }
         ensures unkept { OnErr result (self.new.waiting.entries ≡ self.old.waiting.entries) }
         ensures same { (self.new.inner ≡ self.old.inner) × (self.new.next ≡ self.old.next)
             × (self.new.is_over ≡ self.old.is_over) }

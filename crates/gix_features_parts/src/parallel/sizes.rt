@@ -2,9 +2,10 @@
 ghost use Rattle.std.specs.Prelude.{◌≡◌, ◌≤◌, None, Some, unwrap_or};
 ghost use Rattle.gix_features_parts.specs.Sizes.{threads_of, chunk_of, limit_of, limit_for_chunks};
 
-/// The fewest and the most items of a chunk, where it isn't known how many items there are.
+/// The fewest items of a chunk, where it isn't known how many items there are.
 const LEAST: usize = 50;
 
+/// The most items of a chunk, unless one thread takes items of which it isn't known how many there are.
 const MOST: usize = 1000;
 
 /// How many threads work: the limit, or as many as there are cores where it is none or 0.
@@ -27,8 +28,10 @@ pub fn optimize_chunk_size_and_thread_limit(
 ) -> (usize, Option<usize>, usize)
     requires some { 1 ≤ threads_of thread_limit (unwrap_or available_threads cores) }
     requires few { threads_of thread_limit (unwrap_or available_threads cores) ≤ 65_536 }
-    ensures chunk { result.0 ≡ chunk_of desired_chunk_size num_items (threads_of thread_limit (unwrap_or available_threads cores)) }
-    ensures threads { result.2 ≡ limit_of num_items result.0 (threads_of thread_limit (unwrap_or available_threads cores)) }
+    ensures chunk { result.0 ≡ chunk_of desired_chunk_size num_items
+        (threads_of thread_limit (unwrap_or available_threads cores)) }
+    ensures threads { result.2 ≡ limit_of num_items result.0
+        (threads_of thread_limit (unwrap_or available_threads cores)) }
     ensures limit { result.1 ≡ Some result.2 }
 {
     let threads = num_threads(thread_limit, available_threads.unwrap_or(cores));
