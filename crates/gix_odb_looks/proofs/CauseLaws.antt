@@ -1,19 +1,32 @@
--- Laws of look-ups: why one is refused by loose objects and by lists of packs, what it replies, and when it asks nothing more.
-pub mod Replies
+-- Laws of look-ups: why one is refused, what it replies, and when it asks nothing more.
+mod Replies
 mod Folders
-pub mod Standing
+mod Standing
 mod Pasts
+mod Own
+mod Refusals
 mod Listers
 mod Known
 mod Step
-use Rattle.std.proofs.Common.{◌≡◌, ℕ, Bool, true, false, List, [], ◌∷◌, ◌++◌, Option, Some}
-use Rattle.std.proofs.Common.{None, Ok, ◌↔◌, refl, sym, ◌∙◌, ap, subst, append_assoc, append-nil, arith}
+use Rattle.std.proofs.Common.{◌≡◌, ℕ, ◌≤◌, ◌<◌, Bool, true, false, List, [], ◌∷◌, ◌++◌, Option, Some}
+use Rattle.std.proofs.Common.{None, Ok, Err, ◌↔◌, refl, sym, ◌∙◌, ap, subst, append_assoc, append-nil, arith}
 use Rattle.std.specs.Prelude.{if◌then◌else◌}
 use Rattle.std.proofs.lemmas.List.Elements.{Contains-append_right, Contains-push}
+use Rattle.std.proofs.lemmas.Option.{same_Some}
 use Rattle.odb_base.specs.Path.{Path}
+use Rattle.gix_hash.specs.ObjectId.{kind_of}
 use Rattle.gix_hash.specs.declared.kind.Kind.{Kind}
 use Rattle.gix_hash.specs.declared.object_id.ObjectId.{ObjectId}
+use Rattle.gix_odb_core.specs.Steps.{last_state}
+use Rattle.gix_odb_core.specs.declared.event.Effect.TheVariants as effects
+use Rattle.gix_odb_core.specs.declared.event.Event.{Event}
+use Rattle.gix_odb_core.specs.declared.event.Event.TheVariants as events
+use Rattle.gix_odb_core.specs.declared.event.Refusal.{Refusal}
 use Rattle.gix_odb_core.specs.declared.view.View.{View}
+use Rattle.gix_odb_slots.specs.declared.listing.Listing.{Listing}
+use Rattle.gix_odb_packs.specs.declared.answer.Answer.{Answer}
+use Rattle.gix_odb_packs.specs.declared.answer.Answer.TheVariants as told
+use Rattle.gix_odb_packs.specs.declared.answer.PartAsk.TheVariants as asks
 use Rattle.gix_odb_loose.specs.LooseOrder.{disk_ask_of}
 use Rattle.gix_odb_loose.specs.declared.call.LooseCall.{LooseCall}
 use Rattle.gix_odb_packs.specs.declared.answer.PartAsk.{PartAsk}
@@ -28,9 +41,11 @@ use Rattle.gix_odb_calls.specs.declared.find.Error.TheVariants as errors
 use Rattle.gix_odb_calls.specs.declared.query.Query.{Query}
 use Rattle.gix_odb_calls.specs.declared.verdict.Verdict.{Verdict}
 use Rattle.gix_odb_looks.specs.Caused.{IsCaused}
-use Rattle.gix_odb_looks.specs.Exchange.{AreAsked, Exchange, behind, published_in}
+use Rattle.gix_odb_looks.specs.Exchange.{AreAsked, Exchange, IsLast, behind, published_in}
+use Rattle.gix_odb_looks.specs.Laps.{AreNumbered, IsNumbered, number_by}
 use Rattle.gix_odb_looks.specs.LookUpOrder.{Setting, ask_at, ask_of, fed, first_of, loose_ask, new_head}
-use Rattle.gix_odb_looks.specs.LookUpOrder.{result_at, result_of, seen, started, try_view, view_of, without_notes}
+use Rattle.gix_odb_looks.specs.LoadIndex.{of_refusal}
+use Rattle.gix_odb_looks.specs.LookUpOrder.{load_refused, result_at, result_of, seen, started, try_view, view_of, without_notes}
 use Rattle.gix_odb_looks.specs.True.{AreTrue, IsTrue}
 use Rattle.gix_odb_looks.specs.declared.look_up.LookHead.{LookHead}
 use Rattle.gix_odb_looks.specs.declared.look_up.LookStage.{LookStage}
@@ -39,12 +54,16 @@ use Rattle.gix_odb_looks.specs.declared.look_up.LookUp.{LookUp}
 use Rattle.gix_odb_looks.specs.declared.look_up.Part.{Part}
 use Rattle.gix_odb_looks.specs.declared.look_up.Part.TheVariants as parts
 use Rattle.gix_odb_looks.specs.declared.look_up.Purpose.TheVariants as purposes
+use Rattle.gix_odb_looks.specs.Shown.{IsShownView}
+use Rattle.gix_odb_looks.proofs.FoundLaws.Behind.{IsOfPack, pack_refusal_caused}
 use Rattle.gix_odb_looks.proofs.CauseLaws.Folders.{folder_has_ask}
 use Rattle.gix_odb_looks.proofs.CauseLaws.Known.{Counts, HasBegun, IsListCaused, KnowsAt, ShowedPart}
 use Rattle.gix_odb_looks.proofs.CauseLaws.Listers.{Breaks}
 use Rattle.gix_odb_looks.proofs.CauseLaws.Pasts.{Noted}
 use Rattle.gix_odb_looks.proofs.CauseLaws.Pasts.{HasFailed-more, first_number-push, published_in-push}
-use Rattle.gix_odb_looks.proofs.CauseLaws.Replies.{IsReplyTo}
+use Rattle.gix_odb_looks.proofs.CauseLaws.Own.{IsLookOwned, fed_at-owned, own_has_room, started-owned}
+use Rattle.gix_odb_looks.proofs.CauseLaws.Refusals.{refused_event_ends}
+use Rattle.gix_odb_looks.specs.Reply.{IsReplyTo}
 use Rattle.gix_odb_looks.proofs.CauseLaws.Standing.{StandsAt, StandsFor, fed-stands, started-stands}
 use Rattle.gix_odb_looks.proofs.CauseLaws.Step.{fed_at-known, try_view-known}
 
@@ -96,10 +115,20 @@ module _ (setting : Setting) (view : View) (query : Query) (id : ObjectId) (exch
       replied head (stages.Publishing listing notes) stands is = absurd (cc is)
       replied head (stages.Done reply) stands is = (reply, refl)
 
+  -- an event that the core refuses ends the look-up with that refusal
+  pub a_refused_event_ends_the_look_up : (event : Event) (refusal : Refusal)
+      → IsLast exchanges (record { ask = asks.Core event; answer = told.Core (Err refusal) })
+      → AreAsked setting (started setting view query id) exchanges
+      → result_of look ≡ Ok (load_refused (of_refusal refusal))
+  a_refused_event_ends_the_look_up event refusal last asked =
+      let start = started setting view query id in
+      subst (λ (l : List Exchange). AreAsked setting start l → result_of (behind setting start l) ≡ Ok (load_refused (of_refusal refusal))) (sym last.1)
+      (refused_event_ends setting event refusal last.0 start) asked
+
 -- ---- why a look-up is refused
 
 -- an error that no pack gives: of the loose objects of a folder, of the lists of packs, or want of memory, which refuses no look-up
-abbrev pub IsOfLists : Error → Type 0
+abbrev IsOfLists : Error → Type 0
 IsOfLists (errors.Loose error) = Unit {0}
 IsOfLists (errors.LoadIndex error) = Unit {0}
 IsOfLists errors.NoMemory = Unit {0}
@@ -115,11 +144,11 @@ shown_begins (Some begun) view shown is = (begun, refl)
 shown_begins None (Some view) shown is = (view.list_no, refl)
 shown_begins None None shown is = absurd (cc is)
 
-module _ (Shown : Path → List ℕ → Type 0) (Loosely : Path → Verdict → Type 0) (setting : Setting) (hash : Kind) (query : Query) (id : ObjectId) where
+module _ (Shown : Path → List ℕ → Type 0) (setting : Setting) (hash : Kind) (query : Query) (id : ObjectId) where
   record IsKnown (past : List Exchange) (look : LookUp) : Type 0 where
     stands : StandsFor setting query id look
     counts : Counts past look.head
-    knows : KnowsAt Shown Loosely setting hash id past look.head look.stage
+    knows : KnowsAt Shown setting hash id past look.head look.stage
 
   -- ---- one exchange more
 
@@ -149,8 +178,8 @@ module _ (Shown : Path → List ℕ → Type 0) (Loosely : Path → Verdict → 
     breaks-more (list_stages.Index path left) breaks = tt
     breaks-more (list_stages.Pack row left) breaks = tt
 
-    knows-more : (stage : LookStage) (ask : PartAsk) → ask_at stage ≡ Some ask → KnowsAt Shown Loosely setting hash id past head stage
-        → KnowsAt Shown Loosely setting hash id more head_seen stage
+    knows-more : (stage : LookStage) (ask : PartAsk) → ask_at stage ≡ Some ask → KnowsAt Shown setting hash id past head stage
+        → KnowsAt Shown setting hash id more head_seen stage
     knows-more (stages.Trying trier part) ask asked knows = (noted-more trier.ahead.notes knows.0, showed-more part knows.1)
     knows-more (stages.Loose round call) ask asked knows = (noted-more round.notes knows.0, showed-more round.part knows.1)
     knows-more (stages.Looking purpose notes) ask asked knows = noted-more notes knows
@@ -158,61 +187,118 @@ module _ (Shown : Path → List ℕ → Type 0) (Loosely : Path → Verdict → 
     knows-more (stages.Publishing listing notes) ask asked knows = (noted-more notes knows.0, has_begun-more knows.1)
     knows-more (stages.Done reply) ask asked knows = absurd (cc asked)
 
-  fed-known : (past : List Exchange) (look : LookUp) (exchange : Exchange) → IsKnown past look → ask_of look ≡ Some exchange.ask
-      → IsTrue Shown Loosely setting hash query id exchange.ask exchange.answer
+  fed-known : (past : List Exchange) (slots number : ℕ) (look : LookUp) (exchange : Exchange) → IsKnown past look → ask_of look ≡ Some exchange.ask
+      → IsTrue Shown setting hash exchange.ask exchange.answer
+      → IsLookOwned number look → IsNumbered slots number exchange.ask exchange.answer
       → IsKnown (past ++ exchange ∷ []) (fed setting look exchange.answer)
-  fed-known past look exchange known asked truth =
+  fed-known past slots number look exchange known asked truth owned numbered =
       let head = seen look.head exchange.answer in
-      let after = fed_at-known Shown Loosely setting hash id (past ++ exchange ∷ []) (published_in past) head look.stage exchange.answer
+      let after = fed_at-known Shown setting hash id (past ++ exchange ∷ []) (published_in past) head look.stage exchange.answer
       (record {
         begun = ap (λ (b : Option ℕ). first_of b (view_of exchange.answer)) known.counts.begun ∙ sym (first_number-push past exchange);
         own = known.counts.own;
+        room = room;
         shows = λ view is. shown_begins look.head.begun (view_of exchange.answer) view is;
         ask = exchange.ask;
         asked = asked;
         was = Contains-push past exchange;
-        truth = subst (λ q. IsTrue Shown Loosely setting hash q id exchange.ask exchange.answer) (sym known.stands.query_is) truth;
+        last = (past, refl);
+        truth = truth;
         published = published_in-push past exchange;
       })
       (subst (λ i. StandsAt setting look.head.query i look.stage) known.stands.id_is known.stands.stands)
       (knows-more past exchange look.head look.stage exchange.ask asked known.knows) in
       record { stands = fed-stands setting query id look exchange.answer known.stands; counts = after.0; knows = after.1 }
+    where
+      -- a list that is published is one more of the look-up's own
+      room : (listing : Listing) (view : View) → ask_at look.stage ≡ Some (asks.Core (events.Publish listing))
+          → exchange.answer ≡ told.Core (Ok (effects.Published view)) → look.head.own < last_state
+      room listing view asks_it is =
+          let same : exchange.ask ≡ asks.Core (events.Publish listing) = same_Some _ _ (sym asked ∙ asks_it) in
+          own_has_room setting slots number look.head look.stage listing view owned asks_it
+          (subst (λ (a : PartAsk). IsNumbered slots number a (told.Core (Ok (effects.Published view)))) same
+          (subst (IsNumbered slots number exchange.ask) is numbered))
+
+  -- numbers never fall
+  number_rises : (slots number : ℕ) (ask : PartAsk) (answer : Answer) → IsTrue Shown setting hash ask answer
+      → IsNumbered slots number ask answer → number ≤ number_by number answer
+  number_rises slots number (asks.Disk ask) (told.Disk answer) truth numbered = omega arith
+  number_rises slots number (asks.Core event) (told.Core answer) truth numbered = numbered.0
+  number_rises slots number (asks.Disk ask) (told.Core answer) truth numbered = absurd truth
+  number_rises slots number (asks.Core event) (told.Disk answer) truth numbered = absurd truth
 
   -- ---- all exchanges
 
-  behind-known : (exchanges past : List Exchange) (look : LookUp) → IsKnown past look → AreAsked setting look exchanges
-      → AreTrue Shown Loosely setting hash query id exchanges
+  behind-known : (slots number : ℕ) (exchanges past : List Exchange) (look : LookUp) → IsKnown past look → IsLookOwned number look
+      → AreAsked setting look exchanges → AreNumbered slots number exchanges → AreTrue Shown setting hash exchanges
       → IsKnown (past ++ exchanges) (behind setting look exchanges)
-  behind-known [] past look known asked truth = subst (λ (l : List Exchange). IsKnown l look) (sym (append-nil past)) known
-  behind-known (exchange ∷ exchanges) past look known asked truth =
+  behind-known slots number [] past look known owned asked numbered truth = subst (λ (l : List Exchange). IsKnown l look) (sym (append-nil past)) known
+  behind-known slots number (exchange ∷ exchanges) past look known owned asked numbered truth =
+      let true_it = truth exchange (0, omega arith, refl) in
       subst (λ (l : List Exchange). IsKnown l (behind setting look (exchange ∷ exchanges))) (append_assoc past (exchange ∷ []) exchanges)
-      (behind-known exchanges (past ++ exchange ∷ []) (fed setting look exchange.answer)
-      (fed-known past look exchange known asked.0 (truth exchange (0, omega arith, refl))) asked.1
+      (behind-known slots (number_by number exchange.answer) exchanges (past ++ exchange ∷ []) (fed setting look exchange.answer)
+      (fed-known past slots number look exchange known asked.0 true_it owned numbered.0)
+      (fed_at-owned setting slots number (seen look.head exchange.answer) exchange.answer
+      (number_rises slots number exchange.ask exchange.answer true_it numbered.0) look.stage exchange.ask asked.0 numbered.0 owned)
+      asked.1 numbered.1
       (λ other among. truth other (Contains-append_right (exchange ∷ []) exchanges other among)))
 
   started-known : (view : View) → IsKnown [] (started setting view query id)
-  started-known view = record { stands = started-stands setting view query id; counts = record { begun = refl; own = omega arith }; knows = by view.read }
+  started-known view = record { stands = started-stands setting view query id; counts = record { begun = refl; own = refl }; knows = by view.read }
     where
-      by : (b : Bool) → KnowsAt Shown Loosely setting hash id [] (new_head query id)
+      by : (b : Bool) → KnowsAt Shown setting hash id [] (new_head query id)
           (if b then try_view setting (new_head query id) parts.Snapshot view [] without_notes else stages.Looking (purposes.First true) without_notes)
-      by true = try_view-known Shown Loosely setting hash id [] (new_head query id) parts.Snapshot tt view [] without_notes (λ is. absurd (cc is))
+      by true = try_view-known Shown setting hash id [] (new_head query id) parts.Snapshot tt view [] without_notes (λ is. absurd (cc is))
       by false = λ is. absurd (cc is)
 
-  list_caused : (exchanges : List Exchange) (error : Error) → IsOfLists error → IsListCaused Shown Loosely setting hash id exchanges error
-      → IsCaused Shown Loosely setting hash id query exchanges error
+  list_caused : (exchanges : List Exchange) (error : Error) → IsOfLists error → IsListCaused Shown setting hash id exchanges query error
+      → IsCaused Shown setting hash id query exchanges error
   list_caused exchanges (errors.Loose error) of cause = cause
   list_caused exchanges (errors.LoadIndex error) of cause = cause
   list_caused exchanges errors.NoMemory of cause = absurd cause
   list_caused exchanges error of cause = absurd of
 
   -- a look-up that the loose objects of a folder or the lists of packs refuse has a cause that was told
-  pub refusals_of_folders_and_lists_have_their_cause : (view : View) (exchanges : List Exchange) → AreAsked setting (started setting view query id) exchanges
-      → AreTrue Shown Loosely setting hash query id exchanges
+  list_refusal_caused : (view : View) (exchanges : List Exchange) → AreAsked setting (started setting view query id) exchanges
+      → AreTrue Shown setting hash exchanges → (slots number : ℕ) → AreNumbered slots number exchanges
       → (error : Error) → IsOfLists error
       → result_of (behind setting (started setting view query id) exchanges) ≡ Ok (replies.Refused (call_errors.Find error))
-      → IsCaused Shown Loosely setting hash id query exchanges error
-  refusals_of_folders_and_lists_have_their_cause view exchanges asked truth error of is =
+      → IsCaused Shown setting hash id query exchanges error
+  list_refusal_caused view exchanges asked truth slots number numbered error of is =
       let look = behind setting (started setting view query id) exchanges in
-      let known = behind-known exchanges [] (started setting view query id) (started-known view) asked truth in
+      let known =
+      behind-known slots number exchanges [] (started setting view query id) (started-known view) (started-owned setting view query id number)
+      asked numbered truth in
       let done = done_with look.head look.stage (replies.Refused (call_errors.Find error)) is in
-      list_caused exchanges error of (subst (KnowsAt Shown Loosely setting hash id exchanges look.head) done known.knows)
+      list_caused exchanges error of
+      (subst (λ (q : Query). IsListCaused Shown setting hash id exchanges q error) known.stands.query_is
+      (subst (KnowsAt Shown setting hash id exchanges look.head) done known.knows))
+
+  -- each error that a look-up is refused by has its cause, in what was told or shown
+  pub each_refusal_has_its_cause : kind_of id ≡ hash → (view : View) → IsShownView Shown setting hash view → (exchanges : List Exchange)
+      → AreAsked setting (started setting view query id) exchanges
+      → AreTrue Shown setting hash exchanges → (slots number : ℕ) → AreNumbered slots number exchanges
+      → (error : Error) → result_of (behind setting (started setting view query id) exchanges) ≡ Ok (replies.Refused (call_errors.Find error))
+      → IsCaused Shown setting hash id query exchanges error
+  each_refusal_has_its_cause same view shown exchanges asked truth slots number numbered error is = by error is
+    where
+      of_list : (error : Error) → IsOfLists error
+          → result_of (behind setting (started setting view query id) exchanges) ≡ Ok (replies.Refused (call_errors.Find error))
+          → IsCaused Shown setting hash id query exchanges error
+      of_list error of is = list_refusal_caused view exchanges asked truth slots number numbered error of is
+
+      of_pack : (error : Error) → IsOfPack error
+          → result_of (behind setting (started setting view query id) exchanges) ≡ Ok (replies.Refused (call_errors.Find error))
+          → IsCaused Shown setting hash id query exchanges error
+      of_pack error of is = pack_refusal_caused Shown setting hash query id same view shown exchanges asked truth error is of
+
+      by : (error : Error) → result_of (behind setting (started setting view query id) exchanges) ≡ Ok (replies.Refused (call_errors.Find error))
+          → IsCaused Shown setting hash id query exchanges error
+      by (errors.Loose error) is = of_list (errors.Loose error) tt is
+      by (errors.LoadIndex error) is = of_list (errors.LoadIndex error) tt is
+      by errors.LoadPack is = of_pack errors.LoadPack tt is
+      by errors.Pack is = of_pack errors.Pack tt is
+      by (errors.EntryType code) is = of_pack (errors.EntryType code) tt is
+      by errors.DeltaEntry is = of_pack errors.DeltaEntry tt is
+      by (errors.OutOfMemory size) is = of_pack (errors.OutOfMemory size) tt is
+      by errors.NoMemory is = of_list errors.NoMemory tt is

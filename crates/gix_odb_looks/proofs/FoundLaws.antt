@@ -1,5 +1,5 @@
--- Laws of look-ups: what is handed to the core was read, what is found in packs was shown, and what packs refuse is there.
-mod Lists
+-- Laws of look-ups: what is handed to the core was shown, and so was what is found in packs.
+pub mod Lists
 mod PackErrors
 mod Known
 mod Views
@@ -8,6 +8,7 @@ mod Trying
 mod Listing
 mod Replies
 mod Looking
+pub mod Behind
 use Rattle.std.proofs.Common.{◌≡◌, ◌⊎◌, ℕ, List, [], ◌∷◌, Contains, Option, Some, None, Ok, refl, subst}
 use Rattle.odb_base.specs.Path.{Path}
 use Rattle.odb_disk.specs.declared.ask.DiskAsk.{DiskAsk}
@@ -31,101 +32,33 @@ use Rattle.gix_odb_calls.specs.declared.query.Query.{Query}
 use Rattle.gix_odb_calls.specs.declared.verdict.Verdict.TheVariants as verdicts
 use Rattle.gix_odb_calls.specs.declared.verdict.Verdict.{Verdict}
 use Rattle.gix_odb_looks.specs.Caused.{IsCaused}
-use Rattle.gix_odb_looks.specs.Exchange.{AreAsked, Exchange, behind}
+use Rattle.gix_odb_looks.specs.Exchange.{AreAsked, Exchange, HasVerdict, behind}
 use Rattle.gix_odb_looks.specs.Found.{IsFound}
 use Rattle.gix_odb_looks.specs.LookUpOrder.{Setting, ask_at, ask_of, fed, loose_ask, result_at, result_of, seen, started}
+use Rattle.gix_odb_looks.specs.Reply.{IsAnswer}
 use Rattle.gix_odb_looks.specs.Shown.{IsHandedBy, IsShownView, folders_of}
 use Rattle.gix_odb_looks.specs.True.{AreTrue}
 use Rattle.gix_odb_looks.specs.declared.look_up.LookHead.{LookHead}
 use Rattle.gix_odb_looks.specs.declared.look_up.LookStage.TheVariants as stages
 use Rattle.gix_odb_looks.specs.declared.look_up.LookStage.{LookStage}
 use Rattle.gix_odb_looks.specs.declared.look_up.LookUp.{LookUp}
-use Rattle.gix_odb_looks.proofs.FoundLaws.Known.{KnowsHead, KnowsLook, KnowsLookStage, KnowsReply, KnowsStage}
-use Rattle.gix_odb_looks.proofs.FoundLaws.Lists.{has_first, has_later}
-use Rattle.gix_odb_looks.proofs.FoundLaws.Looking.{begun_known, stage_known}
-pub use Rattle.gix_odb_looks.proofs.FoundLaws.Known.{IsAnswer, IsOfPack}
+use Rattle.gix_odb_looks.proofs.FoundLaws.Behind.{done_known, look_known, stage_hands}
 
--- a call of the disk hands nothing to the core
-disk_hands : (Shown : Path → List ℕ → Type 0) (setting : Setting) (hash : Kind) (call : Option DiskAsk) (ask : PartAsk) → loose_ask call ≡ Some ask
-    → IsHandedBy Shown setting hash ask
-disk_hands Shown setting hash None ask is = absurd (cc is)
-disk_hands Shown setting hash (Some own) ask is = let same : asks.Disk own ≡ ask = cc is in subst (IsHandedBy Shown setting hash) same tt
+module _ (Shown : Path → List ℕ → Type 0) (setting : Setting) (hash : Kind) (query : Query) (id : ObjectId) (same : kind_of id ≡ hash)
+    (view : View) (shown : IsShownView Shown setting hash view) (exchanges : List Exchange)
+    (asked : AreAsked setting (started setting view query id) exchanges) (truth : AreTrue Shown setting hash exchanges) where
+  abbrev look : LookUp
+  look = behind setting (started setting view query id) exchanges
 
-module _ (Shown : Path → List ℕ → Type 0) (Loosely : Path → Verdict → Type 0) (setting : Setting) (hash : Kind) (query : Query) (id : ObjectId) where
-  trier_hands : (stage : Stage) → KnowsStage Shown setting hash id stage → IsHandedBy Shown setting hash (tries.ask_at stage)
-  trier_hands (tries_stages.StoringIndex place file) here = here
-  trier_hands (tries_stages.StoringPack pack file) here = here.1
-  trier_hands stage here = tt
+  -- a file that a look-up hands to the core was shown at its path, and a listing that it publishes has only rows of indices of the folders
+  pub what_is_handed_was_shown : (ask : PartAsk) → ask_of look ≡ Some ask → IsHandedBy Shown setting hash ask
+  what_is_handed_was_shown ask is =
+      stage_hands Shown setting hash query id exchanges look.stage ask (look_known Shown setting hash query id same view shown exchanges asked truth).stage is
 
-  -- ---- behind exchanges
-
-  module _ (exchanges : List Exchange) where
-    abbrev Knows : LookUp → Type 0
-    Knows look = KnowsLook Shown Loosely setting hash id exchanges query look
-
-    abbrev Stands : LookStage → Type 0
-    Stands stage = KnowsLookStage Shown Loosely setting hash id exchanges query stage
-
-    rest_known : kind_of id ≡ hash → AreTrue Shown Loosely setting hash query id exchanges → (rest : List Exchange) (look : LookUp)
-        → ((exchange : Exchange) → Contains rest exchange → Contains exchanges exchange)
-        → AreAsked setting look rest
-        → Knows look
-        → Knows (behind setting look rest)
-    rest_known same truth [] look among asked known = known
-    rest_known same truth (exchange ∷ rest) look among asked known =
-        let here = among exchange (has_first exchange rest) in
-        rest_known same truth rest (fed setting look exchange.answer) (λ other is. among other (has_later exchange rest other is)) asked.1
-        (stage_known Shown Loosely setting hash id exchanges query same (seen look.head exchange.answer) look.stage exchange.ask exchange.answer
-        (record { query_is = known.head.query_is; id_is = known.head.id_is }) known.stage asked.0 (truth exchange here) here)
-
-    -- what a stage hands to the core
-    stage_hands : (stage : LookStage) (ask : PartAsk) → Stands stage → ask_at stage ≡ Some ask → IsHandedBy Shown setting hash ask
-    stage_hands (stages.Trying trier part) ask here is =
-        let same : tries.ask_of trier ≡ ask = cc is in
-        subst (IsHandedBy Shown setting hash) same (trier_hands trier.stage here.stage)
-    stage_hands (stages.Loose round call) ask here is = disk_hands Shown setting hash (disk_ask_of call) ask is
-    stage_hands (stages.Looking purpose notes) ask here is =
-        let same : asks.Core events.Look ≡ ask = cc is in
-        subst (IsHandedBy Shown setting hash) same tt
-    stage_hands (stages.Listing lister base notes) ask here is =
-        let same : asks.Disk (lists.ask_of lister) ≡ ask = cc is in
-        subst (IsHandedBy Shown setting hash) same tt
-    stage_hands (stages.Publishing listing notes) ask here is =
-        let same : asks.Core (events.Publish listing) ≡ ask = cc is in
-        subst (IsHandedBy Shown setting hash) same here
-    stage_hands (stages.Done reply) ask here is = absurd (cc is)
-
-    -- what is known of the reply of a look-up that is done
-    done_known : (head : LookHead) (stage : LookStage) (reply : Reply) → Stands stage → result_at head stage ≡ Ok reply
-        → KnowsReply Shown Loosely setting hash id exchanges query reply
-    done_known head (stages.Done own) reply here is =
-        let same : own ≡ reply = cc is in
-        subst (λ (other : Reply). KnowsReply Shown Loosely setting hash id exchanges query other) same here
-    done_known head stage reply here is = absurd (cc is)
-
-  -- ---- the laws
-
-  module _ (same : kind_of id ≡ hash) (view : View) (shown : IsShownView Shown setting hash view) (exchanges : List Exchange)
-      (asked : AreAsked setting (started setting view query id) exchanges) (truth : AreTrue Shown Loosely setting hash query id exchanges) where
-    abbrev look : LookUp
-    look = behind setting (started setting view query id) exchanges
-
-    look_known : KnowsLook Shown Loosely setting hash id exchanges query look
-    look_known =
-        rest_known exchanges same truth exchanges (started setting view query id) (λ exchange is. is) asked
-        (begun_known Shown Loosely setting hash id exchanges query view shown)
-
-    -- a file that a look-up hands to the core was read at its path, and a listing that it publishes has only rows of indices of the folders
-    pub what_is_handed_was_read : (ask : PartAsk) → ask_of look ≡ Some ask → IsHandedBy Shown setting hash ask
-    what_is_handed_was_read ask is = stage_hands exchanges look.stage ask look_known.stage is
-
-    -- an answer was found in a pack that was shown, or is what the loose objects of a folder say
-    pub what_is_found_was_shown : (reply : Reply) → result_of look ≡ Ok reply → IsAnswer reply
-        → (IsFound Shown setting hash id query reply) ⊎ ((folder : Path) × Contains (folders_of setting) folder × Loosely folder (verdicts.Ends reply))
-    what_is_found_was_shown reply is answer = (done_known exchanges look.head look.stage reply look_known.stage is).found answer
-
-    -- an error that packs give has its cause
-    pub what_packs_refuse_is_there : (error : Error) → result_of look ≡ Ok (replies.Refused (call_errors.Find error)) → IsOfPack error
-        → IsCaused Shown Loosely setting hash id query exchanges error
-    what_packs_refuse_is_there error is of =
-        (done_known exchanges look.head look.stage (replies.Refused (call_errors.Find error)) look_known.stage is).caused error refl of
+  -- an answer was found in a pack that was shown, or is what the loose objects of a folder said
+  pub what_is_found_was_shown : (reply : Reply) → result_of look ≡ Ok reply → IsAnswer reply
+      → (IsFound Shown setting hash id query reply)
+      ⊎ ((folder : Path) × Contains (folders_of setting) folder × HasVerdict setting query id exchanges folder (verdicts.Ends reply))
+  what_is_found_was_shown reply is answer =
+      (done_known Shown setting hash query id exchanges look.head look.stage reply
+      (look_known Shown setting hash query id same view shown exchanges asked truth).stage is).found answer

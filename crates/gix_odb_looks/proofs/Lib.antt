@@ -4,3 +4,6 @@ pub mod CauseLaws
 pub mod FoundLaws
 pub mod MissLaws
 pub mod TurnLaws
+pub mod CoreLaws
+pub mod StreamLaws
+pub mod HandedLaws

@@ -6,15 +6,16 @@ mod TurnsLeft
 mod PartTurns
 mod CoreTurns
 mod LookTurns
-use Rattle.std.proofs.Common.{◌≡◌, ℕ, zero, suc, ◌+◌, ◌-◌, ◌*◌, ◌≤◌, ◌<◌, Bool, true, false, cond, List, [], ◌∷◌, length, Option, Some, Ok, refl, subst, arith}
+use Rattle.std.proofs.Common.{◌≡◌, ℕ, zero, suc, ◌+◌, ◌-◌, ◌*◌, ◌≤◌, ◌<◌, Bool, true, false, cond, List, [], ◌∷◌, length, Option, Some, None, Ok, refl, subst, arith}
 use Rattle.gix_hash.specs.declared.object_id.ObjectId.{ObjectId}
 use Rattle.gix_odb_core.specs.declared.view.View.{View}
 use Rattle.gix_odb_packs.specs.declared.answer.Answer.{Answer}
 use Rattle.gix_odb_packs.specs.declared.answer.PartAsk.{PartAsk}
 use Rattle.gix_odb_calls.specs.declared.call.Reply.{Reply}
 use Rattle.gix_odb_calls.specs.declared.query.Query.{Query}
-use Rattle.gix_odb_looks.specs.Exchange.{AreAsked, Exchange, behind}
-use Rattle.gix_odb_looks.specs.Laps.{AreAnswered, AreNumbered, AreWithin, count_by, number_by, turns_of_lap, turns_of_look}
+use Rattle.gix_odb_looks.specs.Exchange.{AreAnswered, AreAsked, Exchange, behind}
+use Rattle.gix_odb_looks.specs.Stream.{Stream, stream_by}
+use Rattle.gix_odb_looks.specs.Laps.{AreNumbered, AreWithin, number_by, turns_of_lap, turns_of_look}
 use Rattle.gix_odb_looks.specs.LookUpOrder.{Setting, ask_at, ask_of, fed, new_head, result_at, result_of, started, try_view, without_notes}
 use Rattle.gix_odb_looks.specs.Shown.{folders_of}
 use Rattle.gix_odb_looks.specs.declared.look_up.LookHead.{LookHead}
@@ -25,7 +26,7 @@ use Rattle.gix_odb_looks.specs.declared.look_up.Part.TheVariants as parts
 use Rattle.gix_odb_looks.specs.declared.look_up.Purpose.TheVariants as purposes
 use Rattle.gix_odb_looks.proofs.TurnLaws.TurnsLeft.{Bounds, HasLeft, HasLeft-pos, LookHasLeft, settling_turns}
 use Rattle.gix_odb_looks.proofs.TurnLaws.ListerTurns.{folder_turns, further}
-use Rattle.gix_odb_looks.proofs.TurnLaws.LookTurns.{IsTold, count_behind, fed_left}
+use Rattle.gix_odb_looks.proofs.TurnLaws.LookTurns.{IsTold, stream_behind, fed_left}
 use Rattle.gix_odb_looks.proofs.TurnLaws.PartTurns.{view_left}
 
 -- a look-up goes on
@@ -37,34 +38,34 @@ asking_is_on head (stages.Done reply) ask asked other is = cc asked
 asking_is_on head stage ask asked reply is = cc is
 
 module _ (bounds : Bounds) where
-  one_turn : (look : LookUp) (before count turns : ℕ) (ask : PartAsk) (answer : Answer) → ask_of look ≡ Some ask
-      → IsTold bounds.slots bounds.entries before count (Some ask) answer
-      → LookHasLeft bounds look before count (suc turns)
-      → LookHasLeft bounds (fed bounds.setting look answer) (number_by before answer) (count_by count ask answer) turns
-  one_turn look before count turns ask answer asked is left =
+  one_turn : (look : LookUp) (before : ℕ) (stream : Option Stream) (turns : ℕ) (ask : PartAsk) (answer : Answer) → ask_of look ≡ Some ask
+      → IsTold bounds.slots bounds.entries before stream (Some ask) answer
+      → LookHasLeft bounds look before stream (suc turns)
+      → LookHasLeft bounds (fed bounds.setting look answer) (number_by before answer) (stream_by stream ask answer) turns
+  one_turn look before stream turns ask answer asked is left =
       subst
       (λ (asked : Option PartAsk).
-      IsTold bounds.slots bounds.entries before count asked answer
-      → LookHasLeft bounds (fed bounds.setting look answer) (number_by before answer) (count_behind count asked answer) turns)
+      IsTold bounds.slots bounds.entries before stream asked answer
+      → LookHasLeft bounds (fed bounds.setting look answer) (number_by before answer) (stream_behind stream asked answer) turns)
       asked
-      (λ is. fed_left bounds look.head look.stage before count turns answer is left)
+      (λ is. fed_left bounds look.head look.stage before stream turns answer is left)
       is
 
   -- a look-up that goes on took fewer turns than it had left
-  turns_left : (look : LookUp) (before count turns : ℕ) (exchanges : List Exchange) → LookHasLeft bounds look before count turns
+  turns_left : (look : LookUp) (before : ℕ) (stream : Option Stream) (turns : ℕ) (exchanges : List Exchange) → LookHasLeft bounds look before stream turns
       → AreAsked bounds.setting look exchanges
       → AreNumbered bounds.slots before exchanges
-      → AreWithin bounds.entries count exchanges
+      → AreWithin bounds.entries stream exchanges
       → AreAnswered exchanges
       → IsOnAt (behind bounds.setting look exchanges).head (behind bounds.setting look exchanges).stage
       → length exchanges < turns
-  turns_left look before count turns [] left asked numbered within answered on = HasLeft-pos bounds look.head look.stage before count turns left on
-  turns_left look before count zero (exchange ∷ exchanges) left asked numbered within answered on =
-      absurd (omega (arith, HasLeft-pos bounds look.head look.stage before count zero left (asking_is_on look.head look.stage exchange.ask asked.0)))
-  turns_left look before count (suc turns) (exchange ∷ exchanges) left asked numbered within answered on =
+  turns_left look before stream turns [] left asked numbered within answered on = HasLeft-pos bounds look.head look.stage before stream turns left on
+  turns_left look before stream zero (exchange ∷ exchanges) left asked numbered within answered on =
+      absurd (omega (arith, HasLeft-pos bounds look.head look.stage before stream zero left (asking_is_on look.head look.stage exchange.ask asked.0)))
+  turns_left look before stream (suc turns) (exchange ∷ exchanges) left asked numbered within answered on =
       let rest =
-      turns_left (fed bounds.setting look exchange.answer) (number_by before exchange.answer) (count_by count exchange.ask exchange.answer) turns exchanges
-      (one_turn look before count turns exchange.ask exchange.answer asked.0 (numbered.0, answered.0, within.0) left) asked.1 numbered.1 within.1 answered.1 on
+      turns_left (fed bounds.setting look exchange.answer) (number_by before exchange.answer) (stream_by stream exchange.ask exchange.answer) turns exchanges
+      (one_turn look before stream turns exchange.ask exchange.answer asked.0 (numbered.0, answered.0, within.0) left) asked.1 numbered.1 within.1 answered.1 on
       in
       omega (arith, rest)
 
@@ -72,9 +73,9 @@ module _ (bounds : Bounds) where
       → 8 * bounds.slots + 2 * length bounds.setting.folders + 3 ≤ bounds.lap
       → HasLeft bounds (new_head query id)
       (cond read (try_view bounds.setting (new_head query id) parts.Snapshot view [] without_notes) (stages.Looking (purposes.First true) without_notes))
-      0 0 ((bounds.setting.most + 2) * bounds.lap)
+      0 None ((bounds.setting.most + 2) * bounds.lap)
   started_left view query id true few enough =
-      view_left bounds (new_head query id) parts.Snapshot 0 0 ((bounds.setting.most + 2) * bounds.lap) view [] without_notes (omega arith)
+      view_left bounds (new_head query id) parts.Snapshot 0 None ((bounds.setting.most + 2) * bounds.lap) view [] without_notes (omega arith)
       (record { own = refl; begun = omega arith; enough = omega arith })
   started_left view query id false few enough = record { own = refl; begun = omega arith; enough = omega arith }
 
@@ -93,7 +94,7 @@ pub a_look_up_ends_in_time : (setting : Setting) (view : View) (query : Query) (
     → length view.snapshot.indices ≤ slots
     → AreAsked setting (started setting view query id) exchanges
     → AreNumbered slots 0 exchanges
-    → AreWithin entries 0 exchanges
+    → AreWithin entries None exchanges
     → AreAnswered exchanges
     → ((reply : Reply) → ¬ (result_of (behind setting (started setting view query id) exchanges) ≡ Ok reply))
     → length exchanges < turns_of_look slots (length (folders_of setting)) setting.most entries
@@ -107,5 +108,5 @@ a_look_up_ends_in_time setting view query id exchanges slots entries few asked n
       wide = lap_is_wide slots (length setting.folders) entries;
     }
     in
-    turns_left bounds (started setting view query id) 0 0 ((setting.most + 2) * bounds.lap) exchanges
+    turns_left bounds (started setting view query id) 0 None ((setting.most + 2) * bounds.lap) exchanges
     (started_left bounds view query id view.read few (lists_are_within slots (length setting.folders) entries)) asked numbered within answered on

@@ -1,5 +1,5 @@
 -- Why a look-up was refused: each error, and what was asked and answered where it is given.
-use Rattle.std.specs.Prelude.{◌≡◌, ◌⊎◌, ℕ, ◌-◌, ◌<◌, true, false, List, Contains, min, Option, Some, Ok, Err}
+use Rattle.std.specs.Prelude.{◌≡◌, ◌⊎◌, ℕ, ◌-◌, ◌<◌, false, List, Contains, Some, Ok, Err}
 use Rattle.odb_base.specs.Path.{Path}
 use Rattle.odb_disk.specs.declared.ask.DiskAnswer.{DiskAnswer}
 use Rattle.odb_disk.specs.declared.ask.DiskAnswer.TheVariants as disk_answers
@@ -12,7 +12,6 @@ use Rattle.gix_pack_files.specs.Pack.{entry_at, header_at, is_pack}
 use Rattle.gix_pack_files.specs.declared.data.Error as pack
 use Rattle.gix_pack_files.specs.declared.data.Error.TheVariants as pack_errors
 use Rattle.gix_odb_slots.specs.PackPath.{pack_path}
-use Rattle.gix_odb_core.specs.Steps.{last_state}
 use Rattle.gix_odb_core.specs.declared.event.Effect.TheVariants as effects
 use Rattle.gix_odb_core.specs.declared.event.Event.{Event}
 use Rattle.gix_odb_core.specs.declared.event.Refusal.{Refusal}
@@ -28,11 +27,10 @@ use Rattle.gix_odb_calls.specs.declared.load_index.Error.TheVariants as load_err
 use Rattle.gix_odb_calls.specs.declared.query.Query.{Query}
 use Rattle.gix_odb_calls.specs.declared.query.Query.TheVariants.{Find, Header, Test}
 use Rattle.gix_odb_core.specs.declared.view.View.{View}
-use Rattle.gix_odb_calls.specs.declared.verdict.Verdict.{Verdict}
 use Rattle.gix_odb_calls.specs.declared.verdict.Verdict.TheVariants as verdicts
 use Rattle.gix_odb_calls.specs.Verdict.{refused}
 use Rattle.gix_odb_looks.specs.LookUpOrder.{Setting, view_of}
-use Rattle.gix_odb_looks.specs.Exchange.{Exchange, HasFailed, WasTold, first_number, published_in}
+use Rattle.gix_odb_looks.specs.Exchange.{Exchange, HasFailed, HasVerdict, IsLast, WasTold, first_number, published_in}
 use Rattle.gix_odb_looks.specs.Found.{IsInIndex, IsInPack}
 use Rattle.gix_odb_looks.specs.Shown.{folders_of}
 
@@ -51,12 +49,13 @@ abbrev pub TellsNumber : Answer → ℕ → Type 0
 TellsNumber (told.Core (Ok (effects.Outdated number))) now = number ≡ now
 TellsNumber answer now = (view : View) × (view_of answer ≡ Some view) × (view.list_no ≡ now)
 
--- Here `Shown path bytes` says that a file with these bytes was shown at this path since the store was opened, and
--- `Loosely folder verdict` what the verdict on the loose objects of a folder says.
-module _ (Shown : Path → List ℕ → Type 0) (Loosely : Path → Verdict → Type 0) (setting : Setting) (hash : Kind) (id : ObjectId) where
-  -- an index gives the id an offset, at which its pack refuses what the query wants by this error
+-- Here `Shown path bytes` says that a file with these bytes was shown at this path since the store was opened.
+module _ (Shown : Path → List ℕ → Type 0) (setting : Setting) (hash : Kind) (id : ObjectId) where
+  -- An index gives the id an offset, at which its pack refuses what the query wants by this error. No limit refuses a header, and for a
+  -- test no pack is read.
   abbrev pub IsPackError : Query → pack.Error → Type 0
   IsPackError (Find asked) error = IsInPack Shown setting hash id (λ pack offset. entry_at hash pack offset setting.limit ≡ Err error)
+  IsPackError (Header asked) (pack_errors.OutOfMemory size) = ⊥
   IsPackError (Header asked) error = IsInPack Shown setting hash id (λ pack offset. header_at hash pack offset ≡ Err error)
   IsPackError (Test asked) error = ⊥
 
@@ -83,12 +82,12 @@ module _ (Shown : Path → List ℕ → Type 0) (Loosely : Path → Verdict → 
     pub told : WasTold exchanges (asks.Core event) (told.Core (Err refusal))
 
   -- Others published more lists than the look-up may meet: `begun` is the number of the list in the first view that it was handed,
-  -- `own` counts the lists that it published, up to the greatest number, and `now` is the number that an answer told.
+  -- `own` counts the lists that it published, and `now` is the number that the last answer told.
   pub record IsUnsettled (exchanges : List Exchange) (begun own now : ℕ) : Type 0 where
     pub first : first_number exchanges ≡ Some begun
-    pub published : own ≡ min (published_in exchanges) last_state
+    pub published : own ≡ published_in exchanges
     pub exchange : Exchange
-    pub among : Contains exchanges exchange
+    pub last : IsLast exchanges exchange
     pub number : TellsNumber exchange.answer now
     pub many : setting.most < now - begun - own
 
@@ -101,7 +100,8 @@ module _ (Shown : Path → List ℕ → Type 0) (Loosely : Path → Verdict → 
 
   -- why a query was refused
   abbrev pub IsCaused : Query → List Exchange → Error → Type 0
-  IsCaused query exchanges (errors.Loose error) = (folder : Path) × Contains (folders_of setting) folder × Loosely folder (verdicts.Ends (refused error))
+  IsCaused query exchanges (errors.Loose error) =
+      (folder : Path) × Contains (folders_of setting) folder × HasVerdict setting query id exchanges folder (verdicts.Ends (refused error))
   IsCaused query exchanges (errors.LoadIndex error) = IsLoadCaused exchanges error
   IsCaused query exchanges errors.LoadPack = IsUnloaded exchanges
   IsCaused query exchanges errors.Pack = IsPackError query pack_errors.BadEntry

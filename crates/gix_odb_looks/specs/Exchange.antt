@@ -1,7 +1,14 @@
 -- What a look-up asked and was answered, one after another.
-use Rattle.std.specs.Prelude.{◌≡◌, ℕ, ◌+◌, List, [], ◌∷◌, Contains, Option, Some, None, Ok}
+use Rattle.std.specs.Prelude.{◌≡◌, ℕ, ◌+◌, List, [], ◌∷◌, ◌++◌, Contains, Option, Some, None, Ok, Err}
+use Rattle.odb_base.specs.Path.{Path}
 use Rattle.odb_tree.specs.declared.disk_error.DiskError.TheVariants as disk_errors
+use Rattle.odb_disk.specs.declared.ask.DiskAnswer.{DiskAnswer}
 use Rattle.odb_disk.specs.declared.ask.DiskAnswer.TheVariants as disk_answers
+use Rattle.odb_disk.specs.declared.ask.DiskAsk.{DiskAsk}
+use Rattle.gix_hash.specs.declared.object_id.ObjectId.{ObjectId}
+use Rattle.gix_odb_loose.specs.LooseOrder.{disk_ask_of, reply_of}
+use Rattle.gix_odb_loose.specs.declared.call.LooseReply.{LooseReply}
+use Rattle.gix_odb_core.specs.Replay.{view_in}
 use Rattle.gix_odb_core.specs.declared.event.Effect.TheVariants as effects
 use Rattle.gix_odb_core.specs.declared.event.Event.TheVariants as events
 use Rattle.gix_odb_core.specs.declared.view.View.{View}
@@ -9,7 +16,10 @@ use Rattle.gix_odb_packs.specs.declared.answer.Answer.{Answer}
 use Rattle.gix_odb_packs.specs.declared.answer.Answer.TheVariants as told
 use Rattle.gix_odb_packs.specs.declared.answer.PartAsk.{PartAsk}
 use Rattle.gix_odb_packs.specs.declared.answer.PartAsk.TheVariants as asks
-use Rattle.gix_odb_looks.specs.LookUpOrder.{Setting, ask_of, fed, view_of}
+use Rattle.gix_odb_calls.specs.Verdict.{asking, verdict_on}
+use Rattle.gix_odb_calls.specs.declared.query.Query.{Query}
+use Rattle.gix_odb_calls.specs.declared.verdict.Verdict.{Verdict}
+use Rattle.gix_odb_looks.specs.LookUpOrder.{Setting, ask_of, fed, loose_fed, view_of}
 use Rattle.gix_odb_looks.specs.declared.look_up.LookUp.{LookUp}
 
 -- one ask and its answer
@@ -27,7 +37,28 @@ abbrev pub AreAsked : Setting → LookUp → List Exchange → Type 0
 AreAsked setting look [] = Unit {0}
 AreAsked setting look (exchange ∷ exchanges) = (ask_of look ≡ Some exchange.ask) × AreAsked setting (fed setting look exchange.answer) exchanges
 
+-- an answer is of the kind of its ask: calls of the disk are answered by the disk and events by the core, a look by a view and a
+-- listing by what it came to, unless the event is refused
+abbrev pub IsAnswerTo : PartAsk → Answer → Type 0
+IsAnswerTo (asks.Disk ask) (told.Disk answer) = Unit {0}
+IsAnswerTo (asks.Core event) (told.Core (Err refusal)) = Unit {0}
+IsAnswerTo (asks.Core events.Look) (told.Core (Ok effect)) = (view : View) × (view_in (Ok effect) ≡ Some view)
+IsAnswerTo (asks.Core (events.Publish listing)) (told.Core (Ok (effects.Published view))) = Unit {0}
+IsAnswerTo (asks.Core (events.Publish listing)) (told.Core (Ok (effects.Unchanged view))) = Unit {0}
+IsAnswerTo (asks.Core (events.Publish listing)) (told.Core (Ok (effects.Outdated number))) = Unit {0}
+IsAnswerTo (asks.Core (events.Publish listing)) (told.Core (Ok effect)) = ⊥
+IsAnswerTo (asks.Core event) (told.Core (Ok effect)) = Unit {0}
+IsAnswerTo ask answer = ⊥
+
+abbrev pub AreAnswered : List Exchange → Type 0
+AreAnswered [] = Unit {0}
+AreAnswered (exchange ∷ exchanges) = IsAnswerTo exchange.ask exchange.answer × AreAnswered exchanges
+
 -- ---- what exchanges tell
+
+-- this one is the last of them
+abbrev pub IsLast : List Exchange → Exchange → Type 0
+IsLast exchanges exchange = (earlier : List Exchange) × (exchanges ≡ earlier ++ exchange ∷ [])
 
 -- a call of the disk failed in one of them
 pub record HasFailed (exchanges : List Exchange) : Type 0 where
@@ -38,6 +69,16 @@ pub record HasFailed (exchanges : List Exchange) : Type 0 where
 -- this was asked and answered so in one of them
 abbrev pub WasTold : List Exchange → PartAsk → Answer → Type 0
 WasTold exchanges ask answer = Contains exchanges (record { ask = ask; answer = answer })
+
+-- the loose objects of a folder were asked for an object in one of them, and the verdict on what they reply to the answer is this one
+pub record HasVerdict (setting : Setting) (query : Query) (id : ObjectId) (exchanges : List Exchange) (folder : Path) (verdict : Verdict) : Type 0 where
+  pub ask : DiskAsk
+  pub asked : disk_ask_of (asking setting.limit query id folder) ≡ Some ask
+  pub answer : DiskAnswer
+  pub told : WasTold exchanges (asks.Disk ask) (told.Disk answer)
+  pub reply : LooseReply
+  pub replied : reply_of (loose_fed (asking setting.limit query id folder) answer) ≡ Some reply
+  pub is : verdict_on query reply ≡ verdict
 
 -- the number of the list in a view, or else another
 abbrev pub number_or : Option ℕ → Option View → Option ℕ

@@ -1,7 +1,5 @@
 -- How many turns a look-up may take, by what it is told: a lap is one way through all that a list names, and through the folders.
-use Rattle.std.specs.Prelude.{◌≡◌, ◌≢◌, ℕ, ◌+◌, ◌*◌, ◌≤◌, List, [], ◌∷◌, length, Option, Some, None, Ok, Err}
-use Rattle.odb_disk.specs.declared.ask.DiskAnswer.TheVariants as disk_answers
-use Rattle.odb_disk.specs.declared.ask.DiskAsk.TheVariants as disk_asks
+use Rattle.std.specs.Prelude.{◌≡◌, ◌≢◌, ℕ, ◌+◌, ◌*◌, ◌≤◌, List, [], ◌∷◌, length, Option, Some, None, Ok}
 use Rattle.gix_odb_core.specs.Replay as core
 use Rattle.gix_odb_core.specs.Steps.{last_state}
 use Rattle.gix_odb_core.specs.declared.event.Effect.TheVariants as effects
@@ -14,18 +12,19 @@ use Rattle.gix_odb_packs.specs.declared.answer.PartAsk.{PartAsk}
 use Rattle.gix_odb_packs.specs.declared.answer.PartAsk.TheVariants as asks
 use Rattle.gix_odb_looks.specs.Exchange.{Exchange}
 use Rattle.gix_odb_looks.specs.LookUpOrder.{view_of}
+use Rattle.gix_odb_looks.specs.Stream.{Stream, stream_by}
 
 -- ---- what is told of streams: none gives more entries than so many
 
-abbrev pub count_by : (count : ℕ) → PartAsk → Answer → ℕ
-count_by count (asks.Disk (disk_asks.NextEntry dir)) (told.Disk (disk_answers.Entry entry)) = count + 1
-count_by count ask answer = 0
+abbrev pub HasAtMost : (entries : ℕ) → Option Stream → Type 0
+HasAtMost entries None = Unit {0}
+HasAtMost entries (Some stream) = length stream.entries ≤ entries
 
--- each run of entries, of which the first `count` were given before, has at most so many
-abbrev pub AreWithin : (entries count : ℕ) → List Exchange → Type 0
-AreWithin entries count [] = Unit {0}
-AreWithin entries count (exchange ∷ exchanges) =
-    (count_by count exchange.ask exchange.answer ≤ entries) × AreWithin entries (count_by count exchange.ask exchange.answer) exchanges
+-- behind a stream that is open, or none
+abbrev pub AreWithin : (entries : ℕ) → Option Stream → List Exchange → Type 0
+AreWithin entries before [] = Unit {0}
+AreWithin entries before (exchange ∷ exchanges) =
+    HasAtMost entries (stream_by before exchange.ask exchange.answer) × AreWithin entries (stream_by before exchange.ask exchange.answer) exchanges
 
 -- ---- what is told of lists
 
@@ -58,25 +57,6 @@ abbrev pub AreNumbered : (slots before : ℕ) → List Exchange → Type 0
 AreNumbered slots before [] = Unit {0}
 AreNumbered slots before (exchange ∷ exchanges) =
     IsNumbered slots before exchange.ask exchange.answer × AreNumbered slots (number_by before exchange.answer) exchanges
-
--- ---- what is told at all
-
--- an answer is of the kind of its ask: calls of the disk are answered by the disk and events by the core, a look by a view and a
--- listing by what it came to, unless the event is refused
-abbrev pub IsAnswerTo : PartAsk → Answer → Type 0
-IsAnswerTo (asks.Disk ask) (told.Disk answer) = Unit {0}
-IsAnswerTo (asks.Core event) (told.Core (Err refusal)) = Unit {0}
-IsAnswerTo (asks.Core events.Look) (told.Core (Ok effect)) = (view : View) × (core.view_in (Ok effect) ≡ Some view)
-IsAnswerTo (asks.Core (events.Publish listing)) (told.Core (Ok (effects.Published view))) = Unit {0}
-IsAnswerTo (asks.Core (events.Publish listing)) (told.Core (Ok (effects.Unchanged view))) = Unit {0}
-IsAnswerTo (asks.Core (events.Publish listing)) (told.Core (Ok (effects.Outdated number))) = Unit {0}
-IsAnswerTo (asks.Core (events.Publish listing)) (told.Core (Ok effect)) = ⊥
-IsAnswerTo (asks.Core event) (told.Core (Ok effect)) = Unit {0}
-IsAnswerTo ask answer = ⊥
-
-abbrev pub AreAnswered : List Exchange → Type 0
-AreAnswered [] = Unit {0}
-AreAnswered (exchange ∷ exchanges) = IsAnswerTo exchange.ask exchange.answer × AreAnswered exchanges
 
 -- ---- the bound
 

@@ -4,6 +4,9 @@ pub mod Exchange
 pub mod Shown
 pub mod Found
 pub mod Caused
+pub mod Reply
+pub mod Stream
+pub mod OpenStream
 pub mod Fair
 pub mod Laps
 pub mod True

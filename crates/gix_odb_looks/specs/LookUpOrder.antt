@@ -1,5 +1,6 @@
 -- The order of work of a look-up: the handle's snapshot, the loose folders, the list of the store's core, and listings of the folders
--- of packs until the list that was tried is the newest one.
+-- of packs until the list that was tried is the newest one. Multi-pack indices, handles that never refresh their list, and the
+-- locations of objects are left out.
 pub mod Replies
 pub mod Parts
 use Rattle.std.specs.Prelude.{ℕ, ◌+◌, ◌==◌, Bool, min, Option, Some, None, Result, Ok, Err, if◌then◌else◌}

@@ -1,4 +1,4 @@
--- What a store's core shows that was read from the disk: the indices of the folders of packs, and their packs.
+-- What a store's core shows that the disk showed before: the indices of the folders of packs, and their packs.
 use Rattle.std.specs.Prelude.{◌≡◌, ℕ, true, List, [], ◌∷◌, ◌++◌, map, All, Contains, Some, None}
 use Rattle.odb_base.specs.Path.{Name, Path}
 use Rattle.gix_hash.specs.declared.kind.Kind.{Kind}
@@ -8,7 +8,6 @@ use Rattle.gix_pack_files.specs.Pack.{is_pack}
 use Rattle.gix_odb_slots.specs.OnDiskFile.{loaded}
 use Rattle.gix_odb_slots.specs.PackPath.{pack_path}
 use Rattle.gix_odb_slots.specs.Slots.{PackFile}
-use Rattle.gix_odb_slots.specs.declared.listing.Listing.{Listing}
 use Rattle.gix_odb_slots.specs.declared.listing.ListingRow.{ListingRow}
 use Rattle.gix_odb_slots.specs.declared.loaded.LoadedIndex.TheVariants.{Single}
 use Rattle.gix_odb_slots.specs.declared.loaded.SnapshotIndex.{SnapshotIndex}
@@ -40,41 +39,41 @@ pub record IsIndexRow (setting : Setting) (row : ListingRow) : Type 0 where
 
 -- Here `Shown path bytes` says that a file with these bytes was shown at this path since the store was opened.
 module _ (Shown : Path → List ℕ → Type 0) (setting : Setting) (hash : Kind) where
-  -- bytes that an index was read from at a path
-  pub record IsIndexRead (path : Path) (file : FileBytes) : Type 0 where
+  -- an index whose bytes were shown at a path
+  pub record IsIndexShownAt (path : Path) (file : FileBytes) : Type 0 where
     pub kind : file.kind ≡ hash
     pub parsed : is_index hash file.bytes ≡ true
     pub shown : Shown path file.bytes
 
-  -- bytes that a pack was read from at a path
-  pub record IsPackRead (path : Path) (file : FileBytes) : Type 0 where
+  -- a pack whose bytes were shown at a path
+  pub record IsPackShownAt (path : Path) (file : FileBytes) : Type 0 where
     pub kind : file.kind ≡ hash
     pub parsed : is_pack hash file.bytes ≡ true
     pub shown : Shown path file.bytes
 
-  -- a pack was read, if it is loaded
-  abbrev pub IsRead : PackFile → Type 0
-  IsRead pack = (file : FileBytes) → loaded pack.state ≡ Some file → IsPackRead pack.path file
+  -- a pack was shown at its path, if it is loaded
+  abbrev pub IsPackShown : PackFile → Type 0
+  IsPackShown pack = (file : FileBytes) → loaded pack.state ≡ Some file → IsPackShownAt pack.path file
 
-  -- an index of one of the folders, which was read there, beside the one pack that it is of
-  pub record IsShown (index : SnapshotIndex) : Type 0 where
+  -- an index of one of the folders, which was shown there, with the one pack beside it that it is of
+  pub record IsIndexShown (index : SnapshotIndex) : Type 0 where
     pub file : FileBytes
     pub single : index.index ≡ Single file
     pub at : IsIndexPath setting index.path
-    pub read : IsIndexRead index.path file
+    pub there : IsIndexShownAt index.path file
     pub one : map (λ (pack : PackFile). pack.path) index.packs ≡ pack_path index.path ∷ []
-    pub packs : All IsRead index.packs
+    pub packs : All IsPackShown index.packs
 
   -- what a view shows
   pub record IsShownView (view : View) : Type 0 where
-    pub indices : All IsShown view.snapshot.indices
-    pub kept : All IsShown view.snapshot.kept
+    pub indices : All IsIndexShown view.snapshot.indices
+    pub kept : All IsIndexShown view.snapshot.kept
     pub todo : All (λ (todo : Todo). IsIndexPath setting todo.path) view.todo
 
-  -- what a look-up hands to the core: files that it read, and rows of indices of the folders
+  -- what a look-up hands to the core: files that were shown, and rows of indices of the folders
   abbrev pub IsHanded : Event → Type 0
-  IsHanded (events.PutIndex slot path file) = IsIndexPath setting path × IsIndexRead path file
-  IsHanded (events.PutPack pack path file) = IsPackRead path file
+  IsHanded (events.PutIndex slot path file) = IsIndexPath setting path × IsIndexShownAt path file
+  IsHanded (events.PutPack pack path file) = IsPackShownAt path file
   IsHanded (events.Publish listing) = All (IsIndexRow setting) listing.rows
   IsHanded event = Unit {0}
 

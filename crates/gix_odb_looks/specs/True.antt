@@ -1,5 +1,5 @@
 -- What exchanges with a disk and a core say that tell the truth.
-use Rattle.std.specs.Prelude.{◌≡◌, ℕ, List, Contains, Some, Result, Ok, Err}
+use Rattle.std.specs.Prelude.{◌≡◌, ℕ, List, Contains, Some}
 use Rattle.odb_base.specs.Path.{Path}
 use Rattle.odb_disk.specs.declared.ask.DiskAnswer.{DiskAnswer}
 use Rattle.odb_disk.specs.declared.ask.DiskAnswer.TheVariants as disk_answers
@@ -8,20 +8,14 @@ use Rattle.odb_disk.specs.declared.ask.DiskAsk.TheVariants as disk_asks
 use Rattle.odb_tree.specs.declared.disk_error.DiskError.{DiskError}
 use Rattle.odb_tree.specs.declared.disk_error.DiskError.TheVariants as disk_errors
 use Rattle.gix_hash.specs.declared.kind.Kind.{Kind}
-use Rattle.gix_hash.specs.declared.object_id.ObjectId.{ObjectId}
-use Rattle.gix_odb_loose.specs.LooseOrder.{disk_ask_of, reply_of}
-use Rattle.gix_odb_loose.specs.declared.call.LooseReply.{LooseReply}
 use Rattle.gix_odb_core.specs.declared.view.View.{View}
 use Rattle.gix_odb_packs.specs.declared.answer.Answer.{Answer}
 use Rattle.gix_odb_packs.specs.declared.answer.Answer.TheVariants as told
 use Rattle.gix_odb_packs.specs.declared.answer.PartAsk.{PartAsk}
 use Rattle.gix_odb_packs.specs.declared.answer.PartAsk.TheVariants as asks
-use Rattle.gix_odb_calls.specs.Verdict.{asking, verdict_on}
-use Rattle.gix_odb_calls.specs.declared.query.Query.{Query}
-use Rattle.gix_odb_calls.specs.declared.verdict.Verdict.{Verdict}
-use Rattle.gix_odb_looks.specs.Exchange.{Exchange}
-use Rattle.gix_odb_looks.specs.LookUpOrder.{Setting, loose_fed, view_of}
-use Rattle.gix_odb_looks.specs.Shown.{IsShownView, folders_of}
+use Rattle.gix_odb_looks.specs.Exchange.{Exchange, IsAnswerTo}
+use Rattle.gix_odb_looks.specs.LookUpOrder.{Setting, view_of}
+use Rattle.gix_odb_looks.specs.Shown.{IsShownView}
 
 -- why a path can't be read, looked at or opened
 abbrev pub IsRefusal : DiskError → Type 0
@@ -31,7 +25,7 @@ IsRefusal disk_errors.LinkLoop = Unit {0}
 IsRefusal disk_errors.Failed = Unit {0}
 IsRefusal error = ⊥
 
--- an answer is one of those that a call of the disk has
+-- An answer is one of those that a call of the disk has, where a stream that is read on is open. A close never fails.
 abbrev pub Suits : DiskAsk → DiskAnswer → Type 0
 Suits (disk_asks.Read path) (disk_answers.File bytes time) = Unit {0}
 Suits (disk_asks.Read path) (disk_answers.Refused error) = IsRefusal error
@@ -46,28 +40,21 @@ Suits (disk_asks.NextEntry dir) (disk_answers.Entry entry) = Unit {0}
 Suits (disk_asks.NextEntry dir) disk_answers.End = Unit {0}
 Suits (disk_asks.NextEntry dir) (disk_answers.Refused error) = error ≡ disk_errors.Failed
 Suits (disk_asks.NextEntry dir) answer = ⊥
+Suits (disk_asks.CloseDir dir) answer = answer ≡ disk_answers.Done
 Suits ask answer = Unit {0}
 
--- Here `Shown path bytes` says that a file with these bytes was shown at this path since the store was opened, and
--- `Loosely folder verdict` what the verdict on the loose objects of a folder says.
-module _ (Shown : Path → List ℕ → Type 0) (Loosely : Path → Verdict → Type 0) (setting : Setting) (hash : Kind) (query : Query) (id : ObjectId) where
+-- Here `Shown path bytes` says that a file with these bytes was shown at this path since the store was opened.
+module _ (Shown : Path → List ℕ → Type 0) (setting : Setting) (hash : Kind) where
   -- a file that was read was shown
   abbrev ShowsRead : DiskAsk → DiskAnswer → Type 0
   ShowsRead (disk_asks.Read path) (disk_answers.File bytes time) = Shown path bytes
   ShowsRead ask answer = Unit {0}
 
-  -- where the loose objects of a folder were asked, the verdict on what they reply says so
-  abbrev SaysLoosely : DiskAsk → DiskAnswer → Type 0
-  SaysLoosely ask answer =
-      (folder : Path) (reply : LooseReply) → Contains (folders_of setting) folder → disk_ask_of (asking setting.limit query id folder) ≡ Some ask
-      → reply_of (loose_fed (asking setting.limit query id folder) answer) ≡ Some reply
-      → Loosely folder (verdict_on query reply)
-
-  -- an exchange tells the truth
+  -- an exchange tells the truth, which no answer of another kind than its ask does
   abbrev pub IsTrue : PartAsk → Answer → Type 0
-  IsTrue (asks.Disk ask) (told.Disk answer) = Suits ask answer × ShowsRead ask answer × SaysLoosely ask answer
+  IsTrue (asks.Disk ask) (told.Disk answer) = Suits ask answer × ShowsRead ask answer
   IsTrue (asks.Core event) (told.Core answer) = (view : View) → view_of (told.Core answer) ≡ Some view → IsShownView Shown setting hash view
-  IsTrue ask answer = ⊥
+  IsTrue ask answer = IsAnswerTo ask answer
 
   abbrev pub AreTrue : List Exchange → Type 0
   AreTrue exchanges = (exchange : Exchange) → Contains exchanges exchange → IsTrue exchange.ask exchange.answer

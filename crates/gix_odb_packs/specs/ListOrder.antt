@@ -1,4 +1,4 @@
--- The order of work in which the folders of packs are listed.
+-- The order of work in which the folders of packs are listed. Packs with an index of their own are found; multi-pack indices are left out.
 use Rattle.std.specs.Prelude.{ℕ, ◌+◌, ◌++◌, Bool, true, false, List, [], ◌∷◌, slice_get, Option, Some, None}
 use Rattle.odb_base.specs.Path.{Path}
 use Rattle.odb_disk.specs.declared.ask.DiskAsk.{DiskAsk}

@@ -1,6 +1,5 @@
 -- What is known of a look-up behind exchanges: what its notes, its counts and its reply tell of them.
 use Rattle.std.proofs.Common.{◌≡◌, ℕ, true, false, List, Contains, Some, None, Ok, Err, ◌⊎◌, refl, inl, inr}
-use Rattle.std.specs.Prelude.{min}
 use Rattle.odb_base.specs.Path.{Path}
 use Rattle.odb_disk.specs.declared.ask.DiskAnswer.{DiskAnswer}
 use Rattle.odb_disk.specs.declared.ask.DiskAnswer.TheVariants as answers
@@ -14,7 +13,6 @@ use Rattle.gix_odb_loose.specs.LooseFile.{loose_path}
 use Rattle.gix_odb_loose.specs.LooseOrder.Answered.{tested_by}
 use Rattle.gix_odb_loose.specs.declared.find.Error as loose
 use Rattle.gix_odb_loose.specs.declared.find.Error.TheVariants as loose_errors
-use Rattle.gix_odb_core.specs.Steps.{last_state}
 use Rattle.gix_odb_core.specs.declared.event.Refusal.{Refusal}
 use Rattle.gix_odb_core.specs.declared.event.Refusal.TheVariants as refusals
 use Rattle.gix_odb_packs.specs.declared.goal.Error as pack
@@ -32,7 +30,7 @@ use Rattle.gix_odb_calls.specs.declared.query.Query.TheVariants.{Find, Header, T
 use Rattle.gix_odb_calls.specs.declared.verdict.Verdict.{Verdict}
 use Rattle.gix_odb_calls.specs.declared.verdict.Verdict.TheVariants as verdicts
 use Rattle.gix_odb_looks.specs.Caused.{IsLoadCaused, IsRefused}
-use Rattle.gix_odb_looks.specs.Exchange.{Exchange, HasFailed, first_number, published_in}
+use Rattle.gix_odb_looks.specs.Exchange.{Exchange, HasFailed, HasVerdict, first_number, published_in}
 use Rattle.gix_odb_looks.specs.LoadIndex.{of_refusal}
 use Rattle.gix_odb_looks.specs.LookUpOrder.{Setting}
 use Rattle.gix_odb_looks.specs.LookUpOrder.{find_error, loose_fed, not_found}
@@ -59,20 +57,21 @@ ShowedPart head (parts.Published list_no) = HasBegun head
 -- the counts of a look-up are those of its exchanges
 pub record Counts (exchanges : List Exchange) (head : LookHead) : Type 0 where
   pub begun : head.begun ≡ first_number exchanges
-  pub own : head.own ≡ min (published_in exchanges) last_state
+  pub own : head.own ≡ published_in exchanges
 
-module _ (Shown : Path → List ℕ → Type 0) (Loosely : Path → Verdict → Type 0) (setting : Setting) (hash : Kind) (id : ObjectId)
+module _ (Shown : Path → List ℕ → Type 0) (setting : Setting) (hash : Kind) (id : ObjectId)
     (exchanges : List Exchange) where
   -- Why the loose objects of a folder, or the lists of packs, refuse a query. Want of memory refuses none.
-  abbrev pub IsListCaused : Error → Type 0
-  IsListCaused (find_errors.Loose error) = (folder : Path) × Contains (folders_of setting) folder × Loosely folder (verdicts.Ends (refused error))
-  IsListCaused (find_errors.LoadIndex error) = IsLoadCaused Shown Loosely setting hash id exchanges error
-  IsListCaused find_errors.NoMemory = ⊥
-  IsListCaused error = Unit {0}
+  abbrev pub IsListCaused : Query → Error → Type 0
+  IsListCaused query (find_errors.Loose error) =
+      (folder : Path) × Contains (folders_of setting) folder × HasVerdict setting query id exchanges folder (verdicts.Ends (refused error))
+  IsListCaused query (find_errors.LoadIndex error) = IsLoadCaused Shown setting hash id exchanges error
+  IsListCaused query find_errors.NoMemory = ⊥
+  IsListCaused query error = Unit {0}
 
-  abbrev pub IsExplained : Reply → Type 0
-  IsExplained (replies.Refused (call_errors.Find error)) = IsListCaused error
-  IsExplained reply = Unit {0}
+  abbrev pub IsExplained : Query → Reply → Type 0
+  IsExplained query (replies.Refused (call_errors.Find error)) = IsListCaused query error
+  IsExplained query reply = Unit {0}
 
   -- what is known at each stage
   abbrev pub KnowsAt : LookHead → LookStage → Type 0
@@ -81,42 +80,42 @@ module _ (Shown : Path → List ℕ → Type 0) (Loosely : Path → Verdict → 
   KnowsAt head (stages.Looking purpose notes) = Noted exchanges notes
   KnowsAt head (stages.Listing lister base notes) = Noted exchanges notes × HasBegun head × Breaks exchanges lister.stage
   KnowsAt head (stages.Publishing listing notes) = Noted exchanges notes × HasBegun head
-  KnowsAt head (stages.Done reply) = IsExplained reply
+  KnowsAt head (stages.Done reply) = IsExplained head.query reply
 
   -- ---- replies
 
-  pub found_explained : (found : Found) → IsExplained (reply_found found)
-  found_explained (found.Object kind bytes) = tt
-  found_explained (found.Header kind size) = tt
-  found_explained found.Presence = tt
+  pub found_explained : (query : Query) (found : Found) → IsExplained query (reply_found found)
+  found_explained query (found.Object kind bytes) = tt
+  found_explained query (found.Header kind size) = tt
+  found_explained query found.Presence = tt
 
-  pub bad_explained : (error : pack.Error) → IsListCaused (find_error error)
-  bad_explained pack_errors.LoadPack = tt
-  bad_explained pack_errors.Pack = tt
-  bad_explained (pack_errors.EntryType code) = tt
-  bad_explained pack_errors.DeltaEntry = tt
-  bad_explained (pack_errors.OutOfMemory size) = tt
+  pub bad_explained : (query : Query) (error : pack.Error) → IsListCaused query (find_error error)
+  bad_explained query pack_errors.LoadPack = tt
+  bad_explained query pack_errors.Pack = tt
+  bad_explained query (pack_errors.EntryType code) = tt
+  bad_explained query pack_errors.DeltaEntry = tt
+  bad_explained query (pack_errors.OutOfMemory size) = tt
 
-  pub not_found_explained : (query : Query) → IsExplained (not_found query)
+  pub not_found_explained : (query : Query) → IsExplained query (not_found query)
   not_found_explained (Find asked) = tt
   not_found_explained (Header asked) = tt
   not_found_explained (Test asked) = tt
 
-  pub refusal_explained : (refusal : Refusal) → IsRefused Shown Loosely setting hash id exchanges refusal
-      → IsListCaused (find_errors.LoadIndex (of_refusal refusal))
-  refusal_explained (refusals.InsufficientSlots current needed) was = was
-  refusal_explained refusals.GenerationOverflow was = was
-  refusal_explained refusals.NoMemory was = was
+  pub refusal_explained : (query : Query) (refusal : Refusal) → IsRefused Shown setting hash id exchanges refusal
+      → IsListCaused query (find_errors.LoadIndex (of_refusal refusal))
+  refusal_explained query (refusals.InsufficientSlots current needed) was = was
+  refusal_explained query refusals.GenerationOverflow was = was
+  refusal_explained query refusals.NoMemory was = was
 
   -- a verdict on the loose objects of a folder ends with an explained reply, or notes a failure
-  abbrev pub VerdictTells : Verdict → Type 0
-  VerdictTells (verdicts.Ends reply) = IsExplained reply
-  VerdictTells verdicts.Misses = Unit {0}
-  VerdictTells (verdicts.Notes error) = HasFailed exchanges
+  abbrev pub VerdictTells : Query → Verdict → Type 0
+  VerdictTells query (verdicts.Ends reply) = IsExplained query reply
+  VerdictTells query verdicts.Misses = Unit {0}
+  VerdictTells query (verdicts.Notes error) = HasFailed exchanges
 
   verdict_tells : (folder : Path) → Contains (folders_of setting) folder → (query : Query) (reply : LooseReply)
       → ((error : loose.Error) → reply ≡ loose_replies.Contains (Err error) → HasFailed exchanges ⊎ (error ≡ loose_errors.NoMemory))
-      → Loosely folder (verdict_on query reply) → VerdictTells (verdict_on query reply)
+      → HasVerdict setting query id exchanges folder (verdict_on query reply) → VerdictTells query (verdict_on query reply)
   verdict_tells folder among (Find asked) (loose_replies.Found (Ok (Some found))) fails says = tt
   verdict_tells folder among (Find asked) (loose_replies.Found (Ok None)) fails says = tt
   verdict_tells folder among (Find asked) (loose_replies.Found (Err error)) fails says = (folder, among, says)
@@ -156,6 +155,6 @@ module _ (Shown : Path → List ℕ → Type 0) (Loosely : Path → Verdict → 
   -- what a folder's reply comes to
   pub folder_tells : (query : Query) (folder : Path) → Contains (folders_of setting) folder → (answer : DiskAnswer)
       → (answer ≡ answers.Refused disk_errors.Failed → HasFailed exchanges)
-      → (reply : LooseReply) → reply_of (loose_fed (asking setting.limit query id folder) answer) ≡ Some reply → Loosely folder (verdict_on query reply)
-      → VerdictTells (verdict_on query reply)
+      → (reply : LooseReply) → reply_of (loose_fed (asking setting.limit query id folder) answer) ≡ Some reply
+      → HasVerdict setting query id exchanges folder (verdict_on query reply) → VerdictTells query (verdict_on query reply)
   folder_tells query folder among answer fails reply is says = verdict_tells folder among query reply (folder_failed query folder answer fails reply is) says

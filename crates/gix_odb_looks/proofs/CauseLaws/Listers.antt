@@ -24,7 +24,6 @@ use Rattle.gix_odb_packs.specs.declared.lister.ListStage.TheVariants as stages
 use Rattle.gix_odb_packs.specs.declared.lister.ListStep.{ListStep}
 use Rattle.gix_odb_packs.specs.declared.lister.ListStep.TheVariants as ends
 use Rattle.gix_odb_packs.specs.declared.lister.Lister.{Lister}
-use Rattle.gix_odb_calls.specs.declared.verdict.Verdict.{Verdict}
 use Rattle.gix_odb_looks.specs.Caused.{IsBlocked, IsNoFolder}
 use Rattle.gix_odb_looks.specs.Exchange.{Exchange, HasFailed, WasTold}
 use Rattle.gix_odb_looks.specs.LookUpOrder.{Setting}
@@ -41,12 +40,12 @@ Breaks exchanges (stages.Breaking dir) = HasFailed exchanges
 Breaks exchanges (stages.Index path left) = Unit {0}
 Breaks exchanges (stages.Pack row left) = Unit {0}
 
-module _ (Shown : Path → List ℕ → Type 0) (Loosely : Path → Verdict → Type 0) (setting : Setting) (hash : Kind) (id : ObjectId)
+module _ (Shown : Path → List ℕ → Type 0) (setting : Setting) (hash : Kind) (id : ObjectId)
     (exchanges : List Exchange) where
   abbrev pub ListedTells : ListStep → Type 0
   ListedTells (ends.More lister) = Breaks exchanges lister.stage
   ListedTells (ends.Rows rows) = Unit {0}
-  ListedTells ends.Broken = HasFailed exchanges ⊎ IsNoFolder Shown Loosely setting hash id exchanges
+  ListedTells ends.Broken = HasFailed exchanges ⊎ IsNoFolder Shown setting hash id exchanges
 
   module _ (folders : List Path) where
     behind_folder-tells : (head : ListHead) (next : Option Path) → ListedTells (behind_folder head next)
@@ -76,7 +75,7 @@ module _ (Shown : Path → List ℕ → Type 0) (Loosely : Path → Verdict → 
         failed was = HasFailed-from_told exchanges (asks.Disk (ask_at head.folder stage)) (told.Disk (answers.Refused disk_errors.Failed)) was refl
 
       no_folder : IsAtFolder setting head → (error : DiskError) → IsBlocked error → Was stages.Opening (answers.Refused error)
-          → IsNoFolder Shown Loosely setting hash id exchanges
+          → IsNoFolder Shown setting hash id exchanges
       no_folder (folder, among, is) error blocked was =
           record {
             folder = folder;

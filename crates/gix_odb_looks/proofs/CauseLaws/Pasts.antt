@@ -1,5 +1,5 @@
 -- What exchanges tell is told by more of them.
-use Rattle.std.proofs.Common.{◌≡◌, ℕ, true, ◌+◌, List, [], ◌∷◌, ◌++◌, Option, Some, None, refl, sym, ◌∙◌, ap, arith}
+use Rattle.std.proofs.Common.{◌≡◌, ℕ, true, ◌+◌, ◌<◌, List, [], ◌∷◌, ◌++◌, Option, Some, None, refl, sym, ◌∙◌, ap, arith}
 use Rattle.std.specs.Prelude.{min}
 use Rattle.std.proofs.lemmas.List.Elements.{Contains-append_left}
 use Rattle.odb_disk.specs.declared.ask.DiskAnswer.TheVariants as answers
@@ -51,8 +51,8 @@ published_in-push [] exchange = omega arith
 published_in-push (first ∷ past) exchange = omega (arith, published_in-push past exchange)
 
 -- one more that is the look-up's own
-pub one_more_own : (own before now : ℕ) → own ≡ min before last_state → now ≡ before + 1 → min (own + 1) last_state ≡ min now last_state
-one_more_own own before now is more = omega arith
+pub one_more_own : (own before now : ℕ) → own ≡ before → own < last_state → now ≡ before + 1 → min (own + 1) last_state ≡ now
+one_more_own own before now is room more = omega arith
 
-pub no_more_own : (own before now : ℕ) → own ≡ min before last_state → now ≡ before + 0 → own ≡ min now last_state
+pub no_more_own : (own before now : ℕ) → own ≡ before → now ≡ before + 0 → own ≡ now
 no_more_own own before now is more = omega arith

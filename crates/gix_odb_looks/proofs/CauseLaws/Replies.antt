@@ -1,8 +1,6 @@
--- The replies that a query has, and that what is found for it is one of them.
+-- What is found for a query, and what folders of loose objects say to it, are replies that the query has.
 use Rattle.std.specs.Prelude.{true, false, Some, None, Ok, Err}
-use Rattle.gix_odb_calls.specs.declared.call.CallError.{CallError}
 use Rattle.gix_odb_calls.specs.declared.call.CallError.TheVariants as call_errors
-use Rattle.gix_odb_calls.specs.declared.call.Reply.{Reply}
 use Rattle.gix_odb_calls.specs.declared.call.Reply.TheVariants as replies
 use Rattle.gix_odb_calls.specs.declared.find.Error.{Error}
 use Rattle.gix_odb_calls.specs.declared.query.Query.{Query}
@@ -17,34 +15,7 @@ use Rattle.gix_odb_packs.specs.declared.goal.Found.{Found}
 use Rattle.gix_odb_packs.specs.declared.goal.Found.TheVariants as found
 use Rattle.gix_odb_packs.proofs.TrierLaws.{Fits}
 use Rattle.gix_odb_looks.specs.LookUpOrder.{not_found, reply_found, wanted_by}
-
--- an error of a find, a look for a header or a test
-abbrev pub IsFindError : CallError → Type 0
-IsFindError (call_errors.Find error) = Unit {0}
-IsFindError error = ⊥
-
-abbrev pub IsReplyToFind : Reply → Type 0
-IsReplyToFind (replies.Found kind bytes) = Unit {0}
-IsReplyToFind replies.NotFound = Unit {0}
-IsReplyToFind (replies.Refused error) = IsFindError error
-IsReplyToFind reply = ⊥
-
-abbrev pub IsReplyToHeader : Reply → Type 0
-IsReplyToHeader (replies.Header header) = Unit {0}
-IsReplyToHeader replies.NotFound = Unit {0}
-IsReplyToHeader (replies.Refused error) = IsFindError error
-IsReplyToHeader reply = ⊥
-
-abbrev pub IsReplyToTest : Reply → Type 0
-IsReplyToTest (replies.Tested there) = Unit {0}
-IsReplyToTest (replies.Refused error) = IsFindError error
-IsReplyToTest reply = ⊥
-
--- a reply that a query has
-abbrev pub IsReplyTo : Query → Reply → Type 0
-IsReplyTo (Find id) reply = IsReplyToFind reply
-IsReplyTo (Header id) reply = IsReplyToHeader reply
-IsReplyTo (Test id) reply = IsReplyToTest reply
+use Rattle.gix_odb_looks.specs.Reply.{IsReplyTo}
 
 pub refused_replies : (query : Query) (error : Error) → IsReplyTo query (replies.Refused (call_errors.Find error))
 refused_replies (Find id) error = tt

@@ -44,7 +44,8 @@ use Rattle.gix_odb_looks.specs.declared.look_up.Part.TheVariants as parts
 use Rattle.gix_odb_looks.specs.declared.look_up.Purpose.{Purpose}
 use Rattle.gix_odb_looks.specs.declared.look_up.Purpose.TheVariants as purposes
 use Rattle.gix_odb_looks.proofs.CauseLaws.Folders.{GoesToFolder, IsAtFolder, fed-goes, first_folder, folder_has_reply, later_folder}
-use Rattle.gix_odb_looks.proofs.CauseLaws.Replies.{EndsWell, IsReplyTo, found_replies, not_found_replies, refused_replies, verdict_ends_well}
+use Rattle.gix_odb_looks.proofs.CauseLaws.Replies.{EndsWell, found_replies, not_found_replies, refused_replies, verdict_ends_well}
+use Rattle.gix_odb_looks.specs.Reply.{IsReplyTo}
 use Rattle.gix_odb_packs.proofs.TrierLaws.{Comes, Fits, fed-comes, seek-comes}
 
 -- ---- what is so at each stage

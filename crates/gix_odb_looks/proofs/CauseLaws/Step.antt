@@ -1,6 +1,6 @@
 -- What an exchange adds to what is known of a look-up.
-use Rattle.std.proofs.Common.{◌≡◌, ℕ, ◌+◌, ◌-◌, Bool, true, false, ◌==◌, List, slice_get, Contains, Option, Some, None, Ok, Err, refl, sym, ◌∙◌, ap, subst, inl}
-use Rattle.std.specs.Prelude.{if◌then◌else◌, min, unwrap_or}
+use Rattle.std.proofs.Common.{◌≡◌, ℕ, ◌+◌, ◌-◌, ◌<◌, Bool, true, false, ◌==◌, List, slice_get, Contains, Option, Some, None, Ok, Err, refl, sym, ◌∙◌, ap, subst, inl}
+use Rattle.std.specs.Prelude.{if◌then◌else◌, unwrap_or}
 use Rattle.std.proofs.lemmas.Bool.{ltb-true}
 use Rattle.odb_base.specs.Path.{Path}
 use Rattle.odb_disk.specs.declared.ask.DiskAnswer.{DiskAnswer}
@@ -43,7 +43,7 @@ use Rattle.gix_odb_calls.specs.declared.load_index.Error.TheVariants as load_err
 use Rattle.gix_odb_calls.specs.declared.verdict.Verdict.{Verdict}
 use Rattle.gix_odb_calls.specs.declared.verdict.Verdict.TheVariants as verdicts
 use Rattle.gix_odb_looks.specs.Caused.{IsUnsettled, TellsNumber}
-use Rattle.gix_odb_looks.specs.Exchange.{Exchange, WasTold, first_number, is_publish, published_in}
+use Rattle.gix_odb_looks.specs.Exchange.{Exchange, IsLast, WasTold, first_number, is_publish, published_in}
 use Rattle.gix_odb_looks.specs.LookUpOrder.{Setting, after_list, after_loose, ask_at, at_folder, by_check}
 use Rattle.gix_odb_looks.specs.LookUpOrder.{by_first, by_listed, by_look, by_published, by_reply, by_tried}
 use Rattle.gix_odb_looks.specs.LookUpOrder.{by_verdict, counted, ended, fed_at, goal_of, is_unsettled, listing_from, load_refused, loose_fed, not_found}
@@ -67,14 +67,14 @@ use Rattle.gix_odb_looks.proofs.CauseLaws.Standing.{IsOfFolder, StandsAt}
 use Rattle.gix_odb_looks.proofs.CauseLaws.Known.{Counts, HasBegun, KnowsAt, ShowedPart, VerdictTells, bad_explained, folder_tells, found_explained}
 use Rattle.gix_odb_looks.proofs.CauseLaws.Known.{not_found_explained, refusal_explained}
 
-module _ (Shown : Path → List ℕ → Type 0) (Loosely : Path → Verdict → Type 0) (setting : Setting) (hash : Kind) (id : ObjectId)
+module _ (Shown : Path → List ℕ → Type 0) (setting : Setting) (hash : Kind) (id : ObjectId)
     (exchanges : List Exchange) where
   abbrev Knows : LookHead → LookStage → Type 0
-  Knows head stage = KnowsAt Shown Loosely setting hash id exchanges head stage
+  Knows head stage = KnowsAt Shown setting hash id exchanges head stage
 
   -- the core refused an event so
   abbrev Refuses : Refusal → Type 0
-  Refuses refusal = IsRefused Shown Loosely setting hash id exchanges refusal
+  Refuses refusal = IsRefused Shown setting hash id exchanges refusal
 
   module _ (head : LookHead) where
     listing_from-known : (base : ℕ) (notes : Notes) → Noted exchanges notes → HasBegun head → Knows head (listing_from setting base notes)
@@ -96,17 +96,17 @@ module _ (Shown : Path → List ℕ → Type 0) (Loosely : Path → Verdict → 
       where
         by : (b : Bool) → notes.failed ≡ b → Knows head (if b then stages.Done (load_refused load_errors.Io) else stages.Done (not_found head.query))
         by true is = inl (noted is)
-        by false is = not_found_explained Shown Loosely setting hash id exchanges head.query
+        by false is = not_found_explained Shown setting hash id exchanges head.query
 
     -- ---- the indices of a list
 
     by_tried-known : (part : Part) → ShowedPart head part → (goal : Goal) (t : Tried) → Comes goal (HasFailed exchanges) Refuses t
         → Knows head (by_tried setting head part t)
     by_tried-known part showed goal (tried.More trier) tells = (tells.1, showed)
-    by_tried-known part showed goal (tried.Hit found) tells = found_explained Shown Loosely setting hash id exchanges found
+    by_tried-known part showed goal (tried.Hit found) tells = found_explained Shown setting hash id exchanges head.query found
     by_tried-known part showed goal (tried.Missed notes) tells = after_list-known part notes tells showed
-    by_tried-known part showed goal (tried.Bad error) tells = bad_explained Shown Loosely setting hash id exchanges error
-    by_tried-known part showed goal (tried.Broken refusal) tells = refusal_explained Shown Loosely setting hash id exchanges refusal tells
+    by_tried-known part showed goal (tried.Bad error) tells = bad_explained Shown setting hash id exchanges head.query error
+    by_tried-known part showed goal (tried.Broken refusal) tells = refusal_explained Shown setting hash id exchanges head.query refusal tells
 
     pub try_view-known : (part : Part) → ShowedPart head part → (view : View) (todo : List Todo) (notes : Notes) → Noted exchanges notes
         → Knows head (try_view setting head part view todo notes)
@@ -125,7 +125,7 @@ module _ (Shown : Path → List ℕ → Type 0) (Loosely : Path → Verdict → 
     at_folder-known round noted showed (Some folder) = (noted, showed)
 
     by_verdict-known : (round : LooseRound) → Noted exchanges round.notes → ShowedPart head round.part → (verdict : Verdict)
-        → VerdictTells Shown Loosely setting hash id exchanges verdict
+        → VerdictTells Shown setting hash id exchanges head.query verdict
         → Knows head (by_verdict setting head round verdict)
     by_verdict-known round noted showed (verdicts.Ends reply) tells = tells
     by_verdict-known round noted showed verdicts.Misses tells = at_folder-known round noted showed (slice_get setting.folders round.next)
@@ -134,17 +134,17 @@ module _ (Shown : Path → List ℕ → Type 0) (Loosely : Path → Verdict → 
 
     -- ---- the core
 
-    module _ (counts : Counts exchanges head) (begun : HasBegun head) (exchange : Exchange) (among : Contains exchanges exchange) where
+    module _ (counts : Counts exchanges head) (begun : HasBegun head) (exchange : Exchange) (last : IsLast exchanges exchange) where
       -- more lists of others than the look-up may meet
       unsettled-known : (now : ℕ) → TellsNumber exchange.answer now → is_unsettled setting head now ≡ true
-          → IsUnsettled Shown Loosely setting hash id exchanges (unwrap_or head.begun now) head.own now
+          → IsUnsettled Shown setting hash id exchanges (unwrap_or head.begun now) head.own now
       unsettled-known now number many =
           let same : unwrap_or head.begun now ≡ begun.0 = ap (λ (b : Option ℕ). unwrap_or b now) begun.1 in
           record {
             first = sym counts.begun ∙ begun.1 ∙ ap (λ (n : ℕ). Some n) (sym same);
             published = counts.own;
             exchange = exchange;
-            among = among;
+            last = last;
             number = number;
             many = ltb-true setting.most (now - unwrap_or head.begun now - head.own) many;
           }
@@ -172,17 +172,17 @@ module _ (Shown : Path → List ℕ → Type 0) (Loosely : Path → Verdict → 
         by true = try_view-known (parts.List view.list_no loose) begun view view.todo notes noted
         by false = listing_from-known view.list_no notes noted begun
 
-    by_look-known : Counts exchanges head → (exchange : Exchange) → Contains exchanges exchange → (purpose : Purpose) (notes : Notes) → Noted exchanges notes
+    by_look-known : Counts exchanges head → (exchange : Exchange) → IsLast exchanges exchange → (purpose : Purpose) (notes : Notes) → Noted exchanges notes
         → (view : Option View) → ((v : View) → view ≡ Some v → HasBegun head × TellsNumber exchange.answer v.list_no)
         → Knows head (by_look setting head purpose notes view)
-    by_look-known counts exchange among purpose notes noted None shows = noted
-    by_look-known counts exchange among (purposes.First loose) notes noted (Some view) shows = by_first-known loose view notes noted (shows view refl).0
-    by_look-known counts exchange among (purposes.Check list_no) notes noted (Some view) shows =
-        by_check-known counts (shows view refl).0 exchange among list_no view notes noted (shows view refl).1
-    by_look-known counts exchange among purposes.Again notes noted (Some view) shows = listing_from-known view.list_no notes noted (shows view refl).0
+    by_look-known counts exchange last purpose notes noted None shows = noted
+    by_look-known counts exchange last (purposes.First loose) notes noted (Some view) shows = by_first-known loose view notes noted (shows view refl).0
+    by_look-known counts exchange last (purposes.Check list_no) notes noted (Some view) shows =
+        by_check-known counts (shows view refl).0 exchange last list_no view notes noted (shows view refl).1
+    by_look-known counts exchange last purposes.Again notes noted (Some view) shows = listing_from-known view.list_no notes noted (shows view refl).0
 
     by_listed-known : (base : ℕ) (notes : Notes) → Noted exchanges notes → HasBegun head → (step : ListStep)
-        → ListedTells Shown Loosely setting hash id exchanges step
+        → ListedTells Shown setting hash id exchanges step
         → Knows head (by_listed base notes step)
     by_listed-known base notes noted begun (listed.More lister) tells = (noted, begun, tells)
     by_listed-known base notes noted begun (listed.Rows rows) tells = (noted, begun)
@@ -193,12 +193,15 @@ module _ (Shown : Path → List ℕ → Type 0) (Loosely : Path → Verdict → 
   -- what an answer at a stage tells, where so many lists were published before it
   pub record Answered (before : ℕ) (head : LookHead) (stage : LookStage) (answer : Answer) : Type 0 where
     pub begun : head.begun ≡ first_number exchanges
-    pub own : head.own ≡ min before last_state
+    pub own : head.own ≡ before
+    pub room : (listing : Listing) (view : View) → ask_at stage ≡ Some (asks.Core (events.Publish listing)) → answer ≡ told.Core (Ok (effects.Published view))
+        → head.own < last_state
     pub shows : (view : View) → view_of answer ≡ Some view → HasBegun head
     pub ask : PartAsk
     pub asked : ask_at stage ≡ Some ask
     pub was : WasTold exchanges ask answer
-    pub truth : IsTrue Shown Loosely setting hash head.query id ask answer
+    pub last : IsLast exchanges (record { ask = ask; answer = answer })
+    pub truth : IsTrue Shown setting hash ask answer
     pub published : published_in exchanges ≡ before + is_publish ask answer
 
   abbrev pub Knowing : LookUp → Type 0
@@ -212,8 +215,11 @@ module _ (Shown : Path → List ℕ → Type 0) (Loosely : Path → Verdict → 
       was_told : WasTold exchanges ask answer
       was_told = subst (λ a. WasTold exchanges a answer) same_ask t.was
 
-      is_true : IsTrue Shown Loosely setting hash head.query id ask answer
-      is_true = subst (λ a. IsTrue Shown Loosely setting hash head.query id a answer) same_ask t.truth
+      last_told : IsLast exchanges (record { ask = ask; answer = answer })
+      last_told = subst (λ a. IsLast exchanges (record { ask = a; answer = answer })) same_ask t.last
+
+      is_true : IsTrue Shown setting hash ask answer
+      is_true = subst (λ a. IsTrue Shown setting hash a answer) same_ask t.truth
 
       now_published : published_in exchanges ≡ before + is_publish ask answer
       now_published = subst (λ a. published_in exchanges ≡ before + is_publish a answer) same_ask t.published
@@ -267,14 +273,22 @@ module _ (Shown : Path → List ℕ → Type 0) (Loosely : Path → Verdict → 
             let asks_so = folder_has_ask setting.limit head.query id folder in
             let replies_so = folder_has_reply setting.limit head.query id folder answer in
             let asked : ask_at at_call ≡ Some (asks.Disk asks_so.0) = ap loose_ask asks_so.1 in
-            let truth = is_true at_call (told.Disk answer) t (asks.Disk asks_so.0) asked in
             let was = was_told at_call (told.Disk answer) t (asks.Disk asks_so.0) asked in (
               quiet at_call (told.Disk answer) t (asks.Disk asks_so.0) asked refl,
               subst (λ reply. Knows head (by_reply setting head round (loose_fed call_asked answer) reply)) (sym replies_so.1)
                   (by_verdict-known head round knows.0 knows.1 (verdict_on head.query replies_so.0)
-                  (folder_tells Shown Loosely setting hash id exchanges head.query folder among answer
+                  (folder_tells Shown setting hash id exchanges head.query folder among answer
                   (λ is. HasFailed-from_told exchanges (asks.Disk asks_so.0) (told.Disk answer) was (ap (λ (a : DiskAnswer). told.Disk a) is))
-                  replies_so.0 replies_so.1 (truth.2 folder replies_so.0 among asks_so.1 replies_so.1))),
+                  replies_so.0 replies_so.1
+                  (record {
+                    ask = asks_so.0;
+                    asked = asks_so.1;
+                    answer = answer;
+                    told = was;
+                    reply = replies_so.0;
+                    replied = replies_so.1;
+                    is = refl;
+                  }))),
             )
 
         -- the disk answers
@@ -301,7 +315,7 @@ module _ (Shown : Path → List ℕ → Type 0) (Loosely : Path → Verdict → 
         let truth = is_true (stages.Listing lister base notes) (told.Disk answer) t (asks.Disk (lists.ask_of lister)) refl in (
           quiet (stages.Listing lister base notes) (told.Disk answer) t (asks.Disk (lists.ask_of lister)) refl refl,
           by_listed-known head base notes knows.0 knows.1 (lister_fed setting lister answer)
-              (listers.fed-tells Shown Loosely setting hash id exchanges lister at knows.2 answer truth.0
+              (listers.fed-tells Shown setting hash id exchanges lister at knows.2 answer truth.0
               (was_told (stages.Listing lister base notes) (told.Disk answer) t (asks.Disk (lists.ask_of lister)) refl)),
         )
     listing-known lister base notes at knows (told.Core answer) t =
@@ -319,14 +333,14 @@ module _ (Shown : Path → List ℕ → Type 0) (Loosely : Path → Verdict → 
         (quiet (stages.Looking purpose notes) (told.Disk answer) t (asks.Core events.Look) refl refl, noted)
     looking-known purpose notes noted (told.Core (Ok effect)) t =
         let counts = quiet (stages.Looking purpose notes) (told.Core (Ok effect)) t (asks.Core events.Look) refl refl in
-        let was = was_told (stages.Looking purpose notes) (told.Core (Ok effect)) t (asks.Core events.Look) refl in (
+        let last = last_told (stages.Looking purpose notes) (told.Core (Ok effect)) t (asks.Core events.Look) refl in (
           counts,
-          by_look-known head counts (record { ask = asks.Core events.Look; answer = told.Core (Ok effect) }) was purpose notes noted (view_shown effect)
+          by_look-known head counts (record { ask = asks.Core events.Look; answer = told.Core (Ok effect) }) last purpose notes noted (view_shown effect)
               (λ view is. (t.shows view is, tells_view effect view is)),
         )
     looking-known purpose notes noted (told.Core (Err refusal)) t = (
       quiet (stages.Looking purpose notes) (told.Core (Err refusal)) t (asks.Core events.Look) refl refl,
-      refusal_explained Shown Loosely setting hash id exchanges refusal
+      refusal_explained Shown setting hash id exchanges head.query refusal
           (record { event = events.Look; told = was_told (stages.Looking purpose notes) (told.Core (Err refusal)) t (asks.Core events.Look) refl }),
     )
 
@@ -345,7 +359,9 @@ module _ (Shown : Path → List ℕ → Type 0) (Loosely : Path → Verdict → 
       by_published-known (effects.Published view) t = (
         record {
           begun = t.begun;
-          own = one_more_own head.own before (published_in exchanges) t.own (now_published at_publish (told.Core (Ok (effects.Published view))) t publish refl);
+          own =
+              one_more_own head.own before (published_in exchanges) t.own (t.room listing view refl refl)
+              (now_published at_publish (told.Core (Ok (effects.Published view))) t publish refl);
         },
         try_view-known (with_own head) (parts.Published view.list_no) knows.1 view view.todo notes knows.0,
       )
@@ -355,9 +371,9 @@ module _ (Shown : Path → List ℕ → Type 0) (Loosely : Path → Verdict → 
       )
       by_published-known (effects.Outdated list_no) t =
           let counts = counts_so (told.Core (Ok (effects.Outdated list_no))) t refl in
-          let was = was_told at_publish (told.Core (Ok (effects.Outdated list_no))) t publish refl in (
+          let last = last_told at_publish (told.Core (Ok (effects.Outdated list_no))) t publish refl in (
             counts,
-            counted-known head counts knows.1 (record { ask = publish; answer = told.Core (Ok (effects.Outdated list_no)) }) was list_no refl
+            counted-known head counts knows.1 (record { ask = publish; answer = told.Core (Ok (effects.Outdated list_no)) }) last list_no refl
                 (stages.Looking purposes.Again notes) knows.0,
           )
       by_published-known (effects.Seen view) t = (counts_so (told.Core (Ok (effects.Seen view))) t refl, knows)
@@ -370,7 +386,7 @@ module _ (Shown : Path → List ℕ → Type 0) (Loosely : Path → Verdict → 
       publishing-known (told.Core (Ok effect)) t = by_published-known effect t
       publishing-known (told.Core (Err refusal)) t = (
         counts_so (told.Core (Err refusal)) t refl,
-        refusal_explained Shown Loosely setting hash id exchanges refusal
+        refusal_explained Shown setting hash id exchanges head.query refusal
             (record { event = events.Publish listing; told = was_told at_publish (told.Core (Err refusal)) t publish refl }),
       )
 

@@ -33,48 +33,47 @@ use Rattle.gix_odb_calls.specs.declared.call.Reply.TheVariants as replies
 use Rattle.gix_odb_calls.specs.declared.find.Header.TheVariants as headers
 use Rattle.gix_odb_calls.specs.declared.query.Query.{Query}
 use Rattle.gix_odb_calls.specs.declared.query.Query.TheVariants.{Find, Header, Test}
-use Rattle.gix_odb_calls.specs.declared.verdict.Verdict.{Verdict}
 use Rattle.gix_odb_looks.specs.Caused.{IsCaused}
 use Rattle.gix_odb_looks.specs.Exchange.{Exchange}
 use Rattle.gix_odb_looks.specs.Found.{IsEntryReply, IsHeaderReply, IsInIndex, IsInPack}
 use Rattle.gix_odb_looks.specs.LookUpOrder.{Setting, find_error, wanted_by}
-use Rattle.gix_odb_looks.specs.Shown.{IsPackRead, IsRead, IsShown}
+use Rattle.gix_odb_looks.specs.Shown.{IsPackShownAt, IsPackShown, IsIndexShown}
 use Rattle.gix_odb_looks.proofs.FoundLaws.Known.{IsCausedHere, IsFoundHere, IsWanted, KnowsGiven, goal_for}
 use Rattle.gix_odb_looks.proofs.FoundLaws.Lists.{find_passes}
-use Rattle.gix_odb_looks.proofs.FoundLaws.PackErrors.{IsOfEntry, entry_error, header_error}
+use Rattle.gix_odb_looks.proofs.FoundLaws.PackErrors.{IsOfEntry, IsOfHeader, entry_error, header_error}
 
 equal : (order : Ordering) → is_eq order ≡ true → order ≡ Equal
 equal Less is = cc is
 equal Equal is = refl
 equal Greater is = cc is
 
-module _ (Shown : Path → List ℕ → Type 0) (Loosely : Path → Verdict → Type 0) (setting : Setting) (hash : Kind) (id : ObjectId)
+module _ (Shown : Path → List ℕ → Type 0) (setting : Setting) (hash : Kind) (id : ObjectId)
     (exchanges : List Exchange) where
   abbrev aim : Query → Goal
   aim query = goal_for setting query id
 
   abbrev Hits : Query → Found → Type 0
-  Hits query found = IsFoundHere Shown Loosely setting hash id exchanges query found
+  Hits query found = IsFoundHere Shown setting hash id exchanges query found
 
   abbrev Bads : Query → goals.Error → Type 0
-  Bads query error = IsCausedHere Shown Loosely setting hash id exchanges query error
+  Bads query error = IsCausedHere Shown setting hash id exchanges query error
 
   abbrev Wanted : WantedPack → Type 0
   Wanted pack = IsWanted Shown setting hash id pack
 
   abbrev GivenOf : Query → Result Found goals.Error → Type 0
-  GivenOf query given = KnowsGiven Shown Loosely setting hash id exchanges query given
+  GivenOf query given = KnowsGiven Shown setting hash id exchanges query given
 
   -- ---- what a pack gives
 
   module _ (path : Path) (offset : ℕ) (index : IsInIndex Shown setting hash id path offset) (file : FileBytes)
-      (read : IsPackRead Shown setting hash (pack_path path) file) where
+      (read : IsPackShownAt Shown setting hash (pack_path path) file) where
     within : (Content : List ℕ → ℕ → Type 0) → Content file.bytes offset → IsInPack Shown setting hash id Content
     within Content content =
         record { path = path; offset = offset; index = index; pack = file.bytes; parsed = read.parsed; shown = read.shown; content = content }
 
     abbrev IsCausedBy : Query → pack_data.Error → Type 0
-    IsCausedBy query error = IsCaused Shown Loosely setting hash id query exchanges (find_error (error_of error))
+    IsCausedBy query error = IsCaused Shown setting hash id query exchanges (find_error (error_of error))
 
     entry_refused : (asked : ObjectId) (error : pack_data.Error) → entry_at hash file.bytes offset setting.limit ≡ Err error → IsOfEntry error
         → IsCausedBy (Find asked) error
@@ -84,12 +83,12 @@ module _ (Shown : Path → List ℕ → Type 0) (Loosely : Path → Verdict → 
     entry_refused asked (data_errors.OutOfMemory size) is fits = within (λ pack at. entry_at hash pack at setting.limit ≡ Err (data_errors.OutOfMemory size)) is
     entry_refused asked (data_errors.EntryType code) is fits = within (λ pack at. entry_at hash pack at setting.limit ≡ Err (data_errors.EntryType code)) is
 
-    header_refused : (asked : ObjectId) (error : pack_data.Error) → header_at hash file.bytes offset ≡ Err error → IsOfEntry error
+    header_refused : (asked : ObjectId) (error : pack_data.Error) → header_at hash file.bytes offset ≡ Err error → IsOfHeader error
         → IsCausedBy (Header asked) error
     header_refused asked data_errors.BadPack is fits = absurd fits
     header_refused asked data_errors.BadEntry is fits = within (λ pack at. header_at hash pack at ≡ Err data_errors.BadEntry) is
     header_refused asked data_errors.DeltaEntry is fits = within (λ pack at. header_at hash pack at ≡ Err data_errors.DeltaEntry) is
-    header_refused asked (data_errors.OutOfMemory size) is fits = within (λ pack at. header_at hash pack at ≡ Err (data_errors.OutOfMemory size)) is
+    header_refused asked (data_errors.OutOfMemory size) is fits = absurd fits
     header_refused asked (data_errors.EntryType code) is fits = within (λ pack at. header_at hash pack at ≡ Err (data_errors.EntryType code)) is
 
     object_given : (asked : ObjectId) (result : Result Entry pack_data.Error) → entry_at hash file.bytes offset setting.limit ≡ result
@@ -121,23 +120,23 @@ module _ (Shown : Path → List ℕ → Type 0) (Loosely : Path → Verdict → 
 
   module _ (query : Query) (absent : List AbsentFile) (index : SnapshotIndex) (row : Row) (known : IsInIndex Shown setting hash id index.path row.offset) where
     file_known : (path : Path) → path ≡ pack_path index.path → (file : Option FileBytes)
-        → ((bytes : FileBytes) → file ≡ Some bytes → IsPackRead Shown setting hash path bytes)
+        → ((bytes : FileBytes) → file ≡ Some bytes → IsPackShownAt Shown setting hash path bytes)
         → Comes (Hits query) (Bads query) Wanted (in_file (aim query) absent index (record { place = 0; offset = row.offset }) path file)
     file_known path beside None read =
         unloaded_comes (Hits query) (Bads query) Wanted (aim query) absent index (record { place = 0; offset = row.offset }) path
         (record { path = index.path; index = known; is = beside })
     file_known path beside (Some file) read =
         sought_given query (given_by (wanted_by query) setting.limit file row.offset)
-        (given_known index.path row.offset known file (subst (λ (p : Path). IsPackRead Shown setting hash p file) beside (read file refl)) query)
+        (given_known index.path row.offset known file (subst (λ (p : Path). IsPackShownAt Shown setting hash p file) beside (read file refl)) query)
 
-    packs_known : (packs : List PackFile) → map (λ (pack : PackFile). pack.path) packs ≡ pack_path index.path ∷ [] → All (IsRead Shown setting hash) packs
+    packs_known : (packs : List PackFile) → map (λ (pack : PackFile). pack.path) packs ≡ pack_path index.path ∷ [] → All (IsPackShown Shown setting hash) packs
         → Comes (Hits query) (Bads query) Wanted (in_packs (aim query) absent index (record { place = 0; offset = row.offset }) (slice_get packs 0))
     packs_known [] one read = tt
-    packs_known (pack ∷ packs) one read = file_known pack.path (cc one) (loaded pack.state) (All-head (IsRead Shown setting hash) pack packs read)
+    packs_known (pack ∷ packs) one read = file_known pack.path (cc one) (loaded pack.state) (All-head (IsPackShown Shown setting hash) pack packs read)
 
   row_known : (query : Query) (absent : List AbsentFile) (index : SnapshotIndex) (row : Row) → IsInIndex Shown setting hash id index.path row.offset
       → map (λ (pack : PackFile). pack.path) index.packs ≡ pack_path index.path ∷ []
-      → All (IsRead Shown setting hash) index.packs
+      → All (IsPackShown Shown setting hash) index.packs
       → Comes (Hits query) (Bads query) Wanted (at_spot (wanted_by query) (aim query) absent index (Some (record { place = 0; offset = row.offset })))
   row_known (Find asked) absent index row known one read = packs_known (Find asked) absent index row known index.packs one read
   row_known (Header asked) absent index row known one read = packs_known (Header asked) absent index row known index.packs one read
@@ -146,7 +145,7 @@ module _ (Shown : Path → List ℕ → Type 0) (Loosely : Path → Verdict → 
   abbrev has_id : Row → Bool
   has_id row = is_eq (id_cmp row.id id)
 
-  row_gives : (index : SnapshotIndex) (shown : IsShown Shown setting hash index) (row : Row)
+  row_gives : (index : SnapshotIndex) (shown : IsIndexShown Shown setting hash index) (row : Row)
       → find has_id (index_rows shown.file.kind shown.file.bytes) ≡ Some row
       → IsInIndex Shown setting hash id index.path row.offset
   row_gives index shown row is =
@@ -155,24 +154,24 @@ module _ (Shown : Path → List ℕ → Type 0) (Loosely : Path → Verdict → 
       record {
         at = shown.at;
         bytes = file.bytes;
-        shown = shown.read.shown;
+        shown = shown.there.shown;
         gives = record {
-          parsed = shown.read.parsed;
+          parsed = shown.there.parsed;
           row = row;
-          among = subst (λ (kind : Kind). Contains (index_rows kind file.bytes) row) shown.read.kind found.0;
+          among = subst (λ (kind : Kind). Contains (index_rows kind file.bytes) row) shown.there.kind found.0;
           of_id = same_id row.id id (equal (id_cmp row.id id) found.1);
           at = refl;
         };
       }
 
-  spot_known : (query : Query) (absent : List AbsentFile) (index : SnapshotIndex) (shown : IsShown Shown setting hash index) (found : Option Row)
+  spot_known : (query : Query) (absent : List AbsentFile) (index : SnapshotIndex) (shown : IsIndexShown Shown setting hash index) (found : Option Row)
       → find has_id (index_rows shown.file.kind shown.file.bytes) ≡ found
       → Comes (Hits query) (Bads query) Wanted
       (at_spot (wanted_by query) (aim query) absent index (option_map (λ (row : Row). record { place = 0; offset = row.offset }) found))
   spot_known query absent index shown None is = tt
   spot_known query absent index shown (Some row) is = row_known query absent index row (row_gives index shown row is) shown.one shown.packs
 
-  pub tried_known : (query : Query) (absent : List AbsentFile) (index : SnapshotIndex) → IsShown Shown setting hash index
+  pub tried_known : (query : Query) (absent : List AbsentFile) (index : SnapshotIndex) → IsIndexShown Shown setting hash index
       → Comes (Hits query) (Bads query) Wanted (tried (aim query) absent index)
   tried_known query absent index shown =
       subst (λ (own : LoadedIndex). Comes (Hits query) (Bads query) Wanted (at_spot (wanted_by query) (aim query) absent index (spot_in own id)))

@@ -1,5 +1,5 @@
 -- What is known at each stage of a look-up: of what it found, of what it is to hand to the core, and of why a pack refuses it.
-use Rattle.std.proofs.Common.{◌≡◌, ◌⊎◌, ℕ, true, List, All, Contains, Result, Ok, Err}
+use Rattle.std.proofs.Common.{◌≡◌, ◌⊎◌, ℕ, List, All, Contains, Result, Ok, Err}
 use Rattle.odb_base.specs.Path.{Path}
 use Rattle.gix_hash.specs.declared.kind.Kind.{Kind}
 use Rattle.gix_hash.specs.declared.object_id.ObjectId.{ObjectId}
@@ -30,24 +30,17 @@ use Rattle.gix_odb_calls.specs.declared.call.Reply.TheVariants as replies
 use Rattle.gix_odb_calls.specs.declared.find.Error.{Error}
 use Rattle.gix_odb_calls.specs.declared.find.Error.TheVariants as errors
 use Rattle.gix_odb_calls.specs.declared.query.Query.{Query}
-use Rattle.gix_odb_calls.specs.declared.verdict.Verdict.{Verdict}
 use Rattle.gix_odb_calls.specs.declared.verdict.Verdict.TheVariants as verdicts
 use Rattle.gix_odb_looks.specs.Caused.{IsCaused}
-use Rattle.gix_odb_looks.specs.Exchange.{Exchange}
+use Rattle.gix_odb_looks.specs.Exchange.{Exchange, HasVerdict}
+use Rattle.gix_odb_looks.specs.Reply.{IsAnswer}
 use Rattle.gix_odb_looks.specs.Found.{IsFound, IsInIndex}
 use Rattle.gix_odb_looks.specs.LookUpOrder.{Setting, find_error, reply_found, wanted_by}
-use Rattle.gix_odb_looks.specs.Shown.{IsIndexPath, IsIndexRead, IsIndexRow, IsPackRead, IsShown, folders_of}
+use Rattle.gix_odb_looks.specs.Shown.{IsIndexPath, IsIndexShownAt, IsIndexRow, IsPackShownAt, IsIndexShown, folders_of}
 use Rattle.gix_odb_looks.specs.declared.look_up.LookHead.{LookHead}
 use Rattle.gix_odb_looks.specs.declared.look_up.LookStage.{LookStage}
 use Rattle.gix_odb_looks.specs.declared.look_up.LookStage.TheVariants as look_stages
 use Rattle.gix_odb_looks.specs.declared.look_up.LookUp.{LookUp}
-
--- a reply says that the object is there
-abbrev pub IsAnswer : Reply → Type 0
-IsAnswer (replies.Found kind bytes) = Unit {0}
-IsAnswer (replies.Header header) = Unit {0}
-IsAnswer (replies.Tested true) = Unit {0}
-IsAnswer reply = ⊥
 
 -- an error is one that packs give
 abbrev pub IsOfPack : Error → Type 0
@@ -100,26 +93,26 @@ module _ (Shown : Path → List ℕ → Type 0) (setting : Setting) (hash : Kind
 
   -- what is still to be tried
   pub record KnowsAhead (ahead : Ahead) : Type 0 where
-    pub indices : All (IsShown Shown setting hash) ahead.indices
+    pub indices : All (IsIndexShown Shown setting hash) ahead.indices
     pub todo : All (IsIndexTodo setting) ahead.todo
 
   abbrev pub KnowsStage : Stage → Type 0
   KnowsStage (stages.ReadingIndex place) = IsIndexPath setting place.path
-  KnowsStage (stages.StoringIndex place file) = IsIndexPath setting place.path × IsIndexRead Shown setting hash place.path file
+  KnowsStage (stages.StoringIndex place file) = IsIndexPath setting place.path × IsIndexShownAt Shown setting hash place.path file
   KnowsStage (stages.PassingIndex place why) = Unit {0}
   KnowsStage (stages.ReadingPack pack) = IsWanted pack
-  KnowsStage (stages.StoringPack pack file) = IsWanted pack × IsPackRead Shown setting hash pack.path file
+  KnowsStage (stages.StoringPack pack file) = IsWanted pack × IsPackShownAt Shown setting hash pack.path file
   KnowsStage (stages.PassingPack pack) = Unit {0}
 
 -- ---- look-ups
 
-module _ (Shown : Path → List ℕ → Type 0) (Loosely : Path → Verdict → Type 0) (setting : Setting) (hash : Kind) (id : ObjectId) (exchanges : List Exchange)
+module _ (Shown : Path → List ℕ → Type 0) (setting : Setting) (hash : Kind) (id : ObjectId) (exchanges : List Exchange)
     (query : Query) where
   abbrev pub IsFoundHere : Found → Type 0
   IsFoundHere found = IsFound Shown setting hash id query (reply_found found)
 
   abbrev pub IsCausedHere : goals.Error → Type 0
-  IsCausedHere error = IsCaused Shown Loosely setting hash id query exchanges (find_error error)
+  IsCausedHere error = IsCaused Shown setting hash id query exchanges (find_error error)
 
   abbrev pub KnowsGiven : Result Found goals.Error → Type 0
   KnowsGiven (Ok found) = IsFoundHere found
@@ -140,9 +133,10 @@ module _ (Shown : Path → List ℕ → Type 0) (Loosely : Path → Verdict → 
   -- an answer was found, in packs or among loose objects, and an error of a pack has its cause
   pub record KnowsReply (reply : Reply) : Type 0 where
     pub found : IsAnswer reply
-        → IsFound Shown setting hash id query reply ⊎ ((folder : Path) × Contains (folders_of setting) folder × Loosely folder (verdicts.Ends reply))
+        → IsFound Shown setting hash id query reply
+        ⊎ ((folder : Path) × Contains (folders_of setting) folder × HasVerdict setting query id exchanges folder (verdicts.Ends reply))
     pub caused : (error : Error) → reply ≡ replies.Refused (call_errors.Find error) → IsOfPack error
-        → IsCaused Shown Loosely setting hash id query exchanges error
+        → IsCaused Shown setting hash id query exchanges error
 
   -- the loose objects of one of the folders are asked
   pub record KnowsLoose (call : LooseCall) : Type 0 where

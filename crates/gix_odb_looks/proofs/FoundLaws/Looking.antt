@@ -38,7 +38,7 @@ use Rattle.gix_odb_calls.specs.declared.query.Query.{Query}
 use Rattle.gix_odb_calls.specs.declared.query.Query.TheVariants.{Find, Header, Test}
 use Rattle.gix_odb_calls.specs.declared.verdict.Verdict.{Verdict}
 use Rattle.gix_odb_calls.specs.declared.verdict.Verdict.TheVariants as verdicts
-use Rattle.gix_odb_looks.specs.Exchange.{Exchange, WasTold}
+use Rattle.gix_odb_looks.specs.Exchange.{Exchange, HasVerdict, WasTold}
 use Rattle.gix_odb_looks.specs.LoadIndex.{of_refusal}
 use Rattle.gix_odb_looks.specs.LookUpOrder.{Setting, after_list, after_loose, ask_at, at_folder, by_call, by_check, by_first, by_listed, by_look}
 use Rattle.gix_odb_looks.specs.LookUpOrder.{by_published, by_reply, by_tried, by_verdict, counted, ended, fed_at, goal_of, is_unsettled, listing_from}
@@ -80,16 +80,16 @@ same_ask : (call : Option DiskAsk) (ask : PartAsk) (own : DiskAsk) → call ≡ 
 same_ask None ask own is asked = absurd (cc is)
 same_ask (Some other) ask own is asked = let one : other ≡ own = cc is in let two : asks.Disk other ≡ ask = cc asked in cc (one, two)
 
-module _ (Shown : Path → List ℕ → Type 0) (Loosely : Path → Verdict → Type 0) (setting : Setting) (hash : Kind) (id : ObjectId) (exchanges : List Exchange)
+module _ (Shown : Path → List ℕ → Type 0) (setting : Setting) (hash : Kind) (id : ObjectId) (exchanges : List Exchange)
     (query : Query) where
   abbrev Stands : LookStage → Type 0
-  Stands stage = KnowsLookStage Shown Loosely setting hash id exchanges query stage
+  Stands stage = KnowsLookStage Shown setting hash id exchanges query stage
 
   abbrev Heads : LookHead → Type 0
-  Heads head = KnowsHead Shown Loosely setting hash id exchanges query head
+  Heads head = KnowsHead Shown setting hash id exchanges query head
 
   abbrev Knows : LookUp → Type 0
-  Knows look = KnowsLook Shown Loosely setting hash id exchanges query look
+  Knows look = KnowsLook Shown setting hash id exchanges query look
 
   abbrev IsView : View → Type 0
   IsView view = IsShownView Shown setting hash view
@@ -101,7 +101,7 @@ module _ (Shown : Path → List ℕ → Type 0) (Loosely : Path → Verdict → 
   chosen_known false one other first further = further
 
   folder_known : (head : LookHead) (folder : Path) → Heads head → Contains (folders_of setting) folder
-      → KnowsLoose Shown Loosely setting hash id exchanges query (asking setting.limit head.query head.id folder)
+      → KnowsLoose Shown setting hash id exchanges query (asking setting.limit head.query head.id folder)
   folder_known head folder known among =
       record { folder = folder; among = among; is = λ i. asking setting.limit (known.query_is i) (known.id_is i) folder }
 
@@ -121,13 +121,13 @@ module _ (Shown : Path → List ℕ → Type 0) (Loosely : Path → Verdict → 
 
   -- ---- a list is tried
 
-  tried_known : (head : LookHead) (part : Part) (end : Tried) → Heads head → KnowsTried Shown Loosely setting hash id exchanges query end
+  tried_known : (head : LookHead) (part : Part) (end : Tried) → Heads head → KnowsTried Shown setting hash id exchanges query end
       → Stands (by_tried setting head part end)
   tried_known head part (tried.More trier) known here = here
-  tried_known head part (tried.Hit found) known here = found_reply Shown Loosely setting hash id exchanges query found here
+  tried_known head part (tried.Hit found) known here = found_reply Shown setting hash id exchanges query found here
   tried_known head part (tried.Missed notes) known here = after_list_known head part notes known
-  tried_known head part (tried.Bad error) known here = pack_reply Shown Loosely setting hash id exchanges query error here
-  tried_known head part (tried.Broken refusal) known here = load_reply Shown Loosely setting hash id exchanges query (of_refusal refusal)
+  tried_known head part (tried.Bad error) known here = pack_reply Shown setting hash id exchanges query error here
+  tried_known head part (tried.Broken refusal) known here = load_reply Shown setting hash id exchanges query (of_refusal refusal)
 
   goal_is : (head : LookHead) → Heads head → goal_for setting query id ≡ goal_of setting head
   goal_is head known = sym (λ i. record { id = known.id_is i; wanted = wanted_by (known.query_is i); limit = setting.limit })
@@ -137,8 +137,8 @@ module _ (Shown : Path → List ℕ → Type 0) (Loosely : Path → Verdict → 
   try_known head part view todo notes known shown paths =
       let ahead : Ahead = record { indices = view.snapshot.indices; todo = todo; notes = notes } in
       tried_known head part (seek (goal_of setting head) ahead) known
-      (subst (λ (goal : Goal). KnowsTried Shown Loosely setting hash id exchanges query (seek goal ahead)) (goal_is head known)
-      (seek_known Shown Loosely setting hash id exchanges query ahead (record { indices = shown.indices; todo = paths })))
+      (subst (λ (goal : Goal). KnowsTried Shown setting hash id exchanges query (seek goal ahead)) (goal_is head known)
+      (seek_known Shown setting hash id exchanges query ahead (record { indices = shown.indices; todo = paths })))
 
   pub begun_known : (view : View) → IsView view → Knows (started setting view query id)
   begun_known view shown =
@@ -160,44 +160,52 @@ module _ (Shown : Path → List ℕ → Type 0) (Loosely : Path → Verdict → 
       folder_known head folder known (has_later setting.objects setting.folders folder (at_place setting.folders round.next folder is))
 
   verdict_known : (head : LookHead) (round : LooseRound) (verdict : Verdict) (folder : Path) → Heads head → Contains (folders_of setting) folder
-      → Loosely folder verdict
+      → HasVerdict setting query id exchanges folder verdict
       → EndsOther verdict
       → Stands (by_verdict setting head round verdict)
   verdict_known head round (verdicts.Ends reply) folder known among says other =
-      loose_reply Shown Loosely setting hash id exchanges query reply folder among says other
+      loose_reply Shown setting hash id exchanges query reply folder among says other
   verdict_known head round verdicts.Misses folder known among says other = next_known head round (slice_get setting.folders round.next) refl known
   verdict_known head round (verdicts.Notes error) folder known among says other =
       next_known head (record round { notes = record round.notes { failed = true } }) (slice_get setting.folders round.next) refl known
 
   asked_known : (head : LookHead) (round : LooseRound) (folder : Path) (ask : PartAsk) (answer : DiskAnswer) → Heads head → Contains (folders_of setting) folder
       → loose_ask (disk_ask_of (asking setting.limit query id folder)) ≡ Some ask
-      → IsTrue Shown Loosely setting hash query id ask (told.Disk answer)
+      → WasTold exchanges ask (told.Disk answer)
       → Stands (by_call setting head round (loose_fed (asking setting.limit query id folder) answer))
-  asked_known head round folder ask answer known among asked truth =
+  asked_known head round folder ask answer known among asked was =
       let own = asks_once setting.limit query id folder in
       let call : LooseCall = loose_fed (asking setting.limit query id folder) answer in
       let replied = replies_once setting.limit query id folder answer in
       let is : ask ≡ asks.Disk own.0 = same_ask (disk_ask_of (asking setting.limit query id folder)) ask own.0 own.1 asked in
-      let true_own = subst (λ (other : PartAsk). IsTrue Shown Loosely setting hash query id other (told.Disk answer)) is truth in
-      let says : Loosely folder (verdict_on query replied.0) = true_own.2 folder replied.0 among own.1 replied.1 in
+      let says : HasVerdict setting query id exchanges folder (verdict_on query replied.0) =
+      record {
+        ask = own.0;
+        asked = own.1;
+        answer = answer;
+        told = subst (λ (other : PartAsk). WasTold exchanges other (told.Disk answer)) is was;
+        reply = replied.0;
+        replied = replied.1;
+        is = refl;
+      } in
       let same : verdict_on query replied.0 ≡ verdict_on head.query replied.0 = ap (λ (asks : Query). verdict_on asks replied.0) (sym known.query_is) in
       subst (λ (reply : Option LooseReply). Stands (by_reply setting head round call reply)) (sym replied.1)
-      (verdict_known head round (verdict_on head.query replied.0) folder known among (subst (Loosely folder) same says) (loose_ends_other head.query replied.0))
+      (verdict_known head round (verdict_on head.query replied.0) folder known among (subst (HasVerdict setting query id exchanges folder) same says) (loose_ends_other head.query replied.0))
 
   call_known : (head : LookHead) (round : LooseRound) (call : LooseCall) (ask : PartAsk) (answer : DiskAnswer) → Heads head
-      → KnowsLoose Shown Loosely setting hash id exchanges query call
+      → KnowsLoose Shown setting hash id exchanges query call
       → loose_ask (disk_ask_of call) ≡ Some ask
-      → IsTrue Shown Loosely setting hash query id ask (told.Disk answer)
+      → WasTold exchanges ask (told.Disk answer)
       → Stands (by_call setting head round (loose_fed call answer))
-  call_known head round call ask answer known here asked truth =
+  call_known head round call ask answer known here asked was =
       subst (λ (own : LooseCall). Stands (by_call setting head round (loose_fed own answer))) (sym here.is)
-      (asked_known head round here.folder ask answer known here.among (subst (λ (own : LooseCall). loose_ask (disk_ask_of own) ≡ Some ask) here.is asked) truth)
+      (asked_known head round here.folder ask answer known here.among (subst (λ (own : LooseCall). loose_ask (disk_ask_of own) ≡ Some ask) here.is asked) was)
 
   -- ---- the core has answered
 
   counted_known : (head : LookHead) (now : ℕ) (next : LookStage) → Stands next → Stands (counted setting head now next)
   counted_known head now next here =
-      chosen_known (is_unsettled setting head now) (unsettled head now) next (load_reply Shown Loosely setting hash id exchanges query _) here
+      chosen_known (is_unsettled setting head now) (unsettled head now) next (load_reply Shown setting hash id exchanges query _) here
 
   first_known : (head : LookHead) (loose : Bool) (view : View) (notes : Notes) → Heads head → IsView view → Stands (by_first setting head loose view notes)
   first_known head loose view notes known shown =
@@ -207,7 +215,7 @@ module _ (Shown : Path → List ℕ → Type 0) (Loosely : Path → Verdict → 
   ended_known : (asked : Query) (notes : Notes) → Stands (ended asked notes)
   ended_known asked notes =
       chosen_known notes.failed (stages.Done (load_refused load_errors.Io)) (stages.Done (not_found asked))
-      (load_reply Shown Loosely setting hash id exchanges query load_errors.Io) (missed_reply Shown Loosely setting hash id exchanges query asked)
+      (load_reply Shown setting hash id exchanges query load_errors.Io) (missed_reply Shown setting hash id exchanges query asked)
 
   check_known : (head : LookHead) (list_no : ℕ) (view : View) (notes : Notes) → Stands (by_check setting head list_no view notes)
   check_known head list_no view notes =
@@ -240,23 +248,23 @@ module _ (Shown : Path → List ℕ → Type 0) (Loosely : Path → Verdict → 
   listed_known : (base : ℕ) (notes : Notes) (step : ListStep) → KnowsListStep setting step → Stands (by_listed base notes step)
   listed_known base notes (listed.More lister) here = here
   listed_known base notes (listed.Rows rows) here = all_longest_first (IsIndexRow setting) rows here
-  listed_known base notes listed.Broken here = load_reply Shown Loosely setting hash id exchanges query load_errors.Io
+  listed_known base notes listed.Broken here = load_reply Shown setting hash id exchanges query load_errors.Io
 
   -- ---- an exchange
 
   trier_known : (same : kind_of id ≡ hash) (head : LookHead) (trier : Trier) (part : Part) (answer : Answer) → Heads head
-      → KnowsTrier Shown Loosely setting hash id exchanges query trier
-      → IsTrue Shown Loosely setting hash query id (tries.ask_of trier) answer
+      → KnowsTrier Shown setting hash id exchanges query trier
+      → IsTrue Shown setting hash (tries.ask_of trier) answer
       → WasTold exchanges (tries.ask_of trier) answer
       → Stands (by_tried setting head part (trier_fed trier answer))
   trier_known same head trier part answer known here truth asked =
       tried_known head part (trier_fed trier answer) known
-      (subst (λ (goal : Goal). KnowsTried Shown Loosely setting hash id exchanges query (tries.by_answer goal trier.ahead trier.stage answer)) (sym here.goal)
-      (answer_known Shown Loosely setting hash id exchanges query same trier.ahead here.ahead trier.stage answer here.stage truth asked))
+      (subst (λ (goal : Goal). KnowsTried Shown setting hash id exchanges query (tries.by_answer goal trier.ahead trier.stage answer)) (sym here.goal)
+      (answer_known Shown setting hash id exchanges query same trier.ahead here.ahead trier.stage answer here.stage truth asked))
 
   pub stage_known : kind_of id ≡ hash → (head : LookHead) (stage : LookStage) (ask : PartAsk) (answer : Answer) → Heads head → Stands stage
       → ask_at stage ≡ Some ask
-      → IsTrue Shown Loosely setting hash query id ask answer
+      → IsTrue Shown setting hash ask answer
       → WasTold exchanges ask answer
       → Knows (fed_at setting head stage answer)
   stage_known same head (stages.Trying trier part) ask answer known here asks truth asked =
@@ -264,22 +272,22 @@ module _ (Shown : Path → List ℕ → Type 0) (Loosely : Path → Verdict → 
       record {
         head = known;
         stage =
-            trier_known same head trier part answer known here (subst (λ (a : PartAsk). IsTrue Shown Loosely setting hash query id a answer) (sym own) truth)
+            trier_known same head trier part answer known here (subst (λ (a : PartAsk). IsTrue Shown setting hash a answer) (sym own) truth)
             (subst (λ (a : PartAsk). WasTold exchanges a answer) (sym own) asked);
       }
   stage_known same head (stages.Loose round call) ask (told.Disk answer) known here asks truth asked =
-      record { head = known; stage = call_known head round call ask answer known here asks truth }
+      record { head = known; stage = call_known head round call ask answer known here asks asked }
   stage_known same head (stages.Listing lister base notes) ask (told.Disk answer) known here asks truth asked =
       record { head = known; stage = listed_known base notes (lists.fed setting.folders lister answer) (fed_known setting lister answer here) }
   stage_known same head (stages.Looking purpose notes) ask (told.Core (Ok effect)) known here asks truth asked =
       record {
         head = known;
-        stage = look_known head purpose notes (view_shown effect) known (views_shown Shown Loosely setting hash query id ask (Ok effect) truth);
+        stage = look_known head purpose notes (view_shown effect) known (views_shown Shown setting hash ask (Ok effect) truth);
       }
   stage_known same head (stages.Looking purpose notes) ask (told.Core (Err refusal)) known here asks truth asked =
-      record { head = known; stage = load_reply Shown Loosely setting hash id exchanges query (of_refusal refusal) }
+      record { head = known; stage = load_reply Shown setting hash id exchanges query (of_refusal refusal) }
   stage_known same head (stages.Publishing listing notes) ask (told.Core (Ok effect)) known here asks truth asked =
-      published_known head listing notes effect known here (views_shown Shown Loosely setting hash query id ask (Ok effect) truth)
+      published_known head listing notes effect known here (views_shown Shown setting hash ask (Ok effect) truth)
   stage_known same head (stages.Publishing listing notes) ask (told.Core (Err refusal)) known here asks truth asked =
-      record { head = known; stage = load_reply Shown Loosely setting hash id exchanges query (of_refusal refusal) }
+      record { head = known; stage = load_reply Shown setting hash id exchanges query (of_refusal refusal) }
   stage_known same head stage ask answer known here asks truth asked = record { head = known; stage = here }

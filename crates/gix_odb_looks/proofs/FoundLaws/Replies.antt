@@ -21,7 +21,7 @@ use Rattle.gix_odb_calls.specs.declared.query.Query.TheVariants.{Find, Header, T
 use Rattle.gix_odb_calls.specs.declared.verdict.Verdict.{Verdict}
 use Rattle.gix_odb_calls.specs.declared.verdict.Verdict.TheVariants as verdicts
 use Rattle.gix_odb_looks.specs.Caused.{IsCaused}
-use Rattle.gix_odb_looks.specs.Exchange.{Exchange}
+use Rattle.gix_odb_looks.specs.Exchange.{Exchange, HasVerdict}
 use Rattle.gix_odb_looks.specs.LookUpOrder.{Setting, find_error, load_refused, not_found, reply_found}
 use Rattle.gix_odb_looks.specs.Shown.{folders_of}
 use Rattle.gix_odb_looks.proofs.FoundLaws.Known.{IsCausedHere, IsFoundHere, IsOfPack, KnowsReply}
@@ -50,13 +50,13 @@ loose_ends_other (Header asked) (loose_replies.Header (Err error)) = λ no. no
 loose_ends_other (Test asked) (loose_replies.Contains answer) = test_ends_other answer
 loose_ends_other query reply = tt
 
-module _ (Shown : Path → List ℕ → Type 0) (Loosely : Path → Verdict → Type 0) (setting : Setting) (hash : Kind) (id : ObjectId) (exchanges : List Exchange)
+module _ (Shown : Path → List ℕ → Type 0) (setting : Setting) (hash : Kind) (id : ObjectId) (exchanges : List Exchange)
     (query : Query) where
   abbrev Knows : Reply → Type 0
-  Knows reply = KnowsReply Shown Loosely setting hash id exchanges query reply
+  Knows reply = KnowsReply Shown setting hash id exchanges query reply
 
   abbrev Because : Error → Type 0
-  Because error = IsCaused Shown Loosely setting hash id query exchanges error
+  Because error = IsCaused Shown setting hash id query exchanges error
 
   other_cause : (reply : Reply) → IsOther reply → (error : Error) → reply ≡ replies.Refused (call_errors.Find error) → IsOfPack error → Because error
   other_cause reply other error is of = absurd (subst IsOther is other of)
@@ -66,10 +66,10 @@ module _ (Shown : Path → List ℕ → Type 0) (Loosely : Path → Verdict → 
   found_is_other (founds.Header kind size) = tt
   found_is_other founds.Presence = tt
 
-  pub found_reply : (found : Found) → IsFoundHere Shown Loosely setting hash id exchanges query found → Knows (reply_found found)
+  pub found_reply : (found : Found) → IsFoundHere Shown setting hash id exchanges query found → Knows (reply_found found)
   found_reply found here = record { found = λ answer. inl here; caused = other_cause (reply_found found) (found_is_other found) }
 
-  pub pack_reply : (error : goals.Error) → IsCausedHere Shown Loosely setting hash id exchanges query error
+  pub pack_reply : (error : goals.Error) → IsCausedHere Shown setting hash id exchanges query error
       → Knows (replies.Refused (call_errors.Find (find_error error)))
   pack_reply error here = record {
     found = λ answer. absurd answer;
@@ -84,5 +84,6 @@ module _ (Shown : Path → List ℕ → Type 0) (Loosely : Path → Verdict → 
   missed_reply (Header own) = record { found = λ answer. absurd answer; caused = other_cause replies.NotFound tt }
   missed_reply (Test own) = record { found = λ answer. absurd answer; caused = other_cause (replies.Tested false) tt }
 
-  pub loose_reply : (reply : Reply) (folder : Path) → Contains (folders_of setting) folder → Loosely folder (verdicts.Ends reply) → IsOther reply → Knows reply
+  pub loose_reply : (reply : Reply) (folder : Path) → Contains (folders_of setting) folder → HasVerdict setting query id exchanges folder (verdicts.Ends reply)
+      → IsOther reply → Knows reply
   loose_reply reply folder among says other = record { found = λ answer. inr (folder, among, says); caused = other_cause reply other }

@@ -37,23 +37,22 @@ use Rattle.gix_odb_packs.specs.declared.trier.Tried.{Tried}
 use Rattle.gix_odb_packs.specs.declared.trier.Tried.TheVariants as ends
 use Rattle.gix_odb_packs.proofs.SeekLaws.{all_rest_behind, search_comes, search_ends}
 use Rattle.gix_odb_calls.specs.declared.query.Query.{Query}
-use Rattle.gix_odb_calls.specs.declared.verdict.Verdict.{Verdict}
 use Rattle.gix_odb_looks.specs.Caused.{IsNoPack, IsUnloaded}
 use Rattle.gix_odb_looks.specs.Exchange.{Exchange, WasTold}
 use Rattle.gix_odb_looks.specs.LookUpOrder.{Setting, wanted_by}
-use Rattle.gix_odb_looks.specs.Shown.{IsIndexPath, IsIndexRead, IsPackRead, IsShown, IsShownView}
+use Rattle.gix_odb_looks.specs.Shown.{IsIndexPath, IsIndexShownAt, IsPackShownAt, IsIndexShown, IsShownView}
 use Rattle.gix_odb_looks.specs.True.{IsTrue}
 use Rattle.gix_odb_looks.proofs.FoundLaws.Known.{IsCausedHere, IsFoundHere, IsIndexTodo, IsWanted, KnowsAhead, KnowsGiven, KnowsStage, KnowsTried, goal_for}
 use Rattle.gix_odb_looks.proofs.FoundLaws.Indices.{given_known, tried_known}
 use Rattle.gix_odb_looks.proofs.FoundLaws.Views.{index_shown, pack_loaded, views_shown}
 
-module _ (Shown : Path → List ℕ → Type 0) (Loosely : Path → Verdict → Type 0) (setting : Setting) (hash : Kind) (id : ObjectId) (exchanges : List Exchange)
+module _ (Shown : Path → List ℕ → Type 0) (setting : Setting) (hash : Kind) (id : ObjectId) (exchanges : List Exchange)
     (query : Query) where
   abbrev goal : Goal
   goal = goal_for setting query id
 
   abbrev Knows : Tried → Type 0
-  Knows tried = KnowsTried Shown Loosely setting hash id exchanges query tried
+  Knows tried = KnowsTried Shown setting hash id exchanges query tried
 
   abbrev IsLeft : Ahead → Type 0
   IsLeft ahead = KnowsAhead Shown setting hash id ahead
@@ -66,7 +65,7 @@ module _ (Shown : Path → List ℕ → Type 0) (Loosely : Path → Verdict → 
   at_known : (ahead : Ahead) (stage : Stage) → IsLeft ahead → Stands stage → Knows (at goal ahead stage)
   at_known ahead stage known here = record { goal = refl; ahead = known; stage = here }
 
-  todo_known : (ahead : Ahead) (todo : List Todo) → All (IsShown Shown setting hash) ahead.indices → All (IsIndexTodo setting) todo
+  todo_known : (ahead : Ahead) (todo : List Todo) → All (IsIndexShown Shown setting hash) ahead.indices → All (IsIndexTodo setting) todo
       → Knows (at_todo goal ahead todo)
   todo_known ahead [] indices paths = tt
   todo_known ahead (todo ∷ rest) indices paths =
@@ -74,10 +73,10 @@ module _ (Shown : Path → List ℕ → Type 0) (Loosely : Path → Verdict → 
       (record { indices = indices; todo = All-tail (IsIndexTodo setting) todo rest paths }) (All-head (IsIndexTodo setting) todo rest paths)
 
   abbrev Hits : Found → Type 0
-  Hits found = IsFoundHere Shown Loosely setting hash id exchanges query found
+  Hits found = IsFoundHere Shown setting hash id exchanges query found
 
   abbrev Bads : goals.Error → Type 0
-  Bads error = IsCausedHere Shown Loosely setting hash id exchanges query error
+  Bads error = IsCausedHere Shown setting hash id exchanges query error
 
   abbrev Wanted : WantedPack → Type 0
   Wanted pack = IsWanted Shown setting hash id pack
@@ -87,10 +86,10 @@ module _ (Shown : Path → List ℕ → Type 0) (Loosely : Path → Verdict → 
       let absent = ahead.notes.absent in
       let indices = rest_behind goal absent ahead.indices in
       let left : IsLeft (record ahead { indices = indices }) =
-      record { indices = all_rest_behind goal absent (IsShown Shown setting hash) ahead.indices known.indices; todo = known.todo } in
+      record { indices = all_rest_behind goal absent (IsIndexShown Shown setting hash) ahead.indices known.indices; todo = known.todo } in
       let on : Ahead = record ahead { indices = indices } in
       search_ends Hits Bads Wanted Knows goal on (search goal absent ahead.indices)
-      (search_comes Hits Bads Wanted goal absent (IsShown Shown setting hash) (tried_known Shown Loosely setting hash id exchanges query absent)
+      (search_comes Hits Bads Wanted goal absent (IsIndexShown Shown setting hash) (tried_known Shown setting hash id exchanges query absent)
       ahead.indices known.indices)
       (todo_known on ahead.todo left.indices known.todo) (λ found hit. hit) (λ error bad. bad)
       (λ pack wanted. at_known on (stages.ReadingPack pack) left wanted)
@@ -107,7 +106,7 @@ module _ (Shown : Path → List ℕ → Type 0) (Loosely : Path → Verdict → 
     index_tested place bytes path shown false is = at_known ahead (stages.PassingIndex place whys.Bad) known tt
 
     index_read_known : (place : IndexPlace) (answer : DiskAnswer) → IsIndexPath setting place.path
-        → IsTrue Shown Loosely setting hash query id (read_of place.path) (told.Disk answer)
+        → IsTrue Shown setting hash (read_of place.path) (told.Disk answer)
         → Knows (index_read goal ahead place answer)
     index_read_known place (answers.File bytes time) path truth = index_tested place bytes path truth.1 (is_index (kind_of id) bytes) refl
     index_read_known place answer path truth =
@@ -115,12 +114,12 @@ module _ (Shown : Path → List ℕ → Type 0) (Loosely : Path → Verdict → 
         (record { indices = known.indices; todo = known.todo }) tt
 
     index_stored_known : (place : IndexPlace) (file : FileBytes) (effect : Effect) → IsIndexPath setting place.path
-        → IsIndexRead Shown setting hash place.path file
+        → IsIndexShownAt Shown setting hash place.path file
         → ((view : View) → view_in (Ok effect) ≡ Some view → IsShownView Shown setting hash view)
         → Knows (at_search goal ahead (tried goal ahead.notes.absent (shown_or_own place file (shown_behind place effect))))
     index_stored_known place file effect path read views =
         search_ends Hits Bads Wanted Knows goal ahead (tried goal ahead.notes.absent (shown_or_own place file (shown_behind place effect)))
-        (tried_known Shown Loosely setting hash id exchanges query ahead.notes.absent (shown_or_own place file (shown_behind place effect))
+        (tried_known Shown setting hash id exchanges query ahead.notes.absent (shown_or_own place file (shown_behind place effect))
         (index_shown Shown setting hash place file path read (view_in (Ok effect)) views))
         (todo_known ahead ahead.todo known.indices known.todo) (λ found hit. hit) (λ error bad. bad)
         (λ pack wanted. at_known ahead (stages.ReadingPack pack) known wanted)
@@ -129,7 +128,7 @@ module _ (Shown : Path → List ℕ → Type 0) (Loosely : Path → Verdict → 
 
     unloaded : (pack : WantedPack) (answer : DiskAnswer) → IsWanted Shown setting hash id pack → WasTold exchanges (read_of pack.path) (told.Disk answer)
         → IsNoPack hash answer
-        → IsUnloaded Shown Loosely setting hash id exchanges
+        → IsUnloaded Shown setting hash id exchanges
     unloaded pack answer wanted asked none = record {
       path = wanted.path;
       offset = pack.offset;
@@ -151,7 +150,7 @@ module _ (Shown : Path → List ℕ → Type 0) (Loosely : Path → Verdict → 
         unloaded pack (answers.File bytes time) wanted asked (subst (λ (kind : Kind). is_pack kind bytes ≡ false) same is)
 
     pack_read_known : (pack : WantedPack) (answer : DiskAnswer) → IsWanted Shown setting hash id pack
-        → IsTrue Shown Loosely setting hash query id (read_of pack.path) (told.Disk answer)
+        → IsTrue Shown setting hash (read_of pack.path) (told.Disk answer)
         → WasTold exchanges (read_of pack.path) (told.Disk answer)
         → Knows (pack_read goal ahead pack answer)
     pack_read_known pack (answers.File bytes time) wanted truth asked = pack_tested pack bytes time wanted truth.1 asked (is_pack (kind_of id) bytes) refl
@@ -163,24 +162,24 @@ module _ (Shown : Path → List ℕ → Type 0) (Loosely : Path → Verdict → 
     pack_read_known pack (answers.Refused disk_errors.Failed) wanted truth asked = unloaded pack (answers.Refused disk_errors.Failed) wanted asked (inl refl)
     pack_read_known pack answer wanted truth asked = absurd truth.0
 
-    given_ends : (given : Result Found goals.Error) → KnowsGiven Shown Loosely setting hash id exchanges query given → Knows (by_given given)
+    given_ends : (given : Result Found goals.Error) → KnowsGiven Shown setting hash id exchanges query given → Knows (by_given given)
     given_ends (Ok found) here = here
     given_ends (Err error) here = here
 
     pack_stored_known : (pack : WantedPack) (file : FileBytes) (effect : Effect) → IsWanted Shown setting hash id pack
-        → IsPackRead Shown setting hash pack.path file
+        → IsPackShownAt Shown setting hash pack.path file
         → ((view : View) → view_in (Ok effect) ≡ Some view → IsShownView Shown setting hash view)
         → Knows (by_given (given_by (wanted_by query) setting.limit (unwrap_or (pack_behind pack effect) file) pack.offset))
     pack_stored_known pack file effect wanted read views =
         let own : FileBytes = unwrap_or (pack_behind pack effect) file in
-        let own_read : IsPackRead Shown setting hash pack.path own = pack_loaded Shown setting hash pack file read (view_in (Ok effect)) views in
+        let own_read : IsPackShownAt Shown setting hash pack.path own = pack_loaded Shown setting hash pack file read (view_in (Ok effect)) views in
         given_ends (given_by (wanted_by query) setting.limit own pack.offset)
-        (given_known Shown Loosely setting hash id exchanges wanted.path pack.offset wanted.index own
-        (subst (λ (path : Path). IsPackRead Shown setting hash path own) wanted.is own_read) query)
+        (given_known Shown setting hash id exchanges wanted.path pack.offset wanted.index own
+        (subst (λ (path : Path). IsPackShownAt Shown setting hash path own) wanted.is own_read) query)
 
     -- ---- an answer
 
-    disk_known : (stage : Stage) (answer : DiskAnswer) → Stands stage → IsTrue Shown Loosely setting hash query id (ask_at stage) (told.Disk answer)
+    disk_known : (stage : Stage) (answer : DiskAnswer) → Stands stage → IsTrue Shown setting hash (ask_at stage) (told.Disk answer)
         → WasTold exchanges (ask_at stage) (told.Disk answer)
         → Knows (behind_disk goal ahead stage answer)
     disk_known (stages.ReadingIndex place) answer here truth asked = index_read_known place answer here truth
@@ -201,10 +200,10 @@ module _ (Shown : Path → List ℕ → Type 0) (Loosely : Path → Verdict → 
     refused_known (stages.ReadingPack pack) refusal here = at_known ahead (stages.ReadingPack pack) known here
     refused_known stage refusal here = tt
 
-    pub answer_known : (stage : Stage) (answer : Answer) → Stands stage → IsTrue Shown Loosely setting hash query id (ask_at stage) answer
+    pub answer_known : (stage : Stage) (answer : Answer) → Stands stage → IsTrue Shown setting hash (ask_at stage) answer
         → WasTold exchanges (ask_at stage) answer
         → Knows (by_answer goal ahead stage answer)
     answer_known stage (told.Disk answer) here truth asked = disk_known stage answer here truth asked
     answer_known stage (told.Core (Ok effect)) here truth asked =
-        core_known stage effect here (views_shown Shown Loosely setting hash query id (ask_at stage) (Ok effect) truth)
+        core_known stage effect here (views_shown Shown setting hash (ask_at stage) (Ok effect) truth)
     answer_known stage (told.Core (Err refusal)) here truth asked = refused_known stage refusal here

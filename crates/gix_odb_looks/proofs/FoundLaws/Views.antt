@@ -5,7 +5,6 @@ use Rattle.std.specs.List.{find}
 use Rattle.std.proofs.lemmas.List.Elements.{All-cons, All-contains, All-head, All-nil, All-tail}
 use Rattle.odb_base.specs.Path.{Path}
 use Rattle.gix_hash.specs.declared.kind.Kind.{Kind}
-use Rattle.gix_hash.specs.declared.object_id.ObjectId.{ObjectId}
 use Rattle.gix_pack_files.specs.FileBytes.{FileBytes}
 use Rattle.gix_odb_slots.specs.OnDiskFile.{loaded}
 use Rattle.gix_odb_slots.specs.Slots.{PackFile, new_packs, same_path}
@@ -21,53 +20,51 @@ use Rattle.gix_odb_packs.specs.declared.answer.PartAsk.{PartAsk}
 use Rattle.gix_odb_packs.specs.declared.answer.PartAsk.TheVariants as asks
 use Rattle.gix_odb_packs.specs.declared.search.WantedPack.{WantedPack}
 use Rattle.gix_odb_packs.specs.declared.trier.IndexPlace.{IndexPlace}
-use Rattle.gix_odb_calls.specs.declared.query.Query.{Query}
-use Rattle.gix_odb_calls.specs.declared.verdict.Verdict.{Verdict}
 use Rattle.gix_odb_looks.specs.LookUpOrder.{Setting}
-use Rattle.gix_odb_looks.specs.Shown.{IsIndexPath, IsIndexRead, IsPackRead, IsRead, IsShown, IsShownView}
+use Rattle.gix_odb_looks.specs.Shown.{IsIndexPath, IsIndexShownAt, IsPackShownAt, IsPackShown, IsIndexShown, IsShownView}
 use Rattle.gix_odb_looks.specs.True.{IsTrue}
 use Rattle.gix_odb_looks.proofs.FoundLaws.Lists.{find_passes}
 
 -- an answer of the core that tells the truth hands over only what was shown
-pub views_shown : (Shown : Path → List ℕ → Type 0) (Loosely : Path → Verdict → Type 0) (setting : Setting) (hash : Kind) (query : Query) (id : ObjectId)
-    (ask : PartAsk) (answer : Result Effect Refusal) → IsTrue Shown Loosely setting hash query id ask (told.Core answer)
+pub views_shown : (Shown : Path → List ℕ → Type 0) (setting : Setting) (hash : Kind)
+    (ask : PartAsk) (answer : Result Effect Refusal) → IsTrue Shown setting hash ask (told.Core answer)
     → (view : View)
     → view_in answer ≡ Some view
     → IsShownView Shown setting hash view
-views_shown Shown Loosely setting hash query id (asks.Disk ask) answer truth = absurd truth
-views_shown Shown Loosely setting hash query id (asks.Core event) answer truth = truth
+views_shown Shown setting hash (asks.Disk ask) answer truth = absurd truth
+views_shown Shown setting hash (asks.Core event) answer truth = truth
 
 module _ (Shown : Path → List ℕ → Type 0) (setting : Setting) (hash : Kind) where
   -- ---- an index
 
   abbrev Shows : SnapshotIndex → Type 0
-  Shows index = IsShown Shown setting hash index
+  Shows index = IsIndexShown Shown setting hash index
 
-  own_shown : (place : IndexPlace) (file : FileBytes) → IsIndexPath setting place.path → IsIndexRead Shown setting hash place.path file
+  own_shown : (place : IndexPlace) (file : FileBytes) → IsIndexPath setting place.path → IsIndexShownAt Shown setting hash place.path file
       → Shows (own_index place file)
-  own_shown place file path read = record {
+  own_shown place file path there = record {
     file = file;
     single = refl;
     at = path;
-    read = read;
+    there = there;
     one = refl;
     packs = λ k d within. none k d within;
   }
     where
-      none : All (IsRead Shown setting hash) (new_packs place.path None)
-      none = All-cons (IsRead Shown setting hash) _ [] (λ read is. absurd (cc is)) (All-nil (IsRead Shown setting hash))
+      none : All (IsPackShown Shown setting hash) (new_packs place.path None)
+      none = All-cons (IsPackShown Shown setting hash) _ [] (λ read is. absurd (cc is)) (All-nil (IsPackShown Shown setting hash))
 
-  or_own_shown : (place : IndexPlace) (file : FileBytes) → IsIndexPath setting place.path → IsIndexRead Shown setting hash place.path file
+  or_own_shown : (place : IndexPlace) (file : FileBytes) → IsIndexPath setting place.path → IsIndexShownAt Shown setting hash place.path file
       → (shown : Option SnapshotIndex)
       → ((index : SnapshotIndex) → shown ≡ Some index → Shows index)
       → Shows (shown_or_own place file shown)
   or_own_shown place file path read None each = own_shown place file path read
   or_own_shown place file path read (Some index) each = each index refl
 
-  among_shown : (place : IndexPlace) (indices : List SnapshotIndex) → All (IsShown Shown setting hash) indices → (index : SnapshotIndex)
+  among_shown : (place : IndexPlace) (indices : List SnapshotIndex) → All (IsIndexShown Shown setting hash) indices → (index : SnapshotIndex)
       → find (is_at place) indices ≡ Some index
       → Shows index
-  among_shown place indices all index is = All-contains (IsShown Shown setting hash) indices index all (find_passes (is_at place) indices index is).0
+  among_shown place indices all index is = All-contains (IsIndexShown Shown setting hash) indices index all (find_passes (is_at place) indices index is).0
 
   either_shown : (one other : Option SnapshotIndex) (index : SnapshotIndex) → (one ≡ Some index → Shows index) → (other ≡ Some index → Shows index)
       → or_else one other ≡ Some index
@@ -86,7 +83,7 @@ module _ (Shown : Path → List ℕ → Type 0) (setting : Setting) (hash : Kind
       (among_shown place view.snapshot.kept shown.kept index) is
 
   -- the index that is tried behind the core's answer was shown
-  pub index_shown : (place : IndexPlace) (file : FileBytes) → IsIndexPath setting place.path → IsIndexRead Shown setting hash place.path file
+  pub index_shown : (place : IndexPlace) (file : FileBytes) → IsIndexPath setting place.path → IsIndexShownAt Shown setting hash place.path file
       → (view : Option View)
       → ((own : View) → view ≡ Some own → IsShownView Shown setting hash own)
       → Shows (shown_or_own place file (shown_in place view))
@@ -96,22 +93,22 @@ module _ (Shown : Path → List ℕ → Type 0) (setting : Setting) (hash : Kind
 
   module _ (pack : WantedPack) where
     abbrev IsOwn : FileBytes → Type 0
-    IsOwn file = IsPackRead Shown setting hash pack.path file
+    IsOwn file = IsPackShownAt Shown setting hash pack.path file
 
-    one_read : (pack_file : PackFile) (rest : Option FileBytes) (file : FileBytes) → IsRead Shown setting hash pack_file
+    one_read : (pack_file : PackFile) (rest : Option FileBytes) (file : FileBytes) → IsPackShown Shown setting hash pack_file
         → (rest ≡ Some file → IsOwn file) → (here : Bool)
         → same_path pack_file.path pack.path ≡ here
         → cond here (loaded pack_file.state) rest ≡ Some file
         → IsOwn file
     one_read pack_file rest file read further true same is =
-        subst (λ (path : Path). IsPackRead Shown setting hash path file) (same_path-true pack_file.path pack.path same) (read file is)
+        subst (λ (path : Path). IsPackShownAt Shown setting hash path file) (same_path-true pack_file.path pack.path same) (read file is)
     one_read pack_file rest file read further false same is = further is
 
-    packs_read : (packs : List PackFile) → All (IsRead Shown setting hash) packs → (file : FileBytes) → pack_among pack packs ≡ Some file → IsOwn file
+    packs_read : (packs : List PackFile) → All (IsPackShown Shown setting hash) packs → (file : FileBytes) → pack_among pack packs ≡ Some file → IsOwn file
     packs_read [] all file is = absurd (cc is)
     packs_read (one ∷ packs) all file is =
-        one_read one (pack_among pack packs) file (All-head (IsRead Shown setting hash) one packs all)
-        (packs_read packs (All-tail (IsRead Shown setting hash) one packs all) file) (same_path one.path pack.path) refl is
+        one_read one (pack_among pack packs) file (All-head (IsPackShown Shown setting hash) one packs all)
+        (packs_read packs (All-tail (IsPackShown Shown setting hash) one packs all) file) (same_path one.path pack.path) refl is
 
     chosen_read : (here : Bool) (one other : Option FileBytes) (file : FileBytes) → (one ≡ Some file → IsOwn file) → (other ≡ Some file → IsOwn file)
         → cond here one other ≡ Some file
@@ -119,13 +116,13 @@ module _ (Shown : Path → List ℕ → Type 0) (setting : Setting) (hash : Kind
     chosen_read true one other file first further is = first is
     chosen_read false one other file first further is = further is
 
-    indices_read : (indices : List SnapshotIndex) → All (IsShown Shown setting hash) indices → (file : FileBytes) → pack_in pack indices ≡ Some file
+    indices_read : (indices : List SnapshotIndex) → All (IsIndexShown Shown setting hash) indices → (file : FileBytes) → pack_in pack indices ≡ Some file
         → IsOwn file
     indices_read [] all file is = absurd (cc is)
     indices_read (index ∷ rest) all file is =
-        let shown = All-head (IsShown Shown setting hash) index rest all in
+        let shown = All-head (IsIndexShown Shown setting hash) index rest all in
         chosen_read (index.slot == pack.slot) (pack_among pack index.packs) (pack_in pack rest) file (packs_read index.packs shown.packs file)
-        (indices_read rest (All-tail (IsShown Shown setting hash) index rest all) file) is
+        (indices_read rest (All-tail (IsIndexShown Shown setting hash) index rest all) file) is
 
     either_read : (one other : Option FileBytes) (file : FileBytes) → (one ≡ Some file → IsOwn file) → (other ≡ Some file → IsOwn file)
         → pack_or one other ≡ Some file → IsOwn file

@@ -1,11 +1,10 @@
--- A call of the disk that failed, other than the closing of a stream, keeps a look-up from ending with nothing found.
-use Rattle.std.proofs.Common.{◌≡◌, ◌⊎◌, inl, inr, ℕ, ◌==◌, Bool, true, false, cond, List, slice_get, Option, Some, None, unwrap_or, Ok, Err}
+-- A call of the disk that failed keeps a look-up from ending with nothing found.
+use Rattle.std.proofs.Common.{◌≡◌, ◌⊎◌, inl, inr, ℕ, ◌==◌, Bool, true, false, cond, slice_get, Option, Some, None, unwrap_or, Ok, Err}
 use Rattle.std.proofs.Common.{refl, sym, ap, ◌∙◌, subst}
 use Rattle.std.proofs.lemmas.Option.{same_Some}
 use Rattle.odb_base.specs.Path.{Path}
 use Rattle.odb_disk.specs.declared.ask.DiskAnswer.{DiskAnswer}
 use Rattle.odb_disk.specs.declared.ask.DiskAnswer.TheVariants as disk_answers
-use Rattle.odb_disk.specs.declared.ask.DiskAsk.TheVariants as disk_asks
 use Rattle.odb_tree.specs.declared.disk_error.DiskError.TheVariants as disk_errors
 use Rattle.gix_hash.specs.declared.object_id.ObjectId.{ObjectId}
 use Rattle.gix_odb_loose.specs.LooseFile.{loose_path}
@@ -26,8 +25,6 @@ use Rattle.gix_odb_packs.specs.declared.answer.Answer.{Answer}
 use Rattle.gix_odb_packs.specs.declared.answer.Answer.TheVariants as told
 use Rattle.gix_odb_packs.specs.declared.answer.PartAsk.{PartAsk}
 use Rattle.gix_odb_packs.specs.declared.answer.PartAsk.TheVariants as asks
-use Rattle.gix_odb_packs.specs.declared.goal.Error.{Error}
-use Rattle.gix_odb_packs.specs.declared.goal.Found.{Found}
 use Rattle.gix_odb_packs.specs.declared.lister.ListHead.{ListHead}
 use Rattle.gix_odb_packs.specs.declared.lister.ListStage.{ListStage}
 use Rattle.gix_odb_packs.specs.declared.lister.ListStage.TheVariants as list_stages
@@ -51,6 +48,7 @@ use Rattle.gix_odb_looks.specs.LookUpOrder.{Setting, after_list, after_loose, as
 use Rattle.gix_odb_looks.specs.LookUpOrder.{by_tried, by_verdict}
 use Rattle.gix_odb_looks.specs.LookUpOrder.{counted, ended, fed, fed_at, find_error, goal_of, is_unsettled, lister_fed, listing_from, load_refused}
 use Rattle.gix_odb_looks.specs.LookUpOrder.{loose_fed, not_found}
+use Rattle.gix_odb_looks.specs.True.{Suits}
 use Rattle.gix_odb_looks.specs.LookUpOrder.{result_at, seen, trier_fed, try_view, unsettled, view_shown, with_own}
 use Rattle.gix_odb_looks.specs.declared.look_up.LookHead.{LookHead}
 use Rattle.gix_odb_looks.specs.declared.look_up.LookStage.{LookStage}
@@ -70,10 +68,14 @@ abbrev IsBreaking : ListStage → Type 0
 IsBreaking (list_stages.Breaking dir) = Unit {0}
 IsBreaking stage = ⊥
 
--- a call of the disk that closes a stream
-abbrev pub closes : PartAsk → Bool
-closes (asks.Disk (disk_asks.CloseDir dir)) = true
-closes ask = false
+-- a call of the disk that may fail
+abbrev pub CanFail : PartAsk → Type 0
+CanFail (asks.Disk ask) = Suits ask (disk_answers.Refused disk_errors.Failed)
+CanFail (asks.Core event) = ⊥
+
+is_of_disk : (ask : PartAsk) → CanFail ask → IsDisk ask
+is_of_disk (asks.Disk ask) can = tt
+is_of_disk (asks.Core event) can = absurd can
 
 -- a verdict that is no plain miss
 abbrev IsNoPlainMiss : Query → Verdict → Type 0
@@ -229,14 +231,14 @@ module _ (setting : Setting) (query : Query) where
   -- ---- a call that fails
 
   failed_lister : (head : LookHead) (base : ℕ) (notes : Notes) (list_head : ListHead) (stage : ListStage)
-      → closes (asks.Disk (lists.ask_at list_head.folder stage)) ≡ false
+      → CanFail (asks.Disk (lists.ask_at list_head.folder stage))
       → IsMarred (by_listed base notes (lists.fed_at setting.folders list_head stage (disk_answers.Refused disk_errors.Failed)))
-  failed_lister head base notes list_head list_stages.Opening tells = refused_mars load_errors.Io
-  failed_lister head base notes list_head (list_stages.Reading dir entries) tells = inr tt
-  failed_lister head base notes list_head (list_stages.Closing dir entries) tells = absurd (cc tells)
-  failed_lister head base notes list_head (list_stages.Breaking dir) tells = absurd (cc tells)
-  failed_lister head base notes list_head (list_stages.Index path left) tells = refused_mars load_errors.Io
-  failed_lister head base notes list_head (list_stages.Pack row left) tells = refused_mars load_errors.Io
+  failed_lister head base notes list_head list_stages.Opening can = refused_mars load_errors.Io
+  failed_lister head base notes list_head (list_stages.Reading dir entries) can = inr tt
+  failed_lister head base notes list_head (list_stages.Closing dir entries) can = absurd (cc can)
+  failed_lister head base notes list_head (list_stages.Breaking dir) can = absurd (cc can)
+  failed_lister head base notes list_head (list_stages.Index path left) can = refused_mars load_errors.Io
+  failed_lister head base notes list_head (list_stages.Pack row left) can = refused_mars load_errors.Io
 
   -- the verdict on a folder whose call failed
   failed_says : (q : Query) (id : ObjectId) (asked : Path) → (reply : LooseReply)
@@ -260,29 +262,29 @@ module _ (setting : Setting) (query : Query) where
   IsAskingAt (stages.Loose round call) = (id : ObjectId) × (asked : Path) × (call ≡ asking setting.limit query id asked)
   IsAskingAt stage = Unit {0}
 
-  failed_stage : (head : LookHead) → head.query ≡ query → (stage : LookStage) → IsAskingAt stage → (ask : PartAsk) → ask_at stage ≡ Some ask → IsDisk ask
-      → closes ask ≡ false → IsLookMarred (fed_at setting head stage failed)
-  failed_stage head own (stages.Trying trier part) at ask is disk tells =
+  failed_stage : (head : LookHead) → head.query ≡ query → (stage : LookStage) → IsAskingAt stage → (ask : PartAsk) → ask_at stage ≡ Some ask → CanFail ask
+      → IsLookMarred (fed_at setting head stage failed)
+  failed_stage head own (stages.Trying trier part) at ask is can =
       record {
         own = own;
         stage =
             marred_tried head part (trier_fed trier failed)
-            (failed_trier trier.goal trier.ahead trier.stage (subst IsDisk (sym (same_Some (tries.ask_of trier) ask is)) disk));
+            (failed_trier trier.goal trier.ahead trier.stage (is_of_disk (tries.ask_of trier) (subst CanFail (sym (same_Some (tries.ask_of trier) ask is)) can)));
       }
-  failed_stage head own (stages.Loose round call) at ask is disk tells = record { own = own; stage = failed_folder head own round call at.0 at.1 at.2 }
-  failed_stage head own (stages.Looking purpose notes) at ask is disk tells = absurd (subst IsDisk (sym (same_Some (asks.Core events.Look) ask is)) disk)
-  failed_stage head own (stages.Listing lister base notes) at ask is disk tells =
+  failed_stage head own (stages.Loose round call) at ask is can = record { own = own; stage = failed_folder head own round call at.0 at.1 at.2 }
+  failed_stage head own (stages.Looking purpose notes) at ask is can = absurd (subst CanFail (sym (same_Some (asks.Core events.Look) ask is)) can)
+  failed_stage head own (stages.Listing lister base notes) at ask is can =
       record {
         own = own;
         stage =
             failed_lister head base notes lister.head lister.stage
-            (ap closes (same_Some (asks.Disk (lists.ask_of lister)) ask is) ∙ tells);
+            (subst CanFail (sym (same_Some (asks.Disk (lists.ask_of lister)) ask is)) can);
       }
-  failed_stage head own (stages.Publishing listing notes) at ask is disk tells =
-      absurd (subst IsDisk (sym (same_Some (asks.Core (events.Publish listing)) ask is)) disk)
-  failed_stage head own (stages.Done reply) at ask is disk tells = absurd (cc is)
+  failed_stage head own (stages.Publishing listing notes) at ask is can =
+      absurd (subst CanFail (sym (same_Some (asks.Core (events.Publish listing)) ask is)) can)
+  failed_stage head own (stages.Done reply) at ask is can = absurd (cc is)
 
   -- a look-up whose call failed is marred
-  pub failure_mars : (look : LookUp) → look.head.query ≡ query → IsAskingAt look.stage → (ask : PartAsk) → ask_at look.stage ≡ Some ask → IsDisk ask
-      → closes ask ≡ false → IsLookMarred (fed setting look failed)
-  failure_mars look own at ask is disk tells = failed_stage (seen look.head failed) own look.stage at ask is disk tells
+  pub failure_mars : (look : LookUp) → look.head.query ≡ query → IsAskingAt look.stage → (ask : PartAsk) → ask_at look.stage ≡ Some ask → CanFail ask
+      → IsLookMarred (fed setting look failed)
+  failure_mars look own at ask is can = failed_stage (seen look.head failed) own look.stage at ask is can

@@ -5,7 +5,6 @@ use Rattle.std.proofs.lemmas.Option.{same_Some}
 use Rattle.odb_base.specs.Path.{Path}
 use Rattle.odb_disk.specs.declared.ask.DiskAnswer.{DiskAnswer}
 use Rattle.odb_disk.specs.declared.ask.DiskAsk.{DiskAsk}
-use Rattle.gix_hash.specs.declared.kind.Kind.{Kind}
 use Rattle.gix_hash.specs.declared.object_id.ObjectId.{ObjectId}
 use Rattle.gix_odb_loose.specs.LooseFile.{loose_path}
 use Rattle.gix_odb_loose.specs.LooseOrder.{disk_ask_of, reply_of}
@@ -43,7 +42,7 @@ use Rattle.gix_odb_looks.specs.LookUpOrder.{counted, ended, fed, fed_at, find_er
 use Rattle.gix_odb_looks.specs.LookUpOrder.{loose_ask, loose_fed, loose_from, new_head, not_found}
 use Rattle.gix_odb_looks.specs.LookUpOrder.{result_at, seen, started, trier_fed, try_view, unsettled, view_shown, with_own, without_notes}
 use Rattle.gix_odb_looks.specs.Shown.{folders_of}
-use Rattle.gix_odb_looks.specs.True.{IsTrue}
+use Rattle.gix_odb_looks.specs.Exchange.{Exchange, HasVerdict, WasTold}
 use Rattle.gix_odb_looks.specs.declared.look_up.LookHead.{LookHead}
 use Rattle.gix_odb_looks.specs.declared.look_up.LookStage.{LookStage}
 use Rattle.gix_odb_looks.specs.declared.look_up.LookStage.TheVariants as stages
@@ -69,9 +68,10 @@ folder_asks limit (Find asked) id folder = (_, refl)
 folder_asks limit (Header asked) id folder = (_, refl)
 folder_asks limit (Test asked) id folder = (_, refl)
 
-module _ (Shown : Path → List ℕ → Type 0) (Loosely : Path → Verdict → Type 0) (setting : Setting) (hash : Kind) (query : Query) (id : ObjectId) where
+module _ (setting : Setting) (query : Query) (id : ObjectId) (exchanges : List Exchange) where
+  -- the folder was asked in one of the exchanges, and missed
   abbrev IsMissed : Path → Type 0
-  IsMissed folder = Loosely folder verdicts.Misses
+  IsMissed folder = HasVerdict setting query id exchanges folder verdicts.Misses
 
   abbrev pub AllMissed : Type 0
   AllMissed = (folder : Path) → Contains (folders_of setting) folder → IsMissed folder
@@ -169,7 +169,7 @@ module _ (Shown : Path → List ℕ → Type 0) (Loosely : Path → Verdict → 
         }
 
     verdict_passes : (round : LooseRound) (asked : Path) → (round.notes.failed ≡ false → IsPast (λ folder. (asked ≡ folder) ⊎ Behind round.next folder))
-        → (verdict : Verdict) → Loosely asked verdict → EndsNoMiss query verdict → IsPassing (by_verdict setting head round verdict)
+        → (verdict : Verdict) → HasVerdict setting query id exchanges asked verdict → EndsNoMiss query verdict → IsPassing (by_verdict setting head round verdict)
     verdict_passes round asked past (verdicts.Ends reply) says ends = λ is. absurd (ends is)
     verdict_passes round asked past verdicts.Misses says ends =
         folder_passes round
@@ -186,15 +186,23 @@ module _ (Shown : Path → List ℕ → Type 0) (Loosely : Path → Verdict → 
         folder_passes (record round { notes = record round.notes { failed = true } }) (λ none. absurd (cc none)) (slice_get setting.folders round.next) refl
 
     asked_passes : (round : LooseRound) (call : LooseCall) → IsAsking round call → (ask : PartAsk) (answer : DiskAnswer)
-        → loose_ask (disk_ask_of call) ≡ Some ask → IsTrue Shown Loosely setting hash query id ask (told.Disk answer)
+        → loose_ask (disk_ask_of call) ≡ Some ask → WasTold exchanges ask (told.Disk answer)
         → IsPassing (by_reply setting head round (loose_fed call answer) (reply_of (loose_fed call answer)))
-    asked_passes round call asking_it ask answer is true_it =
+    asked_passes round call asking_it ask answer is was =
         let call_of = folder_asks setting.limit query id asking_it.asked in
         let reply = folder_replies setting.limit query id asking_it.asked answer in
         let asks_it : ask ≡ asks.Disk call_of.0 =
         sym (same_Some (asks.Disk call_of.0) ask (sym (ap loose_ask (ap disk_ask_of asking_it.call_is ∙ call_of.1)) ∙ is)) in
-        let tells = subst (λ (a : PartAsk). IsTrue Shown Loosely setting hash query id a (told.Disk answer)) asks_it true_it in
-        let says = tells.2 asking_it.asked reply.0 asking_it.among call_of.1 reply.1 in
+        let says : HasVerdict setting query id exchanges asking_it.asked (verdict_on query reply.0) =
+        record {
+          ask = call_of.0;
+          asked = call_of.1;
+          answer = answer;
+          told = subst (λ (a : PartAsk). WasTold exchanges a (told.Disk answer)) asks_it was;
+          reply = reply.0;
+          replied = reply.1;
+          is = refl;
+        } in
         let replies_so : reply_of (loose_fed call answer) ≡ Some reply.0 = ap (λ (c : LooseCall). reply_of (loose_fed c answer)) asking_it.call_is ∙ reply.1 in
         subst (λ (r : Option LooseReply). IsPassing (by_reply setting head round (loose_fed call answer) r)) (sym replies_so)
         (subst (λ (q : Query). IsPassing (by_verdict setting head round (verdict_on q reply.0))) (sym own.query_is)
@@ -264,32 +272,32 @@ module _ (Shown : Path → List ℕ → Type 0) (Loosely : Path → Verdict → 
   published_passes head own listing notes effect = record { own = own; stage = tt }
 
   stage_passes : (head : LookHead) → IsFor head → (stage : LookStage) → IsPassing stage → (ask : PartAsk) (answer : Answer) → ask_at stage ≡ Some ask
-      → IsTrue Shown Loosely setting hash query id ask answer → IsLookPassing (fed_at setting head stage answer)
-  stage_passes head own (stages.Trying trier part) passes ask answer is true_it =
+      → WasTold exchanges ask answer → IsLookPassing (fed_at setting head stage answer)
+  stage_passes head own (stages.Trying trier part) passes ask answer is was =
       record { own = own; stage = tried_passes head own part (trier_fed trier answer) }
-  stage_passes head own (stages.Loose round call) passes ask (told.Disk answer) is true_it =
-      record { own = own; stage = asked_passes head own round call passes ask answer is true_it }
-  stage_passes head own (stages.Loose round call) passes ask (told.Core answer) is true_it = record { own = own; stage = passes }
-  stage_passes head own (stages.Looking purpose notes) passes ask (told.Disk answer) is true_it = record { own = own; stage = passes }
-  stage_passes head own (stages.Looking purpose notes) passes ask (told.Core (Ok effect)) is true_it =
+  stage_passes head own (stages.Loose round call) passes ask (told.Disk answer) is was =
+      record { own = own; stage = asked_passes head own round call passes ask answer is was }
+  stage_passes head own (stages.Loose round call) passes ask (told.Core answer) is was = record { own = own; stage = passes }
+  stage_passes head own (stages.Looking purpose notes) passes ask (told.Disk answer) is was = record { own = own; stage = passes }
+  stage_passes head own (stages.Looking purpose notes) passes ask (told.Core (Ok effect)) is was =
       record { own = own; stage = look_passes head own purpose notes passes (view_shown effect) }
-  stage_passes head own (stages.Looking purpose notes) passes ask (told.Core (Err refusal)) is true_it =
+  stage_passes head own (stages.Looking purpose notes) passes ask (told.Core (Err refusal)) is was =
       record { own = own; stage = refused_passes head own (of_refusal refusal) }
-  stage_passes head own (stages.Listing lister base notes) passes ask (told.Disk answer) is true_it =
+  stage_passes head own (stages.Listing lister base notes) passes ask (told.Disk answer) is was =
       record { own = own; stage = listed_passes head own base notes (lister_fed setting lister answer) }
-  stage_passes head own (stages.Listing lister base notes) passes ask (told.Core answer) is true_it = record { own = own; stage = passes }
-  stage_passes head own (stages.Publishing listing notes) passes ask (told.Disk answer) is true_it = record { own = own; stage = passes }
-  stage_passes head own (stages.Publishing listing notes) passes ask (told.Core (Ok effect)) is true_it = published_passes head own listing notes effect
-  stage_passes head own (stages.Publishing listing notes) passes ask (told.Core (Err refusal)) is true_it =
+  stage_passes head own (stages.Listing lister base notes) passes ask (told.Core answer) is was = record { own = own; stage = passes }
+  stage_passes head own (stages.Publishing listing notes) passes ask (told.Disk answer) is was = record { own = own; stage = passes }
+  stage_passes head own (stages.Publishing listing notes) passes ask (told.Core (Ok effect)) is was = published_passes head own listing notes effect
+  stage_passes head own (stages.Publishing listing notes) passes ask (told.Core (Err refusal)) is was =
       record { own = own; stage = refused_passes head own (of_refusal refusal) }
-  stage_passes head own (stages.Done reply) passes ask answer is true_it = record { own = own; stage = passes }
+  stage_passes head own (stages.Done reply) passes ask answer is was = record { own = own; stage = passes }
 
   -- a look-up that passes the folders in order goes on so
   pub look_passes_on : (look : LookUp) → IsLookPassing look → (ask : PartAsk) (answer : Answer) → ask_at look.stage ≡ Some ask
-      → IsTrue Shown Loosely setting hash query id ask answer → IsLookPassing (fed setting look answer)
-  look_passes_on look passing ask answer is true_it =
+      → WasTold exchanges ask answer → IsLookPassing (fed setting look answer)
+  look_passes_on look passing ask answer is was =
       stage_passes (seen look.head answer) (record { query_is = passing.own.query_is; id_is = passing.own.id_is })
-      look.stage passing.stage ask answer is true_it
+      look.stage passing.stage ask answer is was
 
   pub passes_at_start : (view : View) → IsLookPassing (started setting view query id)
   passes_at_start view = record { own = record { query_is = refl; id_is = refl }; stage = by view.read }

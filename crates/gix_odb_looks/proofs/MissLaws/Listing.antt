@@ -24,14 +24,14 @@ use Rattle.gix_odb_packs.specs.declared.lister.ListStage.{ListStage}
 use Rattle.gix_odb_packs.specs.declared.lister.ListStage.TheVariants as stages
 use Rattle.gix_odb_packs.specs.declared.lister.ListStep.{ListStep}
 use Rattle.gix_odb_packs.specs.declared.lister.ListStep.TheVariants as ends
-use Rattle.gix_odb_calls.specs.declared.query.Query.{Query}
 use Rattle.gix_odb_looks.specs.Exchange.{Exchange}
-use Rattle.gix_odb_looks.specs.Fair.{Place, Stream, IsFair, index_at, stream_by, stream_in}
+use Rattle.gix_odb_looks.specs.Fair.{PackedPlace, IsFair, index_at}
+use Rattle.gix_odb_looks.specs.Stream.{Stream, stream_by, stream_in}
 use Rattle.gix_odb_packs.proofs.ReachLemmas.{first_or_later, none_in}
 use Rattle.gix_odb_looks.proofs.MissLaws.Lists.{drop_none, here_or_behind, nothing_ahead}
 use Rattle.gix_odb_looks.proofs.MissLaws.Rows.{AreFiles, HasName, path_kept}
 
-module _ (limit : Option ℕ) (hash : Kind) (query : Query) (id : ObjectId) (place : Place) (folders : List Path) where
+module _ (hash : Kind) (id : ObjectId) (place : PackedPlace) (folders : List Path) where
   -- ---- what is known of a listing
 
   -- the place's index has a row
@@ -47,9 +47,9 @@ module _ (limit : Option ℕ) (hash : Kind) (query : Query) (id : ObjectId) (pla
   IsLeft head left = Contains left (index_at place) ⊎ IsComing head
 
   -- the stream of the place's folder gave these entries, those of the index's name as files
-  pub record IsReading (stream : Option Stream) (head : ListHead) (entries : List Entry) : Type 0 where
+  pub record IsReading (stream : Option Stream) (head : ListHead) (dir : ℕ) (entries : List Entry) : Type 0 where
     pub folder : head.folder ≡ pack_folder place.folder
-    pub stream_is : stream ≡ Some (record { folder = head.folder; entries = entries })
+    pub stream_is : stream ≡ Some (record { folder = head.folder; dir = dir; entries = entries })
     pub files : AreFiles place.name entries
 
   pub record IsRead (head : ListHead) (entries : List Entry) : Type 0 where
@@ -59,7 +59,7 @@ module _ (limit : Option ℕ) (hash : Kind) (query : Query) (id : ObjectId) (pla
 
   abbrev pub IsOnWay : Option Stream → ListHead → ListStage → Type 0
   IsOnWay stream head stages.Opening = (head.folder ≡ pack_folder place.folder) ⊎ IsComing head
-  IsOnWay stream head (stages.Reading dir entries) = IsReading stream head entries ⊎ IsComing head
+  IsOnWay stream head (stages.Reading dir entries) = IsReading stream head dir entries ⊎ IsComing head
   IsOnWay stream head (stages.Closing dir entries) = IsRead head entries ⊎ IsComing head
   IsOnWay stream head (stages.Breaking dir) = Unit {0}
   IsOnWay stream head (stages.Index path left) = (path ≡ index_at place) ⊎ IsLeft head left
@@ -105,7 +105,7 @@ module _ (limit : Option ℕ) (hash : Kind) (query : Query) (id : ObjectId) (pla
 
   module _ (past : List Exchange) (head : ListHead) where
     abbrev FairAt : ListStage → DiskAnswer → Type 0
-    FairAt stage answer = IsFair limit hash query id place past (part_asks.Disk (ask_at head.folder stage)) (told.Disk answer)
+    FairAt stage answer = IsFair hash id place past (part_asks.Disk (ask_at head.folder stage)) (told.Disk answer)
 
     -- the stream behind the answer
     abbrev stream_then : ListStage → DiskAnswer → Option Stream
@@ -124,7 +124,7 @@ module _ (limit : Option ℕ) (hash : Kind) (query : Query) (id : ObjectId) (pla
     open_goes answer fair way = tt
 
     read_goes : (dir : ℕ) (entries : List Entry) (answer : DiskAnswer) → FairAt (stages.Reading dir entries) answer
-        → IsReading (stream_in past) head entries ⊎ IsComing head → Goes (stages.Reading dir entries) answer (read head dir entries answer)
+        → IsReading (stream_in past) head dir entries ⊎ IsComing head → Goes (stages.Reading dir entries) answer (read head dir entries answer)
     read_goes dir entries (answers.Entry entry) fair (inl here) =
         let own : entry.name ≡ place.name → entry.kind ≡ kinds.File = (rw here.stream_is at fair) here.folder in
         inl (record {
@@ -190,7 +190,7 @@ module _ (limit : Option ℕ) (hash : Kind) (query : Query) (id : ObjectId) (pla
         → Goes stage answer (fed_at folders head stage answer)
     listing_goes stages.Opening way answer fair = open_goes answer fair way
     listing_goes (stages.Reading dir entries) way answer fair = read_goes dir entries answer fair way
-    listing_goes (stages.Closing dir entries) way answer fair = close_goes (stream_in past) entries way
+    listing_goes (stages.Closing dir entries) way answer fair = close_goes None entries way
     listing_goes (stages.Breaking dir) way answer fair = tt
     listing_goes (stages.Index path left) way answer fair = index_goes path left answer fair way
     listing_goes (stages.Pack row left) way answer fair = pack_goes row left answer fair way

@@ -42,7 +42,9 @@ use Rattle.gix_odb_calls.specs.declared.query.Query.{Query}
 use Rattle.gix_odb_calls.specs.declared.verdict.Verdict.{Verdict}
 use Rattle.gix_odb_calls.specs.declared.verdict.Verdict.TheVariants as verdicts
 use Rattle.gix_odb_looks.specs.Exchange.{Exchange, AreAsked, behind}
-use Rattle.gix_odb_looks.specs.Fair.{AreFair, IsFair, IsViewFair, Place, Stream, index_at, pack_at, stream_by, stream_from, stream_in}
+use Rattle.gix_odb_looks.specs.Fair.{AreFair, IsFair, IsViewFair, PackedPlace, index_at, pack_at}
+use Rattle.gix_odb_looks.specs.Stream.{Stream, stream_by, stream_in}
+use Rattle.gix_odb_looks.proofs.StreamLaws.Exchanges.{stream_in-push}
 use Rattle.gix_odb_looks.specs.LoadIndex.{of_refusal}
 use Rattle.gix_odb_looks.specs.LookUpOrder.{Setting, after_list, after_loose, ask_at, at_folder, by_listed, by_look, by_published, by_reply, by_tried}
 use Rattle.gix_odb_looks.specs.LookUpOrder.{by_verdict}
@@ -64,12 +66,6 @@ use Rattle.gix_odb_looks.proofs.MissLaws.Replies.{EndsNoMiss, IsMiss, found_is_n
 use Rattle.gix_odb_looks.proofs.MissLaws.Rows.{longest_first_has}
 use Rattle.gix_odb_looks.proofs.MissLaws.Trying.{lead_if_fair, try_goes}
 
--- the stream behind one exchange more
-stream_push : (before : Option Stream) (past : List Exchange) (exchange : Exchange)
-    → stream_from before (past ++ exchange ∷ []) ≡ stream_by (stream_from before past) exchange.ask exchange.answer
-stream_push before [] exchange = refl
-stream_push before (first ∷ past) exchange = stream_push (stream_by before first.ask first.answer) past exchange
-
 -- a list that was tried before any listing
 abbrev pub IsEarly : Part → Type 0
 IsEarly parts.Snapshot = Unit {0}
@@ -86,10 +82,10 @@ IsNoCheck purposes.Again = Unit {0}
 abbrev tries_view : Setting → LookHead → View → Notes → Tried
 tries_view setting head view notes = seek (goal_of setting head) (record { indices = view.snapshot.indices; todo = view.todo; notes = notes })
 
-module _ (setting : Setting) (hash : Kind) (query : Query) (id : ObjectId) (of_hash : kind_of id ≡ hash) (place : Place)
+module _ (setting : Setting) (hash : Kind) (query : Query) (id : ObjectId) (of_hash : kind_of id ≡ hash) (place : PackedPlace)
     (among : Contains (folders_of setting) place.folder) where
   abbrev pub RowThere : List ListingRow → Type 0
-  RowThere rows = HasRow setting.limit hash query id place setting.folders rows
+  RowThere rows = HasRow hash id place setting.folders rows
 
   -- a list that the look-up published itself leads to the object
   abbrev pub TriesOn : Part → Trier → Type 0
@@ -103,7 +99,7 @@ module _ (setting : Setting) (hash : Kind) (query : Query) (id : ObjectId) (of_h
   IsOn stream (stages.Loose round call) = IsEarly round.part
   IsOn stream (stages.Looking purpose notes) = IsNoCheck purpose
   IsOn stream (stages.Listing lister base notes) =
-      (notes.absent ≡ []) × IsOnWay setting.limit hash query id place setting.folders stream lister.head lister.stage
+      (notes.absent ≡ []) × IsOnWay hash id place setting.folders stream lister.head lister.stage
   IsOn stream (stages.Publishing listing notes) = (notes.absent ≡ []) × RowThere listing.rows
   IsOn stream (stages.Done reply) = ¬ (IsMiss query reply)
 
@@ -118,7 +114,7 @@ module _ (setting : Setting) (hash : Kind) (query : Query) (id : ObjectId) (of_h
 
   module _ (stream : Option Stream) (head : LookHead) where
     listing_on : (base : ℕ) (notes : Notes) → IsOn stream (listing_from setting base notes)
-    listing_on base notes = (refl, begins setting.limit hash query id place setting.folders setting.objects stream among)
+    listing_on base notes = (refl, begins hash id place setting.folders setting.objects stream among)
 
     -- ---- lists
 
@@ -194,7 +190,7 @@ module _ (setting : Setting) (hash : Kind) (query : Query) (id : ObjectId) (of_h
 
     -- ---- listings
 
-    listed_goes : (base : ℕ) (notes : Notes) → notes.absent ≡ [] → (step : ListStep) → StepsOn setting.limit hash query id place setting.folders stream step
+    listed_goes : (base : ℕ) (notes : Notes) → notes.absent ≡ [] → (step : ListStep) → StepsOn hash id place setting.folders stream step
         → IsOn stream (by_listed base notes step)
     listed_goes base notes none (listed.More lister) on = (none, on)
     listed_goes base notes none (listed.Rows rows) on = (none, (on.0, longest_first_has rows on.0 on.1, on.2))
@@ -207,14 +203,14 @@ module _ (setting : Setting) (hash : Kind) (query : Query) (id : ObjectId) (of_h
 
   -- the view that a publish hands over has the index, loaded or still to be loaded
   view_goes : (stream : Option Stream) (head : LookHead) → IsFor head → (listing : Listing) → RowThere listing.rows → (notes : Notes) → notes.absent ≡ []
-      → (view : View) → IsViewFair setting.limit hash query id place view
+      → (view : View) → IsViewFair hash id place view
       → ((row : ListingRow) → Contains listing.rows row → (slot : ℕ) × IsListed view slot row)
       → IsOn stream (try_view setting head (parts.Published view.list_no) view view.todo notes)
   view_goes stream head own listing has notes none view fair rows =
       published_goes stream head view.list_no (tries_view setting head view notes)
       (seek_goes hash id (index_at place) (goal_of setting head) own.id_is (record { indices = view.snapshot.indices; todo = view.todo; notes = notes })
       (record {
-        lead = lead_if_fair setting.limit hash query id place view.snapshot.indices fair.indices;
+        lead = lead_if_fair hash id place view.snapshot.indices fair.indices;
         present = subst (IsPresent (pack_at place)) (sym none) (present_at_first (pack_at place));
       })
       (ahead (rows has.0 has.1).0 (rows has.0 has.1).1))
@@ -228,7 +224,7 @@ module _ (setting : Setting) (hash : Kind) (query : Query) (id : ObjectId) (of_h
   rows_in listing view all row has = All-contains (λ (r : ListingRow). (slot : ℕ) × IsListed view slot r) listing.rows row all has
 
   publish_goes : (stream : Option Stream) (past : List Exchange) (head : LookHead) → IsFor head → (listing : Listing) (notes : Notes) → notes.absent ≡ []
-      → RowThere listing.rows → (effect : Effect) → IsFair setting.limit hash query id place past (asks.Core (events.Publish listing)) (told.Core (Ok effect))
+      → RowThere listing.rows → (effect : Effect) → IsFair hash id place past (asks.Core (events.Publish listing)) (told.Core (Ok effect))
       → IsLookOn stream (by_published setting head listing notes effect)
   publish_goes stream past head own listing notes none has (effects.Published view) fair =
       let own_too : IsFor (with_own head) = record { query_is = own.query_is; id_is = own.id_is } in
@@ -246,18 +242,18 @@ module _ (setting : Setting) (hash : Kind) (query : Query) (id : ObjectId) (of_h
 
   -- an answer to what the stage asks
   stage_goes : (past : List Exchange) (head : LookHead) → IsFor head → (stage : LookStage) → IsOn (stream_in past) stage → (ask : PartAsk) (answer : Answer)
-      → ask_at stage ≡ Some ask → IsFair setting.limit hash query id place past ask answer
+      → ask_at stage ≡ Some ask → IsFair hash id place past ask answer
       → IsLookOn (stream_by (stream_in past) ask answer) (fed_at setting head stage answer)
   stage_goes past head own (stages.Trying trier part) on ask answer is fair =
       let own_ask = same_Some _ ask is in
-      let fair_there = subst (λ (a : PartAsk). IsFair setting.limit hash query id place past a answer) (sym own_ask) fair in
+      let fair_there = subst (λ (a : PartAsk). IsFair hash id place past a answer) (sym own_ask) fair in
       record { own = own; stage = tried_goes (stream_by (stream_in past) ask answer) head part (trier_fed trier answer) (by part on fair_there) }
     where
-      by : (p : Part) → TriesOn p trier → IsFair setting.limit hash query id place past (tries.ask_of trier) answer
+      by : (p : Part) → TriesOn p trier → IsFair hash id place past (tries.ask_of trier) answer
           → IsEarly p ⊎ IsNoMiss hash id (index_at place) (trier_fed trier answer)
       by parts.Snapshot tries_on fair_there = inl tt
       by (parts.List list_no loose) tries_on fair_there = inl tt
-      by (parts.Published list_no) tries_on fair_there = inr (try_goes setting.limit hash query id place past of_hash trier tries_on answer fair_there)
+      by (parts.Published list_no) tries_on fair_there = inr (try_goes hash id place past of_hash trier tries_on answer fair_there)
   stage_goes past head own (stages.Loose round call) on ask (told.Disk answer) is fair =
       record {
         own = own;
@@ -278,21 +274,21 @@ module _ (setting : Setting) (hash : Kind) (query : Query) (id : ObjectId) (of_h
         stage =
             listed_goes (stream_by (stream_in past) (asks.Disk (lists.ask_of lister)) (told.Disk answer)) head base notes on.0
             (lister_fed setting lister answer)
-            (listing_goes setting.limit hash query id place setting.folders past lister.head lister.stage on.1 answer
-            (subst (λ (a : PartAsk). IsFair setting.limit hash query id place past a (told.Disk answer)) (sym own_ask) fair));
+            (listing_goes hash id place setting.folders past lister.head lister.stage on.1 answer
+            (subst (λ (a : PartAsk). IsFair hash id place past a (told.Disk answer)) (sym own_ask) fair));
       })
   stage_goes past head own (stages.Listing lister base notes) on ask (told.Core answer) is fair =
-      absurd (subst (λ (a : PartAsk). IsFair setting.limit hash query id place past a (told.Core answer)) (sym (same_Some _ ask is)) fair)
+      absurd (subst (λ (a : PartAsk). IsFair hash id place past a (told.Core answer)) (sym (same_Some _ ask is)) fair)
   stage_goes past head own (stages.Publishing listing notes) on ask (told.Disk answer) is fair = record { own = own; stage = on }
   stage_goes past head own (stages.Publishing listing notes) on ask (told.Core (Ok effect)) is fair =
       publish_goes (stream_by (stream_in past) ask (told.Core (Ok effect))) past head own listing notes on.0 on.1 effect
-      (subst (λ (a : PartAsk). IsFair setting.limit hash query id place past a (told.Core (Ok effect))) (sym (same_Some _ ask is)) fair)
+      (subst (λ (a : PartAsk). IsFair hash id place past a (told.Core (Ok effect))) (sym (same_Some _ ask is)) fair)
   stage_goes past head own (stages.Publishing listing notes) on ask (told.Core (Err refusal)) is fair =
       record { own = own; stage = refused_is_no_miss query (call_errors.Find (find_errors.LoadIndex (of_refusal refusal))) }
   stage_goes past head own (stages.Done reply) on ask answer is fair = absurd (cc is)
 
   look_on : (past : List Exchange) (look : LookUp) → IsLookOn (stream_in past) look → (ask : PartAsk) (answer : Answer) → ask_at look.stage ≡ Some ask
-      → IsFair setting.limit hash query id place past ask answer → IsLookOn (stream_by (stream_in past) ask answer) (fed setting look answer)
+      → IsFair hash id place past ask answer → IsLookOn (stream_by (stream_in past) ask answer) (fed setting look answer)
   look_on past look on ask answer is fair =
       stage_goes past (seen look.head answer) (record { query_is = on.own.query_is; id_is = on.own.id_is }) look.stage on.stage ask answer is fair
 
@@ -303,12 +299,12 @@ module _ (setting : Setting) (hash : Kind) (query : Query) (id : ObjectId) (of_h
   no_miss_at stream head stage on is = cc is
 
   pub never_missed : (past : List Exchange) (look : LookUp) → IsLookOn (stream_in past) look → (exchanges : List Exchange) → AreAsked setting look exchanges
-      → AreFair setting.limit hash query id place past exchanges → ¬ (result_of (behind setting look exchanges) ≡ Ok (not_found query))
+      → AreFair hash id place past exchanges → ¬ (result_of (behind setting look exchanges) ≡ Ok (not_found query))
   never_missed past look on [] asked fair = no_miss_at (stream_in past) look.head look.stage on.stage
   never_missed past look on (exchange ∷ exchanges) asked fair =
       let next = look_on past look on exchange.ask exchange.answer asked.0 fair.0 in
       never_missed (past ++ exchange ∷ []) (fed setting look exchange.answer)
-      (subst (λ (s : Option Stream). IsLookOn s (fed setting look exchange.answer)) (sym (stream_push None past exchange)) next) exchanges asked.1 fair.1
+      (subst (λ (s : Option Stream). IsLookOn s (fed setting look exchange.answer)) (sym (stream_in-push past exchange)) next) exchanges asked.1 fair.1
 
   -- a new look-up is on its track
   pub starts : (view : View) → IsLookOn None (started setting view query id)

@@ -1,5 +1,5 @@
 -- Trying indices among which is that of a place that an object lies at: with fair answers the try never comes to a miss.
-use Rattle.std.proofs.Common.{◌≡◌, inl, inr, ℕ, Bool, true, false, cond, List, [], ◌∷◌, Option, Some, unwrap_or, Result, Ok, Err, refl, sym, ap, ◌∙◌, subst}
+use Rattle.std.proofs.Common.{◌≡◌, inl, inr, ℕ, Bool, true, false, cond, List, [], ◌∷◌, Some, unwrap_or, Result, Ok, Err, refl, sym, ap, ◌∙◌, subst}
 use Rattle.std.specs.List.{All}
 use Rattle.std.proofs.lemmas.Bool.{cond-true}
 use Rattle.std.proofs.lemmas.List.Elements.{All-weaker}
@@ -37,13 +37,12 @@ use Rattle.gix_odb_packs.specs.declared.trier.Tried.TheVariants as ends
 use Rattle.gix_odb_packs.specs.declared.trier.Trier.{Trier}
 use Rattle.gix_odb_packs.proofs.ReachLaws.{HasTodo, IsNoMiss, IsOnWay, IsSearchable, IsTracked, LeadsIfThere, passed_goes, seek_goes, stored_goes}
 use Rattle.gix_odb_packs.proofs.ReachLemmas.{Leads}
-use Rattle.gix_odb_calls.specs.declared.query.Query.{Query}
 use Rattle.gix_odb_looks.specs.Exchange.{Exchange}
-use Rattle.gix_odb_looks.specs.Fair.{IsFair, IsIndexFair, IsViewFair, Place, index_at, pack_at}
+use Rattle.gix_odb_looks.specs.Fair.{IsFair, IsIndexFair, IsViewFair, PackedPlace, index_at, pack_at}
 use Rattle.gix_odb_looks.specs.Found.{Gives}
 
-module _ (limit : Option ℕ) (hash : Kind) (query : Query) (id : ObjectId) (place : Place) where
-  leads_fair : (index : SnapshotIndex) → IsIndexFair limit hash query id place index → Leads (pack_at place) hash id index
+module _ (hash : Kind) (id : ObjectId) (place : PackedPlace) where
+  leads_fair : (index : SnapshotIndex) → IsIndexFair hash id place index → Leads (pack_at place) hash id index
   leads_fair index fair =
       record {
         file = fair.file;
@@ -56,15 +55,15 @@ module _ (limit : Option ℕ) (hash : Kind) (query : Query) (id : ObjectId) (pla
       }
 
   pub lead_if_fair : (indices : List SnapshotIndex)
-      → All (λ (index : SnapshotIndex). index.path ≡ index_at place → IsIndexFair limit hash query id place index) indices
+      → All (λ (index : SnapshotIndex). index.path ≡ index_at place → IsIndexFair hash id place index) indices
       → All (LeadsIfThere hash id (index_at place)) indices
   lead_if_fair indices fair =
-      All-weaker (λ (index : SnapshotIndex). index.path ≡ index_at place → IsIndexFair limit hash query id place index) (LeadsIfThere hash id (index_at place))
+      All-weaker (λ (index : SnapshotIndex). index.path ≡ index_at place → IsIndexFair hash id place index) (LeadsIfThere hash id (index_at place))
       (λ index sound there. leads_fair index (sound there)) indices fair
 
   module _ (past : List Exchange) (of_hash : kind_of id ≡ hash) where
     abbrev FairAt : Stage → Answer → Type 0
-    FairAt stage answer = IsFair limit hash query id place past (ask_at stage) answer
+    FairAt stage answer = IsFair hash id place past (ask_at stage) answer
 
     abbrev NoMiss : Tried → Type 0
     NoMiss = IsNoMiss hash id (index_at place)
@@ -134,7 +133,7 @@ module _ (limit : Option ℕ) (hash : Kind) (query : Query) (id : ObjectId) (pla
 
       -- ---- an answer
 
-      views_lead : (effect : Effect) → ((view : View) → view_in (Ok effect) ≡ Some view → IsViewFair limit hash query id place view) → (view : View)
+      views_lead : (effect : Effect) → ((view : View) → view_in (Ok effect) ≡ Some view → IsViewFair hash id place view) → (view : View)
           → view_in (Ok effect) ≡ Some view
           → All (LeadsIfThere hash id (index_at place)) view.snapshot.indices × All (LeadsIfThere hash id (index_at place)) view.snapshot.kept
       views_lead effect fair view is =

@@ -1,5 +1,5 @@
 -- What is left behind a look at the core, and behind a publish.
-use Rattle.std.proofs.Common.{◌≡◌, ◌≢◌, ℕ, suc, ◌+◌, ◌-◌, ◌≤◌, ◌<◌, Bool, true, false, ◌==◌, nat_lt, cond, length, Some, unwrap_or, Ok, refl, arith}
+use Rattle.std.proofs.Common.{Option, ◌≡◌, ◌≢◌, ℕ, suc, ◌+◌, ◌-◌, ◌≤◌, ◌<◌, Bool, true, false, ◌==◌, nat_lt, cond, length, Some, unwrap_or, Ok, refl, arith}
 use Rattle.std.proofs.lemmas.Bool.{eqb-false, ltb-false}
 use Rattle.gix_odb_slots.specs.declared.listing.Listing.{Listing}
 use Rattle.gix_odb_core.specs.declared.event.Effect.TheVariants as effects
@@ -10,6 +10,7 @@ use Rattle.gix_odb_packs.specs.declared.search.Notes.{Notes}
 use Rattle.gix_odb_calls.specs.declared.call.Reply.{Reply}
 use Rattle.gix_odb_calls.specs.declared.load_index.Error.TheVariants as load_errors
 use Rattle.gix_odb_looks.specs.Laps.{HasFew}
+use Rattle.gix_odb_looks.specs.Stream.{Stream}
 use Rattle.gix_odb_looks.specs.LookUpOrder.{by_look, by_published, counted, ended, first_of, is_unsettled, listing_from}
 use Rattle.gix_odb_looks.specs.LookUpOrder.{load_refused, not_found, seen, try_view, unsettled, with_own}
 use Rattle.gix_odb_looks.specs.declared.look_up.LookHead.{LookHead}
@@ -36,96 +37,96 @@ lists_of_others head now = now - unwrap_or head.begun now - head.own
 module _ (bounds : Bounds) where
   -- ---- a look
 
-  ended_left : (head : LookHead) (failed : Bool) (one other : Reply) (before count turns : ℕ)
-      → HasLeft bounds head (cond failed (stages.Done one) (stages.Done other)) before count turns
-  ended_left head true one other before count turns = tt
-  ended_left head false one other before count turns = tt
+  ended_left : (head : LookHead) (failed : Bool) (one other : Reply) (before : ℕ) (stream : Option Stream) (turns : ℕ)
+      → HasLeft bounds head (cond failed (stages.Done one) (stages.Done other)) before stream turns
+  ended_left head true one other before stream turns = tt
+  ended_left head false one other before stream turns = tt
 
   -- a count ends the look-up, or few lists of others were met
-  settled_left : (head : LookHead) (now before count turns : ℕ) (next : LookStage) (many : Bool) → nat_lt bounds.setting.most (lists_of_others head now) ≡ many
-      → (lists_of_others head now ≤ bounds.setting.most → HasLeft bounds head next before count turns)
-      → HasLeft bounds head (cond many (unsettled head now) next) before count turns
-  settled_left head now before count turns next true is goes = tt
-  settled_left head now before count turns next false is goes = goes (ltb-false bounds.setting.most (lists_of_others head now) is)
+  settled_left : (head : LookHead) (now before : ℕ) (stream : Option Stream) (turns : ℕ) (next : LookStage) (many : Bool) → nat_lt bounds.setting.most (lists_of_others head now) ≡ many
+      → (lists_of_others head now ≤ bounds.setting.most → HasLeft bounds head next before stream turns)
+      → HasLeft bounds head (cond many (unsettled head now) next) before stream turns
+  settled_left head now before stream turns next true is goes = tt
+  settled_left head now before stream turns next false is goes = goes (ltb-false bounds.setting.most (lists_of_others head now) is)
 
-  counted_left : (head : LookHead) (now before count turns : ℕ) (next : LookStage)
-      → (lists_of_others head now ≤ bounds.setting.most → HasLeft bounds head next before count turns)
-      → HasLeft bounds head (counted bounds.setting head now next) before count turns
-  counted_left head now before count turns next goes = settled_left head now before count turns next (is_unsettled bounds.setting head now) refl goes
+  counted_left : (head : LookHead) (now before : ℕ) (stream : Option Stream) (turns : ℕ) (next : LookStage)
+      → (lists_of_others head now ≤ bounds.setting.most → HasLeft bounds head next before stream turns)
+      → HasLeft bounds head (counted bounds.setting head now next) before stream turns
+  counted_left head now before stream turns next goes = settled_left head now before stream turns next (is_unsettled bounds.setting head now) refl goes
 
-  first_left : (head : LookHead) (loose read : Bool) (before count turns : ℕ) (view : View) (notes : Notes) → before ≤ view.list_no
+  first_left : (head : LookHead) (loose read : Bool) (before : ℕ) (stream : Option Stream) (turns : ℕ) (view : View) (notes : Notes) → before ≤ view.list_no
       → length view.snapshot.indices + length view.todo ≤ bounds.slots
       → HasFirst bounds head before (trying bounds + 1) (suc turns)
       → HasLeft bounds (shown head view)
       (cond read (try_view bounds.setting (shown head view) (parts.List view.list_no loose) view view.todo notes)
       (listing_from bounds.setting view.list_no notes))
-      view.list_no count turns
-  first_left head loose true before count turns view notes later few has =
-      view_left bounds (shown head view) (parts.List view.list_no loose) view.list_no count turns view view.todo notes few
+      view.list_no stream turns
+  first_left head loose true before stream turns view notes later few has =
+      view_left bounds (shown head view) (parts.List view.list_no loose) view.list_no stream turns view view.todo notes few
       (IsFurther-begun view has later (omega arith))
-  first_left head loose false before count turns view notes later few has =
-      listing_left bounds (shown head view) view.list_no view.list_no count turns notes (IsFurther-begun view has later (omega arith))
+  first_left head loose false before stream turns view notes later few has =
+      listing_left bounds (shown head view) view.list_no view.list_no stream turns notes (IsFurther-begun view has later (omega arith))
 
   -- where the list that was tried is no longer the newest, others published one
-  check_left : (head : LookHead) (number before count turns : ℕ) (view : View) (notes : Notes) (same : Bool) → (view.list_no == number) ≡ same
+  check_left : (head : LookHead) (number before : ℕ) (stream : Option Stream) (turns : ℕ) (view : View) (notes : Notes) (same : Bool) → (view.list_no == number) ≡ same
       → before ≤ view.list_no
       → HasFurther bounds head number before 1 (suc turns)
       → HasLeft bounds (shown head view)
       (cond same (ended head.query notes) (counted bounds.setting (shown head view) view.list_no (listing_from bounds.setting view.list_no notes)))
-      view.list_no count turns
-  check_left head number before count turns view notes true is later has =
-      ended_left (shown head view) notes.failed (load_refused load_errors.Io) (not_found head.query) view.list_no count turns
-  check_left head number before count turns view notes false is later has =
+      view.list_no stream turns
+  check_left head number before stream turns view notes true is later has =
+      ended_left (shown head view) notes.failed (load_refused load_errors.Io) (not_found head.query) view.list_no stream turns
+  check_left head number before stream turns view notes false is later has =
       let other = eqb-false view.list_no number is in
       let behind : HasFurther bounds (shown head view) number view.list_no 1 (suc turns) = IsFurther-on (seeing view) view.list_no has later (omega arith) in
       let risen : number < view.list_no = omega (arith, has.told) in
-      counted_left (shown head view) view.list_no view.list_no count turns (listing_from bounds.setting view.list_no notes)
-      (λ settled. listing_left bounds (shown head view) view.list_no view.list_no count turns notes
+      counted_left (shown head view) view.list_no view.list_no stream turns (listing_from bounds.setting view.list_no notes)
+      (λ settled. listing_left bounds (shown head view) view.list_no view.list_no stream turns notes
       (IsFurther-counted view.list_no behind risen settled (omega arith)))
 
-  pub looked_left : (head : LookHead) (purpose : Purpose) (before count turns : ℕ) (view : View) (notes : Notes) → before ≤ view.list_no
+  pub looked_left : (head : LookHead) (purpose : Purpose) (before : ℕ) (stream : Option Stream) (turns : ℕ) (view : View) (notes : Notes) → before ≤ view.list_no
       → HasFew bounds.slots view
       → OfPurpose bounds head purpose before (suc turns)
-      → HasLeft bounds (shown head view) (by_look bounds.setting (shown head view) purpose notes (Some view)) view.list_no count turns
-  looked_left head (purposes.First loose) before count turns view notes later few has =
-      first_left head loose view.read before count turns view notes later few.0 has
-  looked_left head (purposes.Check number) before count turns view notes later few has =
-      check_left head number before count turns view notes (view.list_no == number) refl later has
-  looked_left head purposes.Again before count turns view notes later few has =
+      → HasLeft bounds (shown head view) (by_look bounds.setting (shown head view) purpose notes (Some view)) view.list_no stream turns
+  looked_left head (purposes.First loose) before stream turns view notes later few has =
+      first_left head loose view.read before stream turns view notes later few.0 has
+  looked_left head (purposes.Check number) before stream turns view notes later few has =
+      check_left head number before stream turns view notes (view.list_no == number) refl later has
+  looked_left head purposes.Again before stream turns view notes later few has =
       let behind : HasFurther bounds (shown head view) before view.list_no bounds.lap turns = IsFurther-on (seeing view) view.list_no has later (omega arith) in
-      listing_left bounds (shown head view) view.list_no view.list_no count turns notes (IsFurther-later view.list_no behind later (omega arith))
+      listing_left bounds (shown head view) view.list_no view.list_no stream turns notes (IsFurther-later view.list_no behind later (omega arith))
 
   -- ---- a publish
 
-  module _ (head : LookHead) (listing : Listing) (before count turns : ℕ) (notes : Notes)
+  module _ (head : LookHead) (listing : Listing) (before : ℕ) (stream : Option Stream) (turns : ℕ) (notes : Notes)
       (has : HasFurther bounds head listing.base before (settling bounds) (suc turns)) where
     pub published_left : (view : View) → before ≤ view.list_no → view.list_no ≡ listing.base + 1 → HasFew bounds.slots view
-        → LookHasLeft bounds (by_published bounds.setting (shown head view) listing notes (effects.Published view)) view.list_no count turns
+        → LookHasLeft bounds (by_published bounds.setting (shown head view) listing notes (effects.Published view)) view.list_no stream turns
     published_left view later is few =
         let behind : HasFurther bounds (shown head view) listing.base view.list_no (trying bounds + 1) turns =
         IsFurther-on (seeing view) view.list_no has later (omega arith)
         in
-        view_left bounds (with_own (shown head view)) (parts.Published view.list_no) view.list_no count turns view view.todo notes few.0
+        view_left bounds (with_own (shown head view)) (parts.Published view.list_no) view.list_no stream turns view view.todo notes few.0
         (IsFurther-published view.list_no behind is few.1 (omega arith))
 
     pub unchanged_left : (view : View) → before ≤ view.list_no → view.list_no ≡ listing.base → HasFew bounds.slots view
-        → LookHasLeft bounds (by_published bounds.setting (shown head view) listing notes (effects.Unchanged view)) view.list_no count turns
+        → LookHasLeft bounds (by_published bounds.setting (shown head view) listing notes (effects.Unchanged view)) view.list_no stream turns
     unchanged_left view later is few =
         let behind : HasFurther bounds (shown head view) listing.base view.list_no (trying bounds + 1) turns =
         IsFurther-on (seeing view) view.list_no has later (omega arith)
         in
         let same : listing.base ≤ view.list_no = omega arith in
-        view_left bounds (shown head view) (parts.Published view.list_no) view.list_no count turns view view.todo notes few.0
+        view_left bounds (shown head view) (parts.Published view.list_no) view.list_no stream turns view view.todo notes few.0
         (IsFurther-later view.list_no behind same (omega arith))
 
     pub outdated_left : (number : ℕ) → before ≤ number → number ≢ listing.base
         → LookHasLeft bounds (by_published bounds.setting (seen head (told.Core (Ok (effects.Outdated number)))) listing notes (effects.Outdated number))
-        number count turns
+        number stream turns
     outdated_left number later other =
         let answer : Answer = told.Core (Ok (effects.Outdated number)) in
         let behind : HasFurther bounds (seen head answer) listing.base number (settling bounds) (suc turns) =
         IsFurther-on answer number has later (omega arith)
         in
         let risen : listing.base < number = omega (arith, has.told) in
-        counted_left (seen head answer) number number count turns (stages.Looking purposes.Again notes)
+        counted_left (seen head answer) number number stream turns (stages.Looking purposes.Again notes)
         (λ settled. IsFurther-counted number behind risen settled (omega arith))

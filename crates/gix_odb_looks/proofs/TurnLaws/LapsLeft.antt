@@ -8,7 +8,8 @@ use Rattle.gix_odb_packs.specs.declared.answer.Answer.{Answer}
 use Rattle.gix_odb_packs.specs.declared.answer.Answer.TheVariants as told
 use Rattle.gix_odb_packs.specs.declared.answer.PartAsk.{PartAsk}
 use Rattle.gix_odb_packs.specs.declared.answer.PartAsk.TheVariants as asks
-use Rattle.gix_odb_looks.specs.Laps.{IsAnswerTo, IsNumbered, number_by}
+use Rattle.gix_odb_looks.specs.Exchange.{IsAnswerTo}
+use Rattle.gix_odb_looks.specs.Laps.{IsNumbered, number_by}
 use Rattle.gix_odb_looks.specs.LookUpOrder.{first_of, seen, view_of, with_own}
 use Rattle.gix_odb_looks.specs.declared.look_up.LookHead.{LookHead}
 

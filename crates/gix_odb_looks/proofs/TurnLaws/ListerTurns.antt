@@ -24,7 +24,8 @@ use Rattle.gix_odb_packs.specs.declared.lister.ListStage.TheVariants as stages
 use Rattle.gix_odb_packs.specs.declared.lister.ListStep.{ListStep}
 use Rattle.gix_odb_packs.specs.declared.lister.ListStep.TheVariants as ends
 use Rattle.gix_odb_packs.specs.declared.lister.Lister.{Lister}
-use Rattle.gix_odb_looks.specs.Laps.{count_by}
+use Rattle.gix_odb_looks.specs.Laps.{HasAtMost}
+use Rattle.gix_odb_looks.specs.Stream.{Stream, opens, stream_by}
 
 -- ---- the indices of a folder are no more than its entries
 
@@ -77,18 +78,22 @@ module _ (folders : List Path) (entries : ℕ) where
   abbrev pub lister_turns : Lister → ℕ
   lister_turns lister = stage_turns lister.stage + further lister.head.next
 
-  -- a stream gave no more entries than were counted, nor than a folder has
-  abbrev IsCountedAt : (count : ℕ) → ListStage → Type 0
-  IsCountedAt count (stages.Reading dir found) = (length found ≤ count) × (length found ≤ entries)
-  IsCountedAt count stage = Unit {0}
+  -- the entries that a listing has are no more than its stream gave, nor than a folder has
+  abbrev HasGiven : Option Stream → List Entry → Type 0
+  HasGiven None found = ⊥
+  HasGiven (Some stream) found = (length found ≤ length stream.entries) × (length found ≤ entries)
 
-  abbrev pub IsCounted : (count : ℕ) → Lister → Type 0
-  IsCounted count lister = IsCountedAt count lister.stage
+  abbrev IsCountedAt : Option Stream → ListStage → Type 0
+  IsCountedAt stream (stages.Reading dir found) = HasGiven stream found
+  IsCountedAt stream stage = Unit {0}
+
+  abbrev pub IsCounted : Option Stream → Lister → Type 0
+  IsCounted stream lister = IsCountedAt stream lister.stage
 
   -- where the listing goes on, it takes at most so many turns
-  abbrev pub ListsFor : (turns count : ℕ) → ListStep → Type 0
-  ListsFor turns count (ends.More lister) = IsCounted count lister × (lister_turns lister ≤ turns)
-  ListsFor turns count step = Unit {0}
+  abbrev pub ListsFor : (turns : ℕ) (stream : Option Stream) → ListStep → Type 0
+  ListsFor turns stream (ends.More lister) = IsCounted stream lister × (lister_turns lister ≤ turns)
+  ListsFor turns stream step = Unit {0}
 
   some_turns : (stage : ListStage) → 0 < stage_turns stage
   some_turns stages.Opening = omega arith
@@ -109,82 +114,86 @@ module _ (folders : List Path) (entries : ℕ) where
       let more : (1 + (length folders - (next + 1))) * folder_turns ≤ (length folders - next) * folder_turns = mul-le-mul_right folder_turns fewer in
       omega (arith, more)
 
-  module _ (turns count : ℕ) (head : ListHead) where
-    folder_lists : (next : Option Path) → slice_get folders head.next ≡ next → further head.next ≤ turns → ListsFor turns count (behind_folder head next)
+  module _ (turns : ℕ) (stream : Option Stream) (head : ListHead) where
+    folder_lists : (next : Option Path) → slice_get folders head.next ≡ next → further head.next ≤ turns → ListsFor turns stream (behind_folder head next)
     folder_lists None is room = tt
     folder_lists (Some folder) is room = (tt, omega (arith, one_further head.next (slice_get_within folders head.next folder is)))
 
-    next_lists : further head.next ≤ turns → ListsFor turns count (behind_folder head (slice_get folders head.next))
+    next_lists : further head.next ≤ turns → ListsFor turns stream (behind_folder head (slice_get folders head.next))
     next_lists room = folder_lists (slice_get folders head.next) refl room
 
-    paths_list : (paths : List Path) → 2 * length paths + further head.next ≤ turns → ListsFor turns count (at_paths folders head paths)
+    paths_list : (paths : List Path) → 2 * length paths + further head.next ≤ turns → ListsFor turns stream (at_paths folders head paths)
     paths_list [] room = next_lists (omega arith)
     paths_list (path ∷ left) room = (tt, omega arith)
 
-    open_lists : (answer : DiskAnswer) → (3 * entries + 2) + further head.next ≤ turns → ListsFor turns count (opened folders head answer)
-    open_lists (answers.Dir dir) room = ((omega arith, omega arith), omega arith)
-    open_lists (answers.Refused disk_errors.Absent) room = next_lists (omega arith)
-    open_lists answer room = tt
-
     kind_lists : (path : Path) (left : List Path) (meta : Meta) (kind : Kind) → (2 * length left + 1) + further head.next ≤ turns
-        → ListsFor turns count (by_kind folders head path left meta kind)
+        → ListsFor turns stream (by_kind folders head path left meta kind)
     kind_lists path left meta kinds.File room = (tt, room)
     kind_lists path left meta kind room = paths_list left (omega arith)
 
     index_lists : (path : Path) (left : List Path) (answer : DiskAnswer) → (2 * length left + 1) + further head.next ≤ turns
-        → ListsFor turns count (by_index folders head path left answer)
+        → ListsFor turns stream (by_index folders head path left answer)
     index_lists path left (answers.Meta meta) room = kind_lists path left meta meta.kind room
     index_lists path left (answers.Refused disk_errors.Failed) room = tt
     index_lists path left answer room = paths_list left (omega arith)
 
-  module _ (turns count : ℕ) (head : ListHead) where
+  module _ (turns : ℕ) (stream : Option Stream) (head : ListHead) where
     pack_kind_lists : (row : ListingRow) (left : List Path) (kind : Kind) → 2 * length left + further head.next ≤ turns
-        → ListsFor turns count (by_pack_kind folders head row left kind)
-    pack_kind_lists row left kinds.File room = paths_list turns count (with_row head row) left room
-    pack_kind_lists row left kind room = paths_list turns count head left room
+        → ListsFor turns stream (by_pack_kind folders head row left kind)
+    pack_kind_lists row left kinds.File room = paths_list turns stream (with_row head row) left room
+    pack_kind_lists row left kind room = paths_list turns stream head left room
 
     pack_lists : (row : ListingRow) (left : List Path) (answer : DiskAnswer) → 2 * length left + further head.next ≤ turns
-        → ListsFor turns count (by_pack folders head row left answer)
+        → ListsFor turns stream (by_pack folders head row left answer)
     pack_lists row left (answers.Meta meta) room = pack_kind_lists row left meta.kind room
     pack_lists row left (answers.Refused disk_errors.Failed) room = tt
-    pack_lists row left answer room = paths_list turns count head left room
+    pack_lists row left answer room = paths_list turns stream head left room
 
   -- ---- one turn
 
-  -- how many entries the stream gave behind the answer
-  abbrev counted : (count : ℕ) → ListHead → ListStage → DiskAnswer → ℕ
-  counted count head stage answer = count_by count (asks.Disk (ask_at head.folder stage)) (told.Disk answer)
+  -- the stream behind the answer
+  abbrev counted : Option Stream → ListHead → ListStage → DiskAnswer → Option Stream
+  counted stream head stage answer = stream_by stream (asks.Disk (ask_at head.folder stage)) (told.Disk answer)
 
-  read_lists : (turns count : ℕ) (head : ListHead) (dir : ℕ) (found : List Entry) (answer : DiskAnswer)
-      → length found ≤ count → length found ≤ entries
-      → counted count head (stages.Reading dir found) answer ≤ entries
+  open_lists : (turns : ℕ) (head : ListHead) (answer : DiskAnswer) → (3 * entries + 2) + further head.next ≤ turns
+      → ListsFor turns (opens head.folder answer) (opened folders head answer)
+  open_lists turns head (answers.Dir dir) room = ((omega arith, omega arith), omega arith)
+  open_lists turns head (answers.Refused disk_errors.Absent) room = next_lists turns None head (omega arith)
+  open_lists turns head answer room = tt
+
+  read_lists : (turns : ℕ) (stream : Option Stream) (head : ListHead) (dir : ℕ) (found : List Entry) (answer : DiskAnswer)
+      → HasGiven stream found
+      → HasAtMost entries (counted stream head (stages.Reading dir found) answer)
       → stage_turns (stages.Reading dir found) + further head.next ≤ turns + 1
-      → ListsFor turns (counted count head (stages.Reading dir found) answer) (read head dir found answer)
-  read_lists turns count head dir found (answers.Entry entry) few within fits room =
-      let more = length-append found (entry ∷ []) in ((omega (arith, more), omega (arith, more)), omega (arith, more))
-  read_lists turns count head dir found answers.End few within fits room = (tt, omega arith)
-  read_lists turns count head dir found answer few within fits room = (tt, omega arith)
+      → ListsFor turns (counted stream head (stages.Reading dir found) answer) (read head dir found answer)
+  read_lists turns None head dir found answer few fits room = absurd few
+  read_lists turns (Some stream) head dir found (answers.Entry entry) few fits room =
+      let more = length-append found (entry ∷ []) in
+      let all = length-append stream.entries (entry ∷ []) in
+      ((omega (arith, more, all, few.0), omega (arith, more, all, few.0, fits)), omega (arith, more))
+  read_lists turns (Some stream) head dir found answers.End few fits room = (tt, omega (arith, few.1))
+  read_lists turns (Some stream) head dir found answer few fits room = (tt, omega arith)
 
-  fed_at_lists : (turns count : ℕ) (head : ListHead) (stage : ListStage) (answer : DiskAnswer)
-      → IsCountedAt count stage
-      → counted count head stage answer ≤ entries
+  fed_at_lists : (turns : ℕ) (stream : Option Stream) (head : ListHead) (stage : ListStage) (answer : DiskAnswer)
+      → IsCountedAt stream stage
+      → HasAtMost entries (counted stream head stage answer)
       → stage_turns stage + further head.next ≤ turns + 1
-      → ListsFor turns (counted count head stage answer) (fed_at folders head stage answer)
-  fed_at_lists turns count head stages.Opening answer few fits room = open_lists turns (counted count head stages.Opening answer) head answer (omega arith)
-  fed_at_lists turns count head (stages.Reading dir found) answer few fits room = read_lists turns count head dir found answer few.0 few.1 fits room
-  fed_at_lists turns count head (stages.Closing dir found) answer few fits room =
-      paths_list turns (counted count head (stages.Closing dir found) answer) head (index_paths head.folder found)
+      → ListsFor turns (counted stream head stage answer) (fed_at folders head stage answer)
+  fed_at_lists turns stream head stages.Opening answer few fits room = open_lists turns head answer (omega arith)
+  fed_at_lists turns stream head (stages.Reading dir found) answer few fits room = read_lists turns stream head dir found answer few fits room
+  fed_at_lists turns stream head (stages.Closing dir found) answer few fits room =
+      paths_list turns (counted stream head (stages.Closing dir found) answer) head (index_paths head.folder found)
       (omega (arith, length-index_paths head.folder found))
-  fed_at_lists turns count head (stages.Breaking dir) answer few fits room = tt
-  fed_at_lists turns count head (stages.Index path left) answer few fits room =
-      index_lists turns (counted count head (stages.Index path left) answer) head path left answer (omega arith)
-  fed_at_lists turns count head (stages.Pack row left) answer few fits room =
-      pack_lists turns (counted count head (stages.Pack row left) answer) head row left answer (omega arith)
+  fed_at_lists turns stream head (stages.Breaking dir) answer few fits room = tt
+  fed_at_lists turns stream head (stages.Index path left) answer few fits room =
+      index_lists turns (counted stream head (stages.Index path left) answer) head path left answer (omega arith)
+  fed_at_lists turns stream head (stages.Pack row left) answer few fits room =
+      pack_lists turns (counted stream head (stages.Pack row left) answer) head row left answer (omega arith)
 
   -- a turn of a listing takes one of its turns
-  pub fed_lists : (turns count : ℕ) (lister : Lister) (answer : DiskAnswer)
-      → IsCounted count lister
-      → count_by count (asks.Disk (ask_at lister.head.folder lister.stage)) (told.Disk answer) ≤ entries
+  pub fed_lists : (turns : ℕ) (stream : Option Stream) (lister : Lister) (answer : DiskAnswer)
+      → IsCounted stream lister
+      → HasAtMost entries (stream_by stream (asks.Disk (ask_at lister.head.folder lister.stage)) (told.Disk answer))
       → lister_turns lister ≤ turns + 1
-      → ListsFor turns (count_by count (asks.Disk (ask_at lister.head.folder lister.stage)) (told.Disk answer)) (fed folders lister answer)
-  fed_lists turns count lister answer few fits room = fed_at_lists turns count lister.head lister.stage answer few fits room
+      → ListsFor turns (stream_by stream (asks.Disk (ask_at lister.head.folder lister.stage)) (told.Disk answer)) (fed folders lister answer)
+  fed_lists turns stream lister answer few fits room = fed_at_lists turns stream lister.head lister.stage answer few fits room

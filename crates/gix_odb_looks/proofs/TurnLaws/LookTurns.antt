@@ -1,5 +1,5 @@
 -- A turn of a look-up takes one of the turns that are left.
-use Rattle.std.proofs.Common.{ℕ, suc, ◌+◌, ◌-◌, ◌≤◌, Option, Some, None, Ok, Err, refl, arith}
+use Rattle.std.proofs.Common.{ℕ, suc, ◌+◌, ◌-◌, Option, Some, None, Ok, Err, refl, arith}
 use Rattle.odb_disk.specs.declared.ask.DiskAsk.{DiskAsk}
 use Rattle.gix_odb_loose.specs.LooseOrder.{disk_ask_of}
 use Rattle.gix_odb_core.specs.Replay as core
@@ -14,7 +14,9 @@ use Rattle.gix_odb_packs.specs.declared.answer.PartAsk.TheVariants as asks
 use Rattle.gix_odb_packs.specs.declared.lister.ListStep.{ListStep}
 use Rattle.gix_odb_packs.specs.declared.lister.ListStep.TheVariants as listed
 use Rattle.gix_odb_packs.specs.declared.search.Notes.{Notes}
-use Rattle.gix_odb_looks.specs.Laps.{IsAnswerTo, IsNumbered, count_by, number_by}
+use Rattle.gix_odb_looks.specs.Laps.{HasAtMost, IsNumbered, number_by}
+use Rattle.gix_odb_looks.specs.Exchange.{IsAnswerTo}
+use Rattle.gix_odb_looks.specs.Stream.{Stream, stream_by}
 use Rattle.gix_odb_looks.specs.LookUpOrder.{ask_at, by_listed, fed_at, lister_fed, loose_ask, loose_fed, seen, trier_fed}
 use Rattle.gix_odb_looks.specs.declared.look_up.LookHead.{LookHead}
 use Rattle.gix_odb_looks.specs.declared.look_up.LookStage.{LookStage}
@@ -26,80 +28,80 @@ use Rattle.gix_odb_looks.proofs.TurnLaws.ListerTurns.{ListsFor, fed_lists, liste
 use Rattle.gix_odb_looks.proofs.TurnLaws.PartTurns.{call_left, tried_left}
 use Rattle.gix_odb_looks.proofs.TurnLaws.TrierTurns.{fed_tries}
 
--- what is told of lists and of streams, of which the last one gave so many entries before
-abbrev pub IsTold : (slots entries before count : ℕ) → Option PartAsk → Answer → Type 0
-IsTold slots entries before count None answer = ⊥
-IsTold slots entries before count (Some ask) answer = IsNumbered slots before ask answer × IsAnswerTo ask answer × (count_by count ask answer ≤ entries)
+-- what is told of lists, and of streams behind one that is open
+abbrev pub IsTold : (slots entries before : ℕ) (stream : Option Stream) → Option PartAsk → Answer → Type 0
+IsTold slots entries before stream None answer = ⊥
+IsTold slots entries before stream (Some ask) answer = IsNumbered slots before ask answer × IsAnswerTo ask answer × HasAtMost entries (stream_by stream ask answer)
 
-abbrev pub count_behind : (count : ℕ) → Option PartAsk → Answer → ℕ
-count_behind count None answer = 0
-count_behind count (Some ask) answer = count_by count ask answer
+abbrev pub stream_behind : Option Stream → Option PartAsk → Answer → Option Stream
+stream_behind stream None answer = stream
+stream_behind stream (Some ask) answer = stream_by stream ask answer
 
 -- a folder of loose objects asks for no event
-no_event : (slots entries before count : ℕ) (asked : Option DiskAsk) (answer : core.Answer)
-    → ¬ (IsTold slots entries before count (loose_ask asked) (told.Core answer))
-no_event slots entries before count None answer is = is
-no_event slots entries before count (Some ask) answer is = is.1
+no_event : (slots entries before : ℕ) (stream : Option Stream) (asked : Option DiskAsk) (answer : core.Answer)
+    → ¬ (IsTold slots entries before stream (loose_ask asked) (told.Core answer))
+no_event slots entries before stream None answer is = is
+no_event slots entries before stream (Some ask) answer is = is.1
 
 module _ (bounds : Bounds) where
-  listed_left : (head : LookHead) (base before count turns room : ℕ) (notes : Notes) (step : ListStep)
-      → ListsFor bounds.setting.folders bounds.entries room count step
+  listed_left : (head : LookHead) (base before : ℕ) (stream : Option Stream) (turns room : ℕ) (notes : Notes) (step : ListStep)
+      → ListsFor bounds.setting.folders bounds.entries room stream step
       → HasFurther bounds head base before (room + settling bounds) turns
-      → HasLeft bounds head (by_listed base notes step) before count turns
-  listed_left head base before count turns room notes (listed.More lister) few has = (few.0, IsFurther-less has (omega (arith, few.1)))
-  listed_left head base before count turns room notes (listed.Rows rows) few has = IsFurther-less has (omega arith)
-  listed_left head base before count turns room notes listed.Broken few has = tt
+      → HasLeft bounds head (by_listed base notes step) before stream turns
+  listed_left head base before stream turns room notes (listed.More lister) few has = (few.0, IsFurther-less has (omega (arith, few.1)))
+  listed_left head base before stream turns room notes (listed.Rows rows) few has = IsFurther-less has (omega arith)
+  listed_left head base before stream turns room notes listed.Broken few has = tt
 
-  pub fed_left : (head : LookHead) (stage : LookStage) (before count turns : ℕ) (answer : Answer)
-      → IsTold bounds.slots bounds.entries before count (ask_at stage) answer
-      → HasLeft bounds head stage before count (suc turns)
-      → LookHasLeft bounds (fed_at bounds.setting (seen head answer) stage answer) (number_by before answer) (count_behind count (ask_at stage) answer) turns
-  fed_left head (stages.Trying trier part) before count turns answer is has =
+  pub fed_left : (head : LookHead) (stage : LookStage) (before : ℕ) (stream : Option Stream) (turns : ℕ) (answer : Answer)
+      → IsTold bounds.slots bounds.entries before stream (ask_at stage) answer
+      → HasLeft bounds head stage before stream (suc turns)
+      → LookHasLeft bounds (fed_at bounds.setting (seen head answer) stage answer) (number_by before answer) (stream_behind stream (ask_at stage) answer) turns
+  fed_left head (stages.Trying trier part) before stream turns answer is has =
       let some = trier_turns-pos trier in
       let room = trier_turns trier - 1 in
-      let now = count_by count (tries.ask_of trier) answer in
+      let now = stream_by stream (tries.ask_of trier) answer in
       tried_left bounds (seen head answer) part (number_by before answer) now turns room (trier_fed trier answer)
       (fed_tries room trier answer is.1 (omega arith))
       (OfPart-on bounds head part before (trier_turns trier + folders bounds + 1) (suc turns) (room + folders bounds + 1) turns answer has
       (rises bounds.slots before (tries.ask_of trier) answer is.1 is.0)
       (omega arith))
-  fed_left head (stages.Loose round call) before count turns (told.Disk answer) is has =
+  fed_left head (stages.Loose round call) before stream turns (told.Disk answer) is has =
       let reply = has.0 answer in
-      let now = count_behind count (loose_ask (disk_ask_of call)) (told.Disk answer) in
+      let now = stream_behind stream (loose_ask (disk_ask_of call)) (told.Disk answer) in
       call_left bounds (seen head (told.Disk answer)) round before now turns (loose_fed call answer) reply.0 reply.1
       (OfPart-on bounds head round.part before ((folders bounds - round.next) + 1) (suc turns) (folders bounds - round.next) turns (told.Disk answer) has.1
       (omega arith)
       (omega arith))
-  fed_left head (stages.Loose round call) before count turns (told.Core answer) is has =
-      absurd (no_event bounds.slots bounds.entries before count (disk_ask_of call) answer is)
-  fed_left head (stages.Looking purpose notes) before count turns (told.Disk answer) is has = absurd is.1
-  fed_left head (stages.Looking purpose notes) before count turns (told.Core (Err refusal)) is has = tt
-  fed_left head (stages.Looking purpose notes) before count turns (told.Core (Ok (effects.Seen view))) is has =
-      looked_left bounds head purpose before 0 turns view notes is.0.0 (is.0.2 view refl) has
-  fed_left head (stages.Looking purpose notes) before count turns (told.Core (Ok (effects.Reported view report))) is has =
-      looked_left bounds head purpose before 0 turns view notes is.0.0 (is.0.2 view refl) has
-  fed_left head (stages.Looking purpose notes) before count turns (told.Core (Ok (effects.Put view stored))) is has =
-      looked_left bounds head purpose before 0 turns view notes is.0.0 (is.0.2 view refl) has
-  fed_left head (stages.Looking purpose notes) before count turns (told.Core (Ok (effects.Published view))) is has =
-      looked_left bounds head purpose before 0 turns view notes is.0.0 (is.0.2 view refl) has
-  fed_left head (stages.Looking purpose notes) before count turns (told.Core (Ok (effects.Unchanged view))) is has =
-      looked_left bounds head purpose before 0 turns view notes is.0.0 (is.0.2 view refl) has
-  fed_left head (stages.Looking purpose notes) before count turns (told.Core (Ok effect)) is has = absurd (cc is.1.1)
-  fed_left head (stages.Listing lister base notes) before count turns (told.Disk answer) is has =
+  fed_left head (stages.Loose round call) before stream turns (told.Core answer) is has =
+      absurd (no_event bounds.slots bounds.entries before stream (disk_ask_of call) answer is)
+  fed_left head (stages.Looking purpose notes) before stream turns (told.Disk answer) is has = absurd is.1
+  fed_left head (stages.Looking purpose notes) before stream turns (told.Core (Err refusal)) is has = tt
+  fed_left head (stages.Looking purpose notes) before stream turns (told.Core (Ok (effects.Seen view))) is has =
+      looked_left bounds head purpose before stream turns view notes is.0.0 (is.0.2 view refl) has
+  fed_left head (stages.Looking purpose notes) before stream turns (told.Core (Ok (effects.Reported view report))) is has =
+      looked_left bounds head purpose before stream turns view notes is.0.0 (is.0.2 view refl) has
+  fed_left head (stages.Looking purpose notes) before stream turns (told.Core (Ok (effects.Put view stored))) is has =
+      looked_left bounds head purpose before stream turns view notes is.0.0 (is.0.2 view refl) has
+  fed_left head (stages.Looking purpose notes) before stream turns (told.Core (Ok (effects.Published view))) is has =
+      looked_left bounds head purpose before stream turns view notes is.0.0 (is.0.2 view refl) has
+  fed_left head (stages.Looking purpose notes) before stream turns (told.Core (Ok (effects.Unchanged view))) is has =
+      looked_left bounds head purpose before stream turns view notes is.0.0 (is.0.2 view refl) has
+  fed_left head (stages.Looking purpose notes) before stream turns (told.Core (Ok effect)) is has = absurd (cc is.1.1)
+  fed_left head (stages.Listing lister base notes) before stream turns (told.Disk answer) is has =
       let some = lister_turns-pos bounds.setting.folders bounds.entries lister in
       let room = lister_turns bounds.setting.folders bounds.entries lister - 1 in
-      let now = count_by count (asks.Disk (lists.ask_of lister)) (told.Disk answer) in
+      let now = stream_by stream (asks.Disk (lists.ask_of lister)) (told.Disk answer) in
       listed_left (seen head (told.Disk answer)) base before now turns room notes (lister_fed bounds.setting lister answer)
-      (fed_lists bounds.setting.folders bounds.entries room count lister answer has.0 is.2 (omega arith))
+      (fed_lists bounds.setting.folders bounds.entries room stream lister answer has.0 is.2 (omega arith))
       (IsFurther-on (told.Disk answer) before has.1 (omega arith) (omega arith))
-  fed_left head (stages.Listing lister base notes) before count turns (told.Core answer) is has = absurd is.1
-  fed_left head (stages.Publishing rows notes) before count turns (told.Disk answer) is has = absurd is.1
-  fed_left head (stages.Publishing rows notes) before count turns (told.Core (Err refusal)) is has = tt
-  fed_left head (stages.Publishing rows notes) before count turns (told.Core (Ok (effects.Published view))) is has =
-      published_left bounds head rows before 0 turns notes has view is.0.0 is.0.1 (is.0.2 view refl)
-  fed_left head (stages.Publishing rows notes) before count turns (told.Core (Ok (effects.Unchanged view))) is has =
-      unchanged_left bounds head rows before 0 turns notes has view is.0.0 is.0.1 (is.0.2 view refl)
-  fed_left head (stages.Publishing rows notes) before count turns (told.Core (Ok (effects.Outdated number))) is has =
-      outdated_left bounds head rows before 0 turns notes has number is.0.0 is.0.1.0
-  fed_left head (stages.Publishing rows notes) before count turns (told.Core (Ok effect)) is has = absurd is.1
-  fed_left head (stages.Done reply) before count turns answer is has = absurd is
+  fed_left head (stages.Listing lister base notes) before stream turns (told.Core answer) is has = absurd is.1
+  fed_left head (stages.Publishing rows notes) before stream turns (told.Disk answer) is has = absurd is.1
+  fed_left head (stages.Publishing rows notes) before stream turns (told.Core (Err refusal)) is has = tt
+  fed_left head (stages.Publishing rows notes) before stream turns (told.Core (Ok (effects.Published view))) is has =
+      published_left bounds head rows before stream turns notes has view is.0.0 is.0.1 (is.0.2 view refl)
+  fed_left head (stages.Publishing rows notes) before stream turns (told.Core (Ok (effects.Unchanged view))) is has =
+      unchanged_left bounds head rows before stream turns notes has view is.0.0 is.0.1 (is.0.2 view refl)
+  fed_left head (stages.Publishing rows notes) before stream turns (told.Core (Ok (effects.Outdated number))) is has =
+      outdated_left bounds head rows before stream turns notes has number is.0.0 is.0.1.0
+  fed_left head (stages.Publishing rows notes) before stream turns (told.Core (Ok effect)) is has = absurd is.1
+  fed_left head (stages.Done reply) before stream turns answer is has = absurd is

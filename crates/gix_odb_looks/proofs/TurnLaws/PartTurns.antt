@@ -16,6 +16,7 @@ use Rattle.gix_odb_packs.specs.declared.trier.Tried.TheVariants as tried
 use Rattle.gix_odb_calls.specs.Verdict.{verdict_on}
 use Rattle.gix_odb_calls.specs.declared.verdict.Verdict.{Verdict}
 use Rattle.gix_odb_calls.specs.declared.verdict.Verdict.TheVariants as verdicts
+use Rattle.gix_odb_looks.specs.Stream.{Stream}
 use Rattle.gix_odb_looks.specs.LookUpOrder.{after_list, after_loose, at_folder, by_call, by_reply, by_tried}
 use Rattle.gix_odb_looks.specs.LookUpOrder.{by_verdict, goal_of, listing_from, loose_from, try_view}
 use Rattle.gix_odb_looks.specs.declared.look_up.LookHead.{LookHead}
@@ -28,81 +29,81 @@ use Rattle.gix_odb_looks.proofs.TurnLaws.LapsLeft.{IsFirst-less, IsFurther-less}
 module _ (bounds : Bounds) where
   -- ---- what comes behind a list
 
-  pub listing_left : (head : LookHead) (base before count turns : ℕ) (notes : Notes) → HasFurther bounds head base before bounds.lap turns
-      → HasLeft bounds head (listing_from bounds.setting base notes) before count turns
-  listing_left head base before count turns notes has = (tt, IsFurther-less has (omega (arith, bounds.wide)))
+  pub listing_left : (head : LookHead) (base before : ℕ) (stream : Option Stream) (turns : ℕ) (notes : Notes) → HasFurther bounds head base before bounds.lap turns
+      → HasLeft bounds head (listing_from bounds.setting base notes) before stream turns
+  listing_left head base before stream turns notes has = (tt, IsFurther-less has (omega (arith, bounds.wide)))
 
-  loose_left : (head : LookHead) (part : Part) (before count turns : ℕ) (notes : Notes) → OfPart bounds head part before (folders bounds + 1) turns
-      → HasLeft bounds head (loose_from bounds.setting head part notes) before count turns
-  loose_left head part before count turns notes has = (
+  loose_left : (head : LookHead) (part : Part) (before : ℕ) (stream : Option Stream) (turns : ℕ) (notes : Notes) → OfPart bounds head part before (folders bounds + 1) turns
+      → HasLeft bounds head (loose_from bounds.setting head part notes) before stream turns
+  loose_left head part before stream turns notes has = (
     asks_once bounds.setting.limit head.query head.id bounds.setting.objects,
     OfPart-less bounds head part before (folders bounds + 1) turns ((folders bounds - 0) + 1) turns has (omega arith),
   )
 
-  list_left : (head : LookHead) (part : Part) (before count turns : ℕ) (notes : Notes) → OfPart bounds head part before (folders bounds + 1) turns
-      → HasLeft bounds head (after_list bounds.setting head part notes) before count turns
-  list_left head parts.Snapshot before count turns notes has = loose_left head parts.Snapshot before count turns notes has
-  list_left head (parts.List number true) before count turns notes has = loose_left head (parts.List number true) before count turns notes has
-  list_left head (parts.List number false) before count turns notes has = listing_left head number before count turns notes (IsFurther-less has (omega arith))
-  list_left head (parts.Published number) before count turns notes has = loose_left head (parts.Published number) before count turns notes has
+  list_left : (head : LookHead) (part : Part) (before : ℕ) (stream : Option Stream) (turns : ℕ) (notes : Notes) → OfPart bounds head part before (folders bounds + 1) turns
+      → HasLeft bounds head (after_list bounds.setting head part notes) before stream turns
+  list_left head parts.Snapshot before stream turns notes has = loose_left head parts.Snapshot before stream turns notes has
+  list_left head (parts.List number true) before stream turns notes has = loose_left head (parts.List number true) before stream turns notes has
+  list_left head (parts.List number false) before stream turns notes has = listing_left head number before stream turns notes (IsFurther-less has (omega arith))
+  list_left head (parts.Published number) before stream turns notes has = loose_left head (parts.Published number) before stream turns notes has
 
   -- ---- a list
 
-  pub tried_left : (head : LookHead) (part : Part) (before count turns room : ℕ) (step : Tried) → TriesFor room step
+  pub tried_left : (head : LookHead) (part : Part) (before : ℕ) (stream : Option Stream) (turns room : ℕ) (step : Tried) → TriesFor room step
       → OfPart bounds head part before (room + folders bounds + 1) turns
-      → HasLeft bounds head (by_tried bounds.setting head part step) before count turns
-  tried_left head part before count turns room (tried.More trier) few has =
+      → HasLeft bounds head (by_tried bounds.setting head part step) before stream turns
+  tried_left head part before stream turns room (tried.More trier) few has =
       OfPart-less bounds head part before (room + folders bounds + 1) turns (trier_turns trier + folders bounds + 1) turns has (omega arith)
-  tried_left head part before count turns room (tried.Hit found) few has = tt
-  tried_left head part before count turns room (tried.Missed notes) few has =
-      list_left head part before count turns notes
+  tried_left head part before stream turns room (tried.Hit found) few has = tt
+  tried_left head part before stream turns room (tried.Missed notes) few has =
+      list_left head part before stream turns notes
       (OfPart-less bounds head part before (room + folders bounds + 1) turns (folders bounds + 1) turns has (omega arith))
-  tried_left head part before count turns room (tried.Bad error) few has = tt
-  tried_left head part before count turns room (tried.Broken refusal) few has = tt
+  tried_left head part before stream turns room (tried.Bad error) few has = tt
+  tried_left head part before stream turns room (tried.Broken refusal) few has = tt
 
   -- a list is tried in four turns an index
-  pub view_left : (head : LookHead) (part : Part) (before count turns : ℕ) (view : View) (todo : List Todo) (notes : Notes)
+  pub view_left : (head : LookHead) (part : Part) (before : ℕ) (stream : Option Stream) (turns : ℕ) (view : View) (todo : List Todo) (notes : Notes)
       → length view.snapshot.indices + length todo ≤ bounds.slots
       → OfPart bounds head part before (trying bounds) turns
-      → HasLeft bounds head (try_view bounds.setting head part view todo notes) before count turns
-  view_left head part before count turns view todo notes few has =
+      → HasLeft bounds head (try_view bounds.setting head part view todo notes) before stream turns
+  view_left head part before stream turns view todo notes few has =
       let ahead : Ahead = record { indices = view.snapshot.indices; todo = todo; notes = notes } in
-      tried_left head part before count turns (4 * bounds.slots) (seek (goal_of bounds.setting head) ahead)
+      tried_left head part before stream turns (4 * bounds.slots) (seek (goal_of bounds.setting head) ahead)
       (seek_tries (4 * bounds.slots) (goal_of bounds.setting head) ahead (omega arith)) has
 
   -- ---- the loose folders
 
-  loose_over : (head : LookHead) (part : Part) (before count turns : ℕ) (notes : Notes) → OfPart bounds head part before 0 turns
-      → HasLeft bounds head (after_loose bounds.setting part notes) before count turns
-  loose_over head parts.Snapshot before count turns notes has = IsFirst-less has (omega arith)
-  loose_over head (parts.List number loose) before count turns notes has = listing_left head number before count turns notes (IsFurther-less has (omega arith))
-  loose_over head (parts.Published number) before count turns notes has = has
+  loose_over : (head : LookHead) (part : Part) (before : ℕ) (stream : Option Stream) (turns : ℕ) (notes : Notes) → OfPart bounds head part before 0 turns
+      → HasLeft bounds head (after_loose bounds.setting part notes) before stream turns
+  loose_over head parts.Snapshot before stream turns notes has = IsFirst-less has (omega arith)
+  loose_over head (parts.List number loose) before stream turns notes has = listing_left head number before stream turns notes (IsFurther-less has (omega arith))
+  loose_over head (parts.Published number) before stream turns notes has = has
 
-  folder_left : (head : LookHead) (round : LooseRound) (before count turns : ℕ) (next : Option Path) → slice_get bounds.setting.folders round.next ≡ next
+  folder_left : (head : LookHead) (round : LooseRound) (before : ℕ) (stream : Option Stream) (turns : ℕ) (next : Option Path) → slice_get bounds.setting.folders round.next ≡ next
       → OfPart bounds head round.part before (folders bounds - round.next) turns
-      → HasLeft bounds head (at_folder bounds.setting head round next) before count turns
-  folder_left head round before count turns None is has =
-      loose_over head round.part before count turns round.notes
+      → HasLeft bounds head (at_folder bounds.setting head round next) before stream turns
+  folder_left head round before stream turns None is has =
+      loose_over head round.part before stream turns round.notes
       (OfPart-less bounds head round.part before (folders bounds - round.next) turns 0 turns has (omega arith))
-  folder_left head round before count turns (Some folder) is has =
+  folder_left head round before stream turns (Some folder) is has =
       let within = slice_get_within bounds.setting.folders round.next folder is in (
         asks_once bounds.setting.limit head.query head.id folder,
         OfPart-less bounds head round.part before (folders bounds - round.next) turns ((folders bounds - (round.next + 1)) + 1) turns has
             (omega (arith, within)),
       )
 
-  verdict_left : (head : LookHead) (round : LooseRound) (before count turns : ℕ) (verdict : Verdict)
+  verdict_left : (head : LookHead) (round : LooseRound) (before : ℕ) (stream : Option Stream) (turns : ℕ) (verdict : Verdict)
       → OfPart bounds head round.part before (folders bounds - round.next) turns
-      → HasLeft bounds head (by_verdict bounds.setting head round verdict) before count turns
-  verdict_left head round before count turns (verdicts.Ends reply) has = tt
-  verdict_left head round before count turns verdicts.Misses has =
-      folder_left head round before count turns (slice_get bounds.setting.folders round.next) refl has
-  verdict_left head round before count turns (verdicts.Notes error) has =
-      folder_left head (record round { notes = record round.notes { failed = true } }) before count turns (slice_get bounds.setting.folders round.next) refl has
+      → HasLeft bounds head (by_verdict bounds.setting head round verdict) before stream turns
+  verdict_left head round before stream turns (verdicts.Ends reply) has = tt
+  verdict_left head round before stream turns verdicts.Misses has =
+      folder_left head round before stream turns (slice_get bounds.setting.folders round.next) refl has
+  verdict_left head round before stream turns (verdicts.Notes error) has =
+      folder_left head (record round { notes = record round.notes { failed = true } }) before stream turns (slice_get bounds.setting.folders round.next) refl has
 
-  pub call_left : (head : LookHead) (round : LooseRound) (before count turns : ℕ) (call : LooseCall) (reply : LooseReply) → reply_of call ≡ Some reply
+  pub call_left : (head : LookHead) (round : LooseRound) (before : ℕ) (stream : Option Stream) (turns : ℕ) (call : LooseCall) (reply : LooseReply) → reply_of call ≡ Some reply
       → OfPart bounds head round.part before (folders bounds - round.next) turns
-      → HasLeft bounds head (by_call bounds.setting head round call) before count turns
-  call_left head round before count turns call reply is has =
-      subst (λ (reply : Option LooseReply). HasLeft bounds head (by_reply bounds.setting head round call reply) before count turns) (sym is)
-      (verdict_left head round before count turns (verdict_on head.query reply) has)
+      → HasLeft bounds head (by_call bounds.setting head round call) before stream turns
+  call_left head round before stream turns call reply is has =
+      subst (λ (reply : Option LooseReply). HasLeft bounds head (by_reply bounds.setting head round call reply) before stream turns) (sym is)
+      (verdict_left head round before stream turns (verdict_on head.query reply) has)

@@ -25,7 +25,7 @@ use Rattle.gix_odb_packs.specs.declared.trier.Stage.{Stage}
 use Rattle.gix_odb_packs.specs.declared.trier.Stage.TheVariants as stages
 use Rattle.gix_odb_packs.specs.declared.trier.Tried.TheVariants as ends
 use Rattle.gix_odb_packs.specs.declared.trier.Trier.{Trier}
-use Rattle.gix_odb_looks.specs.Laps.{IsAnswerTo}
+use Rattle.gix_odb_looks.specs.Exchange.{IsAnswerTo}
 
 -- ---- one turn
 

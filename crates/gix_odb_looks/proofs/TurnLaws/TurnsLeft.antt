@@ -13,6 +13,7 @@ use Rattle.gix_odb_calls.specs.declared.call.Reply.{Reply}
 use Rattle.gix_odb_calls.specs.declared.query.Query.{Query}
 use Rattle.gix_odb_calls.specs.declared.query.Query.TheVariants.{Find, Header, Test}
 use Rattle.gix_odb_looks.specs.Laps.{number_by}
+use Rattle.gix_odb_looks.specs.Stream.{Stream}
 use Rattle.gix_odb_looks.specs.LookUpOrder.{Setting, loose_fed, result_at, seen}
 use Rattle.gix_odb_looks.specs.declared.look_up.LookHead.{LookHead}
 use Rattle.gix_odb_looks.specs.declared.look_up.LookStage.{LookStage}
@@ -81,18 +82,18 @@ module _ (bounds : Bounds) where
 
   -- A look-up that goes on has at most so many turns left. The last number of a list that it was told is `before`, and the stream that it
   -- reads gave `count` entries.
-  abbrev pub HasLeft : LookHead → LookStage → (before count turns : ℕ) → Type 0
-  HasLeft head (stages.Trying trier part) before count turns = OfPart head part before (trier_turns trier + folders + 1) turns
-  HasLeft head (stages.Loose round call) before count turns = IsOneAsk call × OfPart head round.part before ((folders - round.next) + 1) turns
-  HasLeft head (stages.Looking purpose notes) before count turns = OfPurpose head purpose before turns
-  HasLeft head (stages.Listing lister base notes) before count turns =
-      IsCounted bounds.setting.folders bounds.entries count lister
+  abbrev pub HasLeft : LookHead → LookStage → (before : ℕ) (stream : Option Stream) (turns : ℕ) → Type 0
+  HasLeft head (stages.Trying trier part) before stream turns = OfPart head part before (trier_turns trier + folders + 1) turns
+  HasLeft head (stages.Loose round call) before stream turns = IsOneAsk call × OfPart head round.part before ((folders - round.next) + 1) turns
+  HasLeft head (stages.Looking purpose notes) before stream turns = OfPurpose head purpose before turns
+  HasLeft head (stages.Listing lister base notes) before stream turns =
+      IsCounted bounds.setting.folders bounds.entries stream lister
       × HasFurther head base before (lister_turns bounds.setting.folders bounds.entries lister + settling) turns
-  HasLeft head (stages.Publishing listing notes) before count turns = HasFurther head listing.base before settling turns
-  HasLeft head (stages.Done reply) before count turns = Unit {0}
+  HasLeft head (stages.Publishing listing notes) before stream turns = HasFurther head listing.base before settling turns
+  HasLeft head (stages.Done reply) before stream turns = Unit {0}
 
-  abbrev pub LookHasLeft : LookUp → (before count turns : ℕ) → Type 0
-  LookHasLeft look before count turns = HasLeft look.head look.stage before count turns
+  abbrev pub LookHasLeft : LookUp → (before : ℕ) (stream : Option Stream) (turns : ℕ) → Type 0
+  LookHasLeft look before stream turns = HasLeft look.head look.stage before stream turns
 
   -- ---- a look-up that goes on has a turn left
 
@@ -106,15 +107,15 @@ module _ (bounds : Bounds) where
   OfPurpose-pos head (purposes.Check number) before turns has = omega (arith, has.enough)
   OfPurpose-pos head purposes.Again before turns has = omega (arith, has.enough)
 
-  pub HasLeft-pos : (head : LookHead) (stage : LookStage) (before count turns : ℕ) → HasLeft head stage before count turns
+  pub HasLeft-pos : (head : LookHead) (stage : LookStage) (before : ℕ) (stream : Option Stream) (turns : ℕ) → HasLeft head stage before stream turns
       → ((reply : Reply) → ¬ (result_at head stage ≡ Ok reply))
       → 0 < turns
-  HasLeft-pos head (stages.Trying trier part) before count turns has on = OfPart-pos head part before (trier_turns trier + folders) turns has
-  HasLeft-pos head (stages.Loose round call) before count turns has on = OfPart-pos head round.part before (folders - round.next) turns has.1
-  HasLeft-pos head (stages.Looking purpose notes) before count turns has on = OfPurpose-pos head purpose before turns has
-  HasLeft-pos head (stages.Listing lister base notes) before count turns has on = omega (arith, has.1.enough)
-  HasLeft-pos head (stages.Publishing listing notes) before count turns has on = omega (arith, has.enough)
-  HasLeft-pos head (stages.Done reply) before count turns has on = absurd (on reply refl)
+  HasLeft-pos head (stages.Trying trier part) before stream turns has on = OfPart-pos head part before (trier_turns trier + folders) turns has
+  HasLeft-pos head (stages.Loose round call) before stream turns has on = OfPart-pos head round.part before (folders - round.next) turns has.1
+  HasLeft-pos head (stages.Looking purpose notes) before stream turns has on = OfPurpose-pos head purpose before turns has
+  HasLeft-pos head (stages.Listing lister base notes) before stream turns has on = omega (arith, has.1.enough)
+  HasLeft-pos head (stages.Publishing listing notes) before stream turns has on = omega (arith, has.enough)
+  HasLeft-pos head (stages.Done reply) before stream turns has on = absurd (on reply refl)
 
   -- ---- fewer turns are wanted, behind an answer or not
 

@@ -1,0 +1,57 @@
+-- An event that the core refuses ends a look-up.
+use Rattle.std.proofs.Common.{◌≡◌, List, [], ◌∷◌, ◌++◌, Option, Some, None, Ok, Err, refl}
+use Rattle.std.proofs.lemmas.Option.{same_Some}
+use Rattle.odb_disk.specs.declared.ask.DiskAsk.{DiskAsk}
+use Rattle.gix_odb_loose.specs.LooseOrder.{disk_ask_of}
+use Rattle.gix_odb_core.specs.declared.event.Event.{Event}
+use Rattle.gix_odb_core.specs.declared.event.Refusal.{Refusal}
+use Rattle.gix_odb_packs.specs.TryOrder as tries
+use Rattle.gix_odb_packs.specs.TryOrder.{by_answer}
+use Rattle.gix_odb_packs.specs.declared.answer.Answer.TheVariants as told
+use Rattle.gix_odb_packs.specs.declared.answer.PartAsk.TheVariants as asks
+use Rattle.gix_odb_packs.specs.declared.goal.Goal.{Goal}
+use Rattle.gix_odb_packs.specs.declared.trier.Ahead.{Ahead}
+use Rattle.gix_odb_packs.specs.declared.trier.Stage.{Stage}
+use Rattle.gix_odb_packs.specs.declared.trier.Stage.TheVariants as try_stages
+use Rattle.gix_odb_looks.specs.Exchange.{AreAsked, Exchange, behind}
+use Rattle.gix_odb_looks.specs.LoadIndex.{of_refusal}
+use Rattle.gix_odb_looks.specs.LookUpOrder.{Setting, ask_at, by_tried, fed, fed_at, load_refused, loose_ask, result_of, seen}
+use Rattle.gix_odb_looks.specs.declared.look_up.LookHead.{LookHead}
+use Rattle.gix_odb_looks.specs.declared.look_up.LookStage.{LookStage}
+use Rattle.gix_odb_looks.specs.declared.look_up.LookStage.TheVariants as stages
+use Rattle.gix_odb_looks.specs.declared.look_up.LookUp.{LookUp}
+use Rattle.gix_odb_looks.specs.declared.look_up.Part.{Part}
+
+module _ (setting : Setting) (event : Event) (refusal : Refusal) where
+  -- the look-up has the error of the refusal
+  abbrev Ends : LookUp → Type 0
+  Ends look = result_of look ≡ Ok (load_refused (of_refusal refusal))
+
+  loose_asks_disk : (ask : Option DiskAsk) → ¬ (loose_ask ask ≡ Some (asks.Core event))
+  loose_asks_disk None is = cc is
+  loose_asks_disk (Some ask) is = cc is
+
+  trier_ends : (head : LookHead) (part : Part) (goal : Goal) (ahead : Ahead) (stage : Stage) → tries.ask_at stage ≡ asks.Core event
+      → Ends (record { head = head; stage = by_tried setting head part (by_answer goal ahead stage (told.Core (Err refusal))) })
+  trier_ends head part goal ahead (try_stages.ReadingIndex place) asked = absurd (cc asked)
+  trier_ends head part goal ahead (try_stages.StoringIndex place file) asked = refl
+  trier_ends head part goal ahead (try_stages.PassingIndex place why) asked = refl
+  trier_ends head part goal ahead (try_stages.ReadingPack pack) asked = absurd (cc asked)
+  trier_ends head part goal ahead (try_stages.StoringPack pack file) asked = refl
+  trier_ends head part goal ahead (try_stages.PassingPack pack) asked = refl
+
+  stage_ends : (head : LookHead) (stage : LookStage) → ask_at stage ≡ Some (asks.Core event) → Ends (fed_at setting head stage (told.Core (Err refusal)))
+  stage_ends head (stages.Trying trier part) asked = trier_ends head part trier.goal trier.ahead trier.stage (same_Some _ _ asked)
+  stage_ends head (stages.Loose round call) asked = absurd (loose_asks_disk (disk_ask_of call) asked)
+  stage_ends head (stages.Looking purpose notes) asked = refl
+  stage_ends head (stages.Listing lister base notes) asked = absurd (cc asked)
+  stage_ends head (stages.Publishing listing notes) asked = refl
+  stage_ends head (stages.Done reply) asked = absurd (cc asked)
+
+  abbrev refused_event : Exchange
+  refused_event = record { ask = asks.Core event; answer = told.Core (Err refusal) }
+
+  pub refused_event_ends : (earlier : List Exchange) (look : LookUp) → AreAsked setting look (earlier ++ refused_event ∷ [])
+      → Ends (behind setting look (earlier ++ refused_event ∷ []))
+  refused_event_ends [] look asked = stage_ends (seen look.head (told.Core (Err refusal))) look.stage asked.0
+  refused_event_ends (exchange ∷ earlier) look asked = refused_event_ends earlier (fed setting look exchange.answer) asked.1

@@ -1,0 +1,165 @@
+-- Where more is shown, and more is said of loose objects, all that was true, found or a cause before stays so.
+use Rattle.std.proofs.Common.{ℕ, List, inl, inr}
+use Rattle.std.proofs.lemmas.List.Elements.{All-weaker}
+use Rattle.odb_base.specs.Path.{Path}
+use Rattle.odb_disk.specs.declared.ask.DiskAnswer.{DiskAnswer}
+use Rattle.odb_disk.specs.declared.ask.DiskAnswer.TheVariants as disk_answers
+use Rattle.odb_disk.specs.declared.ask.DiskAsk.{DiskAsk}
+use Rattle.odb_disk.specs.declared.ask.DiskAsk.TheVariants as disk_asks
+use Rattle.gix_hash.specs.declared.kind.Kind.{Kind}
+use Rattle.gix_hash.specs.declared.object_id.ObjectId.{ObjectId}
+use Rattle.gix_pack_files.specs.FileBytes.{FileBytes}
+use Rattle.gix_pack_files.specs.declared.data.Error as pack
+use Rattle.gix_pack_files.specs.declared.data.Error.TheVariants as pack_errors
+use Rattle.gix_odb_slots.specs.Slots.{PackFile}
+use Rattle.gix_odb_slots.specs.declared.loaded.SnapshotIndex.{SnapshotIndex}
+use Rattle.gix_odb_core.specs.declared.event.Event.{Event}
+use Rattle.gix_odb_core.specs.declared.event.Event.TheVariants as events
+use Rattle.gix_odb_core.specs.declared.event.Refusal.{Refusal}
+use Rattle.gix_odb_core.specs.declared.view.View.{View}
+use Rattle.gix_odb_packs.specs.declared.answer.Answer.{Answer}
+use Rattle.gix_odb_packs.specs.declared.answer.Answer.TheVariants as told
+use Rattle.gix_odb_packs.specs.declared.answer.PartAsk.{PartAsk}
+use Rattle.gix_odb_packs.specs.declared.answer.PartAsk.TheVariants as asks
+use Rattle.gix_odb_calls.specs.declared.call.Reply.{Reply}
+use Rattle.gix_odb_calls.specs.declared.find.Error.{Error}
+use Rattle.gix_odb_calls.specs.declared.find.Error.TheVariants as errors
+use Rattle.gix_odb_calls.specs.declared.load_index.Error as load
+use Rattle.gix_odb_calls.specs.declared.load_index.Error.TheVariants as load_errors
+use Rattle.gix_odb_calls.specs.declared.query.Query.{Query}
+use Rattle.gix_odb_calls.specs.declared.query.Query.TheVariants.{Find, Header, Test}
+use Rattle.gix_odb_looks.specs.Caused.{IsCaused, IsLoadCaused, IsNoFolder, IsPackError, IsRefused, IsUnloaded, IsUnsettled}
+use Rattle.gix_odb_looks.specs.Exchange.{Exchange}
+use Rattle.gix_odb_looks.specs.Found.{IsFound, IsInIndex, IsInPack}
+use Rattle.gix_odb_looks.specs.LookUpOrder.{Setting}
+use Rattle.gix_odb_looks.specs.Shown.{IsHanded, IsIndexShownAt, IsPackShownAt, IsPackShown, IsIndexShown, IsShownView}
+use Rattle.gix_odb_looks.specs.True.{AreTrue, IsTrue}
+
+module _ (Shown Wider : Path → List ℕ → Type 0) (wider : (path : Path) (bytes : List ℕ) → Shown path bytes → Wider path bytes)
+    (setting : Setting) (hash : Kind) where
+  -- ---- what is read and shown
+
+  IsIndexShownAt-wider : (path : Path) (file : FileBytes) → IsIndexShownAt Shown setting hash path file → IsIndexShownAt Wider setting hash path file
+  IsIndexShownAt-wider path file is = record { kind = is.kind; parsed = is.parsed; shown = wider path file.bytes is.shown }
+
+  IsPackShownAt-wider : (path : Path) (file : FileBytes) → IsPackShownAt Shown setting hash path file → IsPackShownAt Wider setting hash path file
+  IsPackShownAt-wider path file is = record { kind = is.kind; parsed = is.parsed; shown = wider path file.bytes is.shown }
+
+  IsPackShown-wider : (pack : PackFile) → IsPackShown Shown setting hash pack → IsPackShown Wider setting hash pack
+  IsPackShown-wider pack read = λ file is. IsPackShownAt-wider pack.path file (read file is)
+
+  IsIndexShown-wider : (index : SnapshotIndex) → IsIndexShown Shown setting hash index → IsIndexShown Wider setting hash index
+  IsIndexShown-wider index is = record {
+    file = is.file;
+    single = is.single;
+    at = is.at;
+    there = IsIndexShownAt-wider index.path is.file is.there;
+    one = is.one;
+    packs = All-weaker (IsPackShown Shown setting hash) (IsPackShown Wider setting hash) IsPackShown-wider index.packs is.packs;
+  }
+
+  pub IsShownView-wider : (view : View) → IsShownView Shown setting hash view → IsShownView Wider setting hash view
+  IsShownView-wider view is = record {
+    indices = All-weaker (IsIndexShown Shown setting hash) (IsIndexShown Wider setting hash) IsIndexShown-wider view.snapshot.indices is.indices;
+    kept = All-weaker (IsIndexShown Shown setting hash) (IsIndexShown Wider setting hash) IsIndexShown-wider view.snapshot.kept is.kept;
+    todo = is.todo;
+  }
+
+  pub IsHanded-wider : (event : Event) → IsHanded Shown setting hash event → IsHanded Wider setting hash event
+  IsHanded-wider (events.PutIndex slot path file) handed = (handed.0, IsIndexShownAt-wider path file handed.1)
+  IsHanded-wider (events.PutPack pack path file) handed = IsPackShownAt-wider path file handed
+  IsHanded-wider event handed = handed
+
+  -- ---- what is found
+
+  module _ (id : ObjectId) where
+    IsInIndex-wider : (path : Path) (offset : ℕ) → IsInIndex Shown setting hash id path offset → IsInIndex Wider setting hash id path offset
+    IsInIndex-wider path offset is = record { at = is.at; bytes = is.bytes; shown = wider path is.bytes is.shown; gives = is.gives }
+
+    IsInPack-wider : (Content : (pack : List ℕ) → (offset : ℕ) → Type 0) → IsInPack Shown setting hash id Content
+        → IsInPack Wider setting hash id Content
+    IsInPack-wider Content is = record {
+      path = is.path;
+      offset = is.offset;
+      index = IsInIndex-wider is.path is.offset is.index;
+      pack = is.pack;
+      parsed = is.parsed;
+      shown = wider _ is.pack is.shown;
+      content = is.content;
+    }
+
+    pub IsFound-wider : (query : Query) (reply : Reply) → IsFound Shown setting hash id query reply → IsFound Wider setting hash id query reply
+    IsFound-wider (Find asked) reply found = IsInPack-wider _ found
+    IsFound-wider (Header asked) reply found = IsInPack-wider _ found
+    IsFound-wider (Test asked) reply found = (found.0, found.1, IsInIndex-wider found.0 found.1 found.2, found.3)
+
+  -- ---- what is true, and what is a cause
+
+  disk-wider : (ask : DiskAsk) (answer : DiskAnswer) → IsTrue Shown setting hash (asks.Disk ask) (told.Disk answer)
+      → IsTrue Wider setting hash (asks.Disk ask) (told.Disk answer)
+  disk-wider (disk_asks.Read path) (disk_answers.File bytes time) is = (is.0, wider path bytes is.1)
+  disk-wider ask answer is = (is.0, is.1)
+
+  pub IsTrue-wider : (ask : PartAsk) (answer : Answer) → IsTrue Shown setting hash ask answer → IsTrue Wider setting hash ask answer
+  IsTrue-wider (asks.Disk ask) (told.Disk answer) is = disk-wider ask answer is
+  IsTrue-wider (asks.Core event) (told.Core answer) is = λ view shows. IsShownView-wider view (is view shows)
+  IsTrue-wider (asks.Disk ask) (told.Core answer) is = absurd is
+  IsTrue-wider (asks.Core event) (told.Disk answer) is = absurd is
+
+  pub AreTrue-wider : (exchanges : List Exchange) → AreTrue Shown setting hash exchanges → AreTrue Wider setting hash exchanges
+  AreTrue-wider exchanges are = λ exchange among. IsTrue-wider exchange.ask exchange.answer (are exchange among)
+
+  module _ (id : ObjectId) where
+    IsPackError-wider : (query : Query) (error : pack.Error) → IsPackError Shown setting hash id query error
+        → IsPackError Wider setting hash id query error
+    IsPackError-wider (Find asked) error is = IsInPack-wider id _ is
+    IsPackError-wider (Header asked) pack_errors.BadPack is = IsInPack-wider id _ is
+    IsPackError-wider (Header asked) pack_errors.BadEntry is = IsInPack-wider id _ is
+    IsPackError-wider (Header asked) pack_errors.DeltaEntry is = IsInPack-wider id _ is
+    IsPackError-wider (Header asked) (pack_errors.OutOfMemory size) is = is
+    IsPackError-wider (Header asked) (pack_errors.EntryType code) is = IsInPack-wider id _ is
+    IsPackError-wider (Test asked) error is = is
+
+    -- a cause in exchanges
+    module _ (exchanges : List Exchange) where
+      IsUnloaded-wider : IsUnloaded Shown setting hash id exchanges → IsUnloaded Wider setting hash id exchanges
+      IsUnloaded-wider is = record {
+        path = is.path;
+        offset = is.offset;
+        index = IsInIndex-wider id is.path is.offset is.index;
+        answer = is.answer;
+        told = is.told;
+        none = is.none;
+      }
+
+      IsNoFolder-wider : IsNoFolder Shown setting hash id exchanges → IsNoFolder Wider setting hash id exchanges
+      IsNoFolder-wider is = record { folder = is.folder; among = is.among; error = is.error; blocked = is.blocked; told = is.told }
+
+      IsRefused-wider : (refusal : Refusal) → IsRefused Shown setting hash id exchanges refusal
+          → IsRefused Wider setting hash id exchanges refusal
+      IsRefused-wider refusal is = record { event = is.event; told = is.told }
+
+      IsUnsettled-wider : (begun own now : ℕ) → IsUnsettled Shown setting hash id exchanges begun own now
+          → IsUnsettled Wider setting hash id exchanges begun own now
+      IsUnsettled-wider begun own now is =
+          record { first = is.first; published = is.published; exchange = is.exchange; last = is.last; number = is.number; many = is.many }
+
+      IsLoadCaused-wider : (error : load.Error) → IsLoadCaused Shown setting hash id exchanges error
+          → IsLoadCaused Wider setting hash id exchanges error
+      IsLoadCaused-wider load_errors.Io (inl failed) = inl failed
+      IsLoadCaused-wider load_errors.Io (inr none) = inr (IsNoFolder-wider none)
+      IsLoadCaused-wider (load_errors.InsufficientSlots current needed) is = IsRefused-wider _ is
+      IsLoadCaused-wider load_errors.GenerationOverflow is = IsRefused-wider _ is
+      IsLoadCaused-wider (load_errors.Unsettled begun own now) is = IsUnsettled-wider begun own now is
+      IsLoadCaused-wider load_errors.NoMemory is = IsRefused-wider _ is
+
+      pub IsCaused-wider : (query : Query) (error : Error) → IsCaused Shown setting hash id query exchanges error
+          → IsCaused Wider setting hash id query exchanges error
+      IsCaused-wider query (errors.Loose error) cause = cause
+      IsCaused-wider query (errors.LoadIndex error) cause = IsLoadCaused-wider error cause
+      IsCaused-wider query errors.LoadPack cause = IsUnloaded-wider cause
+      IsCaused-wider query errors.Pack cause = IsPackError-wider query _ cause
+      IsCaused-wider query (errors.EntryType code) cause = IsPackError-wider query _ cause
+      IsCaused-wider query errors.DeltaEntry cause = IsPackError-wider query _ cause
+      IsCaused-wider query (errors.OutOfMemory size) cause = IsPackError-wider query _ cause
+      IsCaused-wider query errors.NoMemory cause = cause

@@ -1,0 +1,108 @@
+-- What is known of a look-up behind exchanges: what it hands to the core, what it found, and why packs refuse it.
+use Rattle.std.proofs.Common.{◌≡◌, ℕ, List, [], ◌∷◌, Contains, Option, Some, None, Ok, refl, subst}
+use Rattle.odb_base.specs.Path.{Path}
+use Rattle.odb_disk.specs.declared.ask.DiskAsk.{DiskAsk}
+use Rattle.gix_hash.specs.ObjectId.{kind_of}
+use Rattle.gix_hash.specs.declared.kind.Kind.{Kind}
+use Rattle.gix_hash.specs.declared.object_id.ObjectId.{ObjectId}
+use Rattle.gix_odb_loose.specs.LooseOrder.{disk_ask_of}
+use Rattle.gix_odb_core.specs.declared.event.Event.TheVariants as events
+use Rattle.gix_odb_core.specs.declared.view.View.{View}
+use Rattle.gix_odb_packs.specs.ListOrder as lists
+use Rattle.gix_odb_packs.specs.TryOrder as tries
+use Rattle.gix_odb_packs.specs.declared.answer.PartAsk.TheVariants as asks
+use Rattle.gix_odb_packs.specs.declared.answer.PartAsk.{PartAsk}
+use Rattle.gix_odb_packs.specs.declared.trier.Stage.TheVariants as tries_stages
+use Rattle.gix_odb_packs.specs.declared.trier.Stage.{Stage}
+use Rattle.gix_odb_calls.specs.declared.call.CallError.TheVariants as call_errors
+use Rattle.gix_odb_calls.specs.declared.call.Reply.TheVariants as replies
+use Rattle.gix_odb_calls.specs.declared.call.Reply.{Reply}
+use Rattle.gix_odb_calls.specs.declared.find.Error.{Error}
+use Rattle.gix_odb_calls.specs.declared.query.Query.{Query}
+use Rattle.gix_odb_looks.specs.Caused.{IsCaused}
+use Rattle.gix_odb_looks.specs.Exchange.{AreAsked, Exchange, behind}
+use Rattle.gix_odb_looks.specs.LookUpOrder.{Setting, ask_at, fed, loose_ask, result_at, result_of, seen, started}
+use Rattle.gix_odb_looks.specs.Shown.{IsHandedBy, IsShownView}
+use Rattle.gix_odb_looks.specs.True.{AreTrue}
+use Rattle.gix_odb_looks.specs.declared.look_up.LookHead.{LookHead}
+use Rattle.gix_odb_looks.specs.declared.look_up.LookStage.TheVariants as stages
+use Rattle.gix_odb_looks.specs.declared.look_up.LookStage.{LookStage}
+use Rattle.gix_odb_looks.specs.declared.look_up.LookUp.{LookUp}
+use Rattle.gix_odb_looks.proofs.FoundLaws.Known.{KnowsLook, KnowsLookStage, KnowsReply, KnowsStage}
+use Rattle.gix_odb_looks.proofs.FoundLaws.Lists.{has_first, has_later}
+use Rattle.gix_odb_looks.proofs.FoundLaws.Looking.{begun_known, stage_known}
+pub use Rattle.gix_odb_looks.proofs.FoundLaws.Known.{IsOfPack}
+
+-- a call of the disk hands nothing to the core
+disk_hands : (Shown : Path → List ℕ → Type 0) (setting : Setting) (hash : Kind) (call : Option DiskAsk) (ask : PartAsk) → loose_ask call ≡ Some ask
+    → IsHandedBy Shown setting hash ask
+disk_hands Shown setting hash None ask is = absurd (cc is)
+disk_hands Shown setting hash (Some own) ask is = let same : asks.Disk own ≡ ask = cc is in subst (IsHandedBy Shown setting hash) same tt
+
+module _ (Shown : Path → List ℕ → Type 0) (setting : Setting) (hash : Kind) (query : Query) (id : ObjectId) where
+  trier_hands : (stage : Stage) → KnowsStage Shown setting hash id stage → IsHandedBy Shown setting hash (tries.ask_at stage)
+  trier_hands (tries_stages.StoringIndex place file) here = here
+  trier_hands (tries_stages.StoringPack pack file) here = here.1
+  trier_hands stage here = tt
+
+  -- ---- behind exchanges
+
+  module _ (exchanges : List Exchange) where
+    abbrev pub Knows : LookUp → Type 0
+    Knows look = KnowsLook Shown setting hash id exchanges query look
+
+    abbrev pub Stands : LookStage → Type 0
+    Stands stage = KnowsLookStage Shown setting hash id exchanges query stage
+
+    rest_known : kind_of id ≡ hash → AreTrue Shown setting hash exchanges → (rest : List Exchange) (look : LookUp)
+        → ((exchange : Exchange) → Contains rest exchange → Contains exchanges exchange)
+        → AreAsked setting look rest
+        → Knows look
+        → Knows (behind setting look rest)
+    rest_known same truth [] look among asked known = known
+    rest_known same truth (exchange ∷ rest) look among asked known =
+        let here = among exchange (has_first exchange rest) in
+        rest_known same truth rest (fed setting look exchange.answer) (λ other is. among other (has_later exchange rest other is)) asked.1
+        (stage_known Shown setting hash id exchanges query same (seen look.head exchange.answer) look.stage exchange.ask exchange.answer
+        (record { query_is = known.head.query_is; id_is = known.head.id_is }) known.stage asked.0 (truth exchange here) here)
+
+    -- what a stage hands to the core
+    pub stage_hands : (stage : LookStage) (ask : PartAsk) → Stands stage → ask_at stage ≡ Some ask → IsHandedBy Shown setting hash ask
+    stage_hands (stages.Trying trier part) ask here is =
+        let same : tries.ask_of trier ≡ ask = cc is in
+        subst (IsHandedBy Shown setting hash) same (trier_hands trier.stage here.stage)
+    stage_hands (stages.Loose round call) ask here is = disk_hands Shown setting hash (disk_ask_of call) ask is
+    stage_hands (stages.Looking purpose notes) ask here is =
+        let same : asks.Core events.Look ≡ ask = cc is in
+        subst (IsHandedBy Shown setting hash) same tt
+    stage_hands (stages.Listing lister base notes) ask here is =
+        let same : asks.Disk (lists.ask_of lister) ≡ ask = cc is in
+        subst (IsHandedBy Shown setting hash) same tt
+    stage_hands (stages.Publishing listing notes) ask here is =
+        let same : asks.Core (events.Publish listing) ≡ ask = cc is in
+        subst (IsHandedBy Shown setting hash) same here
+    stage_hands (stages.Done reply) ask here is = absurd (cc is)
+
+    -- what is known of the reply of a look-up that is done
+    pub done_known : (head : LookHead) (stage : LookStage) (reply : Reply) → Stands stage → result_at head stage ≡ Ok reply
+        → KnowsReply Shown setting hash id exchanges query reply
+    done_known head (stages.Done own) reply here is =
+        let same : own ≡ reply = cc is in
+        subst (λ (other : Reply). KnowsReply Shown setting hash id exchanges query other) same here
+    done_known head stage reply here is = absurd (cc is)
+
+  module _ (same : kind_of id ≡ hash) (view : View) (shown : IsShownView Shown setting hash view) (exchanges : List Exchange)
+      (asked : AreAsked setting (started setting view query id) exchanges) (truth : AreTrue Shown setting hash exchanges) where
+    abbrev pub look : LookUp
+    look = behind setting (started setting view query id) exchanges
+
+    pub look_known : KnowsLook Shown setting hash id exchanges query look
+    look_known =
+        rest_known exchanges same truth exchanges (started setting view query id) (λ exchange is. is) asked
+        (begun_known Shown setting hash id exchanges query view shown)
+
+    -- an error that packs give has its cause
+    pub pack_refusal_caused : (error : Error) → result_of look ≡ Ok (replies.Refused (call_errors.Find error)) → IsOfPack error
+        → IsCaused Shown setting hash id query exchanges error
+    pack_refusal_caused error is of =
+        (done_known exchanges look.head look.stage (replies.Refused (call_errors.Find error)) look_known.stage is).caused error refl of

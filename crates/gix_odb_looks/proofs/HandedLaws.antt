@@ -1,0 +1,215 @@
+-- Laws of what a look-up hands to the disk and the core: its events can happen there, its calls of the disk change nothing, and the streams
+-- that it reads are its own.
+mod Differ
+mod Rows
+mod Stages
+mod Listing
+mod Streams
+mod Reading
+use Rattle.std.proofs.Common.{◌≡◌, ◌⊎◌, inl, inr, ℕ, List, [], ◌∷◌, Option, Some, None, Ok, refl, sym, ap, ◌∙◌, subst}
+use Rattle.std.specs.List.{IsDistinct}
+use Rattle.std.proofs.lemmas.Option.{same_Some}
+use Rattle.odb_base.specs.Path.{Path}
+use Rattle.odb_disk.specs.Ask.{change_of_ask}
+use Rattle.odb_disk.specs.declared.ask.DiskAnswer.{DiskAnswer}
+use Rattle.odb_disk.specs.declared.ask.DiskAsk.{DiskAsk}
+use Rattle.odb_disk.specs.declared.ask.DiskAsk.TheVariants as disk_asks
+use Rattle.odb_tree.specs.Tree.{Tree}
+use Rattle.gix_hash.specs.declared.object_id.ObjectId.{ObjectId}
+use Rattle.gix_odb_loose.specs.LooseOrder.{disk_ask_of, stage_ask}
+use Rattle.gix_odb_loose.specs.declared.call.LooseCall.{LooseCall}
+use Rattle.gix_odb_loose.specs.declared.call.Stage as loose
+use Rattle.gix_odb_loose.specs.declared.call.Stage.TheVariants as loose_stages
+use Rattle.gix_odb_slots.specs.Slots.{HasDifferentPaths, same_path}
+use Rattle.gix_odb_slots.specs.declared.listing.ListingRow.{ListingRow}
+use Rattle.gix_odb_core.specs.Replay.{CanHappen}
+use Rattle.gix_odb_core.specs.declared.event.Event.{Event}
+use Rattle.gix_odb_core.specs.declared.event.Event.TheVariants as events
+use Rattle.gix_odb_core.specs.declared.shape.Shape.{Shape}
+use Rattle.gix_odb_core.specs.declared.view.View.{View}
+use Rattle.gix_odb_packs.specs.ListOrder as lists
+use Rattle.gix_odb_packs.specs.TryOrder as tries
+use Rattle.gix_odb_packs.specs.declared.answer.Answer.{Answer}
+use Rattle.gix_odb_packs.specs.declared.answer.Answer.TheVariants as told
+use Rattle.gix_odb_packs.specs.declared.answer.PartAsk.{PartAsk}
+use Rattle.gix_odb_packs.specs.declared.answer.PartAsk.TheVariants as asks
+use Rattle.gix_odb_packs.specs.declared.lister.ListStage.{ListStage}
+use Rattle.gix_odb_packs.specs.declared.lister.ListStage.TheVariants as list_stages
+use Rattle.gix_odb_packs.specs.declared.lister.ListStep.{ListStep}
+use Rattle.gix_odb_packs.specs.declared.lister.ListStep.TheVariants as listed
+use Rattle.gix_odb_packs.specs.declared.lister.Lister.{Lister}
+use Rattle.gix_odb_packs.specs.declared.trier.Stage.TheVariants as tries_stages
+use Rattle.gix_odb_packs.specs.declared.trier.Stage.{Stage}
+use Rattle.gix_odb_calls.specs.Verdict.{asking}
+use Rattle.gix_odb_calls.specs.declared.call.Reply.{Reply}
+use Rattle.gix_odb_calls.specs.declared.query.Query.{Query}
+use Rattle.gix_odb_calls.specs.declared.query.Query.TheVariants.{Find, Header, Test}
+use Rattle.gix_odb_looks.specs.Exchange.{AreAsked, Exchange, behind}
+use Rattle.gix_odb_looks.specs.Stream.{Stream, stream_in}
+use Rattle.gix_odb_looks.specs.LookUpOrder.{Setting, ask_at, ask_of, fed, lister_fed, loose_ask, loose_fed, result_at, result_of, seen, started}
+use Rattle.gix_odb_looks.specs.Shown.{folders_of}
+use Rattle.gix_odb_looks.specs.declared.look_up.LookHead.{LookHead}
+use Rattle.gix_odb_looks.specs.declared.look_up.LookStage.TheVariants as stages
+use Rattle.gix_odb_looks.specs.declared.look_up.LookStage.{LookStage}
+use Rattle.gix_odb_looks.specs.declared.look_up.LookUp.{LookUp}
+use Rattle.gix_odb_looks.proofs.HandedLaws.Listing.{ListerDiffers, StepDiffers, listing_differs, starts_apart}
+use Rattle.gix_odb_looks.proofs.HandedLaws.Rows.{HasDifferentPaths-longest_first}
+use Rattle.gix_odb_looks.proofs.HandedLaws.Stages.{Goes, Stands, Steps, loose_ask_is, same_ask, stage_stands, start_stands}
+use Rattle.gix_odb_looks.proofs.HandedLaws.Streams.{IsOpen, Told}
+use Rattle.gix_odb_looks.proofs.HandedLaws.Reading.{IsOwn, done_has_none, none_told, stage_asks_own, stage_changes_nothing, streams_are_own, told_from}
+pub use Rattle.gix_odb_looks.proofs.HandedLaws.Streams.{Opened, left_open, left_open-push, open_by, opened_by, opened_last, opened_last-push}
+
+-- ---- which events
+
+-- the events that look-ups ask
+abbrev pub IsOfLooks : Event → Type 0
+IsOfLooks events.Look = Unit {0}
+IsOfLooks (events.PutIndex slot path file) = Unit {0}
+IsOfLooks (events.PutPack pack path file) = Unit {0}
+IsOfLooks (events.PassOver slot path why) = Unit {0}
+IsOfLooks (events.Publish listing) = Unit {0}
+IsOfLooks event = ⊥
+
+abbrev AsksOfLooks : PartAsk → Type 0
+AsksOfLooks (asks.Disk ask) = Unit {0}
+AsksOfLooks (asks.Core event) = IsOfLooks event
+
+trier_asks : (stage : Stage) → AsksOfLooks (tries.ask_at stage)
+trier_asks (tries_stages.ReadingIndex place) = tt
+trier_asks (tries_stages.StoringIndex place file) = tt
+trier_asks (tries_stages.PassingIndex place why) = tt
+trier_asks (tries_stages.ReadingPack pack) = tt
+trier_asks (tries_stages.StoringPack pack file) = tt
+trier_asks (tries_stages.PassingPack pack) = tt
+
+stage_asks : (stage : LookStage) (ask : PartAsk) → ask_at stage ≡ Some ask → AsksOfLooks ask
+stage_asks (stages.Trying trier part) ask is = same_ask AsksOfLooks ask (tries.ask_of trier) (trier_asks trier.stage) is
+stage_asks (stages.Loose round call) ask is = loose_ask_is AsksOfLooks ask (disk_ask_of call) (λ own same. tt) is
+stage_asks (stages.Looking purpose notes) ask is = same_ask AsksOfLooks ask (asks.Core events.Look) tt is
+stage_asks (stages.Listing lister base notes) ask is = same_ask AsksOfLooks ask (asks.Disk (lists.ask_of lister)) tt is
+stage_asks (stages.Publishing listing notes) ask is = same_ask AsksOfLooks ask (asks.Core (events.Publish listing)) tt is
+stage_asks (stages.Done reply) ask is = absurd (cc is)
+
+-- a look-up asks the core to be looked at, to store a file, to pass one over, and to publish a listing
+pub look_ups_ask_these_events_alone : (look : LookUp) (event : Event) → ask_of look ≡ Some (asks.Core event) → IsOfLooks event
+look_ups_ask_these_events_alone look event is = stage_asks look.stage (asks.Core event) is
+
+-- ---- they can happen
+
+module _ (setting : Setting) (distinct : IsDistinct same_path (folders_of setting)) where
+  abbrev AnyCall : LooseCall → Type 0
+  AnyCall call = Unit {0}
+
+  abbrev RowsDiffer : List ListingRow → Type 0
+  RowsDiffer rows = HasDifferentPaths rows
+
+  abbrev StageDiffers : LookStage → Type 0
+  StageDiffers stage = Stands setting AnyCall (ListerDiffers setting.folders) RowsDiffer (Unit {0}) stage
+
+  step_differs : (step : ListStep) → StepDiffers setting.folders step → Steps setting AnyCall (ListerDiffers setting.folders) RowsDiffer (Unit {0}) step
+  step_differs (listed.More lister) here = here
+  step_differs (listed.Rows rows) here = (tt, HasDifferentPaths-longest_first rows here)
+  step_differs listed.Broken here = tt
+
+  goes_differing : (stage : LookStage) (answer : Answer) → StageDiffers stage
+      → Goes setting AnyCall (ListerDiffers setting.folders) RowsDiffer (Unit {0}) stage answer
+  goes_differing (stages.Trying trier part) answer here = tt
+  goes_differing (stages.Loose round call) (told.Disk answer) here = here
+  goes_differing (stages.Loose round call) (told.Core answer) here = here
+  goes_differing (stages.Looking purpose notes) answer here = tt
+  goes_differing (stages.Listing lister base notes) (told.Disk answer) here =
+      step_differs (lister_fed setting lister answer)
+      (listing_differs setting.folders setting.objects distinct lister.head lister.stage here answer)
+  goes_differing (stages.Listing lister base notes) (told.Core answer) here = here
+  goes_differing (stages.Publishing listing notes) answer here = here
+  goes_differing (stages.Done reply) answer here = tt
+
+  starts_listing : Unit {0} → ListerDiffers setting.folders (lists.started setting.objects)
+  starts_listing here = starts_apart setting.folders setting.objects distinct
+
+  differs_behind : (look : LookUp) → StageDiffers look.stage → (exchanges : List Exchange) → StageDiffers (behind setting look exchanges).stage
+  differs_behind look here [] = here
+  differs_behind look here (exchange ∷ exchanges) =
+      differs_behind (fed setting look exchange.answer)
+      (stage_stands setting AnyCall (ListerDiffers setting.folders) RowsDiffer (Unit {0}) (λ query id folder. tt) starts_listing
+      (seen look.head exchange.answer) look.stage exchange.answer (goes_differing look.stage exchange.answer here))
+      exchanges
+
+  abbrev Happens : Shape → (seat : ℕ) → PartAsk → Type 0
+  Happens shape seat (asks.Disk ask) = Unit {0}
+  Happens shape seat (asks.Core event) = CanHappen shape seat event
+
+  module _ (shape : Shape) (seat : ℕ) where
+    trier_happens : (stage : Stage) → Happens shape seat (tries.ask_at stage)
+    trier_happens (tries_stages.ReadingIndex place) = tt
+    trier_happens (tries_stages.StoringIndex place file) = tt
+    trier_happens (tries_stages.PassingIndex place why) = tt
+    trier_happens (tries_stages.ReadingPack pack) = tt
+    trier_happens (tries_stages.StoringPack pack file) = tt
+    trier_happens (tries_stages.PassingPack pack) = tt
+
+    stage_happens : (stage : LookStage) → StageDiffers stage → (ask : PartAsk) → ask_at stage ≡ Some ask → Happens shape seat ask
+    stage_happens (stages.Trying trier part) here ask is = same_ask (Happens shape seat) ask (tries.ask_of trier) (trier_happens trier.stage) is
+    stage_happens (stages.Loose round call) here ask is = loose_ask_is (Happens shape seat) ask (disk_ask_of call) (λ own same. tt) is
+    stage_happens (stages.Looking purpose notes) here ask is = same_ask (Happens shape seat) ask (asks.Core events.Look) tt is
+    stage_happens (stages.Listing lister base notes) here ask is = same_ask (Happens shape seat) ask (asks.Disk (lists.ask_of lister)) tt is
+    stage_happens (stages.Publishing listing notes) here ask is = same_ask (Happens shape seat) ask (asks.Core (events.Publish listing)) here.1 is
+    stage_happens (stages.Done reply) here ask is = absurd (cc is)
+
+  -- what a look-up hands to the core of its store can happen there: the rows of a listing have different paths
+  pub what_is_handed_can_happen : (view : View) (query : Query) (id : ObjectId) (exchanges : List Exchange)
+      → AreAsked setting (started setting view query id) exchanges → (event : Event)
+      → ask_of (behind setting (started setting view query id) exchanges) ≡ Some (asks.Core event)
+      → (shape : Shape) (seat : ℕ) → CanHappen shape seat event
+  what_is_handed_can_happen view query id exchanges asked event is shape seat =
+      let start = started setting view query id in
+      let stands : StageDiffers start.stage =
+      start_stands setting AnyCall (ListerDiffers setting.folders) RowsDiffer (Unit {0}) (λ query id folder. tt) starts_listing view query id tt in
+      stage_happens shape seat (behind setting start exchanges).stage (differs_behind start stands exchanges) (asks.Core event) is
+
+-- ---- they change no file, and their streams are their own
+
+-- A stream of this number was opened last, in a folder, and is still open; and the exchanges tell what the stream of this folder gave.
+pub record IsOwnStream (exchanges : List Exchange) (dir : ℕ) : Type 0 where
+  pub folder : Path
+  pub last : opened_last exchanges ≡ Some (record { folder = folder; dir = dir })
+  pub left : left_open exchanges ≡ Some (record { folder = folder; dir = dir })
+  pub stream : Stream
+  pub told : stream_in exchanges ≡ Some stream
+  pub of : stream.folder ≡ folder
+
+module _ (setting : Setting) (view : View) (query : Query) (id : ObjectId) (exchanges : List Exchange)
+    (asked : AreAsked setting (started setting view query id) exchanges) where
+  abbrev look : LookUp
+  look = behind setting (started setting view query id) exchanges
+
+  abbrev now : Told
+  now = told_from none_told exchanges
+
+  own : IsOwn setting now look.stage
+  own = streams_are_own setting view query id exchanges asked
+
+  -- a call of the disk changes nothing in any tree
+  pub look_ups_change_no_file : (ask : DiskAsk) → ask_of look ≡ Some (asks.Disk ask) → (tree : Tree) → change_of_ask tree ask ≡ None
+  look_ups_change_no_file ask is = stage_changes_nothing setting now look.stage own (asks.Disk ask) is
+
+  is_own_stream : (dir : ℕ) → (folder : Path) × IsOpen now folder dir → IsOwnStream exchanges dir
+  is_own_stream dir (folder, here) =
+      record { folder = folder; last = here.last; left = here.left; stream = here.stream; told = here.told; of = here.of }
+
+  -- it reads and closes no stream but the one that it opened last
+  pub streams_of_look_ups_are_their_own : (dir : ℕ)
+      → (ask_of look ≡ Some (asks.Disk (disk_asks.NextEntry dir))) ⊎ (ask_of look ≡ Some (asks.Disk (disk_asks.CloseDir dir)))
+      → IsOwnStream exchanges dir
+  streams_of_look_ups_are_their_own dir (inl is) =
+      is_own_stream dir (stage_asks_own setting now look.stage own (asks.Disk (disk_asks.NextEntry dir)) is)
+  streams_of_look_ups_are_their_own dir (inr is) =
+      is_own_stream dir (stage_asks_own setting now look.stage own (asks.Disk (disk_asks.CloseDir dir)) is)
+
+  -- it has none open where it opens one
+  pub look_ups_open_one_stream_at_a_time : (path : Path) → ask_of look ≡ Some (asks.Disk (disk_asks.OpenDir path)) → left_open exchanges ≡ None
+  look_ups_open_one_stream_at_a_time path is = stage_asks_own setting now look.stage own (asks.Disk (disk_asks.OpenDir path)) is
+
+  -- and leaves none open when it is done
+  pub look_ups_leave_no_stream_open : (reply : Reply) → result_of look ≡ Ok reply → left_open exchanges ≡ None
+  look_ups_leave_no_stream_open reply is = done_has_none setting now look.head look.stage reply own is

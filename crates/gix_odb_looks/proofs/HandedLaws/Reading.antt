@@ -1,0 +1,245 @@
+-- A look-up only reads: its calls on loose objects do, and so do those of the trier and the lister. What it is told of streams is of its own.
+use Rattle.std.proofs.Common.{◌≡◌, ℕ, Bool, true, List, [], ◌∷◌, Option, Some, None, Ok, refl, subst}
+use Rattle.std.proofs.lemmas.Option.{same_Some}
+use Rattle.odb_base.specs.Path.{Path}
+use Rattle.odb_disk.specs.Ask.{change_of_ask}
+use Rattle.odb_disk.specs.declared.ask.DiskAnswer.{DiskAnswer}
+use Rattle.odb_disk.specs.declared.ask.DiskAsk.{DiskAsk}
+use Rattle.odb_disk.specs.declared.ask.DiskAsk.TheVariants as disk_asks
+use Rattle.odb_tree.specs.Tree.{Tree}
+use Rattle.gix_hash.specs.declared.object_id.ObjectId.{ObjectId}
+use Rattle.gix_odb_loose.specs.LooseOrder.{disk_ask_of, next_stage, stage_ask}
+use Rattle.gix_odb_loose.specs.declared.call.LooseCall.{LooseCall}
+use Rattle.gix_odb_loose.specs.declared.call.Stage as loose
+use Rattle.gix_odb_loose.specs.declared.call.Stage.TheVariants as loose_stages
+use Rattle.gix_odb_slots.specs.declared.listing.ListingRow.{ListingRow}
+use Rattle.gix_odb_core.specs.declared.event.Event.TheVariants as events
+use Rattle.gix_odb_core.specs.declared.view.View.{View}
+use Rattle.gix_odb_packs.specs.ListOrder as lists
+use Rattle.gix_odb_packs.specs.TryOrder as tries
+use Rattle.gix_odb_packs.specs.declared.answer.Answer.{Answer}
+use Rattle.gix_odb_packs.specs.declared.answer.Answer.TheVariants as told
+use Rattle.gix_odb_packs.specs.declared.answer.PartAsk.{PartAsk}
+use Rattle.gix_odb_packs.specs.declared.answer.PartAsk.TheVariants as asks
+use Rattle.gix_odb_packs.specs.declared.lister.ListStage.{ListStage}
+use Rattle.gix_odb_packs.specs.declared.lister.ListStage.TheVariants as list_stages
+use Rattle.gix_odb_packs.specs.declared.lister.ListStep.{ListStep}
+use Rattle.gix_odb_packs.specs.declared.lister.ListStep.TheVariants as listed
+use Rattle.gix_odb_packs.specs.declared.trier.Stage.{Stage}
+use Rattle.gix_odb_packs.specs.declared.trier.Stage.TheVariants as tries_stages
+use Rattle.gix_odb_calls.specs.Verdict.{asking}
+use Rattle.gix_odb_calls.specs.declared.call.Reply.{Reply}
+use Rattle.gix_odb_calls.specs.declared.query.Query.{Query}
+use Rattle.gix_odb_calls.specs.declared.query.Query.TheVariants.{Find, Header, Test}
+use Rattle.gix_odb_looks.specs.Exchange.{AreAsked, Exchange, behind}
+use Rattle.gix_odb_looks.specs.Stream.{stream_from}
+use Rattle.gix_odb_looks.specs.LookUpOrder.{Setting, ask_at, fed, lister_fed, loose_ask, result_at, seen, started}
+use Rattle.gix_odb_looks.specs.declared.look_up.LookHead.{LookHead}
+use Rattle.gix_odb_looks.specs.declared.look_up.LookStage.{LookStage}
+use Rattle.gix_odb_looks.specs.declared.look_up.LookStage.TheVariants as stages
+use Rattle.gix_odb_looks.specs.declared.look_up.LookUp.{LookUp}
+use Rattle.gix_odb_looks.proofs.HandedLaws.Stages.{Goes, Stands, Steps, loose_ask_is, same_ask, stage_stands, start_stands}
+use Rattle.gix_odb_looks.proofs.HandedLaws.Streams.{HasNone, IsOpen, OpensNone, StreamAt, StreamBehind, StreamOf, Told, core_leaves_streams, listing_streams}
+use Rattle.gix_odb_looks.proofs.HandedLaws.Streams.{none_stays_open, open_from, opened_from, told_by}
+
+-- ---- a call of the disk that changes nothing
+
+abbrev pub ChangesNothing : PartAsk → Type 0
+ChangesNothing (asks.Disk ask) = (tree : Tree) → change_of_ask tree ask ≡ None
+ChangesNothing (asks.Core event) = Unit {0}
+
+path_is_read : (path : Path) → ChangesNothing (asks.Disk (disk_asks.Read path))
+unfolding change_of_ask
+path_is_read path tree = refl
+
+path_is_looked_at : (path : Path) (follow : Bool) → ChangesNothing (asks.Disk (disk_asks.Look path follow))
+unfolding change_of_ask
+path_is_looked_at path follow tree = refl
+
+lister_reads : (folder : Path) (stage : ListStage) → ChangesNothing (asks.Disk (lists.ask_at folder stage))
+unfolding change_of_ask
+lister_reads folder list_stages.Opening tree = refl
+lister_reads folder (list_stages.Reading dir entries) tree = refl
+lister_reads folder (list_stages.Closing dir entries) tree = refl
+lister_reads folder (list_stages.Breaking dir) tree = refl
+lister_reads folder (list_stages.Index path left) tree = refl
+lister_reads folder (list_stages.Pack row left) tree = refl
+
+-- a call that changes nothing and opens no stream
+record IsPlain (ask : PartAsk) : Type 0 where
+  changes : ChangesNothing ask
+  opens : OpensNone ask
+
+trier_plain : (stage : Stage) → IsPlain (tries.ask_at stage)
+trier_plain (tries_stages.ReadingIndex place) = record { changes = path_is_read place.path; opens = tt }
+trier_plain (tries_stages.StoringIndex place file) = record { changes = tt; opens = tt }
+trier_plain (tries_stages.PassingIndex place why) = record { changes = tt; opens = tt }
+trier_plain (tries_stages.ReadingPack pack) = record { changes = path_is_read pack.path; opens = tt }
+trier_plain (tries_stages.StoringPack pack file) = record { changes = tt; opens = tt }
+trier_plain (tries_stages.PassingPack pack) = record { changes = tt; opens = tt }
+
+-- ---- a call on loose objects that only reads
+
+abbrev ReadsAt : loose.Stage → Type 0
+ReadsAt (loose_stages.Writing job) = ⊥
+ReadsAt stage = Unit {0}
+
+abbrev OnlyReads : LooseCall → Type 0
+OnlyReads call = ReadsAt call.stage
+
+reads_on : (stage : loose.Stage) (answer : DiskAnswer) → ReadsAt stage → ReadsAt (next_stage stage answer)
+reads_on (loose_stages.Testing path) answer here = tt
+reads_on (loose_stages.Finding path limit) answer here = tt
+reads_on (loose_stages.Heading path) answer here = tt
+reads_on (loose_stages.Writing job) answer here = absurd here
+reads_on (loose_stages.Done reply) answer here = tt
+
+asking_reads : (limit : Option ℕ) (query : Query) (id : ObjectId) (folder : Path) → OnlyReads (asking limit query id folder)
+asking_reads limit (Find asked) id folder = tt
+asking_reads limit (Header asked) id folder = tt
+asking_reads limit (Test asked) id folder = tt
+
+loose_plain : (stage : loose.Stage) → ReadsAt stage → (own : DiskAsk) → stage_ask stage ≡ Some own → IsPlain (asks.Disk own)
+loose_plain (loose_stages.Testing path) here own is =
+    subst (λ (ask : DiskAsk). IsPlain (asks.Disk ask)) (same_Some _ own is) (record { changes = path_is_looked_at path true; opens = tt })
+loose_plain (loose_stages.Finding path limit) here own is =
+    subst (λ (ask : DiskAsk). IsPlain (asks.Disk ask)) (same_Some _ own is) (record { changes = path_is_read path; opens = tt })
+loose_plain (loose_stages.Heading path) here own is =
+    subst (λ (ask : DiskAsk). IsPlain (asks.Disk ask)) (same_Some _ own is) (record { changes = path_is_read path; opens = tt })
+loose_plain (loose_stages.Writing job) here own is = absurd here
+loose_plain (loose_stages.Done reply) here own is = absurd (cc is)
+
+-- ---- a stage
+
+-- what is told of streams behind exchanges, and before any
+abbrev pub told_from : Told → List Exchange → Told
+told_from before exchanges =
+    record { last = opened_from before.last exchanges; left = open_from before.left exchanges; stream = stream_from before.stream exchanges }
+
+abbrev pub none_told : Told
+none_told = record { last = None; left = None; stream = None }
+
+module _ (setting : Setting) where
+  abbrev AnyRows : List ListingRow → Type 0
+  AnyRows rows = Unit {0}
+
+  -- what is told of streams is of the listing at hand, and none is open elsewhere
+  abbrev pub IsOwn : Told → LookStage → Type 0
+  IsOwn now stage = Stands setting OnlyReads (StreamOf now) AnyRows (HasNone now) stage
+
+  pub stage_changes_nothing : (now : Told) (stage : LookStage) → IsOwn now stage → (ask : PartAsk) → ask_at stage ≡ Some ask → ChangesNothing ask
+  stage_changes_nothing now (stages.Trying trier part) own ask is = same_ask ChangesNothing ask (tries.ask_of trier) (trier_plain trier.stage).changes is
+  stage_changes_nothing now (stages.Loose round call) own ask is =
+      loose_ask_is ChangesNothing ask (disk_ask_of call) (λ asked same. (loose_plain call.stage own.1 asked same).changes) is
+  stage_changes_nothing now (stages.Looking purpose notes) own ask is = same_ask ChangesNothing ask (asks.Core events.Look) tt is
+  stage_changes_nothing now (stages.Listing lister base notes) own ask is =
+      same_ask ChangesNothing ask (asks.Disk (lists.ask_of lister)) (lister_reads lister.head.folder lister.stage) is
+  stage_changes_nothing now (stages.Publishing listing notes) own ask is = same_ask ChangesNothing ask (asks.Core (events.Publish listing)) tt is
+  stage_changes_nothing now (stages.Done reply) own ask is = absurd (cc is)
+
+  -- ---- an exchange
+
+  module _ (now : Told) (ask : PartAsk) (answer : Answer) where
+    abbrev next : Told
+    next = told_by now ask answer
+
+    abbrev GoesOn : LookStage → Type 0
+    GoesOn stage = Goes setting OnlyReads (StreamOf next) AnyRows (HasNone next) stage answer
+
+    none_by : (own : PartAsk) → IsPlain own → HasNone now → Some own ≡ Some ask → HasNone next
+    none_by own plain none is = none_stays_open now ask answer (same_ask OpensNone ask own plain.opens is) none
+
+    none_by_loose : (call : LooseCall) → OnlyReads call → HasNone now → loose_ask (disk_ask_of call) ≡ Some ask → HasNone next
+    none_by_loose call reads none is =
+        none_stays_open now ask answer (loose_ask_is OpensNone ask (disk_ask_of call) (λ own same. (loose_plain call.stage reads own same).opens) is) none
+
+  step_on : (now : Told) (step : ListStep) → StreamBehind now step → Steps setting OnlyReads (StreamOf now) AnyRows (HasNone now) step
+  step_on now (listed.More lister) here = here
+  step_on now (listed.Rows rows) here = (here, tt)
+  step_on now listed.Broken here = here
+
+  looking : IsPlain (asks.Core events.Look)
+  looking = record { changes = tt; opens = tt }
+
+  goes_on : (now : Told) (stage : LookStage) → IsOwn now stage → (ask : PartAsk) (answer : Answer) → ask_at stage ≡ Some ask → GoesOn now ask answer stage
+  goes_on now (stages.Trying trier part) own ask answer is = none_by now ask answer (tries.ask_of trier) (trier_plain trier.stage) own is
+  goes_on now (stages.Loose round call) own ask (told.Disk answer) is =
+      (none_by_loose now ask (told.Disk answer) call own.1 own.0 is, reads_on call.stage answer own.1)
+  goes_on now (stages.Loose round call) own ask (told.Core answer) is = (none_by_loose now ask (told.Core answer) call own.1 own.0 is, own.1)
+  goes_on now (stages.Looking purpose notes) own ask answer is = none_by now ask answer (asks.Core events.Look) looking own is
+  goes_on now (stages.Listing lister base notes) own ask (told.Disk answer) is =
+      subst (λ (a : PartAsk). GoesOn now a (told.Disk answer) (stages.Listing lister base notes)) (same_Some _ ask is)
+      (step_on (told_by now (asks.Disk (lists.ask_of lister)) (told.Disk answer)) (lister_fed setting lister answer)
+      (listing_streams setting.folders lister.head now lister.stage own answer))
+  goes_on now (stages.Listing lister base notes) own ask (told.Core answer) is =
+      subst (λ (a : PartAsk). GoesOn now a (told.Core answer) (stages.Listing lister base notes)) (same_Some _ ask is)
+      (core_leaves_streams now lister.head.folder lister.stage answer own)
+  goes_on now (stages.Publishing listing notes) own ask answer is =
+      (none_by now ask answer (asks.Core (events.Publish listing)) (record { changes = tt; opens = tt }) own.0 is, tt)
+  goes_on now (stages.Done reply) own ask answer is = absurd (cc is)
+
+  -- ---- exchanges
+
+  own_behind : (now : Told) (look : LookUp) → IsOwn now look.stage → (exchanges : List Exchange) → AreAsked setting look exchanges
+      → IsOwn (told_from now exchanges) (behind setting look exchanges).stage
+  own_behind now look own [] asked = own
+  own_behind now look own (exchange ∷ exchanges) asked =
+      let then : Told = told_by now exchange.ask exchange.answer in
+      own_behind then (fed setting look exchange.answer)
+      (stage_stands setting OnlyReads (StreamOf then) AnyRows (HasNone then) (asking_reads setting.limit) (λ none. none)
+      (seen look.head exchange.answer) look.stage exchange.answer (goes_on now look.stage own exchange.ask exchange.answer asked.0))
+      exchanges asked.1
+
+  pub streams_are_own : (view : View) (query : Query) (id : ObjectId) (exchanges : List Exchange) → AreAsked setting (started setting view query id) exchanges
+      → IsOwn (told_from none_told exchanges) (behind setting (started setting view query id) exchanges).stage
+  streams_are_own view query id exchanges asked =
+      own_behind none_told (started setting view query id)
+      (start_stands setting OnlyReads (StreamOf none_told) AnyRows (HasNone none_told) (asking_reads setting.limit) (λ none. none) view query id refl)
+      exchanges asked
+
+  -- ---- which stream is asked
+
+  -- the stream that a call reads or closes is open, and none is where one is to be opened
+  abbrev pub AsksOwn : Told → PartAsk → Type 0
+  AsksOwn now (asks.Disk (disk_asks.OpenDir path)) = HasNone now
+  AsksOwn now (asks.Disk (disk_asks.NextEntry dir)) = (folder : Path) × IsOpen now folder dir
+  AsksOwn now (asks.Disk (disk_asks.CloseDir dir)) = (folder : Path) × IsOpen now folder dir
+  AsksOwn now ask = Unit {0}
+
+  trier_own : (now : Told) (stage : Stage) → AsksOwn now (tries.ask_at stage)
+  trier_own now (tries_stages.ReadingIndex place) = tt
+  trier_own now (tries_stages.StoringIndex place file) = tt
+  trier_own now (tries_stages.PassingIndex place why) = tt
+  trier_own now (tries_stages.ReadingPack pack) = tt
+  trier_own now (tries_stages.StoringPack pack file) = tt
+  trier_own now (tries_stages.PassingPack pack) = tt
+
+  loose_own : (now : Told) (stage : loose.Stage) → ReadsAt stage → (own : DiskAsk) → stage_ask stage ≡ Some own → AsksOwn now (asks.Disk own)
+  loose_own now (loose_stages.Testing path) here own is = subst (λ (ask : DiskAsk). AsksOwn now (asks.Disk ask)) (same_Some _ own is) tt
+  loose_own now (loose_stages.Finding path limit) here own is = subst (λ (ask : DiskAsk). AsksOwn now (asks.Disk ask)) (same_Some _ own is) tt
+  loose_own now (loose_stages.Heading path) here own is = subst (λ (ask : DiskAsk). AsksOwn now (asks.Disk ask)) (same_Some _ own is) tt
+  loose_own now (loose_stages.Writing job) here own is = absurd here
+  loose_own now (loose_stages.Done reply) here own is = absurd (cc is)
+
+  lister_own : (now : Told) (folder : Path) (stage : ListStage) → StreamAt now folder stage → AsksOwn now (asks.Disk (lists.ask_at folder stage))
+  lister_own now folder list_stages.Opening own = own
+  lister_own now folder (list_stages.Reading dir entries) own = (folder, own)
+  lister_own now folder (list_stages.Closing dir entries) own = (folder, own)
+  lister_own now folder (list_stages.Breaking dir) own = (folder, own)
+  lister_own now folder (list_stages.Index path left) own = tt
+  lister_own now folder (list_stages.Pack row left) own = tt
+
+  pub stage_asks_own : (now : Told) (stage : LookStage) → IsOwn now stage → (ask : PartAsk) → ask_at stage ≡ Some ask → AsksOwn now ask
+  stage_asks_own now (stages.Trying trier part) own ask is = same_ask (AsksOwn now) ask (tries.ask_of trier) (trier_own now trier.stage) is
+  stage_asks_own now (stages.Loose round call) own ask is =
+      loose_ask_is (AsksOwn now) ask (disk_ask_of call) (λ asked same. loose_own now call.stage own.1 asked same) is
+  stage_asks_own now (stages.Looking purpose notes) own ask is = same_ask (AsksOwn now) ask (asks.Core events.Look) tt is
+  stage_asks_own now (stages.Listing lister base notes) own ask is =
+      same_ask (AsksOwn now) ask (asks.Disk (lists.ask_of lister)) (lister_own now lister.head.folder lister.stage own) is
+  stage_asks_own now (stages.Publishing listing notes) own ask is = same_ask (AsksOwn now) ask (asks.Core (events.Publish listing)) tt is
+  stage_asks_own now (stages.Done reply) own ask is = absurd (cc is)
+
+  -- none is open behind a look-up that is done
+  pub done_has_none : (now : Told) (head : LookHead) (stage : LookStage) (reply : Reply) → IsOwn now stage → result_at head stage ≡ Ok reply → HasNone now
+  done_has_none now head (stages.Done other) reply own is = own
+  done_has_none now head stage reply own is = absurd (cc is)

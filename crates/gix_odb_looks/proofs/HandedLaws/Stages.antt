@@ -1,0 +1,187 @@
+-- What is kept from stage to stage of a look-up: of the loose objects that it asks, of its listing, and of the rows that it publishes.
+use Rattle.std.proofs.Common.{◌≡◌, ℕ, ◌==◌, Bool, true, false, cond, List, [], slice_get, Option, Some, None, Ok, Err, refl, subst}
+use Rattle.std.proofs.lemmas.Option.{same_Some}
+use Rattle.odb_base.specs.Path.{Path}
+use Rattle.odb_disk.specs.declared.ask.DiskAsk.{DiskAsk}
+use Rattle.gix_hash.specs.declared.object_id.ObjectId.{ObjectId}
+use Rattle.gix_odb_loose.specs.LooseOrder.{reply_of}
+use Rattle.gix_odb_loose.specs.declared.call.LooseCall.{LooseCall}
+use Rattle.gix_odb_loose.specs.declared.call.LooseReply.{LooseReply}
+use Rattle.gix_odb_core.specs.declared.event.Effect.{Effect}
+use Rattle.gix_odb_core.specs.declared.event.Effect.TheVariants as effects
+use Rattle.gix_odb_core.specs.declared.view.View.{View}
+use Rattle.gix_odb_slots.specs.declared.listing.Listing.{Listing}
+use Rattle.gix_odb_slots.specs.declared.listing.ListingRow.{ListingRow}
+use Rattle.gix_odb_slots.specs.declared.loaded.Todo.{Todo}
+use Rattle.gix_odb_packs.specs.ListOrder as lists
+use Rattle.gix_odb_packs.specs.LongestFirst.{longest_first}
+use Rattle.gix_odb_packs.specs.TryOrder.{seek}
+use Rattle.gix_odb_packs.specs.declared.answer.Answer.{Answer}
+use Rattle.gix_odb_packs.specs.declared.answer.Answer.TheVariants as told
+use Rattle.gix_odb_packs.specs.declared.answer.PartAsk.{PartAsk}
+use Rattle.gix_odb_packs.specs.declared.answer.PartAsk.TheVariants as asks
+use Rattle.gix_odb_packs.specs.declared.lister.ListStep.{ListStep}
+use Rattle.gix_odb_packs.specs.declared.lister.ListStep.TheVariants as listed
+use Rattle.gix_odb_packs.specs.declared.lister.Lister.{Lister}
+use Rattle.gix_odb_packs.specs.declared.search.Notes.{Notes}
+use Rattle.gix_odb_packs.specs.declared.trier.Tried.{Tried}
+use Rattle.gix_odb_packs.specs.declared.trier.Tried.TheVariants as tried
+use Rattle.gix_odb_calls.specs.Verdict.{asking, verdict_on}
+use Rattle.gix_odb_calls.specs.declared.load_index.Error.TheVariants as load_errors
+use Rattle.gix_odb_calls.specs.declared.query.Query.{Query}
+use Rattle.gix_odb_calls.specs.declared.verdict.Verdict.{Verdict}
+use Rattle.gix_odb_calls.specs.declared.verdict.Verdict.TheVariants as verdicts
+use Rattle.gix_odb_looks.specs.LookUpOrder.{Setting, after_list, after_loose, at_folder, by_listed, by_look, by_published, by_reply, by_tried}
+use Rattle.gix_odb_looks.specs.LookUpOrder.{by_verdict, counted, ended, fed_at, goal_of, is_unsettled}
+use Rattle.gix_odb_looks.specs.LookUpOrder.{lister_fed, listing_from, load_refused, loose_ask, loose_fed}
+use Rattle.gix_odb_looks.specs.LookUpOrder.{new_head, not_found, started, trier_fed, try_view, unsettled, view_shown, with_own, without_notes}
+use Rattle.gix_odb_looks.specs.declared.look_up.LookHead.{LookHead}
+use Rattle.gix_odb_looks.specs.declared.look_up.LookStage.{LookStage}
+use Rattle.gix_odb_looks.specs.declared.look_up.LookStage.TheVariants as stages
+use Rattle.gix_odb_looks.specs.declared.look_up.LooseRound.{LooseRound}
+use Rattle.gix_odb_looks.specs.declared.look_up.Part.{Part}
+use Rattle.gix_odb_looks.specs.declared.look_up.Part.TheVariants as parts
+use Rattle.gix_odb_looks.specs.declared.look_up.Purpose.{Purpose}
+use Rattle.gix_odb_looks.specs.declared.look_up.Purpose.TheVariants as purposes
+
+-- ---- what a stage asks
+
+-- what holds of each ask that it may have holds of its ask
+module _ (P : PartAsk → Type 0) (ask : PartAsk) where
+  pub same_ask : (own : PartAsk) → P own → Some own ≡ Some ask → P ask
+  same_ask own here is = subst P (same_Some own ask is) here
+
+  pub loose_ask_is : (call : Option DiskAsk) → ((own : DiskAsk) → call ≡ Some own → P (asks.Disk own)) → loose_ask call ≡ Some ask → P ask
+  loose_ask_is None here is = absurd (cc is)
+  loose_ask_is (Some own) here is = same_ask (asks.Disk own) (here own refl) is
+
+-- ---- what is kept
+
+-- Here `OfCall`, `OfLister` and `OfRows` say what holds of the call on loose objects, of the listing and of the rows to be published, where
+-- the look-up is at one, and `Else` what holds wherever it isn't at a listing.
+module _ (setting : Setting) (OfCall : LooseCall → Type 0) (OfLister : Lister → Type 0) (OfRows : List ListingRow → Type 0) (Else : Type 0) where
+  abbrev pub Stands : LookStage → Type 0
+  Stands (stages.Loose round call) = Else × OfCall call
+  Stands (stages.Listing lister base notes) = OfLister lister
+  Stands (stages.Publishing listing notes) = Else × OfRows listing.rows
+  Stands stage = Else
+
+  abbrev pub Steps : ListStep → Type 0
+  Steps (listed.More lister) = OfLister lister
+  Steps (listed.Rows rows) = Else × OfRows (longest_first rows)
+  Steps listed.Broken = Else
+
+  -- what is to hold behind an answer, for the next stage to stand
+  abbrev pub Goes : LookStage → Answer → Type 0
+  Goes (stages.Loose round call) (told.Disk answer) = Else × OfCall (loose_fed call answer)
+  Goes (stages.Listing lister base notes) (told.Disk answer) = Steps (lister_fed setting lister answer)
+  Goes stage answer = Stands stage
+
+  module _ (calls : (query : Query) (id : ObjectId) (folder : Path) → OfCall (asking setting.limit query id folder))
+      (begins : Else → OfLister (lists.started setting.objects)) where
+    -- ---- the parts begin
+
+    chosen : (b : Bool) (one other : LookStage) → Stands one → Stands other → Stands (cond b one other)
+    chosen true one other first further = first
+    chosen false one other first further = further
+
+    list_stands : (head : LookHead) (part : Part) (notes : Notes) → Else → Stands (after_list setting head part notes)
+    list_stands head parts.Snapshot notes here = (here, calls head.query head.id setting.objects)
+    list_stands head (parts.List list_no true) notes here = (here, calls head.query head.id setting.objects)
+    list_stands head (parts.List list_no false) notes here = begins here
+    list_stands head (parts.Published list_no) notes here = (here, calls head.query head.id setting.objects)
+
+    loose_stands : (part : Part) (notes : Notes) → Else → Stands (after_loose setting part notes)
+    loose_stands parts.Snapshot notes here = here
+    loose_stands (parts.List list_no loose) notes here = begins here
+    loose_stands (parts.Published list_no) notes here = here
+
+    -- ---- a list is tried
+
+    tried_stands : (head : LookHead) (part : Part) (end : Tried) → Else → Stands (by_tried setting head part end)
+    tried_stands head part (tried.More trier) here = here
+    tried_stands head part (tried.Hit found) here = here
+    tried_stands head part (tried.Missed notes) here = list_stands head part notes here
+    tried_stands head part (tried.Bad error) here = here
+    tried_stands head part (tried.Broken refusal) here = here
+
+    try_stands : (head : LookHead) (part : Part) (view : View) (todo : List Todo) (notes : Notes) → Else
+        → Stands (try_view setting head part view todo notes)
+    try_stands head part view todo notes here =
+        tried_stands head part (seek (goal_of setting head) (record { indices = view.snapshot.indices; todo = todo; notes = notes })) here
+
+    -- a new look-up stands
+    pub start_stands : (view : View) (query : Query) (id : ObjectId) → Else → Stands (started setting view query id).stage
+    start_stands view query id here =
+        chosen view.read (try_view setting (new_head query id) parts.Snapshot view [] without_notes)
+        (stages.Looking (purposes.First true) without_notes)
+        (try_stands (new_head query id) parts.Snapshot view [] without_notes here) here
+
+    -- ---- a folder has replied
+
+    folder_stands : (head : LookHead) (round : LooseRound) (next : Option Path) → Else → Stands (at_folder setting head round next)
+    folder_stands head round None here = loose_stands round.part round.notes here
+    folder_stands head round (Some folder) here = (here, calls head.query head.id folder)
+
+    verdict_stands : (head : LookHead) (round : LooseRound) (verdict : Verdict) → Else → Stands (by_verdict setting head round verdict)
+    verdict_stands head round (verdicts.Ends reply) here = here
+    verdict_stands head round verdicts.Misses here = folder_stands head round (slice_get setting.folders round.next) here
+    verdict_stands head round (verdicts.Notes error) here =
+        folder_stands head (record round { notes = record round.notes { failed = true } }) (slice_get setting.folders round.next) here
+
+    reply_stands : (head : LookHead) (round : LooseRound) (call : LooseCall) (reply : Option LooseReply) → Else → OfCall call
+        → Stands (by_reply setting head round call reply)
+    reply_stands head round call None here own = (here, own)
+    reply_stands head round call (Some reply) here own = verdict_stands head round (verdict_on head.query reply) here
+
+    -- ---- the core has answered
+
+    counted_stands : (head : LookHead) (now : ℕ) (next : LookStage) → Else → Stands next → Stands (counted setting head now next)
+    counted_stands head now next here own = chosen (is_unsettled setting head now) (unsettled head now) next here own
+
+    ended_stands : (query : Query) (notes : Notes) → Else → Stands (ended query notes)
+    ended_stands query notes here =
+        chosen notes.failed (stages.Done (load_refused load_errors.Io)) (stages.Done (not_found query)) here here
+
+    look_stands : (head : LookHead) (purpose : Purpose) (notes : Notes) (view : Option View) → Else → Stands (by_look setting head purpose notes view)
+    look_stands head purpose notes None here = here
+    look_stands head (purposes.First loose) notes (Some view) here =
+        chosen view.read (try_view setting head (parts.List view.list_no loose) view view.todo notes) (listing_from setting view.list_no notes)
+        (try_stands head (parts.List view.list_no loose) view view.todo notes here) (begins here)
+    look_stands head (purposes.Check list_no) notes (Some view) here =
+        chosen (view.list_no == list_no) (ended head.query notes) (counted setting head view.list_no (listing_from setting view.list_no notes))
+        (ended_stands head.query notes here) (counted_stands head view.list_no (listing_from setting view.list_no notes) here (begins here))
+    look_stands head purposes.Again notes (Some view) here = begins here
+
+    published_stands : (head : LookHead) (listing : Listing) (notes : Notes) (effect : Effect) → Else → OfRows listing.rows
+        → Stands (by_published setting head listing notes effect).stage
+    published_stands head listing notes (effects.Published view) here own =
+        try_stands (with_own head) (parts.Published view.list_no) view view.todo notes here
+    published_stands head listing notes (effects.Unchanged view) here own = try_stands head (parts.Published view.list_no) view view.todo notes here
+    published_stands head listing notes (effects.Outdated list_no) here own =
+        counted_stands head list_no (stages.Looking purposes.Again notes) here here
+    published_stands head listing notes effect here own = (here, own)
+
+    -- ---- the folders of packs are listed
+
+    listed_stands : (base : ℕ) (notes : Notes) (step : ListStep) → Steps step → Stands (by_listed base notes step)
+    listed_stands base notes (listed.More lister) here = here
+    listed_stands base notes (listed.Rows rows) here = here
+    listed_stands base notes listed.Broken here = here
+
+    -- ---- an answer
+
+    pub stage_stands : (head : LookHead) (stage : LookStage) (answer : Answer) → Goes stage answer → Stands (fed_at setting head stage answer).stage
+    stage_stands head (stages.Trying trier part) answer here = tried_stands head part (trier_fed trier answer) here
+    stage_stands head (stages.Loose round call) (told.Disk answer) here =
+        reply_stands head round (loose_fed call answer) (reply_of (loose_fed call answer)) here.0 here.1
+    stage_stands head (stages.Loose round call) (told.Core answer) here = here
+    stage_stands head (stages.Looking purpose notes) (told.Disk answer) here = here
+    stage_stands head (stages.Looking purpose notes) (told.Core (Ok effect)) here = look_stands head purpose notes (view_shown effect) here
+    stage_stands head (stages.Looking purpose notes) (told.Core (Err refusal)) here = here
+    stage_stands head (stages.Listing lister base notes) (told.Disk answer) here = listed_stands base notes (lister_fed setting lister answer) here
+    stage_stands head (stages.Listing lister base notes) (told.Core answer) here = here
+    stage_stands head (stages.Publishing listing notes) (told.Disk answer) here = here
+    stage_stands head (stages.Publishing listing notes) (told.Core (Ok effect)) here = published_stands head listing notes effect here.0 here.1
+    stage_stands head (stages.Publishing listing notes) (told.Core (Err refusal)) here = here.0
+    stage_stands head (stages.Done reply) answer here = here
