@@ -95,7 +95,8 @@ module _ (setting : Setting) (query : Query) (id : ObjectId) where
           (failure_mars setting query look passing.own.query_is (asking_at all look.stage passing.stage) exchange.ask is
           (can_fail exchange.ask (subst (λ (answer : Answer). IsTrue Shown setting hash exchange.ask answer) failed_so (truth exchange among))))
 
-      failures_mar : (look : LookUp) → Passes all look → (exchanges : List Exchange) → ((exchange : Exchange) → Contains exchanges exchange → Contains all exchange)
+      failures_mar : (look : LookUp) → Passes all look → (exchanges : List Exchange)
+          → ((exchange : Exchange) → Contains exchanges exchange → Contains all exchange)
           → AreAsked setting look exchanges → HasFailed exchanges → IsLookMarred setting query (behind setting look exchanges)
       failures_mar look passing [] among asked has = absurd (none_in has.exchange has.among)
       failures_mar look passing (exchange ∷ exchanges) among asked has =

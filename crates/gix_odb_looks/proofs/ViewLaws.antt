@@ -31,10 +31,12 @@ module _ (Shown : Path → List ℕ → Type 0) (setting : Setting) (hash : Kind
   row_of row (entry, among, so, (listing, is, has)) =
       All-contains (IsIndexRow setting) listing.rows row (subst (λ (e : Event). IsHanded Shown setting hash e) is (handed entry among)) has
 
-  index_of : (slot : ℕ) (path : Path) (file : FileBytes) → TellsPut entries (λ happens. PutsIndex happens slot path file) → IsIndexShownAt Shown setting hash path file
+  index_of : (slot : ℕ) (path : Path) (file : FileBytes) → TellsPut entries (λ happens. PutsIndex happens slot path file)
+      → IsIndexShownAt Shown setting hash path file
   index_of slot path file (entry, among, so, is) = (subst (λ (e : Event). IsHanded Shown setting hash e) is (handed entry among)).1
 
-  pack_of : (slot : ℕ) (path : Path) (file : FileBytes) → TellsPut entries (λ happens. PutsPack happens slot path file) → IsPackShownAt Shown setting hash path file
+  pack_of : (slot : ℕ) (path : Path) (file : FileBytes) → TellsPut entries (λ happens. PutsPack happens slot path file)
+      → IsPackShownAt Shown setting hash path file
   pack_of slot path file (entry, among, so, (pack, is, there)) = subst (λ (e : Event). IsHanded Shown setting hash e) is (handed entry among)
 
   read_of_slot : (slot : ℕ) (packs : List PackFile) → ArePacksTold entries slot packs → All (IsPackShown Shown setting hash) packs
@@ -86,5 +88,6 @@ module _ (Shown : Path → List ℕ → Type 0) (setting : Setting) (hash : Kind
       view : View
       view = view_of (replay opening entries) number
 
-      each : (indices : List SnapshotIndex) → ((index : SnapshotIndex) → Contains indices index → IsIndexShown Shown setting hash index) → All (IsIndexShown Shown setting hash) indices
+      each : (indices : List SnapshotIndex) → ((index : SnapshotIndex) → Contains indices index → IsIndexShown Shown setting hash index)
+          → All (IsIndexShown Shown setting hash) indices
       each indices shows i d within = shows (get_or indices i d) (All-contains_itself indices i d within)

@@ -280,15 +280,7 @@ module _ (Shown : Path → List ℕ → Type 0) (setting : Setting) (hash : Kind
                   (folder_tells Shown setting hash id exchanges head.query folder among answer
                   (λ is. HasFailed-from_told exchanges (asks.Disk asks_so.0) (told.Disk answer) was (ap (λ (a : DiskAnswer). told.Disk a) is))
                   replies_so.0 replies_so.1
-                  (record {
-                    ask = asks_so.0;
-                    asked = asks_so.1;
-                    answer = answer;
-                    told = was;
-                    reply = replies_so.0;
-                    replied = replies_so.1;
-                    is = refl;
-                  }))),
+                  (record { ask = asks_so.0; asked = asks_so.1; answer = answer; told = was; reply = replies_so.0; replied = replies_so.1; is = refl }))),
             )
 
         -- the disk answers

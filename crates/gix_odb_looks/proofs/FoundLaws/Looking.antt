@@ -190,7 +190,8 @@ module _ (Shown : Path → List ℕ → Type 0) (setting : Setting) (hash : Kind
       } in
       let same : verdict_on query replied.0 ≡ verdict_on head.query replied.0 = ap (λ (asks : Query). verdict_on asks replied.0) (sym known.query_is) in
       subst (λ (reply : Option LooseReply). Stands (by_reply setting head round call reply)) (sym replied.1)
-      (verdict_known head round (verdict_on head.query replied.0) folder known among (subst (HasVerdict setting query id exchanges folder) same says) (loose_ends_other head.query replied.0))
+      (verdict_known head round (verdict_on head.query replied.0) folder known among
+      (subst (HasVerdict setting query id exchanges folder) same says) (loose_ends_other head.query replied.0))
 
   call_known : (head : LookHead) (round : LooseRound) (call : LooseCall) (ask : PartAsk) (answer : DiskAnswer) → Heads head
       → KnowsLoose Shown setting hash id exchanges query call

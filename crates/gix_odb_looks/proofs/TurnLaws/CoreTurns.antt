@@ -43,7 +43,8 @@ module _ (bounds : Bounds) where
   ended_left head false one other before stream turns = tt
 
   -- a count ends the look-up, or few lists of others were met
-  settled_left : (head : LookHead) (now before : ℕ) (stream : Option Stream) (turns : ℕ) (next : LookStage) (many : Bool) → nat_lt bounds.setting.most (lists_of_others head now) ≡ many
+  settled_left : (head : LookHead) (now before : ℕ) (stream : Option Stream) (turns : ℕ) (next : LookStage) (many : Bool)
+      → nat_lt bounds.setting.most (lists_of_others head now) ≡ many
       → (lists_of_others head now ≤ bounds.setting.most → HasLeft bounds head next before stream turns)
       → HasLeft bounds head (cond many (unsettled head now) next) before stream turns
   settled_left head now before stream turns next true is goes = tt
@@ -68,7 +69,8 @@ module _ (bounds : Bounds) where
       listing_left bounds (shown head view) view.list_no view.list_no stream turns notes (IsFurther-begun view has later (omega arith))
 
   -- where the list that was tried is no longer the newest, others published one
-  check_left : (head : LookHead) (number before : ℕ) (stream : Option Stream) (turns : ℕ) (view : View) (notes : Notes) (same : Bool) → (view.list_no == number) ≡ same
+  check_left : (head : LookHead) (number before : ℕ) (stream : Option Stream) (turns : ℕ) (view : View) (notes : Notes) (same : Bool)
+      → (view.list_no == number) ≡ same
       → before ≤ view.list_no
       → HasFurther bounds head number before 1 (suc turns)
       → HasLeft bounds (shown head view)

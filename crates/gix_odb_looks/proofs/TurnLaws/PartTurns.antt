@@ -29,18 +29,21 @@ use Rattle.gix_odb_looks.proofs.TurnLaws.LapsLeft.{IsFirst-less, IsFurther-less}
 module _ (bounds : Bounds) where
   -- ---- what comes behind a list
 
-  pub listing_left : (head : LookHead) (base before : ℕ) (stream : Option Stream) (turns : ℕ) (notes : Notes) → HasFurther bounds head base before bounds.lap turns
+  pub listing_left : (head : LookHead) (base before : ℕ) (stream : Option Stream) (turns : ℕ) (notes : Notes)
+      → HasFurther bounds head base before bounds.lap turns
       → HasLeft bounds head (listing_from bounds.setting base notes) before stream turns
   listing_left head base before stream turns notes has = (tt, IsFurther-less has (omega (arith, bounds.wide)))
 
-  loose_left : (head : LookHead) (part : Part) (before : ℕ) (stream : Option Stream) (turns : ℕ) (notes : Notes) → OfPart bounds head part before (folders bounds + 1) turns
+  loose_left : (head : LookHead) (part : Part) (before : ℕ) (stream : Option Stream) (turns : ℕ) (notes : Notes)
+      → OfPart bounds head part before (folders bounds + 1) turns
       → HasLeft bounds head (loose_from bounds.setting head part notes) before stream turns
   loose_left head part before stream turns notes has = (
     asks_once bounds.setting.limit head.query head.id bounds.setting.objects,
     OfPart-less bounds head part before (folders bounds + 1) turns ((folders bounds - 0) + 1) turns has (omega arith),
   )
 
-  list_left : (head : LookHead) (part : Part) (before : ℕ) (stream : Option Stream) (turns : ℕ) (notes : Notes) → OfPart bounds head part before (folders bounds + 1) turns
+  list_left : (head : LookHead) (part : Part) (before : ℕ) (stream : Option Stream) (turns : ℕ) (notes : Notes)
+      → OfPart bounds head part before (folders bounds + 1) turns
       → HasLeft bounds head (after_list bounds.setting head part notes) before stream turns
   list_left head parts.Snapshot before stream turns notes has = loose_left head parts.Snapshot before stream turns notes has
   list_left head (parts.List number true) before stream turns notes has = loose_left head (parts.List number true) before stream turns notes has
@@ -79,7 +82,8 @@ module _ (bounds : Bounds) where
   loose_over head (parts.List number loose) before stream turns notes has = listing_left head number before stream turns notes (IsFurther-less has (omega arith))
   loose_over head (parts.Published number) before stream turns notes has = has
 
-  folder_left : (head : LookHead) (round : LooseRound) (before : ℕ) (stream : Option Stream) (turns : ℕ) (next : Option Path) → slice_get bounds.setting.folders round.next ≡ next
+  folder_left : (head : LookHead) (round : LooseRound) (before : ℕ) (stream : Option Stream) (turns : ℕ) (next : Option Path)
+      → slice_get bounds.setting.folders round.next ≡ next
       → OfPart bounds head round.part before (folders bounds - round.next) turns
       → HasLeft bounds head (at_folder bounds.setting head round next) before stream turns
   folder_left head round before stream turns None is has =
@@ -101,7 +105,8 @@ module _ (bounds : Bounds) where
   verdict_left head round before stream turns (verdicts.Notes error) has =
       folder_left head (record round { notes = record round.notes { failed = true } }) before stream turns (slice_get bounds.setting.folders round.next) refl has
 
-  pub call_left : (head : LookHead) (round : LooseRound) (before : ℕ) (stream : Option Stream) (turns : ℕ) (call : LooseCall) (reply : LooseReply) → reply_of call ≡ Some reply
+  pub call_left : (head : LookHead) (round : LooseRound) (before : ℕ) (stream : Option Stream) (turns : ℕ) (call : LooseCall) (reply : LooseReply)
+      → reply_of call ≡ Some reply
       → OfPart bounds head round.part before (folders bounds - round.next) turns
       → HasLeft bounds head (by_call bounds.setting head round call) before stream turns
   call_left head round before stream turns call reply is has =
