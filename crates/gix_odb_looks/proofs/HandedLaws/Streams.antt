@@ -144,7 +144,7 @@ module _ (folders : List Path) (head : ListHead) where
   open_goes : (before : Told) → HasNone before → (answer : DiskAnswer)
       → StreamBehind (told_by before (asks.Disk (disk_asks.OpenDir head.folder)) (told.Disk answer)) (opened folders head answer)
   open_goes before none (answers.Dir dir) =
-      record { last = refl; left = refl; stream = record { folder = head.folder; entries = [] }; told = refl; of = refl }
+      record { last = refl; left = refl; stream = record { folder = head.folder; dir = dir; entries = [] }; told = refl; of = refl }
   open_goes before none (answers.Refused disk_errors.Absent) =
       behind_has_none (told_by before (asks.Disk (disk_asks.OpenDir head.folder)) (told.Disk (answers.Refused disk_errors.Absent))) none head
       (slice_get folders head.next)
