@@ -3,8 +3,8 @@ ghost use Rattle.std.specs.Prelude.{◌≡◌, ℕ, ◌≤◌, List, Option, len
 ghost use Rattle.odb_base.specs.Faults.{HasCause, Rose};
 ghost use Rattle.odb_sources.specs.Source.{Reads, Writes, ReadsFile, Adds};
 
-use odb_base::NoMemory;
 use crate::calls::Calls;
+use odb_base::NoMemory;
 use std::alloc::Global;
 use std::marker::Model;
 use thiserror::Error;
