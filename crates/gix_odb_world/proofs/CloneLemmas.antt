@@ -33,12 +33,12 @@ use Rattle.gix_odb_world.proofs.StepLemmas.{Tells, applied_at_core}
 
 taken_by : (phase parent : Phase) (why : Why) → Some why ≡ why_not_open phase true → why_not_clone phase parent ≡ Some why
 taken_by NoneThere parent why is = absurd (cc is)
-taken_by Idle parent why is = sym is
+taken_by (Idle hash) parent why is = sym is
 taken_by Running parent why is = sym is
 
 free_by : (phase parent : Phase) → None ≡ why_not_open phase true → why_not_clone phase parent ≡ why_not_idle parent
 free_by NoneThere parent free = refl
-free_by Idle parent free = absurd (cc free)
+free_by (Idle hash) parent free = absurd (cc free)
 free_by Running parent free = absurd (cc free)
 
 module _ (world : Course) (number from : ℕ) where

@@ -2,11 +2,10 @@
 use Rattle.std.proofs.Common.{◌≡◌, ℕ, ◌+◌, ◌≤◌, ◌<◌, Bool, true, false, List, length, take, Some, None, refl, sym, ◌∙◌, ap, subst, arith}
 use Rattle.std.specs.Prelude.{◌&&◌, nat_le}
 use Rattle.std.proofs.lemmas.Grind.{not_there}
-use Rattle.odb_base.specs.Path.{Path, path_cmp}
+use Rattle.odb_base.specs.Path.{Path}
 use Rattle.odb_disk.specs.MemDisk.{Volume}
+use Rattle.gix_hash.specs.declared.kind.Kind.{Kind as HashKind}
 use Rattle.gix_hash.specs.declared.object_id.ObjectId.{ObjectId}
-use Rattle.gix_hash.specs.ObjectId.{id_cmp}
-use Rattle.std.specs.Map.{keys_of}
 use Rattle.gix_odb.specs.Contents.{StoreData}
 use Rattle.gix_odb.specs.declared.handle_state.HandleState.{HandleState}
 use Rattle.gix_odb.specs.declared.open_state.OpenState.TheVariants as opens
@@ -22,7 +21,7 @@ use Rattle.gix_odb_world.specs.Headline.{IsLawful}
 use Rattle.gix_odb_world.specs.Running.{Knows, Runs}
 use Rattle.gix_odb_world.specs.Status.{Free, Resting, Running, Status, Store, Working, status_of}
 use Rattle.gix_odb_world.specs.Table.{FitsCore}
-use Rattle.gix_odb_world.specs.Valid.{Phase, NoneThere, Idle, Running as Runs_on, are_distinct, is_openable, misuse_of, most_folders, phase_after, why_not_after, why_not_open}
+use Rattle.gix_odb_world.specs.Valid.{Phase, NoneThere, Idle, Running as Runs_on, is_openable, misuse_of, most_folders, phase_after, why_not_after, why_not_open}
 use Rattle.gix_odb_world.specs.WorkOrder.{registers_in}
 use Rattle.gix_odb_world.specs.World.{HasHistory, IsExplained, Matches, handle_at}
 use Rattle.gix_odb_world.proofs.BegunLemmas.{stems_now}
@@ -38,12 +37,12 @@ both_hold false b is = absurd (cc is)
 good_if_open : (phase : Phase) (openable : Bool) → None ≡ why_not_open phase openable → openable ≡ true
 good_if_open NoneThere true valid = refl
 good_if_open NoneThere false valid = absurd (cc valid)
-good_if_open Idle openable valid = absurd (cc valid)
+good_if_open (Idle hash) openable valid = absurd (cc valid)
 good_if_open Runs_on openable valid = absurd (cc valid)
 
-few_if_openable : (objects : Path) (folders : List Path) (replacements : List (ObjectId × ObjectId)) → is_openable objects folders replacements ≡ true
-    → length folders ≤ most_folders
-few_if_openable objects folders replacements good =
+few_if_openable : (objects : Path) (folders : List Path) (hash : HashKind) (replacements : List (ObjectId × ObjectId)) (changes : ℕ)
+    → is_openable objects folders hash replacements changes ≡ true → length folders ≤ most_folders
+few_if_openable objects folders hash replacements changes good =
     let few : nat_le (length folders) most_folders ≡ true = both_hold _ _ (both_hold _ _ good) in
     grind (arith, few)
 
@@ -51,10 +50,11 @@ few_if_opened : (first : Volume) (events : List Event) (handle begun : ℕ) (sto
     → length store.parts.folders ≤ most_folders
 few_if_opened first events handle begun store lawful o =
     let past : List Event = take o.place events in
-    let valid : None ≡ why_not_after first past (steps.Open handle o.path o.folders o.replacements o.options) =
+    let valid : None ≡ why_not_after first past (steps.Open handle o.path o.folders o.hash o.replacements o.options) =
     sym (ap misuse_of o.applied) ∙ ((lawful o.place o.event o.there).valid ∙ ap (why_not_after first past) o.opens) in
     subst (λ (parts : StoreData). length parts.folders ≤ most_folders) (sym o.parts)
-    (few_if_openable o.path o.folders o.replacements (good_if_open (phase_after past handle) (is_openable o.path o.folders o.replacements) valid))
+    (few_if_openable o.path o.folders o.hash o.replacements o.options.max_changes
+    (good_if_open (phase_after past handle) (is_openable o.path o.folders o.hash o.replacements o.options.max_changes) valid))
 
 -- ---- an opening that is to register its handle
 
