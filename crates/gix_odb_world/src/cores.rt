@@ -105,7 +105,7 @@ fn remove(alloc: Global, core: &mut Core, seat: u32)
 
 /// What an event of a core did, with the answer.
 #[derive(Drop)]
-pub struct Applied {
+pub struct EventDone {
     pub did: Did,
     pub answer: Result<Effect, Refusal>,
 }
@@ -117,7 +117,7 @@ pub fn applied(
     store: usize,
     seat: u32,
     event: Event,
-) -> Result<Applied, NoMemory>
+) -> Result<EventDone, NoMemory>
     requires there { store < length cores.old.items }
     requires can_happen { CanHappen (present (history_at cores.old.items store)) seat event }
     ensures did { IfOk result (λ applied. applied.did ≡ Did.Core store (number_behind (history_at cores.old.items store).entries)) }
@@ -131,7 +131,7 @@ pub fn applied(
         store: store as u64,
         entry,
     };
-    Ok(Applied { did, answer })
+    Ok(EventDone { did, answer })
 }
 
 /// The answer of a core to an event, unless memory ran out.

@@ -16,7 +16,7 @@ ghost use Rattle.gix_odb_world.specs.WorkOrder.{ask_on, fed_on, registers_in, re
 ghost use Rattle.gix_odb_world.specs.Table as tables;
 ghost use Rattle.gix_odb_world.specs.Table.{AddsCore, CanHappenAt, Carries, CarriesEvent, FitsCore, after_turn, carried_at, carried_unasked, change_now, did_now, told_in};
 
-use crate::cores::{Applied, applied, core_with};
+use crate::cores::{EventDone, applied, core_with};
 use crate::handle::Handle;
 use crate::record::Did;
 use crate::work::Work;
@@ -230,14 +230,14 @@ fn answered_by_core(
     alloc: Global,
     state: HandleState,
     work: Work,
-    applied: Applied,
+    applied: EventDone,
 ) -> Result<Carried, NoMemory>
     ensures did { IfOk result (λ done. done.did ≡ applied.did) }
     ensures change { IfOk result (λ done. done.change ≡ None) }
-    ensures state { IfOk result (λ done. done.state ≡ seeing state (view_in applied.answer)) }
+    ensures state { IfOk result (λ done. done.state ≡ tables.seeing state (view_in applied.answer)) }
     ensures work { IfOk result (λ done. done.work ≡ fed_on state work (told.Core applied.answer)) }
 {
-    let Applied { did, answer } = applied;
+    let EventDone { did, answer } = applied;
     match shown(&answer) {
         Ok(view) => fed_by_core(alloc, state, work, did, view, answer),
         Err(error) => {
@@ -270,7 +270,7 @@ fn fed_by_core(
 ) -> Result<Carried, NoMemory>
     ensures did { IfOk result (λ done. done.did ≡ did) }
     ensures change { IfOk result (λ done. done.change ≡ None) }
-    ensures state { IfOk result (λ done. done.state ≡ seeing state view) }
+    ensures state { IfOk result (λ done. done.state ≡ tables.seeing state view) }
     ensures work { IfOk result (λ done. done.work ≡ fed_on state work (told.Core answer)) }
 {
     match fed(alloc, state, work, did, None, Answer::Core(answer)) {
@@ -284,7 +284,7 @@ fn fed_by_core(
 
 /// What a turn came to, with the handle that has a view, if one was handed over.
 fn shown_to(done: Carried, view: Option<View>) -> Carried
-    ensures shown { result ≡ record done { state = seeing done.state view } }
+    ensures shown { result ≡ record done { state = tables.seeing done.state view } }
 {
     let Carried {
         did,
