@@ -301,18 +301,13 @@ fn shown_to(done: Carried, view: Option<View>) -> Carried
 }
 
 /// A handle with a view, if one was handed over.
-fn seeing(state: HandleState, view: Option<View>) -> HandleState
+fn seeing(mut state: HandleState, view: Option<View>) -> HandleState
     ensures seeing { result ≡ tables.seeing state view }
 {
-    match view {
-        None => state,
-        Some(view) => HandleState {
-            store: state.store,
-            ignore_replacements: state.ignore_replacements,
-            core: state.core,
-            view: Some(view),
-        },
+    if let Some(view) = view {
+        state.view = Some(view);
     }
+    state
 }
 
 /// Makes a call of the disk: what it did, the change that it made, and the answer.
