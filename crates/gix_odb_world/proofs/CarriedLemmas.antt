@@ -1,6 +1,7 @@
 -- The code of a turn carries out what the work asks for: a call of the disk, an event of a core, or a core for its store.
-use Rattle.std.proofs.Common.{◌≡◌, ℕ, ◌+◌, true, false, List, [], ◌∷◌, ◌++◌, length, Option, Some, None, refl, sym, ap, ◌∙◌}
-use Rattle.std.specs.Prelude.{if◌then◌else◌}
+use Rattle.std.proofs.Common.{◌≡◌, ℕ, ◌+◌, true, false, List, [], ◌∷◌, ◌++◌, length, Option, Some, None, Result, Ok, Err, refl, sym, ap, ◌∙◌}
+use Rattle.std.specs.Prelude.{if◌then◌else◌, IfOk, OnOk}
+use Rattle.odb_base.specs.declared.no_memory.NoMemory.{NoMemory}
 use Rattle.odb_base.specs.Path.{Path}
 use Rattle.odb_tree.specs.Tree.{tree_of}
 use Rattle.odb_tree.specs.declared.change.Change.{Change}
@@ -10,6 +11,7 @@ use Rattle.odb_disk.specs.declared.ask.DiskAsk.{DiskAsk}
 use Rattle.gix_odb.specs.declared.handle_state.HandleState.{HandleState}
 use Rattle.gix_odb_core.specs.History.{History}
 use Rattle.gix_odb_core.specs.declared.view.View.{View}
+use Rattle.gix_odb_packs.specs.declared.answer.Answer as parts
 use Rattle.gix_odb_packs.specs.declared.answer.Answer.TheVariants as told
 use Rattle.gix_odb_packs.specs.declared.answer.PartAsk.{PartAsk}
 use Rattle.gix_odb_packs.specs.declared.answer.PartAsk.TheVariants as asks
@@ -21,7 +23,7 @@ use Rattle.gix_odb_world.specs.Cores.{cores_after_asked, or_before}
 use Rattle.gix_odb_world.specs.Event.{Ask, CoreAnswer, CoreEvent, OfCore, ToCore, ToDisk, ToNewCore, answered}
 use Rattle.gix_odb_world.specs.Recorded.{opened_in}
 use Rattle.gix_odb_world.specs.Run.{Stand, change_asked, did_of_asked, disk_after_asked, stand, told_now}
-use Rattle.gix_odb_world.specs.Table.{AddsCore, Carries, CarriesEvent, carried_at, carried_unasked, change_now, did_now, own_answer, state_after, told_in}
+use Rattle.gix_odb_world.specs.Table.{AddsCore, Carries, CarriesEvent, carried_at, carried_unasked, change_now, did_now, own_answer, seeing, state_after, told_in}
 use Rattle.gix_odb_world.specs.WorkOrder.{ask_on, asks_on, fed_after, fed_on, part_asked, registered_on, registers_in}
 use Rattle.gix_odb_world.proofs.FailedLemmas.{has_failed-now}
 use Rattle.gix_odb_world.proofs.WriteAsk.Quiet.{after_ask-change}
@@ -37,6 +39,12 @@ asks_core state work is = ap (λ b. if b then core_asked state else part_asked (
 pub asks_part : (state : HandleState) (work : Work) (ask : Option PartAsk) → registers_in work ≡ false → ask_on state work ≡ ask → part_asked ask ≡ asks_on state work
 asks_part state work ask other is =
     sym (ap (λ b. if b then core_asked state else part_asked (ask_on state work)) other ∙ ap part_asked is)
+
+-- a view that a handle sees changes nothing of how its work is fed
+pub fed_seeing : (state : HandleState) (view : Option View) (work : Work) (answer : parts.Answer) → fed_on (seeing state view) work answer ≡ fed_on state work answer
+fed_seeing state view (Opening opening) (told.Disk answer) = refl
+fed_seeing state view (Opening opening) (told.Core answer) = refl
+fed_seeing state view (Calling call) answer = refl
 
 module _ (disk : Volume) (cores : List History) (seat : ℕ) (state : HandleState) (work : Work) where
   abbrev at : Stand
@@ -81,6 +89,17 @@ module _ (disk : Volume) (cores : List History) (seat : ℕ) (state : HandleStat
   carries_call other ask is disk_then done did_is change_is state_is work_is disk_is =
       carries_by disk_then cores done (Some (ToDisk ask)) (asks_part state work (Some (asks.Disk ask)) other is)
       did_is (change_is ∙ change_of_call ask) state_is work_is (disk_is ∙ after_ask-change disk ask) refl
+
+  -- which failed only where memory ran out
+  pub carries_answer : registers_in work ≡ false → (ask : DiskAsk) → ask_on state work ≡ Some (asks.Disk ask) → (disk_then : Volume)
+      → (result : Result Carried NoMemory)
+      → IfOk result (λ done. done.did ≡ did_now (opened_in work) disk ask) → IfOk result (λ done. done.change ≡ change_now disk ask)
+      → IfOk result (λ done. done.state ≡ state) → IfOk result (λ done. done.work ≡ fed_on state work (told.Disk (answer_now disk ask)))
+      → OnOk result (disk_then ≡ after_ask disk ask)
+      → IfOk result (λ done. IsCarried disk_then cores done)
+  carries_answer other ask is disk_then (Ok done) did_is change_is state_is work_is disk_is =
+      carries_call other ask is disk_then done did_is change_is state_is work_is disk_is
+  carries_answer other ask is disk_then (Err error) did_is change_is state_is work_is disk_is = tt
 
   -- ---- an event of a core
 

@@ -129,13 +129,33 @@ fn turned(
     ensures carried { IfOk result (Carries disk.old disk.new cores.old.items cores.new.items state work (told_in cores.old.items disk.old seat state work)) }
 {
     match work.ask(alloc, &state) {
-        Ok(None) => Ok(unasked(state, work)),
-        Ok(Some(PartAsk::Disk(ask))) => on_disk(alloc, disk, state, work, &ask),
-        Ok(Some(PartAsk::Core(event))) => at_own_core(alloc, cores, seat, state, work, event),
+        Ok(ask) => asked(alloc, disk, cores, seat, state, work, ask),
         Err(error) => {
             drop((state, work));
             Err(error)
         }
+    }
+}
+
+/// Carries out what a piece of work asked for: a call of the disk, an event of its handle's core, or nothing.
+fn asked(
+    alloc: Global,
+    disk: &mut MemDisk,
+    cores: &mut Vec<Core>,
+    seat: u32,
+    state: HandleState,
+    work: Work,
+    ask: Option<PartAsk>,
+) -> Result<Carried, NoMemory>
+    requires other { registers_in work ≡ false }
+    requires asked { ask ≡ ask_on state work }
+    requires can_happen { CanHappenAt cores.old.items seat state ask }
+    ensures carried { IfOk result (Carries disk.old disk.new cores.old.items cores.new.items state work (told_in cores.old.items disk.old seat state work)) }
+{
+    match ask {
+        None => Ok(unasked(state, work)),
+        Some(PartAsk::Disk(ask)) => on_disk(alloc, disk, state, work, &ask),
+        Some(PartAsk::Core(event)) => at_own_core(alloc, cores, seat, state, work, event),
     }
 }
 
@@ -239,7 +259,10 @@ fn answered_by_core(
 {
     let EventDone { did, answer } = applied;
     match shown(&answer) {
-        Ok(view) => fed_by_core(alloc, state, work, did, view, answer),
+        Ok(view) => {
+            let state = seeing(state, view);
+            fed(alloc, state, work, did, None, Answer::Core(answer))
+        }
         Err(error) => {
             drop((state, work, did, answer));
             Err(error)
@@ -257,46 +280,6 @@ fn shown(answer: &Result<Effect, Refusal>) -> Result<Option<View>, NoMemory>
             None => Ok(None),
         },
         Err(_) => Ok(None),
-    }
-}
-
-fn fed_by_core(
-    alloc: Global,
-    state: HandleState,
-    work: Work,
-    did: Did,
-    view: Option<View>,
-    answer: Result<Effect, Refusal>,
-) -> Result<Carried, NoMemory>
-    ensures did { IfOk result (λ done. done.did ≡ did) }
-    ensures change { IfOk result (λ done. done.change ≡ None) }
-    ensures state { IfOk result (λ done. done.state ≡ tables.seeing state view) }
-    ensures work { IfOk result (λ done. done.work ≡ fed_on state work (told.Core answer)) }
-{
-    match fed(alloc, state, work, did, None, Answer::Core(answer)) {
-        Ok(done) => Ok(shown_to(done, view)),
-        Err(error) => {
-            drop(view);
-            Err(error)
-        }
-    }
-}
-
-/// What a turn came to, with the handle that has a view, if one was handed over.
-fn shown_to(done: Carried, view: Option<View>) -> Carried
-    ensures shown { result ≡ record done { state = tables.seeing done.state view } }
-{
-    let Carried {
-        did,
-        change,
-        state,
-        work,
-    } = done;
-    Carried {
-        did,
-        change,
-        state: seeing(state, view),
-        work,
     }
 }
 
