@@ -287,10 +287,13 @@ fn shown(answer: &Result<Effect, Refusal>) -> Result<Option<View>, NoMemory>
 fn seeing(mut state: HandleState, view: Option<View>) -> HandleState
     ensures seeing { result ≡ tables.seeing state view }
 {
-    if let Some(view) = view {
-        state.view = Some(view);
+    match view {
+        None => state,
+        Some(view) => {
+            state.view = Some(view);
+            state
+        }
     }
-    state
 }
 
 /// Makes a call of the disk: what it did, the change that it made, and the answer.
