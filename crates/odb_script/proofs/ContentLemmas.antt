@@ -10,7 +10,7 @@ use Rattle.gix_object.specs.declared.kind.Kind.TheVariants.{Commit, Tree, Blob, 
 use Rattle.gix_object.specs.Kind.{kind_word, kind_of_word}
 use Rattle.gix_object.specs.Loose.{header_of}
 use Rattle.gix_pack_tables.specs.declared.object.Object.{Object}
-use Rattle.gix_multi_index.specs.declared.named_pack.NamedPack.{NamedPack}
+use Rattle.gix_multi_index_written.specs.declared.named_pack.NamedPack.{NamedPack}
 use Rattle.gix_pack.specs.WrittenPack.{object_seen, pack_of}
 use Rattle.gix_pack.specs.WrittenIndex.{index_of}
 use Rattle.gix_pack.specs.WrittenMultiIndex.{CanBeWritten, named_seen, multi_index_of_packs}

@@ -9,7 +9,7 @@ use Rattle.gix_object.specs.declared.kind.Kind.{Kind}
 use Rattle.gix_object.specs.Kind.{kind_of_word}
 use Rattle.gix_object.specs.Loose.{header_of}
 use Rattle.gix_pack_tables.specs.declared.object.Object.{Object}
-use Rattle.gix_multi_index.specs.declared.named_pack.NamedPack.{NamedPack}
+use Rattle.gix_multi_index_written.specs.declared.named_pack.NamedPack.{NamedPack}
 use Rattle.gix_pack.specs.MultiIndex.{are_names}
 use Rattle.gix_pack.specs.WrittenPack.{object_seen, pack_of}
 use Rattle.gix_pack.specs.WrittenIndex.{index_of}
