@@ -22,6 +22,10 @@ use Rattle.gix_odb_calls.specs.declared.call.Reply.TheVariants as replies
 use Rattle.gix_odb.specs.declared.call_state.CallState.{CallState}
 use Rattle.gix_odb.specs.declared.call_state.CallState.TheVariants.{Looking, Writing}
 use Rattle.gix_odb.specs.declared.look_state.LookState.{LookState}
+use Rattle.gix_odb_packs.specs.declared.answer.Answer.{Answer}
+use Rattle.gix_odb_packs.specs.declared.answer.Answer.TheVariants as told
+use Rattle.gix_odb_packs.specs.declared.answer.PartAsk.{PartAsk}
+use Rattle.gix_odb_packs.specs.declared.answer.PartAsk.TheVariants as asks
 use Rattle.gix_odb_calls.specs.declared.query.Query.{Query}
 use Rattle.gix_odb_calls.specs.declared.query.Query.TheVariants.{Find, Header, Test}
 use Rattle.gix_odb_calls.specs.declared.write.Error.TheVariants as write_errors
@@ -79,9 +83,14 @@ abbrev pub waiting_in : CallState → Option LooseCall
 waiting_in (Looking state) = looks.waiting_in state
 waiting_in (Writing call) = Some call
 
--- the next call of the disk, if there is one
-abbrev pub ask_of : CallState → Option DiskAsk
-ask_of state = asked_by (waiting_in state)
+-- a call of the disk as what is asked for
+abbrev pub disk_part : Option DiskAsk → Option PartAsk
+disk_part None = None
+disk_part (Some ask) = Some (asks.Disk ask)
+
+-- what is asked for next, if anything is: of the calls here the disk alone
+abbrev pub ask_of : CallState → Option PartAsk
+ask_of state = disk_part (asked_by (waiting_in state))
 
 abbrev pub looking_result : Result Reply LookState → Result Reply CallState
 looking_result (Ok reply) = Ok reply
@@ -97,6 +106,11 @@ result_of (Looking state) = looking_result (looks.result_of state)
 result_of (Writing call) = writing_result (result_of_write call)
 
 -- a call after the answer to its call of the disk
-abbrev pub fed : List Path → (limit : Option ℕ) → CallState → DiskAnswer → CallState
-fed folders limit (Looking state) answer = Looking (looks.fed folders limit state answer)
-fed folders limit (Writing call) answer = Writing (loose_order.fed call answer)
+abbrev pub fed_by_disk : List Path → (limit : Option ℕ) → CallState → DiskAnswer → CallState
+fed_by_disk folders limit (Looking state) answer = Looking (looks.fed folders limit state answer)
+fed_by_disk folders limit (Writing call) answer = Writing (loose_order.fed call answer)
+
+-- a call after the answer to what it asked for. One of the core leaves a call that asks the disk alone.
+abbrev pub fed : List Path → (limit : Option ℕ) → CallState → Answer → CallState
+fed folders limit state (told.Disk answer) = fed_by_disk folders limit state answer
+fed folders limit state (told.Core answer) = state

@@ -1,7 +1,8 @@
 //! The order of work of a call on a handle: an object is looked for, or written.
 ghost use Rattle.std.specs.Prelude.{◌≡◌, ◌<◌, ◌^◌, IfOk};
 ghost use Rattle.std.specs.Option.{option_copied};
-ghost use Rattle.gix_odb.specs.CallOrder.{HasSize, IsOfHash, ask_of, result_of, started, waiting_in, writing, wrote_as};
+ghost use Rattle.gix_odb_loose.specs.LooseOrder.{disk_ask_of};
+ghost use Rattle.gix_odb.specs.CallOrder.{HasSize, IsOfHash, ask_of, disk_part, result_of, started, waiting_in, writing, wrote_as};
 ghost use Rattle.gix_odb.specs.CallOrder as calls;
 ghost use Rattle.gix_odb.specs.HandleState.{folders_of, hash_of, limit_of, objects_of, sought_by};
 
@@ -11,13 +12,15 @@ use gix_hash::ObjectId;
 use gix_object::Kind;
 use gix_odb_calls::{Call, CallError, Query, Reply, write};
 use gix_odb_loose::{LooseCall, LooseJob, LooseReply};
+use gix_odb_packs::{Answer, PartAsk};
 use odb_base::{NoMemory, PathText};
-use odb_disk::{ByteList, DiskAnswer, DiskAsk};
+use odb_disk::{ByteList, DiskAnswer};
 use std::alloc::Global;
 
 /// A call on a handle on its way.
 ///
-/// `disk_ask` names the next call of the disk, `feed` takes its answer, and so on until the call has its reply.
+/// `ask` names the next call of the disk or the next event of the store's core, `feed` takes its answer, and so on until the
+/// call has its reply.
 #[derive(Drop)]
 pub enum CallState {
     /// An object is looked for in the folders of the store.
@@ -27,7 +30,7 @@ pub enum CallState {
 }
 
 impl CallState {
-    /// A new call, whose ids are of the store's hash. It asks nothing of the disk yet.
+    /// A new call, whose ids are of the store's hash. It asks for nothing yet.
     pub fn start(alloc: Global, handle: &HandleState, call: &Call) -> Result<CallState, NoMemory>
         requires of_hash { IsOfHash (hash_of handle.now) call.now }
         ensures begun { IfOk result (λ state. state ≡ started (objects_of handle.now) (hash_of handle.now) (limit_of handle.now) (sought_by handle.now) call.now) }
@@ -57,12 +60,12 @@ impl CallState {
         }
     }
 
-    /// The call of the disk that comes next; there is none where the call is done.
-    pub fn disk_ask(&self, alloc: Global) -> Result<Option<DiskAsk>, NoMemory>
+    /// What comes next: a call of the disk, or an event of the store's core; there is none where the call is done.
+    pub fn ask(&self, alloc: Global) -> Result<Option<PartAsk>, NoMemory>
         ensures asked { IfOk result (λ ask. ask ≡ ask_of self.now) }
     {
         match self.waiting() {
-            Some(call) => call.disk_ask(alloc),
+            Some(call) => loose_ask(alloc, call),
             None => Ok(None),
         }
     }
@@ -77,14 +80,30 @@ impl CallState {
         }
     }
 
-    /// The call after the answer to its call of the disk, on the handle that it was started on.
+    /// The call after the answer to what it asked for, on the handle that it was started on. An answer of the core leaves a
+    /// call that asks the disk alone.
     pub fn feed(
+        self,
+        alloc: Global,
+        handle: &HandleState,
+        answer: Answer,
+    ) -> Result<CallState, NoMemory>
+        ensures fed { IfOk result (λ state. state ≡ calls.fed (folders_of handle.now) (limit_of handle.now) self answer) }
+    {
+        match answer {
+            Answer::Disk(answer) => self.by_disk(alloc, handle, answer),
+            Answer::Core(_) => Ok(self),
+        }
+    }
+
+    /// The call after an answer of the disk.
+    fn by_disk(
         self,
         alloc: Global,
         handle: &HandleState,
         answer: DiskAnswer,
     ) -> Result<CallState, NoMemory>
-        ensures fed { IfOk result (λ state. state ≡ calls.fed (folders_of handle.now) (limit_of handle.now) self answer) }
+        ensures fed { IfOk result (λ state. state ≡ calls.fed_by_disk (folders_of handle.now) (limit_of handle.now) self answer) }
     {
         match self {
             CallState::Looking(state) => {
@@ -108,6 +127,16 @@ impl CallState {
                 Err(call) => Err(CallState::Writing(call)),
             },
         }
+    }
+}
+
+// The call of the disk that a folder's call asks for.
+fn loose_ask(alloc: Global, call: &LooseCall) -> Result<Option<PartAsk>, NoMemory>
+    ensures asked { IfOk result (λ ask. ask ≡ disk_part (disk_ask_of call.now)) }
+{
+    match call.disk_ask(alloc)? {
+        None => Ok(None),
+        Some(ask) => Ok(Some(PartAsk::Disk(ask))),
     }
 }
 

@@ -1,12 +1,15 @@
 //! A store over several folders: what it holds, and the calls on a handle of it.
 //!
-//! A call is a machine: it names one call of the disk at a time, takes its answer, and comes to a reply. The order of
-//! work is in `specs/{OpenOrder,LookOrder,CallOrder}.antt`; what a store holds, and for how long, in
-//! `specs/{Contents,Moments,Held}.antt`. Who drives the machines, over which disk, is the matter of the crates above.
+//! A call is a machine: it names one call of the disk or one event of the store's core at a time, takes the answer, and
+//! comes to a reply. The calls here ask the disk alone. The order of work is in
+//! `specs/{OpenOrder,LookOrder,CallOrder}.antt`; what a store holds, and for how long, in
+//! `specs/{Contents,Moments,Held}.antt`. Who drives the machines, over which disk and core, is the matter of the crates
+//! above.
 //! ```rust
 //! let mut state = CallState::start(alloc, &handle, &Call::Find(id))?;
-//! while let Some(ask) = state.disk_ask(alloc)? {
-//!     state = state.feed(alloc, &handle, ask.carry_out(alloc, &mut disk))?;
+//! while let Some(ask) = state.ask(alloc)? {
+//!     let answer = ..;                       // of the disk, or of the core
+//!     state = state.feed(alloc, &handle, answer)?;
 //! }
 //! ```
 #![tactic(auto)]

@@ -41,7 +41,7 @@ use Rattle.gix_odb_world.proofs.FailedLemmas.{fails_now-still}
 use Rattle.gix_odb_world.proofs.FolderLemmas.{ask_found}
 use Rattle.gix_odb_world.proofs.LookMachine.Begun.{looking_starts}
 use Rattle.gix_odb_world.proofs.LookMachine.Comes.{LookComes, look_comes}
-use Rattle.gix_odb_world.proofs.MachineLaws.{AsksDisk, HasTurn, KeepsLaws, MachineComes, quiet_turn, same_ask, turns_by_disk, writes_nothing}
+use Rattle.gix_odb_world.proofs.MachineLaws.{AsksDisk, HasTurn, KeepsLaws, MachineComes, of_disk_part, quiet_turn, same_ask, turns_by_disk, writes_nothing}
 use Rattle.gix_odb_world.proofs.QuietTurn.{failed_earlier, failed_now, shown_now}
 use Rattle.gix_odb_world.proofs.HistoryLemmas.{failed-kept, tree_at-before}
 use Rattle.gix_odb_world.proofs.QueryKept.{looking_push}
@@ -189,7 +189,7 @@ looking_turns = record {
 pub looking_laws : KeepsLaws looking
 looking_laws = record {
   at_home = λ state. refl;
-  asks = λ store modes code own state. refl;
+  asks = λ store modes code own state. of_disk_part (looks.ask_of state);
   feeds = looking_feeds;
   starts = looking_starts;
   tasked = λ first events handle running state knows. knows.task;

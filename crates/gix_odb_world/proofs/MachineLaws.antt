@@ -8,6 +8,9 @@ use Rattle.odb_disk.specs.declared.ask.DiskAsk.{DiskAsk}
 use Rattle.odb_disk.specs.declared.ask.DiskAnswer.{DiskAnswer}
 use Rattle.gix_odb.specs.CallOrder.{HasSize, result_of_write}
 use Rattle.gix_odb_calls.specs.declared.call.Reply.{Reply}
+use Rattle.gix_odb_core.specs.Replay.{CanHappen}
+use Rattle.gix_odb_core.specs.declared.shape.Shape.{Shape}
+use Rattle.gix_odb.specs.CallOrder.{disk_part}
 use Rattle.gix_odb.specs.declared.handle_state.HandleState.{HandleState}
 use Rattle.gix_odb_loose.specs.LooseOrder.{disk_ask_of}
 use Rattle.gix_odb_loose.specs.LooseOrder as loose_order
@@ -17,7 +20,7 @@ use Rattle.gix_odb_world.specs.declared.work.Work.{Work}
 use Rattle.gix_odb_world.specs.Asks.{AsksInOrder, MayAskCore, MayAskNewCore, MayEndUnasked}
 use Rattle.gix_odb_world.specs.Bound.{bound_of_task}
 use Rattle.gix_odb_world.specs.Changes.{ChangesInTask}
-use Rattle.gix_odb_world.specs.Event.{Answer, Ask, Asked, Event, FromDisk, OfDisk, ToCore, ToDisk, ToNewCore, answered, to_disk}
+use Rattle.gix_odb_world.specs.Event.{Answer, Ask, Asked, CoreEvent, Event, FromDisk, OfDisk, ToCore, ToDisk, ToNewCore, answered, to_disk}
 use Rattle.gix_odb_world.specs.Handle.{IsHandleOf}
 use Rattle.gix_odb_world.specs.Headline.{stand_of}
 use Rattle.gix_odb_world.specs.Machine.{At, Machine, placed}
@@ -28,7 +31,7 @@ use Rattle.gix_odb_world.specs.Running.{Knows}
 use Rattle.gix_odb_world.specs.Running.Write.{IsWriting, write_at}
 use Rattle.gix_odb_world.specs.Writing.{ToWrite}
 use Rattle.gix_odb_world.specs.Status.{MakeCall, OpenStore, Running, Store, Task, begun_with, gone_on, running_from, Modes}
-use Rattle.gix_odb_world.specs.WorkOrder.{asks_on, fed_after, result_in}
+use Rattle.gix_odb_world.specs.WorkOrder.{asks_on, fed_after, part_asked, result_in}
 use Rattle.gix_odb_world.proofs.WriteTurn.Common.{IsTurnWith}
 
 -- the turn of a task's call of the disk, and the change that this makes
@@ -130,6 +133,9 @@ pub record KeepsTurnLaws (m : Machine) : Type 1 where
   -- where it asks for nothing, it has its reply
   pub ends : (first : Volume) (events : List Event) (handle : ℕ) (running : Running) (state : m.State) → m.Knows first events handle running state
       → m.ask running.store state ≡ None → (reply : Reply) × (m.feed running.store state None ≡ Ok reply)
+  -- an event of a core that it asks for can happen there
+  pub happens : (first : Volume) (events : List Event) (handle : ℕ) (running : Running) (state : m.State) → m.Knows first events handle running state
+      → (event : CoreEvent) → m.ask running.store state ≡ Some (ToCore event) → (shape : Shape) (seat : ℕ) → CanHappen shape seat event
   -- the turn leads to a reply that keeps the promise of the task, or on
   pub comes : (first : Volume) (events : List Event) (e : Event) (handle : ℕ) (running : Running) → running.begun ≤ length events
       → (state : m.State) → m.Knows first events handle running state → IsTurnAsking first events e handle running (m.ask running.store state)
@@ -161,6 +167,16 @@ pub record KeepsLaws (m : Machine) : Type 1 where
   pub writes : KeepsWriteLaws m
 
 -- ---- machines that ask the disk in each turn
+
+-- what is asked of the disk is the same among all that is asked for
+pub of_disk_part : (asked : Option DiskAsk) → part_asked (disk_part asked) ≡ to_disk asked
+of_disk_part None = refl
+of_disk_part (Some ask) = refl
+
+-- what is asked of the disk is no event of a core
+pub no_event : (asked : Option DiskAsk) (event : CoreEvent) → ¬ (to_disk asked ≡ Some (ToCore event))
+no_event None event is = cc is
+no_event (Some ask) event is = cc is
 
 -- what is asked of the disk is that call
 pub same_ask : (asked : Option DiskAsk) (ask : DiskAsk) → to_disk asked ≡ Some (ToDisk ask) → asked ≡ Some ask
@@ -197,6 +213,9 @@ module _ (m : Machine) (call : Store → m.State → Option DiskAsk) (disk : Ask
     never_ends : m.ask running.store state ≡ None → ⊥
     never_ends none = let both : None ≡ Some (ToDisk some.0) = sym none ∙ asked in cc both
 
+    calls_disk : (event : CoreEvent) → ¬ (m.ask running.store state ≡ Some (ToCore event))
+    calls_disk event is = no_event (call running.store state) event (sym (disk.is running.store state) ∙ is)
+
     comes : (e : Event) → running.begun ≤ length events → IsTurnAsking first events e handle running (m.ask running.store state)
         → MachineComes first events e handle running m (told_after first events handle running (m.ask running.store state))
         (m.feed running.store state (answered (told_after first events handle running (m.ask running.store state))))
@@ -209,6 +228,7 @@ module _ (m : Machine) (call : Store → m.State → Option DiskAsk) (disk : Ask
   turns_by_disk = record {
     takes = takes;
     ends = λ first events handle running state knows none. absurd (never_ends first events handle running state knows none);
+    happens = λ first events handle running state knows event is shape seat. absurd (calls_disk first events handle running state knows event is);
     comes = λ first events e handle running since state knows. comes first events handle running state knows e since;
   }
 

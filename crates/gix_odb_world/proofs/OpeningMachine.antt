@@ -22,7 +22,7 @@ use Rattle.gix_odb.specs.declared.open_state.OpenState.TheVariants as opens
 use Rattle.gix_odb_world.specs.declared.work.Work.TheVariants.{Opening}
 use Rattle.gix_odb_world.specs.Bound.{bound_of_task, turn_bound}
 use Rattle.gix_odb_world.specs.Causes.{Sometime, ShowsDirectory}
-use Rattle.gix_odb_world.specs.Event.{Answer, Ask, Event, FromCore, FromDisk, OfDisk, ToDisk, ToNewCore, answered}
+use Rattle.gix_odb_world.specs.Event.{Answer, Ask, CoreEvent, Event, FromCore, FromDisk, OfDisk, ToCore, ToDisk, ToNewCore, answered}
 use Rattle.gix_odb_world.specs.Handle.{IsHandleOf}
 use Rattle.gix_odb_world.specs.Machine.{placed}
 use Rattle.gix_odb_core.specs.History.{opened}
@@ -219,10 +219,16 @@ opening_comes first events e handle running since task opens.Registering seen tu
     keeps first events handle running task e since (replies.Opened running.store.slots) (registered first events handle running task e since seen turn)
 opening_comes first events e handle running since task (opens.Done reply) seen turn = absurd seen
 
+asks_no_event : (store : Store) (state : OpenState) (event : CoreEvent) → ¬ (opening_ask store state ≡ Some (ToCore event))
+asks_no_event store opens.Looking event is = cc is
+asks_no_event store opens.Registering event is = cc is
+asks_no_event store (opens.Done reply) event is = cc is
+
 opening_turns : KeepsTurnLaws opening
 opening_turns = record {
   takes = λ first events handle running state knows. opening_takes first events handle running knows.task state knows.seen;
   ends = λ first events handle running state knows none. opening_ends first events handle running state knows.seen none;
+  happens = λ first events handle running state knows event is shape seat. absurd (asks_no_event running.store state event is);
   comes = λ first events e handle running since state knows turn. opening_comes first events e handle running since knows.task state knows.seen turn;
 }
 

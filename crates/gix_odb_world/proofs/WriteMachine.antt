@@ -23,7 +23,7 @@ use Rattle.gix_odb_world.specs.Running.Write.{IsAtOwnWrite, IsWriting, writing}
 use Rattle.gix_odb_world.specs.Status.{MakeCall, OpenStore, Running, Store, Task, begun_with, running_from}
 use Rattle.gix_odb_world.specs.WorkOrder.{calling_result, fed_after, result_in}
 use Rattle.gix_odb_world.proofs.WriteMachine.Asks.{in_order_write}
-use Rattle.gix_odb_world.proofs.MachineLaws.{AsksDisk, HasTurn, IsSized, KeepsLaws, KeepsWriteLaws, MachineComes, turns_by_disk}
+use Rattle.gix_odb_world.proofs.MachineLaws.{AsksDisk, HasTurn, IsSized, KeepsLaws, KeepsWriteLaws, MachineComes, of_disk_part, turns_by_disk}
 use Rattle.gix_odb_world.proofs.WriteFive.{five_written}
 use Rattle.gix_odb_world.proofs.WriteGoes.{write_comes}
 use Rattle.gix_odb_world.proofs.WriteKept.{writing_begun, writing_push}
@@ -119,7 +119,7 @@ writing_turns = record {
 pub writing_laws : KeepsLaws writing
 writing_laws = record {
   at_home = λ call. refl;
-  asks = λ store modes code own call. refl;
+  asks = λ store modes code own call. of_disk_part (disk_ask_of call);
   feeds = λ store modes code own call answer. write_feeds store code call answer;
   starts = write_starts;
   tasked = λ first events handle running call knows. record { write = knows.writing.write; task_is = knows.task; stage = knows.writing.stage; is = knows.writing.is };

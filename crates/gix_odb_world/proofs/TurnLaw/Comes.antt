@@ -1,10 +1,12 @@
 -- What a turn of any work comes to: its reply keeps its promise, or the work goes on and knows as much. All of it is what the laws of
 -- its machine say.
-use Rattle.std.proofs.Common.{◌≡◌, ℕ, ◌+◌, ◌<◌, ◌≤◌, List, [], ◌∷◌, ◌++◌, length, None, Ok, Err, Result, sym, ap, subst}
+use Rattle.std.proofs.Common.{◌≡◌, ℕ, ◌+◌, ◌<◌, ◌≤◌, List, [], ◌∷◌, ◌++◌, length, None, Some, Ok, Err, Result, sym, ap, subst}
 use Rattle.odb_disk.specs.MemDisk.{Volume}
 use Rattle.gix_odb_calls.specs.declared.call.Reply.{Reply}
+use Rattle.gix_odb_core.specs.Replay.{CanHappen}
+use Rattle.gix_odb_core.specs.declared.shape.Shape.{Shape}
 use Rattle.gix_odb_world.specs.declared.work.Work.{Work}
-use Rattle.gix_odb_world.specs.Event.{Asked, Event, answered}
+use Rattle.gix_odb_world.specs.Event.{Asked, CoreEvent, Event, ToCore, answered}
 use Rattle.gix_odb_world.specs.Machine.{At, Machine, placed}
 use Rattle.gix_odb_world.specs.Machines.{at, ask_in, fed_in}
 use Rattle.gix_odb_world.specs.Status.{Running, gone_on}
@@ -20,6 +22,10 @@ module _ (first : Volume) (events : List Event) (handle : ℕ) (running : Runnin
   -- where it asks for nothing, it has its reply
   pub end_of : ask_in running.store work ≡ None → (reply : Reply) × (fed_in running.store work None ≡ Ok reply)
   end_of none = let ends = (laws_at work).turns.ends first events handle running (at work).state knows none in (ends.0, ap (placed (at work).machine) ends.1)
+
+  -- an event of a core that it asks for can happen there
+  pub event_of : (event : CoreEvent) → ask_in running.store work ≡ Some (ToCore event) → (shape : Shape) (seat : ℕ) → CanHappen shape seat event
+  event_of event is shape seat = (laws_at work).turns.happens first events handle running (at work).state knows event is shape seat
 
 -- what a machine comes to, among all work
 placed_comes : (first : Volume) (events : List Event) (e : Event) (handle : ℕ) (running : Running) (m : Machine) → KeepsLaws m
