@@ -1,0 +1,10 @@
+//! Items that several workers consume at once.
+mod calls;
+mod deal;
+mod outputs;
+mod reducing;
+mod scopes;
+mod work;
+
+pub use calls::{ParallelError, in_parallel, in_parallel_if, in_parallel_with_finalize};
+pub use scopes::{Scope, build_thread, join, threads};
