@@ -1,4 +1,6 @@
 mod DealtLemmas
 mod WorkersLemmas
 mod ReducedLemmas
+mod EndsLemmas
+pub mod PipeLemmas
 pub mod WorkersLaws

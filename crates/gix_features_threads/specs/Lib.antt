@@ -2,3 +2,6 @@
 pub mod Workers
 pub mod Reduced
 pub mod Dealt
+pub mod Ends
+pub mod PipeSeats
+pub mod Pipe

@@ -6,4 +6,6 @@
 //! ```
 #![tactic(auto)]
 
+mod ends;
+pub mod io;
 pub mod parallel;
