@@ -97,6 +97,11 @@ pub into_iter-end : {O A : Type 0} (s t : IntoIter O A) (r : Option O) → ((x :
 into_iter-end s t None not steps = nil_from_length (into_iter_items s) (sym (into_iter_deque s).ok.0 ∙ steps.0)
 into_iter-end s t (Some x) not steps = absurd (not x refl)
 
+-- and has nothing left afterwards
+pub into_iter-left : {O A : Type 0} (s t : IntoIter O A) (r : Option O) → ((x : O) → r ≡ Some x → ⊥) → into_iter_steps s r t → into_iter_items t ≡ []
+into_iter-left s t None not steps = nil_from_length (into_iter_items t) (sym (into_iter_deque t).ok.0 ∙ steps.1)
+into_iter-left s t (Some x) not steps = absurd (not x refl)
+
 module _ {O A : Type 0} (n turn : ℕ) (streams : List (IntoIter O A)) where
   pub AreShares-more : (left : List O) (o : O) (before after : IntoIter O A) → AreShares n turn left streams → before ≡ get_or streams turn before
       → into_iter_items before ≡ o ∷ into_iter_items after

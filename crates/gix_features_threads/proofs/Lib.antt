@@ -4,3 +4,4 @@ mod ReducedLemmas
 mod EndsLemmas
 pub mod PipeLemmas
 pub mod WorkersLaws
+pub mod PipeLaws

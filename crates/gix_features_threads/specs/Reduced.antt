@@ -1,5 +1,5 @@
 -- What a reducer comes to that is fed outputs, and what a parallel call answers.
-use Rattle.std.specs.Prelude.{◌≡◌, ℕ, ◌<◌, ◌≤◌, Bool, if◌then◌else◌, List, [], ◌∷◌, ◌++◌, Result, Ok, Err, ⊤}
+use Rattle.std.specs.Prelude.{◌≡◌, ℕ, ◌<◌, ◌≤◌, Bool, if◌then◌else◌, List, [], ◌∷◌, ◌++◌, Option, Some, None, Result, Ok, Err, ⊤}
 use Rattle.gix_features_threads.specs.declared.parallel.calls.ParallelError.{ParallelError}
 use Rattle.gix_features_threads.specs.declared.parallel.calls.ParallelError.TheVariants.{Reduce, NoMemory}
 
@@ -16,6 +16,17 @@ abbrev pub IfReduced : {A E : Type 0} → Result A (ParallelError E) → (Result
 IfReduced (Ok value) P = P (Ok value)
 IfReduced (Err (Reduce error)) P = P (Err error)
 IfReduced (Err NoMemory) P = ⊤
+
+-- the answer to a value that is fed
+abbrev pub answer_of : {P E : Type 0} → Result P E → Result P (ParallelError E)
+answer_of (Ok given) = Ok given
+answer_of (Err error) = Err (Reduce error)
+
+-- a reducer is fed the next of the outputs that are left, if there is one
+module _ {R O P E : Type 0} (feeds : R → O → Result P E → R → Type 0) where
+  pub data IsStep : R → List O → Option (Result P (ParallelError E)) → R → List O → Type 0 where
+    Done : {r : R} → IsStep r [] None r []
+    Fed : {r s : R} {o : O} {os : List O} {given : Result P E} → feeds r o given s → IsStep r (o ∷ os) (Some (answer_of given)) s os
 
 abbrev pub want_of_memory : {E : Type 0} → ParallelError E
 want_of_memory = NoMemory

@@ -2,7 +2,7 @@
 use Rattle.std.proofs.Common.{Ok, Err}
 use Rattle.gix_features_threads.specs.Reduced.{Reduces}
 use Rattle.gix_features_threads.proofs.DealtLemmas.{into_iter-end}
-use Rattle.gix_features_threads.proofs.parallel.reducing.reduce_all.Goals as goal
+use Rattle.gix_features_threads.proofs.parallel.reducing.reduce_rest.Goals as goal
 
 pub feeding-preserved : goal.feeding-preserved
 feeding-preserved g c = λ answer rest. c.feeding.invariant answer (rw c.in-Some.ensures.cases.0 (Reduces.Feeds c.in-Ok.ensures.fed rest))
