@@ -3,7 +3,6 @@ use Rattle.std.specs.Prelude.{◌≡◌, ℕ, ◌<◌, Bool, true, false, List, 
 use Rattle.std.specs.Borrow.{Bor}
 use Rattle.crossbeam_channel.specs.Ends.{sends_on, receives_on}
 use Rattle.crossbeam_channel.specs.Claims.{view}
-use Rattle.crossbeam_channel.specs.Fifo.{Held}
 use Rattle.gix_features_threads.specs.declared.io.pipe.ends.PipeError.{PipeError}
 use Rattle.gix_features_threads.specs.declared.io.pipe.ends.Piece.{Piece}
 use Rattle.gix_features_threads.specs.declared.io.pipe.ends.Piece.TheVariants.{Written, Failed}
@@ -35,7 +34,7 @@ AreEnds writer reader = receives_on reader.receiver ≡ sends_on writer.sender
 
 -- nothing was taken yet
 abbrev pub IsBegun : Reader → Type 0
-IsBegun reader = (taken reader ≡ []) × (reader.next ≡ Written [])
+IsBegun reader = (taken reader ≡ []) × (reader.next ≡ Written []) × (reader.has_ended ≡ false)
 
 -- a piece with something to give
 abbrev pub gives_something : Piece → Bool
@@ -58,22 +57,22 @@ pub record Reads (before after : Reader) (given : List Item) : Type 0 where
   pub in_order : items_of (before.next ∷ pieces) ≡ given ++ items_of (after.next ∷ [])
   pub channel : receives_on after.receiver ≡ receives_on before.receiver
 
--- The channel said that the writer is gone, and held no piece at a moment of the call.
-abbrev pub EndedEmpty : Type 0
-EndedEmpty = Held 0 (λ (pieces : List Piece). ⊤)
+-- Nothing is at hand, and the channel said that the writer is gone and that it holds no piece.
+abbrev pub HasEnded : Reader → Type 0
+HasEnded reader = (reader.next ≡ Written []) × (reader.has_ended ≡ true)
 
--- why a read gives fewer bytes than were asked for: an error is next, or the channel ended
+-- why a read gives fewer bytes than were asked for: an error is next, or the pipe ended
 abbrev pub IsShort : Reader → ℕ → Type 0
-IsShort after count = ((error : PipeError) × (after.next ≡ Failed error) × (0 < count)) ⊎ ((after.next ≡ Written []) × EndedEmpty)
+IsShort after count = ((error : PipeError) × (after.next ≡ Failed error) × (0 < count)) ⊎ HasEnded after
 
 -- why a piece wasn't written: it comes back, or there was no memory for it
 abbrev pub IsUnwritten : List ℕ → Gone → Type 0
 IsUnwritten bytes (gone.Piece piece) = piece ≡ bytes
 IsUnwritten bytes gone.NoMemory = ⊤
 
--- nothing was given, and these bytes are at hand; or this error was given
+-- nothing was given, and these bytes are at hand, none only where the pipe ended; or this error was given
 abbrev pub HasAtHand : Reader → Bor (List ℕ) → Type 0
-HasAtHand before bytes = (after : Reader) × Reads before after [] × (at_hand after ≡ bytes.now)
+HasAtHand before bytes = (after : Reader) × Reads before after [] × (at_hand after ≡ bytes.now) × (bytes.now ≡ [] → HasEnded after)
 
 abbrev pub HasFailed : Reader → PipeError → Type 0
 HasFailed before error = (after : Reader) × Reads before after (Failure error ∷ [])

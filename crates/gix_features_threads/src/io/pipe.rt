@@ -20,20 +20,22 @@ pub fn together(writer: Writer, reader: Reader) -> (Writer, Reader)
     requires ends { AreEnds writer reader }
     ensures ends { AreEnds result.0 result.1 }
     ensures prefix { (rest : List Piece) × (written result.0 ≡ taken result.1 ++ rest) }
-    ensures same { (written result.0 ≡ written writer) × (taken result.1 ≡ taken reader) × (result.1.next ≡ reader.next) }
+    ensures same { (written result.0 ≡ written writer) × (taken result.1 ≡ taken reader) × (result.1.next ≡ reader.next)
+        × (result.1.has_ended ≡ reader.has_ended) }
 {
     let Writer { sender, mut pass } = writer;
     let Reader {
         receiver,
         pass: other,
         next,
+        has_ended,
     } = reader;
     sender.absorb::<Roles>(&mut pass, other);
     sender.learn_as::<Both>(&mut pass);
     let other = sender.another::<Roles>(&mut pass);
     (
         Writer::new(sender, pass),
-        Reader::new(receiver, other, next),
+        Reader::new(receiver, other, next, has_ended),
     )
 }
 
@@ -46,6 +48,6 @@ pub fn unidirectional(alloc: Global, in_flight: usize) -> Result<(Writer, Reader
     let other = sender.another::<Roles>(&mut pass);
     Ok((
         Writer::new(sender, pass),
-        Reader::new(receiver, other, Piece::Written(Bytes::new())),
+        Reader::new(receiver, other, Piece::Written(Bytes::new()), false),
     ))
 }

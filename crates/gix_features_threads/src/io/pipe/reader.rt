@@ -17,24 +17,33 @@ pub struct Reader {
     pub(crate) pass: PipePass,
     /// What is at hand of the last piece that was taken out of the channel.
     pub(crate) next: Piece,
+    /// Whether the channel said that the writer is gone and that it holds no piece. Its answer alone sets this.
+    pub(crate) has_ended: bool,
     ghost seated: { IsSeatAt (receives_on receiver) pass } by { Prim.hlevel seat_props },
     ghost takes: { (view pass).takes ≡ true },
 }
 
 impl Reader {
-    ghost use Rattle.gix_features_threads.specs.Pipe.{Byte, Failure, taken, Reads, EndedEmpty, IsShort, HasAtHand, HasFailed, at_hand, gives_something};
+    ghost use Rattle.gix_features_threads.specs.Pipe.{Byte, Failure, taken, Reads, HasEnded, IsShort, HasAtHand, HasFailed, at_hand, gives_something};
     ghost use Rattle.gix_features_threads.specs.declared.io.pipe.ends.Piece.TheVariants.{Written, Failed};
 
-    /// The end of a new pipe, with its pass.
-    pub(crate) fn new(receiver: Receiver, pass: PipePass, next: Piece) -> Reader
+    /// The end of a pipe, with its pass, and what it knows.
+    pub(crate) fn new(
+        receiver: Receiver,
+        pass: PipePass,
+        next: Piece,
+        has_ended: bool,
+    ) -> Reader
         requires seated { IsSeatAt (receives_on receiver) pass }
         requires takes { (view pass).takes ≡ true }
         ensures parts { (result.receiver ≡ receiver) × (result.pass ≡ pass) × (result.next ≡ next) }
+        ensures ended { result.has_ended ≡ has_ended }
     {
         Reader {
             receiver,
             pass,
             next,
+            has_ended,
         }
     }
 
@@ -71,7 +80,6 @@ impl Reader {
     /// afterwards.
     pub fn fill_buf<R: Wait>(&mut self, rt: &R) -> Result<&[u8], PipeError>
         ensures at_hand { MatchResult result (HasAtHand self.old) (HasFailed self.old) }
-        ensures end { IfOk result (λ bytes. bytes.now ≡ [] → EndedEmpty) }
     {
         self.fill(rt)?;
         Ok(self.front())
@@ -90,7 +98,7 @@ impl Reader {
     /// Takes pieces out of the channel until there are bytes at hand, or answers the error that comes before.
     pub fn fill<R: Wait>(&mut self, rt: &R) -> Result<(), PipeError>
         ensures filled { OnOk result (Reads self.old self.new []) }
-        ensures end { OnOk result (at_hand self.new ≡ [] → EndedEmpty) }
+        ensures end { OnOk result (at_hand self.new ≡ [] → HasEnded self.new) }
         ensures error { IfErr result (λ error. Reads self.old self.new (Failure error ∷ [])) }
     {
         if !self.reach(rt) {
@@ -116,7 +124,7 @@ impl Reader {
     fn reach<R: Wait>(&mut self, rt: &R) -> bool
         ensures nothing { Reads self.old self.new [] }
         ensures there { result ≡ true → gives_something self.new.next ≡ true }
-        ensures ended { result ≡ false → (self.new.next ≡ Written []) × EndedEmpty }
+        ensures ended { result ≡ false → HasEnded self.new }
     {
         'reaching: for _ in rt.forever() {
             if self.has_something() {
@@ -143,7 +151,8 @@ impl Reader {
     /// gone.
     fn refill<R: Wait>(&mut self, rt: &R) -> bool
         ensures took { result ≡ true → taken self.new ≡ taken self.old ++ self.new.next ∷ [] }
-        ensures ended { result ≡ false → (taken self.new ≡ taken self.old) × (self.new.next ≡ self.old.next) × EndedEmpty }
+        ensures ended { result ≡ false → (taken self.new ≡ taken self.old) × (self.new.next ≡ self.old.next)
+            × (self.new.has_ended ≡ true) }
         ensures channel { receives_on self.new.receiver ≡ receives_on self.old.receiver }
     {
         match self.receiver.recv_as::<Takes, R>(rt, &mut self.pass) {
@@ -151,7 +160,10 @@ impl Reader {
                 self.next = piece;
                 true
             }
-            Err(_) => false,
+            Err(_) => {
+                self.has_ended = true;
+                false
+            }
         }
     }
 
