@@ -28,12 +28,7 @@ impl Reader {
     ghost use Rattle.gix_features_threads.specs.declared.io.pipe.ends.Piece.TheVariants.{Written, Failed};
 
     /// The end of a pipe, with its pass, and what it knows.
-    pub(crate) fn new(
-        receiver: Receiver,
-        pass: PipePass,
-        next: Piece,
-        has_ended: bool,
-    ) -> Reader
+    pub(crate) fn new(receiver: Receiver, pass: PipePass, next: Piece, has_ended: bool) -> Reader
         requires seated { IsSeatAt (receives_on receiver) pass }
         requires takes { (view pass).takes ≡ true }
         ensures parts { (result.receiver ≡ receiver) × (result.pass ≡ pass) × (result.next ≡ next) }
