@@ -9,7 +9,7 @@ fn steps_in_turn(rt: HostRuntime) -> Result<(), Fail> {
     for (rows, calls) in [
         (finds::FOUND, 2),
         (finds::FOLDERS, 26),
-        (finds::REPLACED, 16),
+        (finds::REPLACED, 17),
         (writes::WRITES, 39),
         (others::READER, 10),
         (misuse::MISUSES, 12),
