@@ -1,0 +1,6 @@
+use Rattle.std.proofs.Common.{[]}
+use Rattle.gix_features_threads.specs.Pipe.{Reads}
+use Rattle.gix_features_threads.proofs.io.pipe.reader.Reader.reach.Given as goal
+
+abbrev pub invariant-reaching : goal.invariant-reaching
+invariant-reaching g l = Reads l.initial.self l.self []

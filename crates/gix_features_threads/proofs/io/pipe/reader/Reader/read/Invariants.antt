@@ -1,0 +1,11 @@
+use Rattle.std.proofs.Common.{◌≡◌, ◌≤◌, length, map, take, drop}
+use Rattle.gix_features_threads.specs.Pipe.{Reads, Byte}
+use Rattle.gix_features_threads.proofs.io.pipe.reader.Reader.read.Given as goal
+
+-- the front of the buffer has what was given so far, and the rest is as it was
+abbrev pub invariant-filling : goal.invariant-filling
+invariant-filling g l = record {
+  within : l.filled ≤ length l.out;
+  given : Reads l.initial.self l.self (map Byte (take l.filled l.out));
+  rest : drop l.filled l.out ≡ drop l.filled l.initial.out;
+}

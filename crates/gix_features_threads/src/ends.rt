@@ -1,0 +1,85 @@
+//! The two ends of a channel, one of which sends and the other takes: what was taken is what was sent first.
+use crossbeam_channel::protocol::{Join, Lesson, Outcome, Protocol, Split};
+use std::collections::LinkedList;
+
+/// What an end may do, what it has sent, and what it has taken. No value of it is made.
+pub struct Hand<T> {
+    pub sends: bool,
+    pub takes: bool,
+    pub sent: LinkedList<T>,
+    pub taken: LinkedList<T>,
+}
+
+/// The rule of a channel: what was sent is what was taken and then what the channel holds.
+pub struct InOrder;
+
+impl<T> Protocol<T, Hand<T>> for InOrder {
+    ghost use Rattle.std.specs.Prelude.{true, []};
+    ghost use Rattle.gix_features_threads.specs.Ends.{hand, IsInOrder};
+
+    ghost holds = { IsInOrder };
+
+    ghost first = { hand true true [] [] };
+}
+
+/// One end becomes two, or two become one.
+pub struct Roles;
+
+impl<T> Split<Hand<T>> for Roles {
+    ghost use Rattle.std.specs.Prelude.{true, false, []};
+    ghost use Rattle.gix_features_threads.specs.Ends.{hand};
+
+    ghost left = { λ v. hand true false v.sent [] };
+
+    ghost right = { λ v. hand false true [] v.taken };
+}
+
+impl<T> Join<Hand<T>> for Roles {
+    ghost use Rattle.std.specs.Prelude.{true, false, []};
+    ghost use Rattle.gix_features_threads.specs.Ends.{hand};
+
+    ghost both = { λ v w. hand true true v.sent w.taken };
+
+    ghost spent = { hand false false [] [] };
+}
+
+/// Something is sent.
+pub struct Sends;
+
+impl<T> Outcome<T, Hand<T>> for Sends {
+    ghost use Rattle.std.specs.Prelude.{◌≡◌, ◌∷◌, ◌++◌, []};
+    ghost use Rattle.gix_features_threads.specs.Ends.{hand};
+
+    ghost then = { λ v x w. w ≡ hand v.sends v.takes (v.sent ++ x ∷ []) v.taken };
+}
+
+impl<T> Lesson<T, Hand<T>> for Sends {
+    ghost use Rattle.std.specs.Prelude.{⊤};
+
+    ghost fact = { λ _ _. ⊤ };
+}
+
+/// Something is taken, or there was nothing at a moment.
+pub struct Takes;
+
+impl<T> Outcome<T, Hand<T>> for Takes {
+    ghost use Rattle.std.specs.Prelude.{◌≡◌, ◌∷◌, ◌++◌, []};
+    ghost use Rattle.gix_features_threads.specs.Ends.{hand};
+
+    ghost then = { λ v x w. w ≡ hand v.sends v.takes v.sent (v.taken ++ x ∷ []) };
+}
+
+impl<T> Lesson<T, Hand<T>> for Takes {
+    ghost use Rattle.std.specs.Prelude.{⊤};
+
+    ghost fact = { λ _ _. ⊤ };
+}
+
+/// What an end that sends and takes knows of the channel.
+pub struct Both;
+
+impl<T> Lesson<T, Hand<T>> for Both {
+    ghost use Rattle.std.specs.Prelude.{◌≡◌, ◌++◌};
+
+    ghost fact = { λ v items. v.sent ≡ v.taken ++ items };
+}

@@ -1,0 +1,7 @@
+//! Tests of the parts of `gix_features` that start threads.
+#![tactic(auto)]
+
+#[cfg(test)]
+mod pipes;
+#[cfg(test)]
+mod workers;
