@@ -8,6 +8,7 @@ use Rattle.odb_disk.specs.declared.ask.DiskAnswer.TheVariants as answers
 use Rattle.odb_tree.specs.declared.disk_error.DiskError.TheVariants as disk_errors
 use Rattle.odb_tree.specs.declared.meta.Kind.{Kind}
 use Rattle.odb_tree.specs.declared.meta.Kind.TheVariants as kinds
+use Rattle.gix_odb_slots.specs.PackId.{most_slots}
 use Rattle.gix_odb_calls.specs.declared.call.Reply.{Reply}
 use Rattle.gix_odb_calls.specs.declared.call.Reply.TheVariants as replies
 use Rattle.gix_odb_calls.specs.declared.call.CallError.TheVariants as call_errors
@@ -15,11 +16,6 @@ use Rattle.gix_odb_calls.specs.declared.init.Error as opening
 use Rattle.gix_odb_calls.specs.declared.init.Error.TheVariants as opening_errors
 use Rattle.gix_odb.specs.declared.open_state.OpenState.{OpenState}
 use Rattle.gix_odb.specs.declared.open_state.OpenState.TheVariants as opens
-
--- The most slots that a store may have: 2^15 - 1. A pack's number has 32 bits, and the lowest 15 of them are the slot that its index
--- stands in.
-abbrev pub most_slots : ℕ
-most_slots = 32767
 
 -- An opening looks at the objects directory, links followed. Where it registers its handle, it calls no disk.
 abbrev pub ask_of : Path → OpenState → Option DiskAsk

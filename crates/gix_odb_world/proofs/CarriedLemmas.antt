@@ -1,5 +1,5 @@
 -- The code of a turn carries out what the work asks for: a call of the disk, or a core for its store.
-use Rattle.std.proofs.Common.{◌≡◌, ℕ, ◌+◌, true, false, List, [], ◌∷◌, ◌++◌, length, min, Option, Some, None, refl, sym, ap, ◌∙◌}
+use Rattle.std.proofs.Common.{◌≡◌, ℕ, ◌+◌, true, false, List, [], ◌∷◌, ◌++◌, length, Option, Some, None, refl, sym, ap, ◌∙◌}
 use Rattle.std.specs.Prelude.{if◌then◌else◌}
 use Rattle.odb_base.specs.Path.{Path}
 use Rattle.odb_tree.specs.Tree.{tree_of}
@@ -7,7 +7,6 @@ use Rattle.odb_tree.specs.declared.change.Change.{Change}
 use Rattle.odb_disk.specs.MemDisk.{Volume}
 use Rattle.odb_disk.specs.Ask.{change_of_ask}
 use Rattle.odb_disk.specs.declared.ask.DiskAsk.{DiskAsk}
-use Rattle.gix_odb.specs.OpenOrder.{most_slots}
 use Rattle.gix_odb.specs.declared.handle_state.HandleState.{HandleState}
 use Rattle.gix_odb_core.specs.History.{History}
 use Rattle.gix_odb_core.specs.declared.view.View.{View}
@@ -75,14 +74,14 @@ pub carries_call : (disk disk_then : Volume) (state : HandleState) (work left : 
     → Carries disk disk_then cores cores state work (told_in cores disk seat state work) (record { did = did; change = change; state = state; work = left })
 carries_call disk disk_then state work left did change other did_is change_is left_is disk_is cores seat =
     carries_ask disk disk_then cores seat state work left did change (to_disk (ask_on state work))
-    (sym (ap (λ b. if b then Some (ToNewCore (min state.store.value.slots most_slots) (length state.store.value.folders + 1)) else to_disk (ask_on state work)) other))
+    (sym (ap (λ b. if b then Some (ToNewCore state.store.value.slots (length state.store.value.folders + 1)) else to_disk (ask_on state work)) other))
     refl did_is change_is left_is disk_is
 
 -- ---- a core
 
 -- what work that registers its handle asks for
 abbrev core_asked : HandleState → Option Ask
-core_asked state = Some (ToNewCore (min state.store.value.slots most_slots) (length state.store.value.folders + 1))
+core_asked state = Some (ToNewCore state.store.value.slots (length state.store.value.folders + 1))
 
 asks_core : (state : HandleState) (work : Work) → registers_in work ≡ true → asks_on state work ≡ core_asked state
 asks_core state work is = ap (λ b. if b then core_asked state else to_disk (ask_on state work)) is

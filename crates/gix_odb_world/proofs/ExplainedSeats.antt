@@ -69,7 +69,7 @@ module _ (world : Course) (h : HasHistory world) where
 
 -- ---- the same of a world of which it is known that some events lead there
 
-below : (a n : ℕ) → ¬ (¬ (a < n)) → a < n
+pub below : (a n : ℕ) → ¬ (¬ (a < n)) → a < n
 below a n known = elim (cases_lt a n) [ inl less ↦ less | inr more ↦ absurd (known (λ less. omega (arith, less, more))) ]
 
 free_seat : (o : Option Bool) → ¬ (¬ (o ≡ None)) → o ≡ None

@@ -19,6 +19,7 @@ mod StandAlone
 mod SeatLemmas
 mod ExplainedLemmas
 mod ExplainedSeats
+mod ExplainedFits
 mod EntryLemmas
 mod NameSteps
 mod RunEnds

@@ -1,6 +1,6 @@
 -- An opening keeps the laws of a machine.
 pub mod Look
-use Rattle.std.proofs.Common.{◌≡◌, ℕ, ◌+◌, ◌<◌, ◌≤◌, Bool, true, false, cond, List, [], ◌∷◌, ◌++◌, length, min, Option, Some, None, refl, sym, ◌∙◌, ap, subst, arith, Ok, Err, Result}
+use Rattle.std.proofs.Common.{◌≡◌, ℕ, ◌+◌, ◌<◌, ◌≤◌, Bool, true, false, cond, List, [], ◌∷◌, ◌++◌, length, Option, Some, None, refl, sym, ◌∙◌, ap, subst, arith, Ok, Err, Result}
 use Rattle.std.proofs.lemmas.List.{length_push}
 use Rattle.odb_tree.specs.Tree.{tree_of}
 use Rattle.odb_tree.specs.declared.disk_error.DiskError.TheVariants as disk_errors
@@ -13,7 +13,7 @@ use Rattle.odb_disk.specs.declared.ask.DiskAsk.TheVariants as asks
 use Rattle.odb_base.specs.Path.{Path}
 use Rattle.gix_odb.specs.Contents.{folder_list}
 use Rattle.gix_odb.specs.OpenOrder as openings
-use Rattle.gix_odb.specs.OpenOrder.{looked, most_slots}
+use Rattle.gix_odb.specs.OpenOrder.{looked}
 use Rattle.gix_odb_calls.specs.declared.call.Reply.{Reply}
 use Rattle.gix_odb_calls.specs.declared.call.Reply.TheVariants as replies
 use Rattle.gix_odb.specs.declared.handle_state.HandleState.{HandleState}
@@ -52,8 +52,7 @@ opening_asks : (store : Store) (modes : Modes) (code : HandleState) → IsHandle
 opening_asks store modes code own opens.Looking = ap (λ objects. Some (ToDisk (asks.Look objects true))) own.objects
 opening_asks store modes code own opens.Registering =
     let folders : length code.store.value.folders + 1 ≡ length (folder_list store.parts) = let same = ap length own.folders in omega (arith, same) in
-    ap (λ slots. Some (ToNewCore (min slots most_slots) (length code.store.value.folders + 1))) own.slots
-    ∙ ap (λ n. Some (ToNewCore (min store.slots most_slots) n)) folders
+    ap (λ slots. Some (ToNewCore slots (length code.store.value.folders + 1))) own.slots ∙ ap (λ n. Some (ToNewCore store.slots n)) folders
 opening_asks store modes code own (opens.Done reply) = refl
 
 opening_feeds : (store : Store) (modes : Modes) (code : HandleState) → IsHandleOf store modes code → (state : OpenState) (answer : Option Answer)
@@ -103,9 +102,6 @@ module _ (first : Volume) (events : List Event) (e : Event) where
   seen_kept handle running (opens.Done reply) other seen = absurd seen
 
 -- ---- its look
-
-min_few : (slots : ℕ) → slots ≤ most_slots → min slots most_slots ≡ slots
-min_few slots few = grind (arith, few)
 
 module _ (first : Volume) (events : List Event) (handle : ℕ) (running : Running) (task : running.task ≡ OpenStore) where
   abbrev objects : Path
@@ -186,11 +182,11 @@ module _ (first : Volume) (events : List Event) (handle : ℕ) (running : Runnin
       asked = turn.asked;
     }
 
-    registered : IsRegistering first events running → IsTurnWithoutCall first events e handle running (Some (ToNewCore (min running.store.slots most_slots) folders))
+    registered : IsRegistering first events running → IsTurnWithoutCall first events e handle running (Some (ToNewCore running.store.slots folders))
         → Promised (replies.Opened running.store.slots)
     registered seen turn = record {
       as_asked = refl;
-      core = subst (λ slots. MadeCore whole slots folders) (min_few running.store.slots seen.few) (made (min running.store.slots most_slots) turn);
+      core = made running.store.slots turn;
       not_too_many = seen.few;
       directory = shown_before first events e running.begun objects seen.directory;
     }
@@ -202,10 +198,8 @@ opening_takes : (first : Volume) (events : List Event) (handle : ℕ) (running :
     → TakesTurn first events handle running running.task (opening_ask running.store state)
 opening_takes first events handle running task opens.Looking seen = look_takes first events handle running task seen.turns
 opening_takes first events handle running task opens.Registering seen =
-    let same = min_few running.store.slots seen.few in
-    let few = seen.few in
     subst (λ t. TakesTurn first events handle running t (opening_ask running.store opens.Registering)) (sym task)
-    (seen.turns, same, omega (arith, same, few), refl)
+    (seen.turns, refl, seen.few, refl)
 opening_takes first events handle running task (opens.Done reply) seen = absurd seen
 
 opening_ends : (first : Volume) (events : List Event) (handle : ℕ) (running : Running) (state : OpenState) → HasSeen first events handle running state

@@ -12,7 +12,7 @@ use Rattle.gix_odb_loose.specs.WritePieces.{piece_size}
 use Rattle.gix_odb_calls.specs.declared.call.Call.TheVariants as calls
 use Rattle.gix_odb_calls.specs.declared.query.Query.TheVariants.{Find, Header, Test}
 use Rattle.gix_odb.specs.Contents.{folder_list, sought}
-use Rattle.gix_odb.specs.OpenOrder.{most_slots}
+use Rattle.gix_odb_slots.specs.PackId.{most_slots}
 use Rattle.gix_odb_world.specs.AtWork.{nothing_in_front, Modes}
 use Rattle.gix_odb_world.specs.Event.{Ask, CoreEvent, Event, ToCore, ToDisk, ToNewCore}
 use Rattle.gix_odb_world.specs.Status.{Store, MakeCall, OpenStore, Task}

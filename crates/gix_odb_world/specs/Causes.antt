@@ -18,7 +18,7 @@ pub use Rattle.gix_odb.specs.Moments.{Sometime}
 use Rattle.gix_odb.specs.Contents.{folder_list}
 use Rattle.gix_odb_calls.specs.Verdict.{job_of}
 use Rattle.gix_odb_world.specs.AtWork.{Store}
-use Rattle.gix_odb.specs.OpenOrder.{most_slots}
+use Rattle.gix_odb_slots.specs.PackId.{most_slots}
 
 abbrev pub IsDirectoryMeta : Result Meta Refusal → Type 0
 IsDirectoryMeta (Ok meta) = meta.kind ≡ kinds.Dir

@@ -1,5 +1,5 @@
 -- What the code of a world does with its table of handles and its lists. No public clause cites this.
-use Rattle.std.specs.Prelude.{◌≡◌, ℕ, ◌+◌, ◌==◌, length, min, true, [], ◌∷◌, ◌++◌, List, Option, Some, None, Result, Ok, Err, if◌then◌else◌}
+use Rattle.std.specs.Prelude.{◌≡◌, ℕ, ◌+◌, ◌≤◌, ◌==◌, length, true, [], ◌∷◌, ◌++◌, List, Option, Some, None, Result, Ok, Err, if◌then◌else◌}
 use Rattle.odb_base.specs.Path.{Path}
 use Rattle.odb_disk.specs.Ask.{answer_now, after_ask, change_of_ask}
 use Rattle.odb_tree.specs.Tree.{tree_of}
@@ -22,7 +22,7 @@ use Rattle.gix_odb_core.specs.Replay.{view_in}
 use Rattle.gix_odb_world.specs.declared.turn.Carried.{Carried}
 use Rattle.gix_odb_world.specs.Cores.{cores_after_asked, or_before}
 use Rattle.gix_odb_world.specs.Event.{Asked, OfCore, OfDisk, OfNewCore, OfNothing, answered}
-use Rattle.gix_odb.specs.OpenOrder.{most_slots}
+use Rattle.gix_odb_slots.specs.PackId.{most_slots}
 use Rattle.gix_odb_core.specs.declared.view.View.{View}
 use Rattle.gix_odb_world.specs.Made.{MakesCore}
 use Rattle.gix_odb_world.specs.Recorded.{opened_in}
@@ -31,7 +31,7 @@ use Rattle.gix_odb_world.specs.Status.{after_reply}
 use Rattle.gix_odb_world.specs.WorkOrder.{asks_on, fed_after, fed_on, registered_on}
 use Rattle.gix_odb_world.specs.declared.course.Course.{Course}
 use Rattle.gix_odb_world.specs.World.{handle_at}
-use Rattle.gix_odb_world.specs.Valid.{Phase, NoneThere, Idle, Running, is_openable, why_not_change, why_not_idle, why_not_open, why_not_running, why_not_clone, why_not_start}
+use Rattle.gix_odb_world.specs.Valid.{Phase, NoneThere, Idle, Running, is_openable, most_folders, why_not_change, why_not_idle, why_not_open, why_not_running, why_not_clone, why_not_start}
 
 abbrev pub phase_of_work : HashKind → Option Work → Phase
 phase_of_work hash None = Idle hash
@@ -132,10 +132,15 @@ state_after (OfNewCore slots folders store seat answer) state = record state { c
 abbrev pub told_in : List History → Volume → (seat : ℕ) → HandleState → Work → Asked
 told_in cores disk seat state work = told_now (stand cores state.core seat) disk (asks_on state work)
 
+-- a core can be made for the store of a handle: the store has no more slots than a core may have, and few folders
+pub record FitsCore (state : HandleState) : Type 0 where
+  pub slots : state.store.value.slots ≤ most_slots
+  pub folders : length state.store.value.folders ≤ most_folders
+
 -- a core was added for the store of a handle, and the handle registered there, which handed over a view
 pub record AddsCore (cores cores_then : List History) (seat : ℕ) (state : HandleState) (view : View) : Type 0 where
   pub core : History
-  pub made : MakesCore (min state.store.value.slots most_slots) (length state.store.value.folders + 1) seat core view
+  pub made : MakesCore state.store.value.slots (length state.store.value.folders + 1) seat core view
   pub cores_are : cores_then ≡ cores ++ core ∷ []
 
 -- what a turn comes to that registered its handle at the core of a number

@@ -1,10 +1,9 @@
 -- What the code of a handle's work asks, and what an answer makes of it. No public clause cites this.
-use Rattle.std.specs.Prelude.{◌+◌, Bool, false, length, min, Option, Some, None, Result, Ok, Err, if◌then◌else◌}
+use Rattle.std.specs.Prelude.{◌+◌, Bool, false, length, Option, Some, None, Result, Ok, Err, if◌then◌else◌}
 use Rattle.odb_disk.specs.declared.ask.DiskAsk.{DiskAsk}
 use Rattle.odb_disk.specs.declared.ask.DiskAnswer.{DiskAnswer}
 use Rattle.gix_odb.specs.CallOrder as calls
 use Rattle.gix_odb.specs.OpenOrder as openings
-use Rattle.gix_odb.specs.OpenOrder.{most_slots}
 use Rattle.gix_odb_calls.specs.declared.call.Reply.{Reply}
 use Rattle.gix_odb.specs.declared.call_state.CallState.{CallState}
 use Rattle.gix_odb.specs.declared.handle_state.HandleState.{HandleState}
@@ -31,7 +30,7 @@ registers_in (Calling state) = false
 -- what the work of a handle asks for: a call of the disk, or a core for its store
 abbrev pub asks_on : HandleState → Work → Option Ask
 asks_on handle work =
-    if registers_in work then Some (ToNewCore (min handle.store.value.slots most_slots) (length handle.store.value.folders + 1)) else to_disk (ask_on handle work)
+    if registers_in work then Some (ToNewCore handle.store.value.slots (length handle.store.value.folders + 1)) else to_disk (ask_on handle work)
 
 -- the work of a handle after it was registered
 abbrev pub registered_on : HandleState → Work → Work

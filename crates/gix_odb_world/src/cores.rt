@@ -1,10 +1,10 @@
-//! The cores of a world's stores: how they are made, what closes do to them, and the journals that they leave.
-ghost use Rattle.std.specs.Prelude.{◌≡◌, ◌<◌, All, IfOk, IsSome, None, OnOk, Some, false, length, map, min};
+//! The cores of a world's stores: how they are made, what clones and closes do to them, and the journals that they leave.
+ghost use Rattle.std.specs.Prelude.{◌≡◌, ◌<◌, ◌≤◌, All, IfOk, IsSome, None, OnOk, Some, false, length, map};
 ghost use Rattle.gix_odb_core.specs.Handles.{IsRegistered, registered};
 ghost use Rattle.gix_odb_core.specs.History.{History, present};
 ghost use Rattle.gix_odb_core.specs.Journal.{entries_of};
 ghost use Rattle.gix_odb_core.specs.Replay.{number_behind, view_in};
-ghost use Rattle.gix_odb.specs.OpenOrder.{most_slots};
+ghost use Rattle.gix_odb_slots.specs.PackId.{most_slots};
 ghost use Rattle.gix_odb_world.specs.Cores.{answer_behind, cores_after_asked, entered, history_at, registered_at};
 ghost use Rattle.gix_odb_world.specs.Event.{OfCore};
 ghost use Rattle.gix_odb_world.specs.Headline.{IsJournal};
@@ -18,9 +18,6 @@ use std::alloc::Global;
 /// The journals of the cores of a run, one for each store that was opened.
 pub type JournalList = Sequence<Journal>;
 
-/// The most slots that a core may have.
-const MAX_SLOTS: u16 = 32767;
-
 /// A core for a store with so many slots and folders, at which a handle is registered; and the view that this handed over.
 pub fn core_with(
     alloc: Global,
@@ -28,9 +25,10 @@ pub fn core_with(
     folders: usize,
     seat: u32,
 ) -> Result<(Core, View), NoMemory>
-    ensures makes { IfOk result (λ made. MakesCore (min slots most_slots) folders seat made.0 made.1) }
+    requires few { slots ≤ most_slots }
+    ensures makes { IfOk result (λ made. MakesCore slots folders seat made.0 made.1) }
 {
-    let mut core = Core::new(alloc, slots.min(MAX_SLOTS), folders)?;
+    let mut core = Core::new(alloc, slots, folders)?;
     match register(alloc, &mut core, seat) {
         Ok(view) => Ok((core, view)),
         Err(error) => {

@@ -10,7 +10,7 @@ ghost use Rattle.gix_odb_world.specs.Status.{after_reply};
 ghost use Rattle.gix_odb_world.specs.Headline.{outcome_of};
 ghost use Rattle.gix_odb_world.specs.WorkOrder.{ask_on, fed_on, registers_in, result_in};
 ghost use Rattle.gix_odb_world.specs.Table as tables;
-ghost use Rattle.gix_odb_world.specs.Table.{AddsCore, Carries, after_turn, carried_at, change_now, did_now, disk_now, told_in, work_now};
+ghost use Rattle.gix_odb_world.specs.Table.{AddsCore, Carries, FitsCore, after_turn, carried_at, change_now, did_now, disk_now, told_in, work_now};
 
 use crate::cores::core_with;
 use crate::handle::Handle;
@@ -41,6 +41,7 @@ pub fn carried_out(
     state: HandleState,
     work: Work,
 ) -> Result<Carried, NoMemory>
+    requires fits { registers_in work ≡ true → FitsCore state }
     ensures carried { IfOk result (Carries disk.old disk.new cores.old.items cores.new.items state work (told_in cores.old.items disk.old seat state work)) }
 {
     if work.registers() {
@@ -59,6 +60,7 @@ fn registered(
     work: Work,
 ) -> Result<Carried, NoMemory>
     requires registers { registers_in work ≡ true }
+    requires fits { FitsCore state }
     ensures carried { IfOk result (λ done. (disk : Volume) → Carries disk disk cores.old.items cores.new.items state work (told_in cores.old.items disk seat state work) done) }
 {
     let store = cores.len();
@@ -78,35 +80,31 @@ fn added(
     seat: u32,
     state: &HandleState,
 ) -> Result<View, NoMemory>
+    requires fits { FitsCore state.now }
     ensures added { IfOk result (AddsCore cores.old.items cores.new.items seat state.now) }
 {
     let parts = state.parts();
-    // A list of as many paths as an address has values fits into no memory.
-    let Some(folders) = parts.folders.len().checked_add(1) else {
-        return Err(NoMemory);
-    };
+    // The objects directory is a folder too.
+    let folders = parts.folders.len() + 1;
     let (core, view) = core_with(alloc, parts.slots, folders, seat)?;
     cores.push(core)?;
     Ok(view)
 }
 
 /// A handle after its registration at the core of a number.
-fn at_core(state: HandleState, work: Work, store: usize, view: View) -> Carried
+fn at_core(mut state: HandleState, work: Work, store: usize, view: View) -> Carried
     ensures carried { result ≡ carried_at state work store view }
 {
     let work = work.registered(&state);
+    state.core = store;
+    state.view = Some(view);
     Carried {
         did: Did::Core {
             store: store as u64,
             entry: 1,
         },
         change: None,
-        state: HandleState {
-            store: state.store,
-            ignore_replacements: state.ignore_replacements,
-            core: store,
-            view: Some(view),
-        },
+        state,
         work,
     }
 }

@@ -90,7 +90,7 @@ pub(crate) const FAULTS: &str = "\
     2: could not open or map /o/00/00000000000000000000000000000000000001";
 
 // A replacement that is followed twice or not at all, taken by a test, or taken after it is to be ignored, by this
-// handle or by another.
+// handle or by another; one that a clone no longer takes since its parent ignores it.
 pub(crate) const REPLACED: &str = "\
     make /o; make /o/e6; put /o:E blob 0~; make /o/b6; put /o:H blob 5~hello|\n\
     open 0 /o replace=Z:E replace=E:H; finish 0; open 1 /o replace=E:Z; finish 1|2: 32 slots; 2: 32 slots\n\
@@ -100,4 +100,5 @@ pub(crate) const REPLACED: &str = "\
     find 1 E; finish 1; find 1 H; finish 1|1: not found; 1: Blob hello\n\
     ignore 0; find 0 Z; finish 0; find 0 E; finish 0; header 0 E; finish 0|\
     1: not found; 1: Blob ; 1: Loose { kind: Blob, size: 0 }\n\
-    find 1 E; finish 1; ignore 1; find 1 E; finish 1|1: not found; 1: Blob ";
+    find 1 E; finish 1; clone 2 1; ignore 1; find 1 E; finish 1; find 2 E; finish 2|\
+    1: not found; 1: Blob ; 1: not found";

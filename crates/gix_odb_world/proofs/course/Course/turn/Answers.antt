@@ -7,6 +7,7 @@ use Rattle.gix_odb_world.specs.declared.course.Course.{Course}
 use Rattle.gix_odb_world.specs.Headline.{outcome_of}
 use Rattle.gix_odb_world.specs.Table.{Notes}
 use Rattle.gix_odb_world.specs.WorkOrder.{result_in}
+use Rattle.gix_odb_world.proofs.ExplainedFits.{fits_core}
 use Rattle.gix_odb_world.proofs.StepLemmas.{misused}
 use Rattle.gix_odb_world.proofs.TurnLemmas.{turned_on}
 use Rattle.gix_odb_world.proofs.course.Course.turn.Goals as goal
@@ -33,3 +34,9 @@ returns-clause-noted c =
       outcome_of (result_in c.in_ok-carried.carried.work),
       settles.notes.outcomes ∙ ap (λ outcomes. outcomes ++ outcome_of (result_in c.in_ok-carried.carried.work) ∷ []) (settles.sets.outcomes ∙ c.in-Ok.ensures.sets.outcomes),
     )) c.settle.ensures.settles
+
+-- for a store whose handle is to be registered a core can be made
+pub carried_out-requires : goal.carried_out-requires
+carried_out-requires c = record {
+  fits = λ registers. fits_core c.args.self.now c.args.number c.in-Ok.taken.0 c.in-Ok.taken.1 c.in-Ok.ensures.taken registers c.requires.explained;
+}
