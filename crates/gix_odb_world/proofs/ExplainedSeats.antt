@@ -108,10 +108,9 @@ module _ (world : Course) (h : HasHistory world) where
         let runs : Runs first events number (Working running) = subst (Runs first events number) status (explains.running number) in
         let has : HasSeat events number (Working running) = subst (HasSeat events number) status (seat number) in
         let may : MayAskCore events number running.store running.modes running.begun running.task event =
-        subst (TakesTurn first events number running running.task) asks_it (turn_of first events number running running.work runs.1) in
-        (
+        subst (TakesTurn first events number running running.task) asks_it (turn_of first events number running running.work runs.1) in (
           subst (λ cs. state.core < length cs) (sym explains.cores)
-          (subst (λ core. core < length (cores_after events)) (sym own.core) (may_sit running running.task has may)),
+              (subst (λ core. core < length (cores_after events)) (sym own.core) (may_sit running running.task has may)),
           event_of first events number running running.work runs.1 event asks_it,
         )
 

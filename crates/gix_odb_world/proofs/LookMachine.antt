@@ -411,7 +411,7 @@ module _ (first : Volume) (events : List Event) (handle : ℕ) (running : Runnin
         let end = ends (ap part_asked is) in
         let same = told_none events e handle running.begun knows.since turn.turn OfNothing turn.asked refl in
         let well = told_well_later first events e handle store running.modes running.begun same
-            (failed_before events e handle running.begun (λ turn_it failed. no_failure e.entry.did turn.did failed)) knows.since knows.well in
+        (failed_before events e handle running.begun (λ turn_it failed. no_failure e.entry.did turn.did failed)) knows.since knows.well in
         subst (λ r. MachineComes first events e handle running looking OfNothing r) (sym end.1)
         (replies exchanges same well end.0 knows.asked (ap result_of (sym knows.is) ∙ end.1))
     comes_part (Some (parts.Disk ask)) is turn =

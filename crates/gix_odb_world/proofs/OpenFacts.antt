@@ -100,7 +100,7 @@ module _ (first : Volume) where
       sym (ap misuse_of opened.applied) ∙ (law.valid ∙ ap (why_not_after first past) opened.opens) in
       let good = openable_by (phase_after past handle) _ valid in
       let parts = and_parts (are_good_folders opened.path opened.folders)
-          (are_good_replacements opened.hash opened.replacements && nat_le opened.options.max_changes most_changes) good in
+      (are_good_replacements opened.hash opened.replacements && nat_le opened.options.max_changes most_changes) good in
       let folders = and_parts (nat_le (length opened.folders) most_folders) (are_distinct path_cmp (opened.path ∷ opened.folders)) parts.0 in
       let others = and_parts (are_good_replacements opened.hash opened.replacements) (nat_le opened.options.max_changes most_changes) parts.1 in
       let ids = and_parts (are_distinct id_cmp (keys_of opened.replacements)) (list_all (is_pair_of opened.hash) opened.replacements) others.0 in

@@ -64,12 +64,7 @@ impl Work {
     }
 
     /// The work after the answer to what it asked for.
-    pub fn feed(
-        self,
-        alloc: Global,
-        handle: &HandleState,
-        answer: Answer,
-    ) -> Result<Work, NoMemory>
+    pub fn feed(self, alloc: Global, handle: &HandleState, answer: Answer) -> Result<Work, NoMemory>
         ensures fed { IfOk result (λ work. work ≡ fed_on handle.now self answer) }
     {
         match self {

@@ -94,7 +94,7 @@ asks_own first events handle running (Calling (Looking look)) knows ask is =
           (told_since events handle running.begun) knows.asked knows.well.truth path (asked ∙ ap (λ a. Some (parts.Disk a)) same);
       on = λ dir on_it.
           let own = streams_of_look_ups_are_their_own (setting_in running.store) (view_then events handle running.modes.core running.begun) knows.query
-              (sought running.store.parts running.modes.ignoring knows.query) (told_since events handle running.begun) knows.asked dir (on_by ask asked dir on_it) in
+          (sought running.store.parts running.modes.ignoring knows.query) (told_since events handle running.begun) knows.asked dir (on_by ask asked dir on_it) in
           (own.stream, own.told, own.number);
     }
   where
