@@ -82,16 +82,16 @@ suits_open path false dir (Err LinkLoop) = tt
 pub suits : (disk : Volume) (ask : DiskAsk) → ((dir : ℕ) → ask ≡ asks.NextEntry dir → Suits (asks.NextEntry dir) (answer_now disk (asks.NextEntry dir)))
     → Suits ask (answer_now disk ask)
 unfolding answer_of
-suits disk (asks.Read path) open = suits_read path (fails_now disk (asks.Read path)) (read_of (tree_of disk.state) path)
-suits disk (asks.Look path follow) open = suits_look path follow (fails_now disk (asks.Look path follow)) (looked (tree_of disk.state) path follow)
-suits disk (asks.OpenDir path) open = suits_open path (fails_now disk (asks.OpenDir path)) (least_closed disk.streams) (opened (tree_of disk.state) path)
-suits disk (asks.NextEntry dir) open = open dir refl
-suits disk (asks.CloseDir dir) open = refl
-suits disk (asks.MakeDir path) open = tt
-suits disk (asks.NewFile path) open = tt
-suits disk (asks.Append path bytes) open = tt
-suits disk (asks.Rename from to) open = tt
-suits disk (asks.Remove path) open = tt
+suits disk (asks.Read path) on_open = suits_read path (fails_now disk (asks.Read path)) (read_of (tree_of disk.state) path)
+suits disk (asks.Look path follow) on_open = suits_look path follow (fails_now disk (asks.Look path follow)) (looked (tree_of disk.state) path follow)
+suits disk (asks.OpenDir path) on_open = suits_open path (fails_now disk (asks.OpenDir path)) (least_closed disk.streams) (opened (tree_of disk.state) path)
+suits disk (asks.NextEntry dir) on_open = on_open dir refl
+suits disk (asks.CloseDir dir) on_open = refl
+suits disk (asks.MakeDir path) on_open = tt
+suits disk (asks.NewFile path) on_open = tt
+suits disk (asks.Append path bytes) on_open = tt
+suits disk (asks.Rename from to) on_open = tt
+suits disk (asks.Remove path) on_open = tt
 
 -- ---- a file that was read
 
@@ -107,15 +107,16 @@ read_so : (b : Bool) (o : Result (List ℕ × ℕ) Refusal) (bytes : List ℕ) (
 read_so true o bytes time is = absurd (cc is)
 read_so false o bytes time is = file_read o bytes time is
 
+read_is : (disk : Volume) (path : Path) (bytes : List ℕ) (time : ℕ) → answer_now disk (asks.Read path) ≡ answers.File bytes time
+    → read_of (tree_of disk.state) path ≡ Ok (bytes, time)
+unfolding answer_of
+read_is disk path bytes time is = read_so (fails_now disk (asks.Read path)) (read_of (tree_of disk.state) path) bytes time is
+
 pub is_true : (Shown : Path → List ℕ → Type 0) (setting : Setting) (hash : Kind) (disk : Volume)
     → ((path : Path) (bytes : List ℕ) (time : ℕ) → read_of (tree_of disk.state) path ≡ Ok (bytes, time) → Shown path bytes)
     → (ask : DiskAsk) → Suits ask (answer_now disk ask) → IsTrue Shown setting hash (parts.Disk ask) (told.Disk (answer_now disk ask))
 is_true Shown setting hash disk shows ask suits = by ask (answer_now disk ask) refl suits
   where
-    read_is : (path : Path) (bytes : List ℕ) (time : ℕ) → answer_now disk (asks.Read path) ≡ answers.File bytes time → read_of (tree_of disk.state) path ≡ Ok (bytes, time)
-    unfolding answer_of
-    read_is path bytes time is = read_so (fails_now disk (asks.Read path)) (read_of (tree_of disk.state) path) bytes time is
-
     by : (own : DiskAsk) (answer : DiskAnswer) → answer_now disk own ≡ answer → Suits own answer → IsTrue Shown setting hash (parts.Disk own) (told.Disk answer)
-    by (asks.Read path) (answers.File bytes time) is suits = (suits, shows path bytes time (read_is path bytes time is))
+    by (asks.Read path) (answers.File bytes time) is suits = (suits, shows path bytes time (read_is disk path bytes time is))
     by own answer is suits = (suits, tt)

@@ -35,7 +35,7 @@ HasStock first events (Resting store modes) = IsStocked first events modes.core 
 HasStock first events (Working running) = HasStockAt first events running.store running.modes running.task
 
 none_stocked : (first : Volume) → AreStocked first []
-unfolding (cores_after, statuses_from)
+unfolding cores_after statuses_from
 none_stocked first = record { stores = []; long = refl; each = λ core store is. absurd (cc is); owned = λ handle. tt }
 
 module _ (first : Volume) (events : List Event) (lawful : IsLawful first events) (throughout : RunsThroughout first events) where
