@@ -2,13 +2,10 @@
 use Rattle.std.proofs.Common.{◌≡◌, ℕ, ◌+◌, true, false, List, [], ◌∷◌, ◌++◌, length, Option, Some, None, Result, Ok, Err, refl, sym, ap, ◌∙◌}
 use Rattle.std.specs.Prelude.{if◌then◌else◌, IfOk, OnOk}
 use Rattle.odb_base.specs.declared.no_memory.NoMemory.{NoMemory}
-use Rattle.odb_base.specs.Path.{Path}
 use Rattle.odb_tree.specs.Tree.{tree_of}
-use Rattle.odb_tree.specs.declared.change.Change.{Change}
 use Rattle.odb_disk.specs.MemDisk.{Volume}
 use Rattle.odb_disk.specs.Ask.{after_ask, answer_now, change_of_ask}
 use Rattle.odb_disk.specs.declared.ask.DiskAsk.{DiskAsk}
-use Rattle.gix_odb.specs.OpenOrder as openings
 use Rattle.gix_odb.specs.declared.handle_state.HandleState.{HandleState}
 use Rattle.gix_odb_core.specs.History.{History}
 use Rattle.gix_odb_core.specs.declared.view.View.{View}

@@ -1,5 +1,5 @@
 -- The reply of a query keeps its promise, where all that its handle was told is true of the run.
-use Rattle.std.proofs.Common.{◌≡◌, ◌⊎◌, ℕ, ◌≤◌, Bool, true, false, List, [], ◌∷◌, ◌++◌, length, Contains, Option, Some, None, Ok, Err, inl, inr, refl, sym, ◌∙◌, ap, subst, arith}
+use Rattle.std.proofs.Common.{◌≡◌, ℕ, ◌≤◌, true, false, List, length, Contains, Some, Ok, inl, inr, refl, sym, ◌∙◌, ap, subst, arith}
 use Rattle.odb_base.specs.Path.{Path}
 use Rattle.odb_tree.specs.Tree.{Tree}
 use Rattle.odb_disk.specs.Ask.{answer_now}
@@ -7,14 +7,12 @@ use Rattle.odb_disk.specs.MemDisk.{Volume, next_fails}
 use Rattle.gix_hash.specs.ObjectId.{kind_of}
 use Rattle.gix_hash.specs.declared.object_id.ObjectId.{ObjectId}
 use Rattle.gix_odb_core.specs.declared.view.View.{View}
-use Rattle.gix_odb_loose.specs.Causes.{Cause}
 use Rattle.gix_odb_loose.proofs.CauseLaws.{Cause-wider}
-use Rattle.gix_odb_loose.specs.LooseFile.{LeadsToFile, Reading, loose_path}
+use Rattle.gix_odb_loose.specs.LooseFile.{LeadsToFile, loose_path}
 use Rattle.gix_odb_loose.specs.LooseOrder.{reply_of}
 use Rattle.gix_odb_loose.proofs.StillAskLaws.{call_asks_still}
 use Rattle.gix_odb_loose.specs.declared.find.Error as loose
 use Rattle.gix_odb_calls.specs.Verdict.{asking, job_of, refused, verdict_on}
-use Rattle.gix_odb_calls.specs.declared.call.CallError.{CallError}
 use Rattle.gix_odb_calls.specs.declared.call.CallError.TheVariants as call_errors
 use Rattle.gix_odb_calls.specs.declared.call.Reply.{Reply}
 use Rattle.gix_odb_calls.specs.declared.call.Reply.TheVariants as replies

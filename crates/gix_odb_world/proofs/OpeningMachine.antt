@@ -1,6 +1,6 @@
 -- An opening keeps the laws of a machine.
 pub mod Look
-use Rattle.std.proofs.Common.{◌≡◌, ℕ, ◌+◌, ◌<◌, ◌≤◌, Bool, true, false, cond, List, [], ◌∷◌, ◌++◌, length, Option, Some, None, refl, sym, ◌∙◌, ap, subst, arith, Ok, Err, Result}
+use Rattle.std.proofs.Common.{◌≡◌, ℕ, ◌+◌, ◌≤◌, Bool, true, false, cond, List, [], ◌∷◌, ◌++◌, length, Option, Some, None, refl, sym, ◌∙◌, ap, subst, arith, Ok, Err, Result}
 use Rattle.std.proofs.lemmas.List.{length_push}
 use Rattle.odb_tree.specs.Tree.{tree_of}
 use Rattle.odb_tree.specs.declared.disk_error.DiskError.TheVariants as disk_errors
@@ -22,7 +22,7 @@ use Rattle.gix_odb.specs.declared.open_state.OpenState.TheVariants as opens
 use Rattle.gix_odb_world.specs.declared.work.Work.TheVariants.{Opening}
 use Rattle.gix_odb_world.specs.Bound.{bound_of_task, turn_bound}
 use Rattle.gix_odb_world.specs.Causes.{Sometime, ShowsDirectory}
-use Rattle.gix_odb_world.specs.Event.{Answer, Ask, CoreEvent, Event, FromCore, FromDisk, OfDisk, ToCore, ToDisk, ToNewCore, answered}
+use Rattle.gix_odb_world.specs.Event.{Answer, CoreEvent, Event, FromCore, FromDisk, OfDisk, ToCore, ToDisk, ToNewCore, answered}
 use Rattle.gix_odb_world.specs.Handle.{IsHandleOf}
 use Rattle.gix_odb_world.specs.Machine.{placed}
 use Rattle.gix_odb_core.specs.History.{opened}
@@ -30,7 +30,7 @@ use Rattle.gix_odb_core.specs.declared.event.Event.TheVariants as core_events
 use Rattle.gix_odb_world.specs.Cores.{answer_behind, cores_after}
 use Rattle.gix_odb_world.specs.Promise.{MadeCore, OpeningPromise, Promise}
 use Rattle.gix_odb_world.specs.Run.{FailedSince, IsTurnOf, change_by, disk_after, tree_at}
-use Rattle.gix_odb_world.specs.Running.Opening.{HasSeen, IsLookingAt, IsOpening, IsRegistering, opening, opening_ask, opening_fed}
+use Rattle.gix_odb_world.specs.Running.Opening.{HasSeen, IsLookingAt, IsOpening, IsRegistering, opening, opening_ask}
 use Rattle.gix_odb_world.specs.Status.{MakeCall, OpenStore, Running, Store, Task, begun_with, running_from, Modes}
 use Rattle.gix_odb_world.specs.WorkOrder.{asks_on, fed_after, opening_result, result_in}
 use Rattle.gix_odb_world.proofs.WriteAsk.Quiet.{look_quiet}

@@ -7,7 +7,7 @@ pub mod Applied
 pub mod Grown
 pub mod Snapshots
 pub mod Looked
-use Rattle.std.proofs.Common.{◌≡◌, ◌≢◌, ℕ, ◌+◌, Bool, true, false, List, [], ◌∷◌, ◌++◌, length, take, Option, Some, None, Ok, Err, Result, refl, sym, ◌∙◌, ap, subst, arith}
+use Rattle.std.proofs.Common.{◌≡◌, ◌≢◌, ℕ, ◌+◌, Bool, true, false, List, [], ◌∷◌, ◌++◌, length, take, Option, Some, None, Ok, Err, Result, refl, sym, ◌∙◌, ap, subst}
 use Rattle.std.specs.Prelude.{◌==◌, ◌↔◌, IsSome, if◌then◌else◌, unwrap_or}
 use Rattle.std.proofs.lemmas.Bool.{eqb-true, eqb-false}
 use Rattle.odb_disk.specs.MemDisk.{Volume}
@@ -27,7 +27,6 @@ use Rattle.gix_odb_core.specs.History.{History, opened, present}
 use Rattle.gix_odb_core.specs.Replay.{number_behind}
 use Rattle.gix_odb_core.specs.Steps.{after}
 use Rattle.gix_odb_core.specs.Views.{view_of}
-use Rattle.gix_odb_core.specs.declared.event.Effect.{Effect}
 use Rattle.gix_odb_core.specs.declared.event.Effect.TheVariants as effects
 use Rattle.gix_odb_core.specs.declared.event.Event.TheVariants as core_events
 use Rattle.gix_odb_core.specs.declared.view.View.{View}
@@ -37,21 +36,20 @@ use Rattle.gix_odb_calls.specs.declared.step.Outcome.{Outcome}
 use Rattle.gix_odb_calls.specs.declared.step.Outcome.TheVariants as outcomes
 use Rattle.gix_odb_world.specs.declared.work.Work.{Work}
 use Rattle.gix_odb_world.specs.declared.work.Work.TheVariants.{Opening}
-use Rattle.gix_odb_world.specs.Asks.{AsksAsTask, MayAskCore}
-use Rattle.gix_odb_world.specs.Cores.{answer_behind, cores_after, cores_after_asked, entered, history_at, registered_at}
-use Rattle.gix_odb_world.specs.Event.{Ask, Asked, CoreEvent, Event, OfCore, OfDisk, OfNewCore, OfNothing, ToCore, ToDisk, ToNewCore, answered}
-use Rattle.gix_odb_world.specs.Headline.{IsLawful, IsTurn, Law, Suits, Turns, Works, asked_applied, asked_by_clone, asked_by_close, outcome_of, stand_of}
+use Rattle.gix_odb_world.specs.Asks.{AsksAsTask}
+use Rattle.gix_odb_world.specs.Cores.{answer_behind, cores_after, history_at, registered_at}
+use Rattle.gix_odb_world.specs.Event.{Ask, Asked, Event, ToCore, ToDisk, ToNewCore, answered}
+use Rattle.gix_odb_world.specs.Headline.{IsLawful, IsTurn, Law, Suits, Turns, Works, stand_of}
 use Rattle.gix_odb_world.specs.Machines.{ask_in, fed_in}
 use Rattle.gix_odb_world.specs.Run.{disk_after, told_now}
 use Rattle.gix_odb_world.specs.Promise.{Promise}
 use Rattle.gix_odb_world.specs.Seats.{HasSeat, HasSeatAt, HasSeatThroughout, IsNowhere, IsOpenAt, IsOpenAtTask, IsSeated, RegistersOwn, RegistersOwnThroughout}
-use Rattle.gix_odb_world.specs.Status.{Free, MakeCall, Modes, OpenStore, Resting, Running, Status, Store, Task, Working, cloned, come_to, ignoring_from, modes_after, refuses_opening}
-use Rattle.gix_odb_world.specs.Status.{replied, started, status_after, status_of, turned, with_status}
+use Rattle.gix_odb_world.specs.Status.{Free, MakeCall, Modes, OpenStore, Resting, Running, Status, Store, Task, Working, come_to, modes_after, refuses_opening}
+use Rattle.gix_odb_world.specs.Status.{replied, status_after, status_of, turned}
 use Rattle.gix_odb_world.specs.Valid.{misuse_of, phase_of, why_not_after, why_not_running}
 use Rattle.gix_odb_world.proofs.AlongRun.{along_run}
-use Rattle.gix_odb_world.proofs.HistoryLemmas.{cores_after-push}
 use Rattle.gix_odb_world.proofs.OpenFacts.{lawful_front}
-use Rattle.gix_odb_world.proofs.RunSteps.{at_work, turn_step}
+use Rattle.gix_odb_world.proofs.RunSteps.{at_work}
 use Rattle.gix_odb_world.proofs.SeatLemmas.Elsewhere.{out_new}
 use Rattle.gix_odb_world.proofs.SeatLemmas.Entered.{seated_more, seated_new}
 use Rattle.gix_odb_world.proofs.SeatLemmas.Looked.{out_looked, seated_looked, seated_looking}

@@ -1,6 +1,5 @@
 -- What a look-up is told of a handle of the code is what it is told of the handle's store.
 use Rattle.std.proofs.Common.{◌≡◌, ap, ◌∙◌}
-use Rattle.gix_odb_looks.specs.LookUpOrder.{Setting}
 use Rattle.gix_odb.specs.HandleState.{setting_at}
 use Rattle.gix_odb.specs.declared.handle_state.HandleState.{HandleState}
 use Rattle.gix_odb_world.specs.AtWork.{Modes, Store, setting_in}

@@ -1,6 +1,6 @@
 -- Each step of a world takes its history one event on.
 pub mod Apart
-use Rattle.std.proofs.Common.{◌≡◌, ◌≢◌, ℕ, ◌+◌, ◌<◌, true, List, [], ◌∷◌, ◌++◌, length, take, get_or, Some, None, Option, refl, sym, ◌∙◌, ap, subst, Vec, Global}
+use Rattle.std.proofs.Common.{◌≡◌, ℕ, ◌+◌, ◌<◌, true, List, [], ◌∷◌, ◌++◌, length, take, get_or, Some, None, Option, refl, sym, ◌∙◌, ap, subst, Vec, Global}
 use Rattle.std.specs.Prelude.{if◌then◌else◌, ◌==◌}
 use Rattle.std.proofs.lemmas.List.{map-append, take_more}
 use Rattle.odb_disk.specs.MemDisk.{Volume, after_outside_change}
@@ -11,19 +11,18 @@ use Rattle.gix_odb_calls.specs.declared.step.Step.TheVariants as steps
 use Rattle.gix_odb_calls.specs.declared.step.Outcome.{Outcome}
 use Rattle.gix_odb_calls.specs.declared.step.Outcome.TheVariants as outcomes
 use Rattle.gix_odb_calls.specs.declared.step.Why.{Why}
-use Rattle.gix_odb_calls.specs.declared.call.Reply.{Reply}
 use Rattle.gix_odb_world.specs.declared.record.Did.{Did}
 use Rattle.gix_odb_world.specs.declared.record.Did.TheVariants.{Nothing}
 use Rattle.gix_odb_world.specs.declared.handle.Handle.{Handle}
 use Rattle.gix_odb_world.specs.declared.course.Course.{Course}
 use Rattle.gix_odb_core.specs.History.{History}
 use Rattle.gix_odb_world.specs.Cores.{cores_after, cores_after_asked}
-use Rattle.gix_odb_world.specs.Event.{Asked, OfCore, OfDisk, OfNewCore, OfNothing, Event}
+use Rattle.gix_odb_world.specs.Event.{Asked, OfNothing, Event}
 use Rattle.gix_odb_world.specs.Status.{Status, Free, Resting, Working, status_of, status_after, with_status}
-use Rattle.gix_odb_world.specs.Run.{did_of_asked, disk_after, disk_after_asked, disk_after_event, disk_after_change, IsTurnOf}
+use Rattle.gix_odb_world.specs.Run.{did_of_asked, disk_after, disk_after_event, IsTurnOf}
 use Rattle.gix_odb_world.specs.Running.{Runs}
-use Rattle.gix_odb_world.specs.Valid.{Idle, is_openable, misuse_of, phase_after, phase_of, why_not_after, why_not_change, why_not_idle, why_not_open, why_not_running, why_not_clone, why_not_start}
-use Rattle.gix_odb_world.specs.Headline.{FailsAsListed, IsTurn, Law, LeavesDisk, Suits, asked_applied}
+use Rattle.gix_odb_world.specs.Valid.{Idle, is_openable, phase_after, phase_of, why_not_after, why_not_change, why_not_idle, why_not_open, why_not_running, why_not_clone, why_not_start}
+use Rattle.gix_odb_world.specs.Headline.{IsTurn, Law, LeavesDisk, asked_applied}
 use Rattle.gix_odb_world.specs.Changes.{ChangesAs}
 use Rattle.gix_odb_world.specs.World.{Explains, GoesOn, Continues, IsRunOf, Matches, handle_at}
 use Rattle.gix_odb_world.specs.Table.{SetsHandle, Notes, phase_of_handle, phase_of_work, phase_now, why_not_now}

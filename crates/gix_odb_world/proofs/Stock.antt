@@ -3,23 +3,17 @@ pub mod OneCore
 pub mod Owned
 pub mod Snapshots
 pub mod Step
-use Rattle.std.proofs.Common.{◌≡◌, ◌≢◌, ℕ, zero, suc, ◌+◌, ◌≤◌, Bool, true, false, List, [], ◌∷◌, ◌++◌, length, take, Option, Some, None, inl, inr, refl, sym, ◌∙◌, ap, subst, arith}
-use Rattle.std.specs.Prelude.{slice_get}
-use Rattle.std.proofs.lemmas.List.{length_push, take-length}
-use Rattle.std.proofs.lemmas.Option.{slice_get_within}
+use Rattle.std.proofs.Common.{◌≡◌, ℕ, zero, suc, ◌+◌, ◌≤◌, List, [], length, take, inl, inr, refl, sym, subst, arith}
+use Rattle.std.proofs.lemmas.List.{take-length}
 use Rattle.odb_disk.specs.MemDisk.{Volume}
-use Rattle.odb_tree.specs.Tree.{IsTree, tree_of}
-use Rattle.gix_odb_core.specs.History.{History}
-use Rattle.gix_odb_calls.specs.declared.step.Outcome.{Outcome}
-use Rattle.gix_odb_world.specs.AtWork.{Modes, Running, Store}
-use Rattle.gix_odb_world.specs.Cores.{cores_after, cores_after_asked}
-use Rattle.gix_odb_world.specs.Event.{Asked, Event, OfCore, OfDisk, OfNewCore, OfNothing}
-use Rattle.gix_odb_world.specs.Headline.{IsLawful, Law}
-use Rattle.gix_odb_world.specs.Running.{Runs, RunsThroughout}
-use Rattle.gix_odb_world.specs.Status.{Free, MakeCall, OpenStore, Resting, Status, Task, Working, status_after, status_of, statuses_from}
-use Rattle.gix_odb_world.proofs.HistoryLemmas.{cores_after-push, slice_get-kept, slice_get-last, slice_get-push, status_of-push}
+use Rattle.gix_odb_world.specs.AtWork.{Modes, Store}
+use Rattle.gix_odb_world.specs.Cores.{cores_after}
+use Rattle.gix_odb_world.specs.Event.{Event}
+use Rattle.gix_odb_world.specs.Headline.{IsLawful}
+use Rattle.gix_odb_world.specs.Running.{RunsThroughout}
+use Rattle.gix_odb_world.specs.Status.{Free, MakeCall, OpenStore, Resting, Status, Task, Working, status_of, statuses_from}
 use Rattle.gix_odb_world.proofs.OpenFacts.{lawful_front}
-use Rattle.gix_odb_world.proofs.RunSteps.{event_or_end, front_of_front, none_beyond, take_next}
+use Rattle.gix_odb_world.proofs.RunSteps.{event_or_end, none_beyond, take_next}
 use Rattle.gix_odb_world.proofs.Stock.OneCore.{IsStocked}
 use Rattle.gix_odb_world.proofs.Stock.Owned.{AreStocked, Owns}
 use Rattle.gix_odb_world.proofs.Stock.Step.{stocked_on}

@@ -2,7 +2,7 @@
 pub mod OneEvent
 pub mod Apart
 pub mod Step
-use Rattle.std.proofs.Common.{◌≡◌, ◌⊎◌, ℕ, zero, suc, ◌+◌, ◌≤◌, List, [], ◌∷◌, ◌++◌, length, codes, map, take, Contains, Option, Some, None, Ok, inl, inr, refl, sym, ◌∙◌, ap, subst, arith}
+use Rattle.std.proofs.Common.{◌≡◌, ℕ, zero, suc, ◌+◌, ◌≤◌, List, [], ◌∷◌, ◌++◌, length, map, take, Some, Ok, inl, inr, refl, sym, ◌∙◌, ap, subst, arith}
 use Rattle.std.proofs.lemmas.List.{length-append, length-map, length_push, take-length}
 use Rattle.odb_base.specs.Path.{Name, Path}
 use Rattle.odb_tree.specs.Tree.{Tree}
@@ -20,13 +20,13 @@ use Rattle.gix_odb_packs.specs.declared.answer.Answer.TheVariants as told
 use Rattle.gix_odb_packs.specs.declared.answer.PartAsk.TheVariants as parts
 use Rattle.gix_odb_looks.specs.Laps as laps
 use Rattle.gix_odb_looks.specs.LookUpOrder.{ask_of}
-use Rattle.gix_odb_looks.specs.OpenStream.{GivesNext, IsStreamOf, given_by}
+use Rattle.gix_odb_looks.specs.OpenStream.{GivesNext}
 use Rattle.gix_odb_looks.specs.Stream.{Stream, reads, stream_by, stream_in}
 use Rattle.gix_odb_looks.specs.True.{Suits}
 use Rattle.gix_odb_looks.specs.declared.look_up.LookUp.{LookUp}
 use Rattle.gix_odb_looks.proofs.HandedLaws.{IsOwnStream, streams_of_look_ups_are_their_own}
-use Rattle.gix_odb_looks.proofs.StreamLaws.{entries_are_of_the_names, stream_gives_few_entries, stream_gives_what_is_coming, stream_of_a_directory_goes_on}
-use Rattle.gix_odb.specs.Contents.{folder_list, sought}
+use Rattle.gix_odb_looks.proofs.StreamLaws.{entries_are_of_the_names, stream_gives_what_is_coming}
+use Rattle.gix_odb.specs.Contents.{sought}
 use Rattle.gix_odb_world.specs.AtWork.{Running, setting_in}
 use Rattle.gix_odb_world.specs.Bound.{HasAtMost, Pack}
 use Rattle.gix_odb_world.specs.Event.{Event}

@@ -1,9 +1,9 @@
 -- What the handle of a query was told is true of the run: where the query begins, and after one event more.
-use Rattle.std.proofs.Common.{◌≡◌, ◌⊎◌, ℕ, ◌+◌, ◌<◌, ◌≤◌, true, false, List, [], ◌∷◌, ◌++◌, length, min, Contains, Option, Some, None, Ok, Err, inl, inr, refl, sym, ◌∙◌, ap, subst, arith}
-use Rattle.std.specs.Prelude.{slice_get, unwrap_or}
+pub mod Numbers
+use Rattle.std.proofs.Common.{◌≡◌, ◌⊎◌, ℕ, ◌+◌, ◌<◌, ◌≤◌, true, List, [], ◌∷◌, ◌++◌, length, Contains, Some, None, Ok, inl, inr, refl, sym, ◌∙◌, ap, subst, arith}
+use Rattle.std.specs.Prelude.{unwrap_or}
 use Rattle.std.proofs.lemmas.List.{length_push, take-length}
 use Rattle.std.proofs.lemmas.Option.{slice_get_within}
-use Rattle.odb_base.specs.Path.{Path}
 use Rattle.odb_tree.specs.Tree.{tree_of}
 use Rattle.odb_tree.specs.Tree.Follow.{listed, read_of}
 use Rattle.odb_tree.specs.declared.disk_error.DiskError.TheVariants as errors
@@ -18,8 +18,6 @@ use Rattle.gix_odb_core.specs.Steps.{last_state}
 use Rattle.gix_odb_core.specs.declared.journal.Entry.{Entry}
 use Rattle.gix_odb_core.specs.declared.shape.Shape.{Shape}
 use Rattle.gix_odb_core.specs.declared.view.View.{View}
-use Rattle.gix_odb_core.proofs.NumberLaws.{entries_lower_no_number}
-use Rattle.gix_odb_core.proofs.OrderLaws.{replay_of_joined_journals}
 use Rattle.gix_odb_packs.specs.declared.answer.Answer.TheVariants as told
 use Rattle.gix_odb_packs.specs.declared.answer.PartAsk.TheVariants as parts
 use Rattle.gix_odb_calls.specs.declared.call.Call.{Call}
@@ -42,7 +40,7 @@ use Rattle.gix_odb_world.specs.declared.record.Did.TheVariants.{Nothing, Disk, C
 use Rattle.gix_odb_world.specs.AtWork.{Modes, Running, Store, setting_in}
 use Rattle.gix_odb_world.specs.Bound.{HasAtMost}
 use Rattle.gix_odb_world.specs.Cores.{answer_behind, cores_after, cores_after_asked, entered, entry_of, history_at}
-use Rattle.gix_odb_world.specs.Event.{Asked, CoreAnswer, CoreEvent, Event, OfCore, OfDisk, OfNewCore, OfNothing, ToCore, ToDisk}
+use Rattle.gix_odb_world.specs.Event.{Asked, CoreAnswer, CoreEvent, Event, OfCore, OfDisk, ToCore, ToDisk}
 use Rattle.gix_odb_world.specs.Run.{Fails, FailedSince, NoCall, disk_after, tree_at}
 use Rattle.gix_odb_world.specs.Running.Query.{IsGiven, IsLooking, IsToldWell, number_after}
 use Rattle.gix_odb_world.specs.Told.{look_now, told_since, view_then}
@@ -50,52 +48,20 @@ use Rattle.gix_odb_world.proofs.DiskTold.{failed_or_told, is_true, suits}
 use Rattle.gix_odb_world.proofs.HistoryLemmas.{cores_after-push, failed-kept, failed_before, none_failed_yet, tree_at-before}
 use Rattle.gix_odb_world.proofs.MachineLaws.{IsRunning, IsStarted, IsTurnAsking}
 use Rattle.gix_odb_world.proofs.QuietTurn.{failed_now}
-use Rattle.gix_odb_world.proofs.SeatLemmas.Elsewhere.{history_at-push, history_at-set, slice_get-set_same}
+use Rattle.gix_odb_world.proofs.SeatLemmas.Elsewhere.{slice_get-set_same}
 use Rattle.gix_odb_world.proofs.Stock.{HasStock, HasStockAt, stocked}
 use Rattle.gix_odb_world.proofs.Stock.OneCore.{IsOfStore, IsStocked, ShownSince, shown_later}
 use Rattle.gix_odb_world.proofs.Stock.Snapshots.{Shows, is_opened, slots_are, snapshot_shows}
 use Rattle.gix_odb_world.proofs.Streams.{next_entry_suits, streams_are_short}
 use Rattle.gix_odb_world.proofs.ToldLemmas.{told_first, told_turn, view_first, view_kept}
-use Rattle.gix_odb_world.proofs.ToldLists.{length-slice_set, AreAnswered-push, AreNumbered-push, AreWithin-push, among_more, last_among, nothing_among, number_after-push, one_of_more, within_last}
+use Rattle.gix_odb_world.proofs.ToldLists.{AreAnswered-push, AreNumbered-push, AreWithin-push, among_more, last_among, nothing_among, number_after-push, one_of_more, within_last}
+use Rattle.gix_odb_world.proofs.ToldWell.Numbers.{numbers_rise}
 
 -- a record that tells no call tells no failure
 pub no_failure : (did : Did) → NoCall did → ¬ (Fails did)
 no_failure Nothing none failed = failed
 no_failure (Disk op path failed) none fails = none
 no_failure (Core store entry) none failed = failed
-
--- ---- the numbers of a core's list
-
-entry_raises : (h : History) (seat : ℕ) (event : CoreEvent) (answer : CoreAnswer) → (present h).list_no ≤ (present (entered h seat event answer)).list_no
-entry_raises h seat event answer =
-    let rises = entries_lower_no_number (entry_of h seat event answer ∷ []) (present h) in
-    subst (λ (s : Shape). (present h).list_no ≤ s.list_no) (sym (replay_of_joined_journals h.entries (entry_of h seat event answer ∷ []) h.opening)) rises.list_no
-
--- an event leaves a core where it is, and its list has no lower number then
-numbers_rise : (cores : List History) (asked : Asked) (core : ℕ) → core < length cores
-    → (core < length (cores_after_asked cores asked)) × ((present (history_at cores core)).list_no ≤ (present (history_at (cores_after_asked cores asked) core)).list_no)
-numbers_rise cores OfNothing core within = (within, omega arith)
-numbers_rise cores (OfDisk ask answer) core within = (within, omega arith)
-numbers_rise cores (OfCore store seat event answer) core within =
-    let new : History = entered (history_at cores store) seat event answer in
-    let long = length-slice_set cores store new in (
-      omega (arith, within, long),
-      elim (history_at-set cores store new core) [
-        | inl old ↦ subst (λ (h : History). (present (history_at cores core)).list_no ≤ (present h).list_no) (sym old) (omega arith)
-        | inr at ↦
-            subst (λ (h : History). (present (history_at cores core)).list_no ≤ (present h).list_no) (sym at.1)
-            (subst (λ n. (present (history_at cores n)).list_no ≤ (present new).list_no) (sym at.0) (entry_raises (history_at cores store) seat event answer))
-      ],
-    )
-numbers_rise cores (OfNewCore slots folders store seat answer) core within =
-    let now : List History = cores_after_asked cores (OfNewCore slots folders store seat answer) in
-    let long = length_push cores _ in (
-      omega (arith, within, long),
-      elim (history_at-push cores _ core) [
-        | inl old ↦ subst (λ (h : History). (present (history_at cores core)).list_no ≤ (present h).list_no) (sym old) (omega arith)
-        | inr at ↦ let beyond = at.0 in absurd (omega (arith, within, beyond))
-      ],
-    )
 
 -- the core of a store begins with a state number of 64 bits
 low_state : (first : Volume) (events : List Event) (store : Store) (history : History) → IsOfStore first events store history → history.opening.state_id ≤ last_state

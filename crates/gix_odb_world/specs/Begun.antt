@@ -1,5 +1,5 @@
 -- From which steps a handle has its task, its store and its mode, and how many turns it took since.
-use Rattle.std.specs.Prelude.{◌≡◌, ◌⊎◌, take, ◌↔◌, ℕ, ◌+◌, ◌≤◌, Bool, true, false, ◌==◌, List, count_by, drop, slice_get, Some}
+use Rattle.std.specs.Prelude.{◌≡◌, ◌⊎◌, take, ◌↔◌, ℕ, ◌+◌, ◌≤◌, true, List, count_by, drop, slice_get, Some}
 use Rattle.odb_base.specs.Path.{Path}
 use Rattle.gix_hash.specs.declared.kind.Kind.{Kind as HashKind}
 use Rattle.gix_hash.specs.declared.object_id.ObjectId.{ObjectId}

@@ -1,5 +1,5 @@
 -- What the handle of a query was asked and answered since the query began, and where its look-up stands behind that.
-use Rattle.std.specs.Prelude.{◌≡◌, ℕ, List, drop, take, Option, Some, None, unwrap_or, if◌then◌else◌}
+use Rattle.std.specs.Prelude.{ℕ, List, drop, take, Option, Some, None, unwrap_or, if◌then◌else◌}
 use Rattle.std.specs.List.{filter_map}
 use Rattle.gix_odb_core.specs.Replay.{snapshot_of}
 use Rattle.gix_odb_core.specs.declared.view.View.{View}

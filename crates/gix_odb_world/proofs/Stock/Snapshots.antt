@@ -1,5 +1,5 @@
 -- What a handle sees of the core of its store: what was read since the store was opened, and no more than there are slots.
-use Rattle.std.proofs.Common.{◌≡◌, ℕ, zero, suc, ◌+◌, ◌≤◌, ◌<◌, List, [], ◌∷◌, ◌++◌, length, min, take, Contains, Option, Some, None, refl, sym, ◌∙◌, ap, subst, arith}
+use Rattle.std.proofs.Common.{◌≡◌, ℕ, zero, suc, ◌+◌, ◌≤◌, List, [], ◌∷◌, ◌++◌, length, take, Contains, Option, Some, None, refl, sym, ◌∙◌, ap, subst, arith}
 use Rattle.std.specs.Prelude.{slice_get, unwrap_or}
 use Rattle.std.specs.List.{All}
 use Rattle.std.proofs.lemmas.List.{length-replicate}
@@ -17,8 +17,7 @@ use Rattle.gix_odb_core.specs.declared.view.View.{View}
 use Rattle.gix_odb_core.proofs.NumberLaws.{entries_lower_no_number}
 use Rattle.gix_odb_core.proofs.ShapeLaws.{journal_comes_to_a_shape, possible_journal_splits}
 use Rattle.gix_odb_core.proofs.SnapshotLaws.{entry_hands_the_view_behind_it, snapshot_is_the_last_view_handed}
-use Rattle.gix_odb_looks.specs.LookUpOrder.{Setting}
-use Rattle.gix_odb_looks.specs.Shown.{IsHanded, IsShownView}
+use Rattle.gix_odb_looks.specs.Shown.{IsShownView}
 use Rattle.gix_odb_looks.proofs.CoreLaws.Shapes.{shape_shows_few}
 use Rattle.gix_odb_looks.proofs.ViewLaws.{what_a_core_shows_was_shown}
 use Rattle.gix_odb.specs.Contents.{folder_list}

@@ -1,11 +1,9 @@
 -- What one event makes of the cores of stores, and of whose cores they are.
-use Rattle.std.proofs.Common.{◌≡◌, ◌≢◌, ℕ, ◌+◌, ◌≤◌, Bool, true, false, List, [], ◌∷◌, ◌++◌, length, min, Contains, Option, Some, None, Ok, Err, Result, inl, inr, refl, sym, ◌∙◌, ap, subst, arith}
+pub mod Grown
+use Rattle.std.proofs.Common.{◌≡◌, ℕ, ◌+◌, Bool, true, false, List, [], ◌∷◌, ◌++◌, length, Option, Some, None, refl, sym, ◌∙◌, ap, subst}
 use Rattle.std.specs.Prelude.{◌==◌, slice_get, unwrap_or, if◌then◌else◌}
 use Rattle.std.specs.List.{last_or}
-use Rattle.std.proofs.lemmas.Bool.{eqb-true, eqb-false}
-use Rattle.std.proofs.lemmas.List.{length_push}
 use Rattle.odb_disk.specs.MemDisk.{Volume}
-use Rattle.gix_odb_core.specs.Handles.{registered}
 use Rattle.gix_odb_core.specs.History.{History, opened, present}
 use Rattle.gix_odb_core.specs.Replay.{CanHappen}
 use Rattle.gix_odb_core.specs.declared.event.Event.TheVariants as core_events
@@ -21,40 +19,35 @@ use Rattle.gix_odb_calls.specs.declared.step.Outcome.{Outcome}
 use Rattle.gix_odb_calls.specs.declared.step.Outcome.TheVariants as outcomes
 use Rattle.gix_odb_looks.specs.LookUpOrder as looks
 use Rattle.gix_odb_looks.specs.Shown.{IsHanded}
-use Rattle.gix_odb_looks.specs.declared.look_up.LookUp.{LookUp}
 use Rattle.gix_odb_looks.proofs.FoundLaws.{what_is_handed_was_shown}
 use Rattle.gix_odb_looks.proofs.HandedLaws.{what_is_handed_can_happen}
-use Rattle.gix_odb.specs.Contents.{folder_list, sought}
+use Rattle.gix_odb.specs.Contents.{sought}
 use Rattle.gix_odb.specs.declared.call_state.CallState.TheVariants.{Looking, Writing}
-use Rattle.gix_odb.specs.declared.open_state.OpenState.{OpenState}
 use Rattle.gix_odb.specs.declared.open_state.OpenState.TheVariants as opens
 use Rattle.gix_odb_loose.specs.LooseOrder.{disk_ask_of}
 use Rattle.gix_odb_world.specs.declared.work.Work.{Work}
 use Rattle.gix_odb_world.specs.declared.work.Work.TheVariants.{Opening, Calling}
 use Rattle.gix_odb_world.specs.Asks.{AsksAsTask, MayAskCore, MayAskNewCore}
-use Rattle.gix_odb_world.specs.AtWork.{MakeCall, Modes, OpenStore, Running, Store, Task, modes_after, setting_in}
-use Rattle.gix_odb_world.specs.Begun.{BegunAs}
-use Rattle.gix_odb_world.specs.Cores.{answer_behind, cores_after, cores_after_asked, entered, history_at, registered_at}
-use Rattle.gix_odb_world.specs.Event.{Ask, Asked, CoreAnswer, CoreEvent, Event, OfCore, OfDisk, OfNewCore, OfNothing, ToCore, ToDisk, ToNewCore, answered, part_asked, to_disk}
-use Rattle.gix_odb_world.specs.Headline.{IsLawful, IsTurn, Law, Suits, Turns, Works, asked_applied, asked_by_clone, asked_by_close, outcome_of, stand_of}
+use Rattle.gix_odb_world.specs.AtWork.{MakeCall, OpenStore, Running, Store, Task, modes_after, setting_in}
+use Rattle.gix_odb_world.specs.Cores.{cores_after, history_at}
+use Rattle.gix_odb_world.specs.Event.{Ask, Asked, CoreAnswer, CoreEvent, Event, OfNewCore, OfNothing, ToCore, ToDisk, ToNewCore, answered, part_asked, to_disk}
+use Rattle.gix_odb_world.specs.Headline.{IsLawful, IsTurn, Law, Suits, Works, asked_applied, asked_by_clone, asked_by_close, stand_of}
 use Rattle.gix_odb_world.specs.Machines.{ask_in, fed_in}
 use Rattle.gix_odb_world.specs.Promise.{Promise}
 use Rattle.gix_odb_world.specs.Run.{disk_after, told_now}
 use Rattle.gix_odb_world.specs.Running.{Knows, Runs}
-use Rattle.gix_odb_world.specs.Running.Query.{IsLooking}
-use Rattle.gix_odb_world.specs.Seats.{HasSeat, IsNowhere, IsSeated}
-use Rattle.gix_odb_world.specs.Status.{Free, Resting, Status, Working, after_reply, cloned, come_to, ignoring_from, refuses_opening, replied, started, status_after, status_of, turned, with_status}
-use Rattle.gix_odb_world.specs.Told.{look_now, told_since, view_then}
-use Rattle.gix_odb_world.specs.Valid.{misuse_of, phase_of, why_not_after, why_not_idle}
-use Rattle.gix_odb_world.proofs.HistoryLemmas.{cores_after-push, slice_get-kept, slice_get-last, slice_get-push, status_of-push}
+use Rattle.gix_odb_world.specs.Seats.{HasSeat, IsNowhere}
+use Rattle.gix_odb_world.specs.Status.{Free, Resting, Status, Working, cloned, come_to, ignoring_from, refuses_opening, replied, started, status_after, status_of, turned, with_status}
+use Rattle.gix_odb_world.specs.Told.{told_since, view_then}
+use Rattle.gix_odb_world.specs.Valid.{misuse_of, why_not_after}
+use Rattle.gix_odb_world.proofs.HistoryLemmas.{slice_get-last, status_of-push}
 use Rattle.gix_odb_world.proofs.SeatLemmas.{seats_now}
 use Rattle.gix_odb_world.proofs.SeatLemmas.Applied.{is_free_for_clone}
-use Rattle.gix_odb_world.proofs.SeatLemmas.Elsewhere.{slice_get-set_other, slice_get-set_same}
 use Rattle.gix_odb_world.proofs.SeatLemmas.Opened.{left_of}
 use Rattle.gix_odb_world.proofs.RunSteps.{at_work, turn_step}
-use Rattle.gix_odb_world.proofs.Stock.OneCore.{IsOfStore, IsStocked, ShownSince, of_store_grown, of_store_later}
+use Rattle.gix_odb_world.proofs.Stock.OneCore.{ShownSince}
 use Rattle.gix_odb_world.proofs.Stock.Owned.{AreStocked, Owns, OwnsAt}
-use Rattle.gix_odb_world.proofs.ToldLists.{length-slice_set}
+use Rattle.gix_odb_world.proofs.Stock.Step.Grown.{GrowsTo, grown_core, grown_new, grown_same}
 
 -- the last of a list
 last_is : {A : Type 0} (xs : List A) (x : A) (o : Option A) → last_or o (xs ++ x ∷ []) ≡ Some x
@@ -75,122 +68,9 @@ module _ (first : Volume) (past : List Event) (e : Event) (lawful : IsLawful fir
   seat : (handle : ℕ) → HasSeat past handle (table handle)
   seat handle = seats_now first past lawful handle
 
-  -- ---- the cores
-
-  -- the cores are those of these stores then, and each that was one is
-  record GrowsTo (stores : List Store) : Type 0 where
-    long : length stores ≡ length (cores_after now)
-    each : (core : ℕ) (store : Store) → slice_get stores core ≡ Some store → IsStocked first now core store
-    keeps : (core : ℕ) (store : Store) → slice_get before.stores core ≡ Some store → slice_get stores core ≡ Some store
-
-  now_is : (asked : Asked) → e.asked ≡ asked → cores_after now ≡ cores_after_asked cores asked
-  now_is asked is = cores_after-push past e ∙ ap (cores_after_asked cores) is
-
-  grown_same : (asked : Asked) → e.asked ≡ asked → cores_after_asked cores asked ≡ cores → GrowsTo before.stores
-  grown_same asked is same =
-      let cores_are : cores_after now ≡ cores = now_is asked is ∙ same in
-      record {
-        long = before.long ∙ ap length (sym cores_are);
-        each = λ core store has.
-            let stock = before.each core store has in
-            record { history = stock.history; there = ap (λ cs. slice_get cs core) cores_are ∙ stock.there; of = of_store_later first past e store stock.history stock.of };
-        keeps = λ core store has. has;
-      }
-
-  -- an event of a core that can happen, and hands it what was read
-  grown_core : (core handle : ℕ) (event : CoreEvent) → e.asked ≡ OfCore core handle event (answer_behind (history_at cores core) handle event)
-      → CanHappen (present (history_at cores core)) handle event
-      → ((store : Store) → slice_get before.stores core ≡ Some store → IsHanded (ShownSince first past store) (setting_in store) store.hash event)
-      → GrowsTo before.stores
-  grown_core core handle event is can handed =
-      let answer = answer_behind (history_at cores core) handle event in
-      let new : History = entered (history_at cores core) handle event answer in
-      let grown : cores_after now ≡ cores_after_asked cores (OfCore core handle event answer) = now_is _ is in
-      record {
-        long = before.long ∙ (sym (length-slice_set cores core new) ∙ ap length (sym grown));
-        each = λ place store has. by place store has (place == core) refl;
-        keeps = λ place store has. has;
-      }
-    where
-      by : (place : ℕ) (store : Store) → slice_get before.stores place ≡ Some store → (b : Bool) → (place == core) ≡ b → IsStocked first now place store
-      by place store has true is_here =
-          let same : place ≡ core = eqb-true place core is_here in
-          let answer = answer_behind (history_at cores core) handle event in
-          let own : slice_get before.stores core ≡ Some store = ap (slice_get before.stores) (sym same) ∙ has in
-          let stock = before.each core store own in
-          let there : history_at cores core ≡ stock.history = ap (λ o. unwrap_or o (opened 0 0 0 0)) stock.there in
-          record {
-            history = entered stock.history handle event answer;
-            there =
-                ap (λ cs. slice_get cs place) (now_is _ is)
-                ∙ (ap (slice_get (cores_after_asked cores (OfCore core handle event answer))) same
-                ∙ (slice_get-set_same cores core (entered (history_at cores core) handle event answer) stock.history stock.there
-                ∙ ap (λ h. Some (entered h handle event answer)) there));
-            of =
-                of_store_grown first past e store stock.history handle event answer (ap (λ h. answer_behind h handle event) there)
-                (subst (λ h. CanHappen (present h) handle event) there can) (handed store own) stock.of;
-          }
-      by place store has false is_other =
-          let answer = answer_behind (history_at cores core) handle event in
-          let stock = before.each place store has in
-          record {
-            history = stock.history;
-            there =
-                ap (λ cs. slice_get cs place) (now_is _ is)
-                ∙ (slice_get-set_other cores core place (entered (history_at cores core) handle event answer) (eqb-false place core is_other) ∙ stock.there);
-            of = of_store_later first past e store stock.history stock.of;
-          }
-
-  -- a core that was made for a store
-  grown_new : (store : Store) (slots folders handle : ℕ) → slots ≡ store.slots → folders ≡ length (folder_list store.parts)
-      → e.asked ≡ OfNewCore slots folders (length cores) handle (answer_behind (opened slots folders 0 0) handle (core_events.Register false))
-      → GrowsTo (before.stores ++ store ∷ [])
-  grown_new store slots folders handle slots_are folders_are is =
-      let h : History = opened slots folders 0 0 in
-      let answer = answer_behind h handle (core_events.Register false) in
-      let new : History = entered h handle (core_events.Register false) answer in
-      let grown : cores_after now ≡ cores ++ new ∷ [] = now_is _ is in
-      let long = before.long in
-      let none : IsOfStore first past store h = record {
-        opening = ap (λ n. (opened n folders 0 0).opening) slots_are ∙ ap (λ n. (opened store.slots n 0 0).opening) folders_are;
-        legal = λ i entry there. absurd (cc there);
-        possible = tt;
-        handed = λ entry among. absurd (nothing_in entry among);
-      } in
-      record {
-        long =
-            let more = length_push before.stores store in
-            let mores = length_push cores new in
-            let same = ap length grown in
-            omega (arith, more, mores, same, long);
-        each = λ place other has.
-            elim (slice_get-push before.stores store place other has) [
-              | inl old ↦
-                  let stock = before.each place other old.1 in
-                  record {
-                    history = stock.history;
-                    there = ap (λ cs. slice_get cs place) grown ∙ slice_get-kept cores new place stock.history stock.there;
-                    of = of_store_later first past e other stock.history stock.of;
-                  }
-              | inr last ↦
-                  let here : place ≡ length cores = last.0 ∙ long in
-                  record {
-                    history = new;
-                    there = ap (λ cs. slice_get cs place) grown ∙ (ap (slice_get (cores ++ new ∷ [])) here ∙ slice_get-last cores new);
-                    of =
-                        subst (λ (o : Store). IsOfStore first now o new) last.1
-                        (of_store_grown first past e store h handle (core_events.Register false) answer refl refl tt none);
-                  }
-            ];
-        keeps = λ place other has. slice_get-kept before.stores store place other has;
-      }
-    where
-      nothing_in : {A : Type 0} (x : A) → ¬ (Contains [] x)
-      nothing_in x (k, within, is) = omega (arith, within)
-
   -- ---- whose they are
 
-  owns_kept : (stores : List Store) → GrowsTo stores → (status : Status) → Owns before.stores status → Owns stores status
+  owns_kept : (stores : List Store) → GrowsTo first past e before stores → (status : Status) → Owns before.stores status → Owns stores status
   owns_kept stores grows Free owns = tt
   owns_kept stores grows (Resting store modes) owns = grows.keeps modes.core store owns
   owns_kept stores grows (Working running) owns = by running.task owns
@@ -199,17 +79,17 @@ module _ (first : Volume) (past : List Event) (e : Event) (lawful : IsLawful fir
       by OpenStore owns = tt
       by (MakeCall call) owns = grows.keeps running.modes.core running.store owns
 
-  kept : (stores : List Store) → GrowsTo stores → (handle : ℕ) → Owns stores (table handle)
+  kept : (stores : List Store) → GrowsTo first past e before stores → (handle : ℕ) → Owns stores (table handle)
   kept stores grows handle = owns_kept stores grows (table handle) (before.owned handle)
 
-  set : (stores : List Store) → GrowsTo stores → (number : ℕ) (status : Status) → Owns stores status → (handle : ℕ) → Owns stores (with_status table number status handle)
+  set : (stores : List Store) → GrowsTo first past e before stores → (number : ℕ) (status : Status) → Owns stores status → (handle : ℕ) → Owns stores (with_status table number status handle)
   set stores grows number status here handle = by (handle == number)
     where
       by : (b : Bool) → Owns stores (if b then status else table handle)
       by true = here
       by false = kept stores grows handle
 
-  finish : (stores : List Store) → GrowsTo stores → ((handle : ℕ) → Owns stores (status_after (length past + 1) e.step e.outcome e.asked table handle)) → AreStocked first now
+  finish : (stores : List Store) → GrowsTo first past e before stores → ((handle : ℕ) → Owns stores (status_after (length past + 1) e.step e.outcome e.asked table handle)) → AreStocked first now
   finish stores grows owned = record {
     stores = stores;
     long = grows.long;
@@ -232,14 +112,14 @@ module _ (first : Volume) (past : List Event) (e : Event) (lawful : IsLawful fir
 
   applied : (step : Step) → e.step ≡ step → e.outcome ≡ outcomes.Applied → e.asked ≡ asked_applied past step → None ≡ why_not_after first past step → AreStocked first now
   applied (steps.Open number path folders hash replacements options) step out is valid =
-      let grows = grown_same OfNothing is refl in
+      let grows = grown_same first past e before OfNothing is refl in
       finish before.stores grows (λ handle. after_is _ _ step out handle before.stores (set before.stores grows number _ tt handle))
   applied (steps.Ignore number) step out is valid =
-      let grows = grown_same OfNothing is refl in
+      let grows = grown_same first past e before OfNothing is refl in
       finish before.stores grows
       (λ handle. after_is _ _ step out handle before.stores (set before.stores grows number _ (owns_ignoring before.stores (table number) (kept before.stores grows number)) handle))
   applied (steps.Start number call) step out is valid =
-      let grows = grown_same OfNothing is refl in
+      let grows = grown_same first past e before OfNothing is refl in
       finish before.stores grows (λ handle. after_is _ _ step out handle before.stores (set before.stores grows number _ (by (table number) (kept before.stores grows number)) handle))
     where
       by : (status : Status) → Owns before.stores status → Owns before.stores (started (length past + 1) call status)
@@ -247,23 +127,23 @@ module _ (first : Volume) (past : List Event) (e : Event) (lawful : IsLawful fir
       by (Resting store modes) owns = owns
       by (Working running) owns = owns
   applied (steps.Turn number) step out is valid =
-      let grows = grown_same OfNothing is refl in
+      let grows = grown_same first past e before OfNothing is refl in
       finish before.stores grows (λ handle. after_is _ _ step out handle before.stores (kept before.stores grows handle))
   applied (steps.Disk change) step out is valid =
-      let grows = grown_same OfNothing is refl in
+      let grows = grown_same first past e before OfNothing is refl in
       finish before.stores grows (λ handle. after_is _ _ step out handle before.stores (kept before.stores grows handle))
   applied (steps.Close number) step out is valid = by (table number) refl (seat number) is
     where
       by : (status : Status) → table number ≡ status → HasSeat past number status → e.asked ≡ asked_by_close cores number status → AreStocked first now
       by Free at has is =
-          let grows = grown_same OfNothing is refl in
+          let grows = grown_same first past e before OfNothing is refl in
           finish before.stores grows (λ handle. after_is _ _ step out handle before.stores (set before.stores grows number Free tt handle))
       by (Working running) at has is =
-          let grows = grown_same OfNothing is refl in
+          let grows = grown_same first past e before OfNothing is refl in
           finish before.stores grows (λ handle. after_is _ _ step out handle before.stores (set before.stores grows number Free tt handle))
       by (Resting store modes) at has is =
           let there : history_at cores modes.core ≡ has.history = ap (λ o. unwrap_or o (opened 0 0 0 0)) has.there in
-          let grows = grown_core modes.core number core_events.Remove is (subst (λ h. CanHappen (present h) number core_events.Remove) (sym there) has.registered) (λ own has. tt) in
+          let grows = grown_core first past e before modes.core number core_events.Remove is (subst (λ h. CanHappen (present h) number core_events.Remove) (sym there) has.registered) (λ own has. tt) in
           finish before.stores grows (λ handle. after_is _ _ step out handle before.stores (set before.stores grows number Free tt handle))
   applied (steps.Clone number from) step out is valid = by (table from) refl (seat number) (before.owned from) is
     where
@@ -272,17 +152,17 @@ module _ (first : Volume) (past : List Event) (e : Event) (lawful : IsLawful fir
 
       by : (parent : Status) → table from ≡ parent → HasSeat past number (table number) → Owns before.stores (table from) → e.asked ≡ asked_by_clone cores number parent → AreStocked first now
       by Free at has owns is =
-          let grows = grown_same OfNothing is refl in
+          let grows = grown_same first past e before OfNothing is refl in
           finish before.stores grows (λ handle. after_is _ _ step out handle before.stores
           (set before.stores grows number _ (subst (λ s. Owns before.stores (cloned e.asked s)) (sym at) tt) handle))
       by (Working running) at has owns is =
-          let grows = grown_same OfNothing is refl in
+          let grows = grown_same first past e before OfNothing is refl in
           finish before.stores grows (λ handle. after_is _ _ step out handle before.stores
           (set before.stores grows number _ (subst (λ s. Owns before.stores (cloned e.asked s)) (sym at) tt) handle))
       by (Resting store modes) at has owns is =
           let nowhere : IsNowhere cores number = subst (HasSeat past number) free has in
           let own : slice_get before.stores modes.core ≡ Some store = subst (Owns before.stores) at owns in
-          let grows = grown_core modes.core number (core_events.Register false) is (nowhere modes.core) (λ other has. tt) in
+          let grows = grown_core first past e before modes.core number (core_events.Register false) is (nowhere modes.core) (λ other has. tt) in
           finish before.stores grows (λ handle. after_is _ _ step out handle before.stores
           (set before.stores grows number _
           (subst (λ s. Owns before.stores (cloned e.asked s)) (sym at)
@@ -365,7 +245,7 @@ module _ (first : Volume) (past : List Event) (e : Event) (lawful : IsLawful fir
     -- how the cores grow by what was asked, and whose core the handle has then
     record TurnGrows : Type 0 where
       stores : List Store
-      grows : GrowsTo stores
+      grows : GrowsTo first past e before stores
       rests : (reply : Reply) → e.outcome ≡ outcomes.Reply reply → refuses_opening reply ≡ false → slice_get stores (modes_after e.asked running.modes).core ≡ Some running.store
       goes : OwnsAt stores running.store (modes_after e.asked running.modes) running.task
 
@@ -376,7 +256,7 @@ module _ (first : Volume) (past : List Event) (e : Event) (lawful : IsLawful fir
         let long = before.long in
         record {
           stores = before.stores ++ running.store ∷ [];
-          grows = grown_new running.store slots folders number may.1 may.3 is;
+          grows = grown_new first past e before running.store slots folders number may.1 may.3 is;
           rests = λ reply out sound.
               ap (λ a. slice_get (before.stores ++ running.store ∷ []) (modes_after a running.modes).core) is
               ∙ (ap (slice_get (before.stores ++ running.store ∷ [])) (sym long) ∙ slice_get-last before.stores running.store);
@@ -387,13 +267,13 @@ module _ (first : Volume) (past : List Event) (e : Event) (lawful : IsLawful fir
         → AsksAsTask first past number running.store running.modes running.begun running.turns running.task ask → TurnGrows
     turn_grows None is asks order = record {
       stores = before.stores;
-      grows = grown_same OfNothing is refl;
+      grows = grown_same first past e before OfNothing is refl;
       rests = rests_by OfNothing is refl (λ slots folders core seat answer same. cc same) running.task refl owned_now;
       goes = goes_by OfNothing is refl running.task owned_now;
     }
     turn_grows (Some (ToDisk ask)) is asks order = record {
       stores = before.stores;
-      grows = grown_same (told (Some (ToDisk ask))) is refl;
+      grows = grown_same first past e before (told (Some (ToDisk ask))) is refl;
       rests = rests_by (told (Some (ToDisk ask))) is refl (λ slots folders core seat answer same. cc same) running.task refl owned_now;
       goes = goes_by (told (Some (ToDisk ask))) is refl running.task owned_now;
     }
@@ -401,7 +281,7 @@ module _ (first : Volume) (past : List Event) (e : Event) (lawful : IsLawful fir
         let own = handed_by event running.work asks knows in
         record {
           stores = before.stores;
-          grows = grown_core running.modes.core number event is own.1 (λ store has. one_store store has order own.0);
+          grows = grown_core first past e before running.modes.core number event is own.1 (λ store has. one_store store has order own.0);
           rests = rests_by (told (Some (ToCore event))) is refl (λ slots folders core seat answer same. cc same) running.task refl owned_now;
           goes = goes_by (told (Some (ToCore event))) is refl running.task owned_now;
         }
@@ -461,7 +341,7 @@ module _ (first : Volume) (past : List Event) (e : Event) (lawful : IsLawful fir
   by_outcome outcomes.Pending out suits = let t = turn_of suits.0 (ap misuse_of out) in pending t.0 t.2 t.1 t.3 t.4 out
   by_outcome (outcomes.Reply reply) out suits = let t = turn_of suits (ap misuse_of out) in replying t.0 t.2 t.1 t.3 t.4 reply out
   by_outcome (outcomes.Misuse why) out suits =
-      let grows = grown_same OfNothing suits refl in
+      let grows = grown_same first past e before OfNothing suits refl in
       finish before.stores grows (λ handle. subst (λ o. Owns before.stores (status_after (length past + 1) e.step o e.asked table handle)) (sym out) (kept before.stores grows handle))
 
   -- one event more

@@ -1,11 +1,11 @@
 -- One event leaves the streams of the handles at work open, and apart.
-use Rattle.std.proofs.Common.{◌≡◌, ◌≢◌, ◌⊎◌, ℕ, ◌+◌, ◌≤◌, Bool, true, false, List, [], ◌∷◌, ◌++◌, length, take, Contains, Option, Some, None, inl, inr, refl, sym, ◌∙◌, ap, subst, arith}
+use Rattle.std.proofs.Common.{◌≡◌, ◌≢◌, ◌⊎◌, ℕ, ◌+◌, ◌≤◌, Bool, true, false, List, [], ◌∷◌, ◌++◌, length, Contains, Option, Some, None, inl, inr, refl, sym, ◌∙◌, ap, subst, arith}
 use Rattle.std.specs.Prelude.{◌==◌, if◌then◌else◌}
 use Rattle.std.specs.List.{cons_option}
 use Rattle.std.proofs.lemmas.Bool.{eqb-true, eqb-false}
 use Rattle.std.proofs.lemmas.List.{append-nil, length_push, take-length}
 use Rattle.odb_base.specs.Path.{Path}
-use Rattle.odb_tree.specs.Tree.{Tree, tree_of}
+use Rattle.odb_tree.specs.Tree.{tree_of}
 use Rattle.odb_tree.specs.Tree.Write.{written}
 use Rattle.odb_tree.specs.declared.entry.Entry.{Entry}
 use Rattle.odb_disk.specs.Ask.{after_ask, answer_now}
@@ -29,7 +29,7 @@ use Rattle.gix_odb_world.specs.Event.{Asked, Event, OfCore, OfDisk, OfNewCore, O
 use Rattle.gix_odb_world.specs.Headline.{Law, LeavesDisk}
 use Rattle.gix_odb_world.specs.Run.{IsTurnOf, disk_after, disk_after_asked, tree_at}
 use Rattle.gix_odb_world.specs.Running.{Runs}
-use Rattle.gix_odb_world.specs.Status.{Status, Working, status_of}
+use Rattle.gix_odb_world.specs.Status.{Working, status_of}
 use Rattle.gix_odb_world.specs.Told.{exchange_in, exchange_of, told_since}
 use Rattle.gix_odb_world.specs.Turned.{is_turn_of}
 use Rattle.gix_odb_world.proofs.DiskTurns.{CallsDisk, called_or_quiet}

@@ -1,5 +1,5 @@
 -- What a query knows since it began, and its machine, of which a public clause needs what it asks and where an answer leads it.
-use Rattle.std.specs.Prelude.{◌≡◌, ℕ, ◌<◌, ◌≤◌, true, List, [], ◌∷◌, length, Contains, None}
+use Rattle.std.specs.Prelude.{◌≡◌, ℕ, ◌<◌, ◌≤◌, true, List, [], ◌∷◌, length, None}
 use Rattle.std.specs.List.{IsDistinct}
 use Rattle.odb_disk.specs.Ask.{answer_now, fails_now}
 use Rattle.odb_disk.specs.MemDisk.{Volume}
