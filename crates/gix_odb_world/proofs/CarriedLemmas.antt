@@ -2,9 +2,7 @@
 use Rattle.std.proofs.Common.{◌≡◌, ℕ, ◌+◌, true, false, List, [], ◌∷◌, ◌++◌, length, Option, Some, None, Result, Ok, Err, refl, sym, ap, ◌∙◌}
 use Rattle.std.specs.Prelude.{if◌then◌else◌, IfOk, OnOk}
 use Rattle.odb_base.specs.declared.no_memory.NoMemory.{NoMemory}
-use Rattle.odb_base.specs.Path.{Path}
 use Rattle.odb_tree.specs.Tree.{tree_of}
-use Rattle.odb_tree.specs.declared.change.Change.{Change}
 use Rattle.odb_disk.specs.MemDisk.{Volume}
 use Rattle.odb_disk.specs.Ask.{after_ask, answer_now, change_of_ask}
 use Rattle.odb_disk.specs.declared.ask.DiskAsk.{DiskAsk}
@@ -20,11 +18,11 @@ use Rattle.gix_odb_world.specs.declared.turn.Carried.{Carried}
 use Rattle.gix_odb_world.specs.declared.work.Work.{Work}
 use Rattle.gix_odb_world.specs.declared.work.Work.TheVariants.{Opening, Calling}
 use Rattle.gix_odb_world.specs.Cores.{cores_after_asked, or_before}
-use Rattle.gix_odb_world.specs.Event.{Ask, CoreAnswer, CoreEvent, OfCore, ToCore, ToDisk, ToNewCore, answered}
+use Rattle.gix_odb_world.specs.Event.{Ask, CoreAnswer, CoreEvent, OfCore, ToCore, ToDisk, ToNewCore, answered, part_asked}
 use Rattle.gix_odb_world.specs.Recorded.{opened_in}
 use Rattle.gix_odb_world.specs.Run.{Stand, change_asked, did_of_asked, disk_after_asked, stand, told_now}
 use Rattle.gix_odb_world.specs.Table.{AddsCore, Carries, CarriesEvent, carried_at, carried_unasked, change_now, did_now, own_answer, seeing, state_after, told_in}
-use Rattle.gix_odb_world.specs.WorkOrder.{ask_on, asks_on, fed_after, fed_on, part_asked, registered_on, registers_in}
+use Rattle.gix_odb_world.specs.WorkOrder.{ask_on, asks_on, fed_after, fed_on, registered_on, registers_in}
 use Rattle.gix_odb_world.proofs.FailedLemmas.{has_failed-now}
 use Rattle.gix_odb_world.proofs.WriteAsk.Quiet.{after_ask-change}
 

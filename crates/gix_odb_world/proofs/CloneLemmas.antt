@@ -139,5 +139,5 @@ module _ (old : Course) (number from : ℕ) (parent : Handle) (there : handle_at
       (λ first events explains.
       matches_cloned (cores_after events) number (status_of events from) parent own view idle (match_of first events explains) shares
       (ap (λ cs. view_in (joined_answer cs parent.state.core number)) (sym explains.cores) ∙ seen_here))
-      (λ first events e clones no_turn running. runs_cloned first (events ++ e ∷ []) number (asked_applied events (steps.Clone number from)) (status_of events from))
+      (λ first events e explains clones asked no_turn. runs_cloned first (events ++ e ∷ []) number (asked_applied events (steps.Clone number from)) (status_of events from))
       (clone_tells cores did did_here cores_here)

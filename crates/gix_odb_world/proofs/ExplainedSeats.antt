@@ -94,9 +94,10 @@ module _ (world : Course) (h : HasHistory world) where
 
   -- a handle that may ask for an event of a core is seated at one
   module _ (number : ℕ) (state : HandleState) (work : Work) (event : CoreEvent) where
-    may_sit : (modes : Modes) (task : Task) → HasSeatAt (cores_after events) number modes task → MayAskCore task event → modes.core < length (cores_after events)
-    may_sit modes OpenStore has may = absurd may
-    may_sit modes (MakeCall call) has may = (sits_at (cores_after events) number modes has).within
+    may_sit : (running : Running) (task : Task) → HasSeatAt (cores_after events) number running.modes task
+        → MayAskCore events number running.store running.modes running.begun task event → running.modes.core < length (cores_after events)
+    may_sit running OpenStore has may = absurd may
+    may_sit running (MakeCall call) has may = (sits_at (cores_after events) number running.modes has).within
 
     happens_at : (running : Running) → status_of events number ≡ Working running → IsHandleOf running.store running.modes state → Some work ≡ Some running.work
         → asks_on state work ≡ Some (ToCore event) → (state.core < length world.cores.items) × ((shape : Shape) (seat : ℕ) → CanHappen shape seat event)
@@ -106,10 +107,10 @@ module _ (world : Course) (h : HasHistory world) where
         subst (λ w. ask_in running.store w ≡ Some (ToCore event)) at (sym (code_asks running.store running.modes state own work) ∙ asked) in
         let runs : Runs first events number (Working running) = subst (Runs first events number) status (explains.running number) in
         let has : HasSeat events number (Working running) = subst (HasSeat events number) status (seat number) in
-        let may : MayAskCore running.task event =
+        let may : MayAskCore events number running.store running.modes running.begun running.task event =
         subst (TakesTurn first events number running running.task) asks_it (turn_of first events number running running.work runs.1) in (
           subst (λ cs. state.core < length cs) (sym explains.cores)
-              (subst (λ core. core < length (cores_after events)) (sym own.core) (may_sit running.modes running.task has may)),
+              (subst (λ core. core < length (cores_after events)) (sym own.core) (may_sit running running.task has may)),
           event_of first events number running running.work runs.1 event asks_it,
         )
 

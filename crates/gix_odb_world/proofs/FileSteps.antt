@@ -25,7 +25,7 @@ use Rattle.gix_odb_loose.specs.declared.write_order.WriteStage.{WriteStage}
 use Rattle.gix_odb_loose.specs.declared.write_order.WriteStage.TheVariants as stages
 use Rattle.gix_odb_loose.proofs.NameLaws.{IsTemporary, object_spot, prefix_path-is, temp_path-is}
 use Rattle.gix_odb_world.specs.Recorded.{opened_in, path_recorded}
-use Rattle.gix_odb_world.specs.declared.record.Did.TheVariants.{Nothing, Disk}
+use Rattle.gix_odb_world.specs.declared.record.Did.TheVariants.{Disk}
 use Rattle.gix_odb_world.specs.Event.{Event}
 use Rattle.gix_odb_world.specs.Run.{change_by, disk_after, tree_at, NoCall}
 use Rattle.gix_odb_world.specs.Writing.{AskedAt, ToWrite}

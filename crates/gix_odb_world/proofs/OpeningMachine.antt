@@ -1,6 +1,6 @@
 -- An opening keeps the laws of a machine.
 pub mod Look
-use Rattle.std.proofs.Common.{◌≡◌, ℕ, ◌+◌, ◌<◌, ◌≤◌, Bool, true, false, cond, List, [], ◌∷◌, ◌++◌, length, Option, Some, None, refl, sym, ◌∙◌, ap, subst, arith, Ok, Err, Result}
+use Rattle.std.proofs.Common.{◌≡◌, ℕ, ◌+◌, ◌≤◌, Bool, true, false, cond, List, [], ◌∷◌, ◌++◌, length, Option, Some, None, refl, sym, ◌∙◌, ap, subst, arith, Ok, Err, Result}
 use Rattle.std.proofs.lemmas.List.{length_push}
 use Rattle.odb_tree.specs.Tree.{tree_of}
 use Rattle.odb_tree.specs.declared.disk_error.DiskError.TheVariants as disk_errors
@@ -22,7 +22,7 @@ use Rattle.gix_odb.specs.declared.open_state.OpenState.TheVariants as opens
 use Rattle.gix_odb_world.specs.declared.work.Work.TheVariants.{Opening}
 use Rattle.gix_odb_world.specs.Bound.{bound_of_task, turn_bound}
 use Rattle.gix_odb_world.specs.Causes.{Sometime, ShowsDirectory}
-use Rattle.gix_odb_world.specs.Event.{Answer, Ask, CoreEvent, Event, FromCore, FromDisk, OfDisk, ToCore, ToDisk, ToNewCore, answered}
+use Rattle.gix_odb_world.specs.Event.{Answer, CoreEvent, Event, FromCore, FromDisk, OfDisk, ToCore, ToDisk, ToNewCore, answered}
 use Rattle.gix_odb_world.specs.Handle.{IsHandleOf}
 use Rattle.gix_odb_world.specs.Machine.{placed}
 use Rattle.gix_odb_core.specs.History.{opened}
@@ -30,11 +30,11 @@ use Rattle.gix_odb_core.specs.declared.event.Event.TheVariants as core_events
 use Rattle.gix_odb_world.specs.Cores.{answer_behind, cores_after}
 use Rattle.gix_odb_world.specs.Promise.{MadeCore, OpeningPromise, Promise}
 use Rattle.gix_odb_world.specs.Run.{FailedSince, IsTurnOf, change_by, disk_after, tree_at}
-use Rattle.gix_odb_world.specs.Running.Opening.{HasSeen, IsLookingAt, IsOpening, IsRegistering, opening, opening_ask, opening_fed}
+use Rattle.gix_odb_world.specs.Running.Opening.{HasSeen, IsLookingAt, IsOpening, IsRegistering, opening, opening_ask}
 use Rattle.gix_odb_world.specs.Status.{MakeCall, OpenStore, Running, Store, Task, begun_with, running_from, Modes}
 use Rattle.gix_odb_world.specs.WorkOrder.{asks_on, fed_after, opening_result, result_in}
-use Rattle.gix_odb_world.proofs.FolderLemmas.{look_quiet}
-use Rattle.gix_odb_world.proofs.MachineLaws.{HasTurn, IsSized, IsTurnAsking, IsTurnWithoutCall, KeepsLaws, KeepsTurnLaws, MachineComes, TakesTurn, quiet_turn, told_after, writes_nothing}
+use Rattle.gix_odb_world.proofs.WriteAsk.Quiet.{look_quiet}
+use Rattle.gix_odb_world.proofs.MachineLaws.{HasTurn, BeginsAs, IsTurnAsking, IsTurnWithoutCall, KeepsLaws, KeepsTurnLaws, MachineComes, TakesTurn, quiet_turn, told_after, writes_nothing}
 use Rattle.gix_odb_world.proofs.OpeningMachine.Look.{Looks, look_keeps}
 use Rattle.gix_odb_world.proofs.QuietTurn.{failed_now, shown_now}
 use Rattle.gix_odb_world.proofs.HistoryLemmas.{failed_before, none_failed_yet, tree_at-before}
@@ -68,16 +68,16 @@ opening_feeds store modes code own state (Some (FromCore answer)) =
 -- ---- its beginning
 
 opening_starts : (first : Volume) (events : List Event) (e : Event) (handle : ℕ) (store : Store) (modes : Modes) (task : Task) (state : OpenState)
-    → IsSized task
+    → BeginsAs first (events ++ e ∷ []) handle store modes task
     → begun_with store modes task ≡ Opening state
     → IsOpening first (events ++ e ∷ []) handle (running_from (length events + 1) task store modes) state
-opening_starts first events e handle store modes OpenStore state sized is =
+opening_starts first events e handle store modes OpenStore state start is =
     let same : opens.Looking ≡ state = cc is in
     let whole : length (events ++ e ∷ []) ≡ length events + 1 = length_push events e in
     let seen : IsLookingAt (events ++ e ∷ []) handle (running_from (length events + 1) OpenStore store modes) =
     record { turns = refl; no_failure = none_failed_yet (events ++ e ∷ []) handle (length events + 1) (omega (arith, whole)) } in
     record { task = refl; seen = subst (HasSeen first (events ++ e ∷ []) handle (running_from (length events + 1) OpenStore store modes)) same seen }
-opening_starts first events e handle store modes (MakeCall call) state sized is = absurd (cc is)
+opening_starts first events e handle store modes (MakeCall call) state start is = absurd (cc is)
 
 -- what was so at some moment before an event was so before and with it
 module _ (first : Volume) (events : List Event) (e : Event) where
@@ -160,7 +160,7 @@ module _ (first : Volume) (events : List Event) (handle : ℕ) (running : Runnin
                 directory = subst (λ n. Sometime running.begun n (λ moment. ShowsDirectory (tree_at first whole moment) objects)) (sym count) comes.1;
               };
             },
-            λ entries. omega (arith, none),
+            λ entries most. omega (arith, none),
           )
       from_look none (opens.Done reply) comes =
           keeps reply
@@ -229,7 +229,7 @@ opening_turns = record {
   takes = λ first events handle running state knows. opening_takes first events handle running knows.task state knows.seen;
   ends = λ first events handle running state knows none. opening_ends first events handle running state knows.seen none;
   happens = λ first events handle running state knows event is shape seat. absurd (asks_no_event running.store state event is);
-  comes = λ first events e handle running since state knows turn. opening_comes first events e handle running since knows.task state knows.seen turn;
+  comes = λ first events e handle running since ran state knows turn. opening_comes first events e handle running since knows.task state knows.seen turn;
 }
 
 -- ---- its laws

@@ -6,7 +6,8 @@ pub mod Opened
 pub mod Applied
 pub mod Grown
 pub mod Snapshots
-use Rattle.std.proofs.Common.{◌≡◌, ◌≢◌, ℕ, ◌+◌, Bool, true, false, List, [], ◌∷◌, ◌++◌, length, take, Option, Some, None, Ok, Err, Result, refl, sym, ◌∙◌, ap, subst, arith}
+pub mod Looked
+use Rattle.std.proofs.Common.{◌≡◌, ◌≢◌, ℕ, ◌+◌, Bool, true, false, List, [], ◌∷◌, ◌++◌, length, take, Option, Some, None, Ok, Err, Result, refl, sym, ◌∙◌, ap, subst}
 use Rattle.std.specs.Prelude.{◌==◌, ◌↔◌, IsSome, if◌then◌else◌, unwrap_or}
 use Rattle.std.proofs.lemmas.Bool.{eqb-true, eqb-false}
 use Rattle.odb_disk.specs.MemDisk.{Volume}
@@ -26,7 +27,6 @@ use Rattle.gix_odb_core.specs.History.{History, opened, present}
 use Rattle.gix_odb_core.specs.Replay.{number_behind}
 use Rattle.gix_odb_core.specs.Steps.{after}
 use Rattle.gix_odb_core.specs.Views.{view_of}
-use Rattle.gix_odb_core.specs.declared.event.Effect.{Effect}
 use Rattle.gix_odb_core.specs.declared.event.Effect.TheVariants as effects
 use Rattle.gix_odb_core.specs.declared.event.Event.TheVariants as core_events
 use Rattle.gix_odb_core.specs.declared.view.View.{View}
@@ -36,24 +36,25 @@ use Rattle.gix_odb_calls.specs.declared.step.Outcome.{Outcome}
 use Rattle.gix_odb_calls.specs.declared.step.Outcome.TheVariants as outcomes
 use Rattle.gix_odb_world.specs.declared.work.Work.{Work}
 use Rattle.gix_odb_world.specs.declared.work.Work.TheVariants.{Opening}
-use Rattle.gix_odb_world.specs.Asks.{AsksAsTask, MayAskCore}
-use Rattle.gix_odb_world.specs.Cores.{answer_behind, cores_after, cores_after_asked, entered, history_at, registered_at}
-use Rattle.gix_odb_world.specs.Event.{Ask, Asked, CoreEvent, Event, OfCore, OfDisk, OfNewCore, OfNothing, ToCore, ToDisk, ToNewCore, answered}
-use Rattle.gix_odb_world.specs.Headline.{IsLawful, IsTurn, Law, Suits, Turns, Works, asked_applied, asked_by_clone, asked_by_close, outcome_of, stand_of}
+use Rattle.gix_odb_world.specs.Asks.{AsksAsTask}
+use Rattle.gix_odb_world.specs.Cores.{answer_behind, cores_after, history_at, registered_at}
+use Rattle.gix_odb_world.specs.Event.{Ask, Asked, Event, ToCore, ToDisk, ToNewCore, answered}
+use Rattle.gix_odb_world.specs.Headline.{IsLawful, IsTurn, Law, Suits, Turns, Works, stand_of}
 use Rattle.gix_odb_world.specs.Machines.{ask_in, fed_in}
 use Rattle.gix_odb_world.specs.Run.{disk_after, told_now}
 use Rattle.gix_odb_world.specs.Promise.{Promise}
 use Rattle.gix_odb_world.specs.Seats.{HasSeat, HasSeatAt, HasSeatThroughout, IsNowhere, IsOpenAt, IsOpenAtTask, IsSeated, RegistersOwn, RegistersOwnThroughout}
-use Rattle.gix_odb_world.specs.Status.{Free, MakeCall, Modes, OpenStore, Resting, Running, Status, Store, Task, Working, cloned, come_to, ignoring_from, modes_after, refuses_opening}
-use Rattle.gix_odb_world.specs.Status.{replied, started, status_after, status_of, turned, with_status}
+use Rattle.gix_odb_world.specs.Status.{Free, MakeCall, Modes, OpenStore, Resting, Running, Status, Store, Task, Working, come_to, modes_after, refuses_opening}
+use Rattle.gix_odb_world.specs.Status.{replied, status_after, status_of, turned}
 use Rattle.gix_odb_world.specs.Valid.{misuse_of, phase_of, why_not_after, why_not_running}
 use Rattle.gix_odb_world.proofs.AlongRun.{along_run}
-use Rattle.gix_odb_world.proofs.HistoryLemmas.{cores_after-push}
-use Rattle.gix_odb_world.proofs.RunSteps.{at_work, front_of_front, there_in_whole, turn_step}
+use Rattle.gix_odb_world.proofs.OpenFacts.{lawful_front}
+use Rattle.gix_odb_world.proofs.RunSteps.{at_work}
 use Rattle.gix_odb_world.proofs.SeatLemmas.Elsewhere.{out_new}
 use Rattle.gix_odb_world.proofs.SeatLemmas.Entered.{seated_more, seated_new}
+use Rattle.gix_odb_world.proofs.SeatLemmas.Looked.{out_looked, seated_looked, seated_looking}
 use Rattle.gix_odb_world.proofs.SeatLemmas.Opened.{IsOn, left_of, looked_refuses, on_by, opened_by, reply_of}
-use Rattle.gix_odb_world.proofs.SeatLemmas.Applied.{Carries, Stands, StandsAt, applied_by, carry_by, carry_nothing, kept, no_core, nowhere_now, set, to_now}
+use Rattle.gix_odb_world.proofs.SeatLemmas.Applied.{Carries, Stands, StandsAt, applied_by, asks_of_looks, carry_by, carry_nothing, kept, nowhere_now, set, to_now}
 
 -- ---- replies that refuse an opening
 
@@ -96,7 +97,11 @@ module _ (past : List Event) (e : Event) where
           → AsksAsTask first past number running.store running.modes running.begun running.turns running.task ask → (handle : ℕ) → handle ≢ number → Carries past e handle
       carry_ask None is order handle apart = carry_nothing past e is handle
       carry_ask (Some (ToDisk ask)) is order handle apart = carry_by past e _ is handle (λ modes was. was) (λ store was. was)
-      carry_ask (Some (ToCore event)) is order handle apart = absurd (no_core running.task event order)
+      carry_ask (Some (ToCore event)) is order handle apart =
+          let of = asks_of_looks past number running.store running.modes running.begun running.task event order in
+          let answer = answer_behind (history_at before_it running.modes.core) number event in
+          carry_by past e _ is handle (λ modes was. seated_looked before_it running.modes.core number event answer of handle modes apart was)
+          (out_looked before_it running.modes.core number event answer of handle)
       carry_ask (Some (ToNewCore slots folders)) is order handle apart =
           let h : History = opened slots folders 0 0 in
           let view : View = view_of (after (present h) number (core_events.Register false)) (number_behind h.entries) in
@@ -114,7 +119,11 @@ module _ (past : List Event) (e : Event) where
           subst (λ a. IsSeated (cores_after now) number (modes_after a running.modes)) (sym is) (to_now past e _ is number running.modes seated)
       call_kept (Some (ToDisk ask)) call is order seated =
           subst (λ a. IsSeated (cores_after now) number (modes_after a running.modes)) (sym is) (to_now past e _ is number running.modes seated)
-      call_kept (Some (ToCore event)) call is order seated = absurd order
+      call_kept (Some (ToCore event)) call is order seated =
+          let of = asks_of_looks past number running.store running.modes running.begun (MakeCall call) event order in
+          let answer = answer_behind (history_at before_it running.modes.core) number event in
+          subst (λ a. IsSeated (cores_after now) number (modes_after a running.modes)) (sym is)
+          (to_now past e _ is number (modes_after (told (Some (ToCore event))) running.modes) (seated_looking before_it number running.modes event answer of seated))
       call_kept (Some (ToNewCore slots folders)) call is order seated = absurd order
 
       -- ---- an opening
@@ -301,13 +310,8 @@ registers_own first events lawful store seat = own_by events store seat (status_
 
 -- ---- after each of the events
 
-lawful_front : (first : Volume) (events : List Event) → IsLawful first events → (now : ℕ) → IsLawful first (take now events)
-lawful_front first events lawful now place e there =
-    let within = there_in_whole events place now e there in
-    subst (λ past. Law first past e) (sym (front_of_front events place now (omega (arith, within.0)))) (lawful place e within.1)
-
 pub seats_throughout : (first : Volume) (events : List Event) → IsLawful first events → HasSeatThroughout events
-seats_throughout first events lawful now handle within = seats_now first (take now events) (lawful_front first events lawful now) handle
+seats_throughout first events lawful now handle within = seats_now first (take now events) (lawful_front first events now lawful) handle
 
 pub registers_own_throughout : (first : Volume) (events : List Event) → IsLawful first events → RegistersOwnThroughout events
-registers_own_throughout first events lawful now within = registers_own first (take now events) (lawful_front first events lawful now)
+registers_own_throughout first events lawful now within = registers_own first (take now events) (lawful_front first events now lawful)

@@ -8,7 +8,6 @@ use Rattle.odb_disk.specs.Ask.{answer_now, answer_of, change_of_ask, fails_now, 
 use Rattle.odb_disk.specs.StreamAsks.{is_of_streams}
 use Rattle.odb_disk.specs.MemDisk.{Volume}
 use Rattle.odb_tree.specs.Tree.{Tree, tree_of}
-use Rattle.odb_tree.specs.Tree.Follow.{Refusal}
 use Rattle.odb_tree.specs.Tree.Write as writing
 use Rattle.odb_tree.specs.Tree.Write.{change_of_append, change_of_make_dir, change_of_new_file, change_of_remove, change_of_rename}
 use Rattle.odb_disk.specs.declared.ask.DiskAnswer.{DiskAnswer}

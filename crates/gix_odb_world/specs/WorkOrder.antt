@@ -3,15 +3,15 @@ use Rattle.std.specs.Prelude.{◌+◌, Bool, false, length, Option, Some, None, 
 use Rattle.gix_odb_packs.specs.declared.answer.Answer as parts
 use Rattle.gix_odb_packs.specs.declared.answer.Answer.TheVariants as told
 use Rattle.gix_odb_packs.specs.declared.answer.PartAsk.{PartAsk}
-use Rattle.gix_odb_packs.specs.declared.answer.PartAsk.TheVariants as asks
 use Rattle.gix_odb.specs.CallOrder as calls
 use Rattle.gix_odb.specs.CallOrder.{disk_part}
+use Rattle.gix_odb.specs.HandleState.{setting_at}
 use Rattle.gix_odb.specs.OpenOrder as openings
 use Rattle.gix_odb_calls.specs.declared.call.Reply.{Reply}
 use Rattle.gix_odb.specs.declared.call_state.CallState.{CallState}
 use Rattle.gix_odb.specs.declared.handle_state.HandleState.{HandleState}
 use Rattle.gix_odb.specs.declared.open_state.OpenState.{OpenState}
-use Rattle.gix_odb_world.specs.Event.{Answer, Ask, FromCore, FromDisk, ToCore, ToDisk, ToNewCore}
+use Rattle.gix_odb_world.specs.Event.{Answer, Ask, FromCore, FromDisk, ToNewCore, part_asked}
 use Rattle.gix_odb_world.specs.declared.work.Work.{Work}
 use Rattle.gix_odb_world.specs.declared.work.Work.TheVariants.{Opening, Calling}
 
@@ -28,13 +28,7 @@ opening_fed handle state (told.Core answer) = openings.registered handle.store.v
 -- the work of a handle after the answer to what it asked for
 abbrev pub fed_on : HandleState → Work → parts.Answer → Work
 fed_on handle (Opening state) answer = Opening (opening_fed handle state answer)
-fed_on handle (Calling state) answer = Calling (calls.fed handle.store.value.folders handle.store.value.alloc_limit_bytes state answer)
-
--- a call of the disk, or an event of the core of the handle's store, among all that is asked for
-abbrev pub part_asked : Option PartAsk → Option Ask
-part_asked None = None
-part_asked (Some (asks.Disk ask)) = Some (ToDisk ask)
-part_asked (Some (asks.Core event)) = Some (ToCore event)
+fed_on handle (Calling state) answer = Calling (calls.fed (setting_at handle) state answer)
 
 -- whether the work of a handle is to register it at a core for its store
 abbrev pub registers_in : Work → Bool

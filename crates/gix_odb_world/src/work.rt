@@ -53,14 +53,13 @@ impl Work {
         }
     }
 
-    /// The path with which the stream was opened that its call of the disk is on, where it is on one: no work of these makes
-    /// such a call.
+    /// The path with which the stream was opened that its call of the disk is on, where it is on one.
     pub fn opened(&self) -> Option<&PathText>
         ensures opened { option_map (λ path. path.now) result ≡ opened_in self.now }
     {
         match self {
             Work::Opening(_) => None,
-            Work::Calling(_) => None,
+            Work::Calling(state) => state.opened(),
         }
     }
 

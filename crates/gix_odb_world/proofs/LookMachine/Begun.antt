@@ -1,63 +1,93 @@
--- What a query knows that the last event begins.
-use Rattle.std.proofs.Common.{◌≡◌, ℕ, ◌+◌, List, [], ◌∷◌, ◌++◌, length, None, refl, subst, arith, inr}
+-- A query where it begins.
+use Rattle.std.proofs.Common.{◌≡◌, ℕ, ◌+◌, Bool, true, false, List, [], ◌∷◌, ◌++◌, length, Option, None, Some, refl, sym, ◌∙◌, ap, subst, arith}
+use Rattle.std.specs.Prelude.{unwrap_or}
 use Rattle.std.proofs.lemmas.List.{length_push}
 use Rattle.odb_disk.specs.MemDisk.{Volume}
-use Rattle.gix_odb.specs.Contents.{sought}
-use Rattle.gix_odb.specs.LookOrder as looks
+use Rattle.gix_hash.specs.ObjectId.{kind_of}
+use Rattle.gix_hash.specs.declared.object_id.ObjectId.{ObjectId}
+use Rattle.gix_odb_core.specs.History.{History, opened}
+use Rattle.gix_odb_core.specs.Replay.{snapshot_of}
+use Rattle.gix_odb_calls.specs.Hashes.{is_of_hash}
 use Rattle.gix_odb_calls.specs.declared.call.Call.TheVariants as call_kinds
-use Rattle.gix_odb.specs.declared.call_state.CallState.TheVariants.{Looking}
-use Rattle.gix_odb.specs.declared.look_state.LookState.{LookState}
 use Rattle.gix_odb_calls.specs.declared.query.Query.{Query}
 use Rattle.gix_odb_calls.specs.declared.query.Query.TheVariants.{Find, Header, Test}
+use Rattle.gix_odb_looks.specs.Exchange.{AreAsked, behind}
+use Rattle.gix_odb_looks.specs.LookUpOrder as looks
+use Rattle.gix_odb_looks.specs.declared.look_up.LookUp.{LookUp}
+use Rattle.gix_odb.specs.Contents.{or_itself, replacement_in, sought}
+use Rattle.gix_odb.specs.HandleState.{unseen}
+use Rattle.gix_odb.specs.declared.call_state.CallState.TheVariants.{Looking}
 use Rattle.gix_odb_world.specs.declared.work.Work.TheVariants.{Calling}
-use Rattle.gix_odb_world.specs.AtWork.{nothing_in_front, Modes}
+use Rattle.gix_odb_world.specs.AtWork.{Modes, setting_in, view_in_modes}
+use Rattle.gix_odb_world.specs.Cores.{cores_after, history_at}
 use Rattle.gix_odb_world.specs.Event.{Event}
 use Rattle.gix_odb_world.specs.Running.Query.{IsLooking, call_of}
 use Rattle.gix_odb_world.specs.Status.{MakeCall, OpenStore, Store, Task, begun_with, running_from}
-use Rattle.gix_odb_world.proofs.CallLemmas.{first_or_later}
-use Rattle.gix_odb_world.proofs.MachineLaws.{IsSized}
-use Rattle.gix_odb_world.proofs.HistoryLemmas.{none_failed_yet}
+use Rattle.gix_odb_world.specs.Told.{look_begun, told_since, view_then}
+use Rattle.gix_odb_world.proofs.MachineLaws.{BeginsAs, IsStarted}
+use Rattle.gix_odb_world.proofs.OpenFacts.{same_is}
+use Rattle.gix_odb_world.proofs.ToldLemmas.{told_first, view_first}
+use Rattle.gix_odb_world.proofs.ToldWell.{told_well_at_first}
+
+-- the sought id is of the store's hash
+sought_of : (store : Store) (modes : Modes) (query : Query) → is_of_hash store.hash (call_of query) ≡ true
+    → ((id other : ObjectId) → replacement_in store.parts id ≡ Some other → kind_of other ≡ store.hash)
+    → kind_of (sought store.parts modes.ignoring query) ≡ store.hash
+sought_of store modes query hashed replaced = by query hashed modes.ignoring
+  where
+    itself : (id : ObjectId) → kind_of id ≡ store.hash → (o : Option ObjectId) → replacement_in store.parts id ≡ o → kind_of (or_itself o id) ≡ store.hash
+    itself id own None is = own
+    itself id own (Some other) is = replaced id other is
+
+    by : (query : Query) → is_of_hash store.hash (call_of query) ≡ true → (ignoring : Bool) → kind_of (sought store.parts ignoring query) ≡ store.hash
+    by (Find id) hashed true = same_is (kind_of id) store.hash hashed
+    by (Find id) hashed false = itself id (same_is (kind_of id) store.hash hashed) (replacement_in store.parts id) refl
+    by (Header id) hashed true = same_is (kind_of id) store.hash hashed
+    by (Header id) hashed false = itself id (same_is (kind_of id) store.hash hashed) (replacement_in store.parts id) refl
+    by (Test id) hashed ignoring = same_is (kind_of id) store.hash hashed
 
 module _ (first : Volume) (events : List Event) (e : Event) (handle : ℕ) (store : Store) (modes : Modes) where
-  abbrev whole : List Event
-  whole = events ++ e ∷ []
+  abbrev begun_whole : List Event
+  begun_whole = events ++ e ∷ []
 
-  abbrev Begins : Task → LookState → Type 0
-  Begins task state = IsLooking first whole handle (running_from (length events + 1) task store modes) nothing_in_front state
+  abbrev number : ℕ
+  number = length events + 1
 
-  abbrev begins_at : Query → LookState
-  begins_at query = looks.started store.parts.objects store.parts.limit query (sought store.parts modes.ignoring query)
+  module _ (query : Query) (start : IsStarted first begun_whole handle store modes (call_of query)) where
+    count : number ≡ length begun_whole
+    count = sym (length_push events e)
 
-  -- a query that the event begins asks the objects directory, and all folders are ahead
-  query_begins : (query : Query) → Begins (MakeCall (call_of query)) (begins_at query)
-  query_begins query =
-      let count : length whole ≡ length events + 1 = length_push events e in
-      record {
-        task = refl;
-        place = 0;
-        turns = refl;
-        seeks_id = refl;
-        seeks = record {
-          noted = None;
-          folder = store.parts.objects;
-          among = (0, omega arith, refl);
-          there = refl;
-          stage_is = refl;
-          seen = (
-            none_failed_yet whole handle (length events + 1) (omega (arith, count)),
-            λ folder among. inr (first_or_later store.parts.objects store.parts.folders folder among),
-          );
-        };
-      }
+    -- the snapshot of the handle is what it saw then
+    seen : view_in_modes modes ≡ view_then begun_whole handle modes.core number
+    seen =
+        let there : history_at (cores_after begun_whole) modes.core ≡ start.seated.history = ap (λ o. unwrap_or o (opened 0 0 0 0)) start.seated.there in
+        ap (λ v. unwrap_or v unseen) start.seated.snapshot
+        ∙ (ap (λ (h : History). unwrap_or (snapshot_of handle h.entries) unseen) (sym there)
+        ∙ (sym (view_first begun_whole handle modes.core) ∙ ap (view_then begun_whole handle modes.core) (sym count)))
 
-  by_query : (query : Query) (state : LookState) → Calling (Looking (begins_at query)) ≡ Calling (Looking state)
-      → Begins (MakeCall (call_of query)) state
-  by_query query state at = let same : begins_at query ≡ state = cc at in subst (Begins (MakeCall (call_of query))) same (query_begins query)
+    nothing_told : told_since begun_whole handle number ≡ []
+    nothing_told = ap (told_since begun_whole handle) count ∙ told_first begun_whole handle
 
-  -- a state at which a task begins is that of its query
-  pub looking_starts : (task : Task) (state : LookState) → IsSized task → begun_with store modes task ≡ Calling (Looking state) → Begins task state
-  looking_starts OpenStore state sized at = absurd (cc at)
-  looking_starts (MakeCall (call_kinds.Find id)) state sized at = by_query (Find id) state at
-  looking_starts (MakeCall (call_kinds.Header id)) state sized at = by_query (Header id) state at
-  looking_starts (MakeCall (call_kinds.Test id)) state sized at = by_query (Test id) state at
-  looking_starts (MakeCall call) state sized at = absurd (cc at)
+    begins : (look : LookUp) → looks.started (setting_in store) (view_in_modes modes) query (sought store.parts modes.ignoring query) ≡ look
+        → IsLooking first begun_whole handle (running_from number (MakeCall (call_of query)) store modes) look
+    begins look is = record {
+      query = query;
+      task = refl;
+      since = omega (arith, count);
+      fits = record { distinct = start.distinct; hashed = sought_of store modes query start.hashed start.replaced };
+      is =
+          sym is
+          ∙ (ap (λ v. looks.started (setting_in store) v query (sought store.parts modes.ignoring query)) seen
+          ∙ ap (behind (setting_in store) (look_begun begun_whole handle store modes number query)) (sym nothing_told));
+      asked = subst (AreAsked (setting_in store) (look_begun begun_whole handle store modes number query)) (sym nothing_told) tt;
+      turns = ap length (sym nothing_told);
+      well = told_well_at_first first events e handle store modes (call_of query) start;
+    }
+
+  pub looking_starts : (task : Task) (look : LookUp) → BeginsAs first begun_whole handle store modes task → begun_with store modes task ≡ Calling (Looking look)
+      → IsLooking first begun_whole handle (running_from number task store modes) look
+  looking_starts OpenStore look start is = absurd (cc is)
+  looking_starts (MakeCall (call_kinds.Find id)) look start is = begins (Find id) start look (cc is)
+  looking_starts (MakeCall (call_kinds.Header id)) look start is = begins (Header id) start look (cc is)
+  looking_starts (MakeCall (call_kinds.Test id)) look start is = begins (Test id) start look (cc is)
+  looking_starts (MakeCall (call_kinds.Write kind size bytes known)) look start is = absurd (cc is)

@@ -42,13 +42,13 @@ module _ (h : History) (seat : ℕ) (event : CoreEvent) (answer : CoreAnswer) wh
   abbrev entry : Entry
   entry = entry_of h seat event answer
 
-  snapshot_own : snapshot_of seat (entered h seat event answer).entries ≡ or_before (view_in answer) (snapshot_of seat h.entries)
+  pub snapshot_own : snapshot_of seat (entered h seat event answer).entries ≡ or_before (view_in answer) (snapshot_of seat h.entries)
   snapshot_own =
       let same : (seat == seat) ≡ true = grind arith in
       snapshot-push seat h.entries entry
       ∙ (ap (last_or (snapshot_of seat h.entries)) (handed_by seat entry true same) ∙ last_handed (view_in answer) (snapshot_of seat h.entries))
 
-  snapshot_other : (other : ℕ) → (seat == other) ≡ false → snapshot_of other (entered h seat event answer).entries ≡ snapshot_of other h.entries
+  pub snapshot_other : (other : ℕ) → (seat == other) ≡ false → snapshot_of other (entered h seat event answer).entries ≡ snapshot_of other h.entries
   snapshot_other other apart = snapshot-push other h.entries entry ∙ ap (last_or (snapshot_of other h.entries)) (handed_by other entry false apart)
 
 -- an event that isn't refused leaves every other handle registered

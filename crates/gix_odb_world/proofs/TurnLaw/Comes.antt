@@ -11,7 +11,7 @@ use Rattle.gix_odb_world.specs.Machine.{At, Machine, placed}
 use Rattle.gix_odb_world.specs.Machines.{at, ask_in, fed_in}
 use Rattle.gix_odb_world.specs.Status.{Running, gone_on}
 use Rattle.gix_odb_world.specs.Running.{Knows}
-use Rattle.gix_odb_world.proofs.MachineLaws.{ComesTo, IsTurnAsking, KeepsLaws, MachineComes, TakesTurn, told_after}
+use Rattle.gix_odb_world.proofs.MachineLaws.{ComesTo, IsRunning, IsTurnAsking, KeepsLaws, MachineComes, TakesTurn, told_after}
 use Rattle.gix_odb_world.proofs.Machines.{laws_at}
 
 module _ (first : Volume) (events : List Event) (handle : ℕ) (running : Running) (work : Work) (knows : Knows first events handle running work) where
@@ -35,17 +35,17 @@ placed_comes first events e handle running m laws asked (Ok reply) comes = comes
 placed_comes first events e handle running m laws asked (Err state) comes =
     let task_is = laws.tasked first (events ++ e ∷ []) handle (gone_on asked running (m.work state)) state comes.0 in (
       subst (λ (a : At (m.work state)). a.machine.Knows first (events ++ e ∷ []) handle (gone_on asked running (m.work state)) a.state) (sym (laws.at_home state)) comes.0,
-      λ entries. subst (λ bound. running.turns + 1 < bound) (laws.bounded running.store running.task state task_is entries) (comes.1 entries),
+      λ entries most. subst (λ bound. running.turns + 1 < bound) (laws.bounded running.store running.task state task_is entries) (comes.1 entries most),
     )
 
 -- the whole turn of any work
 pub come_of : (first : Volume) (events : List Event) (e : Event) (handle : ℕ) (running : Running) → running.begun ≤ length events
-    → (work : Work) (knows : Knows first events handle running work)
+    → IsRunning first events handle running → (work : Work) (knows : Knows first events handle running work)
     → IsTurnAsking first events e handle running (ask_in running.store work)
     → ComesTo first events e handle running (told_after first events handle running (ask_in running.store work))
     (fed_in running.store work (answered (told_after first events handle running (ask_in running.store work))))
-come_of first events e handle running since work knows is =
+come_of first events e handle running since ran work knows is =
     placed_comes first events e handle running (at work).machine (laws_at work)
     (told_after first events handle running (ask_in running.store work))
     ((at work).machine.feed running.store (at work).state (answered (told_after first events handle running (ask_in running.store work))))
-    ((laws_at work).turns.comes first events e handle running since (at work).state knows is)
+    ((laws_at work).turns.comes first events e handle running since ran (at work).state knows is)

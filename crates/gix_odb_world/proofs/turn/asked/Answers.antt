@@ -1,4 +1,3 @@
-use Rattle.std.proofs.Common.{Some}
 use Rattle.gix_odb_world.proofs.CarriedLemmas.{carries_answer}
 use Rattle.gix_odb_world.proofs.turn.asked.Goals as goal
 
