@@ -70,6 +70,16 @@ low_state first events store history of = let same = ap (λ (s : Shape). s.state
 
 -- ---- one event more
 
+-- an exchange with the disk is none with a core, and tells what was asked and answered
+no_event : (ask : DiskAsk) (event : CoreEvent) → ¬ (parts.Disk ask ≡ parts.Core event)
+no_event ask event is = cc is
+
+same_asked : (one other : DiskAsk) → parts.Disk one ≡ parts.Disk other → one ≡ other
+same_asked one other is = cc is
+
+same_told : (one other : DiskAnswer) → told.Disk one ≡ told.Disk other → one ≡ other
+same_told one other is = cc is
+
 module _ (first : Volume) (events : List Event) (e : Event) where
   abbrev whole : List Event
   whole = events ++ e ∷ []
@@ -303,7 +313,7 @@ module _ (first : Volume) (events : List Event) (e : Event) where
             subst (λ (s : Shape). number_by (number_after 0 before) (told.Core answer) ≤ s.list_no) behind_is
             (core_answers_tell_no_later_number history.opening history.entries handle event answer answer_is (number_after 0 before) low);
         within = λ entries most. within_last entries None before (well.within entries (most_before store begun entries most)) tt;
-        given = λ ask own is. absurd (cc is);
+        given = λ ask own is. absurd (no_event ask event (ap (λ (x : Exchange). x.ask) is));
         fails = λ failed. inl (failed_before events e handle begun (λ turn_it fails. no_failure e.entry.did turn.did fails) failed);
       }
 
@@ -349,8 +359,8 @@ module _ (first : Volume) (events : List Event) (e : Event) where
             streams_are_short first events e handle running look knows ran ask disk_asked entries most
             (within_last entries None before (well.within entries (most_before store begun entries most)) tt);
         given = λ own answer is.
-            let same : own ≡ ask = cc is in
-            let same_answer : answer ≡ disk_answer = cc is in
+            let same : own ≡ ask = same_asked own ask (ap (λ (x : Exchange). x.ask) is) in
+            let same_answer : answer ≡ disk_answer = same_told answer disk_answer (ap (λ (x : Exchange). x.answer) is) in
             record {
               moment = length events;
               from = knows.since;
