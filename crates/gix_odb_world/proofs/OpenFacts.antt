@@ -24,7 +24,7 @@ use Rattle.gix_odb_world.specs.Begun.{FromClone, FromOpen, Holds, OpenedBy}
 use Rattle.gix_odb_world.specs.Bound.{most_changes}
 use Rattle.gix_odb_world.specs.Event.{Event}
 use Rattle.gix_odb_world.specs.Headline.{IsLawful, Law}
-use Rattle.gix_odb_world.specs.Valid.{Phase, NoneThere, Idle, Running, are_distinct, are_good_folders, are_good_replacements, is_openable, misuse_of, phase_after}
+use Rattle.gix_odb_world.specs.Valid.{Phase, NoneThere, Idle, Running, are_distinct, are_good_folders, are_good_replacements, is_openable, misuse_of, most_folders, phase_after}
 use Rattle.gix_odb_world.specs.Valid.{why_not_after, why_not_open}
 use Rattle.gix_odb_world.proofs.DistinctLemmas.{IsDistinct-by_count}
 use Rattle.gix_odb_world.proofs.RunSteps.{front_of_front, length_take, there_in_whole}
@@ -63,19 +63,20 @@ replaced_by : (hash : HashKind) (id other : ObjectId) (pairs : List (ObjectId ×
     → lookup (eq_by_cmp id_cmp id) pairs ≡ Some other → kind_of other ≡ hash
 replaced_by hash id other [] all found = absurd (cc found)
 replaced_by hash id other (pair ∷ pairs) all found =
-    by (eq_by_cmp id_cmp id pair.0) refl found
+    by (eq_by_cmp id_cmp id pair.0) refl found (replaced_by hash id other pairs both.1)
   where
     both : (is_pair_of hash pair ≡ true) × (list_all (is_pair_of hash) pairs ≡ true)
     both = and_parts (is_pair_of hash pair) (list_all (is_pair_of hash) pairs) all
 
-    by : (b : Bool) → eq_by_cmp id_cmp id pair.0 ≡ b → lookup (eq_by_cmp id_cmp id) (pair ∷ pairs) ≡ Some other → kind_of other ≡ hash
-    by true is found =
+    by : (b : Bool) → eq_by_cmp id_cmp id pair.0 ≡ b → lookup (eq_by_cmp id_cmp id) (pair ∷ pairs) ≡ Some other
+        → (lookup (eq_by_cmp id_cmp id) pairs ≡ Some other → kind_of other ≡ hash) → kind_of other ≡ hash
+    by true is found later =
         let here : Some pair.1 ≡ Some other = subst (λ (b : Bool). cond b (Some pair.1) (lookup (eq_by_cmp id_cmp id) pairs) ≡ Some other) is found in
         let same : other ≡ pair.1 = cc here in
         let ids = and_parts (is_id_of hash pair.0) (is_id_of hash pair.1) both.0 in
         ap kind_of same ∙ same_is (kind_of pair.1) hash ids.1
-    by false is found =
-        replaced_by hash id other pairs both.1 (subst (λ (b : Bool). cond b (Some pair.1) (lookup (eq_by_cmp id_cmp id) pairs) ≡ Some other) is found)
+    by false is found later =
+        later (subst (λ (b : Bool). cond b (Some pair.1) (lookup (eq_by_cmp id_cmp id) pairs) ≡ Some other) is found)
 
 -- ---- the store of a handle
 
@@ -122,10 +123,10 @@ module _ (first : Volume) where
       let within = whole.0 in
       subst (λ past. Law first past e) (sym (front_of_front events at place (omega (arith, within)))) (lawful at e whole.1)
 
-  pub openable : (events : List Event) (handle : ℕ) (store : Store) (modes : Modes) → IsLawful first events → Holds store events handle modes → IsOpenable events store
-  openable events handle store modes lawful (FromOpen step latest ignoring) = of_open events handle store lawful step
-  openable events handle store modes lawful (FromClone from place event parent there applied clones held latest ignoring) =
-      let front = openable (take place events) from store parent (lawful_front events place lawful) held in
+  pub openable : (store : Store) (events : List Event) (handle : ℕ) (modes : Modes) → IsLawful first events → Holds store events handle modes → IsOpenable events store
+  openable store events handle modes lawful (FromOpen step latest ignoring) = of_open events handle store lawful step
+  openable store events handle modes lawful (FromClone from place event parent there applied clones held latest ignoring) =
+      let front = openable store (take place events) from parent (lawful_front events place lawful) held in
       let early = front.opened in
       let few = length_take events place event there in
       let within = slice_get_within events place event there in

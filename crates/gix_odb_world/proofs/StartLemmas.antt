@@ -82,7 +82,7 @@ starts_well first events e number store modes call lawful status asked sized has
     let cores : cores_after (events ++ e ∷ []) ≡ cores_after events = cores_after-push events e ∙ ap (cores_after_asked (cores_after events)) asked in
     let seated : IsSeated (cores_after events) number modes = subst (HasSeat events number) status (seats_now first events lawful number) in
     let holds : HoldsStore events number store modes = subst (Stems events number) status (stems_now first events lawful number) in
-    let facts = openable first events number store modes lawful holds in
+    let facts = openable first store events number modes lawful holds in
     let early = facts.opened in
     let stock : IsStocked first events modes.core store = subst (HasStock first events) status (stocks.stocked first events lawful throughout number) in
     let longer = length_push events e in

@@ -4,7 +4,7 @@ pub mod Owned
 pub mod Snapshots
 pub mod Step
 use Rattle.std.proofs.Common.{◌≡◌, ℕ, zero, suc, ◌+◌, ◌≤◌, List, [], length, take, inl, inr, refl, sym, subst, arith}
-use Rattle.std.proofs.lemmas.List.{take-length}
+use Rattle.std.proofs.Math.Seq.{take-length}
 use Rattle.odb_disk.specs.MemDisk.{Volume}
 use Rattle.gix_odb_world.specs.AtWork.{Modes, Store}
 use Rattle.gix_odb_world.specs.Cores.{cores_after}

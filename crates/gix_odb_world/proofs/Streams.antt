@@ -3,7 +3,8 @@ pub mod OneEvent
 pub mod Apart
 pub mod Step
 use Rattle.std.proofs.Common.{◌≡◌, ℕ, zero, suc, ◌+◌, ◌≤◌, List, [], ◌∷◌, ◌++◌, length, map, take, Some, Ok, inl, inr, refl, sym, ◌∙◌, ap, subst, arith}
-use Rattle.std.proofs.lemmas.List.{length-append, length-map, length_push, take-length}
+use Rattle.std.proofs.lemmas.List.{length-append, length-map, length_push}
+use Rattle.std.proofs.Math.Seq.{take-length}
 use Rattle.odb_base.specs.Path.{Name, Path}
 use Rattle.odb_tree.specs.Tree.{Tree}
 use Rattle.odb_tree.specs.Tree.Follow.{listed}
@@ -25,7 +26,8 @@ use Rattle.gix_odb_looks.specs.Stream.{Stream, reads, stream_by, stream_in}
 use Rattle.gix_odb_looks.specs.True.{Suits}
 use Rattle.gix_odb_looks.specs.declared.look_up.LookUp.{LookUp}
 use Rattle.gix_odb_looks.proofs.HandedLaws.{IsOwnStream, streams_of_look_ups_are_their_own}
-use Rattle.gix_odb_looks.proofs.StreamLaws.{entries_are_of_the_names, stream_gives_what_is_coming}
+use Rattle.gix_odb_looks.proofs.StreamLaws.Calls.{stream_gives_what_is_coming}
+use Rattle.gix_odb_looks.proofs.StreamLaws.Directories.{entries_are_of_the_names}
 use Rattle.gix_odb.specs.Contents.{sought}
 use Rattle.gix_odb_world.specs.AtWork.{Running, setting_in}
 use Rattle.gix_odb_world.specs.Bound.{HasAtMost, Pack}

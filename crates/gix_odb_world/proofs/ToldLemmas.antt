@@ -3,7 +3,8 @@ use Rattle.std.proofs.Common.{◌≡◌, ℕ, zero, suc, ◌+◌, ◌≤◌, Boo
 use Rattle.std.specs.Prelude.{◌==◌, unwrap_or, if◌then◌else◌}
 use Rattle.std.specs.List.{cons_option, filter_map}
 use Rattle.std.proofs.lemmas.Bool.{eqb-true}
-use Rattle.std.proofs.lemmas.List.{append-nil, take-length}
+use Rattle.std.proofs.lemmas.List.{append-nil}
+use Rattle.std.proofs.Math.Seq.{take-length}
 use Rattle.std.proofs.lemmas.List.Elements.{filter_map-append}
 use Rattle.gix_odb_core.specs.Replay.{snapshot_of}
 use Rattle.gix_odb_calls.specs.declared.step.Step.{Step}
@@ -57,17 +58,17 @@ turned_by handle step is = ap (is_turn_of handle) is ∙ same
     same = grind arith
 
 not_turned : (handle : ℕ) (step : Step) → ¬ (IsTurnOf handle step) → is_turn_of handle step ≡ false
-not_turned handle (steps.Turn other) no = by (handle == other) refl
+not_turned handle (steps.Turn other) never = by (handle == other) refl
   where
     by : (b : Bool) → (handle == other) ≡ b → (handle == other) ≡ false
-    by true is = absurd (no (ap steps.Turn (sym (eqb-true handle other is))))
+    by true is = absurd (never (ap steps.Turn (sym (eqb-true handle other is))))
     by false is = is
-not_turned handle (steps.Open other path folders hash replacements options) no = refl
-not_turned handle (steps.Clone other from) no = refl
-not_turned handle (steps.Close other) no = refl
-not_turned handle (steps.Ignore other) no = refl
-not_turned handle (steps.Start other call) no = refl
-not_turned handle (steps.Disk change) no = refl
+not_turned handle (steps.Open other path folders hash replacements options) never = refl
+not_turned handle (steps.Clone other from) never = refl
+not_turned handle (steps.Close other) never = refl
+not_turned handle (steps.Ignore other) never = refl
+not_turned handle (steps.Start other call) never = refl
+not_turned handle (steps.Disk change) never = refl
 
 -- ---- what it was told
 

@@ -2,7 +2,8 @@
 pub mod Numbers
 use Rattle.std.proofs.Common.{◌≡◌, ◌⊎◌, ℕ, ◌+◌, ◌<◌, ◌≤◌, true, List, [], ◌∷◌, ◌++◌, length, Contains, Some, None, Ok, inl, inr, refl, sym, ◌∙◌, ap, subst, arith}
 use Rattle.std.specs.Prelude.{unwrap_or}
-use Rattle.std.proofs.lemmas.List.{length_push, take-length}
+use Rattle.std.proofs.lemmas.List.{length_push}
+use Rattle.std.proofs.Math.Seq.{take-length}
 use Rattle.std.proofs.lemmas.Option.{slice_get_within}
 use Rattle.odb_tree.specs.Tree.{tree_of}
 use Rattle.odb_tree.specs.Tree.Follow.{listed, read_of}
@@ -68,6 +69,16 @@ low_state : (first : Volume) (events : List Event) (store : Store) (history : Hi
 low_state first events store history of = let same = ap (λ (s : Shape). s.state_id) of.opening in omega (arith, same)
 
 -- ---- one event more
+
+-- an exchange with the disk is none with a core, and tells what was asked and answered
+no_event : (ask : DiskAsk) (event : CoreEvent) → ¬ (parts.Disk ask ≡ parts.Core event)
+no_event ask event is = cc is
+
+same_asked : (one other : DiskAsk) → parts.Disk one ≡ parts.Disk other → one ≡ other
+same_asked one other is = cc is
+
+same_told : (one other : DiskAnswer) → told.Disk one ≡ told.Disk other → one ≡ other
+same_told one other is = cc is
 
 module _ (first : Volume) (events : List Event) (e : Event) where
   abbrev whole : List Event
@@ -190,7 +201,7 @@ module _ (first : Volume) (events : List Event) (e : Event) where
     -- what an exchange more has to show
     record IsToldTruly (exchange : Exchange) : Type 0 where
       truth : IsTrue (ShownSince first whole store) setting store.hash exchange.ask exchange.answer
-      answers : IsAnswerTo exchange.ask exchange.answer
+      fitting : IsAnswerTo exchange.ask exchange.answer
       numbered : IsNumbered store.slots (number_after 0 before) exchange.ask exchange.answer
       no_later : number_by (number_after 0 before) exchange.answer ≤ (present (history_at (cores_after whole) core)).list_no
       within : (entries : ℕ) → HasAtMost (tree_at first whole) store.parts begun (length whole) entries
@@ -212,7 +223,7 @@ module _ (first : Volume) (events : List Event) (e : Event) where
             | inl old ↦ AreTrue-wider (ShownSince first events store) (ShownSince first whole store) (shown_later first events e store) setting store.hash before well.truth one old
             | inr is ↦ subst (λ (x : Exchange). IsTrue (ShownSince first whole store) setting store.hash x.ask x.answer) (sym is) truly.truth
           ];
-      answered = subst AreAnswered (sym same) (AreAnswered-push before exchange well.answered truly.answers);
+      answered = subst AreAnswered (sym same) (AreAnswered-push before exchange well.answered truly.fitting);
       numbered = subst (AreNumbered store.slots 0) (sym same) (AreNumbered-push store.slots 0 before exchange well.numbered truly.numbered);
       no_later =
           subst (λ xs. number_after 0 xs ≤ (present (history_at (cores_after whole) core)).list_no) (sym same)
@@ -293,7 +304,7 @@ module _ (first : Volume) (events : List Event) (e : Event) where
             core_answers_are_true history.opening history.entries handle event answer answer_is (is_opened first events store history stock.of) stock.of.legal
             (ShownSince first whole store) setting store.hash later
             (IsHanded-wider (ShownSince first events store) (ShownSince first whole store) (shown_later first events e store) setting store.hash event handed);
-        answers = core_answers_suit_their_events history.opening history.entries handle event answer answer_is;
+        fitting = core_answers_suit_their_events history.opening history.entries handle event answer answer_is;
         numbered =
             core_answers_are_numbered history.opening history.entries handle event answer answer_is (number_after 0 before) low
             (is_opened first events store history stock.of) (low_state first events store history stock.of) stock.of.possible can
@@ -302,7 +313,7 @@ module _ (first : Volume) (events : List Event) (e : Event) where
             subst (λ (s : Shape). number_by (number_after 0 before) (told.Core answer) ≤ s.list_no) behind_is
             (core_answers_tell_no_later_number history.opening history.entries handle event answer answer_is (number_after 0 before) low);
         within = λ entries most. within_last entries None before (well.within entries (most_before store begun entries most)) tt;
-        given = λ ask own is. absurd (cc is);
+        given = λ ask own is. absurd (no_event ask event (ap (λ (x : Exchange). x.ask) is));
         fails = λ failed. inl (failed_before events e handle begun (λ turn_it fails. no_failure e.entry.did turn.did fails) failed);
       }
 
@@ -341,15 +352,15 @@ module _ (first : Volume) (events : List Event) (e : Event) where
               was = (time, subst (λ tree. read_of tree path ≡ Ok (bytes, time)) (sym tree_is) read);
             })
             ask (suits disk ask (λ dir is. next_entry_suits first events e handle running look knows ran dir (disk_asked ∙ ap (λ a. Some (parts.Disk a)) is)));
-        answers = tt;
+        fitting = tt;
         numbered = tt;
         no_later = let rises = list_rises (OfDisk ask disk_answer) core turn.asked well.place in let low = well.no_later in omega (arith, rises.1, low);
         within = λ entries most.
             streams_are_short first events e handle running look knows ran ask disk_asked entries most
             (within_last entries None before (well.within entries (most_before store begun entries most)) tt);
         given = λ own answer is.
-            let same : own ≡ ask = cc is in
-            let same_answer : answer ≡ disk_answer = cc is in
+            let same : own ≡ ask = same_asked own ask (ap (λ (x : Exchange). x.ask) is) in
+            let same_answer : answer ≡ disk_answer = same_told answer disk_answer (ap (λ (x : Exchange). x.answer) is) in
             record {
               moment = length events;
               from = knows.since;

@@ -7,6 +7,7 @@ use Rattle.gix_odb_core.specs.History.{History, opened, present}
 use Rattle.gix_odb_core.specs.Replay.{snapshot_of, view_in}
 use Rattle.gix_odb_core.specs.Turn.{handles_after}
 use Rattle.gix_odb_core.specs.declared.event.Event.TheVariants as core_events
+use Rattle.gix_odb_core.specs.declared.event.Refusal.TheVariants as refusals
 use Rattle.gix_odb_core.specs.declared.shape.Shape.{Shape}
 use Rattle.gix_odb_core.proofs.HandleLemmas.{handles-after}
 use Rattle.gix_odb_core.proofs.OrderLaws.{replay_of_joined_journals}
@@ -29,8 +30,14 @@ module _ (h : History) (seat : ℕ) (event : CoreEvent) (of : IsOfLooks event) w
   handles_looked (Ok effect) =
       ap (λ (s : Shape). s.handles) (replay_of_joined_journals h.entries (entry_of h seat event (Ok effect) ∷ []) h.opening)
       ∙ (handles-after (present h) seat event ∙ looks_leave (present h).handles seat event of)
-  handles_looked (Err refusal) =
-      ap (λ (s : Shape). s.handles) (replay_of_joined_journals h.entries (entry_of h seat event (Err refusal) ∷ []) h.opening)
+  handles_looked (Err refusals.NoMemory) =
+      ap (λ (s : Shape). s.handles) (replay_of_joined_journals h.entries (entry_of h seat event (Err refusals.NoMemory) ∷ []) h.opening)
+  handles_looked (Err (refusals.InsufficientSlots current needed)) =
+      ap (λ (s : Shape). s.handles) (replay_of_joined_journals h.entries (entry_of h seat event (Err (refusals.InsufficientSlots current needed)) ∷ []) h.opening)
+      ∙ (handles-after (present h) seat event ∙ looks_leave (present h).handles seat event of)
+  handles_looked (Err refusals.GenerationOverflow) =
+      ap (λ (s : Shape). s.handles) (replay_of_joined_journals h.entries (entry_of h seat event (Err refusals.GenerationOverflow) ∷ []) h.opening)
+      ∙ (handles-after (present h) seat event ∙ looks_leave (present h).handles seat event of)
 
 module _ (cores : List History) (store seat : ℕ) (event : CoreEvent) (answer : CoreAnswer) (of : IsOfLooks event) where
   abbrev cores_then : List History

@@ -98,10 +98,10 @@ module _ (first : Volume) (events : List Event) (store : Store) (history : Histo
     hands_over view handed = shows_here view (entry_hands_the_view_behind_it history.opening past entry view next handed)
 
   unseen_shows : Shows unseen
-  unseen_shows = (record { indices = none; kept = none; todo = none }, omega arith)
+  unseen_shows = (record { indices = none _; kept = none _; todo = none _ }, omega arith)
     where
-      none : {A : Type 0} {P : A → Type 0} → All P []
-      none i d within = absurd (omega (arith, within))
+      none : {A : Type 0} (P : A → Type 0) → All P []
+      none P i d within = absurd (omega (arith, within))
 
   -- a handle's snapshot shows what was read
   pub snapshot_shows : (seat : ℕ) → Shows (unwrap_or (snapshot_of seat history.entries) unseen)

@@ -17,7 +17,7 @@ use Rattle.gix_odb_calls.specs.declared.step.Outcome.TheVariants as outcomes
 use Rattle.gix_odb_packs.specs.PackFolder.{pack_folder}
 use Rattle.gix_odb_looks.specs.OpenStream.{IsOnStream, IsStreamOf}
 use Rattle.gix_odb_looks.specs.Stream.{Stream}
-use Rattle.gix_odb_looks.proofs.StreamLaws.{stream_of_a_directory_is_kept_by_another_state, stream_of_a_directory_is_kept_by_other_calls, stream_of_a_directory_is_kept_by_outside_changes}
+use Rattle.gix_odb_looks.proofs.StreamLaws.Directories.{stream_of_a_directory_is_kept_by_another_state, stream_of_a_directory_is_kept_by_other_calls, stream_of_a_directory_is_kept_by_outside_changes}
 use Rattle.gix_odb.specs.Contents.{folder_list}
 use Rattle.gix_odb_world.specs.declared.work.Work.{Work}
 use Rattle.gix_odb_world.specs.AtWork.{Running, Store}

@@ -3,7 +3,8 @@ use Rattle.std.proofs.Common.{◌≡◌, ◌≢◌, ◌⊎◌, ℕ, ◌+◌, ◌
 use Rattle.std.specs.Prelude.{◌==◌, if◌then◌else◌}
 use Rattle.std.specs.List.{cons_option}
 use Rattle.std.proofs.lemmas.Bool.{eqb-true, eqb-false}
-use Rattle.std.proofs.lemmas.List.{append-nil, length_push, take-length}
+use Rattle.std.proofs.lemmas.List.{append-nil, length_push}
+use Rattle.std.proofs.Math.Seq.{take-length}
 use Rattle.odb_base.specs.Path.{Path}
 use Rattle.odb_tree.specs.Tree.{tree_of}
 use Rattle.odb_tree.specs.Tree.Write.{written}
@@ -21,8 +22,9 @@ use Rattle.gix_odb_packs.specs.declared.answer.PartAsk.TheVariants as parts
 use Rattle.gix_odb_looks.specs.Exchange.{Exchange}
 use Rattle.gix_odb_looks.specs.OpenStream.{IsOnStream, IsStreamOf, given_by}
 use Rattle.gix_odb_looks.specs.Stream.{Stream, opens, reads, stream_by, stream_in}
-use Rattle.gix_odb_looks.proofs.StreamLaws.{new_stream_is_another, reads-given, stream_in-push, stream_of_a_directory_begins, stream_of_a_directory_goes_on}
-use Rattle.gix_odb_looks.proofs.StreamLaws.{stream_of_a_directory_is_kept_by_another_state}
+use Rattle.gix_odb_looks.proofs.StreamLaws.Calls.{new_stream_is_another}
+use Rattle.gix_odb_looks.proofs.StreamLaws.Exchanges.{reads-given, stream_in-push}
+use Rattle.gix_odb_looks.proofs.StreamLaws.Directories.{stream_of_a_directory_begins, stream_of_a_directory_goes_on, stream_of_a_directory_is_kept_by_another_state}
 use Rattle.gix_odb.specs.Contents.{folder_list}
 use Rattle.gix_odb_world.specs.AtWork.{Running, Store}
 use Rattle.gix_odb_world.specs.Event.{Asked, Event, OfCore, OfDisk, OfNewCore, OfNothing}

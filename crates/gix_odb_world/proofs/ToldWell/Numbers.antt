@@ -1,7 +1,8 @@
 -- The number of the list of a core never falls.
-use Rattle.std.proofs.Common.{ℕ, ◌<◌, ◌≤◌, List, [], ◌∷◌, length, inl, inr, sym, subst, arith}
+use Rattle.std.proofs.Common.{ℕ, ◌<◌, ◌≤◌, false, List, [], ◌∷◌, length, inl, inr, sym, subst, arith}
 use Rattle.std.proofs.lemmas.List.{length_push}
-use Rattle.gix_odb_core.specs.History.{History, present}
+use Rattle.gix_odb_core.specs.History.{History, opened, present}
+use Rattle.gix_odb_core.specs.declared.event.Event.TheVariants as core_events
 use Rattle.gix_odb_core.specs.declared.shape.Shape.{Shape}
 use Rattle.gix_odb_core.proofs.NumberLaws.{entries_lower_no_number}
 use Rattle.gix_odb_core.proofs.OrderLaws.{replay_of_joined_journals}
@@ -32,10 +33,10 @@ numbers_rise cores (OfCore store seat event answer) core within =
       ],
     )
 numbers_rise cores (OfNewCore slots folders store seat answer) core within =
-    let now : List History = cores_after_asked cores (OfNewCore slots folders store seat answer) in
-    let long = length_push cores _ in (
+    let new : History = entered (opened slots folders 0 0) seat (core_events.Register false) answer in
+    let long = length_push cores new in (
       omega (arith, within, long),
-      elim (history_at-push cores _ core) [
+      elim (history_at-push cores new core) [
         | inl old ↦ subst (λ (h : History). (present (history_at cores core)).list_no ≤ (present h).list_no) (sym old) (omega arith)
         | inr at ↦ let beyond = at.0 in absurd (omega (arith, within, beyond))
       ],

@@ -1,6 +1,7 @@
 -- No answer of a disk is for want of memory; which calls change nothing, and what a call leaves of the disk.
 use Rattle.std.proofs.Common.{◌≡◌, ◌≢◌, ℕ, Bool, true, false, List, [], ◌∷◌, Option, Some, None, Result, Ok, Err, refl, sym, ap}
 use Rattle.std.specs.Prelude.{if◌then◌else◌}
+use Rattle.odb_base.specs.Path.{Path}
 use Rattle.odb_disk.specs.Ask.{answer_in, answer_now, answer_of, change_of_ask, after_ask, dir_answer, entry_answer, error_of, fails_now, file_answer, meta_answer, ran_out, write_answer}
 use Rattle.odb_disk.specs.StreamAsks.{least_closed}
 use Rattle.odb_disk.specs.Streams.{Streams, still_gives}
