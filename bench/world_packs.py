@@ -1,0 +1,113 @@
+#!/usr/bin/env python3
+"""Growth and peak memory of `gitodb world` over packs that stay, and over packs that are replaced. See README.md."""
+
+import argparse
+import hashlib
+import os
+import subprocess
+import sys
+import tempfile
+
+from world import report, rounds
+
+
+def blob(number):
+    """The data of an object, and its name."""
+    data = b"object %d\n" % number
+    return data, hashlib.sha1(b"blob %d\0" % len(data) + data).hexdigest()
+
+
+def contents(numbers):
+    return ",".join("blob:" + blob(number)[0].hex() for number in numbers)
+
+
+def put(stem, numbers, time, front=""):
+    """The lines that put a pack of these objects, and then its index."""
+    return ["%sput /o/pack/%s.%s %d @%s:%s" % (front, stem, end, time, kind, contents(numbers)) for end, kind in (("pack", "pack"), ("idx", "idx"))]
+
+
+def found(number):
+    """The lines that find an object, and what they print."""
+    data, name = blob(number)
+    return ["find 0 " + name, "finish 0"], ["applied", "found blob %d %s" % (len(data), data.hex())]
+
+
+def joined(setup, opened, parts):
+    """A script with its output, of the lines of its setup and of parts that each have their output."""
+    steps, output = ["steps", "open 0 /o slots=%d" % opened, "finish 0"], ["applied", "opened %d" % opened]
+    for lines, printed in parts:
+        steps += lines
+        output += printed
+    return "\n".join(["mkdir /o", "mkdir /o/pack", *setup, *steps]) + "\n", "\n".join(output) + "\n"
+
+
+def one_pack(count):
+    """One pack of so many objects, and one hundred finds that are spread over it."""
+    return joined(put("pack-a", range(count), 1), 4, [found(number * (count // 100)) for number in range(100)])
+
+
+def many_packs(count):
+    """So many packs of ten objects, and twenty finds that are spread over them."""
+    setup = [line for pack in range(count) for line in put("pack-%05d" % pack, range(10 * pack, 10 * pack + 10), 1)]
+    return joined(setup, count, [found(number * (count // 20) * 10 + number % 10) for number in range(20)])
+
+
+def handles(count):
+    """So many handles that are opened and closed, one after the other, and then one find."""
+    opened = [(["open %d /o slots=4" % it, "finish %d" % it, "close %d" % it], ["applied", "opened 4", "applied"]) for it in range(1, count + 1)]
+    return joined(put("pack-a", range(10), 1), 4, [*opened, found(7)])
+
+
+def replaced(count):
+    """A pack that is replaced so many times, with a find of an object of the new one after each."""
+    parts = []
+    for it in range(1, count + 1):
+        lines = put("pack-%d" % it, [it], it, "do ") + ["do remove /o/pack/pack-%d.%s" % (it - 1, end) for end in ("idx", "pack")]
+        looked, printed = found(it)
+        parts.append((lines + looked, ["applied"] * 4 + printed))
+    return joined(put("pack-0", [0], 0), 4, parts)
+
+
+CASES = {
+    "objects in one pack": (one_pack, (1000, 4000, 16000)),
+    "packs": (many_packs, (20, 80, 320)),
+    "handles": (handles, (2000, 8000, 32000)),
+    "replacements": (replaced, (200, 800)),
+}
+
+
+def make(folder, case):
+    """Writes the scripts of a case and their outputs."""
+    made, sizes = CASES[case]
+    for size in sizes:
+        for name, text in zip(("script", "output"), made(size)):
+            with open(os.path.join(folder, "%d.%s" % (size, name)), "w") as file:
+                file.write(text)
+
+
+def main():
+    top = os.path.dirname(os.path.dirname(os.path.realpath(__file__)))
+    parser = argparse.ArgumentParser(description=__doc__)
+    parser.add_argument("program", nargs="?", default=os.path.join(top, "crates/gitodb/out/gitodb"))
+    parser.add_argument("--case", choices=CASES, help="only this one")
+    parser.add_argument("--make", metavar="FOLDER", help="only write the scripts of the case and their outputs there")
+    words = parser.parse_args()
+    if words.make:
+        return make(words.make, words.case or parser.error("--make needs --case"))
+    if not os.access(words.program, os.X_OK):
+        sys.exit("no program at %s: build it with ./gitodb --version" % words.program)
+    missed = []
+    for case in [words.case] if words.case else CASES:
+        sizes = CASES[case][1]
+        with tempfile.TemporaryDirectory() as folder:
+            # A process of its own makes them: a child's peak counts what this process has at its start.
+            subprocess.run([sys.executable, __file__, "--make", folder, "--case", case], check=True)
+            print(case)
+            if report(folder, sizes, "size", *rounds(words.program, folder, sizes)):
+                missed.append(case)
+    if missed:
+        sys.exit("a bound was missed: " + ", ".join(missed))
+
+
+if __name__ == "__main__":
+    main()
