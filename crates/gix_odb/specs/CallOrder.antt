@@ -1,12 +1,11 @@
--- The order of work of a call: an object is looked for in the folders, or written into the objects directory.
+-- The order of work of a call: an object is looked for in the store, or written into the objects directory.
 use Rattle.std.specs.Prelude.{◌≡◌, ℕ, ◌<◌, ◌^◌, true, List, Option, Some, None, Result, Ok, Err}
 use Rattle.odb_base.specs.Path.{Path}
 use Rattle.odb_disk.specs.declared.ask.DiskAsk.{DiskAsk}
-use Rattle.odb_disk.specs.declared.ask.DiskAnswer.{DiskAnswer}
 use Rattle.gix_hash.specs.declared.kind.Kind.{Kind as HashKind}
 use Rattle.gix_hash.specs.declared.object_id.ObjectId.{ObjectId}
 use Rattle.gix_object.specs.declared.kind.Kind.{Kind}
-use Rattle.gix_odb_loose.specs.LooseOrder.{reply_of}
+use Rattle.gix_odb_loose.specs.LooseOrder.{disk_ask_of, reply_of}
 use Rattle.gix_odb_loose.specs.LooseOrder as loose_order
 use Rattle.gix_odb_loose.specs.declared.call.LooseCall.{LooseCall}
 use Rattle.gix_odb_loose.specs.declared.call.LooseJob.TheVariants as jobs
@@ -21,12 +20,17 @@ use Rattle.gix_odb_calls.specs.declared.call.Reply.{Reply}
 use Rattle.gix_odb_calls.specs.declared.call.Reply.TheVariants as replies
 use Rattle.gix_odb.specs.declared.call_state.CallState.{CallState}
 use Rattle.gix_odb.specs.declared.call_state.CallState.TheVariants.{Looking, Writing}
-use Rattle.gix_odb.specs.declared.look_state.LookState.{LookState}
+use Rattle.gix_odb_looks.specs.declared.look_up.LookUp.{LookUp}
+use Rattle.gix_odb_looks.specs.LookUpOrder as looks
+use Rattle.gix_odb_looks.specs.LookUpOrder.{Setting}
+use Rattle.gix_odb_core.specs.declared.view.View.{View}
+use Rattle.gix_odb_packs.specs.declared.answer.Answer.{Answer}
+use Rattle.gix_odb_packs.specs.declared.answer.Answer.TheVariants as told
+use Rattle.gix_odb_packs.specs.declared.answer.PartAsk.{PartAsk}
+use Rattle.gix_odb_packs.specs.declared.answer.PartAsk.TheVariants as asks
 use Rattle.gix_odb_calls.specs.declared.query.Query.{Query}
 use Rattle.gix_odb_calls.specs.declared.query.Query.TheVariants.{Find, Header, Test}
 use Rattle.gix_odb_calls.specs.declared.write.Error.TheVariants as write_errors
-use Rattle.gix_odb.specs.LookOrder as looks
-use Rattle.gix_odb.specs.LookOrder.{asked_by}
 
 -- ---- a write
 
@@ -63,29 +67,30 @@ HasSize call = Unit {0}
 abbrev pub IsOfHash : HashKind → Call → Type 0
 IsOfHash hash call = is_of_hash hash call ≡ true
 
--- a new query, where `sought` tells the id that is sought
-abbrev pub looking : Path → (limit : Option ℕ) → (sought : Query → ObjectId) → Query → CallState
-looking objects limit sought query = Looking (looks.started objects limit query (sought query))
+-- a new query from a snapshot, where `sought` tells the id that is sought
+abbrev pub looking : Setting → View → (sought : Query → ObjectId) → Query → CallState
+looking setting view sought query = Looking (looks.started setting view query (sought query))
 
 -- a new call in a store of a hash
-abbrev pub started : Path → HashKind → (limit : Option ℕ) → (sought : Query → ObjectId) → Call → CallState
-started objects hash limit sought (call_kinds.Find id) = looking objects limit sought (Find id)
-started objects hash limit sought (call_kinds.Header id) = looking objects limit sought (Header id)
-started objects hash limit sought (call_kinds.Test id) = looking objects limit sought (Test id)
-started objects hash limit sought (call_kinds.Write kind size bytes id) = Writing (writing objects hash kind size bytes id)
+abbrev pub started : Setting → HashKind → View → (sought : Query → ObjectId) → Call → CallState
+started setting hash view sought (call_kinds.Find id) = looking setting view sought (Find id)
+started setting hash view sought (call_kinds.Header id) = looking setting view sought (Header id)
+started setting hash view sought (call_kinds.Test id) = looking setting view sought (Test id)
+started setting hash view sought (call_kinds.Write kind size bytes id) = Writing (writing setting.objects hash kind size bytes id)
 
--- the folder's call at which a call stands, if there is one
-abbrev pub waiting_in : CallState → Option LooseCall
-waiting_in (Looking state) = looks.waiting_in state
-waiting_in (Writing call) = Some call
+-- a call of the disk as what is asked for
+abbrev pub disk_part : Option DiskAsk → Option PartAsk
+disk_part None = None
+disk_part (Some ask) = Some (asks.Disk ask)
 
--- the next call of the disk, if there is one
-abbrev pub ask_of : CallState → Option DiskAsk
-ask_of state = asked_by (waiting_in state)
+-- what is asked for next, if anything is: of the disk, or of the store's core
+abbrev pub ask_of : CallState → Option PartAsk
+ask_of (Looking look) = looks.ask_of look
+ask_of (Writing call) = disk_part (disk_ask_of call)
 
-abbrev pub looking_result : Result Reply LookState → Result Reply CallState
+abbrev pub looking_result : Result Reply LookUp → Result Reply CallState
 looking_result (Ok reply) = Ok reply
-looking_result (Err state) = Err (Looking state)
+looking_result (Err look) = Err (Looking look)
 
 abbrev pub writing_result : Result Reply LooseCall → Result Reply CallState
 writing_result (Ok reply) = Ok reply
@@ -93,10 +98,20 @@ writing_result (Err call) = Err (Writing call)
 
 -- the reply of a call that is done, or the call
 abbrev pub result_of : CallState → Result Reply CallState
-result_of (Looking state) = looking_result (looks.result_of state)
+result_of (Looking look) = looking_result (looks.result_of look)
 result_of (Writing call) = writing_result (result_of_write call)
 
--- a call after the answer to its call of the disk
-abbrev pub fed : List Path → (limit : Option ℕ) → CallState → DiskAnswer → CallState
-fed folders limit (Looking state) answer = Looking (looks.fed folders limit state answer)
-fed folders limit (Writing call) answer = Writing (loose_order.fed call answer)
+-- a write after an answer. One of the core leaves it
+abbrev pub written_on : LooseCall → Answer → LooseCall
+written_on call (told.Disk answer) = loose_order.fed call answer
+written_on call (told.Core answer) = call
+
+-- a call after the answer to what it asked for
+abbrev pub fed : Setting → CallState → Answer → CallState
+fed setting (Looking look) answer = Looking (looks.fed setting look answer)
+fed setting (Writing call) answer = Writing (written_on call answer)
+
+-- the path with which the stream was opened that the next call of the disk is on, where it is on one: only a look-up lists folders
+abbrev pub opened_in : CallState → Option Path
+opened_in (Looking look) = looks.opened_in look
+opened_in (Writing call) = None

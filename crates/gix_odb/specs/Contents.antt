@@ -2,18 +2,22 @@
 use Rattle.std.specs.Prelude.{◌≡◌, ℕ, Bool, true, false, List, ◌∷◌, Option, Some, None, Ok}
 use Rattle.std.specs.Map.{lookup}
 use Rattle.std.specs.Ordering.{eq_by_cmp}
-use Rattle.odb_base.specs.Path.{Path}
+use Rattle.odb_base.specs.Path.{Name, Path}
 use Rattle.odb_tree.specs.Tree.{Tree}
 use Rattle.odb_tree.specs.Tree.Follow.{read_of}
 use Rattle.gix_hash.specs.declared.object_id.ObjectId.{ObjectId}
-use Rattle.gix_hash.specs.ObjectId.{id_cmp}
+use Rattle.gix_hash.specs.ObjectId.{id_cmp, kind_of}
+use Rattle.gix_hash.specs.declared.kind.Kind.{Kind as HashKind}
 use Rattle.gix_object.specs.declared.kind.Kind.{Kind}
+use Rattle.gix_pack_files.specs.Pack.{Entry, entry_at, header_at, is_pack}
+use Rattle.gix_pack_files.specs.declared.data.entry.Header as entry
 use Rattle.gix_odb_loose.specs.LooseFile as loose
+use Rattle.gix_odb_looks.specs.Found.{Gives}
 use Rattle.gix_odb_calls.specs.Verdict.{job_of}
 use Rattle.gix_odb_calls.specs.declared.query.Query.{Query}
 use Rattle.gix_odb_calls.specs.declared.query.Query.TheVariants.{Find, Header, Test}
 use Rattle.gix_odb_calls.specs.declared.find.Header as headers
-use Rattle.gix_odb_calls.specs.declared.find.Header.TheVariants.{Loose}
+use Rattle.gix_odb_calls.specs.declared.find.Header.TheVariants.{Loose, Packed}
 
 -- what a store is, for what it holds: its objects directory, its other folders, the ids that others replace, and
 -- the limit on found objects
@@ -27,9 +31,12 @@ pub record StoreData : Type 0 where
 abbrev pub folder_list : StoreData → List Path
 folder_list store = store.objects ∷ store.folders
 
--- what an object's bytes may be read from: one loose file
+-- what an object's bytes may be read from: one loose file; an index of a folder of packs, by its name, which gives an offset; or this and
+-- the pack that it is of
 pub data Contents : Type 0 where
   LooseFile : (bytes : List ℕ) → Contents
+  InIndex : (name : Name) (index : List ℕ) (offset : ℕ) → Contents
+  InPack : (name : Name) (index pack : List ℕ) (offset : ℕ) → Contents
 
 -- what a call may be answered with
 pub data Answer : Type 0 where
@@ -71,11 +78,28 @@ of_loose (Find asked) (loose.Object kind bytes) = Object kind bytes
 of_loose (Header asked) (loose.HeaderOf kind size) = HeaderOf (Loose kind size)
 of_loose call own = Presence
 
+-- The row of an index answers a test alone.
+abbrev pub IsOfRow : Query → Answer → Type 0
+IsOfRow (Test asked) answer = answer ≡ Presence
+IsOfRow call answer = ⊥
+
+-- A pack holds an answer at an offset: for a find the base entry there, with its data within the limit, and for a header the header of one.
+abbrev pub HoldsEntry : StoreData → Query → HashKind → (pack : List ℕ) → (offset : ℕ) → Answer → Type 0
+HoldsEntry store (Find asked) hash pack offset answer =
+    (own : Entry) × (entry_at hash pack offset store.limit ≡ Ok own) × (answer ≡ Object own.kind own.bytes)
+HoldsEntry store (Header asked) hash pack offset answer =
+    (own : entry.Header) × (header_at hash pack offset ≡ Ok own) × (answer ≡ HeaderOf (Packed own.kind own.size))
+HoldsEntry store (Test asked) hash pack offset answer = ⊥
+
 -- Contents hold an answer of a call that seeks an id. A loose file holds an object if it is a header with that kind and the length of
 -- the data, and then the data, whose length is within the limit. It holds a header if it begins with it. Any file holds the answer of
--- a test.
+-- a test. An index and its pack, both of the hash of the id, hold an answer where the index gives the id an offset at which the pack holds it;
+-- for a test the index is enough.
 abbrev pub Holds : StoreData → Query → (id : ObjectId) → Contents → Answer → Type 0
 Holds store call id (LooseFile bytes) answer = (own : loose.Answer) × (answer ≡ of_loose call own) × loose.Holds store.limit (job_of call id) bytes own
+Holds store call id (InIndex name index offset) answer = Gives (kind_of id) index id offset × IsOfRow call answer
+Holds store call id (InPack name index pack offset) answer =
+    Gives (kind_of id) index id offset × (is_pack (kind_of id) pack ≡ true) × HoldsEntry store call (kind_of id) pack offset answer
 
 -- contents are sound for a call that seeks an id where they hold some answer of it
 abbrev pub IsSound : StoreData → Query → (id : ObjectId) → Contents → Type 0

@@ -1,26 +1,43 @@
 -- What a handle of the code knows of its store, and what it seeks for a query.
-use Rattle.std.specs.Prelude.{ℕ, List, Option}
+use Rattle.std.specs.Prelude.{false, [], Option, unwrap_or}
 use Rattle.std.specs.BTreeMap.{get}
 use Rattle.odb_base.specs.Path.{Path}
 use Rattle.gix_hash.specs.declared.kind.Kind.{Kind as HashKind}
 use Rattle.gix_hash.specs.declared.object_id.ObjectId.{ObjectId}
 use Rattle.gix_hash.specs.ObjectId.{id_cmp}
+use Rattle.gix_odb_core.specs.declared.view.Snapshot.{Snapshot}
+use Rattle.gix_odb_core.specs.declared.view.View.{View}
+use Rattle.gix_odb_looks.specs.LookUpOrder.{Setting}
 use Rattle.gix_odb.specs.Contents.{replaced, sought_with}
 use Rattle.gix_odb.specs.declared.handle_state.HandleState.{HandleState}
 use Rattle.gix_odb_calls.specs.declared.query.Query.{Query}
 
--- the objects directory of a handle's store, the other folders, the hash, and the limit on found objects
+-- the objects directory and the hash of a handle's store
 abbrev pub objects_of : HandleState → Path
 objects_of handle = handle.store.value.objects
-
-abbrev pub folders_of : HandleState → List Path
-folders_of handle = handle.store.value.folders
 
 abbrev pub hash_of : HandleState → HashKind
 hash_of handle = handle.store.value.object_hash
 
-abbrev pub limit_of : HandleState → Option ℕ
-limit_of handle = handle.store.value.alloc_limit_bytes
+-- what a look-up is told of the store
+abbrev pub setting_at : HandleState → Setting
+setting_at handle = record {
+  objects = handle.store.value.objects;
+  folders = handle.store.value.folders;
+  limit = handle.store.value.alloc_limit_bytes;
+  most = handle.store.value.max_changes;
+}
+
+-- what a handle sees that has no snapshot yet: nothing, of a list that was not read
+abbrev pub nothing_loaded : Snapshot
+nothing_loaded = record { indices = []; kept = []; marker = record { generation = 0; state_id = 0 }; entry = 0 }
+
+abbrev pub unseen : View
+unseen = record { snapshot = nothing_loaded; list_no = 0; read = false; todo = [] }
+
+-- what a handle sees: its snapshot, if it has one
+abbrev pub view_at : HandleState → View
+view_at handle = unwrap_or handle.view unseen
 
 -- the id that replaces another
 abbrev pub replacement_of : HandleState → ObjectId → Option ObjectId

@@ -1,20 +1,34 @@
 -- What a store held, and what lay still in it, over any family of trees numbered by moments. A kind of contents has its constructor in
 -- `Contents` and its lines in `Holds`, `WasShown`, `Place` and `LiesAt`; what is said of all kinds names none.
-use Rattle.std.specs.Prelude.{ℕ, List, Contains}
-use Rattle.odb_base.specs.Path.{Path}
+use Rattle.std.specs.Prelude.{◌≡◌, ℕ, true, List, [], ◌∷◌, ◌++◌, Contains}
+use Rattle.odb_base.specs.Path.{Name, Path}
 use Rattle.odb_tree.specs.Tree.{Tree}
 use Rattle.gix_hash.specs.declared.object_id.ObjectId.{ObjectId}
 use Rattle.gix_odb_loose.specs.LooseFile.{loose_path}
+use Rattle.gix_odb_packs.specs.PackFolder.{is_index_name, pack_folder}
+use Rattle.gix_odb_slots.specs.PackPath.{pack_path}
 use Rattle.gix_odb_calls.specs.declared.query.Query.{Query}
-use Rattle.gix_odb.specs.Contents.{StoreData, folder_list, Contents, LooseFile, Answer, Holds, IsSound, ShowsFile}
+use Rattle.gix_odb.specs.Contents.{StoreData, folder_list, Contents, LooseFile, InIndex, InPack, Answer, Holds, IsSound, ShowsFile}
 use Rattle.gix_odb.specs.Moments.{Sometime, Throughout}
 
 -- ---- held
 
+-- the path of an index of a name in the folder of packs of a folder
+abbrev pub index_path : (folder : Path) → Name → Path
+index_path folder name = pack_folder folder ++ name ∷ []
+
+-- a file with these bytes was shown at a path at some moment from one to another
+abbrev pub WasShownAt : (trees : ℕ → Tree) → (from now : ℕ) → Path → List ℕ → Type 0
+WasShownAt trees from now path bytes = Sometime from now (λ moment. ShowsFile (trees moment) path bytes)
+
 -- A folder showed the parts of contents for an id, each at a moment of its own and none before the one that their kind says: `opened`,
--- at which the store was opened, or `begun`, at which the call began. A loose file is one part, shown since the call began.
+-- at which the store was opened, or `begun`, at which the call began. A loose file is one part, shown since the call began; an
+-- index and its pack were shown since the store was opened, each at a moment of its own.
 abbrev pub WasShown : (trees : ℕ → Tree) → (opened begun now : ℕ) → (folder : Path) → ObjectId → Contents → Type 0
 WasShown trees opened begun now folder id (LooseFile bytes) = Sometime begun now (λ moment. ShowsFile (trees moment) (loose_path folder id) bytes)
+WasShown trees opened begun now folder id (InIndex name index offset) = (is_index_name name ≡ true) × WasShownAt trees opened now (index_path folder name) index
+WasShown trees opened begun now folder id (InPack name index pack offset) =
+    (is_index_name name ≡ true) × WasShownAt trees opened now (index_path folder name) index × WasShownAt trees opened now (pack_path (index_path folder name)) pack
 
 -- In one folder of a store that was opened at the moment `opened`, contents were shown for the sought id in a call from `begun` to
 -- `now` that hold the answer.

@@ -2,6 +2,5 @@ pub mod Contents
 pub mod Moments
 pub mod Held
 pub mod HandleState
-pub mod LookOrder
 pub mod CallOrder
 pub mod OpenOrder

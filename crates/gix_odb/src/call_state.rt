@@ -1,36 +1,43 @@
 //! The order of work of a call on a handle: an object is looked for, or written.
 ghost use Rattle.std.specs.Prelude.{◌≡◌, ◌<◌, ◌^◌, IfOk};
-ghost use Rattle.std.specs.Option.{option_copied};
-ghost use Rattle.gix_odb.specs.CallOrder.{HasSize, IsOfHash, ask_of, result_of, started, waiting_in, writing, wrote_as};
+ghost use Rattle.std.specs.Option.{option_map};
+ghost use Rattle.gix_odb_loose.specs.LooseOrder.{disk_ask_of};
+ghost use Rattle.gix_odb.specs.CallOrder.{HasSize, IsOfHash, ask_of, disk_part, opened_in, result_of, started, writing, wrote_as};
 ghost use Rattle.gix_odb.specs.CallOrder as calls;
-ghost use Rattle.gix_odb.specs.HandleState.{folders_of, hash_of, limit_of, objects_of, sought_by};
+ghost use Rattle.gix_odb_looks.specs.LookUpOrder as looks;
+ghost use Rattle.gix_odb.specs.HandleState.{hash_of, setting_at, sought_by, view_at};
 
 use crate::handle_state::HandleState;
-use crate::look_state::LookState;
+use crate::unseen::unseen;
 use gix_hash::ObjectId;
 use gix_object::Kind;
 use gix_odb_calls::{Call, CallError, Query, Reply, write};
+use gix_odb_core::View;
+use gix_odb_looks::{LookUp, Setting};
 use gix_odb_loose::{LooseCall, LooseJob, LooseReply};
+use gix_odb_packs::{Answer, PartAsk};
 use odb_base::{NoMemory, PathText};
-use odb_disk::{ByteList, DiskAnswer, DiskAsk};
+use odb_disk::ByteList;
 use std::alloc::Global;
 
 /// A call on a handle on its way.
 ///
-/// `disk_ask` names the next call of the disk, `feed` takes its answer, and so on until the call has its reply.
+/// `ask` names the next call of the disk or the next event of the store's core, `feed` takes its answer, and so on until the
+/// call has its reply.
 #[derive(Drop)]
 pub enum CallState {
-    /// An object is looked for in the folders of the store.
-    Looking(LookState),
+    /// An object is looked for in the store.
+    Looking(LookUp),
     /// An object is being written, by a call of the objects directory, whose reply is that of the write.
     Writing(LooseCall),
 }
 
 impl CallState {
-    /// A new call, whose ids are of the store's hash. It asks nothing of the disk yet.
+    /// A new call, whose ids are of the store's hash. It asks for nothing yet; where the handle's snapshot has all that a
+    /// query takes, the query is done.
     pub fn start(alloc: Global, handle: &HandleState, call: &Call) -> Result<CallState, NoMemory>
         requires of_hash { IsOfHash (hash_of handle.now) call.now }
-        ensures begun { IfOk result (λ state. state ≡ started (objects_of handle.now) (hash_of handle.now) (limit_of handle.now) (sought_by handle.now) call.now) }
+        ensures begun { IfOk result (λ state. state ≡ started (setting_at handle.now) (hash_of handle.now) (view_at handle.now) (sought_by handle.now) call.now) }
         ensures sized { HasSize call.now }
     {
         match call {
@@ -57,40 +64,42 @@ impl CallState {
         }
     }
 
-    /// The call of the disk that comes next; there is none where the call is done.
-    pub fn disk_ask(&self, alloc: Global) -> Result<Option<DiskAsk>, NoMemory>
+    /// What comes next: a call of the disk, or an event of the store's core; there is none where the call is done.
+    pub fn ask(&self, alloc: Global) -> Result<Option<PartAsk>, NoMemory>
         ensures asked { IfOk result (λ ask. ask ≡ ask_of self.now) }
     {
-        match self.waiting() {
-            Some(call) => call.disk_ask(alloc),
-            None => Ok(None),
+        match self {
+            CallState::Looking(look) => look.ask(alloc),
+            CallState::Writing(call) => write_ask(alloc, call),
         }
     }
 
-    /// The folder's call at which this one stands; there is none where a query is done.
-    fn waiting(&self) -> Option<&LooseCall>
-        ensures waiting { option_copied result ≡ waiting_in self.now }
+    /// The path with which the stream was opened that the next call of the disk is on, where it is on one.
+    pub fn opened(&self) -> Option<&PathText>
+        ensures opened { option_map (λ path. path.now) result ≡ opened_in self.now }
     {
         match self {
-            CallState::Looking(state) => state.waiting(),
-            CallState::Writing(call) => Some(call),
+            CallState::Looking(look) => look.opened(),
+            CallState::Writing(_) => None,
         }
     }
 
-    /// The call after the answer to its call of the disk, on the handle that it was started on.
+    /// The call after the answer to what it asked for, on the handle that it was started on. An answer of the core leaves a
+    /// write as it was.
     pub fn feed(
         self,
         alloc: Global,
         handle: &HandleState,
-        answer: DiskAnswer,
+        answer: Answer,
     ) -> Result<CallState, NoMemory>
-        ensures fed { IfOk result (λ state. state ≡ calls.fed (folders_of handle.now) (limit_of handle.now) self answer) }
+        ensures fed { IfOk result (λ state. state ≡ calls.fed (setting_at handle.now) self answer) }
     {
         match self {
-            CallState::Looking(state) => {
-                Ok(CallState::Looking(state.feed(alloc, handle, answer)?))
+            CallState::Looking(look) => {
+                let setting = setting_of(handle);
+                Ok(CallState::Looking(look.feed(alloc, &setting, answer)?))
             }
-            CallState::Writing(call) => Ok(CallState::Writing(call.feed(alloc, answer)?)),
+            CallState::Writing(call) => Ok(CallState::Writing(written_on(alloc, call, answer)?)),
         }
     }
 
@@ -99,9 +108,9 @@ impl CallState {
         ensures replied { result ≡ result_of self }
     {
         match self {
-            CallState::Looking(state) => match state.into_reply() {
+            CallState::Looking(look) => match look.into_reply() {
                 Ok(reply) => Ok(reply),
-                Err(state) => Err(CallState::Looking(state)),
+                Err(look) => Err(CallState::Looking(look)),
             },
             CallState::Writing(call) => match call.into_reply() {
                 Ok(reply) => Ok(told(reply)),
@@ -111,10 +120,63 @@ impl CallState {
     }
 }
 
-fn looking(alloc: Global, handle: &HandleState, query: Query) -> Result<CallState, NoMemory>
-    ensures begun { IfOk result (λ state. state ≡ calls.looking (objects_of handle.now) (limit_of handle.now) (sought_by handle.now) query) }
+// What a write asks of the disk.
+fn write_ask(alloc: Global, call: &LooseCall) -> Result<Option<PartAsk>, NoMemory>
+    ensures asked { IfOk result (λ ask. ask ≡ disk_part (disk_ask_of call.now)) }
 {
-    Ok(CallState::Looking(LookState::start(alloc, handle, query)?))
+    match call.disk_ask(alloc)? {
+        None => Ok(None),
+        Some(ask) => Ok(Some(PartAsk::Disk(ask))),
+    }
+}
+
+// A write after an answer.
+fn written_on(alloc: Global, call: LooseCall, answer: Answer) -> Result<LooseCall, NoMemory>
+    ensures fed { IfOk result (λ next. next ≡ calls.written_on call answer) }
+{
+    match answer {
+        Answer::Disk(answer) => call.feed(alloc, answer),
+        Answer::Core(_) => Ok(call),
+    }
+}
+
+// What a look-up is told of a handle's store.
+fn setting_of(handle: &HandleState) -> Setting<'_>
+    ensures setting { looks.setting_of result ≡ setting_at handle.now }
+{
+    let parts = handle.parts();
+    Setting {
+        parts,
+        max_changes: parts.max_changes,
+    }
+}
+
+// A new query. A handle that has no snapshot yet begins as one whose list was not read.
+fn looking(alloc: Global, handle: &HandleState, query: Query) -> Result<CallState, NoMemory>
+    ensures begun { IfOk result (λ state. state ≡ calls.looking (setting_at handle.now) (view_at handle.now) (sought_by handle.now) query) }
+{
+    match &handle.view {
+        Some(view) => looking_from(alloc, handle, view, query),
+        None => {
+            let view = unseen(alloc)?;
+            looking_from(alloc, handle, &view, query)
+        }
+    }
+}
+
+// A new query from a view.
+fn looking_from(
+    alloc: Global,
+    handle: &HandleState,
+    view: &View,
+    query: Query,
+) -> Result<CallState, NoMemory>
+    ensures begun { IfOk result (λ state. state ≡ calls.looking (setting_at handle.now) view.now (sought_by handle.now) query) }
+{
+    let id = handle.sought(query);
+    let setting = setting_of(handle);
+    let look = LookUp::start(alloc, &setting, view, query, id)?;
+    Ok(CallState::Looking(look))
 }
 
 // The write of an object into a folder, with a hash.

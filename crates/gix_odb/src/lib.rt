@@ -1,26 +1,28 @@
 //! A store over several folders: what it holds, and the calls on a handle of it.
 //!
-//! A call is a machine: it names one call of the disk at a time, takes its answer, and comes to a reply. The order of
-//! work is in `specs/{OpenOrder,LookOrder,CallOrder}.antt`; what a store holds, and for how long, in
+//! A call is a machine: it names one call of the disk or one event of the store's core at a time, takes the answer, and
+//! comes to a reply. The order of
+//! work is in `specs/{OpenOrder,CallOrder}.antt`, of a query in `gix_odb_looks`; what a store holds, and for how long, in
 //! `specs/{Contents,Moments,Held}.antt`. Who drives the machines, over which disk, is the matter of the crates above.
 //! ```rust
 //! let mut state = CallState::start(alloc, &handle, &Call::Find(id))?;
-//! while let Some(ask) = state.disk_ask(alloc)? {
-//!     state = state.feed(alloc, &handle, ask.carry_out(alloc, &mut disk))?;
+//! while let Some(ask) = state.ask(alloc)? {
+//!     let answer = ..;                       // of the disk, or of the core
+//!     state = state.feed(alloc, &handle, answer)?;
 //! }
 //! ```
 #![tactic(auto)]
 
 mod call_state;
 mod handle_state;
-mod look_state;
 mod open_state;
+mod unseen;
 
 pub use call_state::CallState;
 pub use gix_odb_calls::{
     Call, CallError, IdPairs, Options, PathList, Query, Reply, Slots, StoreParts, copy_of_pairs,
     copy_of_paths, find, init, load_index, write,
 };
+pub use gix_odb_looks::LookUp;
 pub use handle_state::HandleState;
-pub use look_state::LookState;
 pub use open_state::OpenState;

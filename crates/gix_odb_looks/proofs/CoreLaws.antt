@@ -1,8 +1,8 @@
 -- Laws of what a core answers to the events of look-ups, as its journal grows by each.
 pub mod Wider
 pub mod Fairness
-mod Journals
-mod Shapes
+pub mod Journals
+pub mod Shapes
 mod Answers
 use Rattle.std.proofs.Common.{◌≡◌, ℕ, ◌≤◌, List, [], ◌∷◌, ◌++◌, length, Contains, Option, Some, Ok, inr, refl, sym, ap, subst, ◌∙◌, arith}
 use Rattle.odb_base.specs.Path.{Path}

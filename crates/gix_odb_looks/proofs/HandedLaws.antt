@@ -177,6 +177,7 @@ pub record IsOwnStream (exchanges : List Exchange) (dir : ℕ) : Type 0 where
   pub stream : Stream
   pub told : stream_in exchanges ≡ Some stream
   pub of : stream.folder ≡ folder
+  pub number : stream.dir ≡ dir
 
 module _ (setting : Setting) (view : View) (query : Query) (id : ObjectId) (exchanges : List Exchange)
     (asked : AreAsked setting (started setting view query id) exchanges) where
@@ -195,7 +196,7 @@ module _ (setting : Setting) (view : View) (query : Query) (id : ObjectId) (exch
 
   is_own_stream : (dir : ℕ) → (folder : Path) × IsOpen now folder dir → IsOwnStream exchanges dir
   is_own_stream dir (folder, here) =
-      record { folder = folder; last = here.last; left = here.left; stream = here.stream; told = here.told; of = here.of }
+      record { folder = folder; last = here.last; left = here.left; stream = here.stream; told = here.told; of = here.of; number = here.number }
 
   -- it reads and closes no stream but the one that it opened last
   pub streams_of_look_ups_are_their_own : (dir : ℕ)

@@ -7,3 +7,4 @@ pub mod TurnLaws
 pub mod CoreLaws
 pub mod StreamLaws
 pub mod HandedLaws
+pub mod OpenLaws

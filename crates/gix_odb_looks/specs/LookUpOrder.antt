@@ -4,6 +4,7 @@
 pub mod Replies
 pub mod Parts
 use Rattle.std.specs.Prelude.{ℕ, ◌+◌, ◌==◌, Bool, min, Option, Some, None, Result, Ok, Err, if◌then◌else◌}
+use Rattle.odb_base.specs.Path.{Path}
 use Rattle.odb_disk.specs.declared.ask.DiskAsk.{DiskAsk}
 use Rattle.odb_disk.specs.declared.ask.DiskAnswer.{DiskAnswer}
 use Rattle.gix_odb_loose.specs.LooseOrder.{disk_ask_of}
@@ -109,6 +110,14 @@ ask_at (stages.Done reply) = None
 
 abbrev pub ask_of : LookUp → Option PartAsk
 ask_of look = ask_at look.stage
+
+-- the path with which the stream was opened that a call of the disk may be on
+abbrev pub opened_at : LookStage → Option Path
+opened_at (stages.Listing lister base notes) = Some lister.head.folder
+opened_at stage = None
+
+abbrev pub opened_in : LookUp → Option Path
+opened_in look = opened_at look.stage
 
 abbrev pub first_of : Option ℕ → Option View → Option ℕ
 first_of (Some begun) view = Some begun

@@ -1,7 +1,7 @@
 //! The order of work of a look-up: the handle's snapshot, the loose folders, the list of the store's core, and listings of
 //! the folders of packs.
 ghost use Rattle.std.specs.Prelude.{◌≡◌, IfOk, [], None, Some};
-ghost use Rattle.std.specs.Option.{option_copied};
+ghost use Rattle.std.specs.Option.{option_copied, option_map};
 ghost use Rattle.gix_odb_looks.specs.LookUpOrder.{setting_of};
 ghost use Rattle.gix_odb_loose.specs.LooseOrder.{disk_ask_of};
 ghost use Rattle.gix_odb_looks.specs.LookUpOrder as order;
@@ -14,7 +14,7 @@ use gix_odb_calls::{Query, Reply, StoreParts};
 use gix_odb_core::{Event, Listing, Refusal, View};
 use gix_odb_loose::LooseCall;
 use gix_odb_packs::{Answer, Lister, Notes, PartAsk, Trier};
-use odb_base::NoMemory;
+use odb_base::{NoMemory, PathText};
 use std::alloc::Global;
 
 /// The store that a look-up is made in: its parts, and how many lists of others the look-up may meet.
@@ -186,6 +186,16 @@ impl LookUp {
                 Ok(Some(PartAsk::Core(Event::Publish(listing))))
             }
             LookStage::Done(_) => Ok(None),
+        }
+    }
+
+    /// The path with which the stream was opened that the next call of the disk is on, where it is on one.
+    pub fn opened(&self) -> Option<&PathText>
+        ensures opened { option_map (λ path. path.now) result ≡ order.opened_in self.now }
+    {
+        match &self.stage {
+            LookStage::Listing { lister, .. } => Some(lister.folder()),
+            _ => None,
         }
     }
 

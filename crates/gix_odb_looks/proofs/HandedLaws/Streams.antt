@@ -96,6 +96,7 @@ pub record IsOpen (now : Told) (folder : Path) (dir : ℕ) : Type 0 where
   pub stream : Stream
   pub told : now.stream ≡ Some stream
   pub of : stream.folder ≡ folder
+  pub number : stream.dir ≡ dir
 
 abbrev pub HasNone : Told → Type 0
 HasNone now = now.left ≡ None
@@ -144,17 +145,17 @@ module _ (folders : List Path) (head : ListHead) where
   open_goes : (before : Told) → HasNone before → (answer : DiskAnswer)
       → StreamBehind (told_by before (asks.Disk (disk_asks.OpenDir head.folder)) (told.Disk answer)) (opened folders head answer)
   open_goes before none (answers.Dir dir) =
-      record { last = refl; left = refl; stream = record { folder = head.folder; dir = dir; entries = [] }; told = refl; of = refl }
+      record { last = refl; left = refl; stream = record { folder = head.folder; dir = dir; entries = [] }; told = refl; of = refl; number = refl }
   open_goes before none (answers.Refused disk_errors.Absent) =
       behind_has_none (told_by before (asks.Disk (disk_asks.OpenDir head.folder)) (told.Disk (answers.Refused disk_errors.Absent))) none head
       (slice_get folders head.next)
   open_goes before none answer = none
 
   -- the stream that exchanges tell of stays one of its folder while it is read
-  reads_of_folder : (stream : Stream) (folder : Path) → stream.folder ≡ folder → (answer : DiskAnswer)
-      → (next : Stream) × (reads (Some stream) answer ≡ Some next) × (next.folder ≡ folder)
-  reads_of_folder stream folder of (answers.Entry entry) = (record stream { entries = stream.entries ++ entry ∷ [] }, refl, of)
-  reads_of_folder stream folder of answer = (stream, refl, of)
+  reads_of_folder : (stream : Stream) (folder : Path) (dir : ℕ) → stream.folder ≡ folder → stream.dir ≡ dir → (answer : DiskAnswer)
+      → (next : Stream) × (reads (Some stream) answer ≡ Some next) × (next.folder ≡ folder) × (next.dir ≡ dir)
+  reads_of_folder stream folder dir of number (answers.Entry entry) = (record stream { entries = stream.entries ++ entry ∷ [] }, refl, of, number)
+  reads_of_folder stream folder dir of number answer = (stream, refl, of, number)
 
   module _ (before : Told) (dir : ℕ) (entries : List Entry) (here : IsOpen before head.folder dir) (answer : DiskAnswer) where
     abbrev read_then : Told
@@ -162,8 +163,8 @@ module _ (folders : List Path) (head : ListHead) where
 
     read_open : IsOpen read_then head.folder dir
     read_open =
-        let next = reads_of_folder here.stream head.folder here.of answer in
-        record { last = here.last; left = here.left; stream = next.0; told = ap (λ (s : Option Stream). reads s answer) here.told ∙ next.1; of = next.2 }
+        let next = reads_of_folder here.stream head.folder dir here.of here.number answer in
+        record { last = here.last; left = here.left; stream = next.0; told = ap (λ (s : Option Stream). reads s answer) here.told ∙ next.1; of = next.2; number = next.3 }
 
   read_goes : (before : Told) (dir : ℕ) (entries : List Entry) → IsOpen before head.folder dir → (answer : DiskAnswer)
       → StreamBehind (told_by before (asks.Disk (disk_asks.NextEntry dir)) (told.Disk answer)) (read head dir entries answer)
@@ -208,10 +209,10 @@ pub core_leaves_streams : (before : Told) (folder : Path) (stage : ListStage) (a
     → StreamAt (told_by before (asks.Disk (ask_at folder stage)) (told.Core answer)) folder stage
 core_leaves_streams before folder stages.Opening answer here = here
 core_leaves_streams before folder (stages.Reading dir entries) answer here =
-    record { last = here.last; left = here.left; stream = here.stream; told = here.told; of = here.of }
+    record { last = here.last; left = here.left; stream = here.stream; told = here.told; of = here.of; number = here.number }
 core_leaves_streams before folder (stages.Closing dir entries) answer here =
-    record { last = here.last; left = here.left; stream = here.stream; told = here.told; of = here.of }
+    record { last = here.last; left = here.left; stream = here.stream; told = here.told; of = here.of; number = here.number }
 core_leaves_streams before folder (stages.Breaking dir) answer here =
-    record { last = here.last; left = here.left; stream = here.stream; told = here.told; of = here.of }
+    record { last = here.last; left = here.left; stream = here.stream; told = here.told; of = here.of; number = here.number }
 core_leaves_streams before folder (stages.Index path left) answer here = here
 core_leaves_streams before folder (stages.Pack row left) answer here = here

@@ -1,0 +1,84 @@
+-- A law of look-ups: the directories that they open are the folders of packs of the folders.
+use Rattle.std.proofs.Common.{◌≡◌, ℕ, false, List, Contains, Option, Some, None, refl, sym, ap, ◌∙◌}
+use Rattle.odb_base.specs.Path.{Path}
+use Rattle.odb_disk.specs.StreamAsks.{is_of_streams}
+use Rattle.odb_disk.specs.declared.ask.DiskAsk.{DiskAsk}
+use Rattle.odb_disk.specs.declared.ask.DiskAsk.TheVariants as disk_asks
+use Rattle.gix_hash.specs.ObjectId.{kind_of}
+use Rattle.gix_hash.specs.declared.kind.Kind.{Kind}
+use Rattle.gix_hash.specs.declared.object_id.ObjectId.{ObjectId}
+use Rattle.gix_odb_core.specs.declared.event.Event.TheVariants as events
+use Rattle.gix_odb_core.specs.declared.view.View.{View}
+use Rattle.gix_odb_loose.specs.LooseOrder.{disk_ask_of}
+use Rattle.gix_odb_loose.proofs.StillAskLaws.{call_asks_still}
+use Rattle.gix_odb_packs.specs.PackFolder.{pack_folder}
+use Rattle.gix_odb_packs.specs.ListOrder as lists
+use Rattle.gix_odb_packs.specs.TryOrder as tries
+use Rattle.gix_odb_packs.specs.declared.answer.PartAsk.{PartAsk}
+use Rattle.gix_odb_packs.specs.declared.answer.PartAsk.TheVariants as asks
+use Rattle.gix_odb_packs.specs.declared.lister.ListHead.{ListHead}
+use Rattle.gix_odb_packs.specs.declared.lister.ListStage.{ListStage}
+use Rattle.gix_odb_packs.specs.declared.lister.ListStage.TheVariants as list_stages
+use Rattle.gix_odb_packs.specs.declared.trier.Stage.{Stage}
+use Rattle.gix_odb_packs.specs.declared.trier.Stage.TheVariants as tries_stages
+use Rattle.gix_odb_calls.specs.declared.query.Query.{Query}
+use Rattle.gix_odb_looks.specs.Exchange.{AreAsked, Exchange, behind}
+use Rattle.gix_odb_looks.specs.LookUpOrder.{Setting, ask_at, ask_of, loose_ask, started}
+use Rattle.gix_odb_looks.specs.Shown.{IsShownView, folders_of}
+use Rattle.gix_odb_looks.specs.True.{AreTrue}
+use Rattle.gix_odb_looks.specs.declared.look_up.LookStage.{LookStage}
+use Rattle.gix_odb_looks.specs.declared.look_up.LookStage.TheVariants as stages
+use Rattle.gix_odb_looks.specs.declared.look_up.LookUp.{LookUp}
+use Rattle.gix_odb_looks.proofs.FoundLaws.Behind.{look_known}
+use Rattle.gix_odb_looks.proofs.FoundLaws.Known.{KnowsListHead, KnowsLookStage}
+
+trier_opens_none : (stage : Stage) (path : Path) → ¬ (tries.ask_at stage ≡ asks.Disk (disk_asks.OpenDir path))
+trier_opens_none (tries_stages.ReadingIndex place) path is = cc is
+trier_opens_none (tries_stages.StoringIndex place file) path is = cc is
+trier_opens_none (tries_stages.PassingIndex place why) path is = cc is
+trier_opens_none (tries_stages.ReadingPack pack) path is = cc is
+trier_opens_none (tries_stages.StoringPack pack file) path is = cc is
+trier_opens_none (tries_stages.PassingPack pack) path is = cc is
+
+module _ (setting : Setting) (path : Path) where
+  -- a path is that of the folder of packs of one of the folders
+  abbrev pub IsFolderOfPacks : Type 0
+  IsFolderOfPacks = (folder : Path) × Contains (folders_of setting) folder × (path ≡ pack_folder folder)
+
+  lister_opens : (head : ListHead) → KnowsListHead setting head → (stage : ListStage) → lists.ask_at head.folder stage ≡ disk_asks.OpenDir path → IsFolderOfPacks
+  lister_opens head known list_stages.Opening is =
+      let same : head.folder ≡ path = cc is in (known.folder, known.among, sym same ∙ known.is)
+  lister_opens head known (list_stages.Reading dir entries) is = absurd (cc is)
+  lister_opens head known (list_stages.Closing dir entries) is = absurd (cc is)
+  lister_opens head known (list_stages.Breaking dir) is = absurd (cc is)
+  lister_opens head known (list_stages.Index other left) is = absurd (cc is)
+  lister_opens head known (list_stages.Pack row left) is = absurd (cc is)
+
+  loose_opens_none : (call : Option DiskAsk) → ((ask : DiskAsk) → call ≡ Some ask → is_of_streams ask ≡ false)
+      → ¬ (loose_ask call ≡ Some (asks.Disk (disk_asks.OpenDir path)))
+  loose_opens_none None still is = cc is
+  loose_opens_none (Some ask) still is =
+      let same : ask ≡ disk_asks.OpenDir path = cc is in
+      let none : is_of_streams (disk_asks.OpenDir path) ≡ false = ap is_of_streams (sym same) ∙ still ask refl in
+      cc none
+
+  module _ (Shown : Path → List ℕ → Type 0) (hash : Kind) (query : Query) (id : ObjectId) (exchanges : List Exchange) where
+    opens_by : (stage : LookStage) → KnowsLookStage Shown setting hash id exchanges query stage → ask_at stage ≡ Some (asks.Disk (disk_asks.OpenDir path)) → IsFolderOfPacks
+    opens_by (stages.Trying trier part) known is =
+        let same : tries.ask_of trier ≡ asks.Disk (disk_asks.OpenDir path) = cc is in absurd (trier_opens_none trier.stage path same)
+    opens_by (stages.Loose round call) known is = absurd (loose_opens_none (disk_ask_of call) (λ ask asked. call_asks_still call ask asked) is)
+    opens_by (stages.Looking purpose notes) known is = absurd (cc is)
+    opens_by (stages.Listing lister base notes) known is =
+        let same : lists.ask_of lister ≡ disk_asks.OpenDir path = cc is in lister_opens lister.head known.head lister.stage same
+    opens_by (stages.Publishing listing notes) known is = absurd (cc is)
+    opens_by (stages.Done reply) known is = absurd (cc is)
+
+-- a directory that a look-up opens is the folder of packs of one of the folders
+pub look_ups_open_folders_of_packs : (Shown : Path → List ℕ → Type 0) (setting : Setting) (hash : Kind) (query : Query) (id : ObjectId) → kind_of id ≡ hash
+    → (view : View) → IsShownView Shown setting hash view → (exchanges : List Exchange) → AreAsked setting (started setting view query id) exchanges
+    → AreTrue Shown setting hash exchanges → (path : Path)
+    → ask_of (behind setting (started setting view query id) exchanges) ≡ Some (asks.Disk (disk_asks.OpenDir path))
+    → IsFolderOfPacks setting path
+look_ups_open_folders_of_packs Shown setting hash query id same view shown exchanges asked truth path is =
+    opens_by setting path Shown hash query id exchanges (behind setting (started setting view query id) exchanges).stage
+    (look_known Shown setting hash query id same view shown exchanges asked truth).stage is
