@@ -133,7 +133,7 @@ module _ (setting : Setting) (snapshot : View) (exchanges : List Exchange) (aske
 
   is_own_stream : (dir : ℕ) → (folder : Path) × IsOpen (told_of exchanges) folder dir → IsOwnStream exchanges dir
   is_own_stream dir (folder, here) =
-      record { folder = folder; last = here.last; left = here.left; stream = here.stream; told = here.told; of = here.of }
+      record { folder = folder; last = here.last; left = here.left; stream = here.stream; told = here.told; of = here.of; number = here.number }
 
   -- it reads and closes no stream but the one that it opened last
   pub streams_of_refreshes_are_their_own : (dir : ℕ)
