@@ -1,8 +1,8 @@
 -- Laws of refreshes: what one hands to the core, which streams it reads, why it is refused, and how many turns it takes.
-mod Known
-mod Causes
+pub mod Known
+pub mod Causes
 mod Differ
-mod Turns
+pub mod Turns
 use Rattle.std.proofs.Common.{◌≡◌, ◌⊎◌, inl, inr, ℕ, ◌≤◌, Bool, true, false, List, [], ◌∷◌, length, All, Option, Some, None, refl, sym, ap, ◌∙◌, subst}
 use Rattle.std.specs.List.{IsDistinct}
 use Rattle.std.specs.Prelude.{if◌then◌else◌}

@@ -52,7 +52,7 @@ path_is_read : (path : Path) → ChangesNothing (asks.Disk (disk_asks.Read path)
 unfolding change_of_ask
 path_is_read path tree = refl
 
-path_is_looked_at : (path : Path) (follow : Bool) → ChangesNothing (asks.Disk (disk_asks.Look path follow))
+pub path_is_looked_at : (path : Path) (follow : Bool) → ChangesNothing (asks.Disk (disk_asks.Look path follow))
 unfolding change_of_ask
 path_is_looked_at path follow tree = refl
 

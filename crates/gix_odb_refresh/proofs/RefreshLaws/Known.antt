@@ -40,7 +40,7 @@ abbrev pub told_of : List Exchange → Told
 told_of exchanges = told_from none_told exchanges
 
 -- behind one exchange more
-told_of-push : (past : List Exchange) (exchange : Exchange) → told_of (past ++ exchange ∷ []) ≡ told_by (told_of past) exchange.ask exchange.answer
+pub told_of-push : (past : List Exchange) (exchange : Exchange) → told_of (past ++ exchange ∷ []) ≡ told_by (told_of past) exchange.ask exchange.answer
 told_of-push past exchange =
     let last = opened_last-push past exchange in
     let left = left_open-push past exchange in
