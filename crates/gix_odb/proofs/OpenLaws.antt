@@ -1,7 +1,7 @@
 -- Laws of openings: how many slots one comes to, why it is refused, which streams it reads, and how many turns it takes.
 mod Known
 mod Turns
-use Rattle.std.proofs.Common.{◌≡◌, ◌⊎◌, inl, inr, ℕ, suc, ◌+◌, ◌-◌, ◌*◌, ◌≤◌, List, [], ◌∷◌, length, All, Option, Some, None, Ok, refl, sym, ap, ◌∙◌, subst, arith}
+use Rattle.std.proofs.Common.{◌≡◌, ◌⊎◌, inl, inr, ℕ, suc, ◌+◌, ◌-◌, ◌*◌, ◌≤◌, true, List, [], ◌∷◌, length, All, Option, Some, None, Ok, refl, sym, ap, ◌∙◌, subst, arith}
 use Rattle.std.specs.List.{IsDistinct}
 use Rattle.std.proofs.lemmas.Option.{same_Some}
 use Rattle.odb_base.specs.Path.{Path}
@@ -76,7 +76,7 @@ module _ (setting : Setting) (slots : Slots) (exchanges : List Exchange) (asked 
     where
       by : (now : OpenState) → asks_of setting now ≡ Some (asks.Disk ask) → ChangesNothing (asks.Disk ask)
       by opens.Looking is =
-          subst ChangesNothing (same_Some (asks.Disk (disk_asks.Look setting.objects _)) (asks.Disk ask) is) (path_is_looked_at setting.objects _)
+          subst ChangesNothing (same_Some (asks.Disk (disk_asks.Look setting.objects true)) (asks.Disk ask) is) (path_is_looked_at setting.objects true)
       by (opens.Listing lister percent minimum) is =
           subst ChangesNothing (same_Some (asks.Disk (lists.ask_of lister)) (asks.Disk ask) is) (lister_reads lister.head.folder lister.stage)
       by (opens.Registering number) is = absurd (cc is)
@@ -85,7 +85,7 @@ module _ (setting : Setting) (slots : Slots) (exchanges : List Exchange) (asked 
   asks_own : (now : OpenState) → Knows setting slots exchanges now → (ask : DiskAsk) → asks_of setting now ≡ Some (asks.Disk ask)
       → AsksOwn (told_of exchanges) (asks.Disk ask)
   asks_own opens.Looking known ask is =
-      subst (AsksOwn (told_of exchanges)) (same_Some (asks.Disk (disk_asks.Look setting.objects _)) (asks.Disk ask) is) tt
+      subst (AsksOwn (told_of exchanges)) (same_Some (asks.Disk (disk_asks.Look setting.objects true)) (asks.Disk ask) is) tt
   asks_own (opens.Listing lister percent minimum) known ask is =
       subst (AsksOwn (told_of exchanges)) (same_Some (asks.Disk (lists.ask_of lister)) (asks.Disk ask) is)
       (lister_own (told_of exchanges) lister.head.folder lister.stage known.stream)
