@@ -83,12 +83,12 @@ module _ (setting : Setting) (slots : Slots) (exchanges : List Exchange) (asked 
       by (opens.Done reply) is = absurd (cc is)
 
   asks_own : (now : OpenState) → Knows setting slots exchanges now → (ask : DiskAsk) → asks_of setting now ≡ Some (asks.Disk ask)
-      → AsksOwn (told_of exchanges) (asks.Disk ask)
+      → AsksOwn setting (told_of exchanges) (asks.Disk ask)
   asks_own opens.Looking known ask is =
-      subst (AsksOwn (told_of exchanges)) (same_Some (asks.Disk (disk_asks.Look setting.objects true)) (asks.Disk ask) is) tt
+      subst (AsksOwn setting (told_of exchanges)) (same_Some (asks.Disk (disk_asks.Look setting.objects true)) (asks.Disk ask) is) tt
   asks_own (opens.Listing lister percent minimum) known ask is =
-      subst (AsksOwn (told_of exchanges)) (same_Some (asks.Disk (lists.ask_of lister)) (asks.Disk ask) is)
-      (lister_own (told_of exchanges) lister.head.folder lister.stage known.stream)
+      subst (AsksOwn setting (told_of exchanges)) (same_Some (asks.Disk (lists.ask_of lister)) (asks.Disk ask) is)
+      (lister_own setting (told_of exchanges) lister.head.folder lister.stage known.stream)
   asks_own (opens.Registering number) known ask is = absurd (cc is)
   asks_own (opens.Done reply) known ask is = absurd (cc is)
 
@@ -128,7 +128,7 @@ module _ (setting : Setting) (slots : Slots) (exchanges : List Exchange) (asked 
       in
       omega (arith, taken)
     where
-      wide : (folders entries : ℕ) → ((3 * entries + 3) + (folders - 0) * (3 * entries + 3)) + 1 ≤ turns_of_lap 0 (suc folders) entries - 1
+      wide : (folders entries : ℕ) → (3 * entries + 3) + (folders - 0) * (3 * entries + 3) + 1 ≤ turns_of_lap 0 (suc folders) entries - 1
       wide folders entries =
           let whole : folders - 0 ≡ folders = omega arith in
           rw whole (omega arith)

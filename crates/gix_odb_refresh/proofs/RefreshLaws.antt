@@ -122,11 +122,11 @@ module _ (setting : Setting) (snapshot : View) (exchanges : List Exchange) (aske
       by stages.Ready is = absurd (cc is)
       by (stages.Refused error) is = absurd (cc is)
 
-  asks_own : (now : Refresh) → Knows setting exchanges now → (ask : DiskAsk) → ask_of now ≡ Some (asks.Disk ask) → AsksOwn (told_of exchanges) (asks.Disk ask)
+  asks_own : (now : Refresh) → Knows setting exchanges now → (ask : DiskAsk) → ask_of now ≡ Some (asks.Disk ask) → AsksOwn setting (told_of exchanges) (asks.Disk ask)
   asks_own stages.Looking known ask is = absurd (cc is)
   asks_own (stages.Listing lister base) known ask is =
-      subst (AsksOwn (told_of exchanges)) (same_Some (asks.Disk (lists.ask_of lister)) (asks.Disk ask) is)
-      (lister_own (told_of exchanges) lister.head.folder lister.stage known.1)
+      subst (AsksOwn setting (told_of exchanges)) (same_Some (asks.Disk (lists.ask_of lister)) (asks.Disk ask) is)
+      (lister_own setting (told_of exchanges) lister.head.folder lister.stage known.1)
   asks_own (stages.Publishing listing) known ask is = absurd (cc is)
   asks_own stages.Ready known ask is = absurd (cc is)
   asks_own (stages.Refused error) known ask is = absurd (cc is)

@@ -1,7 +1,8 @@
 //! The order of work of a refresh: a look at the store's core, and where its list was never read, a listing of the folders
 //! of packs, which is published.
-ghost use Rattle.std.specs.Prelude.{◌≡◌, IfOk, Err, Ok};
+ghost use Rattle.std.specs.Prelude.{◌≡◌, List, IfOk, Err, Ok};
 ghost use Rattle.std.specs.Option.{option_map};
+ghost use Rattle.odb_base.specs.Path.{Path};
 ghost use Rattle.gix_odb_packs.specs.declared.answer.Answer.TheVariants as told;
 ghost use Rattle.gix_odb_refresh.specs.RefreshOrder.{ask_of, opened_in, started};
 ghost use Rattle.gix_odb_refresh.specs.RefreshOrder as order;
@@ -166,7 +167,7 @@ fn by_published(listing: Listing, effect: &Effect) -> Refresh
 
 /// What comes behind an event that was refused.
 fn by_refusal(refresh: Refresh, refusal: Refusal) -> Refresh
-    ensures fed { ∀ (objects : Path) (folders : List Path). result ≡ order.fed objects folders refresh (told.Core (Err refusal)) }
+    ensures fed { (objects : Path) → (folders : List Path) → result ≡ order.fed objects folders refresh (told.Core (Err refusal)) }
 {
     match refresh {
         Refresh::Looking | Refresh::Publishing(_) => Refresh::Refused(of_refusal(refusal)),

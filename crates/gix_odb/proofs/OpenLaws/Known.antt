@@ -55,7 +55,7 @@ module _ (setting : Setting) (slots : Slots) where
   -- a listing is at hand
   pub record Lists (now : Told) (past : List Exchange) (lister : Lister) (percent minimum : ℕ) : Type 0 where
     pub asked : slots ≡ AsNeededByDiskState percent minimum
-    pub listed : HasListed setting past (listed.More lister)
+    pub has : HasListed setting past (listed.More lister)
     pub at : IsAtFolder setting lister.head
     pub breaks : Breaks past lister.stage
     pub stream : StreamOf now lister
@@ -95,7 +95,7 @@ module _ (setting : Setting) (slots : Slots) where
         number_goes now (one answer) none number (subst (λ (s : Slots). IsNumber setting s (one answer) number) (sym is) refl)
     begun_goes answer (AsNeededByDiskState percent minimum) is = record {
       asked = is;
-      listed = record { look = look answer; listing = []; are = refl; comes = refl };
+      has = record { look = look answer; listing = []; are = refl; comes = refl };
       at = (setting.objects, first_folder setting, refl);
       breaks = tt;
       stream = none;
@@ -129,29 +129,29 @@ module _ (setting : Setting) (slots : Slots) where
       abbrev more : List Exchange
       more = past ++ exchange ∷ []
 
-      abbrev then : Told
-      then = told_by now (asks.Disk (lists.ask_of lister)) (told.Disk answer)
+      abbrev later : Told
+      later = told_by now (asks.Disk (lists.ask_of lister)) (told.Disk answer)
 
       listed_more : HasListed setting more (lists.fed setting.folders lister answer)
       listed_more = record {
-        look = here.listed.look;
-        listing = here.listed.listing ++ exchange ∷ [];
-        are = ap (λ (all : List Exchange). all ++ exchange ∷ []) here.listed.are;
+        look = here.has.look;
+        listing = here.has.listing ++ exchange ∷ [];
+        are = ap (λ (all : List Exchange). all ++ exchange ∷ []) here.has.are;
         comes =
-            list_behind-push setting (listed.More (lists.started setting.objects)) here.listed.listing exchange
-            ∙ ap (λ (step : ListStep). list_by setting.folders step (told.Disk answer)) here.listed.comes;
+            list_behind-push setting (listed.More (lists.started setting.objects)) here.has.listing exchange
+            ∙ ap (λ (step : ListStep). list_by setting.folders step (told.Disk answer)) here.has.comes;
       }
 
-      step_goes : (step : ListStep) → HasListed setting more step → GoesToFolder setting step → ListedTells setting more step → StreamBehind then step
-          → KnowsAt then more (listed_on percent minimum step)
-      step_goes (listed.More next) listed at tells stream =
-          record { asked = here.asked; listed = listed; at = at; breaks = tells; stream = stream }
-      step_goes (listed.Rows rows) listed at tells stream =
-          number_goes then more stream (slots_for percent minimum (length rows))
-          (subst (λ (s : Slots). IsNumber setting s more (slots_for percent minimum (length rows))) (sym here.asked) (rows, listed, refl))
-      step_goes listed.Broken listed at tells stream = (stream, tells)
+      step_goes : (step : ListStep) → HasListed setting more step → GoesToFolder setting step → ListedTells setting more step → StreamBehind later step
+          → KnowsAt later more (listed_on percent minimum step)
+      step_goes (listed.More next) has at tells stream =
+          record { asked = here.asked; has = has; at = at; breaks = tells; stream = stream }
+      step_goes (listed.Rows rows) has at tells stream =
+          number_goes later more stream (slots_for percent minimum (length rows))
+          (subst (λ (s : Slots). IsNumber setting s more (slots_for percent minimum (length rows))) (sym here.asked) (rows, has, refl))
+      step_goes listed.Broken has at tells stream = (stream, tells)
 
-      lister_goes : KnowsAt then more (listed_on percent minimum (lists.fed setting.folders lister answer))
+      lister_goes : KnowsAt later more (listed_on percent minimum (lists.fed setting.folders lister answer))
       lister_goes =
           step_goes (lists.fed setting.folders lister answer) listed_more (fed-goes setting lister here.at answer)
           (fed-tells setting more lister here.at (Breaks-more past (exchange ∷ []) lister.stage here.breaks) answer suits (Contains-push past exchange))
@@ -164,9 +164,9 @@ module _ (setting : Setting) (slots : Slots) where
 
     look_goes : HasNone now × (past ≡ []) → (answer : Answer) → Goes opens.Looking (asks.Disk (disk_asks.Look setting.objects true)) answer
     look_goes (none, is) (told.Disk answer) suits =
-        let then : Told = told_by now (asks.Disk (disk_asks.Look setting.objects true)) (told.Disk answer) in
-        subst (λ (before : List Exchange). KnowsAt then (before ++ look answer ∷ []) (looked setting.objects slots answer)) (sym is)
-        (looked_goes then none answer)
+        let later : Told = told_by now (asks.Disk (disk_asks.Look setting.objects true)) (told.Disk answer) in
+        subst (λ (before : List Exchange). KnowsAt later (before ++ look answer ∷ []) (looked setting.objects slots answer)) (sym is)
+        (looked_goes later none answer)
     look_goes known (told.Core answer) suits = absurd suits
 
     listing_goes : (lister : Lister) (percent minimum : ℕ) → Lists now past lister percent minimum → (answer : Answer)

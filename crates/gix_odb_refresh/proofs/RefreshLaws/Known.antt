@@ -22,12 +22,13 @@ use Rattle.gix_odb_packs.specs.declared.lister.Lister.{Lister}
 use Rattle.gix_odb_looks.specs.Exchange.{Exchange}
 use Rattle.gix_odb_looks.specs.LookUpOrder.{Setting}
 use Rattle.gix_odb_looks.specs.Shown.{IsIndexRow}
+use Rattle.gix_odb_looks.specs.Stream.{Stream, stream_in}
 use Rattle.gix_odb_looks.proofs.FoundLaws.Known.{KnowsListStep, KnowsLister}
 use Rattle.gix_odb_looks.proofs.FoundLaws.Listing.{fed_known, started_known}
 use Rattle.gix_odb_looks.proofs.FoundLaws.Lists.{all_longest_first}
 use Rattle.gix_odb_looks.proofs.HandedLaws.Reading.{none_told, told_from}
-use Rattle.gix_odb_looks.proofs.HandedLaws.Streams.{HasNone, StreamBehind, StreamOf, Told, core_leaves_streams, left_open-push}
-use Rattle.gix_odb_looks.proofs.HandedLaws.Streams.{listing_streams, opened_last-push, told_by}
+use Rattle.gix_odb_looks.proofs.HandedLaws.Streams.{HasNone, Opened, StreamBehind, StreamOf, Told, core_leaves_streams, left_open, left_open-push, open_by, opened_by}
+use Rattle.gix_odb_looks.proofs.HandedLaws.Streams.{listing_streams, opened_last, opened_last-push, told_by}
 use Rattle.gix_odb_looks.proofs.StreamLaws.Exchanges.{stream_in-push}
 use Rattle.gix_odb_refresh.specs.RefreshOrder.{ask_of, by_listed, by_look, by_published, fed, started, view_shown}
 use Rattle.gix_odb_refresh.specs.Refreshed.{AreAsked, LookRefused, ShowedUnread, behind}
@@ -39,13 +40,19 @@ use Rattle.gix_odb_refresh.proofs.AskedLemmas.{holds_behind}
 abbrev pub told_of : List Exchange → Told
 told_of exchanges = told_from none_told exchanges
 
+abbrev told_with : Option Opened → Option Opened → Option Stream → Told
+told_with last left stream = record { last = last; left = left; stream = stream }
+
 -- behind one exchange more
 pub told_of-push : (past : List Exchange) (exchange : Exchange) → told_of (past ++ exchange ∷ []) ≡ told_by (told_of past) exchange.ask exchange.answer
 told_of-push past exchange =
-    let last = opened_last-push past exchange in
-    let left = left_open-push past exchange in
-    let stream = stream_in-push past exchange in
-    cc (last, left, stream)
+    ap (λ (last : Option Opened). told_with last (left_open (past ++ exchange ∷ [])) (stream_in (past ++ exchange ∷ []))) (opened_last-push past exchange)
+    ∙ ap (λ (left : Option Opened). told_with (opened_by (opened_last past) exchange.ask exchange.answer) left (stream_in (past ++ exchange ∷ [])))
+    (left_open-push past exchange)
+    ∙ ap
+    (λ (stream : Option Stream).
+    told_with (opened_by (opened_last past) exchange.ask exchange.answer) (open_by (left_open past) exchange.ask exchange.answer) stream)
+    (stream_in-push past exchange)
 
 ShowedUnread-more : (past : List Exchange) (exchange : Exchange) → ShowedUnread past → ShowedUnread (past ++ exchange ∷ [])
 ShowedUnread-more past exchange was = record {
@@ -83,11 +90,11 @@ module _ (setting : Setting) where
       abbrev looked : List Exchange
       looked = with_one (asks.Core events.Look) (told.Core (Ok effect))
 
-      abbrev then : Told
-      then = told_by now (asks.Core events.Look) (told.Core (Ok effect))
+      abbrev later : Told
+      later = told_by now (asks.Core events.Look) (told.Core (Ok effect))
 
       view_goes : (view : View) → view_in (Ok effect) ≡ Some view → (read : Bool) → view.read ≡ read
-          → KnowsAt then looked (if read then stages.Ready else stages.Listing (lists.started setting.objects) view.list_no)
+          → KnowsAt later looked (if read then stages.Ready else stages.Listing (lists.started setting.objects) view.list_no)
       view_goes view shown true is = none
       view_goes view shown false is =
           (
@@ -96,7 +103,7 @@ module _ (setting : Setting) where
             record { effect = effect; view = view; shown = shown; unread = is; told = Contains-push past (record { ask = asks.Core events.Look; answer = told.Core (Ok effect) }) },
           )
 
-      shown_goes : (shown : Option View) → view_in (Ok effect) ≡ shown → KnowsAt then looked (by_look setting.objects shown)
+      shown_goes : (shown : Option View) → view_in (Ok effect) ≡ shown → KnowsAt later looked (by_look setting.objects shown)
       shown_goes None is = none
       shown_goes (Some view) is = view_goes view is view.read refl
 
@@ -107,11 +114,11 @@ module _ (setting : Setting) where
         (none, inr (refusal, Contains-push past (record { ask = asks.Core events.Look; answer = told.Core (Err refusal) })))
 
     -- a folder is listed on
-    listed_goes : (then : Told) (more : List Exchange) (base : ℕ) (step : ListStep) → KnowsListStep setting step → StreamBehind then step → ShowedUnread more
-        → KnowsAt then more (by_listed base step)
-    listed_goes then more base (listed.More lister) known stream unread = (known, stream, unread)
-    listed_goes then more base (listed.Rows rows) known stream unread = (stream, all_longest_first (IsIndexRow setting) rows known, unread)
-    listed_goes then more base listed.Broken known stream unread = (stream, inl unread)
+    listed_goes : (later : Told) (more : List Exchange) (base : ℕ) (step : ListStep) → KnowsListStep setting step → StreamBehind later step → ShowedUnread more
+        → KnowsAt later more (by_listed base step)
+    listed_goes later more base (listed.More lister) known stream unread = (known, stream, unread)
+    listed_goes later more base (listed.Rows rows) known stream unread = (stream, all_longest_first (IsIndexRow setting) rows known, unread)
+    listed_goes later more base listed.Broken known stream unread = (stream, inl unread)
 
     listing_goes : (lister : Lister) (base : ℕ) → KnowsAt now past (stages.Listing lister base) → (answer : Answer)
         → Goes (stages.Listing lister base) (asks.Disk (lists.ask_of lister)) answer

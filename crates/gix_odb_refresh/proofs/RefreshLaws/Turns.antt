@@ -26,6 +26,11 @@ use Rattle.gix_odb_refresh.specs.RefreshOrder.{ask_of, by_listed, by_look, by_pu
 use Rattle.gix_odb_refresh.specs.declared.refresh.Refresh.{Refresh}
 use Rattle.gix_odb_refresh.specs.declared.refresh.Refresh.TheVariants as stages
 
+wide : (slots folders entries : ℕ) → (3 * entries + 3) + (folders - 0) * (3 * entries + 3) + 2 ≤ turns_of_lap slots (suc folders) entries
+wide slots folders entries =
+    let whole : folders - 0 ≡ folders = omega arith in
+    rw whole (omega arith)
+
 module _ (objects : Path) (folders : List Path) (entries : ℕ) where
   abbrev pub listing_turns : ℕ
   listing_turns = folder_turns folders entries + further folders entries 0
@@ -41,7 +46,7 @@ module _ (objects : Path) (folders : List Path) (entries : ℕ) where
   -- one that asks has a turn left
   asking_has_turns : (stream : Option Stream) (refresh : Refresh) (ask : PartAsk) → ask_of refresh ≡ Some ask → ¬ (HasTurns stream refresh 0)
   asking_has_turns stream stages.Looking ask is enough = omega arith
-  asking_has_turns stream (stages.Listing lister base) ask is enough = let few = enough.1 in omega arith
+  asking_has_turns stream (stages.Listing lister base) ask is enough = omega (arith, enough.1)
   asking_has_turns stream (stages.Publishing listing) ask is enough = omega arith
   asking_has_turns stream stages.Ready ask is enough = cc is
   asking_has_turns stream (stages.Refused error) ask is enough = cc is
@@ -68,7 +73,7 @@ module _ (objects : Path) (folders : List Path) (entries : ℕ) where
     look_goes enough (told.Core (Err refusal)) is fits = tt
 
     listed_goes : (now : Option Stream) (base : ℕ) (step : ListStep) → ListsFor folders entries (turns - 1) now step → 1 ≤ turns → HasTurns now (by_listed base step) turns
-    listed_goes now base (listed.More lister) left some = let few = left.1 in (left.0, omega arith)
+    listed_goes now base (listed.More lister) left some = (left.0, omega (arith, left.1, some))
     listed_goes now base (listed.Rows rows) left some = some
     listed_goes now base listed.Broken left some = tt
 
@@ -127,6 +132,4 @@ module _ (objects : Path) (folders : List Path) (entries : ℕ) where
 
   -- a lap has room for a look, a listing and its publishing
   pub lap_is_wide : (slots : ℕ) → listing_turns + 2 ≤ turns_of_lap slots (suc (length folders)) entries
-  lap_is_wide slots =
-      let whole : length folders - 0 ≡ length folders = omega arith in
-      rw whole (omega arith)
+  lap_is_wide slots = wide slots (length folders) entries
