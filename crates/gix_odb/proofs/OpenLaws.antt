@@ -1,6 +1,6 @@
 -- Laws of openings: how many slots one comes to, why it is refused, which streams it reads, and how many turns it takes.
-mod Known
-mod Turns
+pub mod Known
+pub mod Turns
 use Rattle.std.proofs.Common.{◌≡◌, ◌⊎◌, inl, inr, ℕ, suc, ◌+◌, ◌-◌, ◌*◌, ◌≤◌, true, List, [], ◌∷◌, length, All, Option, Some, None, Ok, refl, sym, ap, ◌∙◌, subst, arith}
 use Rattle.std.specs.List.{IsDistinct}
 use Rattle.std.proofs.lemmas.Option.{same_Some}

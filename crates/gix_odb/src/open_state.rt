@@ -170,6 +170,7 @@ fn listed_on(percent: u32, minimum: u32, step: ListStep) -> OpenState
 }
 
 /// How many slots a store is to have for so many indices.
+#[tactic(auto, using(crate::proofs::SlotsLemmas::part_fits))]
 fn slots_for(percent: u32, minimum: u32, indices: usize) -> u64
     ensures slots { result ≡ order.slots_for percent minimum indices }
 {
